@@ -1,0 +1,4 @@
+pub mod Line
+pub mod Name
+pub mod NameText
+pub mod Refusal
