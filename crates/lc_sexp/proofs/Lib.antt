@@ -1,0 +1,9 @@
+pub mod Answered
+pub mod Atoms
+pub mod Exists
+pub mod Faults
+pub mod Items
+pub mod Limits
+pub mod PrintedLemmas
+pub mod Tokens
+pub mod Unique

@@ -1,0 +1,10 @@
+pub mod Answers
+pub mod NodeFalls
+pub mod Nodes
+pub mod Printed
+pub mod Progress
+pub mod Reading
+pub mod Reads
+pub mod Text
+pub mod TreeCode
+pub mod Trees

@@ -1,0 +1,20 @@
+//! S-expressions: read from bytes, printed, and walked item by item.
+#![tactic(auto)]
+
+mod class;
+mod laws;
+mod machine;
+mod printing;
+mod reader;
+mod reading;
+mod sexp;
+
+pub use laws::{
+    items_are_counted, items_fit, one_first_fault, one_reading, printed_is_read, read_has_atoms, reading_excludes_fault,
+    reading_or_fault,
+};
+pub use machine::{DEPTH_LIMIT, FILE_LIMIT};
+pub use printing::print;
+pub use reader::Reader;
+pub use reading::read;
+pub use sexp::{Sexp, is_atom};
