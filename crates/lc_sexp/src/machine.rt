@@ -1,14 +1,13 @@
-ghost use Rattle.std.specs.Prelude.{◌≡◌, ◌+◌, ◌≤◌, ◌<◌, ℕ, List, [], ◌∷◌, Some, None, Ok, Err, false, true, OnOk, IfOk, IfErr, OnErr, string_bytes, vec_len, length};
-ghost use Rattle.lc_sexp.specs.Trees.{Token, tokens_of_all, row};
+ghost use Rattle.std.specs.Prelude.{◌≡◌, ◌+◌, ◌≤◌, ◌<◌, ℕ, List, [], ◌∷◌, Some, None, false, true, OnOk, IfOk, IfErr, string_bytes, vec_len, length};
+ghost use Rattle.lc_sexp.specs.Trees.{Token, tokens_of_all, row, item_count_of_all};
 ghost use Rattle.lc_sexp.specs.Trees.{open_list as open_token, close_list as close_token};
 ghost use Rattle.lc_sexp.specs.Text.{class_of, is_misplaced, begins_word, are_letters, uncommented};
 ghost use Rattle.lc_sexp.specs.Progress.{told, told_tokens, opened_count, depth_behind, fault_from};
-ghost use Rattle.lc_sexp.specs.Trees.{item_count_of_all};
 ghost use Rattle.lc_sexp.specs.Answers.{IsTextFault};
 
 use crate::class::{Class, classify, misplaced};
 use crate::sexp::Sexp;
-use lc_base::{Fault, Refusal};
+use lc_base::{Fault, OutOfMemory, Refusal};
 use std::alloc::Global;
 use std::mem;
 
@@ -18,12 +17,17 @@ pub const FILE_LIMIT: u64 = 16_777_216;
 /// Lists may be nested this deep.
 pub const DEPTH_LIMIT: usize = 1000;
 
+/// A list of more items than this keeps the memory in which it grew, and a shorter one is copied to its size.
+const LARGE: usize = 4096;
+
 /// A text as far as it was read: the lists that are open, from the outermost, each as the items before the
-/// next one; the items of the innermost; and the letters of the atom that has begun.
+/// next one; the items of the innermost; and the letters of the atom that has begun. In `spare` lie empty
+/// lists whose memory is used again.
 #[derive(Drop)]
 pub(crate) struct Machine {
     outer: Vec<Vec<Sexp>>,
     items: Vec<Sexp>,
+    spare: Vec<Vec<Sexp>>,
     word: String,
     in_comment: bool,
     offset: u64,
@@ -43,6 +47,7 @@ impl Machine {
         Machine {
             outer: Vec::new(alloc),
             items: Vec::new(alloc),
+            spare: Vec::new(alloc),
             word: String::new(alloc),
             in_comment: false,
             offset: 0,
@@ -50,7 +55,7 @@ impl Machine {
     }
 
     /// Makes an atom of the word that has begun, if one has.
-    fn end_word(&mut self, alloc: Global) -> Result<(), Fault>
+    fn end_word(&mut self, alloc: Global) -> Result<(), OutOfMemory>
         ensures told { OnOk result ((text : List ℕ) → begins_word text ≡ false →
             told self.new.outer.items self.new.items.items [] text
             ≡ told self.old.outer.items self.old.items.items (string_bytes self.old.word) text) }
@@ -60,7 +65,6 @@ impl Machine {
         ensures outer { self.new.outer ≡ self.old.outer }
         ensures offset { self.new.offset ≡ self.old.offset }
         ensures comment { self.new.in_comment ≡ self.old.in_comment }
-        ensures err { IfErr result (λ e. e ≡ Fault.OutOfMemory) }
     {
         if self.word.is_empty() {
             return Ok(());
@@ -72,7 +76,7 @@ impl Machine {
     }
 
     /// Begins a list.
-    fn open_list(&mut self, alloc: Global) -> Result<(), Fault>
+    fn open_list(&mut self, alloc: Global) -> Result<(), OutOfMemory>
         requires word { string_bytes self.old.word ≡ [] }
         requires room { opened_count self.old.outer.items + item_count_of_all (row self.old.items.items) < self.old.offset }
         ensures told { OnOk result ((tokens : List Token) →
@@ -82,15 +86,16 @@ impl Machine {
         ensures word { self.new.word ≡ self.old.word }
         ensures offset { self.new.offset ≡ self.old.offset }
         ensures comment { self.new.in_comment ≡ self.old.in_comment }
-        ensures err { IfErr result (λ e. e ≡ Fault.OutOfMemory) }
     {
-        let before = mem::replace(&mut self.items, Vec::new(alloc));
+        let mut fresh = self.spare.pop().unwrap_or(Vec::new(alloc));
+        fresh.clear();
+        let before = mem::replace(&mut self.items, fresh);
         self.outer.push(before)?;
         Ok(())
     }
 
     /// Ends the innermost list.
-    fn close_list(&mut self) -> Result<(), Fault>
+    fn close_list(&mut self) -> Result<(), OutOfMemory>
         requires { 0 < vec_len self.old.outer }
         ensures told { OnOk result ((tokens : List Token) →
             told_tokens self.new.outer.items self.new.items.items tokens
@@ -99,17 +104,17 @@ impl Machine {
         ensures word { self.new.word ≡ self.old.word }
         ensures offset { self.new.offset ≡ self.old.offset }
         ensures comment { self.new.in_comment ≡ self.old.in_comment }
-        ensures err { IfErr result (λ e. e ≡ Fault.OutOfMemory) }
     {
         let before = self.outer.pop().unwrap();
-        let mut inner = mem::replace(&mut self.items, before);
-        inner.shrink_to_fit();
-        self.items.push(Sexp::list(inner))?;
+        let inner = mem::replace(&mut self.items, before);
+        let (items, emptied) = settle(inner)?;
+        let _ = self.spare.push(emptied);
+        self.items.push(Sexp::list(items))?;
         Ok(())
     }
 
     /// Takes a byte that is not misplaced.
-    fn take_byte(&mut self, alloc: Global, class: Class, byte: u8) -> Result<(), Fault>
+    fn take_byte(&mut self, alloc: Global, class: Class, byte: u8) -> Result<(), OutOfMemory>
         requires class { class ≡ class_of byte }
         requires placed { is_misplaced (vec_len self.old.outer) class ≡ false }
         requires room { opened_count self.old.outer.items + item_count_of_all (row self.old.items.items) + length (string_bytes self.old.word) < self.old.offset }
@@ -119,7 +124,6 @@ impl Machine {
         ensures depth { OnOk result (vec_len self.new.outer ≡ depth_behind (vec_len self.old.outer) class) }
         ensures offset { self.new.offset ≡ self.old.offset }
         ensures comment { self.new.in_comment ≡ self.old.in_comment }
-        ensures err { IfErr result (λ e. e ≡ Fault.OutOfMemory) }
     {
         match class {
             Class::Letter => self.word.push(char::from(byte))?,
@@ -137,36 +141,39 @@ impl Machine {
         Ok(())
     }
 
-    /// Takes a byte of the text, of which comments are spaces.
-    fn push_seen(&mut self, alloc: Global, byte: u8) -> Result<(), Fault>
-        ensures told { OnOk result ((text : List ℕ) →
+    /// Takes a byte of the text, of which comments are spaces. Where it is misplaced it is not taken, and the
+    /// offset is that of the first fault.
+    fn push_seen(&mut self, alloc: Global, byte: u8) -> Result<bool, OutOfMemory>
+        ensures told { IfOk result (λ taken. taken ≡ true → (text : List ℕ) →
             told self.new.outer.items self.new.items.items (string_bytes self.new.word) text
             ≡ told self.old.outer.items self.old.items.items (string_bytes self.old.word) (byte ∷ text)) }
-        ensures fault { OnOk result ((text : List ℕ) →
+        ensures fault { IfOk result (λ taken. taken ≡ true → (text : List ℕ) →
             fault_from self.new.offset (vec_len self.new.outer) text
             ≡ fault_from self.old.offset (vec_len self.old.outer) (byte ∷ text)) }
+        ensures wrong { IfOk result (λ taken. taken ≡ false → (text : List ℕ) →
+            fault_from self.old.offset (vec_len self.old.outer) (byte ∷ text) ≡ Some self.new.offset) }
         ensures comment { self.new.in_comment ≡ self.old.in_comment }
-        ensures err { IfErr result (λ e. IsTextFault e (λ offset. (text : List ℕ) →
-            fault_from self.old.offset (vec_len self.old.outer) (byte ∷ text) ≡ Some offset)) }
     {
         let class = classify(byte);
         if self.offset == FILE_LIMIT || misplaced(self.outer.len(), class) {
-            return Err(Fault::Refused(Refusal::Text(self.offset)));
+            return Ok(false);
         }
         self.offset += 1;
-        self.take_byte(alloc, class, byte)
+        self.take_byte(alloc, class, byte)?;
+        Ok(true)
     }
 
-    /// Takes a byte of the file.
-    pub(crate) fn push_byte(&mut self, alloc: Global, byte: u8) -> Result<(), Fault>
-        ensures told { OnOk result ((rest : List ℕ) →
+    /// Takes a byte of the file. Where it is misplaced it is not taken, and the offset is that of the first
+    /// fault.
+    pub(crate) fn push_byte(&mut self, alloc: Global, byte: u8) -> Result<bool, OutOfMemory>
+        ensures told { IfOk result (λ taken. taken ≡ true → (rest : List ℕ) →
             told self.new.outer.items self.new.items.items (string_bytes self.new.word) (uncommented self.new.in_comment rest)
             ≡ told self.old.outer.items self.old.items.items (string_bytes self.old.word) (uncommented self.old.in_comment (byte ∷ rest))) }
-        ensures fault { OnOk result ((rest : List ℕ) →
+        ensures fault { IfOk result (λ taken. taken ≡ true → (rest : List ℕ) →
             fault_from self.new.offset (vec_len self.new.outer) (uncommented self.new.in_comment rest)
             ≡ fault_from self.old.offset (vec_len self.old.outer) (uncommented self.old.in_comment (byte ∷ rest))) }
-        ensures err { IfErr result (λ e. IsTextFault e (λ offset. (rest : List ℕ) →
-            fault_from self.old.offset (vec_len self.old.outer) (uncommented self.old.in_comment (byte ∷ rest)) ≡ Some offset)) }
+        ensures wrong { IfOk result (λ taken. taken ≡ false → (rest : List ℕ) →
+            fault_from self.old.offset (vec_len self.old.outer) (uncommented self.old.in_comment (byte ∷ rest)) ≡ Some self.new.offset) }
     {
         if byte == b'\n' {
             self.in_comment = false;
@@ -177,6 +184,13 @@ impl Machine {
             return self.push_seen(alloc, b' ');
         }
         self.push_seen(alloc, byte)
+    }
+
+    /// How many bytes were taken.
+    pub(crate) fn offset(&self) -> u64
+        ensures { result ≡ self.now.offset }
+    {
+        self.offset
     }
 
     /// The trees of the text, which ends here.
@@ -193,4 +207,17 @@ impl Machine {
         let Machine { items, .. } = self;
         Ok(items)
     }
+}
+
+/// These items in no more memory than they need, and an empty list.
+fn settle(mut items: Vec<Sexp>) -> Result<(Vec<Sexp>, Vec<Sexp>), OutOfMemory>
+    ensures { IfOk result (λ settled. settled.0.items ≡ items.items) }
+{
+    if items.len() > LARGE {
+        items.shrink_to_fit();
+        let emptied = Vec::new(*items.allocator());
+        return Ok((items, emptied));
+    }
+    let exact = items.split_off(0)?;
+    Ok((exact, items))
 }

@@ -42,13 +42,9 @@ impl Reader {
         ensures memory { self.new.out_of_memory ≡ self.old.out_of_memory }
     {
         for byte in piece {
-            match self.machine.push_byte(self.alloc, *byte) {
-                Ok(()) => {}
-                Err(Fault::Refused(Refusal::Text(offset))) => {
-                    self.fault = Some(offset);
-                    return Ok(());
-                }
-                Err(_) => return Err(OutOfMemory),
+            if !self.machine.push_byte(self.alloc, *byte)? {
+                self.fault = Some(self.machine.offset());
+                return Ok(());
             }
         }
         Ok(())
