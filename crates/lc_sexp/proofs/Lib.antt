@@ -5,5 +5,6 @@ pub mod Faults
 pub mod Items
 pub mod Limits
 pub mod PrintedLemmas
+pub mod Rows
 pub mod Tokens
 pub mod Unique

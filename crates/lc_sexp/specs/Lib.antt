@@ -1,10 +1,16 @@
 pub mod Answers
+pub mod Contents
+pub mod Misfit
+pub mod NaturalValue
 pub mod NodeFalls
 pub mod Nodes
+pub mod Numerals
+pub mod Parts
 pub mod Printed
 pub mod Progress
 pub mod Reading
 pub mod Reads
+pub mod Shown
 pub mod Text
 pub mod TreeCode
 pub mod Trees

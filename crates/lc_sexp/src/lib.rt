@@ -2,19 +2,24 @@
 #![tactic(auto)]
 
 mod class;
+mod cursor;
 mod laws;
 mod machine;
+mod misfit;
+mod numerals;
 mod printing;
 mod reader;
 mod reading;
 mod sexp;
 
+pub use cursor::{Atom, Cursor, Item};
 pub use laws::{
     items_are_counted, items_fit, one_first_fault, one_reading, printed_is_read, read_has_atoms, reading_excludes_fault,
     reading_or_fault,
 };
 pub use machine::{DEPTH_LIMIT, FILE_LIMIT};
+pub use misfit::Misfit;
 pub use printing::print;
 pub use reader::Reader;
 pub use reading::read;
-pub use sexp::{Sexp, is_atom};
+pub use sexp::{Contents, Sexp, is_atom};

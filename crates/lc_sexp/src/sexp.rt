@@ -26,6 +26,13 @@ pub(crate) enum Node {
     List(u32, Vec<Sexp>),
 }
 
+/// What an s-expression holds: the text of an atom, or the s-expressions of a list.
+#[derive(Clone, Copy)]
+pub enum Contents<'a> {
+    Atom(&'a str),
+    List(&'a [Sexp]),
+}
+
 impl Model for Sexp {
     ghost use Rattle.lc_sexp.specs.Trees.{Tree, item_count};
     ghost use Rattle.lc_sexp.specs.TreeCode.{tree_code};
@@ -51,6 +58,7 @@ impl Sexp {
     ghost use Rattle.std.specs.Prelude.{◌≡◌, ◌+◌, ◌<◌, ◌^◌, ◌++◌, true, IfOk, OnOk};
     ghost use Rattle.lc_sexp.specs.Trees.{atom, list, row, item_count, item_count_of_all};
     ghost use Rattle.lc_sexp.specs.Printed.{is_atom, printed_tree};
+    ghost use Rattle.lc_sexp.specs.Contents.{tree_of_contents};
 
     /// The atom of this text.
     pub fn atom(alloc: Global, text: &str) -> Result<Sexp, OutOfMemory>
@@ -82,6 +90,17 @@ impl Sexp {
         match &self.node {
             Node::Short(_) | Node::Long(_) => 1,
             Node::List(count, _) => *count,
+        }
+    }
+
+    /// Its text, or the s-expressions in it.
+    pub fn contents(&self) -> Contents<'_>
+        ensures { tree_of_contents result ≡ self.now }
+    {
+        match &self.node {
+            Node::Short(text) => Contents::Atom(text.as_str()),
+            Node::Long(text) => Contents::Atom(text.as_str()),
+            Node::List(_, items) => Contents::List(items.as_slice()),
         }
     }
 
