@@ -1,12 +1,12 @@
 -- What reading answers, from the tokens and the fault.
-use Rattle.std.proofs.Common.{◌≡◌, ◌≤◌, ℕ, false, List, [], ◌++◌, length, Option, Some, None, Result, Ok, Err, refl, sym, ap, ◌∙◌, append-nil, IfOk, IfErr, OnOk, Vec, string_bytes, vec_len}
+use Rattle.std.proofs.Common.{◌≡◌, ◌≤◌, ℕ, false, List, [], length, Option, Some, None, Result, Ok, Err, sym, ap, ◌∙◌, append-nil, IfOk, IfErr, OnOk, Vec, vec_len}
 use Rattle.std.specs.declared.alloc.Global.{Global}
 use Rattle.lc_base.specs.declared.refusal.Refusal.TheVariants.{Text}
 use Rattle.lc_base.specs.declared.refusal.Fault.{Fault}
 use Rattle.lc_base.specs.declared.refusal.Fault.TheVariants.{Refused, OutOfMemory}
 use Rattle.lc_sexp.specs.Trees.{Tree, row, tokens_of_all, item_count_of_all}
 use Rattle.lc_sexp.specs.Text.{lexed, uncommented}
-use Rattle.lc_sexp.specs.Reads.{ReadsAs, IsFirstFault}
+use Rattle.lc_sexp.specs.Reads.{IsFirstFault}
 use Rattle.lc_sexp.specs.Progress.{fault_from}
 use Rattle.lc_sexp.specs.Answers.{IsTextFault, IsAnswerTo}
 use Rattle.lc_sexp.specs.Reading.{IsAfter, fault_with, tokens_with}

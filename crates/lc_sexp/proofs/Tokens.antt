@@ -1,5 +1,5 @@
 -- Laws of tokens and of trees in a row.
-use Rattle.std.proofs.Common.{◌≡◌, ◌≢◌, ℕ, suc, ◌+◌, ◌≤◌, ◌<◌, Bool, true, false, ◌&&◌, cond, List, [], ◌∷◌, ◌++◌, length, map, refl, sym, ap, ◌∙◌, subst, arith, append_assoc, append-nil, Vec, Option, Some}
+use Rattle.std.proofs.Common.{◌≡◌, ◌≢◌, ℕ, ◌+◌, ◌≤◌, ◌<◌, Bool, true, false, ◌&&◌, cond, List, [], ◌∷◌, ◌++◌, length, refl, sym, ap, ◌∙◌, subst, arith, append_assoc, append-nil, Vec, Option, Some}
 use Rattle.std.specs.Option.{option_to_list}
 use Rattle.std.specs.Prelude.{flat_map}
 use Rattle.std.specs.declared.alloc.Global.{Global}
@@ -8,8 +8,8 @@ use Rattle.std.proofs.lemmas.Bool.Decides.{nat_tests}
 use Rattle.std.proofs.lemmas.List.{length-append}
 use Rattle.std.proofs.lemmas.List.Folds.{list_all-append}
 use Rattle.std.proofs.lemmas.List.Sums.{sum_by_push}
-use Rattle.lc_sexp.specs.Trees.{Tree, Trees, atom, list, none, ◌▸◌, Token, open_list, close_list, word, stray, tokens_of, tokens_of_all, row, item_count, item_count_of_all}
-use Rattle.lc_sexp.specs.Text.{class_of, is_Letter, are_letters, begins_word, lexed, joined, before}
+use Rattle.lc_sexp.specs.Trees.{Tree, atom, list, Token, open_list, close_list, word, tokens_of, tokens_of_all, row, item_count, item_count_of_all}
+use Rattle.lc_sexp.specs.Text.{class_of, is_Letter, are_letters, begins_word, lexed, before}
 use Rattle.lc_sexp.specs.Progress.{told, told_tokens, opened, opened_count}
 use Rattle.lc_sexp.specs.declared.class.Class.{Class}
 use Rattle.lc_sexp.specs.declared.class.Class.TheVariants.{White, Open, Close, Letter, Other}
@@ -132,7 +132,7 @@ pub list_counted : (outer outer' : List (Vec Tree Global)) (around before : Vec 
     → opened_count outer' + item_count_of_all (row items') ≤ opened_count outer + item_count_of_all (row items)
 list_counted outer outer' around before inner items items' o r t whole is same back more tree =
     let e : items' ≡ cond r (around.items ++ (list (row items) ∷ [])) around.items =
-        more ∙ ap (λ v. cond r (v.items ++ (t ∷ [])) v.items) back ∙ ap (λ x. cond r (around.items ++ (x ∷ [])) around.items) (tree ∙ ap (λ xs. list (row xs)) same) in
+    more ∙ ap (λ v. cond r (v.items ++ (t ∷ [])) v.items) back ∙ ap (λ x. cond r (around.items ++ (x ∷ [])) around.items) (tree ∙ ap (λ xs. list (row xs)) same) in
     let k = around_counted outer' around items r items' e in
     omega (arith, k, ap opened_count (whole ∙ ap (λ x. outer' ++ option_to_list x) is))
 

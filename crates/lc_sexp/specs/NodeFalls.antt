@@ -1,5 +1,5 @@
 -- An s-expression in a list has fewer items than the list.
-use Rattle.std.specs.Prelude.{ℕ, suc, ◌+◌, ◌≤◌, max, List, [], ◌∷◌}
+use Rattle.std.specs.Prelude.{◌+◌, ◌≤◌, max, List, [], ◌∷◌}
 use Rattle.std.proofs.Common.{arith}
 use denote.Param.Weighed.{most}
 use Rattle.lc_sexp.specs.Trees.{Tree, row, item_count, item_count_of_all}

@@ -1,5 +1,5 @@
 -- What a reader holds after the bytes that it was fed.
-use Rattle.std.specs.Prelude.{◌≡◌, ℕ, Bool, false, true, List, ◌++◌, Option, Some, None, string_bytes, vec_len}
+use Rattle.std.specs.Prelude.{◌≡◌, ℕ, Bool, false, List, ◌++◌, Option, Some, None, string_bytes, vec_len}
 use Rattle.lc_sexp.specs.Trees.{Token}
 use Rattle.lc_sexp.specs.Text.{uncommented, lexed}
 use Rattle.lc_sexp.specs.Progress.{told, fault_from}

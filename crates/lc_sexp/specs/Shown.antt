@@ -1,11 +1,13 @@
 -- What a walk over items shows.
-use Rattle.std.specs.Prelude.{◌≡◌, ℕ, ◌+◌, Result, Ok, Err, IsOk}
+use Rattle.std.specs.Prelude.{◌≡◌, ℕ, ◌+◌, List, Result, Ok, Err, IsOk}
+use Rattle.std.specs.Borrow.{Bor}
 use Rattle.lc_sexp.specs.Trees.{Tree, Trees, atom, list, none, ◌▸◌, row, item_count}
 use Rattle.lc_sexp.specs.TreeCode.{tree_count}
 use Rattle.lc_sexp.specs.Parts.{Fit, fits, misshapen, beyond}
 use Rattle.lc_sexp.specs.declared.misfit.Misfit.{Misfit}
 use Rattle.lc_sexp.specs.declared.misfit.Misfit.TheVariants.{Shape, Bound}
 use Rattle.lc_sexp.specs.declared.cursor.Cursor.{Cursor}
+use Rattle.lc_sexp.specs.declared.cursor.Atom.{Atom}
 use Rattle.lc_sexp.specs.declared.cursor.Item.{Item}
 use Rattle.lc_sexp.specs.declared.cursor.Item.TheVariants.{Atom as AtomItem, List as ListItem}
 
@@ -25,11 +27,43 @@ number_of c = c.number
 abbrev pub owner_of : Cursor → ℕ
 owner_of c = c.owner
 
+-- the text of an atom, and its item number
+abbrev pub text_of : Atom → List ℕ
+text_of a = a.text.now
+
+abbrev pub atom_number : Atom → ℕ
+atom_number a = a.number
+
+-- the two are the same number
+abbrev pub Same : {X : Type 0} → X → X → Type 0
+Same x y = x ≡ y
+
+-- the reference is to this text
+abbrev pub IsText : List ℕ → Bor (List ℕ) → Type 0
+IsText w text = text.now ≡ w
+
+abbrev pub ShowsText : ℕ → List ℕ → Bor (List ℕ) → Type 0
+ShowsText number w text = IsText w text
+
+abbrev pub ShowsNumber : {X : Type 0} → ℕ → X → X → Type 0
+ShowsNumber number x y = Same x y
+
 -- the cursor stands at the beginning of the list of these trees, which is the item of this number
 pub record IsWithin (number : ℕ) (trees : Trees) (c : Cursor) : Type 0 where
   pub rest : rest_of c ≡ trees
   pub first : number_of c ≡ number + 1
   pub owner : owner_of c ≡ number
+
+-- the cursor stands behind the first word of the list of this number, before these trees
+pub record IsBehindWord (number : ℕ) (trees : Trees) (c : Cursor) : Type 0 where
+  pub rest : rest_of c ≡ trees
+  pub first : number_of c ≡ number + 2
+  pub owner : owner_of c ≡ number
+
+-- the atom has this text and this number
+pub record ShowsAtom (number : ℕ) (w : List ℕ) (a : Atom) : Type 0 where
+  pub text : text_of a ≡ w
+  pub number_is : atom_number a ≡ number
 
 -- the item is this tree and has this number
 abbrev pub ShowsItem : ℕ → Tree → Item → Type 0
@@ -65,3 +99,10 @@ IsEndOf c (t ▸ ts) result = result ≡ Err (Shape (number_of c))
 -- what is answered where nothing may be left
 abbrev pub GivesEnd : Cursor → Result (Unit {0}) Misfit → Type 0
 GivesEnd c result = IsEndOf c (rest_of c) result
+
+-- the answer of an item of this number that fits so
+abbrev pub Answers : {X T : Type 0} → Fit X → (X → T → Type 0) → ℕ → Result T Misfit → Type 0
+Answers (fits x) Shows number (Ok part) = Shows x part
+Answers (fits x) Shows number (Err misfit) = ⊥
+Answers misshapen Shows number result = result ≡ Err (Shape number)
+Answers beyond Shows number result = result ≡ Err (Bound number)

@@ -2,8 +2,9 @@ ghost use Rattle.std.specs.Prelude.{◌+◌, ◌<◌, ◌^◌};
 ghost use Rattle.lc_sexp.specs.Trees.{row, item_count_of_all};
 
 use crate::misfit::Misfit;
-use crate::numerals::{Natural, read_natural};
+use crate::numerals::{read_integer, read_variable};
 use crate::sexp::{Contents, Sexp};
+use lc_base::is_name;
 
 /// Walks the s-expressions of a list, or the forms of a file, in order, and knows the item number of each:
 /// items are the atoms and the lists of a file, in preorder from 0.
@@ -37,8 +38,8 @@ impl<'a> Cursor<'a> {
     ghost use Rattle.std.specs.Prelude.{◌≡◌, ◌+◌, ◌<◌, ◌≤◌, ◌↔◌, ◌^◌, ◌==◌, IsOk, Ok, Err, IfErr};
     ghost use Rattle.lc_sexp.specs.Trees.{row, item_count_of_all};
     ghost use Rattle.lc_sexp.specs.declared.misfit.Misfit.TheVariants.{Shape};
-    ghost use Rattle.lc_sexp.specs.Parts.{any_fit};
-    ghost use Rattle.lc_sexp.specs.Shown.{rest_of, number_of, owner_of, part_count, ShowsItem, GivesPart, GivesEnd};
+    ghost use Rattle.lc_sexp.specs.Parts.{any_fit, atom_fit, name_fit, integer_fit, variable_fit, list_fit, form_fit, begins_form};
+    ghost use Rattle.lc_sexp.specs.Shown.{rest_of, number_of, owner_of, part_count, ShowsItem, ShowsAtom, ShowsText, ShowsNumber, IsWithin, IsBehindWord, GivesPart, GivesEnd};
 
     /// A cursor at the first form of a file, which has fewer than 2^64 items.
     pub fn new(forms: &'a [Sexp]) -> Cursor<'a>
@@ -129,5 +130,136 @@ impl<'a> Cursor<'a> {
                 owner: number,
             }),
         })
+    }
+
+    /// The next item, which is an atom.
+    pub fn atom(&mut self) -> Result<Atom<'a>, Misfit>
+        ensures { GivesPart atom_fit ShowsAtom self.old result self.new }
+    {
+        let mut ahead = *self;
+        match ahead.item()? {
+            Item::Atom(atom) => {
+                *self = ahead;
+                Ok(atom)
+            }
+            Item::List(list) => Err(Misfit::Shape(list.owner)),
+        }
+    }
+
+    /// The text of the next item, which is a NAME: a letter or `_`, then letters, digits, `_`, `-` and `.`, of
+    /// any length.
+    pub fn name(&mut self) -> Result<&'a str, Misfit>
+        ensures { GivesPart name_fit ShowsText self.old result self.new }
+    {
+        let mut ahead = *self;
+        let name = ahead.atom()?.name()?;
+        *self = ahead;
+        Ok(name)
+    }
+
+    /// The next item, which is a NUMBER: `0`, or digits that do not begin with 0, with `-` before these or not.
+    /// `Bound` is answered of one that is not of 64 bits.
+    pub fn integer(&mut self) -> Result<i64, Misfit>
+        ensures { GivesPart integer_fit ShowsNumber self.old result self.new }
+    {
+        let mut ahead = *self;
+        let integer = ahead.atom()?.integer()?;
+        *self = ahead;
+        Ok(integer)
+    }
+
+    /// The number k of the next item, which is a variable `?k`: k is `0` or digits that do not begin with 0.
+    /// `Bound` is answered of one that is not of 32 bits.
+    pub fn variable(&mut self) -> Result<u32, Misfit>
+        ensures { GivesPart variable_fit ShowsNumber self.old result self.new }
+    {
+        let mut ahead = *self;
+        let variable = ahead.atom()?.variable()?;
+        *self = ahead;
+        Ok(variable)
+    }
+
+    /// A cursor at the beginning of the next item, which is a list.
+    pub fn list(&mut self) -> Result<Cursor<'a>, Misfit>
+        ensures { GivesPart list_fit IsWithin self.old result self.new }
+    {
+        let mut ahead = *self;
+        match ahead.item()? {
+            Item::Atom(atom) => Err(Misfit::Shape(atom.number)),
+            Item::List(list) => {
+                *self = ahead;
+                Ok(list)
+            }
+        }
+    }
+
+    /// A cursor behind the first word of the next item, which is a list that begins with this word.
+    pub fn form(&mut self, word: &str) -> Result<Cursor<'a>, Misfit>
+        ensures { GivesPart (form_fit word.now) IsBehindWord self.old result self.new }
+    {
+        let mut ahead = *self;
+        let mut list = ahead.list()?;
+        let owner = list.owner;
+        match list.atom() {
+            Ok(atom) if atom.text == word => {
+                *self = ahead;
+                Ok(list)
+            }
+            _ => Err(Misfit::Shape(owner)),
+        }
+    }
+
+    /// Whether the next item is a list that begins with this word.
+    pub fn is_at_form(&self, word: &str) -> bool
+        ensures { result ≡ begins_form word.now (rest_of self.now) }
+    {
+        let mut ahead = *self;
+        ahead.form(word).is_ok()
+    }
+}
+
+impl<'a> Atom<'a> {
+    ghost use Rattle.std.specs.Prelude.{◌≡◌};
+    ghost use Rattle.lc_sexp.specs.Trees.{atom};
+    ghost use Rattle.lc_sexp.specs.Parts.{name_fit, integer_fit, variable_fit};
+    ghost use Rattle.lc_sexp.specs.Shown.{text_of, atom_number, Answers, IsText, Same};
+
+    /// Its item number.
+    pub fn number(&self) -> u64
+        ensures { result ≡ atom_number self.now }
+    {
+        self.number
+    }
+
+    /// Its text.
+    pub fn text(&self) -> &'a str
+        ensures { result.now ≡ text_of self.now }
+    {
+        self.text
+    }
+
+    /// Its text, if it is a NAME.
+    pub fn name(&self) -> Result<&'a str, Misfit>
+        ensures { Answers (name_fit (atom (text_of self.now))) IsText (atom_number self.now) result }
+    {
+        if is_name(self.text.as_bytes()) {
+            Ok(self.text)
+        } else {
+            Err(Misfit::Shape(self.number))
+        }
+    }
+
+    /// The NUMBER that it is. `Bound` is answered of one that is not of 64 bits.
+    pub fn integer(&self) -> Result<i64, Misfit>
+        ensures { Answers (integer_fit (atom (text_of self.now))) Same (atom_number self.now) result }
+    {
+        read_integer(self.text.as_bytes(), self.number)
+    }
+
+    /// The number of the variable `?k` that it is. `Bound` is answered of one that is not of 32 bits.
+    pub fn variable(&self) -> Result<u32, Misfit>
+        ensures { Answers (variable_fit (atom (text_of self.now))) Same (atom_number self.now) result }
+    {
+        read_variable(self.text.as_bytes(), self.number)
     }
 }

@@ -11,11 +11,13 @@ mod printing;
 mod reader;
 mod reading;
 mod sexp;
+#[cfg(test)]
+mod tests;
 
 pub use cursor::{Atom, Cursor, Item};
 pub use laws::{
-    items_are_counted, items_fit, one_first_fault, one_reading, printed_is_read, read_has_atoms, reading_excludes_fault,
-    reading_or_fault,
+    items_are_counted, items_fit, one_first_fault, one_reading, printed_is_read, read_has_atoms,
+    reading_excludes_fault, reading_or_fault,
 };
 pub use machine::{DEPTH_LIMIT, FILE_LIMIT};
 pub use misfit::Misfit;

@@ -1,4 +1,3 @@
-use Rattle.std.proofs.Common.{◌≡◌, ◌≤◌, ℕ, List, length, Result, Ok, Err, IfOk, Vec}
 use Rattle.lc_sexp.proofs.Answered.{answer_counted}
 use Rattle.lc_sexp.proofs.reading.read.Goals as goal
 

@@ -1,8 +1,7 @@
-use Rattle.std.proofs.Common.{◌≡◌, ◌≢◌, ℕ, ◌+◌, ◌≤◌, ap, ◌∙◌, arith, string_bytes, length}
+use Rattle.std.proofs.Common.{◌≢◌, ap, ◌∙◌, arith, string_bytes, length}
 use Rattle.std.proofs.lemmas.Bool.Decides.{nat_tests}
-use Rattle.lc_sexp.specs.Trees.{atom, row, item_count_of_all}
+use Rattle.lc_sexp.specs.Trees.{atom}
 use Rattle.lc_sexp.specs.Text.{are_letters}
-use Rattle.lc_sexp.specs.Progress.{opened_count}
 use Rattle.lc_sexp.proofs.Tokens.{told_end, atom_counted}
 use Rattle.lc_sexp.proofs.machine.Machine.end_word.Goals as goal
 
@@ -13,7 +12,7 @@ pub invariant_of-self-2-clause-counted : goal.invariant_of-self-2-clause-counted
 invariant_of-self-2-clause-counted c =
     let some : length (string_bytes c.args.self.now.word) ≢ 0 = let k = c.args.self.now.word.bytes.ok.0 in grind (arith, nat_tests) in
     let more = atom_counted c.args.self.now.items.items c.push.new.self.items (string_bytes c.args.self.now.word) c.in_ok-atom.atom
-        c.in_ok-push.ensures.items (c.in_ok-atom.ensures ∙ ap atom c.as_str.ensures.value) some in
+    c.in_ok-push.ensures.items (c.in_ok-atom.ensures ∙ ap atom c.as_str.ensures.value) some in
     let none_left = ap length c.clear.ensures.bytes in
     omega (arith, more, none_left, c.args.self.now.counted)
 

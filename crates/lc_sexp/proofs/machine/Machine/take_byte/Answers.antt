@@ -1,6 +1,4 @@
-use Rattle.std.proofs.Common.{◌≡◌, ◌+◌, ◌≤◌, ◌<◌, ◌++◌, sym, ◌∙◌, ap, arith, string_bytes, length}
-use Rattle.lc_sexp.specs.Trees.{row, item_count_of_all}
-use Rattle.lc_sexp.specs.Progress.{opened_count}
+use Rattle.std.proofs.Common.{◌++◌, sym, ◌∙◌, ap, arith, string_bytes}
 use Rattle.lc_sexp.proofs.Tokens.{told_letter, letter_code, letters_pushed, pushed_length}
 use Rattle.lc_sexp.proofs.machine.Machine.take_byte.Goals as goal
 

@@ -1,0 +1,72 @@
+use crate::{Fault, Name, OutOfMemory, Refusal, code, is_name, refusal_line, write_line};
+use std::test::Fail;
+
+#[test]
+fn codes_and_lines(rt: HostRuntime) -> Result<(), Fail> {
+    let table = [
+        (Refusal::Text(8), 1, "refused 1 8\n"),
+        (Refusal::Shape(0), 2, "refused 2 0\n"),
+        (Refusal::Unknown(14), 3, "refused 3 14\n"),
+        (Refusal::Repeated(5), 4, "refused 4 5\n"),
+        (Refusal::Auxiliary(213), 5, "refused 5 213\n"),
+        (Refusal::Bound(13), 6, "refused 6 13\n"),
+        (Refusal::CertText(42), 7, "refused 7 42\n"),
+        (Refusal::CertShape(2), 8, "refused 8 2\n"),
+        (Refusal::Missing(0), 9, "refused 9 0\n"),
+        (
+            Refusal::Extra(9223372036854775807),
+            10,
+            "refused 10 9223372036854775807\n",
+        ),
+        (Refusal::Proof(9, 0, 7), 11, "refused 11 9 0 7\n"),
+        (Refusal::Large(0, 3), 12, "refused 12 0 3\n"),
+        (Refusal::HistoryShape(1), 13, "refused 13 1\n"),
+        (Refusal::Order(1, 3), 14, "refused 14 1 3\n"),
+    ];
+    for (refusal, number, line) in table {
+        assert_eq!(rt; code(&refusal), number);
+        let written = refusal_line(rt.alloc(), &refusal)?;
+        assert_eq!(rt; written.as_slice(), line.as_bytes());
+        let shown = format!(in rt.alloc(); "{refusal}\n")?;
+        assert_eq!(rt; shown.as_str(), line);
+    }
+    Ok(())
+}
+
+#[test]
+fn a_line_of_a_word_and_numbers(rt: HostRuntime) -> Result<(), Fail> {
+    let accepted = write_line(rt.alloc(), "accepted counter", &[59])?;
+    assert_eq!(rt; accepted.as_slice(), b"accepted counter 59\n".as_slice());
+    let proved = write_line(rt.alloc(), "proved", &[])?;
+    assert_eq!(rt; proved.as_slice(), b"proved\n".as_slice());
+    Ok(())
+}
+
+#[test]
+fn names(rt: HostRuntime) {
+    for text in ["x", "_", "write-a", "b0", "Node.next", "pop_2"] {
+        assert!(rt; is_name(text.as_bytes()), "{text}");
+        assert!(rt;
+            Name::new(text).is_some_and(|name| name.as_str() == text),
+            "{text}"
+        );
+    }
+    for text in ["", "0", "-", "-a", ".a", "a?", "a+b", "a b"] {
+        assert!(rt; !is_name(text.as_bytes()), "{text}");
+        assert!(rt; Name::new(text).is_none(), "{text}");
+    }
+    let longest = "pppppppppppppppppppppppppppppppppppppppppppppppppppppppppppppppp";
+    assert!(rt; Name::new(longest).is_some());
+    let too_long = "ppppppppppppppppppppppppppppppppppppppppppppppppppppppppppppppppp";
+    assert!(rt; is_name(too_long.as_bytes()));
+    assert!(rt; Name::new(too_long).is_none());
+}
+
+#[test]
+fn faults_of_memory_and_of_input(rt: HostRuntime) {
+    assert_eq!(rt; Fault::from(OutOfMemory), Fault::OutOfMemory);
+    assert_eq!(rt;
+        Fault::from(Refusal::Text(0)),
+        Fault::Refused(Refusal::Text(0))
+    );
+}
