@@ -1,0 +1,14 @@
+pub mod Lists
+pub mod Stable
+pub mod Truth
+pub mod Replacement
+pub mod Substituted
+pub mod Each
+pub mod Views
+pub mod Replaced
+pub mod Under
+pub mod Numbers
+pub mod Cells
+pub mod Evaluated
+pub mod Closed
+pub mod Agree

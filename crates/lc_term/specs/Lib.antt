@@ -1,0 +1,12 @@
+pub mod Equal
+pub mod EqualLaws
+pub mod Meaning
+pub mod Syntax
+pub mod Truth
+pub mod View
+pub mod Replacement
+pub mod Substitution
+pub mod Places
+pub mod Counter
+pub mod State
+pub mod Reached

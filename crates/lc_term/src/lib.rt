@@ -1,0 +1,22 @@
+//! Terms, column expressions and formulas, what they mean, and how they are computed.
+#![tactic(auto)]
+
+mod evaluation;
+mod formula;
+mod ground;
+pub mod laws;
+mod replace;
+mod shifting;
+mod state;
+mod substitution;
+mod term;
+#[cfg(test)]
+mod tests;
+
+pub use evaluation::{eval, eval_term};
+pub use formula::{Formula, copy_formulas};
+pub use ground::{is_closed, is_ground_of_quantifiers};
+pub use shifting::{shift, shift_formula};
+pub use state::{Env, EvalFault, State};
+pub use substitution::{instantiate, substitute};
+pub use term::{ColExpr, Term};
