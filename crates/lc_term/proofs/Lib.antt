@@ -12,3 +12,4 @@ pub mod Cells
 pub mod Evaluated
 pub mod Closed
 pub mod Agree
+pub mod Walk

@@ -1,21 +1,33 @@
-//! Terms, column expressions and formulas, what they mean, and how they are computed.
+//! Terms, column expressions and formulas: what they mean, how they are computed, read and printed.
 #![tactic(auto)]
 
 mod evaluation;
 mod formula;
+mod grammar;
 mod ground;
 pub mod laws;
+mod passes;
+mod printing;
 mod replace;
+mod reserved;
+mod scope;
 mod shifting;
 mod state;
 mod substitution;
 mod term;
 #[cfg(test)]
 mod tests;
+#[cfg(test)]
+mod text_tests;
 
 pub use evaluation::{eval, eval_term};
 pub use formula::{Formula, copy_formulas};
+pub use grammar::Kind;
 pub use ground::{is_closed, is_ground_of_quantifiers};
+pub use passes::{Pass, first_wrong};
+pub use printing::{Spelling, write_column, write_formula, write_term};
+pub use reserved::is_reserved;
+pub use scope::{ColumnUse, Extra, Scope};
 pub use shifting::{shift, shift_formula};
 pub use state::{Env, EvalFault, State};
 pub use substitution::{instantiate, substitute};
