@@ -3,11 +3,14 @@
 
 mod evaluation;
 mod formula;
+mod formula_reading;
 mod grammar;
 mod ground;
+mod hash;
 pub mod laws;
 mod passes;
 mod printing;
+mod reading;
 mod replace;
 mod reserved;
 mod scope;
@@ -22,10 +25,12 @@ mod text_tests;
 
 pub use evaluation::{eval, eval_term};
 pub use formula::{Formula, copy_formulas};
+pub use formula_reading::{read_formula, read_formulas};
 pub use grammar::Kind;
 pub use ground::{is_closed, is_ground_of_quantifiers};
 pub use passes::{Pass, first_wrong};
 pub use printing::{Spelling, write_column, write_formula, write_term};
+pub use reading::{ReadFault, read_column, read_term};
 pub use reserved::is_reserved;
 pub use scope::{ColumnUse, Extra, Scope};
 pub use shifting::{shift, shift_formula};

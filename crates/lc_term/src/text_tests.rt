@@ -1,9 +1,10 @@
 use crate::{
-    ColExpr, ColumnUse, Extra, Formula, Kind, Pass, Scope, Spelling, Term, first_wrong,
-    is_reserved, write_column, write_formula, write_term,
+    ColExpr, ColumnUse, Extra, Formula, Kind, Pass, ReadFault, Scope, Spelling, Term, first_wrong,
+    is_reserved, read_column, read_formula, read_formulas, read_term, write_column, write_formula,
+    write_term,
 };
 use lc_base::{ColId, OutOfMemory};
-use lc_sexp::{Cursor, read};
+use lc_sexp::{Cursor, Item, read};
 use std::alloc::Global;
 use std::test::Fail;
 
@@ -199,5 +200,159 @@ fn prints_terms_and_formulas(rt: HostRuntime) -> Result<(), Fail> {
     let want =
         "(and (forall b0 (exists b1 (<= (rd (store c4 ?1 -2) b1) (rd (affine 2 3) b0)))) (not (or)))";
     assert_eq!(rt; text.as_str(), want);
+    Ok(())
+}
+
+/// The print of what a text reads as, which is one item of a kind.
+fn reread(alloc: Global, everything: bool, kind: Kind, text: &str) -> Result<String, ReadFault> {
+    let Ok(forms) = read(alloc, text.as_bytes()) else {
+        return Err(ReadFault::OutOfMemory);
+    };
+    if forms.len() != 1 {
+        return Err(ReadFault::OutOfMemory);
+    }
+    let item = Cursor::new(&forms).item()?;
+    let scope = Place { everything };
+    let mut out = String::new(alloc);
+    match kind {
+        Kind::Term => write_term(&mut out, &Numbers, 0, &read_term(alloc, &scope, item)?)?,
+        Kind::Column => write_column(&mut out, &Numbers, 0, &read_column(alloc, &scope, item)?)?,
+        _ => write_formula(&mut out, &Numbers, 0, &read_formula(alloc, &scope, item)?)?,
+    }
+    Ok(out)
+}
+
+#[test]
+fn reads_each_form(rt: HostRuntime) -> Result<(), Fail> {
+    let table = [
+        (Kind::Term, "-9223372036854775808", "-9223372036854775808"),
+        (Kind::Term, "x", "?0"),
+        (Kind::Term, "?4294967295", "?4294967295"),
+        (Kind::Term, "(+ x (- 1 ?2))", "(+ ?0 (- 1 ?2))"),
+        (Kind::Term, "(* -3 (rd c x))", "(* -3 (rd c0 ?0))"),
+        (Kind::Column, "c", "c0"),
+        (Kind::Column, "(affine 2 -3)", "(affine 2 -3)"),
+        (
+            Kind::Column,
+            "(store (store c 1 2) x ?5)",
+            "(store (store c0 1 2) ?0 ?5)",
+        ),
+        (Kind::Formula, "(<= x 1)", "(<= ?0 1)"),
+        (Kind::Formula, "(= 1 x)", "(= 1 ?0)"),
+        (Kind::Formula, "(not (and))", "(not (and))"),
+        (
+            Kind::Formula,
+            "(and (<= x 1) (or) (= x 2))",
+            "(and (<= ?0 1) (or) (= ?0 2))",
+        ),
+        (
+            Kind::Formula,
+            "(=> (or (and)) (or))",
+            "(=> (or (and)) (or))",
+        ),
+        (
+            Kind::Formula,
+            "(forall i (exists j (<= i j)))",
+            "(forall b0 (exists b1 (<= b0 b1)))",
+        ),
+        // A quantifier's name hides an outer one and a free variable, as far as the quantifier goes.
+        (
+            Kind::Formula,
+            "(forall i (exists i (<= i 0)))",
+            "(forall b0 (exists b1 (<= b1 0)))",
+        ),
+        (
+            Kind::Formula,
+            "(and (forall x (= x 0)) (= x 0))",
+            "(and (forall b0 (= b0 0)) (= ?0 0))",
+        ),
+        (
+            Kind::Formula,
+            "(forall i (and (exists j (= i j)) (<= i 1)))",
+            "(forall b0 (and (exists b1 (= b0 b1)) (<= b0 1)))",
+        ),
+        (
+            Kind::Formula,
+            "(exists i (= (rd (store c i ?1) i) (rd (affine 1 0) i)))",
+            "(exists b0 (= (rd (store c0 b0 ?1) b0) (rd (affine 1 0) b0)))",
+        ),
+    ];
+    for (kind, text, want) in table {
+        assert_eq!(rt;
+            reread(rt.alloc(), true, kind, text)?.as_str(),
+            want,
+            "{text}"
+        );
+    }
+    Ok(())
+}
+
+#[test]
+fn reads_nothing_else(rt: HostRuntime) {
+    let table = [
+        (true, Kind::Term, "9223372036854775808"),
+        (true, Kind::Term, "z"),
+        (true, Kind::Term, "?4294967296"),
+        (true, Kind::Term, "()"),
+        (true, Kind::Term, "(+ x)"),
+        (true, Kind::Term, "(+ x x x)"),
+        (true, Kind::Term, "(* x 2)"),
+        (true, Kind::Term, "(rd m 0)"),
+        (true, Kind::Term, "(rd h 0)"),
+        (true, Kind::Term, "((+) 1 2)"),
+        (true, Kind::Column, "(affine 1)"),
+        (true, Kind::Column, "(store c 1)"),
+        (true, Kind::Column, "1"),
+        (true, Kind::Formula, "x"),
+        (true, Kind::Formula, "(not)"),
+        (true, Kind::Formula, "(not (and) (and))"),
+        (true, Kind::Formula, "(and (or) (<= i 0))"),
+        (true, Kind::Formula, "(and (forall i (or)) (<= i 0))"),
+        (true, Kind::Formula, "(forall 1 (and))"),
+        (true, Kind::Formula, "(forall (i) (and))"),
+        (true, Kind::Formula, "(some i (and))"),
+        (false, Kind::Term, "?0"),
+        (false, Kind::Term, "(rd (affine 1 0) x)"),
+        (false, Kind::Formula, "(forall i (and))"),
+        (false, Kind::Formula, "(exists i (and))"),
+    ];
+    for (everything, kind, text) in table {
+        assert_eq!(rt;
+            reread(rt.alloc(), everything, kind, text).err(),
+            Some(ReadFault::NoReading),
+            "{text}"
+        );
+    }
+    for (kind, text) in [
+        (Kind::Term, "(rd c x)"),
+        (Kind::Column, "c"),
+        (Kind::Formula, "(or)"),
+    ] {
+        assert!(rt; reread(rt.alloc(), false, kind, text).is_ok(), "{text}");
+    }
+}
+
+/// How many formulas a list reads as.
+fn formula_count(alloc: Global, text: &str) -> Result<usize, ReadFault> {
+    let Ok(forms) = read(alloc, text.as_bytes()) else {
+        return Err(ReadFault::OutOfMemory);
+    };
+    if forms.len() != 1 {
+        return Err(ReadFault::OutOfMemory);
+    }
+    let Item::List(list) = Cursor::new(&forms).item()? else {
+        return Err(ReadFault::NoReading);
+    };
+    Ok(read_formulas(alloc, &Place { everything: true }, list)?.len())
+}
+
+#[test]
+fn reads_formulas_in_a_row(rt: HostRuntime) -> Result<(), Fail> {
+    assert_eq!(rt; formula_count(rt.alloc(), "()")?, 0);
+    assert_eq!(rt; formula_count(rt.alloc(), "((<= x 0) (and) (or))")?, 3);
+    assert_eq!(rt;
+        formula_count(rt.alloc(), "((and) x)").err(),
+        Some(ReadFault::NoReading)
+    );
     Ok(())
 }

@@ -1,0 +1,47 @@
+-- What is said of a proof, by what is said of its step and of the proofs of its branches.
+use Rattle.std.specs.Prelude.{◌≡◌, ℕ, suc, ◌+◌, List, [], ◌∷◌, length, Result, Ok, Err, Vec}
+use Rattle.std.proofs.Common.{refl, sym, ap, ◌∙◌, arith, rules}
+use Rattle.std.specs.declared.alloc.Global.{Global}
+use Rattle.lc_term.specs.Syntax as S
+use Rattle.lc_term.specs.declared.formula.Formula.{Formula}
+use Rattle.lc_kernel.specs.Answers.{branches_of, StepMeets, Checks, ChecksEach, fault_at}
+use Rattle.lc_kernel.specs.Derivation.{derives, fails_here, fails_by_count, fails_below}
+use Rattle.lc_kernel.specs.Proofs.{Step, Proofs, none, more, proof, proofs, proof_count}
+use Rattle.lc_kernel.specs.Table.{opens, Gives}
+use Rattle.lc_kernel.specs.View.{step_of, proof_of, proofs_of}
+use Rattle.lc_kernel.specs.declared.proof.Proof.{Proof, out-Proof, the_lemmas}
+use Rattle.lc_kernel.specs.declared.fault.ProofFault.{ProofFault}
+use Rattle.lc_kernel.specs.declared.fault.ProofFault.TheVariants.{Bad as NotHolding, Large as TooLarge, OutOfMemory as NoMore}
+use Rattle.lc_kernel.specs.declared.fault.StepFault.{StepFault}
+use Rattle.lc_kernel.specs.declared.fault.StepFault.TheVariants.{Flawed, OutOfMemory}
+use Rattle.lc_kernel.specs.declared.reason.Flaw.TheVariants.{Bad, Large}
+use Rattle.lc_kernel.specs.declared.reason.Reason.TheVariants.{WrongForm}
+
+pub proof_of-proof : (p : Proof) → proof_of p ≡ proof (step_of (out-Proof p).step) (proofs (proofs_of (out-Proof p).branches.items))
+proof_of-proof p = search (rules, the_lemmas)
+
+pub root_flawed : (v : ℕ) (H : List S.Formula) (s : Step) (ps : Proofs) (first : ℕ) (fault : StepFault) → StepMeets v H s (Err fault) → Checks v H (proof s ps) first (Err (fault_at first fault))
+root_flawed v H s ps first (Flawed (Bad reason)) h = (0, omega arith, fails_here h)
+root_flawed v H s ps first (Flawed Large) h = (0, omega arith, fails_here h)
+root_flawed v H s ps first OutOfMemory h = tt
+
+branch_count : (bs : List (Vec Formula Global)) → length (branches_of bs) ≡ length bs
+branch_count [] = refl
+branch_count (b ∷ bs) = ap suc (branch_count bs)
+
+child_count : (ps : List Proof) → proof_count (proofs (proofs_of ps)) ≡ length ps
+child_count [] = refl
+child_count (p ∷ ps) = ap suc (child_count ps)
+
+pub counts_differ : (bs : List (Vec Formula Global)) (ps : List Proof) → (length bs ≡ length ps → ⊥) → length (branches_of bs) ≡ proof_count (proofs (proofs_of ps)) → ⊥
+counts_differ bs ps no' same = no' (sym (branch_count bs) ∙ same ∙ child_count ps)
+
+pub counts_agree : (bs : List (Vec Formula Global)) (ps : List Proof) → length bs ≡ length ps → length (branches_of bs) ≡ proof_count (proofs (proofs_of ps))
+counts_agree bs ps same = branch_count bs ∙ same ∙ sym (child_count ps)
+
+pub root_checks : (v w : ℕ) (H : List S.Formula) (s : Step) (bs : List (List S.Formula)) (ps : Proofs) (first : ℕ) (r : Result ℕ ProofFault) →
+    Gives v H s (opens w bs) → length bs ≡ proof_count ps → ChecksEach w H bs ps (first + 1) r → Checks v H (proof s ps) first r
+root_checks v w H s bs ps first (Ok next) gives same h = (let e = h.0 in omega arith, derives gives h.1)
+root_checks v w H s bs ps first (Err (NotHolding step reason)) gives same h = (suc h.0, let e = h.1 in omega arith, fails_below gives same h.2)
+root_checks v w H s bs ps first (Err (TooLarge step)) gives same h = (suc h.0, let e = h.1 in omega arith, fails_below gives same h.2)
+root_checks v w H s bs ps first (Err NoMore) gives same h = tt

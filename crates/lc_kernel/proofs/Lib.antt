@@ -1,0 +1,13 @@
+pub mod Views
+pub mod Entries
+pub mod Quotients
+pub mod InUse
+pub mod Found
+pub mod Holding
+pub mod Kept
+pub mod Sound
+pub mod Once
+pub mod First
+pub mod Grows
+pub mod Branches
+pub mod Checked

@@ -1,0 +1,19 @@
+use Rattle.std.proofs.Common.{◌≡◌, ℕ, ◌+◌, ◌*◌, length, drop}
+use Rattle.lc_term.specs.View.{formulas_of}
+use Rattle.lc_kernel.specs.Answers.{branches_of}
+use Rattle.lc_kernel.specs.Proofs.{proofs, size, size_of_all}
+use Rattle.lc_kernel.specs.View.{proof_of, proofs_of}
+use Rattle.lc_kernel.proofs.Branches.{Left}
+use Rattle.lc_kernel.proofs.check.+check.Given as goal
+
+abbrev pub decreases-check : goal.decreases-check
+decreases-check l = 2 * size (proof_of l.proof.now)
+
+abbrev pub decreases-check_each : goal.decreases-check_each
+decreases-check_each l = 2 * size_of_all (proofs (proofs_of l.children.now)) + 1
+
+-- what is left decides of all, and the hypotheses are those at the start
+abbrev pub invariant-check_each-loop-i : goal.invariant-check_each-loop-i
+invariant-check_each-loop-i l =
+    Left l.variables (formulas_of l.fn.hypotheses.items) (branches_of l.fn.branches.items) (proofs (proofs_of l.children)) l.first l.next (branches_of (drop l.i l.appended.items)) (proofs (proofs_of (drop l.i l.children)))
+    × (l.hypotheses.items ≡ l.fn.hypotheses.items) × (length l.appended.items ≡ length l.children)

@@ -1,0 +1,208 @@
+-- The table of steps: what a step needs, and what it opens.
+-- Hypotheses are numbered from 0. Nothing is ever taken away from them.
+use Rattle.std.specs.Prelude.{◌≡◌, ℕ, suc, ℤ, pos, negsuc, Bool, true, false, ◌&&◌, IsTrue, Option, Some, None, slice_get, if◌then◌else◌, List, [], ◌∷◌, map}
+use Rattle.lc_term.specs.Equal.{formula_eq}
+use Rattle.lc_term.specs.Places.{is_closed}
+use Rattle.lc_term.specs.Substitution.{instantiated}
+use Rattle.lc_term.specs.Syntax.{Term, Number, Variable, Add, Subtract, Formula, Le, Eq, Not, And, Or, Implies, Forall, Exists, none, more, formulas, parts}
+use Rattle.lc_linear.specs.Form.{form_of, HasForm}
+use Rattle.lc_linear.specs.Divided.{Divides, IsDivided}
+use Rattle.lc_linear.specs.Closing.{Entry, are_allowed, combined, Closes}
+use Rattle.lc_array.specs.Axioms.{written, same_index, affine_cell}
+use Rattle.lc_kernel.specs.Below.{term_below, column_below, formula_below}
+use Rattle.lc_kernel.specs.Proofs as S
+use Rattle.lc_kernel.specs.Proofs.{Step}
+use Rattle.lc_kernel.specs.declared.reason.Flaw.{Flaw}
+use Rattle.lc_kernel.specs.declared.reason.Flaw.TheVariants.{Bad, Large}
+use Rattle.lc_kernel.specs.declared.reason.Reason.{Reason}
+use Rattle.lc_kernel.specs.declared.reason.Reason.TheVariants.{NoHypothesis, WrongForm, VariableNotInUse, DoesNotClose, NotDivisible, NotOpposite, IsOpen, WrongQuotient}
+
+-- What a step comes to: what is wrong with it; or the branches that it opens, each by the formulas that it appends
+-- to the hypotheses, and how many variables are in use there
+pub data Outcome : Type 0 where
+  flawed : Flaw → Outcome
+  opens : ℕ → List (List Formula) → Outcome
+
+-- ---- forms of hypotheses
+
+-- the parts of `(and F ..)`
+abbrev pub conjuncts : Formula → Option (List Formula)
+conjuncts (And fs) = Some (parts fs)
+conjuncts _ = None
+
+abbrev pub negations : List Formula → List Formula
+negations fs = map Not fs
+
+-- one of which fails where the formula fails: of `(and F ..)` the parts
+abbrev pub failing : Formula → Option (List Formula)
+failing (And fs) = Some (negations (parts fs))
+failing _ = None
+
+-- one of which holds where the formula holds: of `(or F ..)` the parts, of `(=> A B)` `(not A)` and `B`,
+-- of `(not (and F ..))` each `(not F)`
+abbrev pub alternatives : Formula → Option (List Formula)
+alternatives (Or fs) = Some (parts fs)
+alternatives (Implies f g) = Some (Not f ∷ g ∷ [])
+alternatives (Not f) = failing f
+alternatives _ = None
+
+-- `t < u` in whole numbers: `(<= (+ t 1) u)`
+abbrev pub less : Term → Term → Formula
+less t u = Le (Add t (Number (pos 1))) u
+
+-- what `(not F)` says, with the negation pushed inward: line by line, of F
+abbrev pub pushed_inward : Formula → Option Formula
+pushed_inward (Not f) = Some f
+pushed_inward (Le t u) = Some (less u t)
+pushed_inward (Or fs) = Some (And (formulas (negations (parts fs))))
+pushed_inward (Implies f g) = Some (And (more f (more (Not g) none)))
+pushed_inward (Forall f) = Some (Exists (Not f))
+pushed_inward (Exists f) = Some (Forall (Not f))
+pushed_inward _ = None
+
+abbrev pub pushed : Formula → Option Formula
+pushed (Not f) = pushed_inward f
+pushed _ = None
+
+-- the body of `(forall x F)`
+abbrev pub for_all : Formula → Option Formula
+for_all (Forall f) = Some f
+for_all _ = None
+
+-- the body of `(exists x F)`
+abbrev pub for_some : Formula → Option Formula
+for_some (Exists f) = Some f
+for_some _ = None
+
+abbrev pub sides : Formula → Option (Term × Term)
+sides (Eq t u) = Some (t, u)
+sides _ = None
+
+-- the sides of `(not (= t u))`
+abbrev pub apart : Formula → Option (Term × Term)
+apart (Not f) = sides f
+apart _ = None
+
+-- the difference of the sides of `(<= t u)`
+abbrev pub excess : Formula → Option Term
+excess (Le t u) = Some (Subtract t u)
+excess _ = None
+
+-- ---- what a step needs
+
+-- hypothesis h, if there is one
+abbrev pub hypothesis : List Formula → ℤ → Option Formula
+hypothesis H (pos n) = slice_get H n
+hypothesis H (negsuc n) = None
+
+-- what is needed, or the reason that is told where it is not there
+abbrev pub need : {A : Type 0} → Option A → Reason → (A → Outcome) → Outcome
+need None reason next = flawed (Bad reason)
+need (Some a) reason next = next a
+
+-- hypothesis h, which has this form
+abbrev pub taking : {A : Type 0} → List Formula → ℤ → (Formula → Option A) → (A → Outcome) → Outcome
+taking H h form next = need (hypothesis H h) NoHypothesis (λ f. need (form f) WrongForm next)
+
+-- each variable is in use
+abbrev pub in_use : Bool → Outcome → Outcome
+in_use yes' next = if yes' then next else flawed (Bad VariableNotInUse)
+
+-- ---- what a step opens
+
+-- a branch for each formula
+abbrev pub each : List Formula → List (List Formula)
+each fs = map (λ f. f ∷ []) fs
+
+-- one branch, with one formula more
+abbrev pub appends : ℕ → Formula → Outcome
+appends v f = opens v ((f ∷ []) ∷ [])
+
+-- ---- sums and quotients
+
+-- an entry in front of the others, where all are there
+abbrev pub entry_before : Option Formula → ℤ → Option (List Entry) → Option (List Entry)
+entry_before (Some f) k (Some es) = Some ((f, k) ∷ es)
+entry_before _ k _ = None
+
+-- the hypotheses that a sum names, with their multipliers, if all are there
+abbrev pub entries : List Formula → List (ℤ × ℤ) → Option (List Entry)
+entries H [] = Some []
+entries H (m ∷ ms) = entry_before (hypothesis H m.0) m.1 (entries H ms)
+
+abbrev pub is_comparison : Formula → Bool
+is_comparison (Le t u) = true
+is_comparison (Eq t u) = true
+is_comparison _ = false
+
+abbrev pub all_comparisons : List Entry → Bool
+all_comparisons [] = true
+all_comparisons (e ∷ es) = is_comparison e.0 && all_comparisons es
+
+-- The sum of these comparisons: a multiplier that is not allowed, then Large, then whether it closes
+abbrev pub SumOfComparisons : ℕ → List Entry → Outcome → Type 0
+SumOfComparisons v es (opens w bs) = (opens w bs ≡ opens v []) × Closes es
+SumOfComparisons v es (flawed Large) = IsTrue (are_allowed es) × (HasForm (combined es) → ⊥)
+SumOfComparisons v es (flawed (Bad reason)) = (reason ≡ DoesNotClose) × (IsTrue (are_allowed es) → HasForm (combined es)) × (Closes es → ⊥)
+
+-- The sum of these formulas: first, each is a comparison
+abbrev pub SumOf : Bool → ℕ → List Entry → Outcome → Type 0
+SumOf true v es o = SumOfComparisons v es o
+SumOf false v es o = o ≡ flawed (Bad WrongForm)
+
+abbrev pub SumGives : ℕ → Option (List Entry) → Outcome → Type 0
+SumGives v None o = o ≡ flawed (Bad NoHypothesis)
+SumGives v (Some es) o = SumOf (all_comparisons es) v es o
+
+-- the form of a `<=` can be made; nothing is asked of another formula
+abbrev pub CanCompare : Option Term → Type 0
+CanCompare (Some t) = HasForm t
+CanCompare None = Unit {0}
+
+-- the formula is a `<=` whose form is that of t, divided by k
+abbrev pub IsQuotient : Term → ℤ → Option Term → Type 0
+IsQuotient t k (Some q) = IsDivided (form_of t) k (form_of q)
+IsQuotient t k None = ⊥
+
+-- the formula f, which says that q is at most 0 if it is a `<=`, from a `<=` which says that t is at most 0
+abbrev pub QuotientGives : ℕ → Formula → Term → ℤ → Outcome → Type 0
+QuotientGives v f t k (opens w bs) = (opens w bs ≡ appends v f) × HasForm t × CanCompare (excess f) × IsQuotient t k (excess f)
+QuotientGives v f t k (flawed Large) = HasForm t × CanCompare (excess f) → ⊥
+QuotientGives v f t k (flawed (Bad NotDivisible)) = HasForm t × CanCompare (excess f) × (Divides k (form_of t) → ⊥)
+QuotientGives v f t k (flawed (Bad WrongQuotient)) = HasForm t × CanCompare (excess f) × Divides k (form_of t) × (IsQuotient t k (excess f) → ⊥)
+QuotientGives v f t k (flawed (Bad _)) = ⊥
+
+abbrev pub QuotientInUse : Bool → ℕ → Formula → Term → ℤ → Outcome → Type 0
+QuotientInUse true v f t k o = QuotientGives v f t k o
+QuotientInUse false v f t k o = o ≡ flawed (Bad VariableNotInUse)
+
+abbrev pub QuotientOf : ℕ → Formula → ℤ → Option Term → Outcome → Type 0
+QuotientOf v f k None o = o ≡ flawed (Bad WrongForm)
+QuotientOf v f k (Some t) o = QuotientInUse (formula_below v f) v f t k o
+
+abbrev pub DivideGives : ℕ → Formula → ℤ → Option Formula → Outcome → Type 0
+DivideGives v f k None o = o ≡ flawed (Bad NoHypothesis)
+DivideGives v f k (Some g) o = QuotientOf v f k (excess g) o
+
+-- ---- the table
+
+-- g is the negation of f
+abbrev pub opposite : ℕ → Formula → Formula → Outcome
+opposite v f g = if formula_eq g (Not f) then opens v [] else flawed (Bad NotOpposite)
+
+-- What a step comes to, where v variables are in use and H are the hypotheses
+abbrev pub Gives : ℕ → List Formula → Step → Outcome → Type 0
+Gives v H (S.Split h) o = o ≡ taking H h conjuncts (λ fs. opens v (fs ∷ []))
+Gives v H (S.Cases h) o = o ≡ taking H h alternatives (λ fs. opens v (each fs))
+Gives v H (S.Push h) o = o ≡ taking H h pushed (λ f. appends v f)
+Gives v H (S.Instantiate h t) o = o ≡ taking H h for_all (λ f. in_use (term_below v t && is_closed t) (appends v (instantiated t f)))
+Gives v H (S.Fresh h) o = o ≡ taking H h for_some (λ f. appends (suc v) (instantiated (Variable v) f))
+Gives v H (S.Cut f) o = o ≡ in_use (formula_below v f) (opens v (each (Not f ∷ f ∷ [])))
+Gives v H (S.Written c i x j) o = o ≡ in_use (column_below v c && term_below v i && term_below v x && term_below v j) (appends v (written c i x j))
+Gives v H (S.Same c i j) o = o ≡ in_use (column_below v c && term_below v i && term_below v j) (appends v (same_index c i j))
+Gives v H (S.Affine m n i) o = o ≡ in_use (term_below v i) (appends v (affine_cell m n i))
+Gives v H (S.Trichotomy h) o = o ≡ taking H h apart (λ p. opens v (each (less p.0 p.1 ∷ less p.1 p.0 ∷ [])))
+Gives v H (S.Divide h k f) o = DivideGives v f k (hypothesis H h) o
+Gives v H (S.Sum ms) o = SumGives v (entries H ms) o
+Gives v H (S.Opposite h g) o = o ≡ need (hypothesis H h) NoHypothesis (λ f. need (hypothesis H g) NoHypothesis (opposite v f))
+Gives v H S.Open o = o ≡ flawed (Bad IsOpen)

@@ -1,0 +1,29 @@
+//! What holds of derivations. Each function is a law: it does nothing, and its contract is the law.
+ghost use Rattle.std.specs.Prelude.{◌≡◌, ℕ, List, IsTrue};
+ghost use Rattle.lc_term.specs.Meaning.{Valid};
+ghost use Rattle.lc_term.specs.Syntax.{Formula};
+ghost use Rattle.lc_kernel.specs.Below.{all_below, formula_below};
+ghost use Rattle.lc_kernel.specs.Derivation.{Derives, DerivesGoal, Fails};
+ghost use Rattle.lc_kernel.specs.Proofs.{Step, Proof};
+ghost use Rattle.lc_kernel.specs.Table.{Outcome, Gives};
+ghost use Rattle.lc_kernel.specs.declared.reason.Flaw.{Flaw};
+
+/// What has a derivation is true: where the hypotheses and the goal have no variables but those in use, the
+/// hypotheses imply the goal, in every state and for all numbers of the variables.
+pub fn derivations_are_valid()
+    ensures { (v : ℕ) (hypotheses : List Formula) (goal : Formula) (p : Proof) →
+        DerivesGoal v hypotheses goal p → IsTrue (all_below v hypotheses) → IsTrue (formula_below v goal) → Valid hypotheses goal }
+{}
+
+/// A step comes to one outcome.
+pub fn a_step_comes_to_one_outcome()
+    ensures { (v : ℕ) (hypotheses : List Formula) (s : Step) (o o' : Outcome) → Gives v hypotheses s o → Gives v hypotheses s o' → o ≡ o' }
+{}
+
+/// A proof that fails does so at one step, for one flaw, and derives nothing.
+pub fn a_proof_has_one_first_flaw()
+    ensures one { (v : ℕ) (hypotheses : List Formula) (p : Proof) (n m : ℕ) (why why' : Flaw) →
+        Fails v hypotheses p n why → Fails v hypotheses p m why' → (n ≡ m) × (why ≡ why') }
+    ensures excludes { (v : ℕ) (hypotheses : List Formula) (p : Proof) (n : ℕ) (why : Flaw) →
+        Fails v hypotheses p n why → Derives v hypotheses p → ⊥ }
+{}

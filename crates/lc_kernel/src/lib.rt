@@ -1,0 +1,23 @@
+//! Derivations: what a step needs and opens, and the check of a proof, step by step.
+#![tactic(auto)]
+
+mod arithmetic;
+mod below;
+mod check;
+mod fault;
+mod forms;
+mod goal;
+pub mod laws;
+mod opened;
+mod proof;
+mod proving;
+mod reason;
+mod rules;
+#[cfg(test)]
+mod tests;
+
+pub use fault::ProofFault;
+pub use goal::Goal;
+pub use proof::{Multiple, Proof, Step};
+pub use proving::prove;
+pub use reason::{Flaw, Reason};

@@ -1,0 +1,75 @@
+ghost use Rattle.std.specs.Prelude.{◌≡◌, [], ◌∷◌, IfOk};
+ghost use Rattle.lc_kernel.specs.Answers.{branches_of};
+ghost use Rattle.lc_kernel.specs.Table.{each};
+ghost use Rattle.lc_term.specs.View.{formula_of, formulas_of};
+
+use lc_base::OutOfMemory;
+use lc_term::Formula;
+use std::alloc::Global;
+
+/// What a step opens.
+#[derive(Debug, Drop)]
+pub(crate) struct Opened {
+    /// How many variables are in use in the branches.
+    pub(crate) variables: u32,
+    /// For each branch the formulas that are appended to the hypotheses.
+    pub(crate) branches: Vec<Vec<Formula>>,
+}
+
+/// No branch.
+pub(crate) fn no_branch(alloc: Global) -> Vec<Vec<Formula>>
+    ensures { branches_of result.items ≡ [] }
+{
+    Vec::new(alloc)
+}
+
+/// One branch, with all these formulas.
+pub(crate) fn one_branch(
+    alloc: Global,
+    formulas: Vec<Formula>,
+) -> Result<Vec<Vec<Formula>>, OutOfMemory>
+    ensures { IfOk result (λ bs. branches_of bs.items ≡ formulas_of formulas.items ∷ []) }
+{
+    let mut branches = Vec::with_capacity(alloc, 1)?;
+    branches.push(formulas)?;
+    Ok(branches)
+}
+
+/// One branch, with one formula.
+pub(crate) fn appending(alloc: Global, formula: Formula) -> Result<Vec<Vec<Formula>>, OutOfMemory>
+    ensures { IfOk result (λ bs. branches_of bs.items ≡ (formula_of formula ∷ []) ∷ []) }
+{
+    let mut formulas = Vec::with_capacity(alloc, 1)?;
+    formulas.push(formula)?;
+    one_branch(alloc, formulas)
+}
+
+/// A branch for each formula.
+pub(crate) fn each_branch(
+    alloc: Global,
+    formulas: Vec<Formula>,
+) -> Result<Vec<Vec<Formula>>, OutOfMemory>
+    ensures { IfOk result (λ bs. branches_of bs.items ≡ each (formulas_of formulas.items)) }
+{
+    let mut branches = Vec::with_capacity(alloc, formulas.len())?;
+    for formula in formulas {
+        let mut branch = Vec::with_capacity(alloc, 1)?;
+        branch.push(formula)?;
+        branches.push(branch)?;
+    }
+    Ok(branches)
+}
+
+/// A branch for each of two formulas.
+pub(crate) fn two_branches(
+    alloc: Global,
+    first: Formula,
+    second: Formula,
+) -> Result<Vec<Vec<Formula>>, OutOfMemory>
+    ensures { IfOk result (λ bs. branches_of bs.items ≡ each (formula_of first ∷ formula_of second ∷ [])) }
+{
+    let mut formulas = Vec::with_capacity(alloc, 2)?;
+    formulas.push(first)?;
+    formulas.push(second)?;
+    each_branch(alloc, formulas)
+}

@@ -1,0 +1,106 @@
+ghost use Rattle.std.specs.Prelude.{◌≡◌, ◌-◌, ◌^◌, min};
+ghost use Rattle.lc_kernel.specs.Proofs.{size};
+ghost use Rattle.lc_kernel.specs.View.{proof_of};
+
+use lc_term::{ColExpr, Formula, Term};
+
+/// A proof: a step, and below it a proof for each branch that the step opens.
+///
+/// A step appends formulas to the hypotheses of each branch; hypotheses are numbered from 0, and what is shown
+/// stands last among them, negated.
+#[derive(Debug, Drop)]
+pub struct Proof {
+    pub step: Step,
+    pub branches: Vec<Proof>,
+}
+
+impl Proof {
+    /// How many steps it has; `u64::MAX` stands for all greater numbers.
+    pub fn step_count(&self) -> u64
+        ensures { result ≡ min (size (proof_of self.now)) (2 ^ 64 - 1) }
+    {
+        let mut count: u64 = 1;
+        for branch in &self.branches {
+            count = count.saturating_add(branch.step_count());
+        }
+        count
+    }
+}
+
+/// A step of a proof. A hypothesis is given by its number.
+#[derive(Debug, Drop)]
+pub enum Step {
+    /// `(split h P)`: of `(and F ..)` one branch, with each F.
+    Split {
+        hypothesis: i64,
+    },
+    /// `(cases h P ..)`: of `(or F ..)` a branch for each F; of `(=> A B)` one with `(not A)` and one with `B`;
+    /// of `(not (and F ..))` one with `(not F)` for each F.
+    Cases {
+        hypothesis: i64,
+    },
+    /// `(push h P)`: of `(not F)` one branch, with the negation pushed into F.
+    Push {
+        hypothesis: i64,
+    },
+    /// `(inst h T P)`: of `(forall x F)` one branch, with F where x is T.
+    Instantiate {
+        hypothesis: i64,
+        term: Term,
+    },
+    /// `(fresh h P)`: of `(exists x F)` one branch, with F where x is a variable that was not in use.
+    Fresh {
+        hypothesis: i64,
+    },
+    /// `(cut F P Q)`: a branch with `(not F)` and one with `F`.
+    Cut {
+        formula: Formula,
+    },
+    /// `(written C i v j P)`: one branch, with the axiom of a stored value.
+    Written {
+        column: ColExpr,
+        index: Term,
+        value: Term,
+        other: Term,
+    },
+    /// `(same C i j P)`: one branch, with the axiom of equal indexes.
+    Same {
+        column: ColExpr,
+        index: Term,
+        other: Term,
+    },
+    /// `(affine a b i P)`: one branch, with the axiom of the column that has `a * i + b` at i.
+    Affine {
+        slope: i64,
+        start: i64,
+        index: Term,
+    },
+    /// `(trich h P Q)`: of `(not (= a b))` a branch with `a < b` and one with `b < a`.
+    Trichotomy {
+        hypothesis: i64,
+    },
+    /// `(divide h k F P)`: of a `<=` one branch, with F, which is that `<=` divided by k and rounded.
+    Divide {
+        hypothesis: i64,
+        divisor: i64,
+        quotient: Formula,
+    },
+    /// `(sum (h k) ..)`: no branch; so many times these comparisons contradict each other.
+    Sum {
+        multiples: Vec<Multiple>,
+    },
+    /// `(opposite h g)`: no branch; g is the negation of h.
+    Opposite {
+        hypothesis: i64,
+        negation: i64,
+    },
+    /// `(open)`: never holds.
+    Open,
+}
+
+/// So many times a hypothesis.
+#[derive(Clone, Copy, Debug, PartialEq, Eq)]
+pub struct Multiple {
+    pub hypothesis: i64,
+    pub multiplier: i64,
+}

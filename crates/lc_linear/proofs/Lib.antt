@@ -1,0 +1,15 @@
+pub mod Numbers
+pub mod Faults
+pub mod Products
+pub mod Weights
+pub mod Entries
+pub mod Multiples
+pub mod Distinct
+pub mod Adding
+pub mod Parts
+pub mod Sums
+pub mod Division
+pub mod Quotients
+pub mod Meaning
+pub mod Refutes
+pub mod Sameness

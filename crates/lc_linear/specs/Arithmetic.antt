@@ -1,0 +1,36 @@
+-- Arithmetic in 128 bits, of numbers and of forms, number by number.
+use Rattle.std.specs.Prelude.{◌≡◌, ℤ, ◌+ℤ◌, ◌-ℤ◌, ◌*ℤ◌, FitsSigned, Result, Ok, Err}
+use Rattle.std.specs.Int.{w128}
+use Rattle.lc_linear.specs.Form.{Place, Form}
+use Rattle.lc_linear.specs.declared.fault.LinFault.{LinFault}
+use Rattle.lc_linear.specs.declared.fault.LinFault.TheVariants.{Large, OutOfMemory}
+
+-- the number n where it fits, and Large where it does not
+abbrev pub GivesNumber : Result ℤ LinFault → ℤ → Type 0
+GivesNumber (Ok m) n = FitsSigned w128 n × (m ≡ n)
+GivesNumber (Err Large) n = FitsSigned w128 n → ⊥
+GivesNumber (Err OutOfMemory) n = ⊥
+
+-- the sum of two forms
+abbrev pub added : Form → Form → Form
+added f g p = f p +ℤ g p
+
+-- each sum fits 128 bits
+abbrev pub CanAdd : Form → Form → Type 0
+CanAdd f g = (p : Place) → FitsSigned w128 (f p +ℤ g p)
+
+-- a form with k times another one added
+abbrev pub added_scaled : Form → ℤ → Form → Form
+added_scaled f k g p = f p +ℤ k *ℤ g p
+
+-- each product and each sum fits 128 bits
+abbrev pub CanAddScaled : Form → ℤ → Form → Type 0
+CanAddScaled f k g = (p : Place) → FitsSigned w128 (k *ℤ g p) × FitsSigned w128 (f p +ℤ k *ℤ g p)
+
+-- the difference of two forms
+abbrev pub subtracted : Form → Form → Form
+subtracted f g p = f p -ℤ g p
+
+-- each difference fits 128 bits
+abbrev pub CanSubtract : Form → Form → Type 0
+CanSubtract f g = (p : Place) → FitsSigned w128 (f p -ℤ g p)
