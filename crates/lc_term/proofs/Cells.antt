@@ -47,17 +47,22 @@ same_column : (s : ℕ → ℤ → ℤ) (c d : ℕ) (i v : ℤ) (here : Bool) �
 same_column s c d i v true e = ap (λ k. stored (s k) i v) (grind (arith, nat_tests))
 same_column s c d i v false e = refl
 
+-- one cell of one column written, whatever shows the cells of a column
+pub column_at-write : {A : Type 0} (f : A → ℤ → ℤ) (xs : List A) (c : ℕ) (old new : A) (i v : ℤ) → c < length xs → old ≡ get_or xs c old → f new ≡ stored (f old) i v →
+    column_at (map f (set xs c new)) ≡ with_cell (column_at (map f xs)) c i v
+column_at-write f xs c old new i v h is e =
+    let fs = map f xs in
+    let small : c < length fs = rw length-map h in
+    let at : (d : ℕ) → column_at (map f (set xs c new)) d ≡ with_cell (column_at fs) c i v d =
+    λ d. ap (λ gs. column_at gs d) (map-set f xs c new) ∙ set_at fs c d (f new) small (c == d) refl ∙
+    ap (λ g. if c == d then g else column_at fs d) (e ∙ ap (λ g. stored g i v) (sym (column_at-map f xs c old h is))) ∙
+    same_column (column_at fs) c d i v (c == d) refl in
+    λ p d. at d p
+
 -- one cell of one column written
 pub state_of-write : (xs : List Cells) (c : ℕ) (old new : Cells) (i v : ℤ) → c < length xs → old ≡ get_or xs c old → cells_of new ≡ stored (cells_of old) i v →
     column_at (map cells_of (set xs c new)) ≡ with_cell (column_at (map cells_of xs)) c i v
-state_of-write xs c old new i v h is e =
-    let fs = map cells_of xs in
-    let small : c < length fs = rw length-map h in
-    let at : (d : ℕ) → column_at (map cells_of (set xs c new)) d ≡ with_cell (column_at fs) c i v d =
-    λ d. ap (λ gs. column_at gs d) (map-set cells_of xs c new) ∙ set_at fs c d (cells_of new) small (c == d) refl ∙
-    ap (λ f. if c == d then f else column_at fs d) (e ∙ ap (λ f. stored f i v) (sym (column_at-map cells_of xs c old h is))) ∙
-    same_column (column_at fs) c d i v (c == d) refl in
-    λ p d. at d p
+state_of-write = column_at-write cells_of
 
 -- a column whose written cells stay
 cells_of-unchanged : (old new : Cells) → new.slope ≡ old.slope → new.start ≡ old.start → IsUnchanged old.written new.written → cells_of new ≡ cells_of old

@@ -20,3 +20,4 @@ pub mod SoundAtoms
 pub mod SoundTexts
 pub mod PrintedTrees
 pub mod Reread
+pub mod Written

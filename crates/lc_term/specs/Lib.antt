@@ -23,3 +23,4 @@ pub mod Substitution
 pub mod Syntax
 pub mod Truth
 pub mod View
+pub mod Written

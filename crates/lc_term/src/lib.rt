@@ -34,6 +34,6 @@ pub use reading::{ReadFault, read_column, read_term};
 pub use reserved::is_reserved;
 pub use scope::{ColumnUse, Extra, Scope};
 pub use shifting::{shift, shift_formula};
-pub use state::{Env, EvalFault, State};
+pub use state::{CellWrite, Env, EvalFault, State};
 pub use substitution::{instantiate, substitute};
 pub use term::{ColExpr, Term};

@@ -1,0 +1,11 @@
+pub mod Clients
+pub mod Places
+pub mod Picked
+pub mod Calls
+pub mod Order
+pub mod Checks
+pub mod Naming
+pub mod Preceded
+pub mod Replays
+pub mod Tables
+pub mod Turns

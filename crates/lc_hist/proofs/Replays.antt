@@ -1,0 +1,303 @@
+-- The entries of an order, one after the other.
+use Rattle.std.proofs.Common.{◌≡◌, ℕ, zero, suc, ◌+◌, ◌<◌, ◌≤◌, Bool, true, false, List, [], ◌∷◌, ◌++◌, ℤ, Option, Some, None, Result, Ok, Err, IsErrAnd, All, get_or, IfSome, option_map, take, slice_get, length, refl, ap, sym, subst, ◌∙◌, inl, inr, add-one, arith}
+use Rattle.std.proofs.lemmas.Bool.{cases_order}
+use Rattle.std.proofs.Math.Seq.{take-append_seam}
+use Rattle.std.proofs.lemmas.Option.{slice_get_within, slice_get-get_or, get_or_from_slice_get}
+use Rattle.lc_seq.specs.Sequential.{Call, Sequential, Step}
+use Rattle.lc_hist.specs.Checked.{call_at, reply_at, IsNamed, IsReplied, AreNames, IsChecked, IsReplayed, IsWithin}
+use Rattle.lc_hist.specs.Faults.{judge_fault}
+use Rattle.lc_hist.specs.WellFormed.{IsWellFormed}
+use Rattle.lc_hist.specs.declared.judging.JudgeFault.{JudgeFault}
+use Rattle.lc_hist.specs.declared.judging.JudgeFault.TheVariants as F
+use Rattle.lc_hist.specs.declared.spans.Client.{Client}
+use Rattle.lc_hist.proofs.Order.{OnlyCalls, passed_where_linearizes, linearizes_where_passed}
+use Rattle.lc_seq.specs.declared.fault.SeqFault.{SeqFault}
+use Rattle.lc_seq.specs.declared.fault.SeqFault.TheVariants.{Overflow, OutOfMemory}
+use Rattle.lc_hist.specs.History.{Event, Entry, IsLegal, Linearizes, is_call, is_return, is_of, count}
+use Rattle.lc_hist.specs.Judged.{PassesBefore, IsFirstFailure, Leads, IsOverflow, IsJudged}
+use Rattle.lc_hist.specs.Spans.{places_from, span_of, is_preceded, returns_of, AreClients, HaveSeen}
+use Rattle.lc_hist.specs.Tests.{IsCallOf, IsReplyOf, named, NamesItsCall, HasItsReply, IsUnpreceded, IsComplete, Passes, PassesEach, IsTested, rank}
+use Rattle.lc_hist.specs.declared.reason.Reason.{Reason}
+use Rattle.lc_hist.specs.declared.reason.Reason.TheVariants.{OtherCall, OtherReply, MissingCall, NoStep, Preceded}
+use Rattle.lc_hist.specs.declared.spans.Span.{Span}
+use Rattle.lc_hist.proofs.Naming.{place_from, length-places_from, call_at-span, span_of-call, reply_at-span, span_of-reply, told_preceded, told_free}
+
+pub leads_next : {A : Type 0} (step : Sequential A) (s u t : A) (order : List Entry) (p : ℕ) (e : Entry) → slice_get order p ≡ Some e → Leads step s (take p order) u → Step step u e.client e.call t e.reply
+    → Leads step s (take (suc p) order) t
+leads_next step s u t [] p e at l to = absurd cc
+leads_next step s u t (d ∷ es) zero e at l to =
+    let same : e ≡ d = cc in
+    (t, subst (λ z. Step step s z.client z.call t z.reply) same (subst (λ z. Step step z e.client e.call t e.reply) (sym l) to), refl)
+leads_next step s u t (d ∷ es) (suc p) e at l to = (l.0, l.1, leads_next step l.0 u t es p e at l.2 to)
+
+pub legal_next : {A : Type 0} (step : Sequential A) (s u t : A) (order : List Entry) (p : ℕ) (e : Entry) → slice_get order p ≡ Some e → Leads step s (take p order) u → Step step u e.client e.call t e.reply
+    → IsLegal step s (take (suc p) order)
+legal_next step s u t [] p e at l to = absurd cc
+legal_next step s u t (d ∷ es) zero e at l to =
+    let same : e ≡ d = cc in
+    (t, subst (λ z. Step step s z.client z.call t z.reply) same (subst (λ z. Step step z e.client e.call t e.reply) (sym l) to), tt)
+legal_next step s u t (d ∷ es) (suc p) e at l to = (l.0, l.1, legal_next step l.0 u t es p e at l.2 to)
+
+abbrev state_in : {A : Type 0} → A → Option (A × List ℤ) → A
+state_in s None = s
+state_in s (Some x) = x.0
+
+one_state : {A : Type 0} (step : Sequential A) (s u v : A) (e : Entry) → Step step s e.client e.call u e.reply → Step step s e.client e.call v e.reply → u ≡ v
+one_state step s u v e a b = ap (state_in s) (sym a ∙ b)
+
+pub step_of_legal : {A : Type 0} (step : Sequential A) (s u : A) (order : List Entry) (p : ℕ) (e : Entry) → slice_get order p ≡ Some e → Leads step s (take p order) u → IsLegal step s (take (suc p) order)
+    → (t : A) × Step step u e.client e.call t e.reply
+step_of_legal step s u [] p e at l legal = absurd cc
+step_of_legal step s u (d ∷ es) zero e at l legal =
+    let same : d ≡ e = cc in
+    (legal.0, subst (λ z. Step step z e.client e.call legal.0 e.reply) l (subst (λ z. Step step s z.client z.call legal.0 z.reply) same legal.1))
+step_of_legal step s u (d ∷ es) (suc p) e at l legal =
+    step_of_legal step l.0 u es p e at l.2 (subst (λ z. IsLegal step z (take (suc p) es)) (one_state step s legal.0 l.0 d legal.1 l.1) legal.2)
+
+this_entry : (order : List Entry) (p : ℕ) (e d : Entry) → slice_get order p ≡ Some e → slice_get order p ≡ Some d → e ≡ d
+this_entry order p e d at is = cc
+
+its_span : (h : List Event) (order : List Entry) (spans : List (Option Span)) (flags : List Bool) (p : ℕ) (e : Entry) (span : Option Span) → AreNames h order spans flags → slice_get order p ≡ Some e → slice_get spans p ≡ Some span
+    → span ≡ span_of h e.client (named order p e)
+its_span h order spans flags p e span names at is = cc (names.found p e at, is)
+
+pub names_its_call : (HasCall : Call → Type 0) (h : List Event) (order : List Entry) (spans : List (Option Span)) (flags : List Bool) (p : ℕ) (e : Entry) (span : Option Span) → AreNames h order spans flags
+    → slice_get order p ≡ Some e → slice_get spans p ≡ Some span → IsNamed HasCall h span e.call → NamesItsCall HasCall h order p
+names_its_call HasCall h order spans flags p e span names at is n d there =
+    let same = this_entry order p e d at there in
+    let its = its_span h order spans flags p e span names at is in
+    subst (λ z. HasCall z.call × IsCallOf h z.client (named order p z) z.call) same
+    (n.0, span_of-call h e.client (named order p e) e.call (subst (λ z. call_at h z ≡ Some e.call) its n.1))
+
+pub is_named : (HasCall : Call → Type 0) (h : List Event) (order : List Entry) (spans : List (Option Span)) (flags : List Bool) (p : ℕ) (e : Entry) (span : Option Span) → AreNames h order spans flags
+    → slice_get order p ≡ Some e → slice_get spans p ≡ Some span → NamesItsCall HasCall h order p → IsNamed HasCall h span e.call
+is_named HasCall h order spans flags p e span names at is passed =
+    let its = its_span h order spans flags p e span names at is in
+    let it = passed e at in
+    (it.0, subst (λ z. call_at h z ≡ Some e.call) (sym its) (call_at-span h e.client (named order p e) e.call it.1))
+
+pub has_its_reply : (HasCall : Call → Type 0) (h : List Event) (order : List Entry) (spans : List (Option Span)) (flags : List Bool) (p : ℕ) (e : Entry) (span : Option Span) → AreNames h order spans flags
+    → slice_get order p ≡ Some e → slice_get spans p ≡ Some span → IsNamed HasCall h span e.call → IsReplied h span e.reply → HasItsReply h order p
+has_its_reply HasCall h order spans flags p e span names at is n r d there reply given =
+    let same = this_entry order p e d at there in
+    let its = its_span h order spans flags p e span names at is in
+    let call = (names_its_call HasCall h order spans flags p e span names at is n e at).1 in
+    let back : IsReplyOf h e.client (named order p e) reply = subst (λ z. IsReplyOf h z.client (named order p z) reply) (sym same) given in
+    ap (λ z. z.reply) (sym same) ∙ r reply (subst (λ z. reply_at h z ≡ Some reply) (sym its) (reply_at-span h e.client (named order p e) e.call reply call back))
+
+pub is_replied : (HasCall : Call → Type 0) (h : List Event) (order : List Entry) (spans : List (Option Span)) (flags : List Bool) (p : ℕ) (e : Entry) (span : Option Span) → AreNames h order spans flags
+    → slice_get order p ≡ Some e → slice_get spans p ≡ Some span → IsNamed HasCall h span e.call → HasItsReply h order p → IsReplied h span e.reply
+is_replied HasCall h order spans flags p e span names at is n passed reply there =
+    let its = its_span h order spans flags p e span names at is in
+    let call = (names_its_call HasCall h order spans flags p e span names at is n e at).1 in
+    passed e at reply (span_of-reply h e.client (named order p e) e.call reply call (subst (λ z. reply_at h z ≡ Some reply) its there))
+
+its_flag : (h : List Event) (order : List Entry) (spans : List (Option Span)) (flags : List Bool) (p : ℕ) (span : Option Span) (flag : Bool) → AreNames h order spans flags → slice_get spans p ≡ Some span → slice_get flags p ≡ Some flag
+    → is_preceded spans p ≡ flag
+its_flag h order spans flags p span flag names is there = cc (names.told p (slice_get_within spans p span is), there)
+
+pub unpreceded : (h : List Event) (order : List Entry) (spans : List (Option Span)) (flags : List Bool) (p : ℕ) (span : Option Span) (flag : Bool) → AreNames h order spans flags → slice_get spans p ≡ Some span → slice_get flags p ≡ Some flag
+    → flag ≡ false → IsUnpreceded h order p
+unpreceded h order spans flags p span flag names is there e = told_free h order spans flags names p (its_flag h order spans flags p span flag names is there ∙ e)
+
+pub preceded : (h : List Event) (order : List Entry) (spans : List (Option Span)) (flags : List Bool) (p : ℕ) (span : Option Span) (flag : Bool) → AreNames h order spans flags → slice_get spans p ≡ Some span → slice_get flags p ≡ Some flag
+    → flag ≡ true → IsUnpreceded h order p → ⊥
+preceded h order spans flags p span flag names is there e = told_preceded h order spans flags names p (its_flag h order spans flags p span flag names is there ∙ e)
+
+-- the tests at one more place are passed
+pub passes_next : {A : Type 0} (HasCall : Call → Type 0) (step : Sequential A) (start : A) (h : List Event) (order : List Entry) (p : ℕ) → p < length order → PassesBefore HasCall step start h order p
+    → NamesItsCall HasCall h order p → HasItsReply h order p → IsLegal step start (take (suc p) order) → IsUnpreceded h order p → PassesBefore HasCall step start h order (p + 1)
+passes_next HasCall step start h order p within before names replies legal free q reason lt tested =
+    elim (cases_order q p) [
+      | inl same ↦ subst (λ z. Passes HasCall step start h order reason z) (sym same) (at_place reason (subst (λ z. IsTested (length order) reason z) same tested))
+      | inr (inl less) ↦ before q reason less tested
+      | inr (inr more) ↦ absurd (omega arith)
+    ]
+  where
+    at_place : (reason : Reason) → IsTested (length order) reason p → Passes HasCall step start h order reason p
+    at_place OtherCall tested = names
+    at_place OtherReply tested = replies
+    at_place MissingCall tested = absurd (omega arith)
+    at_place NoStep tested = legal
+    at_place Preceded tested = free
+
+-- the tests below a rank are passed
+lesser : {A : Type 0} (HasCall : Call → Type 0) (step : Sequential A) (start : A) (h : List Event) (order : List Entry) (p limit : ℕ) → p < length order
+    → (1 < limit → NamesItsCall HasCall h order p) → (2 < limit → HasItsReply h order p) → (3 < limit → IsLegal step start (take (suc p) order)) → (4 < limit → IsUnpreceded h order p)
+    → (other : Reason) → rank other < limit → IsTested (length order) other p → Passes HasCall step start h order other p
+lesser HasCall step start h order p limit within names replies legal free OtherCall lt tested = names lt
+lesser HasCall step start h order p limit within names replies legal free OtherReply lt tested = replies lt
+lesser HasCall step start h order p limit within names replies legal free MissingCall lt tested = absurd (omega arith)
+lesser HasCall step start h order p limit within names replies legal free NoStep lt tested = legal lt
+lesser HasCall step start h order p limit within names replies legal free Preceded lt tested = free lt
+
+-- an entry passes its tests
+pub passing : {A : Type 0} (HasCall : Call → Type 0) (step : Sequential A) (Fits : A → ℕ → Call → Type 0) (start : A) (h : List Event) (order : List Entry) (spans : List (Option Span)) (flags : List Bool) (p : ℕ) (e : Entry) (span : Option Span) (flag : Bool) (s t : A)
+    → AreNames h order spans flags → PassesBefore HasCall step start h order p → Leads step start (take p order) s → slice_get order p ≡ Some e → slice_get spans p ≡ Some span → slice_get flags p ≡ Some flag
+    → IsChecked HasCall step Fits h span flag e s t (Ok None) → PassesBefore HasCall step start h order (p + 1) × Leads step start (take (p + 1) order) t
+passing HasCall step Fits start h order spans flags p e span flag s t names before leads at is told checked = (
+  passes_next HasCall step start h order p (slice_get_within order p e at) before
+      (names_its_call HasCall h order spans flags p e span names at is checked.0)
+      (has_its_reply HasCall h order spans flags p e span names at is checked.0 checked.1)
+      (legal_next step start s t order p e at leads checked.2)
+      (unpreceded h order spans flags p span flag names is told checked.3),
+  rw (add-one p) (leads_next step start s t order p e at leads checked.2),
+)
+
+-- an entry does not pass them
+pub failing : {A : Type 0} (HasCall : Call → Type 0) (step : Sequential A) (Fits : A → ℕ → Call → Type 0) (start : A) (h : List Event) (order : List Entry) (spans : List (Option Span)) (flags : List Bool) (p : ℕ) (e : Entry) (span : Option Span) (flag : Bool) (s t : A) (reason : Reason)
+    → AreNames h order spans flags → PassesBefore HasCall step start h order p → Leads step start (take p order) s → slice_get order p ≡ Some e → slice_get spans p ≡ Some span → slice_get flags p ≡ Some flag
+    → IsChecked HasCall step Fits h span flag e s t (Ok (Some reason)) → IsFirstFailure HasCall step start h order p reason
+failing HasCall step Fits start h order spans flags p e span flag s t OtherCall names before leads at is told checked = record {
+  tested = slice_get_within order p e at;
+  fails = λ passed. checked (is_named HasCall h order spans flags p e span names at is passed);
+  places = before;
+  reasons = lesser HasCall step start h order p 1 (slice_get_within order p e at) (λ lt. absurd (omega arith)) (λ lt. absurd (omega arith)) (λ lt. absurd (omega arith)) (λ lt. absurd (omega arith));
+}
+failing HasCall step Fits start h order spans flags p e span flag s t OtherReply names before leads at is told checked = record {
+  tested = slice_get_within order p e at;
+  fails = λ passed. checked.1 (is_replied HasCall h order spans flags p e span names at is checked.0 passed);
+  places = before;
+  reasons = lesser HasCall step start h order p 2 (slice_get_within order p e at) (λ lt. names_its_call HasCall h order spans flags p e span names at is checked.0) (λ lt. absurd (omega arith)) (λ lt. absurd (omega arith)) (λ lt. absurd (omega arith));
+}
+failing HasCall step Fits start h order spans flags p e span flag s t MissingCall names before leads at is told checked = absurd checked
+failing HasCall step Fits start h order spans flags p e span flag s t NoStep names before leads at is told checked = record {
+  tested = slice_get_within order p e at;
+  fails = λ passed. let taken = step_of_legal step start s order p e at leads passed in checked.2 taken.0 taken.1;
+  places = before;
+  reasons = lesser HasCall step start h order p 3 (slice_get_within order p e at) (λ lt. names_its_call HasCall h order spans flags p e span names at is checked.0)
+      (λ lt. has_its_reply HasCall h order spans flags p e span names at is checked.0 checked.1) (λ lt. absurd (omega arith)) (λ lt. absurd (omega arith));
+}
+failing HasCall step Fits start h order spans flags p e span flag s t Preceded names before leads at is told checked = record {
+  tested = slice_get_within order p e at;
+  fails = preceded h order spans flags p span flag names is told checked.3;
+  places = before;
+  reasons = lesser HasCall step start h order p 4 (slice_get_within order p e at) (λ lt. names_its_call HasCall h order spans flags p e span names at is checked.0)
+      (λ lt. has_its_reply HasCall h order spans flags p e span names at is checked.0 checked.1) (λ lt. legal_next step start s t order p e at leads checked.2) (λ lt. absurd (omega arith));
+}
+
+-- a number does not fit where an entry's call is applied
+pub overflowing : {A : Type 0} (HasCall : Call → Type 0) (step : Sequential A) (Fits : A → ℕ → Call → Type 0) (start : A) (h : List Event) (order : List Entry) (spans : List (Option Span)) (flags : List Bool) (p : ℕ) (e : Entry) (span : Option Span) (flag : Bool) (s t : A)
+    → AreNames h order spans flags → PassesBefore HasCall step start h order p → Leads step start (take p order) s → slice_get order p ≡ Some e → slice_get spans p ≡ Some span → slice_get flags p ≡ Some flag
+    → IsChecked HasCall step Fits h span flag e s t (Err Overflow) → IsOverflow HasCall step Fits start h order p
+overflowing HasCall step Fits start h order spans flags p e span flag s t names before leads at is told checked = record {
+  entry = e;
+  state = s;
+  stands = at;
+  places = before;
+  call = names_its_call HasCall h order spans flags p e span names at is checked.0;
+  reply = has_its_reply HasCall h order spans flags p e span names at is checked.0 checked.1;
+  leads = leads;
+  overflows = checked.2;
+}
+
+-- what a fault of the object is to the judge
+pub faulting : {A : Type 0} (HasCall : Call → Type 0) (step : Sequential A) (Fits : A → ℕ → Call → Type 0) (start : A) (h : List Event) (order : List Entry) (spans : List (Option Span)) (flags : List Bool) (p : ℕ) (e : Entry) (span : Option Span) (flag : Bool) (s t : A) (fault : SeqFault)
+    → AreNames h order spans flags → PassesBefore HasCall step start h order p → Leads step start (take p order) s → slice_get order p ≡ Some e → slice_get spans p ≡ Some span → slice_get flags p ≡ Some flag
+    → IsChecked HasCall step Fits h span flag e s t (Err fault) → IsReplayed HasCall step Fits start h order (Err (judge_fault fault))
+faulting HasCall step Fits start h order spans flags p e span flag s t Overflow names before leads at is told checked =
+    (p, overflowing HasCall step Fits start h order spans flags p e span flag s t names before leads at is told checked)
+faulting HasCall step Fits start h order spans flags p e span flag s t OutOfMemory names before leads at is told checked = tt
+
+-- the places of a span that is found are places of the history
+pub within_history : (h : List Event) (c k : ℕ) → IsWithin (length h) (span_of h c k)
+within_history h c k = there (slice_get (places_from (is_call c) 0 h) k) refl
+  where
+    return_there : (o : Option ℕ) → slice_get (places_from (is_return c) 0 h) k ≡ o → IfSome o (λ place. place < length h)
+    return_there None found = tt
+    return_there (Some j) found = let f = place_from (is_return c) 0 h k j found in let lt = slice_get_within h f.index f.place.element f.place.stands in omega (arith, f.is, lt)
+
+    there : (o : Option ℕ) → slice_get (places_from (is_call c) 0 h) k ≡ o → IsWithin (length h) (option_map (λ i. record { called = i; returned = slice_get (places_from (is_return c) 0 h) k }) o)
+    there None found = tt
+    there (Some i) found =
+        let f = place_from (is_call c) 0 h k i found in
+        let lt = slice_get_within h f.index f.place.element f.place.stands in
+        (omega (arith, f.is, lt), return_there (slice_get (places_from (is_return c) 0 h) k) refl)
+
+pub handed_on : {A : Type 0} (HasCall : Call → Type 0) (step : Sequential A) (Fits : A → ℕ → Call → Type 0) (start : A) (h : List Event) (order : List Entry) (r : Result (Unit {0}) JudgeFault) (fault : JudgeFault)
+    → IsErrAnd r (λ y. y ≡ fault) → IsReplayed HasCall step Fits start h order (Err fault) → IsReplayed HasCall step Fits start h order r
+handed_on HasCall step Fits start h order (Ok x) fault e known = absurd e
+handed_on HasCall step Fits start h order (Err y) fault e known = subst (λ z. IsReplayed HasCall step Fits start h order (Err z)) (sym e) known
+
+-- what is answered of the entries is what is answered of the order, where a fault stands
+pub judged_so : {A : Type 0} (HasCall : Call → Type 0) (step : Sequential A) (Fits : A → ℕ → Call → Type 0) (start : A) (h : List Event) (order : List Entry) (r : Result (Unit {0}) JudgeFault) (fault : JudgeFault)
+    → OnlyCalls HasCall step → IsWellFormed h → IsErrAnd r (λ y. y ≡ fault) → IsReplayed HasCall step Fits start h order (Err fault) → IsJudged HasCall step Fits start h order r
+judged_so HasCall step Fits start h order (Ok x) fault only w e known = absurd e
+judged_so HasCall step Fits start h order (Err y) fault only w e known = subst (λ z. IsJudged HasCall step Fits start h order (Err z)) (sym e) (judged fault known)
+  where
+    judged : (fault : JudgeFault) → IsReplayed HasCall step Fits start h order (Err fault) → IsJudged HasCall step Fits start h order (Err fault)
+    judged (F.Order place reason) known = (known, λ l. known.fails (passed_where_linearizes HasCall step start h order only w l reason place known.tested))
+    judged F.Overflow known = known
+    judged F.OutOfMemory known = tt
+
+each_client : (P : Client → Type 0) (clients : List Client) (c : ℕ) (client : Client) → All P clients → slice_get clients c ≡ Some client → P client
+each_client P clients c client all at = subst P (get_or_from_slice_get clients c client client at) (all c client (slice_get_within clients c client at))
+
+-- whether an order is complete, by its clients
+pub complete : (h : List Event) (order : List Entry) (clients : List Client) → AreClients h clients → HaveSeen (λ c. count (is_of c) order) clients
+    → All (λ client. length client.returns.items ≤ client.entries) clients → IsComplete h order
+complete h order clients are seen all c = by_client (slice_get clients c) refl
+  where
+    by_client : (o : Option Client) → slice_get clients c ≡ o → count (is_return c) h ≤ count (is_of c) order
+    by_client None at =
+        let none : [] ≡ places_from (is_return c) 0 h = sym (ap returns_of at) ∙ are.returns c in
+        omega (arith, ap length none, length-places_from (is_return c) 0 h)
+    by_client (Some client) at =
+        let its : client.returns.items ≡ places_from (is_return c) 0 h = sym (ap returns_of at) ∙ are.returns c in
+        let enough = each_client (λ x. length x.returns.items ≤ x.entries) clients c client all at in
+        omega (arith, ap length its, length-places_from (is_return c) 0 h, seen c client at, enough)
+
+pub each_complete : (h : List Event) (order : List Entry) (clients : List Client) → AreClients h clients → HaveSeen (λ c. count (is_of c) order) clients
+    → IsComplete h order → All (λ client. length client.returns.items ≤ client.entries) clients
+each_complete h order clients are seen whole c d lt =
+    let client = get_or clients c d in
+    let at = slice_get-get_or clients c d lt in
+    let its : client.returns.items ≡ places_from (is_return c) 0 h = sym (ap returns_of at) ∙ are.returns c in
+    let enough = whole c in
+    omega (arith, ap length its, length-places_from (is_return c) 0 h, seen c client at, enough)
+
+-- where the entries pass and each returned call has one, each test is passed
+pub passes_each : {A : Type 0} (HasCall : Call → Type 0) (step : Sequential A) (start : A) (h : List Event) (order : List Entry) → PassesBefore HasCall step start h order (length order) → IsComplete h order → PassesEach HasCall step start h order
+passes_each HasCall step start h order before whole OtherCall p tested = before p OtherCall tested tested
+passes_each HasCall step start h order before whole OtherReply p tested = before p OtherReply tested tested
+passes_each HasCall step start h order before whole MissingCall p tested = whole
+passes_each HasCall step start h order before whole NoStep p tested = before p NoStep tested tested
+passes_each HasCall step start h order before whole Preceded p tested = before p Preceded tested tested
+
+-- where only a returned call is missing
+pub missing : {A : Type 0} (HasCall : Call → Type 0) (step : Sequential A) (start : A) (h : List Event) (order : List Entry) (place : ℕ) → place ≡ length order → PassesBefore HasCall step start h order (length order) → (IsComplete h order → ⊥)
+    → IsFirstFailure HasCall step start h order place MissingCall
+missing HasCall step start h order place last before lacks = record {
+  tested = last;
+  fails = lacks;
+  places = subst (λ n. PassesBefore HasCall step start h order n) (sym last) before;
+  reasons = none_else;
+}
+  where
+    none_else : (other : Reason) → rank other < 5 → IsTested (length order) other place → Passes HasCall step start h order other place
+    none_else OtherCall lt tested = absurd (omega arith)
+    none_else OtherReply lt tested = absurd (omega arith)
+    none_else MissingCall lt tested = absurd (omega arith)
+    none_else NoStep lt tested = absurd (omega arith)
+    none_else Preceded lt tested = absurd (omega arith)
+
+pub seam : {A : Type 0} (n : ℕ) (xs ys : List A) → n ≡ length xs → take n (xs ++ ys) ≡ xs
+seam n xs ys e = ap (λ k. take k (xs ++ ys)) e ∙ take-append_seam xs ys
+
+-- what is answered where the entries pass and the clients are complete
+pub all_pass : {A : Type 0} (HasCall : Call → Type 0) (step : Sequential A) (start : A) (h : List Event) (order : List Entry) (clients : List Client)
+    → IsWellFormed h → AreClients h clients → HaveSeen (λ c. count (is_of c) order) clients → PassesBefore HasCall step start h order (length order)
+    → All (λ client. length client.returns.items ≤ client.entries) clients → Linearizes step start h order
+all_pass HasCall step start h order clients w are seen before all =
+    linearizes_where_passed HasCall step start h order w (passes_each HasCall step start h order before (complete h order clients are seen all))
+
+-- what is answered where the entries pass and the clients are not complete
+pub some_missing : {A : Type 0} (HasCall : Call → Type 0) (step : Sequential A) (start : A) (h : List Event) (order : List Entry) (clients : List Client) (place : ℕ)
+    → OnlyCalls HasCall step → IsWellFormed h → AreClients h clients → HaveSeen (λ c. count (is_of c) order) clients → PassesBefore HasCall step start h order (length order)
+    → (All (λ client. length client.returns.items ≤ client.entries) clients → ⊥) → place ≡ length order
+    → IsFirstFailure HasCall step start h order place MissingCall × (Linearizes step start h order → ⊥)
+some_missing HasCall step start h order clients place only w are seen before lacks last =
+    let absent : IsComplete h order → ⊥ = λ whole. lacks (each_complete h order clients are seen whole) in (
+      missing HasCall step start h order place last before absent,
+      λ l. absent (passed_where_linearizes HasCall step start h order only w l MissingCall (length order) refl),
+    )

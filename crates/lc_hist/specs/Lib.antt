@@ -1,0 +1,12 @@
+pub mod Checked
+pub mod Counter
+pub mod Faults
+pub mod Histories
+pub mod History
+pub mod InCall
+pub mod Judged
+pub mod Reason
+pub mod Spans
+pub mod Tests
+pub mod View
+pub mod WellFormed

@@ -1,0 +1,16 @@
+//! Histories of calls and returns, and the judge of orders that are to linearize them.
+#![tactic(auto)]
+
+mod event;
+mod history;
+mod judging;
+pub mod laws;
+mod reason;
+mod spans;
+#[cfg(test)]
+mod tests;
+
+pub use event::{CLIENT_LIMIT, Done, Event};
+pub use history::{History, HistoryFault};
+pub use judging::{JudgeFault, judge};
+pub use reason::Reason;

@@ -1,0 +1,20 @@
+use Rattle.std.proofs.Common.{◌≡◌, ◌<◌, ◌++◌, true, map, drop}
+use Rattle.std.specs.List.{list_all, All}
+use Rattle.lc_term.specs.State.{state_of, env_of, column_count, variable_count}
+use Rattle.lc_seq.specs.Specification.{update_is_resolved}
+use Rattle.lc_seq.specs.SpecView.{updates_of, write_of}
+use Rattle.lc_seq.specs.TextStep.{UpdatesFit, writes_of}
+use Rattle.lc_seq.proofs.running.writes_of.Given as goal
+
+abbrev pub invariant-loop-update : goal.invariant-loop-update
+invariant-loop-update l =
+    let s = state_of l.state in
+    let e = env_of l.env in
+    let rest = updates_of (drop l.update-index l.updates) in
+    record {
+      resolved : list_all (update_is_resolved (column_count l.state) (variable_count l.env)) rest ≡ true;
+      rest_fits : UpdatesFit s e (updates_of l.updates) → UpdatesFit s e rest;
+      whole_fits : UpdatesFit s e rest → UpdatesFit s e (updates_of l.updates);
+      writes : map write_of l.writes.items ++ writes_of s e rest ≡ writes_of s e (updates_of l.updates);
+      columns : All (λ write. write.column.0 < column_count l.state) l.writes.items;
+    }

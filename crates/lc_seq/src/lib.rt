@@ -1,0 +1,19 @@
+//! Sequential objects: what a call does to a state, and what it replies.
+#![tactic(auto)]
+
+mod fault;
+mod object;
+mod resolving;
+mod running;
+mod specification;
+#[cfg(test)]
+mod tests;
+mod text_call;
+mod text_object;
+mod text_state;
+
+pub use fault::SeqFault;
+pub use object::SeqObject;
+pub use specification::{Branch, Column, Operation, TextSpec, Update};
+pub use text_call::TextCall;
+pub use text_state::TextState;

@@ -1,0 +1,84 @@
+ghost use Rattle.std.specs.Prelude.{◌≡◌};
+
+use crate::fault::SeqFault;
+use lc_base::OutOfMemory;
+use std::alloc::Global;
+
+/// An object that is called by one client at a time. A call has a code, which is the number of its operation, and
+/// numbers; a reply is known by its numbers, so two replies with equal numbers are equal.
+pub trait SeqObject {
+    ghost use Rattle.std.specs.Prelude.{◌≡◌, ◌↔◌, ℕ, List, ℤ, Option, Some, true, IfOk, MatchOption};
+    ghost use Rattle.lc_seq.specs.Sequential.{Call, Sequential, Step};
+    ghost use Rattle.lc_seq.specs.Applied.{IsApplied};
+
+    /// What the object keeps between calls.
+    type State: Drop;
+    /// An operation with the numbers that it is given.
+    type Call: Eq + Drop;
+    /// What a call answers.
+    type Reply: Drop;
+
+    /// What a state stands for.
+    ghost Meaning: { Type 0 };
+
+    ghost meaning: { Self.State → Meaning };
+
+    /// A state belongs to the object.
+    ghost HasState: { Self → Self.State → Type 0 };
+
+    /// What a call stands for.
+    ghost call_meant: { Self.Call → Call };
+
+    /// The numbers of a reply.
+    ghost numbers: { Self.Reply → List ℤ };
+
+    /// The object has a call.
+    ghost HasCall: { Self → Call → Type 0 };
+
+    /// The state in which it starts.
+    ghost start: { Self → Meaning };
+
+    /// What a call does.
+    ghost step: { Self → Sequential Meaning };
+
+    /// Every number that is reached where a client's call is applied to a state fits.
+    ghost Fits: { Self → Meaning → ℕ → Call → Type 0 };
+
+    /// The state in which the object starts.
+    fn initial(&self, alloc: Global) -> Result<Self::State, OutOfMemory>
+        ensures start { IfOk result (λ state. meaning state ≡ start self.now) }
+        ensures state { IfOk result (HasState self.now) };
+
+    /// Applies a client's call to a state: a reply, or none where the object allows no step. Without a reply the
+    /// state stays as it was. `Overflow` is answered exactly where a number that is reached does not fit.
+    fn apply(
+        &self,
+        alloc: Global,
+        state: &mut Self::State,
+        client: u32,
+        call: &Self::Call,
+    ) -> Result<Option<Self::Reply>, SeqFault>
+        requires { HasState self.now state.old }
+        ensures applied { IsApplied numbers (step self.now (meaning state.old) client (call_meant call.now)) (Fits self.now (meaning state.old) client (call_meant call.now)) (meaning state.old) (meaning state.new) result }
+        ensures state { HasState self.now state.new };
+
+    /// The call of this code and these numbers, if the object has one.
+    fn call_of(
+        &self,
+        alloc: Global,
+        code: u32,
+        given: &[i64],
+    ) -> Result<Option<Self::Call>, OutOfMemory>
+        ensures { let call : Call = record { op = code; numbers = given.now } in
+            IfOk result (λ found. MatchOption found (HasCall self.now call → ⊥) (λ its. HasCall self.now call × (call_meant its ≡ call))) };
+
+    /// The numbers of a reply.
+    fn numbers_of(&self, alloc: Global, reply: &Self::Reply) -> Result<Vec<i64>, OutOfMemory>
+        ensures { IfOk result (λ given. given.items ≡ numbers reply.now) };
+
+    /// Calls are equal where they stand for the same.
+    ghost equal_calls: { (a b : Self.Call) → (Self.Call.eq a b ≡ true) ↔ (call_meant a ≡ call_meant b) };
+
+    /// Only a call that the object has takes a step.
+    ghost steps_by_calls: { (object : Self) (s : Meaning) (client : ℕ) (call : Call) (t : Meaning) (reply : List ℤ) → Step (step object) s client call t reply → HasCall object call };
+}

@@ -1,0 +1,126 @@
+ghost use Rattle.std.specs.Prelude.{◌≡◌, true, length};
+ghost use Rattle.std.specs.List.{list_all};
+ghost use Rattle.lc_seq.specs.Specification.{operation_is_resolved};
+ghost use Rattle.lc_seq.specs.SpecView.{operations_of};
+
+use crate::resolving::are_resolved;
+use lc_base::{ColId, Name, OpId};
+use lc_term::{Formula, Term};
+
+/// A column, which starts with `slope * i + start` in cell i.
+#[derive(Debug, Drop)]
+pub struct Column {
+    pub name: Name,
+    pub slope: i64,
+    pub start: i64,
+}
+
+/// A value that is stored in a column at an index.
+#[derive(Debug, Drop)]
+pub struct Update {
+    pub column: ColId,
+    pub index: Term,
+    pub value: Term,
+}
+
+/// What is stored and replied where a guard holds. Variable 0 is the number of clients, which no specification
+/// reads, variable 1 is the client, and the arguments follow.
+#[derive(Debug, Drop)]
+pub struct Branch {
+    pub guard: Formula,
+    pub updates: Vec<Update>,
+    pub replies: Vec<Term>,
+}
+
+/// An operation. A call of it takes the first branch whose guard holds.
+#[derive(Debug, Drop)]
+pub struct Operation {
+    pub name: Name,
+    pub arguments: Vec<Name>,
+    pub replies: u32,
+    pub branches: Vec<Branch>,
+}
+
+impl Operation {
+    ghost use Rattle.std.specs.Prelude.{◌≡◌, Some};
+    ghost use Rattle.lc_seq.specs.Specification.{branches_in};
+    ghost use Rattle.lc_seq.specs.SpecView.{operation_of, branches_of};
+
+    // The branches of a call with so many numbers.
+    fn branches_for(&self, count: usize) -> &[Branch]
+        ensures { branches_of result.now ≡ branches_in (Some (operation_of self.now)) count }
+    {
+        if self.arguments.len() == count {
+            &self.branches
+        } else {
+            &[]
+        }
+    }
+}
+
+/// A specification: columns, and operations on them.
+#[derive(Debug, Drop)]
+pub struct TextSpec {
+    pub(crate) name: Name,
+    pub(crate) columns: Vec<Column>,
+    pub(crate) operations: Vec<Operation>,
+    ghost is_resolved: { list_all (operation_is_resolved (length columns.items)) (operations_of operations.items) ≡ true },
+}
+
+impl TextSpec {
+    ghost use Rattle.std.specs.Prelude.{◌≡◌, ◌↔◌, IsSome, IfSome, slice_get, length, true};
+    ghost use Rattle.std.specs.List.{list_all};
+    ghost use Rattle.lc_seq.specs.Specification.{operation_is_resolved};
+    ghost use Rattle.lc_base.specs.Name.{bytes_of};
+    ghost use Rattle.lc_seq.specs.Specification.{branches_in};
+    ghost use Rattle.lc_seq.specs.SpecView.{columns_of, operations_of, branches_of};
+    ghost use Rattle.lc_seq.specs.TextView.{specification_of};
+
+    /// The specification of these columns and operations, if each column and variable in an operation is declared,
+    /// guards have no quantifiers, and each branch has as many replies as its operation.
+    pub fn new(name: Name, columns: Vec<Column>, operations: Vec<Operation>) -> Option<TextSpec>
+        ensures resolved { IsSome result ↔ (list_all (operation_is_resolved (length columns.items)) (operations_of operations.items) ≡ true) }
+        ensures value { IfSome result (λ spec. specification_of spec ≡ record { name = bytes_of name; columns = columns_of columns.items; operations = operations_of operations.items }) }
+    {
+        if are_resolved(&operations, columns.len()) {
+            Some(TextSpec {
+                name,
+                columns,
+                operations,
+            })
+        } else {
+            None
+        }
+    }
+
+    /// Its name.
+    pub fn name(&self) -> Name
+        ensures { bytes_of result ≡ (specification_of self.now).name }
+    {
+        self.name
+    }
+
+    /// Its columns.
+    pub fn columns(&self) -> &[Column]
+        ensures { columns_of result.now ≡ (specification_of self.now).columns }
+    {
+        &self.columns
+    }
+
+    /// Its operations.
+    pub fn operations(&self) -> &[Operation]
+        ensures { operations_of result.now ≡ (specification_of self.now).operations }
+    {
+        &self.operations
+    }
+
+    // The branches of a call of an operation with so many numbers.
+    pub(crate) fn branches_for(&self, op: OpId, count: usize) -> &[Branch]
+        ensures { branches_of result.now ≡ branches_in (slice_get (operations_of self.now.operations.items) op.0) count }
+    {
+        match self.operations.get(op.0 as usize) {
+            Some(operation) => operation.branches_for(count),
+            None => &[],
+        }
+    }
+}

@@ -1,0 +1,8 @@
+use lc_base::OpId;
+
+/// A call of a specification in text.
+#[derive(Debug, PartialEq, Eq, Drop)]
+pub struct TextCall {
+    pub op: OpId,
+    pub numbers: Vec<i64>,
+}

@@ -1,0 +1,98 @@
+ghost use Rattle.std.specs.Prelude.{◌≡◌};
+
+use crate::fault::SeqFault;
+use crate::object::SeqObject;
+use crate::running::{call_env, run};
+use crate::specification::TextSpec;
+use crate::text_call::TextCall;
+use crate::text_state::TextState;
+use lc_base::{OpId, OutOfMemory};
+use lc_term::State;
+use std::alloc::Global;
+
+impl SeqObject for TextSpec {
+    ghost use Rattle.std.specs.Prelude.{◌≡◌, true, length};
+    ghost use Rattle.lc_term.specs.Meaning.{State};
+    ghost use Rattle.lc_seq.specs.Specification.{has_call};
+    ghost use Rattle.lc_seq.specs.SpecView.{operations_of, columns_of, text_call_of};
+    ghost use Rattle.lc_seq.specs.TextStep.{text_step, TextFits, start_of};
+    ghost use Rattle.lc_seq.specs.TextView.{text_state_of, IsStateOf};
+    ghost use Rattle.lc_seq.specs.TextLaws.{calls_are_equal, text_steps_by_calls};
+
+    type State = TextState;
+
+    type Call = TextCall;
+
+    type Reply = Vec<i64>;
+
+    ghost Meaning = { State };
+
+    ghost meaning = { text_state_of };
+
+    ghost HasState = { λ spec state. IsStateOf (length spec.columns.items) state };
+
+    ghost call_meant = { text_call_of };
+
+    ghost numbers = { λ reply. reply.items };
+
+    ghost HasCall = { λ spec call. has_call (operations_of spec.operations.items) call ≡ true };
+
+    ghost start = { λ spec. start_of (columns_of spec.columns.items) };
+
+    ghost step = { λ spec. text_step (operations_of spec.operations.items) };
+
+    ghost Fits = { λ spec. TextFits (operations_of spec.operations.items) };
+
+    ghost equal_calls = { λ a b. calls_are_equal a.op.0 b.op.0 a.numbers.items b.numbers.items };
+
+    ghost steps_by_calls = { λ spec. text_steps_by_calls (operations_of spec.operations.items) };
+
+    fn initial(&self, alloc: Global) -> Result<TextState, OutOfMemory> {
+        let mut initial = Vec::with_capacity(alloc, self.columns.len())?;
+        for column in &self.columns {
+            initial.push((column.slope, column.start))?;
+        }
+        Ok(TextState {
+            cells: State::new(alloc, &initial)?,
+            writes: Vec::new(alloc),
+        })
+    }
+
+    fn apply(
+        &self,
+        alloc: Global,
+        state: &mut TextState,
+        client: u32,
+        call: &TextCall,
+    ) -> Result<Option<Vec<i64>>, SeqFault> {
+        state.store(self.columns.len())?;
+        let branches = self.branches_for(call.op, call.numbers.len());
+        let env = call_env(alloc, client, &call.numbers)?;
+        match run(alloc, branches, &state.cells, &env)? {
+            Some(outcome) => {
+                state.writes = outcome.writes;
+                Ok(Some(outcome.replies))
+            }
+            None => Ok(None),
+        }
+    }
+
+    fn call_of(
+        &self,
+        alloc: Global,
+        code: u32,
+        given: &[i64],
+    ) -> Result<Option<TextCall>, OutOfMemory> {
+        match self.operations.get(code as usize) {
+            Some(operation) if operation.arguments.len() == given.len() => Ok(Some(TextCall {
+                op: OpId(code),
+                numbers: Vec::from_slice(alloc, given)?,
+            })),
+            _ => Ok(None),
+        }
+    }
+
+    fn numbers_of(&self, alloc: Global, reply: &Vec<i64>) -> Result<Vec<i64>, OutOfMemory> {
+        Ok(Vec::from_slice(alloc, reply)?)
+    }
+}
