@@ -1,5 +1,5 @@
 -- The proofs of branches, checked one after the other.
-use Rattle.std.specs.Prelude.{◌≡◌, ℕ, zero, suc, ◌+◌, ◌<◌, ◌≤◌, List, [], ◌∷◌, ◌++◌, length, Ok, Err, Vec}
+use Rattle.std.specs.Prelude.{◌≡◌, ℕ, zero, suc, ◌+◌, ◌<◌, ◌≤◌, List, [], ◌∷◌, ◌++◌, length, Err, Vec}
 use Rattle.std.proofs.Common.{refl, sym, ap, subst, ◌∙◌, arith, drop, get_or}
 use Rattle.std.proofs.lemmas.List.{map-append}
 use Rattle.std.specs.declared.alloc.Global.{Global}
@@ -7,7 +7,7 @@ use Rattle.lc_term.specs.Syntax as S
 use Rattle.lc_term.specs.View.{formula_of, formulas_of}
 use Rattle.lc_term.specs.declared.formula.Formula.{Formula}
 use Rattle.lc_kernel.specs.Answers.{branches_of, Checks, ChecksEach}
-use Rattle.lc_kernel.specs.Derivation.{Derives, EachDerives, all_closed, one_closed, Fails, SomeFails, first_fails, later_fails}
+use Rattle.lc_kernel.specs.Derivation.{Derives, EachDerives, all_closed, one_closed, SomeFails, first_fails, later_fails}
 use Rattle.lc_kernel.specs.Proofs as P
 use Rattle.lc_kernel.specs.Proofs.{Proofs, none, more, proofs, size, size_of_all}
 use Rattle.lc_kernel.specs.View.{proof_of, proofs_of}

@@ -5,8 +5,8 @@ use Rattle.std.specs.declared.alloc.Global.{Global}
 use Rattle.lc_term.specs.Syntax as S
 use Rattle.lc_term.specs.declared.formula.Formula.{Formula}
 use Rattle.lc_kernel.specs.Answers.{branches_of, StepMeets, Checks, ChecksEach, fault_at}
-use Rattle.lc_kernel.specs.Derivation.{derives, fails_here, fails_by_count, fails_below}
-use Rattle.lc_kernel.specs.Proofs.{Step, Proofs, none, more, proof, proofs, proof_count}
+use Rattle.lc_kernel.specs.Derivation.{derives, fails_here, fails_below}
+use Rattle.lc_kernel.specs.Proofs.{Step, Proofs, proof, proofs, proof_count}
 use Rattle.lc_kernel.specs.Table.{opens, Gives}
 use Rattle.lc_kernel.specs.View.{step_of, proof_of, proofs_of}
 use Rattle.lc_kernel.specs.declared.proof.Proof.{Proof, out-Proof, the_lemmas}
@@ -15,7 +15,6 @@ use Rattle.lc_kernel.specs.declared.fault.ProofFault.TheVariants.{Bad as NotHold
 use Rattle.lc_kernel.specs.declared.fault.StepFault.{StepFault}
 use Rattle.lc_kernel.specs.declared.fault.StepFault.TheVariants.{Flawed, OutOfMemory}
 use Rattle.lc_kernel.specs.declared.reason.Flaw.TheVariants.{Bad, Large}
-use Rattle.lc_kernel.specs.declared.reason.Reason.TheVariants.{WrongForm}
 
 pub proof_of-proof : (p : Proof) → proof_of p ≡ proof (step_of (out-Proof p).step) (proofs (proofs_of (out-Proof p).branches.items))
 proof_of-proof p = search (rules, the_lemmas)

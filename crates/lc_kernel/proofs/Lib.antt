@@ -11,3 +11,12 @@ pub mod First
 pub mod Grows
 pub mod Branches
 pub mod Checked
+pub mod ProofWalk
+pub mod ProofParts
+pub mod ProofBranches
+pub mod SoundProofs
+pub mod Listing
+pub mod ReadBelow
+pub mod FormulaWalk
+pub mod FormulaReads
+pub mod FormulaAnswers

@@ -8,7 +8,7 @@ use Rattle.lc_linear.specs.LinForm.{numbers, HasNumbers}
 use Rattle.lc_linear.specs.declared.form.LinForm.{LinForm}
 use Rattle.lc_linear.proofs.Refutes.{IsDivided-Divides, IsDivided-unique, IsDivided-same}
 use Rattle.lc_kernel.specs.Answers.{GivesClaim, IsClaimed}
-use Rattle.lc_kernel.specs.Table.{flawed, opens, appends, excess, CanCompare, IsQuotient, QuotientGives}
+use Rattle.lc_kernel.specs.Table.{flawed, opens, excess, CanCompare, IsQuotient, QuotientGives}
 use Rattle.lc_kernel.specs.declared.reason.Flaw.TheVariants.{Bad}
 use Rattle.lc_kernel.specs.declared.reason.Reason.TheVariants.{NotDivisible, WrongQuotient}
 

@@ -1,13 +1,13 @@
 -- What is seen of formulas of each kind.
-use Rattle.std.specs.Prelude.{◌≡◌, ℕ, suc, ◌⊎◌, Option, Some, List, [], ◌∷◌, Vec, Box}
+use Rattle.std.specs.Prelude.{◌≡◌, ℕ, suc, ◌⊎◌, Some, List, [], ◌∷◌, Vec, Box}
 use Rattle.std.proofs.Common.{refl, sym, ap, ◌∙◌, inl, inr}
 use Rattle.std.specs.declared.alloc.Global.{Global}
 use Rattle.lc_term.specs.Places.{Test, passes, all_pass}
 use Rattle.lc_term.specs.Syntax as S
 use Rattle.lc_term.specs.Syntax.{formulas, parts}
 use Rattle.lc_term.specs.View.{formula_of, formulas_of}
-use Rattle.lc_term.specs.declared.formula.Formula.{Formula, Not, And, Or, Implies, Forall, Exists}
-use Rattle.lc_term.proofs.Views.{formula_of-Not, formula_of-And, formula_of-Or, formula_of-Implies, formula_of-Forall, formula_of-Exists}
+use Rattle.lc_term.specs.declared.formula.Formula.{Formula, And, Or, Forall, Exists}
+use Rattle.lc_term.proofs.Views.{formula_of-And, formula_of-Or, formula_of-Forall, formula_of-Exists}
 use Rattle.lc_kernel.specs.Answers.{items_of}
 use Rattle.lc_kernel.specs.Below.{below, formula_below}
 use Rattle.lc_kernel.specs.Table.{conjuncts, failing, alternatives, negations, pushed_inward}

@@ -1,5 +1,5 @@
 -- What the code answers of a step and of a proof.
-use Rattle.std.specs.Prelude.{◌≡◌, ℕ, ◌+◌, ℤ, Option, Some, None, Result, Ok, Err, List, [], ◌∷◌, map, Vec}
+use Rattle.std.specs.Prelude.{◌≡◌, ℕ, ◌+◌, ℤ, Option, Some, None, Result, Ok, Err, List, map, Vec}
 use Rattle.std.specs.Borrow.{Bor}
 use Rattle.std.specs.declared.alloc.Global.{Global}
 use Rattle.lc_term.specs.Syntax as S
@@ -17,7 +17,7 @@ use Rattle.lc_kernel.specs.declared.fault.StepFault.TheVariants.{Flawed, OutOfMe
 use Rattle.lc_kernel.specs.declared.fault.ProofFault.{ProofFault}
 use Rattle.lc_kernel.specs.declared.fault.ProofFault.TheVariants.{Bad as NotHolding, Large as TooLarge, OutOfMemory as NoMore}
 use Rattle.lc_kernel.specs.declared.opened.Opened.{Opened}
-use Rattle.lc_kernel.specs.declared.reason.Reason.TheVariants.{NotDivisible, WrongQuotient}
+use Rattle.lc_kernel.specs.declared.reason.Reason.TheVariants.{NotDivisible}
 use Rattle.lc_linear.specs.Closing.{Entry, entries_of}
 use Rattle.lc_linear.specs.Divided.{Divides, IsDivided}
 use Rattle.lc_linear.specs.Form.{Form, form_of, HasForm}

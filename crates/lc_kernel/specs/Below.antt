@@ -1,5 +1,5 @@
 -- The free variables that are in use are those whose numbers are below a count.
-use Rattle.std.specs.Prelude.{ℕ, Bool, true, ◌&&◌, nat_lt, List}
+use Rattle.std.specs.Prelude.{ℕ, Bool, true, nat_lt, List}
 use Rattle.std.specs.List.{list_all}
 use Rattle.lc_term.specs.Syntax.{Term, Column, Formula}
 use Rattle.lc_term.specs.Places.{Test, term_passes, column_passes, passes}

@@ -2,7 +2,7 @@
 use Rattle.std.specs.Prelude.{◌≡◌, ℕ, suc, ◌+◌, List, [], ◌∷◌, ◌++◌, length}
 use Rattle.lc_term.specs.Syntax.{Formula, Not}
 use Rattle.lc_kernel.specs.Proofs.{Step, Proof, proof, Proofs, none, more, proof_count, size}
-use Rattle.lc_kernel.specs.Table.{Outcome, flawed, opens, Gives}
+use Rattle.lc_kernel.specs.Table.{flawed, opens, Gives}
 use Rattle.lc_kernel.specs.declared.reason.Flaw.{Flaw}
 use Rattle.lc_kernel.specs.declared.reason.Flaw.TheVariants.{Bad}
 use Rattle.lc_kernel.specs.declared.reason.Reason.TheVariants.{WrongForm}

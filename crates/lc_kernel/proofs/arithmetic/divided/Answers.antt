@@ -1,5 +1,4 @@
 use Rattle.std.proofs.Common.{refl, sym, subst, rules, ◌≡◌, to_z, of_z}
-use Rattle.std.proofs.lemmas.Int.{to_z-of_z}
 use mir.Syntax.{w64}
 use Rattle.lc_linear.specs.Divided.{Divides, IsDivided}
 use Rattle.lc_linear.specs.LinForm.{numbers}

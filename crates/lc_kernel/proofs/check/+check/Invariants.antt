@@ -1,4 +1,4 @@
-use Rattle.std.proofs.Common.{◌≡◌, ℕ, ◌+◌, ◌*◌, length, drop}
+use Rattle.std.proofs.Common.{◌≡◌, ◌+◌, ◌*◌, length, drop}
 use Rattle.lc_term.specs.View.{formulas_of}
 use Rattle.lc_kernel.specs.Answers.{branches_of}
 use Rattle.lc_kernel.specs.Proofs.{proofs, size, size_of_all}
