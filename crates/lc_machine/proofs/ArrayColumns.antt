@@ -1,0 +1,61 @@
+-- The columns of an object's arrays.
+use Rattle.std.proofs.Common.{◌≡◌, ℕ, ◌<◌, ◌≤◌, ◌+◌, ◌-◌, ◌&&◌, Bool, true, List, [], ◌∷◌, length, map, refl, ap, ap₂, ◌∙◌, sym, arith, Some, None, zero, suc, ◌++◌, rules, get_or, replicate}
+use Rattle.std.specs.Prelude.{pos, option_map, nat_lt, nat_le, slice_get, ◌==◌}
+use Rattle.std.specs.List.{list_all}
+use Rattle.std.proofs.lemmas.Bool.Decides.{nat_tests}
+use Rattle.std.proofs.lemmas.List.{length-append, length-map, length-replicate}
+use Rattle.std.proofs.lemmas.Option.{same_Some, slice_get-map, slice_get_read}
+use Rattle.lc_object.specs.Syntax.{Array, Operation, Point, Object}
+use Rattle.lc_object.specs.WellFormed.{is_object, is_array, is_point, are_operations, are_distinct}
+use Rattle.lc_machine.specs.World.{initial_numbers}
+use Rattle.lc_machine.specs.Executed.{AreBelow}
+use Rattle.lc_machine.proofs.Known.{left_true, right_true}
+
+pub initial_count : (object : Object) → length (initial_numbers object) ≡ length object.abstracts + length object.concretes
+initial_count object =
+    length-append (replicate (length object.abstracts) (pos 0, pos 0)) (map (λ c. (c.slope, c.start)) object.concretes) ∙
+    ap₂ (λ a b. a + b) (length-replicate (length object.abstracts) (pos 0, pos 0)) (length-map object.concretes (λ c. (c.slope, c.start)))
+
+-- what each element passes, the one at a place passes
+pub at_all : {A : Type 0} (p : A → Bool) (xs : List A) (k : ℕ) (x : A) → list_all p xs ≡ true → slice_get xs k ≡ Some x → p x ≡ true
+at_all p [] k x e f = cc
+at_all p (y ∷ ys) zero x e f = ap p (sym (same_Some y x f)) ∙ left_true (p y) (list_all p ys) e
+at_all p (y ∷ ys) (suc k) x e f = at_all p ys k x (right_true (p y) (list_all p ys) e) f
+
+-- the parts of the test of an object
+pub operations_few : (object : Object) → is_object object ≡ true → nat_le (length object.operations) 16 ≡ true
+operations_few object e = left_true _ _ (left_true _ _ (left_true _ _ (left_true _ _ e)))
+
+pub arrays_pass : (object : Object) → is_object object ≡ true → list_all (is_array object) object.arrays ≡ true
+arrays_pass object e = right_true _ _ (left_true _ _ (left_true _ _ e))
+
+pub operations_pass : (object : Object) → is_object object ≡ true → are_operations object 0 object.operations ≡ true
+operations_pass object e = right_true _ _ (left_true _ _ e)
+
+pub points_pass : (object : Object) → is_object object ≡ true → list_all (is_point object) object.points ≡ true
+points_pass object e = right_true _ _ e
+
+concrete_below : (first count : ℕ) (cs : List ℕ) → list_all (λ c. nat_le first c && nat_lt (c - first) count) cs ≡ true → AreBelow (first + count) cs
+concrete_below first count [] e = tt
+concrete_below first count (c ∷ cs) e =
+    let here = left_true (nat_le first c && nat_lt (c - first) count) (list_all (λ c. nat_le first c && nat_lt (c - first) count) cs) e in
+    let low = left_true (nat_le first c) (nat_lt (c - first) count) here in
+    let high = right_true (nat_le first c) (nat_lt (c - first) count) here in
+    (grind (arith, nat_tests), concrete_below first count cs (right_true (nat_le first c && nat_lt (c - first) count) _ e))
+
+-- an array has at most four columns
+pub few_columns : (object : Object) (k : ℕ) (a : Array) → is_object object ≡ true → slice_get object.arrays k ≡ Some a → length a.columns ≤ 4
+few_columns object k a e f =
+    let array = at_all (is_array object) object.arrays k a (arrays_pass object e) f in
+    let few : nat_le (length a.columns) 4 ≡ true = left_true _ _ (left_true _ _ array) in
+    grind (arith, nat_tests)
+
+-- its columns are below the count of those up to the concrete ones
+pub concrete_columns : (object : Object) (k : ℕ) (a : Array) → is_object object ≡ true → slice_get object.arrays k ≡ Some a → AreBelow (length (initial_numbers object)) a.columns
+concrete_columns object k a e f =
+    let array = at_all (is_array object) object.arrays k a (arrays_pass object e) f in
+    rw (initial_count object) (concrete_below (length object.abstracts) (length object.concretes) a.columns (right_true _ _ array))
+
+-- the view of the element at a place
+pub viewed_at : {A B : Type 0} (f : A → B) (xs : List A) (i : ℕ) (x : A) → i < length (map f xs) → x ≡ get_or xs i x → slice_get (map f xs) i ≡ Some (f x)
+viewed_at f xs i x h e = slice_get-map f xs i ∙ ap (option_map f) (slice_get_read xs (length xs) i x refl (rw (← length-map xs f) h) e)

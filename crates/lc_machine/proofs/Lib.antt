@@ -1,0 +1,9 @@
+pub mod Known
+pub mod RowWrites
+pub mod Lengths
+pub mod ArrayColumns
+pub mod Executing
+pub mod Promised
+pub mod Stepping
+pub mod Worlds
+pub mod EdgeLaw

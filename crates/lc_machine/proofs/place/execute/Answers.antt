@@ -1,0 +1,38 @@
+use Rattle.std.proofs.Common.{◌≡◌, ap, sym, ◌∙◌, subst, Some}
+use Rattle.std.specs.Prelude.{slice_get}
+use Rattle.std.proofs.lemmas.Option.{same_Some}
+use Rattle.lc_term.specs.State.{state_of, variable_count}
+use Rattle.lc_object.specs.Objects.{object_shown}
+use Rattle.lc_object.specs.Syntax as S
+use Rattle.lc_object.specs.View.{point_of, parts_of}
+use Rattle.lc_object.specs.WellFormed.{is_object}
+use Rattle.lc_machine.specs.MayRun.{MayRun, variables_at}
+use Rattle.lc_machine.specs.Ran.{IsExecuted}
+use Rattle.lc_machine.proofs.ArrayColumns.{viewed_at}
+use Rattle.lc_machine.proofs.Promised.{may_run, placed}
+use Rattle.lc_machine.proofs.place.execute.Goals as goal
+
+pub run-requires-clause-may_run : goal.run-requires-clause-may_run
+run-requires-clause-may_run c =
+    let p = c.args.place.now.point.0 in
+    let n = variable_count c.args.place.now.variables in
+    let parts = c.parts-2.result.now in
+    let point = c.index-point-2.result.now in
+    let shown = c.parts-2.ensures.shown in
+    let place = subst (λ (o : S.Object). variables_at o p ≡ Some n) (sym shown) c.requires.place in
+    let at = viewed_at point_of parts.points.items p point (placed (parts_of parts) p n place) c.index-point-2.ensures in
+    subst (λ o. MayRun o n (point_of point).instruction) shown (may_run (parts_of parts) c.parts-2.ensures.well_formed p (point_of point) n at place)
+
+pub returns-clause-executed : goal.returns-clause-executed
+returns-clause-executed c =
+    let p = c.args.place.now.point.0 in
+    let n = variable_count c.args.place.now.variables in
+    let parts = c.parts-2.result.now in
+    let point = c.index-point-2.result.now in
+    let shown = c.parts-2.ensures.shown in
+    let place = subst (λ (o : S.Object). variables_at o p ≡ Some n) (sym shown) c.requires.place in
+    let at = viewed_at point_of parts.points.items p point (placed (parts_of parts) p n place) c.index-point-2.ensures in
+    λ (other : S.Point) there.
+    let same = same_Some (point_of point) other (sym at ∙ ap (λ (o : S.Object). slice_get o.points p) shown ∙ there) in
+    subst (λ (q : S.Point). IsExecuted (object_shown c.args.object.now) q.instruction (state_of c.args.state.now) c.args.place.now (state_of c.run.new.state) c.run.new.place c.run.result)
+    same c.run.ensures.executed

@@ -1,0 +1,12 @@
+pub mod World
+pub mod Step
+pub mod Fits
+pub mod Executed
+pub mod MayRun
+pub mod Ran
+pub mod View
+pub mod Placed
+pub mod Moved
+pub mod Machine
+pub mod Answered
+pub mod EdgeSteps

@@ -1,0 +1,71 @@
+ghost use Rattle.std.specs.Prelude.{◌≡◌, ◌≤◌, length, true, IfOk};
+ghost use Rattle.lc_term.specs.State.{state_of, column_count};
+ghost use Rattle.lc_object.specs.Objects.{object_shown};
+ghost use Rattle.lc_machine.specs.World.{initial_numbers};
+ghost use Rattle.lc_machine.specs.Placed.{is_placed};
+ghost use Rattle.lc_machine.specs.View.{client_of};
+ghost use Rattle.lc_machine.specs.Moved.{IsStepped};
+
+use crate::fault::StepFault;
+use crate::numbers::Numbers;
+use crate::place::{Place, Ran, execute};
+use lc_base::{OutOfMemory, PointId};
+use lc_object::{EdgeKind, Object};
+use lc_term::State;
+use std::alloc::Global;
+
+// Where a client is.
+#[derive(Debug, Drop)]
+pub(crate) enum Client {
+    // In no call.
+    Idle,
+    // In a call.
+    In(Place),
+}
+
+/// What became of a client that took a step of its call.
+#[derive(Debug, Drop)]
+pub enum Moved {
+    /// It went by this edge, and stands at this point.
+    Went { point: PointId, edge: EdgeKind },
+    /// Its call returned these numbers.
+    Returned(Vec<i64>),
+}
+
+// The numbers, in memory of their own.
+fn kept(alloc: Global, numbers: &Numbers) -> Result<Vec<i64>, OutOfMemory>
+    ensures { IfOk result (λ kept. kept.items ≡ numbers.now.items) }
+{
+    let mut kept = Vec::with_capacity(alloc, numbers.len())?;
+    kept.extend_from_slice(numbers)?;
+    Ok(kept)
+}
+
+// One step of a client's call.
+pub(crate) fn step(
+    alloc: Global,
+    object: &Object,
+    state: &mut State,
+    client: &mut Client,
+) -> Result<Moved, StepFault>
+    requires placed { is_placed (object_shown object.now) (client_of client.old) ≡ true }
+    requires columns { length (initial_numbers (object_shown object.now)) ≤ column_count state.old }
+    ensures stepped { IsStepped (object_shown object.now) (state_of state.old) (client_of client.old) (state_of state.new) (client_of client.new) result }
+    ensures placed { is_placed (object_shown object.now) (client_of client.new) ≡ true }
+    ensures columns { column_count state.new ≡ column_count state.old }
+{
+    let Client::In(place) = client else {
+        return Err(StepFault::Idle);
+    };
+    match execute(object, state, place)? {
+        Ran::Went(edge) => Ok(Moved::Went {
+            point: place.point,
+            edge,
+        }),
+        Ran::Returned(numbers) => {
+            let reply = kept(alloc, &numbers)?;
+            *client = Client::Idle;
+            Ok(Moved::Returned(reply))
+        }
+    }
+}

@@ -1,0 +1,41 @@
+ghost use Rattle.std.specs.Prelude.{◌≡◌, ◌≤◌, ◌<◌, true, length};
+ghost use Rattle.lc_object.specs.View.{terms_of, locals_of};
+ghost use Rattle.lc_object.specs.WellFormed.{are_code_terms};
+ghost use Rattle.lc_term.specs.State.{state_of, variable_count};
+ghost use Rattle.lc_machine.specs.Step.{numbers, assigned};
+ghost use Rattle.lc_machine.specs.Fits.{TermsFit};
+ghost use Rattle.lc_machine.specs.Executed.{IsComputed, AreBelow};
+
+use arrayvec::ArrayVec;
+use lc_object::{LOCAL_LIMIT, LocalId};
+use lc_term::{Env, EvalFault, State, Term, eval_term};
+
+/// The numbers that one step computes: of a row, of locals, or of a reply.
+pub type Numbers = ArrayVec<i64, LOCAL_LIMIT>;
+
+/// The numbers of terms, computed from the left.
+pub(crate) fn compute(terms: &[Term], state: &State, variables: &Env) -> Result<Numbers, EvalFault>
+    requires few { length terms.now ≤ 16 }
+    requires code { are_code_terms (variable_count variables.now) (terms_of terms.now) ≡ true }
+    ensures { let s = state_of state.now in
+        let vs = variables.now.values.items in
+        let ts = terms_of terms.now in
+        IsComputed (TermsFit s vs ts) (numbers s vs ts) result }
+{
+    let mut numbers = ArrayVec::new();
+    for term in terms {
+        numbers.push(eval_term(term, state, variables)?);
+    }
+    Ok(numbers)
+}
+
+/// Puts numbers to locals, one to each.
+pub(crate) fn assign(variables: &mut Env, targets: &[LocalId], numbers: &[i64])
+    requires each { length targets.now ≡ length numbers.now }
+    requires there { AreBelow (variable_count variables.old) (locals_of targets.now) }
+    ensures { variables.new.values.items ≡ assigned variables.old.values.items (locals_of targets.now) numbers.now }
+{
+    for (i, target) in targets.iter().enumerate() {
+        variables.values[target.0 as usize] = numbers[i];
+    }
+}

@@ -1,0 +1,83 @@
+ghost use Rattle.std.specs.Prelude.{◌≡◌, ◌≤◌, length, OkIff, OnOk, OnErr};
+ghost use Rattle.std.specs.Ordering.{int_eq};
+ghost use Rattle.std.specs.Cmp.Lexicographic.{pointwise};
+ghost use Rattle.lc_object.specs.View.{columns_of};
+ghost use Rattle.lc_term.specs.State.{state_of, column_count};
+ghost use Rattle.lc_machine.specs.Step.{row, with_row};
+ghost use Rattle.lc_machine.specs.Fits.{RowFits, ComparisonFits};
+ghost use Rattle.lc_machine.specs.Executed.{IsComputed, AreBelow, row_writes};
+
+use crate::numbers::Numbers;
+use arrayvec::ArrayVec;
+use lc_base::{ColId, OutOfMemory};
+use lc_object::WIDTH_LIMIT;
+use lc_term::{CellWrite, EvalFault, State};
+
+/// The numbers in a row: of each column what stands in this cell.
+pub(crate) fn read_row(state: &State, columns: &[ColId], index: i64) -> Result<Numbers, EvalFault>
+    requires few { length columns.now ≤ 16 }
+    requires there { AreBelow (column_count state.now) (columns_of columns.now) }
+    ensures { let s = state_of state.now in
+        let cs = columns_of columns.now in
+        IsComputed (RowFits s cs index) (row s cs index) result }
+{
+    let mut numbers = ArrayVec::new();
+    for column in columns {
+        numbers.push(state.read(*column, index)?);
+    }
+    Ok(numbers)
+}
+
+/// Whether these numbers stand in a row. The columns are read up to the first that differs.
+pub(crate) fn is_row(
+    state: &State,
+    columns: &[ColId],
+    index: i64,
+    numbers: &[i64],
+) -> Result<bool, EvalFault>
+    requires each { length columns.now ≡ length numbers.now }
+    requires there { AreBelow (column_count state.now) (columns_of columns.now) }
+    ensures { let s = state_of state.now in
+        let cs = columns_of columns.now in
+        OkIff result (ComparisonFits s cs index numbers.now) (pointwise int_eq (row s cs index) numbers.now) }
+{
+    for (i, column) in columns.iter().enumerate() {
+        if state.read(*column, index)? != numbers[i] {
+            return Ok(false);
+        }
+    }
+    Ok(true)
+}
+
+fn writes(columns: &[ColId], index: i64, numbers: &[i64]) -> ArrayVec<CellWrite, WIDTH_LIMIT>
+    requires few { length columns.now ≤ 4 }
+    requires each { length columns.now ≡ length numbers.now }
+    ensures { result.items ≡ row_writes columns.now index numbers.now }
+{
+    let mut writes = ArrayVec::new();
+    for (i, column) in columns.iter().enumerate() {
+        writes.push(CellWrite {
+            column: *column,
+            index,
+            number: numbers[i],
+        });
+    }
+    writes
+}
+
+/// Writes numbers to a row. Where memory is refused the state stays as it was.
+pub(crate) fn write_row(
+    state: &mut State,
+    columns: &[ColId],
+    index: i64,
+    numbers: &[i64],
+) -> Result<(), OutOfMemory>
+    requires few { length columns.now ≤ 4 }
+    requires each { length columns.now ≡ length numbers.now }
+    requires there { AreBelow (column_count state.old) (columns_of columns.now) }
+    ensures ok { OnOk result (state_of state.new ≡ with_row (state_of state.old) (columns_of columns.now) index numbers.now) }
+    ensures err { OnErr result (state_of state.new ≡ state_of state.old) }
+    ensures columns { column_count state.new ≡ column_count state.old }
+{
+    state.write_all(&writes(columns, index, numbers))
+}

@@ -1,0 +1,6 @@
+pub mod Syntax
+pub mod View
+pub mod WellFormed
+pub mod Objects
+pub mod Edges
+pub mod EdgeView

@@ -1,0 +1,240 @@
+ghost use Rattle.std.specs.Prelude.{◌≡◌, ◌++◌, [], map, option_map, IfOk, OnOk};
+ghost use Rattle.lc_term.specs.Syntax.{Read, Base};
+ghost use Rattle.lc_term.specs.View.{term_of, formulas_of};
+ghost use Rattle.lc_object.specs.Edges.{array_columns, reads, row_updates, row_facts, edges_at, edges};
+ghost use Rattle.lc_object.specs.EdgeView.{update_of, edge_of};
+ghost use Rattle.lc_object.specs.Objects.{object_shown};
+ghost use Rattle.lc_object.specs.View.{columns_of, terms_of, instruction_of};
+
+use crate::instr::{ArrayId, EdgeKind, Instr, LocalId};
+use crate::object::Object;
+use lc_base::{ColId, OutOfMemory, PointId};
+use lc_term::{ColExpr, Formula, Term};
+use std::alloc::Global;
+
+/// A number that is stored in a cell of a column. Index and value are taken in the state before.
+#[derive(Debug, Drop)]
+pub struct Update {
+    pub column: ColId,
+    pub index: Term,
+    pub value: Term,
+}
+
+/// An edge of the instruction at a point: what holds where it is gone, what it does, and what comes next.
+#[derive(Debug, Drop)]
+pub struct Edge {
+    /// The point that is left.
+    pub point: PointId,
+    pub kind: EdgeKind,
+    pub facts: Vec<Formula>,
+    /// The locals that are written at once, and the values of each.
+    pub targets: Vec<LocalId>,
+    pub values: Vec<Term>,
+    pub updates: Vec<Update>,
+    /// The point that is reached; none where the call returns.
+    pub next: Option<PointId>,
+    /// The numbers that are returned.
+    pub replies: Vec<Term>,
+}
+
+fn row_columns(object: &Object, array: ArrayId) -> &[ColId]
+    ensures { columns_of result.now ≡ array_columns (object_shown object.now) array.0 }
+{
+    match object.parts().arrays.get(array.0 as usize) {
+        None => &[],
+        Some(array) => &array.columns,
+    }
+}
+
+fn copy_terms(alloc: Global, terms: &[Term]) -> Result<Vec<Term>, OutOfMemory>
+    ensures { IfOk result (λ copies. terms_of copies.items ≡ terms_of terms.now) }
+{
+    let mut copies = Vec::with_capacity(alloc, terms.len())?;
+    for term in terms {
+        copies.push(term.try_clone(alloc)?)?;
+    }
+    Ok(copies)
+}
+
+fn copy_locals(alloc: Global, locals: &[LocalId]) -> Result<Vec<LocalId>, OutOfMemory>
+    ensures { IfOk result (λ copies. copies.items ≡ locals.now) }
+{
+    let mut copies = Vec::with_capacity(alloc, locals.len())?;
+    copies.extend_from_slice(locals)?;
+    Ok(copies)
+}
+
+fn read(alloc: Global, column: ColId, index: &Term) -> Result<Term, OutOfMemory>
+    ensures { IfOk result (λ t. term_of t ≡ Read (Base column.0) (term_of index.now)) }
+{
+    let index = Box::new(alloc, index.try_clone(alloc)?)?;
+    Ok(Term::Read(ColExpr::Base(column), index))
+}
+
+// What stands in a cell of these columns.
+fn reads(alloc: Global, columns: &[ColId], index: &Term) -> Result<Vec<Term>, OutOfMemory>
+    ensures { IfOk result (λ ts. terms_of ts.items ≡ reads (columns_of columns.now) (term_of index.now)) }
+{
+    let mut terms = Vec::with_capacity(alloc, columns.len())?;
+    for column in columns {
+        terms.push(read(alloc, *column, index)?)?;
+    }
+    Ok(terms)
+}
+
+// These terms stored in a cell, one in each column.
+fn row_updates(
+    alloc: Global,
+    columns: &[ColId],
+    index: &Term,
+    values: &[Term],
+) -> Result<Vec<Update>, OutOfMemory>
+    ensures { IfOk result (λ us. map update_of us.items ≡ row_updates (columns_of columns.now) (term_of index.now) (terms_of values.now)) }
+{
+    let mut updates = Vec::with_capacity(alloc, columns.len())?;
+    for (i, column) in columns.iter().enumerate() {
+        let Some(value) = values.get(i) else {
+            return Ok(updates);
+        };
+        updates.push(Update {
+            column: *column,
+            index: index.try_clone(alloc)?,
+            value: value.try_clone(alloc)?,
+        })?;
+    }
+    Ok(updates)
+}
+
+// These terms stand in a cell, one in each column.
+fn row_facts(
+    alloc: Global,
+    columns: &[ColId],
+    index: &Term,
+    values: &[Term],
+) -> Result<Vec<Formula>, OutOfMemory>
+    ensures { IfOk result (λ fs. formulas_of fs.items ≡ row_facts (columns_of columns.now) (term_of index.now) (terms_of values.now)) }
+{
+    let mut facts = Vec::with_capacity(alloc, columns.len())?;
+    for (i, column) in columns.iter().enumerate() {
+        let Some(value) = values.get(i) else {
+            return Ok(facts);
+        };
+        facts.push(Formula::Eq(read(alloc, *column, index)?, value.try_clone(alloc)?))?;
+    }
+    Ok(facts)
+}
+
+// An edge that has no facts and does nothing.
+fn plain(alloc: Global, point: PointId, kind: EdgeKind, next: Option<PointId>) -> Edge
+    ensures { edge_of result ≡ record { point = point.0; kind = kind; facts = []; targets = []; values = []; updates = []; next = option_map (λ p. p.0) next; replies = [] } }
+{
+    Edge {
+        point,
+        kind,
+        facts: Vec::new(alloc),
+        targets: Vec::new(alloc),
+        values: Vec::new(alloc),
+        updates: Vec::new(alloc),
+        next,
+        replies: Vec::new(alloc),
+    }
+}
+
+// The edges of the instruction at a point, behind these.
+fn push_edges(
+    alloc: Global,
+    object: &Object,
+    point: PointId,
+    instruction: &Instr,
+    edges: &mut Vec<Edge>,
+) -> Result<(), OutOfMemory>
+    ensures { OnOk result (map edge_of edges.new.items ≡ map edge_of edges.old.items ++ edges_at (object_shown object.now) point.0 (instruction_of instruction.now)) }
+{
+    match instruction {
+        Instr::Load {
+            array,
+            index,
+            targets,
+            next,
+        } => {
+            let mut edge = plain(alloc, point, EdgeKind::Next, Some(*next));
+            edge.targets = copy_locals(alloc, targets)?;
+            edge.values = reads(alloc, row_columns(object, *array), index)?;
+            edges.push(edge)?;
+        }
+        Instr::Store {
+            array,
+            index,
+            values,
+            next,
+        } => {
+            let mut edge = plain(alloc, point, EdgeKind::Next, Some(*next));
+            edge.updates = row_updates(alloc, row_columns(object, *array), index, values)?;
+            edges.push(edge)?;
+        }
+        Instr::Cas {
+            array,
+            index,
+            old,
+            new,
+            equal,
+            different,
+        } => {
+            let columns = row_columns(object, *array);
+            let mut then = plain(alloc, point, EdgeKind::Then, Some(*equal));
+            then.facts = row_facts(alloc, columns, index, old)?;
+            then.updates = row_updates(alloc, columns, index, new)?;
+            let mut otherwise = plain(alloc, point, EdgeKind::Else, Some(*different));
+            let same = Formula::And(row_facts(alloc, columns, index, old)?);
+            otherwise.facts.push(Formula::Not(Box::new(alloc, same)?))?;
+            edges.push(then)?;
+            edges.push(otherwise)?;
+        }
+        Instr::Set {
+            targets,
+            values,
+            next,
+        } => {
+            let mut edge = plain(alloc, point, EdgeKind::Next, Some(*next));
+            edge.targets = copy_locals(alloc, targets)?;
+            edge.values = copy_terms(alloc, values)?;
+            edges.push(edge)?;
+        }
+        Instr::If {
+            condition,
+            holds,
+            fails,
+        } => {
+            let mut then = plain(alloc, point, EdgeKind::Then, Some(*holds));
+            then.facts.push(condition.try_clone(alloc)?)?;
+            let mut otherwise = plain(alloc, point, EdgeKind::Else, Some(*fails));
+            let not = Formula::Not(Box::new(alloc, condition.try_clone(alloc)?)?);
+            otherwise.facts.push(not)?;
+            edges.push(then)?;
+            edges.push(otherwise)?;
+        }
+        Instr::Return { values } => {
+            let mut edge = plain(alloc, point, EdgeKind::Next, None);
+            edge.replies = copy_terms(alloc, values)?;
+            edges.push(edge)?;
+        }
+    }
+    Ok(())
+}
+
+/// The edges of an object's points, in the order of the points; of a point with two, `Then` comes first.
+pub fn edges(alloc: Global, object: &Object) -> Result<Vec<Edge>, OutOfMemory>
+    ensures { IfOk result (λ es. map edge_of es.items ≡ edges (object_shown object.now)) }
+{
+    let mut edges = Vec::new(alloc);
+    for (i, point) in object.parts().points.iter().enumerate() {
+        push_edges(
+            alloc,
+            object,
+            PointId(i as u32),
+            &point.instruction,
+            &mut edges,
+        )?;
+    }
+    Ok(edges)
+}

@@ -1,0 +1,18 @@
+//! The code of an object: its arrays, its operations, and the instructions at the points of their bodies.
+#![tactic(auto)]
+
+mod edge_table;
+mod instr;
+mod object;
+mod parts;
+mod testing;
+#[cfg(test)]
+mod tests;
+
+pub use edge_table::{Edge, Update, edges};
+pub use instr::{ArrayId, EdgeKind, Instr, LocalId};
+pub use object::Object;
+pub use parts::{Array, Column, Operation, Parts, Point};
+pub use testing::{
+    ARGUMENT_LIMIT, LOCAL_LIMIT, OPERATION_LIMIT, POINT_LIMIT, REPLY_LIMIT, WIDTH_LIMIT,
+};

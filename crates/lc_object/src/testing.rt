@@ -1,0 +1,313 @@
+ghost use Rattle.std.specs.Prelude.{◌≡◌, ◌<◌, ◌+◌, ◌^◌, ◌-◌, ◌==◌, ◌&&◌, nat_le, nat_lt, true, length, map};
+ghost use Rattle.std.specs.List.{list_all, list_any};
+ghost use Rattle.lc_term.specs.Syntax.{formulas};
+ghost use Rattle.lc_term.specs.View.{term_of, formula_of, formulas_of};
+ghost use Rattle.lc_object.specs.View.{locals_of, columns_of, terms_of, instruction_of, array_of, operation_of, point_of, parts_of};
+ghost use Rattle.lc_object.specs.WellFormed.{variable_count, has_limits, is_code_term, are_code_terms, is_code_formula, are_code_formulas, are_distinct, are_targets, has_width, is_label, is_instruction, is_point, are_operations, is_array, is_object};
+
+use crate::instr::{ArrayId, Instr, LocalId};
+use crate::parts::{Array, Operation, Parts, Point};
+use lc_base::{ColId, OpId, PointId};
+use lc_term::{Formula, Term};
+
+/// The most columns that an array has.
+pub const WIDTH_LIMIT: usize = 4;
+
+/// The most arguments of an operation.
+pub const ARGUMENT_LIMIT: usize = 3;
+
+/// The most numbers that an operation returns.
+pub const REPLY_LIMIT: u32 = 3;
+
+/// The most locals of a body.
+pub const LOCAL_LIMIT: usize = 16;
+
+/// The most operations.
+pub const OPERATION_LIMIT: usize = 16;
+
+/// The most points of all bodies together.
+pub const POINT_LIMIT: usize = 256;
+
+fn has_limits(operation: &Operation) -> bool
+    ensures { result ≡ has_limits (operation_of operation.now) }
+{
+    operation.arguments.len() <= ARGUMENT_LIMIT
+        && operation.replies <= REPLY_LIMIT
+        && operation.locals.len() <= LOCAL_LIMIT
+}
+
+fn is_code_term(term: &Term, variables: usize) -> bool
+    ensures { result ≡ is_code_term variables (term_of term.now) }
+{
+    match term {
+        Term::Number(_) => true,
+        Term::Variable(number) => 0 < *number && (*number as usize) < variables,
+        Term::Bound(_) | Term::Read(..) => false,
+        Term::Add(left, right) | Term::Subtract(left, right) => is_code_term(left, variables)
+            && is_code_term(right, variables),
+        Term::Multiply(_, term) => is_code_term(term, variables),
+    }
+}
+
+fn all_are_code(terms: &[Term], variables: usize) -> bool
+    ensures { result ≡ list_all (λ t. is_code_term variables (term_of t)) terms.now }
+{
+    terms.iter().all(|term| is_code_term(term, variables))
+}
+
+#[tactic(auto, using(crate::proofs::Passing::terms_test))]
+fn are_code_terms(terms: &[Term], variables: usize) -> bool
+    ensures { result ≡ are_code_terms variables (terms_of terms.now) }
+{
+    all_are_code(terms, variables)
+}
+
+#[cycle(is_code_formula)]
+fn is_code_formula(formula: &Formula, variables: usize) -> bool
+    ensures { result ≡ is_code_formula variables (formula_of formula.now) }
+{
+    match formula {
+        Formula::Le(left, right) | Formula::Eq(left, right) => is_code_term(left, variables)
+            && is_code_term(right, variables),
+        Formula::Not(formula) => is_code_formula(formula, variables),
+        Formula::And(parts) | Formula::Or(parts) => are_code_formulas(parts, variables),
+        Formula::Implies(left, right) => is_code_formula(left, variables)
+            && is_code_formula(right, variables),
+        Formula::Forall(_) | Formula::Exists(_) => false,
+    }
+}
+
+#[cycle(is_code_formula)]
+fn are_code_formulas(parts: &[Formula], variables: usize) -> bool
+    ensures { result ≡ are_code_formulas variables (formulas (formulas_of parts.now)) }
+{
+    for part in parts {
+        if !is_code_formula(part, variables) {
+            return false;
+        }
+    }
+    true
+}
+
+fn is_among(locals: &[LocalId], local: LocalId) -> bool
+    ensures { result ≡ list_any (λ other. other == local.0) (locals_of locals.now) }
+{
+    locals
+        .iter()
+        .map(|other| other.0)
+        .any(|other| other == local.0)
+}
+
+fn are_distinct(locals: &[LocalId]) -> bool
+    ensures { result ≡ are_distinct (locals_of locals.now) }
+{
+    match locals.split_first() {
+        None => true,
+        Some((local, others)) => !is_among(others, *local) && are_distinct(others),
+    }
+}
+
+fn is_column_among(columns: &[ColId], column: ColId) -> bool
+    ensures { result ≡ list_any (λ other. other == column.0) (columns_of columns.now) }
+{
+    columns
+        .iter()
+        .map(|other| other.0)
+        .any(|other| other == column.0)
+}
+
+fn are_distinct_columns(columns: &[ColId]) -> bool
+    ensures { result ≡ are_distinct (columns_of columns.now) }
+{
+    match columns.split_first() {
+        None => true,
+        Some((column, others)) => !is_column_among(others, *column) && are_distinct_columns(others),
+    }
+}
+
+fn are_between(locals: &[LocalId], first: usize, end: usize) -> bool
+    ensures { result ≡ list_all (λ local. nat_le first local && nat_lt local end) (locals_of locals.now) }
+{
+    locals
+        .iter()
+        .map(|local| local.0 as usize)
+        .all(|local| first <= local && local < end)
+}
+
+fn are_targets(operation: &Operation, targets: &[LocalId]) -> bool
+    requires { has_limits (operation_of operation.now) ≡ true }
+    ensures { result ≡ are_targets (operation_of operation.now) (locals_of targets.now) }
+{
+    let first = 2 + operation.arguments.len();
+    let end = first + operation.locals.len();
+    targets.len() <= LOCAL_LIMIT && are_between(targets, first, end) && are_distinct(targets)
+}
+
+fn has_width(parts: &Parts, array: ArrayId, width: usize) -> bool
+    ensures { result ≡ has_width (parts_of parts.now) array.0 width }
+{
+    match parts.arrays.get(array.0 as usize) {
+        None => false,
+        Some(array) => array.columns.len() == width,
+    }
+}
+
+fn is_label(parts: &Parts, operation: OpId, label: PointId) -> bool
+    ensures { result ≡ is_label (parts_of parts.now) operation.0 label.0 }
+{
+    match parts.points.get(label.0 as usize) {
+        None => false,
+        Some(point) => point.operation == operation,
+    }
+}
+
+// Whether an instruction in an operation's body names what is there.
+fn is_instruction(parts: &Parts, number: OpId, operation: &Operation, instruction: &Instr) -> bool
+    requires { has_limits (operation_of operation.now) ≡ true }
+    ensures { result ≡ is_instruction (parts_of parts.now) number.0 (operation_of operation.now) (instruction_of instruction.now) }
+{
+    let variables = 2 + operation.arguments.len() + operation.locals.len();
+    match instruction {
+        Instr::Load {
+            array,
+            index,
+            targets,
+            next,
+        } => {
+            has_width(parts, *array, targets.len())
+                && is_code_term(index, variables)
+                && are_targets(operation, targets)
+                && is_label(parts, number, *next)
+        }
+        Instr::Store {
+            array,
+            index,
+            values,
+            next,
+        } => {
+            has_width(parts, *array, values.len())
+                && is_code_term(index, variables)
+                && are_code_terms(values, variables)
+                && is_label(parts, number, *next)
+        }
+        Instr::Cas {
+            array,
+            index,
+            old,
+            new,
+            equal,
+            different,
+        } => {
+            has_width(parts, *array, old.len())
+                && has_width(parts, *array, new.len())
+                && is_code_term(index, variables)
+                && are_code_terms(old, variables)
+                && are_code_terms(new, variables)
+                && is_label(parts, number, *equal)
+                && is_label(parts, number, *different)
+        }
+        Instr::Set {
+            targets,
+            values,
+            next,
+        } => {
+            values.len() == targets.len()
+                && are_targets(operation, targets)
+                && are_code_terms(values, variables)
+                && is_label(parts, number, *next)
+        }
+        Instr::If {
+            condition,
+            holds,
+            fails,
+        } => {
+            is_code_formula(condition, variables)
+                && is_label(parts, number, *holds)
+                && is_label(parts, number, *fails)
+        }
+        Instr::Return { values } => {
+            values.len() == operation.replies as usize && are_code_terms(values, variables)
+        }
+    }
+}
+
+fn is_point(parts: &Parts, point: &Point) -> bool
+    ensures { result ≡ is_point (parts_of parts.now) (point_of point.now) }
+{
+    match parts.operations.get(point.operation.0 as usize) {
+        None => false,
+        Some(operation) => {
+            has_limits(operation)
+                && is_instruction(parts, point.operation, operation, &point.instruction)
+        }
+    }
+}
+
+fn are_concrete(columns: &[ColId], first: usize, count: usize) -> bool
+    ensures { result ≡ list_all (λ column. nat_le first column && nat_lt (column - first) count) (columns_of columns.now) }
+{
+    columns
+        .iter()
+        .map(|column| column.0 as usize)
+        .all(|column| first <= column && column - first < count)
+}
+
+fn is_array(parts: &Parts, array: &Array) -> bool
+    ensures { result ≡ is_array (parts_of parts.now) (array_of array.now) }
+{
+    array.columns.len() <= WIDTH_LIMIT
+        && are_distinct_columns(&array.columns)
+        && are_concrete(&array.columns, parts.abstracts.len(), parts.concretes.len())
+}
+
+fn all_are_arrays(parts: &Parts) -> bool
+    ensures { result ≡ list_all (λ array. is_array (parts_of parts.now) (array_of array)) parts.now.arrays.items }
+{
+    parts.arrays.iter().all(|array| is_array(parts, array))
+}
+
+#[tactic(auto, using(crate::proofs::Passing::arrays_test))]
+fn are_arrays(parts: &Parts) -> bool
+    ensures { result ≡ list_all (is_array (parts_of parts.now)) (map array_of parts.now.arrays.items) }
+{
+    all_are_arrays(parts)
+}
+
+fn all_are_points(parts: &Parts) -> bool
+    ensures { result ≡ list_all (λ point. is_point (parts_of parts.now) (point_of point)) parts.now.points.items }
+{
+    parts.points.iter().all(|point| is_point(parts, point))
+}
+
+#[tactic(auto, using(crate::proofs::Passing::points_test))]
+fn are_points(parts: &Parts) -> bool
+    ensures { result ≡ list_all (is_point (parts_of parts.now)) (map point_of parts.now.points.items) }
+{
+    all_are_points(parts)
+}
+
+// Whether operations from this number on have limits, and their first points stand in their bodies.
+fn are_operations(parts: &Parts, first: u32, operations: &[Operation]) -> bool
+    requires { first + length operations.now < 2 ^ 32 }
+    ensures { result ≡ are_operations (parts_of parts.now) first (map operation_of operations.now) }
+{
+    match operations.split_first() {
+        None => true,
+        Some((operation, others)) => {
+            has_limits(operation)
+                && is_label(parts, OpId(first), operation.entry)
+                && are_operations(parts, first + 1, others)
+        }
+    }
+}
+
+// Whether the parts of an object name what is there.
+pub(crate) fn is_object(parts: &Parts) -> bool
+    ensures { result ≡ is_object (parts_of parts.now) }
+{
+    parts.operations.len() <= OPERATION_LIMIT
+        && parts.points.len() <= POINT_LIMIT
+        && are_arrays(parts)
+        && are_operations(parts, 0, &parts.operations)
+        && are_points(parts)
+}
