@@ -3,7 +3,5 @@
 
 mod axioms;
 pub mod laws;
-#[cfg(test)]
-mod tests;
 
 pub use axioms::{affine_axiom, same_index_axiom, written_axiom};

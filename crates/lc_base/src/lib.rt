@@ -6,8 +6,6 @@ mod line;
 mod memory;
 mod name;
 mod refusal;
-#[cfg(test)]
-mod tests;
 
 pub use ids::{ColId, OpId, PointId};
 pub use line::{refusal_line, write_line};

@@ -1,5 +1,4 @@
 pub mod Checked
-pub mod Counter
 pub mod Faults
 pub mod Histories
 pub mod History

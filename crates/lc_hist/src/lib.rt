@@ -7,8 +7,6 @@ mod judging;
 pub mod laws;
 mod reason;
 mod spans;
-#[cfg(test)]
-mod tests;
 
 pub use event::{CLIENT_LIMIT, Done, Event};
 pub use history::{History, HistoryFault};

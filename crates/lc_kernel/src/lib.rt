@@ -9,8 +9,6 @@ mod forms;
 mod formula_names;
 mod formula_passes;
 mod formula_reading;
-#[cfg(test)]
-mod formula_tests;
 mod goal;
 mod grammar;
 pub mod laws;
@@ -23,8 +21,6 @@ mod proving;
 mod reason;
 mod rules;
 mod sections;
-#[cfg(test)]
-mod tests;
 pub mod text_laws;
 
 pub use fault::ProofFault;

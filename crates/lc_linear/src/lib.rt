@@ -10,8 +10,6 @@ pub mod laws;
 mod making;
 mod number;
 mod quick;
-#[cfg(test)]
-mod tests;
 
 pub use closing::closes;
 pub use fault::LinFault;

@@ -8,8 +8,6 @@ pub mod laws;
 mod numbers;
 mod place;
 mod rows;
-#[cfg(test)]
-mod tests;
 
 pub use bare::Bare;
 pub use client::Moved;

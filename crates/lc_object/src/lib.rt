@@ -6,8 +6,6 @@ mod instr;
 mod object;
 mod parts;
 mod testing;
-#[cfg(test)]
-mod tests;
 
 pub use edge_table::{Edge, Update, edges};
 pub use instr::{ArrayId, EdgeKind, Instr, LocalId};

@@ -6,8 +6,6 @@ mod object;
 mod resolving;
 mod running;
 mod specification;
-#[cfg(test)]
-mod tests;
 mod text_call;
 mod text_object;
 mod text_state;

@@ -11,8 +11,6 @@ mod printing;
 mod reader;
 mod reading;
 mod sexp;
-#[cfg(test)]
-mod tests;
 
 pub use cursor::{Atom, Cursor, Item};
 pub use laws::{

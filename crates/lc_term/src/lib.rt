@@ -18,10 +18,6 @@ mod shifting;
 mod state;
 mod substitution;
 mod term;
-#[cfg(test)]
-mod tests;
-#[cfg(test)]
-mod text_tests;
 
 pub use evaluation::{eval, eval_term};
 pub use formula::{Formula, copy_formulas};

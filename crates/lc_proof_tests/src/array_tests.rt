@@ -1,4 +1,4 @@
-use crate::{affine_axiom, laws, same_index_axiom, written_axiom};
+use lc_array::{affine_axiom, laws, same_index_axiom, written_axiom};
 use lc_base::{ColId, OutOfMemory};
 use lc_term::{ColExpr, Formula, Spelling, Term, write_formula};
 use std::alloc::Global;

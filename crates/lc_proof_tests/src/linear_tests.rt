@@ -1,5 +1,5 @@
-use crate::{LinFault, LinForm, closes, form_of, form_of_difference, laws};
 use lc_base::ColId;
+use lc_linear::{LinFault, LinForm, closes, form_of, form_of_difference, laws};
 use lc_term::{ColExpr, Formula, Term};
 use std::alloc::Global;
 use std::test::Fail;

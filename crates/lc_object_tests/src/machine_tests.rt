@@ -1,5 +1,5 @@
-use crate::{Bare, Moved, StepFault, laws};
 use lc_base::{ColId, Name, OpId, OutOfMemory, PointId};
+use lc_machine::{Bare, Moved, StepFault, laws};
 use lc_object::{
     Array, ArrayId, Column, EdgeKind, Instr, LocalId, Object, Operation, Parts, Point,
 };

@@ -1,5 +1,5 @@
-use crate::{Contents, Cursor, Misfit, Reader, Sexp, is_atom, print, read};
 use lc_base::{Fault, Refusal};
+use lc_sexp::{Contents, Cursor, Misfit, Reader, Sexp, is_atom, print, read};
 use std::alloc::Global;
 use std::test::Fail;
 
@@ -17,25 +17,7 @@ fn form_count(alloc: Global, text: &[u8]) -> Option<usize> {
 }
 
 #[test]
-fn first_faults(rt: HostRuntime) -> Result<(), Fail> {
-    let table: [(&str, u64); 9] = [
-        ("(formula", 8),
-        (")", 0),
-        ("a ; (\n b,", 8),
-        ("(a))", 3),
-        ("((a)", 4),
-        ("(a ; )\n", 7),
-        ("(a#", 2),
-        ("\u{e9}", 0),
-        ("(hyps x\u{e9})", 7),
-    ];
-    for (text, offset) in table {
-        assert_eq!(rt;
-            fault_of(rt.alloc(), text.as_bytes()),
-            Some(offset),
-            "{text}"
-        );
-    }
+fn lists_nested_too_deep(rt: HostRuntime) -> Result<(), Fail> {
     let nested = vec![in rt.alloc(); b'('; 1001]?;
     assert_eq!(rt; fault_of(rt.alloc(), &nested), Some(1000));
     let open = vec![in rt.alloc(); b'('; 1000]?;

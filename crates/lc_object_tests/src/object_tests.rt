@@ -1,7 +1,7 @@
-use crate::{
+use lc_base::{ColId, Name, OpId, OutOfMemory, PointId};
+use lc_object::{
     Array, ArrayId, Column, EdgeKind, Instr, LocalId, Object, Operation, Parts, Point, edges,
 };
-use lc_base::{ColId, Name, OpId, OutOfMemory, PointId};
 use lc_term::{ColExpr, Formula, Term};
 use std::alloc::Global;
 use std::test::Fail;

@@ -1,4 +1,4 @@
-use crate::{Fault, Name, OutOfMemory, Refusal, code, is_name, refusal_line, write_line};
+use lc_base::{Fault, Name, OutOfMemory, Refusal, code, is_name, refusal_line, write_line};
 use std::test::Fail;
 
 #[test]

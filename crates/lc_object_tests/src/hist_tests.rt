@@ -1,5 +1,5 @@
-use crate::{CLIENT_LIMIT, Done, Event, History, HistoryFault, JudgeFault, Reason, judge};
 use lc_base::{OpId, OutOfMemory};
+use lc_hist::{CLIENT_LIMIT, Done, Event, History, HistoryFault, JudgeFault, Reason, judge};
 use lc_seq::{SeqFault, SeqObject};
 use std::alloc::Global;
 use std::test::Fail;
@@ -19,8 +19,8 @@ enum CounterCall {
 impl SeqObject for Counter {
     ghost use Rattle.std.specs.Prelude.{ℤ, [], ◌∷◌, refl};
     ghost use Rattle.std.proofs.Common.{sym};
-    ghost use Rattle.lc_hist.specs.Counter.{increment, get, counter_step, CounterFits, IsCounterCall, counter_steps_by_calls, calls_differ};
-    ghost use Rattle.lc_hist.specs.declared.tests.CounterCall.TheVariants.{Increment, Get};
+    ghost use Rattle.lc_object_tests.specs.Counter.{increment, get, counter_step, CounterFits, IsCounterCall, counter_steps_by_calls, calls_differ};
+    ghost use Rattle.lc_object_tests.specs.declared.hist_tests.CounterCall.TheVariants.{Increment, Get};
 
     type State = i64;
 

@@ -1,8 +1,8 @@
-use crate::{
+use lc_base::ColId;
+use lc_term::{
     ColExpr, Env, EvalFault, Formula, State, Term, copy_formulas, eval, eval_term, instantiate,
     is_closed, is_ground_of_quantifiers, laws, shift, shift_formula, substitute,
 };
-use lc_base::ColId;
 use std::test::Fail;
 
 #[test]

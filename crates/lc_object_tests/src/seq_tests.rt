@@ -1,10 +1,10 @@
 ghost use Rattle.std.specs.Prelude.{length};
 ghost use Rattle.lc_seq.specs.TextView.{IsStateOf};
 
-use crate::{
+use lc_base::{ColId, Name, OpId, OutOfMemory};
+use lc_seq::{
     Branch, Column, Operation, SeqFault, SeqObject, TextCall, TextSpec, TextState, Update,
 };
-use lc_base::{ColId, Name, OpId, OutOfMemory};
 use lc_term::{ColExpr, Formula, Term};
 use std::alloc::Global;
 use std::test::Fail;

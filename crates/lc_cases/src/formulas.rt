@@ -1,0 +1,36 @@
+use lc_base::{Fault, Refusal};
+use lc_kernel::{ProofFault, formula_of, prove};
+use std::alloc::Global;
+use std::io;
+
+/// Whether the proof in a formula file holds, else the first refusal.
+fn check_formula(alloc: Global, text: &[u8]) -> Result<(), Fault> {
+    let (goal, proof) = formula_of(alloc, text)?;
+    match prove(alloc, &goal, &proof) {
+        Ok(()) => Ok(()),
+        Err(ProofFault::Bad { step, reason }) => {
+            Err(Fault::Refused(Refusal::Proof(0, u64::from(step), reason.code())))
+        }
+        Err(ProofFault::Large { step }) => {
+            Err(Fault::Refused(Refusal::Large(0, u64::from(step))))
+        }
+        Err(ProofFault::OutOfMemory) => Err(Fault::OutOfMemory),
+    }
+}
+
+/// Prints the answer to a text as a formula file.
+pub fn answer_formula(rt: &HostRuntime, name: &str, text: &[u8]) -> io::Result<()> {
+    match check_formula(rt.alloc(), text) {
+        Ok(()) => println!(rt; "{name}: proved"),
+        Err(fault) => println!(rt; "{name}: {fault}"),
+    }
+}
+
+/// The same of each text that it begins with.
+pub fn answer_prefixes(rt: &HostRuntime, name: &str, text: &[u8]) -> io::Result<()> {
+    for length in 0..text.len() {
+        print!(rt; "cut to {length}, ")?;
+        answer_formula(rt, name, &text[..length])?;
+    }
+    Ok(())
+}

@@ -1,0 +1,48 @@
+//! Answers cases, a line for each. What has to be printed was worked out by hand, or by an independent program.
+//!
+//! A word of the command line is a kind of cases and a file, with a colon between them. A line of the file is a case: a
+//! name, a space, and a text. What is printed is the name and the answer.
+#![tactic(auto)]
+
+mod formulas;
+mod terms;
+
+use crate::formulas::{answer_formula, answer_prefixes};
+use crate::terms::{Place, answer_term};
+use anyhow::{Context, bail};
+use std::{env, fs};
+
+fn answer_case(rt: &HostRuntime, kind: &str, name: &str, text: &str) -> anyhow::Result<()> {
+    match kind {
+        "formula" => answer_formula(rt, name, text.as_bytes())?,
+        "prefixes" => answer_prefixes(rt, name, text.as_bytes())?,
+        "term" => answer_term(rt, Place { everything: true }, name, text)?,
+        "plain-term" => answer_term(rt, Place { everything: false }, name, text)?,
+        _ => bail!("there is no such kind of cases"),
+    }
+    Ok(())
+}
+
+fn answer_cases(rt: &HostRuntime, kind: &str, path: &str) -> anyhow::Result<()> {
+    let cases = fs::read_to_string(rt, path)?;
+    for line in cases.as_str().split('\n') {
+        if !line.is_empty() {
+            let (name, text) = line
+                .split_once(' ')
+                .context("a case has a name and a text, with a space between them")?;
+            answer_case(rt, kind, name, text)?;
+        }
+    }
+    Ok(())
+}
+
+fn main(rt: HostRuntime) -> anyhow::Result<()> {
+    for word in env::args(&rt)?.skip(1) {
+        let (kind, path) = word
+            .as_str()
+            .split_once(':')
+            .context("a word is a kind and a file, with a colon between them")?;
+        answer_cases(&rt, kind, path)?;
+    }
+    Ok(())
+}

@@ -1,0 +1,4 @@
+pub mod FirstRefusal
+pub mod Naming
+pub mod Listed
+pub mod TableView

@@ -1,0 +1,107 @@
+ghost use Rattle.std.specs.Prelude.{◌≡◌, ◌<◌, ◌^◌, List, length, ℕ, OnOk, Some, None, if◌then◌else◌};
+ghost use Rattle.std.specs.Option.{option_or};
+ghost use Rattle.std.specs.Map.{lookup};
+ghost use Rattle.lc_term.specs.Bound.{names_in};
+ghost use Rattle.lc_term.specs.Grammar.{is};
+ghost use Rattle.lc_names.specs.Listed.{place_of};
+
+use indexmap::IndexMap;
+use lc_base::OutOfMemory;
+use lc_sexp::{Cursor, Item};
+use std::alloc::Global;
+
+/// Names in a row, and for each the place at which it stands first.
+#[derive(Drop)]
+pub struct NameTable<'a> {
+    names: Vec<&'a str>,
+    places: IndexMap<&'a str, u32>,
+    ghost counted: { length names.items < 2 ^ 32 },
+    ghost placed: { (w : List ℕ) → lookup (λ name. is w name.now) places.entries ≡ place_of (names_in names.items) w },
+}
+
+/// Notes the place of a name, unless it stands at one already.
+fn note_place<'a>(
+    places: &mut IndexMap<&'a str, u32>,
+    name: &'a str,
+    place: u32,
+) -> Result<(), OutOfMemory>
+    ensures { OnOk result ((w : List ℕ) →
+        lookup (λ n. is w n.now) places.new.entries ≡ option_or (lookup (λ n. is w n.now) places.old.entries) (if is w name.now then Some place else None)) }
+{
+    if !places.contains_key(name) {
+        places.insert(name, place)?;
+    }
+    Ok(())
+}
+
+impl<'a> NameTable<'a> {
+    ghost use Rattle.std.specs.Prelude.{◌≡◌, ◌<◌, ◌^◌, ◌+◌, ◌++◌, ◌∷◌, [], length, IfOk};
+    ghost use Rattle.std.specs.List.{list_any};
+    ghost use Rattle.lc_sexp.specs.Trees.{item_count_of_all};
+    ghost use Rattle.lc_sexp.specs.Shown.{rest_of};
+    ghost use Rattle.lc_term.specs.Grammar.{is};
+    ghost use Rattle.lc_names.specs.Listed.{place_of, atoms_in};
+    ghost use Rattle.lc_names.specs.TableView.{listed};
+
+    /// No names.
+    pub fn new(alloc: Global) -> NameTable<'a>
+        ensures { listed result ≡ [] }
+    {
+        NameTable {
+            names: Vec::new(alloc),
+            places: IndexMap::new(alloc),
+        }
+    }
+
+    /// The names with one more behind them.
+    pub fn enter(self, name: &'a str) -> Result<NameTable<'a>, OutOfMemory>
+        requires { length (listed self) + 1 < 2 ^ 32 }
+        ensures { IfOk result (λ names. listed names ≡ listed self.entry ++ name.now ∷ []) }
+    {
+        let NameTable {
+            mut names,
+            mut places,
+        } = self;
+        note_place(&mut places, name, names.len() as u32)?;
+        names.push(name)?;
+        Ok(NameTable { names, places })
+    }
+
+    /// The names with those behind them that are atoms among items.
+    pub fn enter_atoms(self, atoms: Cursor<'a>) -> Result<NameTable<'a>, OutOfMemory>
+        requires { length (listed self) + item_count_of_all (rest_of atoms) < 2 ^ 32 }
+        ensures { IfOk result (λ names. listed names ≡ listed self.entry ++ atoms_in (rest_of atoms.entry)) }
+    {
+        let mut names = self;
+        let mut rest = atoms;
+        'items: loop {
+            let Ok(item) = rest.item() else {
+                return Ok(names);
+            };
+            if let Item::Atom(atom) = item {
+                names = names.enter(atom.text())?;
+            }
+        }
+    }
+
+    /// How many names there are, each time that one stands there.
+    pub fn len(&self) -> u32
+        ensures { result ≡ length (listed self.now) }
+    {
+        self.names.len() as u32
+    }
+
+    /// The place at which a name stands first.
+    pub fn place(&self, name: &str) -> Option<u32>
+        ensures { result ≡ place_of (listed self.now) name.now }
+    {
+        self.places.get(name).copied()
+    }
+
+    /// Whether a name is there.
+    pub fn contains(&self, name: &str) -> bool
+        ensures { result ≡ list_any (is name.now) (listed self.now) }
+    {
+        self.place(name).is_some()
+    }
+}

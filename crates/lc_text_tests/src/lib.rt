@@ -1,0 +1,11 @@
+//! What no contract says of names, s-expressions, terms and formulas.
+#![tactic(auto)]
+
+#[cfg(test)]
+mod base_tests;
+#[cfg(test)]
+mod sexp_tests;
+#[cfg(test)]
+mod term_tests;
+#[cfg(test)]
+mod term_text_tests;
