@@ -1,13 +1,15 @@
 //! Answers cases, a line for each. What has to be printed was worked out by hand, or by an independent program.
 //!
 //! A word of the command line is a kind of cases and a file, with a colon between them. A line of the file is a case: a
-//! name, a space, and a text. What is printed is the name and the answer.
+//! name, a space, and a text. What is printed is the name and the answer. A `formula-file` is one case as it is.
 #![tactic(auto)]
 
 mod formulas;
+mod histories;
 mod terms;
 
 use crate::formulas::{answer_formula, answer_prefixes};
+use crate::histories::{answer_history, answer_rewritten, answer_specification};
 use crate::terms::{Place, answer_term};
 use anyhow::{Context, bail};
 use std::{env, fs};
@@ -16,10 +18,20 @@ fn answer_case(rt: &HostRuntime, kind: &str, name: &str, text: &str) -> anyhow::
     match kind {
         "formula" => answer_formula(rt, name, text.as_bytes())?,
         "prefixes" => answer_prefixes(rt, name, text.as_bytes())?,
+        "spec" => answer_specification(rt, name, text.as_bytes())?,
+        "judge" => answer_history(rt, name, text)?,
+        "history" => answer_rewritten(rt, name, text)?,
         "term" => answer_term(rt, Place { everything: true }, name, text)?,
         "plain-term" => answer_term(rt, Place { everything: false }, name, text)?,
         _ => bail!("there is no such kind of cases"),
     }
+    Ok(())
+}
+
+/// Answers a file that is one case.
+fn answer_file(rt: &HostRuntime, path: &str) -> anyhow::Result<()> {
+    let text = fs::read(rt, path)?;
+    answer_formula(rt, path, &text)?;
     Ok(())
 }
 
@@ -42,7 +54,11 @@ fn main(rt: HostRuntime) -> anyhow::Result<()> {
             .as_str()
             .split_once(':')
             .context("a word is a kind and a file, with a colon between them")?;
-        answer_cases(&rt, kind, path)?;
+        if kind == "formula-file" {
+            answer_file(&rt, path)?;
+        } else {
+            answer_cases(&rt, kind, path)?;
+        }
     }
     Ok(())
 }

@@ -9,3 +9,9 @@ pub mod Preceded
 pub mod Replays
 pub mod Tables
 pub mod Turns
+pub mod JsonLists
+pub mod JsonEvents
+pub mod JsonWriting
+pub mod JsonNames
+pub mod JsonAnswers
+pub mod JsonOnce

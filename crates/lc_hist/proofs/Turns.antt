@@ -78,13 +78,13 @@ front_next h n e front at t j f lt is =
       | inr (inr more) ↦ absurd (omega arith)
     ]
 
-slice_get-take : {A : Type 0} (xs : List A) (n i : ℕ) → i < n → slice_get (take n xs) i ≡ slice_get xs i
+pub slice_get-take : {A : Type 0} (xs : List A) (n i : ℕ) → i < n → slice_get (take n xs) i ≡ slice_get xs i
 slice_get-take xs zero i lt = absurd (omega arith)
 slice_get-take [] (suc n) i lt = refl
 slice_get-take (x ∷ xs) (suc n) zero lt = refl
 slice_get-take (x ∷ xs) (suc n) (suc i) lt = slice_get-take xs n i (omega arith)
 
-take-take : {A : Type 0} (xs : List A) (n i : ℕ) → i ≤ n → take i (take n xs) ≡ take i xs
+pub take-take : {A : Type 0} (xs : List A) (n i : ℕ) → i ≤ n → take i (take n xs) ≡ take i xs
 take-take xs n zero le = refl
 take-take xs zero (suc i) le = absurd (omega arith)
 take-take [] (suc n) (suc i) le = refl

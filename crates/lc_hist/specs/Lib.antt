@@ -3,6 +3,11 @@ pub mod Faults
 pub mod Histories
 pub mod History
 pub mod InCall
+pub mod JsonHistories
+pub mod JsonKept
+pub mod JsonSeen
+pub mod JsonValues
+pub mod JsonWritten
 pub mod Judged
 pub mod Reason
 pub mod Spans

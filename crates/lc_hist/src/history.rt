@@ -41,6 +41,7 @@ impl History {
     ghost use Rattle.std.specs.Prelude.{◌≡◌, Result, IfOk};
     ghost use Rattle.lc_hist.specs.View.{events_of};
     ghost use Rattle.lc_hist.specs.Histories.{events_in, IsHistory};
+    ghost use Rattle.lc_hist.specs.WellFormed.{IsWellFormed};
 
     /// The history of these events, if each is in turn.
     pub fn new(alloc: Global, events: Vec<Event>) -> Result<History, HistoryFault>
@@ -50,6 +51,14 @@ impl History {
             return Err(HistoryFault::OutOfTurn(place as u64));
         }
         Ok(History { events })
+    }
+
+    // The history of events that are in turn.
+    pub(crate) fn of_well_formed(events: Vec<Event>) -> History
+        requires { IsWellFormed (events_of events.items) }
+        ensures { events_in result ≡ events_of events.items }
+    {
+        History { events }
     }
 
     /// Its events.

@@ -1,6 +1,8 @@
 //! Laws of the definitions: functions without effect, whose contracts are the laws.
 ghost use Rattle.std.specs.Prelude.{◌≡◌, ◌↔◌, ℕ, List, length};
 ghost use Rattle.lc_hist.specs.History.{Event, Entry, Linearizes};
+ghost use Rattle.lc_hist.specs.JsonHistories.{SaysHistory, IsWrongItem};
+ghost use Rattle.lc_seq.specs.Specification.{Operation};
 ghost use Rattle.lc_hist.specs.WellFormed.{IsWellFormed};
 ghost use Rattle.lc_hist.specs.Tests.{PassesEach};
 
@@ -10,4 +12,13 @@ use lc_seq::SeqObject;
 pub fn tests_are_exact<S: SeqObject>()
     ensures { (object : S) (history : List Event) (order : List Entry) → IsWellFormed history →
         Linearizes (S.step object) (S.start object) history order ↔ PassesEach (S.HasCall object) (S.step object) (S.start object) history order }
+{}
+
+/// A JSON text says one history and one order, or one of its items is the first that is wrong; and never both.
+pub fn a_text_is_read_in_one_way()
+    ensures one_history { (operations : List Operation) (bytes : List ℕ) (events said : List Event) (order entries : List Entry) →
+        SaysHistory operations bytes events order → SaysHistory operations bytes said entries → (events ≡ said) × (order ≡ entries) }
+    ensures one_item { (operations : List Operation) (bytes : List ℕ) (a b : ℕ) → IsWrongItem operations bytes a → IsWrongItem operations bytes b → a ≡ b }
+    ensures not_both { (operations : List Operation) (bytes : List ℕ) (events : List Event) (order : List Entry) (item : ℕ) →
+        SaysHistory operations bytes events order → IsWrongItem operations bytes item → ⊥ }
 {}

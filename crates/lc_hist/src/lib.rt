@@ -3,12 +3,19 @@
 
 mod event;
 mod history;
+mod json_reading;
+mod json_values;
+mod json_writing;
 mod judging;
 pub mod laws;
+mod open_calls;
+mod operations;
 mod reason;
 mod spans;
 
 pub use event::{CLIENT_LIMIT, Done, Event};
 pub use history::{History, HistoryFault};
+pub use json_reading::history_from_json;
+pub use json_writing::history_to_json;
 pub use judging::{JudgeFault, judge};
 pub use reason::Reason;

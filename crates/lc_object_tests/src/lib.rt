@@ -4,8 +4,12 @@
 #[cfg(test)]
 mod hist_tests;
 #[cfg(test)]
+mod json_tests;
+#[cfg(test)]
 mod machine_tests;
 #[cfg(test)]
 mod object_tests;
 #[cfg(test)]
 mod seq_tests;
+#[cfg(test)]
+mod spec_tests;

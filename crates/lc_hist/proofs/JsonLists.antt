@@ -1,0 +1,119 @@
+-- What lists of values say, element by element.
+use Rattle.std.proofs.Common.{◌≡◌, ℕ, zero, suc, ◌<◌, ◌≤◌, List, [], ◌∷◌, ◌++◌, Option, Some, None, option_map, option_and_then, map, take, slice_get, get_or, length, refl, ap, subst, ◌∙◌, arith, ℤ}
+use Rattle.std.proofs.lemmas.List.{map-append}
+use Rattle.std.proofs.lemmas.Option.{slice_get-map, slice_get_read}
+use Rattle.serde_json.specs.Data.{Data}
+use Rattle.serde_json.specs.Find.{as_array}
+use Rattle.serde_json.specs.View.{view, items_view, items_of}
+use Rattle.serde_json.specs.declared.value.Value.{Value}
+use Rattle.lc_hist.specs.JsonKept.{Each}
+use Rattle.lc_hist.specs.JsonWritten.{number_data}
+use Rattle.lc_hist.specs.JsonValues.{values_in, all_in, number_in, numbers_in}
+
+pub values_in-items_view : (vs : List Value) → values_in (items_view vs) ≡ map view vs
+values_in-items_view [] = refl
+values_in-items_view (v ∷ vs) = ap (λ ds. view v ∷ ds) (values_in-items_view vs)
+
+one_more : {B : Type 0} (r s : Option (List B)) (n : Option B) (zs : List B) (z : B) → ((ys : List B) → r ≡ Some ys → s ≡ Some (ys ++ z ∷ []))
+    → option_and_then (λ y. option_map (λ ys. y ∷ ys) r) n ≡ Some zs → option_and_then (λ y. option_map (λ ys. y ∷ ys) s) n ≡ Some (zs ++ z ∷ [])
+one_more r s None zs z more h = absurd cc
+one_more None s (Some y) zs z more h = absurd cc
+one_more (Some ys) s (Some y) zs z more h =
+    let e : y ∷ ys ≡ zs = cc in
+    rw (more ys refl) (ap (λ xs. Some (xs ++ z ∷ [])) e)
+
+-- one element more
+pub all_in-next : {A B : Type 0} (says : A → Option B) (xs : List A) (i : ℕ) (x : A) (ys : List B) (y : B)
+    → all_in says (take i xs) ≡ Some ys → slice_get xs i ≡ Some x → says x ≡ Some y → all_in says (take (suc i) xs) ≡ Some (ys ++ y ∷ [])
+all_in-next says [] i x ys y all at is = absurd cc
+all_in-next says (z ∷ xs) zero x ys y all at is =
+    let same : z ≡ x = cc in
+    let none : [] ≡ ys = cc in
+    rw (same, is, ← none) refl
+all_in-next says (z ∷ xs) (suc i) x ys y all at is =
+    one_more (all_in says (take i xs)) (all_in says (take (suc i) xs)) (says z) ys y (λ zs e. all_in-next says xs i x zs y e at is) all
+
+nothing_behind : {B : Type 0} (n : Option B) → option_and_then (λ y. option_map (λ ys. y ∷ ys) None) n ≡ None
+nothing_behind None = refl
+nothing_behind (Some y) = refl
+
+-- an element that says nothing
+pub all_in-none : {A B : Type 0} (says : A → Option B) (xs : List A) (i : ℕ) (x : A) → slice_get xs i ≡ Some x → says x ≡ None → all_in says xs ≡ None
+all_in-none says [] i x at is = absurd cc
+all_in-none says (z ∷ xs) zero x at is = let same : z ≡ x = cc in rw (same, is) refl
+all_in-none says (z ∷ xs) (suc i) x at is = rw (all_in-none says xs i x at is) (nothing_behind (says z))
+
+pub take-next : {A : Type 0} (xs : List A) (i : ℕ) (x : A) → slice_get xs i ≡ Some x → take (suc i) xs ≡ take i xs ++ x ∷ []
+take-next [] i x at = absurd cc
+take-next (z ∷ xs) zero x at = let same : z ≡ x = cc in rw same refl
+take-next (z ∷ xs) (suc i) x at = ap (λ ys. z ∷ ys) (take-next xs i x at)
+
+-- a list of so many elements
+pub three_items : {A : Type 0} (xs : List A) (a b c : A) → length xs ≡ 3 → slice_get xs 0 ≡ Some a → slice_get xs 1 ≡ Some b → slice_get xs 2 ≡ Some c → xs ≡ a ∷ b ∷ c ∷ []
+three_items [] a b c l p q r = absurd cc
+three_items (x ∷ []) a b c l p q r = absurd cc
+three_items (x ∷ y ∷ []) a b c l p q r = absurd cc
+three_items (x ∷ y ∷ z ∷ []) a b c l p q r = let e : x ≡ a = cc in let f : y ≡ b = cc in let g : z ≡ c = cc in rw (e, f, g) refl
+three_items (x ∷ y ∷ z ∷ w ∷ xs) a b c l p q r = absurd (omega arith)
+
+pub four_items : {A : Type 0} (xs : List A) (a b c d : A) → length xs ≡ 4 → slice_get xs 0 ≡ Some a → slice_get xs 1 ≡ Some b → slice_get xs 2 ≡ Some c → slice_get xs 3 ≡ Some d → xs ≡ a ∷ b ∷ c ∷ d ∷ []
+four_items [] a b c d l p q r s = absurd cc
+four_items (x ∷ []) a b c d l p q r s = absurd cc
+four_items (x ∷ y ∷ []) a b c d l p q r s = absurd cc
+four_items (x ∷ y ∷ z ∷ []) a b c d l p q r s = absurd cc
+four_items (x ∷ y ∷ z ∷ w ∷ []) a b c d l p q r s =
+    let e : x ≡ a = cc in let f : y ≡ b = cc in let g : z ≡ c = cc in let h : w ≡ d = cc in rw (e, f, g, h) refl
+four_items (x ∷ y ∷ z ∷ w ∷ v ∷ xs) a b c d l p q r s = absurd (omega arith)
+
+each_last : {A : Type 0} (P : A → Type 0) (x : A) → P x → (j : ℕ) (y : A) → slice_get (x ∷ []) j ≡ Some y → P y
+each_last P x here zero y at = let same : x ≡ y = cc in subst P same here
+each_last P x here (suc j) y at = absurd cc
+
+-- one element more of which it holds
+pub each-next : {A : Type 0} (P : A → Type 0) (xs : List A) (i : ℕ) (x : A) → Each P (take i xs) → slice_get xs i ≡ Some x → P x
+    → (j : ℕ) (y : A) → slice_get (take (suc i) xs) j ≡ Some y → P y
+each-next P [] i x each at here j y found = absurd cc
+each-next P (z ∷ xs) zero x each at here j y found = let same : x ≡ z = cc in each_last P z (subst P same here) j y found
+each-next P (z ∷ xs) (suc i) x each at here zero y found = each zero y found
+each-next P (z ∷ xs) (suc i) x each at here (suc j) y found = each-next P xs i x (λ k w e. each (suc k) w e) at here j y found
+
+pub is_none : {A : Type 0} (o : Option A) → ((x : A) → o ≡ Some x → ⊥) → o ≡ None
+is_none None other = refl
+is_none (Some x) other = absurd (other x refl)
+
+-- the value at a place
+pub value_at : (vs : List Value) (i : ℕ) (v : Value) → i < length vs → v ≡ get_or vs i v → slice_get (map view vs) i ≡ Some (view v)
+value_at vs i v lt is = slice_get-map view vs i ∙ ap (option_map view) (slice_get_read vs (length vs) i v refl lt is)
+
+-- the numbers of an array
+pub numbers_of : (d : Data) (vs : List Value) → Some (items_view vs) ≡ as_array d → numbers_in d ≡ all_in number_in (map view vs)
+numbers_of d vs is = rw (← is) (ap (all_in number_in) (values_in-items_view vs))
+
+pub take_past : {A : Type 0} (xs : List A) (n : ℕ) → length xs ≤ n → take n xs ≡ xs
+take_past [] zero le = refl
+take_past [] (suc n) le = refl
+take_past (x ∷ xs) zero le = absurd (omega arith)
+take_past (x ∷ xs) (suc n) le = ap (λ ys. x ∷ ys) (take_past xs n (omega arith))
+
+-- parts that are there
+pub both_parts : {A B C : Type 0} (f : A → B → C) (a : Option A) (b : Option B) (x : C) → option_and_then (λ y. option_map (f y) b) a ≡ Some x
+    → (y : A) × (z : B) × (a ≡ Some y) × (b ≡ Some z) × (f y z ≡ x)
+both_parts f None b x h = absurd cc
+both_parts f (Some y) None x h = absurd cc
+both_parts f (Some y) (Some z) x h = (y, z, refl, refl, cc)
+
+-- numbers that are read back
+pub kept_numbers : (zs : List ℤ) → Each (λ z. number_in (number_data z) ≡ Some z) zs → all_in number_in (map number_data zs) ≡ Some zs
+kept_numbers [] each = refl
+kept_numbers (z ∷ zs) each =
+    rw (kept_numbers zs (λ i x at. each (suc i) x at), each 0 z refl) refl
+
+pub values_in-items_of : (ds : List Data) → values_in (items_of ds) ≡ ds
+values_in-items_of [] = refl
+values_in-items_of (d ∷ ds) = ap (λ es. d ∷ es) (values_in-items_of ds)
+
+-- one value more
+pub written_next : {A : Type 0} (f : A → Data) (xs : List A) (i : ℕ) (x : A) (vs : List Value) (v : Value) → map view vs ≡ map f (take i xs) → slice_get xs i ≡ Some x → view v ≡ f x
+    → map view (vs ++ v ∷ []) ≡ map f (take (suc i) xs)
+written_next f xs i x vs v written at is =
+    rw (map-append view vs (v ∷ []), take-next xs i x at, map-append f (take i xs) (x ∷ []), written, is) refl

@@ -1,0 +1,220 @@
+ghost use Rattle.std.specs.Prelude.{◌≡◌, IfOk, option_map, map, codes};
+ghost use Rattle.serde_json.specs.View.{view};
+ghost use Rattle.lc_seq.specs.SpecView.{text_call_of};
+ghost use Rattle.lc_hist.specs.JsonSeen.{all_of};
+ghost use Rattle.lc_hist.specs.JsonHistories.{entry_seen};
+ghost use Rattle.lc_hist.specs.JsonValues.{numbers_in, client_in, is_word, call_in, invoke_from, respond_from, event_from, event_in, done_from, entry_from, entry_in};
+ghost use Rattle.lc_hist.specs.View.{event_of};
+
+use crate::event::{CLIENT_LIMIT, Done, Event};
+use crate::operations::Operations;
+use lc_base::OutOfMemory;
+use lc_seq::TextCall;
+use serde_json::Value;
+use std::alloc::Global;
+
+/// The numbers that the value lists, if it is a list of numbers.
+fn read_numbers(alloc: Global, value: &Value) -> Result<Option<Vec<i64>>, OutOfMemory>
+    ensures { IfOk result (λ found. option_map (λ numbers. numbers.items) found ≡ numbers_in (view value.now)) }
+{
+    let Some(values) = value.as_array() else {
+        return Ok(None);
+    };
+    let mut numbers = Vec::new(alloc);
+    for value in values {
+        let Some(number) = value.as_i64() else {
+            return Ok(None);
+        };
+        numbers.push(number)?;
+    }
+    Ok(Some(numbers))
+}
+
+/// The client that the value names.
+fn read_client(value: &Value) -> Option<u32>
+    ensures { result ≡ client_in (view value.now) }
+{
+    match value.as_u64() {
+        Some(client) if client <= u64::from(CLIENT_LIMIT) => Some(client as u32),
+        _ => None,
+    }
+}
+
+fn says_call(value: &Value) -> bool
+    ensures { result ≡ is_word (codes "call") (view value.now) }
+{
+    match value.as_str() {
+        Some(word) => word == "call",
+        None => false,
+    }
+}
+
+fn says_return(value: &Value) -> bool
+    ensures { result ≡ is_word (codes "return") (view value.now) }
+{
+    match value.as_str() {
+        Some(word) => word == "return",
+        None => false,
+    }
+}
+
+/// The call of the operation that a value names, with the numbers that another lists.
+fn read_call(
+    alloc: Global,
+    operations: &Operations<'_>,
+    name: &Value,
+    numbers: &Value,
+) -> Result<Option<TextCall>, OutOfMemory>
+    ensures { IfOk result (λ found. option_map text_call_of found ≡ call_in (all_of operations.now) (view name.now) (view numbers.now)) }
+{
+    let Some(name) = name.as_str() else {
+        return Ok(None);
+    };
+    let Some(op) = operations.named(name) else {
+        return Ok(None);
+    };
+    let Some(numbers) = read_numbers(alloc, numbers)? else {
+        return Ok(None);
+    };
+    if !operations.takes(op, numbers.len()) {
+        return Ok(None);
+    }
+    Ok(Some(TextCall { op, numbers }))
+}
+
+/// The beginning of a call.
+fn read_invoke(
+    alloc: Global,
+    operations: &Operations<'_>,
+    client: &Value,
+    name: &Value,
+    numbers: &Value,
+) -> Result<Option<Event>, OutOfMemory>
+    ensures { IfOk result (λ found. option_map event_of found ≡ invoke_from (all_of operations.now) (view client.now) (view name.now) (view numbers.now)) }
+{
+    let Some(client) = read_client(client) else {
+        return Ok(None);
+    };
+    let Some(call) = read_call(alloc, operations, name, numbers)? else {
+        return Ok(None);
+    };
+    Ok(Some(Event::Invoke {
+        client,
+        op: call.op,
+        numbers: call.numbers,
+    }))
+}
+
+/// The return of a call.
+fn read_respond(
+    alloc: Global,
+    client: &Value,
+    numbers: &Value,
+) -> Result<Option<Event>, OutOfMemory>
+    ensures { IfOk result (λ found. option_map event_of found ≡ respond_from (view client.now) (view numbers.now)) }
+{
+    let Some(client) = read_client(client) else {
+        return Ok(None);
+    };
+    let Some(numbers) = read_numbers(alloc, numbers)? else {
+        return Ok(None);
+    };
+    Ok(Some(Event::Respond { client, numbers }))
+}
+
+fn read_event_items(
+    alloc: Global,
+    operations: &Operations<'_>,
+    items: &[Value],
+) -> Result<Option<Event>, OutOfMemory>
+    ensures { IfOk result (λ found. option_map event_of found ≡ event_from (all_of operations.now) (map view items.now)) }
+{
+    match items {
+        [client, word, name, numbers] => {
+            if !says_call(word) {
+                return Ok(None);
+            }
+            read_invoke(alloc, operations, client, name, numbers)
+        }
+        [client, word, numbers] => {
+            if !says_return(word) {
+                return Ok(None);
+            }
+            read_respond(alloc, client, numbers)
+        }
+        _ => Ok(None),
+    }
+}
+
+/// The event that the value is, whatever stands before it.
+pub(crate) fn read_event(
+    alloc: Global,
+    operations: &Operations<'_>,
+    value: &Value,
+) -> Result<Option<Event>, OutOfMemory>
+    ensures { IfOk result (λ found. option_map event_of found ≡ event_in (all_of operations.now) (view value.now)) }
+{
+    match value.as_array() {
+        Some(items) => read_event_items(alloc, operations, items),
+        None => Ok(None),
+    }
+}
+
+/// A call of a client, with its reply.
+fn read_done(
+    alloc: Global,
+    operations: &Operations<'_>,
+    client: &Value,
+    name: &Value,
+    numbers: &Value,
+    reply: &Value,
+) -> Result<Option<Done<TextCall, Vec<i64>>>, OutOfMemory>
+    ensures { IfOk result (λ found. option_map entry_seen found ≡ done_from (all_of operations.now) (view client.now) (view name.now) (view numbers.now) (view reply.now)) }
+{
+    let Some(client) = read_client(client) else {
+        return Ok(None);
+    };
+    let Some(call) = read_call(alloc, operations, name, numbers)? else {
+        return Ok(None);
+    };
+    let Some(reply) = read_numbers(alloc, reply)? else {
+        return Ok(None);
+    };
+    if !operations.has_replies(call.op, reply.len()) {
+        return Ok(None);
+    }
+    Ok(Some(Done {
+        client,
+        call,
+        reply,
+    }))
+}
+
+fn read_entry_items(
+    alloc: Global,
+    operations: &Operations<'_>,
+    items: &[Value],
+) -> Result<Option<Done<TextCall, Vec<i64>>>, OutOfMemory>
+    ensures { IfOk result (λ found. option_map entry_seen found ≡ entry_from (all_of operations.now) (map view items.now)) }
+{
+    match items {
+        [client, name, numbers, reply] => {
+            read_done(alloc, operations, client, name, numbers, reply)
+        }
+        _ => Ok(None),
+    }
+}
+
+/// The entry of an order that the value is.
+pub(crate) fn read_entry(
+    alloc: Global,
+    operations: &Operations<'_>,
+    value: &Value,
+) -> Result<Option<Done<TextCall, Vec<i64>>>, OutOfMemory>
+    ensures { IfOk result (λ found. option_map entry_seen found ≡ entry_in (all_of operations.now) (view value.now)) }
+{
+    match value.as_array() {
+        Some(items) => read_entry_items(alloc, operations, items),
+        None => Ok(None),
+    }
+}

@@ -1,0 +1,18 @@
+use Rattle.std.proofs.Common.{◌≡◌, ◌≤◌, map}
+use Rattle.lc_sexp.specs.Shown.{rest_of}
+use Rattle.lc_sexp.specs.Trees.{item_count_of_all}
+use Rattle.lc_seq.proofs.ReadRows.{values_before}
+use Rattle.lc_seq.specs.SpecReading.{each_from}
+use Rattle.lc_seq.proofs.reads.read_each.Given as goal
+
+-- those that are read, and those that are left
+abbrev pub invariant-items : goal.invariant-items
+invariant-items g l =
+    let reading = g.R.Reads.reading l.reader in
+    record {
+      read : each_from reading (rest_of l.fn.list) ≡ values_before (map g.R.Reads.meaning l.values.items) (each_from reading (rest_of l.list));
+      shorter : item_count_of_all (rest_of l.list) ≤ item_count_of_all (rest_of l.fn.list);
+    }
+
+abbrev pub decreases-items : goal.decreases-items
+decreases-items g l = item_count_of_all (rest_of l.list)

@@ -1,0 +1,6 @@
+pub mod Truncated
+pub mod Verdicts
+pub mod OneAnswer
+pub mod Taken
+pub mod Words
+pub mod Endings

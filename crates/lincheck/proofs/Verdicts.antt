@@ -1,0 +1,80 @@
+-- A verdict from the answers to the file and to its proof, and from the beginning of a file.
+use Rattle.std.proofs.Common.{◌≡◌, ℕ, List, codes, Option, Some, None, IfSome, Result, Ok, Err, refl, sym, subst, ◌∙◌, inl, inr}
+use Rattle.lc_base.specs.declared.refusal.Fault.{Fault}
+use Rattle.lc_base.specs.declared.refusal.Fault.TheVariants.{Refused, OutOfMemory}
+use Rattle.lc_base.specs.declared.refusal.Refusal.{Refusal}
+use Rattle.lc_base.specs.declared.refusal.Refusal.TheVariants.{Text, Shape, Unknown, Repeated, Auxiliary, Bound, CertText, CertShape, Missing, Extra, Proof, Large, HistoryShape, Order}
+use Rattle.lc_kernel.proofs.Views.{parts_formulas}
+use Rattle.lc_kernel.specs.Answers.{Proves}
+use Rattle.lc_kernel.specs.Derivation.{DerivesGoal, FailsGoal}
+use Rattle.lc_kernel.specs.FormulaReading.{Claim, Says, IsFirstRefusal, IsAnswerTo, seen_claim}
+use Rattle.lc_kernel.specs.View.{proof_of}
+use Rattle.lc_kernel.specs.declared.fault.ProofFault.{ProofFault}
+use Rattle.lc_kernel.specs.declared.fault.ProofFault.TheVariants.{Bad, Large as TooLarge, OutOfMemory as NoMore}
+use Rattle.lc_kernel.specs.declared.goal.Goal.{Goal}
+use Rattle.lc_kernel.specs.declared.proof.Proof.{Proof as SeenProof}
+use Rattle.lc_kernel.specs.declared.reason.Flaw.TheVariants.{Bad as BadFlaw, Large as LargeFlaw}
+use Rattle.lc_term.specs.Syntax as T
+use Rattle.lc_term.specs.View.{formula_of, formulas_of}
+use Rattle.lincheck.specs.Answers.{Told}
+use Rattle.lincheck.specs.Formula.{AnswersFormula, IsVerdict, fault_of}
+use Rattle.lincheck.specs.Reading.{within_limit}
+use Rattle.lincheck.proofs.Truncated.{fault_of_whole, reading_of_whole}
+
+-- what the kernel answers of a goal and a proof
+abbrev Answered : Goal × SeenProof → Result (Unit {0}) ProofFault → Type 0
+Answered a result = Proves a.0.vars (formulas_of a.0.hypotheses.items) (formula_of a.0.goal) (proof_of a.1) result
+
+listed : (P : List T.Formula → Type 0) (fs : List T.Formula) → P fs → P (T.parts (T.formulas fs))
+listed P fs h = subst P (sym (parts_formulas fs)) h
+
+-- a proof that derives its goal makes the verdict
+pub proved : (bytes : List ℕ) (a : Goal × SeenProof) (u : Unit {0}) → Says bytes (seen_claim a) → Answered a (Ok u) → IsVerdict bytes (Ok u)
+proved bytes a u says derives =
+    (seen_claim a, says, listed (λ H. DerivesGoal a.0.vars H (formula_of a.0.goal) (proof_of a.1)) (formulas_of a.0.hypotheses.items) derives)
+
+-- a proof that was not found to hold makes the verdict a refusal
+pub not_proved : (bytes : List ℕ) (a : Goal × SeenProof) (fault : ProofFault) → Says bytes (seen_claim a) → Answered a (Err fault)
+    → IsVerdict bytes (Err (fault_of fault))
+not_proved bytes a (Bad step reason) says fails =
+    inr (seen_claim a, step, BadFlaw reason, says, listed (λ H. FailsGoal a.0.vars H (formula_of a.0.goal) (proof_of a.1) step (BadFlaw reason)) (formulas_of a.0.hypotheses.items) fails, refl)
+not_proved bytes a (TooLarge step) says fails =
+    inr (seen_claim a, step, LargeFlaw, says, listed (λ H. FailsGoal a.0.vars H (formula_of a.0.goal) (proof_of a.1) step LargeFlaw) (formulas_of a.0.hypotheses.items) fails, refl)
+not_proved bytes a NoMore says fails = tt
+
+-- a fault of the file is its verdict
+pub not_read : (bytes : List ℕ) (fault : Fault) → IsAnswerTo bytes (Err fault) → IsVerdict bytes (Err fault)
+not_read bytes (Refused refusal) first = inl first
+not_read bytes OutOfMemory h = tt
+
+said_of_whole : (file : List ℕ) (claim : Claim) → Says (within_limit file) claim → Says file claim
+said_of_whole file claim says = (says.0, reading_of_whole 16777217 file says.0 refl says.1, says.2, says.3)
+
+refusal_of_whole : (file : List ℕ) (refusal : Refusal) → IsFirstRefusal (within_limit file) refusal → IsFirstRefusal file refusal
+refusal_of_whole file (Text offset) first = fault_of_whole 16777217 file offset refl first
+refusal_of_whole file (Shape n) first = (first.0, reading_of_whole 16777217 file first.0 refl first.1, first.2)
+refusal_of_whole file (Unknown n) first = (first.0, reading_of_whole 16777217 file first.0 refl first.1, first.2)
+refusal_of_whole file (Repeated n) first = (first.0, reading_of_whole 16777217 file first.0 refl first.1, first.2)
+refusal_of_whole file (Auxiliary n) first = (first.0, reading_of_whole 16777217 file first.0 refl first.1, first.2)
+refusal_of_whole file (Bound n) first = (first.0, reading_of_whole 16777217 file first.0 refl first.1, first.2)
+refusal_of_whole file (CertText n) first = (first.0, reading_of_whole 16777217 file first.0 refl first.1, first.2)
+refusal_of_whole file (CertShape n) first = (first.0, reading_of_whole 16777217 file first.0 refl first.1, first.2)
+refusal_of_whole file (Missing n) first = (first.0, reading_of_whole 16777217 file first.0 refl first.1, first.2)
+refusal_of_whole file (Extra n) first = (first.0, reading_of_whole 16777217 file first.0 refl first.1, first.2)
+refusal_of_whole file (Proof k n r) first = (first.0, reading_of_whole 16777217 file first.0 refl first.1, first.2)
+refusal_of_whole file (Large k n) first = (first.0, reading_of_whole 16777217 file first.0 refl first.1, first.2)
+refusal_of_whole file (HistoryShape n) first = (first.0, reading_of_whole 16777217 file first.0 refl first.1, first.2)
+refusal_of_whole file (Order k r) first = (first.0, reading_of_whole 16777217 file first.0 refl first.1, first.2)
+
+-- the verdict on what is read of a file is the verdict on the file
+pub verdict_of_whole : (file : List ℕ) (verdict : Result (Unit {0}) Fault) → IsVerdict (within_limit file) verdict → IsVerdict file verdict
+verdict_of_whole file (Ok u) (claim, says, proves) = (claim, said_of_whole file claim says, proves)
+verdict_of_whole file (Err (Refused refusal)) (inl first) = inl (refusal_of_whole file refusal first)
+verdict_of_whole file (Err (Refused refusal)) (inr (claim, step, flaw, says, fails, is)) = inr (claim, step, flaw, said_of_whole file claim says, fails, is)
+verdict_of_whole file (Err OutOfMemory) h = tt
+
+-- what is told of the verdict on what is read answers the file
+pub answered : (known : Option (List ℕ)) (bytes seen : List ℕ) (verdict : Result (Unit {0}) Fault) (text : List ℕ) (status : ℕ) → IfSome known (λ file. bytes ≡ within_limit file) → seen ≡ bytes
+    → IsVerdict seen verdict → Told (codes "proved") verdict text status → IfSome known (λ file. AnswersFormula file text status)
+answered None bytes seen verdict text status read same is told = tt
+answered (Some file) bytes seen verdict text status read same is told = (verdict, verdict_of_whole file verdict (subst (λ b. IsVerdict b verdict) (same ∙ read) is), told)

@@ -1,0 +1,17 @@
+-- What the program leaves on standard output, and its exit status.
+use Rattle.std.specs.Prelude.{◌≡◌, ℕ, ◌⊎◌, List, Option, IfSome}
+use Rattle.std.specs.Io.KnownBytes.{Keeps, Appends}
+use Rattle.lincheck.specs.Formula.{AnswersFormula}
+use Rattle.lincheck.specs.declared.command_line.Request.{Request}
+use Rattle.lincheck.specs.declared.command_line.Request.TheVariants.{Formula}
+
+-- the answer to a request, where the files that it names are known
+abbrev pub AnswersRequest : (List ℕ → Option (List ℕ)) → Request → List ℕ → ℕ → Type 0
+AnswersRequest bytes_at (Formula path) text status = IfSome (bytes_at path.now) (λ file. AnswersFormula file text status)
+
+-- The program ends: with a fault of reading, or for want of memory, and nothing is printed; or with an answer of which
+-- this holds, which is printed behind what stood on standard output, unless there is a fault of writing
+abbrev pub Ends : (List ℕ → ℕ → Type 0) → Option (List ℕ) → Option (List ℕ) → ℕ → Type 0
+Ends IsAnswer before after status =
+    (((status ≡ 3) ⊎ (status ≡ 4)) × Keeps before after)
+    ⊎ ((text : List ℕ) × (said : ℕ) × IsAnswer text said × ((status ≡ 3) ⊎ ((status ≡ said) × Appends before after text)))

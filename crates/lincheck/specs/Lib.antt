@@ -1,0 +1,6 @@
+pub mod Status
+pub mod CommandLine
+pub mod Answers
+pub mod Reading
+pub mod Formula
+pub mod Execution

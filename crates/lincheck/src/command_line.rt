@@ -1,0 +1,116 @@
+//! The command line: its commands, and what each says of itself when it is asked for help.
+ghost use Rattle.std.specs.Prelude.{◌≡◌, ℕ, List, IfOk, IfErr, IsErrAnd, true, false, option_map};
+ghost use Rattle.clap.specs.Words.{app_of, kind_of, rule_of, subcommand_rows_of};
+ghost use Rattle.clap.specs.declared.builder.command.Command.TheViews.{out-Command};
+ghost use Rattle.clap.specs.declared.error.kind.ErrorKind.TheVariants.{OutOfMemory};
+ghost use Rattle.lincheck.specs.CommandLine.{AreWrong, AsksForText, Reads, file_rule, formula_app, formula_words, is_plain, program_app, request_in, path_of, texts_of};
+
+use clap::error::ErrorKind;
+use clap::{Arg, ArgAction, ArgMatches, Command, Error};
+use std::alloc::{AllocError, Global};
+
+/// What the command line asks for.
+#[derive(Clone, Copy, Debug, PartialEq, Eq)]
+pub enum Request<'a> {
+    /// Check the proof in the formula file at this path.
+    Formula(&'a str),
+}
+
+static ABOUT: &str = "Checks written proofs that concurrent objects are linearizable";
+
+static EXIT_STATUS: &str = "\
+A file that is not accepted is answered by one line on standard output: `refused`, a code, and numbers.
+
+Exit status:
+  0  accepted, or help was asked for
+  1  refused
+  2  the command line is wrong, and nothing was read
+  3  a file cannot be read, or the answer cannot be written
+  4  out of memory
+
+Example:
+  lincheck formula examples/first.formula
+      reads a statement with its proof, and prints `proved`";
+
+static FORMULA: &str = "Checks the proof of one formula";
+
+static FORMULA_FILE: &str =
+    "A formula file: one form with the parts vars, cols, hyps, goal and proof";
+
+static FORMULA_ANSWER: &str = "\
+Reads FILE, which states that a goal follows from hypotheses, and gives a proof of it. Prints `proved` if each
+step of the proof holds. Else it prints one line:
+  refused 1 OFFSET     the byte there makes the text no s-expressions
+  refused 2 ITEM       the item does not fit the grammar
+  refused 3 ITEM       the name is not declared
+  refused 4 ITEM       the name is declared twice, or reserved
+  refused 6 ITEM       a number or a count is beyond a limit
+  refused 11 0 STEP R  the step of the proof does not hold, for reason R
+  refused 12 0 STEP    the arithmetic of the step leaves 128 bits
+Bytes, items and steps are counted from 0, items and steps each before what stands in it.
+
+Example:
+  lincheck formula examples/first.formula
+      reads that x = y follows from x <= y and y <= x, and prints `proved`";
+
+/// An argument that names a file.
+fn file<'a>(alloc: Global, name: &'a str, help: &'a str) -> Arg<'a>
+    ensures rule { rule_of result ≡ file_rule name.entry.now }
+    ensures local { result.global ≡ false }
+{
+    Arg::new(alloc, name)
+        .required(true)
+        .action(ArgAction::Set)
+        .help(help)
+}
+
+fn formula_command<'a>(alloc: Global) -> Result<Command<'a>, AllocError>
+    ensures app { IfOk result (λ command. app_of command ≡ formula_app) }
+    ensures local { IfOk result (λ command. (out-Command command).has_globals ≡ false) }
+{
+    Command::new(alloc, "formula")
+        .about(FORMULA)
+        .after_help(FORMULA_ANSWER)
+        .arg(file(alloc, "FILE", FORMULA_FILE))
+}
+
+fn program<'a>(alloc: Global) -> Result<Command<'a>, AllocError>
+    ensures { IfOk result (λ command. app_of command ≡ program_app) }
+{
+    Command::new(alloc, "lincheck")
+        .about(ABOUT)
+        .after_help(EXIT_STATUS)
+        .subcommand_required(true)
+        .subcommand(formula_command(alloc)?)
+}
+
+/// What the words ask for, if there is a command in them with all its files.
+fn request_of<'a>(matches: &ArgMatches<'a>) -> Option<Request<'a>>
+    ensures { option_map path_of result ≡ request_in (subcommand_rows_of matches.now) }
+{
+    let (name, command) = matches.subcommand()?;
+    if name != "formula" {
+        return None;
+    }
+    let file = command.get_str("FILE")?;
+    Some(Request::Formula(file))
+}
+
+/// Reads the words of the command line, of which the first is the name of the program.
+///
+/// An error has the text to be shown, also where help was asked for.
+pub fn read_words<'a>(alloc: Global, words: &'a [String]) -> Result<Request<'a>, Error>
+    ensures reads { IfOk result (Reads (texts_of words.entry.now)) }
+    ensures plain { IfErr result (λ error. (name path : List ℕ) → texts_of words.entry.now ≡ formula_words name path → is_plain path ≡ true
+        → kind_of error ≡ OutOfMemory) }
+    ensures wrong { AreWrong (texts_of words.entry.now) → IsErrAnd result (λ error. AsksForText (kind_of error) → ⊥) }
+{
+    let matches = program(alloc)?.try_get_matches_from(words)?;
+    match request_of(&matches) {
+        Some(request) => Ok(request),
+        None => {
+            let mut program = program(alloc)?;
+            Err(program.error(ErrorKind::MissingSubcommand, "a command is missing")?)
+        }
+    }
+}

@@ -1,0 +1,102 @@
+ghost use Rattle.std.specs.Prelude.{◌≡◌, ◌⊎◌, ℕ, List, true, IfOk, IfSome, OnOk};
+ghost use Rattle.std.specs.Io.KnownBytes.{Appends};
+ghost use Rattle.clap.specs.Words.{kind_of};
+ghost use Rattle.lincheck.specs.CommandLine.{AreWrong, AsksForText, formula_words, is_plain, texts_of};
+ghost use Rattle.lincheck.specs.Execution.{AnswersRequest, Ends};
+ghost use Rattle.lincheck.specs.Formula.{AnswersFormula};
+ghost use Rattle.lincheck.specs.Status.{status_of};
+
+use crate::answer::{Answer, COMMAND_LINE_FAULT, Failure, SUCCESS};
+use crate::command_line::{Request, read_words};
+use crate::files::Files;
+use crate::formula::answer_formula;
+use clap::error::ErrorKind;
+use std::alloc::Global;
+use std::io;
+use std::io::Write;
+
+/// Files are opened, read and judged in the order of the command, so that none is opened behind a refusal.
+fn answer<'a, F: Files>(
+    alloc: Global,
+    request: Request<'a>,
+    files: &mut F,
+) -> Result<Answer, Failure<'a>>
+    ensures { IfOk result (λ answer. AnswersRequest (F.bytes_at files.old) request.entry answer.text.items answer.status) }
+{
+    match request {
+        Request::Formula(path) => answer_formula(alloc, files, path),
+    }
+}
+
+/// Says on standard error why there is no answer, and answers the status. A fault of standard error changes nothing.
+fn complain<E: Write>(err: &mut E, failure: &Failure<'_>) -> u8
+    ensures { result ≡ status_of failure.now }
+{
+    let _ = writeln!(err, "lincheck: {failure}");
+    failure.status()
+}
+
+fn print<O: Write>(out: &mut O, text: &[u8]) -> io::Result<()>
+    ensures { OnOk result (Appends (O.contents out.old) (O.contents out.new) text.now) }
+{
+    out.write_all(text)?;
+    out.flush()
+}
+
+fn print_help<O: Write>(out: &mut O, help: &clap::Error) -> io::Result<()> {
+    write!(out, "{help}")?;
+    out.flush()
+}
+
+/// Prints an answer, and answers the status of the program.
+fn tell<O: Write, E: Write>(answer: &Answer, out: &mut O, err: &mut E) -> u8
+    ensures { (result ≡ 3) ⊎ ((result ≡ answer.now.status) × Appends (O.contents out.old) (O.contents out.new) answer.now.text.items) }
+{
+    match print(out, answer.text.as_slice()) {
+        Ok(()) => answer.status,
+        Err(_) => complain(err, &Failure::CannotWrite),
+    }
+}
+
+/// Shows what `clap` has to say: help on standard output, faults on standard error.
+fn tell_usage<O: Write, E: Write>(error: &clap::Error, out: &mut O, err: &mut E) -> u8
+    ensures memory { kind_of error.now ≡ ErrorKind.OutOfMemory → (result ≡ 4) × (out.new ≡ out.old) }
+    ensures fault { (AsksForText (kind_of error.now) → ⊥) → ((result ≡ 2) ⊎ (result ≡ 4)) × (out.new ≡ out.old) }
+{
+    if error.kind() == ErrorKind::OutOfMemory {
+        return complain(err, &Failure::OutOfMemory);
+    }
+    if error.use_stderr() {
+        let _ = write!(err, "{error}");
+        return COMMAND_LINE_FAULT;
+    }
+    match print_help(out, error) {
+        Ok(()) => SUCCESS,
+        Err(_) => complain(err, &Failure::CannotWrite),
+    }
+}
+
+/// Runs the program on the words of its command line, and answers its exit status.
+///
+/// Answers and help are written to `out`, all else to `err`.
+pub fn execute<F: Files, O: Write, E: Write>(
+    alloc: Global,
+    words: &[String],
+    files: &mut F,
+    out: &mut O,
+    err: &mut E,
+) -> u8
+    ensures formula { (name path : List ℕ) → texts_of words.now ≡ formula_words name path → is_plain path ≡ true
+        → Ends (λ text status. IfSome (F.bytes_at files.old path) (λ file. AnswersFormula file text status)) (O.contents out.old) (O.contents out.new) result }
+    ensures wrong { AreWrong (texts_of words.now) → ((result ≡ 2) ⊎ (result ≡ 4)) × (out.new ≡ out.old) × (files.new ≡ files.old) }
+{
+    match read_words(alloc, words) {
+        Err(error) => tell_usage(&error, out, err),
+        Ok(request) => {
+            match answer(alloc, request, files) {
+                Ok(answer) => tell(&answer, out, err),
+                Err(failure) => complain(err, &failure),
+            }
+        }
+    }
+}

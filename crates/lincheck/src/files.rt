@@ -1,0 +1,16 @@
+ghost use Rattle.std.specs.Prelude.{◌≡◌, ℕ, List, Option, Some, None, IfOk, IfSome};
+
+use std::io;
+use std::io::Read;
+
+/// Where files are opened: the system's files, or files in memory.
+pub trait Files {
+    type Reader: Read + Drop;
+
+    // The bytes of the file at a path, where they are known.
+    ghost bytes_at: { Self → List ℕ → Option (List ℕ) } = { λ _ _. None };
+
+    /// Opens the file at a path, to be read from its first byte on.
+    fn open(&mut self, path: &str) -> io::Result<Self::Reader>
+        ensures { IfOk result (λ reader. IfSome (bytes_at self.old path.now) (λ bytes. Self.Reader.remaining reader ≡ Some bytes)) };
+}

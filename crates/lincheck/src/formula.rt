@@ -1,0 +1,53 @@
+//! The command `formula`.
+ghost use Rattle.std.specs.Prelude.{◌≡◌, IfOk, IfSome};
+ghost use Rattle.lincheck.specs.Formula.{IsVerdict, AnswersFormula, fault_of};
+
+use crate::answer::{Answer, Failure, told};
+use crate::files::Files;
+use crate::reading::read_file;
+use lc_base::{Fault, Refusal};
+use lc_kernel::{ProofFault, formula_of, prove};
+use std::alloc::Global;
+
+/// The number of the only condition that a formula file has.
+const ONLY_CONDITION: u64 = 0;
+
+/// The fault of a proof as that of its file.
+fn fault_of(fault: ProofFault) -> Fault
+    ensures { result ≡ fault_of fault }
+{
+    match fault {
+        ProofFault::Bad { step, reason } => {
+            let reason = reason.code();
+            Fault::Refused(Refusal::Proof(ONLY_CONDITION, u64::from(step), reason))
+        }
+        ProofFault::Large { step } => {
+            Fault::Refused(Refusal::Large(ONLY_CONDITION, u64::from(step)))
+        }
+        ProofFault::OutOfMemory => Fault::OutOfMemory,
+    }
+}
+
+/// Whether the proof in a formula file derives what the file claims; else the first refusal.
+pub fn check_formula(alloc: Global, bytes: &[u8]) -> Result<(), Fault>
+    ensures { IsVerdict bytes.now result }
+{
+    let (goal, proof) = formula_of(alloc, bytes)?;
+    match prove(alloc, &goal, &proof) {
+        Ok(()) => Ok(()),
+        Err(fault) => Err(fault_of(fault)),
+    }
+}
+
+/// The answer of the command `formula` to the file at a path.
+pub fn answer_formula<'a, F: Files>(
+    alloc: Global,
+    files: &mut F,
+    path: &'a str,
+) -> Result<Answer, Failure<'a>>
+    ensures { IfOk result (λ answer. IfSome (F.bytes_at files.old path.now) (λ file. AnswersFormula file answer.text.items answer.status)) }
+{
+    let bytes = read_file(alloc, files, path)?;
+    let verdict = check_formula(alloc, &bytes);
+    Ok(told(alloc, "proved", verdict)?)
+}

@@ -1,0 +1,15 @@
+//! What holds of answers. Each function is a law: it does nothing, and its contract is the law.
+ghost use Rattle.std.specs.Prelude.{◌≡◌, ℕ, List};
+ghost use Rattle.lc_kernel.specs.FormulaReading.{Claim, Says};
+ghost use Rattle.lincheck.specs.Formula.{AnswersFormula, IsTrueClaim};
+
+/// A formula file has one answer at most: what is printed and the status are determined by its bytes.
+pub fn a_file_has_one_answer()
+    ensures { (file text text' : List ℕ) (status status' : ℕ) →
+        AnswersFormula file text status → AnswersFormula file text' status' → (text ≡ text') × (status ≡ status') }
+{}
+
+/// Where the answer to a formula file has the status 0, what the file claims is true.
+pub fn what_is_accepted_is_true()
+    ensures { (file text : List ℕ) → AnswersFormula file text 0 → (claim : Claim) × Says file claim × IsTrueClaim claim }
+{}
