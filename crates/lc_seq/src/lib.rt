@@ -1,4 +1,4 @@
-//! Sequential objects: what a call does to a state, and what it replies.
+//! Sequential objects: what a call does to a state, and what it replies. Specifications in text, and how they are read.
 #![tactic(auto)]
 
 mod branch_passes;

@@ -41,13 +41,7 @@ impl Examined for SpecFile<'_> {
     fn first_wrong(&self, alloc: Global, pass: Pass) -> Result<Option<u64>, OutOfMemory> {
         let mut forms = self.forms;
         match forms.item() {
-            Ok(form) if pass != Pass::Unknown => first_wrong_in_specification(
-                alloc,
-                pass,
-                &self.columns,
-                form,
-            ),
-            Ok(_) => Ok(None),
+            Ok(form) => first_wrong_in_specification(alloc, pass, &self.columns, form),
             Err(_) => Ok(surplus(pass, 0)),
         }
     }
