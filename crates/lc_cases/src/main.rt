@@ -6,10 +6,12 @@
 
 mod formulas;
 mod histories;
+mod objects;
 mod terms;
 
 use crate::formulas::{answer_formula, answer_prefixes};
 use crate::histories::{answer_history, answer_rewritten, answer_specification};
+use crate::objects::answer_object;
 use crate::terms::{Place, answer_term};
 use anyhow::{Context, bail};
 use std::{env, fs};
@@ -21,6 +23,7 @@ fn answer_case(rt: &HostRuntime, kind: &str, name: &str, text: &str) -> anyhow::
         "spec" => answer_specification(rt, name, text.as_bytes())?,
         "judge" => answer_history(rt, name, text)?,
         "history" => answer_rewritten(rt, name, text)?,
+        "object" => answer_object(rt, name, text.as_bytes())?,
         "term" => answer_term(rt, Place { everything: true }, name, text)?,
         "plain-term" => answer_term(rt, Place { everything: false }, name, text)?,
         _ => bail!("there is no such kind of cases"),

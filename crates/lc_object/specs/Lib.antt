@@ -4,3 +4,14 @@ pub mod WellFormed
 pub mod Objects
 pub mod Edges
 pub mod EdgeView
+pub mod CodeGrammar
+pub mod CodeNames
+pub mod CodePairs
+pub mod CodeSeen
+pub mod CodeText
+pub mod Sections
+pub mod ObjectNames
+pub mod Walks
+pub mod ObjectText
+pub mod Seen
+pub mod DeclaredView

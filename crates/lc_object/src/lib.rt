@@ -1,13 +1,30 @@
 //! The code of an object: its arrays, its operations, and the instructions at the points of their bodies.
 #![tactic(auto)]
 
+mod body_passes;
+mod body_scope;
+mod code_grammar;
+mod code_pairs;
+mod code_passes;
+mod code_scope;
+mod declared;
+mod declared_names;
 mod edge_table;
+mod file_passes;
 mod instr;
 mod object;
+mod object_passes;
 mod parts;
+mod place_passes;
+mod section_finding;
+mod sections;
 mod testing;
+mod walks;
 
+pub use code_passes::wrong_in_instruction;
+pub use code_scope::{CodeScope, Row};
 pub use edge_table::{Edge, Update, edges};
+pub use file_passes::object_refusal;
 pub use instr::{ArrayId, EdgeKind, Instr, LocalId};
 pub use object::Object;
 pub use parts::{Array, Column, Operation, Parts, Point};
