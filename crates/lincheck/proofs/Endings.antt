@@ -1,13 +1,10 @@
 -- How the program ends.
-use Rattle.std.proofs.Common.{◌≡◌, ℕ, ◌⊎◌, inl, inr, List, Option, Some, None, IfSome, refl, sym, subst, ◌∙◌}
+use Rattle.std.proofs.Common.{◌≡◌, ℕ, ◌⊎◌, inl, inr, List, Option, Some, None, refl, sym, subst, ◌∙◌}
 use Rattle.std.specs.Io.KnownBytes.{Keeps, Appends}
-use Rattle.lincheck.specs.CommandLine.{path_of}
-use Rattle.lincheck.specs.Execution.{AnswersRequest, Ends}
-use Rattle.lincheck.specs.Formula.{AnswersFormula}
+use Rattle.lincheck.specs.CommandLine.{Task}
+use Rattle.lincheck.specs.Execution.{AnswersTask, Ends}
 use Rattle.lincheck.specs.Status.{status_of}
 use Rattle.lincheck.specs.declared.answer.Failure.{Failure}
-use Rattle.lincheck.specs.declared.command_line.Request.{Request}
-use Rattle.lincheck.specs.declared.command_line.Request.TheVariants.{Formula}
 use Rattle.lincheck.specs.declared.answer.Failure.TheVariants.{CannotRead, CannotWrite, OutOfMemory}
 
 pub Keeps-same : (known : Option (List ℕ)) → Keeps known known
@@ -31,9 +28,8 @@ ends_failed IsAnswer before OutOfMemory = inl (inr refl, Keeps-same before)
 pub ends_unread : (IsAnswer : List ℕ → ℕ → Type 0) (before after : Option (List ℕ)) (status : ℕ) → status ≡ 4 → after ≡ before → Ends IsAnswer before after status
 ends_unread IsAnswer before after status four same = inl (inr four, subst (λ a. Keeps before a) (sym same) (Keeps-same before))
 
--- an answer to the request, told, is one to its path
-pub ends_told : (bytes_at : List ℕ → Option (List ℕ)) (request : Request) (path text : List ℕ) (said status : ℕ) (before after : Option (List ℕ)) → path_of request ≡ path
-    → AnswersRequest bytes_at request text said → (status ≡ 3) ⊎ ((status ≡ said) × Appends before after text)
-    → Ends (λ text status. IfSome (bytes_at path) (λ file. AnswersFormula file text status)) before after status
-ends_told bytes_at (Formula p) path text said status before after is answers told =
-    inr (text, said, subst (λ q. IfSome (bytes_at q) (λ file. AnswersFormula file text said)) is answers, told)
+-- an answer to the task of the request, told, is one to the task that is asked for
+pub ends_told : (bytes_at : List ℕ → Option (List ℕ)) (asked task : Task) (text : List ℕ) (said status : ℕ) (before after : Option (List ℕ)) → asked ≡ task
+    → AnswersTask bytes_at asked text said → (status ≡ 3) ⊎ ((status ≡ said) × Appends before after text) → Ends (AnswersTask bytes_at task) before after status
+ends_told bytes_at asked task text said status before after is answers told =
+    inr (text, said, subst (λ (t : Task). AnswersTask bytes_at t text said) is answers, told)

@@ -1,5 +1,6 @@
 pub mod Truncated
 pub mod Verdicts
+pub mod Judgements
 pub mod OneAnswer
 pub mod Taken
 pub mod Words

@@ -66,7 +66,7 @@ wrong_at_limit bytes h =
     let b = there (text_of bytes) 16777216 (omega (arith, length-uncommented false bytes)) in
     wrong_byte (open_count (take 16777216 (text_of bytes))) (slice_get (text_of bytes) 16777216) b.0 b.1
 
-either : (j k : ℕ) → (j < k) ⊎ (k ≤ j)
+pub either : (j k : ℕ) → (j < k) ⊎ (k ≤ j)
 either j zero = inr (omega arith)
 either zero (suc k) = inl (omega arith)
 either (suc j) (suc k) = elim (either j k) [ inl h ↦ inl (omega arith) | inr h ↦ inr (omega arith) ]

@@ -1,6 +1,6 @@
 -- What clap reads in plain words.
 use Rattle.std.proofs.Common.{◌≡◌, ℕ, ◌==◌, inl, inr, Bool, true, false, not, true≢false, codes, List, [], ◌∷◌, Option, Some, None, refl, sym, ◌∙◌, ap, ap₂, subst}
-use Rattle.std.specs.Prelude.{Result, Ok, Err, IfErr, option_map, if◌then◌else◌}
+use Rattle.std.specs.Prelude.{Result, Ok, Err, IfErr, option_map, option_and_then, if◌then◌else◌}
 use Rattle.std.specs.Box.{box_value}
 use Rattle.std.specs.Str.{bytes_eq}
 use Rattle.clap.specs.Words.{App, HasKind, HasMatchesOf, Row, Text, fault_of, first_of, first_value, found_of, is_simple, is_simple_and_free, kind_of, rows_of, subcommand_name_of, subcommand_of, subcommand_rows_of, takes}
@@ -12,7 +12,7 @@ use Rattle.clap.specs.declared.parser.matches.Found.{Found}
 use Rattle.clap.proofs.WalkLemmas.{first_value-rows}
 use Rattle.lincheck.specs.declared.command_line.Request.{Request}
 use Rattle.clap.proofs.OnLiterals.{clap_on_literals}
-use Rattle.lincheck.specs.CommandLine.{AreWrong, AsksForText, Reads, path_of, program_app, request_in, formula_words, is_plain}
+use Rattle.lincheck.specs.CommandLine.{AreWrong, AsksForText, HasPlainPaths, Reads, Task, CheckFormula, JudgeHistory, formula_task, judge_task, task_in_command, program_app, task_in, task_of, words_for, is_plain}
 
 is_other : (b : ℕ) → not (b == 45) ≡ true → (b == 45) ≡ false
 is_other b plain = by (b == 45) refl plain
@@ -29,22 +29,34 @@ pub program_is_free : is_simple_and_free program_app ≡ true
 unfolding clap_on_literals
 program_is_free = refl
 
--- the path is the one that is given
-pub path_is_read : (name path : List ℕ) → is_plain path ≡ true → request_in (subcommand_of program_app (formula_words name path)) ≡ Some path
+-- the paths are those that are given
+pub task_is_read : (name : List ℕ) (task : Task) → HasPlainPaths task → task_in (subcommand_of program_app (words_for name task)) ≡ Some task
 unfolding clap_on_literals
-path_is_read name [] plain = refl
-path_is_read name (b ∷ path) plain = let e = is_other b plain in simp e refl
+task_is_read name (CheckFormula []) plain = refl {a = Some (CheckFormula [])}
+task_is_read name (CheckFormula (b ∷ path)) plain = let e = is_other b plain in simp e (refl {a = Some (CheckFormula (b ∷ path))})
+task_is_read name (JudgeHistory [] []) plain = refl {a = Some (JudgeHistory [] [])}
+task_is_read name (JudgeHistory (b ∷ path) []) plain = let e = is_other b plain.0 in simp e (refl {a = Some (JudgeHistory (b ∷ path) [])})
+task_is_read name (JudgeHistory [] (c ∷ other)) plain = let f = is_other c plain.1 in simp f (refl {a = Some (JudgeHistory [] (c ∷ other))})
+task_is_read name (JudgeHistory (b ∷ path) (c ∷ other)) plain =
+    let e = is_other b plain.0 in
+    let f = is_other c plain.1 in simp (e, f) (refl {a = Some (JudgeHistory (b ∷ path) (c ∷ other))})
 
 -- nothing is wrong in the words
-pub words_are_taken : (name path : List ℕ) → is_plain path ≡ true → takes program_app (formula_words name path) ≡ true
+pub words_are_taken : (name : List ℕ) (task : Task) → HasPlainPaths task → takes program_app (words_for name task) ≡ true
 unfolding clap_on_literals
-words_are_taken name [] plain = refl
-words_are_taken name (b ∷ path) plain = let e = is_other b plain in simp e refl
+words_are_taken name (CheckFormula []) plain = refl {a = true}
+words_are_taken name (CheckFormula (b ∷ path)) plain = let e = is_other b plain in simp e (refl {a = true})
+words_are_taken name (JudgeHistory [] []) plain = refl {a = true}
+words_are_taken name (JudgeHistory (b ∷ path) []) plain = let e = is_other b plain.0 in simp e (refl {a = true})
+words_are_taken name (JudgeHistory [] (c ∷ other)) plain = let f = is_other c plain.1 in simp f (refl {a = true})
+words_are_taken name (JudgeHistory (b ∷ path) (c ∷ other)) plain =
+    let e = is_other b plain.0 in
+    let f = is_other c plain.1 in simp (e, f) (refl {a = true})
 
 -- something is asked for
-pub plain_is_read : (words : List Text) (name path : List ℕ) → words ≡ formula_words name path → is_plain path ≡ true → request_in (subcommand_of program_app words) ≡ None → ⊥
-plain_is_read words name path is plain nothing =
-    let e : Some path ≡ None = sym (path_is_read name path plain) ∙ sym (ap (λ w. request_in (subcommand_of program_app w)) is) ∙ nothing in cc
+pub plain_is_read : (words : List Text) (name : List ℕ) (task : Task) → words ≡ words_for name task → HasPlainPaths task → task_in (subcommand_of program_app words) ≡ None → ⊥
+plain_is_read words name task is plain nothing =
+    let e : Some task ≡ None = sym (task_is_read name task plain) ∙ sym (ap (λ w. task_in (subcommand_of program_app w)) is) ∙ nothing in cc
 
 -- an error has one of the kinds of the fault, so that of wrong words asks for no text
 pub no_text : (words : List Text) (e : Error) → AreWrong words → HasKind (fault_of program_app words) e → AsksForText (kind_of e) → ⊥
@@ -54,8 +66,8 @@ no_text words e wrong (inr among) asks = wrong.1 (kind_of e) among asks
 
 -- an error of clap at plain words is want of memory
 pub plain_fault : (a : App) (words : List Text) (e : Error) → a ≡ program_app → (takes a words ≡ true → kind_of e ≡ OutOfMemory)
-    → (name path : List ℕ) → words ≡ formula_words name path → is_plain path ≡ true → kind_of e ≡ OutOfMemory
-plain_fault a words e is passes name path w plain = passes (ap (λ x. takes x words) is ∙ ap (takes program_app) w ∙ words_are_taken name path plain)
+    → (name : List ℕ) (task : Task) → words ≡ words_for name task → HasPlainPaths task → kind_of e ≡ OutOfMemory
+plain_fault a words e is passes name task w plain = passes (ap (λ x. takes x words) is ∙ ap (takes program_app) w ∙ words_are_taken name task plain)
 
 -- an error of clap at wrong words asks for no text
 pub wrong_fault : (a : App) (words : List Text) (e : Error) → a ≡ program_app → (is_simple_and_free a ≡ true → HasKind (fault_of a words) e)
@@ -67,22 +79,22 @@ pub not_wrong : (a : App) (words : List Text) → a ≡ program_app → (is_simp
 not_wrong a words is kinds wrong = wrong.0 (subst (λ (x : App). fault_of x words ≡ []) is (kinds (ap is_simple_and_free is ∙ program_is_free)))
 
 -- at plain words something is asked for
-pub nothing_plain : (a : App) (words : List Text) (m : ArgMatches) → a ≡ program_app → HasMatchesOf a words m → None ≡ request_in (subcommand_rows_of m)
-    → (name path : List ℕ) → words ≡ formula_words name path → is_plain path ≡ true → ⊥
-nothing_plain a words m is has nothing name path w plain =
+pub nothing_plain : (a : App) (words : List Text) (m : ArgMatches) → a ≡ program_app → HasMatchesOf a words m → None ≡ task_in (subcommand_rows_of m)
+    → (name : List ℕ) (task : Task) → words ≡ words_for name task → HasPlainPaths task → ⊥
+nothing_plain a words m is has nothing name task w plain =
     let same : subcommand_rows_of m ≡ subcommand_of program_app words = (has (ap is_simple is ∙ program_is_simple)).1 ∙ ap (λ x. subcommand_of x words) is in
-    plain_is_read words name path w plain (sym (nothing ∙ ap request_in same))
+    plain_is_read words name task w plain (sym (nothing ∙ ap task_in same))
 
 -- where the words are not plain, an error may be any
-pub plain_err : (words : List Text) (r : Result Request Error) → ((name path : List ℕ) → words ≡ formula_words name path → is_plain path ≡ true → ⊥)
-    → IfErr r (λ error. (name path : List ℕ) → words ≡ formula_words name path → is_plain path ≡ true → kind_of error ≡ OutOfMemory)
+pub plain_err : (words : List Text) (r : Result Request Error) → ((name : List ℕ) (task : Task) → words ≡ words_for name task → HasPlainPaths task → ⊥)
+    → IfErr r (λ error. (name : List ℕ) (task : Task) → words ≡ words_for name task → HasPlainPaths task → kind_of error ≡ OutOfMemory)
 plain_err words (Ok x) never = tt
-plain_err words (Err e) never = λ name path w plain. absurd (never name path w plain)
+plain_err words (Err e) never = λ name task w plain. absurd (never name task w plain)
 
--- the request that is read in plain words names their path
-pub request_is : (words : List Text) (request : Request) (name path : List ℕ) → Reads words request → words ≡ formula_words name path → is_plain path ≡ true → path_of request ≡ path
-request_is words request name path reads w plain =
-    let e : Some (path_of request) ≡ Some path = sym reads ∙ ap (λ x. request_in (subcommand_of program_app x)) w ∙ path_is_read name path plain in cc
+-- the request that is read in plain words is for their task
+pub request_is : (words : List Text) (request : Request) (name : List ℕ) (task : Task) → Reads words request → words ≡ words_for name task → HasPlainPaths task → task_of request ≡ task
+request_is words request name task reads w plain =
+    let e : Some (task_of request) ≡ Some task = sym reads ∙ ap (λ x. task_in (subcommand_of program_app x)) w ∙ task_is_read name task plain in cc
 
 maps : {A B C : Type 0} (f : A → B) (g : B → C) (o : Option A) → option_map (λ a. g (f a)) o ≡ option_map g (option_map f o)
 maps f g None = refl
@@ -98,9 +110,33 @@ by_parts (Some (x, y)) name rows h g =
     let d : y ≡ rows = cc in
     ap₂ (λ a b. Some (a, b)) e d
 
--- what is asked for is the file that the command `formula` is given
-pub asked : (m : ArgMatches) (name : Text) (f : Found) (file : Option Text) → Some name ≡ subcommand_name_of m → Some (rows_of f) ≡ option_map (λ p. p.1) (subcommand_rows_of m)
-    → bytes_eq name (codes "formula") ≡ true → file ≡ first_value f (codes "FILE") → file ≡ request_in (subcommand_rows_of m)
-asked m name f file named rows is given =
+-- what is asked for is what the command asks for with its arguments
+pub asked : (m : ArgMatches) (name : Text) (f : Found) (task : Option Task) → Some name ≡ subcommand_name_of m → Some (rows_of f) ≡ option_map (λ p. p.1) (subcommand_rows_of m)
+    → task ≡ task_in_command (name, rows_of f) → task ≡ task_in (subcommand_rows_of m)
+asked m name f task named rows is =
     let parts : subcommand_rows_of m ≡ Some (name, rows_of f) = by_parts (subcommand_rows_of m) name (rows_of f) (named ∙ name_by_rows m) rows in
-    given ∙ first_value-rows f (codes "FILE") ∙ sym (ap request_in parts ∙ ap (λ t. if t then first_of (codes "FILE") (rows_of f) else None) is)
+    is ∙ sym (ap task_in parts)
+
+pub asks_formula : (name : Text) (rows : List Row) → bytes_eq name (codes "formula") ≡ true → formula_task rows ≡ task_in_command (name, rows)
+asks_formula name rows is = sym (ap (λ t. if t then formula_task rows else (if bytes_eq name (codes "judge") then judge_task rows else None)) is)
+
+pub asks_judge : (name : Text) (rows : List Row) → bytes_eq name (codes "formula") ≡ false → bytes_eq name (codes "judge") ≡ true → judge_task rows ≡ task_in_command (name, rows)
+asks_judge name rows other is =
+    sym (ap (λ t. if t then formula_task rows else (if bytes_eq name (codes "judge") then judge_task rows else None)) other ∙ ap (λ t. if t then judge_task rows else None) is)
+
+pub asks_nothing : (name : Text) (rows : List Row) → bytes_eq name (codes "formula") ≡ false → bytes_eq name (codes "judge") ≡ false → None ≡ task_in_command (name, rows)
+asks_nothing name rows other is =
+    sym (ap (λ t. if t then formula_task rows else (if bytes_eq name (codes "judge") then judge_task rows else None)) other ∙ ap (λ t. if t then judge_task rows else None) is)
+
+-- the task of one path, and of two, where clap finds them
+pub formula_found : (f : Found) (file : Option Text) → file ≡ first_value f (codes "FILE") → option_map CheckFormula file ≡ formula_task (rows_of f)
+formula_found f file is = ap (option_map CheckFormula) (is ∙ first_value-rows f (codes "FILE"))
+
+pub judge_found : (f : Found) (development history : Option Text) → development ≡ first_value f (codes "DEV") → history ≡ first_value f (codes "HISTORY")
+    → option_and_then (λ d. option_map (JudgeHistory d) history) development ≡ judge_task (rows_of f)
+judge_found f development history is is' =
+    ap₂ (λ x y. option_and_then (λ d. option_map (JudgeHistory d) y) x) (is ∙ first_value-rows f (codes "DEV")) (is' ∙ first_value-rows f (codes "HISTORY"))
+
+-- without a development nothing is judged
+pub judge_unfound : (f : Found) → None ≡ first_value f (codes "DEV") → None ≡ judge_task (rows_of f)
+judge_unfound f is = ap (λ x. option_and_then (λ d. option_map (JudgeHistory d) (first_of (codes "HISTORY") (rows_of f))) x) (is ∙ first_value-rows f (codes "DEV"))

@@ -1,5 +1,5 @@
 -- The command line, in the terms in which clap's calls state what they read.
-use Rattle.std.specs.Prelude.{◌≡◌, ◌⊎◌, ℕ, ◌==◌, map, string_bytes, String, Bool, true, false, not, if◌then◌else◌, codes, List, [], ◌∷◌, Option, Some, None, option_and_then}
+use Rattle.std.specs.Prelude.{◌≡◌, ◌⊎◌, ℕ, ◌==◌, map, string_bytes, String, Bool, true, false, not, if◌then◌else◌, codes, List, [], ◌∷◌, Option, Some, None, option_and_then, option_map}
 use Rattle.std.specs.Str.{bytes_eq}
 use Rattle.std.specs.declared.alloc.Global.{Global}
 use Rattle.clap.specs.Words.{App, IsAmong, Row, Rule, Text, fault_of, first_of, new_app, new_rule, subcommand_of, with_rule, with_subcommand}
@@ -7,7 +7,7 @@ use Rattle.clap.specs.declared.builder.action.ArgAction.TheVariants.{Set}
 use Rattle.clap.specs.declared.error.kind.ErrorKind.{ErrorKind}
 use Rattle.clap.specs.declared.error.kind.ErrorKind.TheVariants.{DisplayHelp, DisplayVersion}
 use Rattle.lincheck.specs.declared.command_line.Request.{Request}
-use Rattle.lincheck.specs.declared.command_line.Request.TheVariants.{Formula}
+use Rattle.lincheck.specs.declared.command_line.Request.TheVariants.{Formula, Judge}
 
 -- a required argument that names a file
 abbrev pub file_rule : Text → Rule
@@ -17,29 +17,51 @@ file_rule name = record (new_rule name) { action = Some Set; required = true }
 abbrev pub formula_app : App
 formula_app = with_rule (new_app (codes "formula")) (file_rule (codes "FILE"))
 
+-- `judge DEV HISTORY`
+abbrev pub judge_app : App
+judge_app = with_rule (with_rule (new_app (codes "judge")) (file_rule (codes "DEV"))) (file_rule (codes "HISTORY"))
+
 -- a command of this name that needs a subcommand
 abbrev pub needs_subcommand : Text → App
 needs_subcommand name = record { top = record (new_app name).top { subcommand_required = true }; subs = [] }
 
 -- the program and its commands
 abbrev pub program_app : App
-program_app = with_subcommand (needs_subcommand (codes "lincheck")) formula_app.top
+program_app = with_subcommand (with_subcommand (needs_subcommand (codes "lincheck")) formula_app.top) judge_app.top
 
--- the path of a request
-abbrev pub path_of : Request → List ℕ
-path_of (Formula path) = path.now
+-- What may be asked for: that the proof in the file at a path is checked, or that the history in one file is judged by
+-- the specification in another
+pub data Task : Type 0 where
+  CheckFormula : (path : List ℕ) → Task
+  JudgeHistory : (development history : List ℕ) → Task
 
--- the path that the command `formula` is given
-abbrev pub file_of_formula : Text × List Row → Option Text
-file_of_formula c = if bytes_eq c.0 (codes "formula") then first_of (codes "FILE") c.1 else None
+-- the task of a request
+abbrev pub task_of : Request → Task
+task_of (Formula path) = CheckFormula path.now
+task_of (Judge development history) = JudgeHistory development.now history.now
 
--- the path of what a command and its arguments ask for
-abbrev pub request_in : Option (Text × List Row) → Option Text
-request_in command = option_and_then file_of_formula command
+-- the task of the command `formula` with these arguments
+abbrev pub formula_task : List Row → Option Task
+formula_task rows = option_map CheckFormula (first_of (codes "FILE") rows)
+
+-- the task of the command `judge` with these arguments
+abbrev pub judge_task : List Row → Option Task
+judge_task rows = option_and_then (λ development. option_map (JudgeHistory development) (first_of (codes "HISTORY") rows)) (first_of (codes "DEV") rows)
+
+-- the task of a command with its arguments
+abbrev pub task_in_command : Text × List Row → Option Task
+task_in_command c =
+    if bytes_eq c.0 (codes "formula")
+    then formula_task c.1
+    else (if bytes_eq c.0 (codes "judge") then judge_task c.1 else None)
+
+-- the task of a command with its arguments, if there is one
+abbrev pub task_in : Option (Text × List Row) → Option Task
+task_in command = option_and_then task_in_command command
 
 -- the request is what clap reads in the words
 abbrev pub Reads : List Text → Request → Type 0
-Reads words request = request_in (subcommand_of program_app words) ≡ Some (path_of request)
+Reads words request = task_in (subcommand_of program_app words) ≡ Some (task_of request)
 
 -- the error asks for a text to be shown, and tells no fault
 abbrev pub AsksForText : ErrorKind → Type 0
@@ -61,3 +83,17 @@ is_plain (b ∷ path) = not (b == 45)
 -- `NAME formula PATH`
 abbrev pub formula_words : List ℕ → List ℕ → List Text
 formula_words name path = name ∷ codes "formula" ∷ path ∷ []
+
+-- `NAME judge PATH PATH`
+abbrev pub judge_words : List ℕ → List ℕ → List ℕ → List Text
+judge_words name development history = name ∷ codes "judge" ∷ development ∷ history ∷ []
+
+-- the words that ask for a task
+abbrev pub words_for : List ℕ → Task → List Text
+words_for name (CheckFormula path) = formula_words name path
+words_for name (JudgeHistory development history) = judge_words name development history
+
+-- none of its paths begins with a hyphen
+abbrev pub HasPlainPaths : Task → Type 0
+HasPlainPaths (CheckFormula path) = is_plain path ≡ true
+HasPlainPaths (JudgeHistory development history) = (is_plain development ≡ true) × (is_plain history ≡ true)

@@ -1,13 +1,15 @@
 -- What the program leaves on standard output, and its exit status.
 use Rattle.std.specs.Prelude.{◌≡◌, ℕ, ◌⊎◌, List, Option, IfSome}
 use Rattle.std.specs.Io.KnownBytes.{Keeps, Appends}
+use Rattle.lincheck.specs.CommandLine.{Task, CheckFormula, JudgeHistory}
 use Rattle.lincheck.specs.Formula.{AnswersFormula}
-use Rattle.lincheck.specs.declared.command_line.Request.{Request}
-use Rattle.lincheck.specs.declared.command_line.Request.TheVariants.{Formula}
+use Rattle.lincheck.specs.Judge.{AnswersJudge}
 
--- the answer to a request, where the files that it names are known
-abbrev pub AnswersRequest : (List ℕ → Option (List ℕ)) → Request → List ℕ → ℕ → Type 0
-AnswersRequest bytes_at (Formula path) text status = IfSome (bytes_at path.now) (λ file. AnswersFormula file text status)
+-- the answer to a task, where the files that it names are known
+abbrev pub AnswersTask : (List ℕ → Option (List ℕ)) → Task → List ℕ → ℕ → Type 0
+AnswersTask bytes_at (CheckFormula path) text status = IfSome (bytes_at path) (λ file. AnswersFormula file text status)
+AnswersTask bytes_at (JudgeHistory development history) text status =
+    IfSome (bytes_at development) (λ file. AnswersJudge file (bytes_at history) text status)
 
 -- The program ends: with a fault of reading, or for want of memory, and nothing is printed; or with an answer of which
 -- this holds, which is printed behind what stood on standard output, unless there is a fault of writing

@@ -3,4 +3,5 @@ pub mod CommandLine
 pub mod Answers
 pub mod Reading
 pub mod Formula
+pub mod Judge
 pub mod Execution

@@ -1,5 +1,5 @@
 ghost use Rattle.std.specs.Prelude.{◌≡◌, IfOk};
-ghost use Rattle.lincheck.specs.Answers.{Told};
+ghost use Rattle.lincheck.specs.Answers.{Told, ToldFault};
 
 use lc_base::{Fault, OutOfMemory, refusal_line, write_line};
 use std::alloc::{AllocError, AllocFailed, Global};
@@ -66,6 +66,21 @@ impl Failure<'_> {
     }
 }
 
+/// The line of the refusal.
+pub fn told_fault(alloc: Global, fault: Fault) -> Result<Answer, OutOfMemory>
+    ensures { IfOk result (λ answer. ToldFault fault answer.text.items answer.status) }
+{
+    match fault {
+        Fault::Refused(refusal) => {
+            Ok(Answer {
+                text: refusal_line(alloc, &refusal)?,
+                status: REFUSED,
+            })
+        }
+        Fault::OutOfMemory => Err(OutOfMemory),
+    }
+}
+
 /// The word, as a line, where a check passed; else the line of the refusal.
 pub fn told(alloc: Global, word: &str, checked: Result<(), Fault>) -> Result<Answer, OutOfMemory>
     ensures { IfOk result (λ answer. Told word.now checked answer.text.items answer.status) }
@@ -77,12 +92,6 @@ pub fn told(alloc: Global, word: &str, checked: Result<(), Fault>) -> Result<Ans
                 status: SUCCESS,
             })
         }
-        Err(Fault::Refused(refusal)) => {
-            Ok(Answer {
-                text: refusal_line(alloc, &refusal)?,
-                status: REFUSED,
-            })
-        }
-        Err(Fault::OutOfMemory) => Err(OutOfMemory),
+        Err(fault) => told_fault(alloc, fault),
     }
 }

@@ -1,9 +1,9 @@
 //! The command line: its commands, and what each says of itself when it is asked for help.
 ghost use Rattle.std.specs.Prelude.{◌≡◌, ℕ, List, IfOk, IfErr, IsErrAnd, true, false, option_map};
-ghost use Rattle.clap.specs.Words.{app_of, kind_of, rule_of, subcommand_rows_of};
+ghost use Rattle.clap.specs.Words.{app_of, found_of, kind_of, rows_of, rule_of, subcommand_rows_of};
 ghost use Rattle.clap.specs.declared.builder.command.Command.TheViews.{out-Command};
 ghost use Rattle.clap.specs.declared.error.kind.ErrorKind.TheVariants.{OutOfMemory};
-ghost use Rattle.lincheck.specs.CommandLine.{AreWrong, AsksForText, Reads, file_rule, formula_app, formula_words, is_plain, program_app, request_in, path_of, texts_of};
+ghost use Rattle.lincheck.specs.CommandLine.{AreWrong, AsksForText, HasPlainPaths, Reads, Task, file_rule, formula_app, formula_task, judge_app, judge_task, program_app, task_in, task_of, texts_of, words_for};
 
 use clap::error::ErrorKind;
 use clap::{Arg, ArgAction, ArgMatches, Command, Error};
@@ -14,6 +14,11 @@ use std::alloc::{AllocError, Global};
 pub enum Request<'a> {
     /// Check the proof in the formula file at this path.
     Formula(&'a str),
+    /// Judge the history in a file by the specification in another.
+    Judge {
+        development: &'a str,
+        history: &'a str,
+    },
 }
 
 static ABOUT: &str = "Checks written proofs that concurrent objects are linearizable";
@@ -28,9 +33,11 @@ Exit status:
   3  a file cannot be read, or the answer cannot be written
   4  out of memory
 
-Example:
+Examples:
   lincheck formula examples/first.formula
-      reads a statement with its proof, and prints `proved`";
+      reads a statement with its proof, and prints `proved`
+  lincheck judge examples/counter.spec examples/linearizable.json
+      reads how two clients counted at the same time, and prints `linearizable`";
 
 static FORMULA: &str = "Checks the proof of one formula";
 
@@ -53,6 +60,33 @@ Example:
   lincheck formula examples/first.formula
       reads that x = y follows from x <= y and y <= x, and prints `proved`";
 
+static JUDGE: &str = "Judges whether an order linearizes a history";
+
+static JUDGE_DEVELOPMENT: &str =
+    "A file that begins with a specification; what stands behind it is not looked at";
+
+static JUDGE_HISTORY: &str = "A JSON file: an object with the arrays `events` and `order`";
+
+static JUDGE_ANSWER: &str = "\
+Reads the specification of an object in DEV, and in HISTORY the calls and returns of its clients, with an order of the
+calls. Prints `linearizable` if the clients can have seen the object do the calls one after the other, in that order.
+Else it prints one line:
+  refused 1 OFFSET         the byte there makes DEV no s-expressions
+  refused 2 ITEM           the item of DEV does not fit the grammar
+  refused 3 ITEM           the name is not declared
+  refused 4 ITEM           the name is declared twice, or reserved
+  refused 6 ITEM           a number or a count is beyond a limit
+  refused 13 ITEM          the item of HISTORY is not of the form: 0 is the whole, then come the events, then the order
+  refused 14 PLACE REASON  the entry there, counted from 0, is out of order:
+       1 it is not its client's call of this number, 2 the call returned another reply,
+       3 behind the last place: a call that returned is missing, 4 the object does not give this reply here,
+       5 the call of a later entry returned before this one began
+  overflow                 a number that the specification reaches leaves 64 bits
+
+Example:
+  lincheck judge examples/counter.spec examples/linearizable.json
+      reads how two clients counted at the same time, and prints `linearizable`";
+
 /// An argument that names a file.
 fn file<'a>(alloc: Global, name: &'a str, help: &'a str) -> Arg<'a>
     ensures rule { rule_of result ≡ file_rule name.entry.now }
@@ -74,6 +108,17 @@ fn formula_command<'a>(alloc: Global) -> Result<Command<'a>, AllocError>
         .arg(file(alloc, "FILE", FORMULA_FILE))
 }
 
+fn judge_command<'a>(alloc: Global) -> Result<Command<'a>, AllocError>
+    ensures app { IfOk result (λ command. app_of command ≡ judge_app) }
+    ensures local { IfOk result (λ command. (out-Command command).has_globals ≡ false) }
+{
+    Command::new(alloc, "judge")
+        .about(JUDGE)
+        .after_help(JUDGE_ANSWER)
+        .arg(file(alloc, "DEV", JUDGE_DEVELOPMENT))?
+        .arg(file(alloc, "HISTORY", JUDGE_HISTORY))
+}
+
 fn program<'a>(alloc: Global) -> Result<Command<'a>, AllocError>
     ensures { IfOk result (λ command. app_of command ≡ program_app) }
 {
@@ -81,19 +126,40 @@ fn program<'a>(alloc: Global) -> Result<Command<'a>, AllocError>
         .about(ABOUT)
         .after_help(EXIT_STATUS)
         .subcommand_required(true)
-        .subcommand(formula_command(alloc)?)
+        .subcommand(formula_command(alloc)?)?
+        .subcommand(judge_command(alloc)?)
+}
+
+fn formula_request<'a>(command: &ArgMatches<'a>) -> Option<Request<'a>>
+    ensures { option_map task_of result ≡ formula_task (rows_of (found_of command.now)) }
+{
+    let file = command.get_str("FILE")?;
+    Some(Request::Formula(file))
+}
+
+fn judge_request<'a>(command: &ArgMatches<'a>) -> Option<Request<'a>>
+    ensures { option_map task_of result ≡ judge_task (rows_of (found_of command.now)) }
+{
+    let development = command.get_str("DEV")?;
+    let history = command.get_str("HISTORY")?;
+    Some(Request::Judge {
+        development,
+        history,
+    })
 }
 
 /// What the words ask for, if there is a command in them with all its files.
 fn request_of<'a>(matches: &ArgMatches<'a>) -> Option<Request<'a>>
-    ensures { option_map path_of result ≡ request_in (subcommand_rows_of matches.now) }
+    ensures { option_map task_of result ≡ task_in (subcommand_rows_of matches.now) }
 {
     let (name, command) = matches.subcommand()?;
-    if name != "formula" {
-        return None;
+    if name == "formula" {
+        return formula_request(command);
     }
-    let file = command.get_str("FILE")?;
-    Some(Request::Formula(file))
+    if name == "judge" {
+        return judge_request(command);
+    }
+    None
 }
 
 /// Reads the words of the command line, of which the first is the name of the program.
@@ -101,7 +167,7 @@ fn request_of<'a>(matches: &ArgMatches<'a>) -> Option<Request<'a>>
 /// An error has the text to be shown, also where help was asked for.
 pub fn read_words<'a>(alloc: Global, words: &'a [String]) -> Result<Request<'a>, Error>
     ensures reads { IfOk result (Reads (texts_of words.entry.now)) }
-    ensures plain { IfErr result (λ error. (name path : List ℕ) → texts_of words.entry.now ≡ formula_words name path → is_plain path ≡ true
+    ensures plain { IfErr result (λ error. (name : List ℕ) (task : Task) → texts_of words.entry.now ≡ words_for name task → HasPlainPaths task
         → kind_of error ≡ OutOfMemory) }
     ensures wrong { AreWrong (texts_of words.entry.now) → IsErrAnd result (λ error. AsksForText (kind_of error) → ⊥) }
 {

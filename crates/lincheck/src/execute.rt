@@ -1,15 +1,17 @@
 ghost use Rattle.std.specs.Prelude.{◌≡◌, ◌⊎◌, ℕ, List, true, IfOk, IfSome, OnOk};
 ghost use Rattle.std.specs.Io.KnownBytes.{Appends};
 ghost use Rattle.clap.specs.Words.{kind_of};
-ghost use Rattle.lincheck.specs.CommandLine.{AreWrong, AsksForText, formula_words, is_plain, texts_of};
-ghost use Rattle.lincheck.specs.Execution.{AnswersRequest, Ends};
+ghost use Rattle.lincheck.specs.CommandLine.{AreWrong, AsksForText, formula_words, is_plain, judge_words, task_of, texts_of};
+ghost use Rattle.lincheck.specs.Execution.{AnswersTask, Ends};
 ghost use Rattle.lincheck.specs.Formula.{AnswersFormula};
+ghost use Rattle.lincheck.specs.Judge.{AnswersJudge};
 ghost use Rattle.lincheck.specs.Status.{status_of};
 
 use crate::answer::{Answer, COMMAND_LINE_FAULT, Failure, SUCCESS};
 use crate::command_line::{Request, read_words};
 use crate::files::Files;
 use crate::formula::answer_formula;
+use crate::judge::answer_judge;
 use clap::error::ErrorKind;
 use std::alloc::Global;
 use std::io;
@@ -21,10 +23,14 @@ fn answer<'a, F: Files>(
     request: Request<'a>,
     files: &mut F,
 ) -> Result<Answer, Failure<'a>>
-    ensures { IfOk result (λ answer. AnswersRequest (F.bytes_at files.old) request.entry answer.text.items answer.status) }
+    ensures { IfOk result (λ answer. AnswersTask (F.bytes_at files.old) (task_of request.entry) answer.text.items answer.status) }
 {
     match request {
         Request::Formula(path) => answer_formula(alloc, files, path),
+        Request::Judge {
+            development,
+            history,
+        } => answer_judge(alloc, files, development, history),
     }
 }
 
@@ -88,6 +94,8 @@ pub fn execute<F: Files, O: Write, E: Write>(
 ) -> u8
     ensures formula { (name path : List ℕ) → texts_of words.now ≡ formula_words name path → is_plain path ≡ true
         → Ends (λ text status. IfSome (F.bytes_at files.old path) (λ file. AnswersFormula file text status)) (O.contents out.old) (O.contents out.new) result }
+    ensures judge { (name development history : List ℕ) → texts_of words.now ≡ judge_words name development history → is_plain development ≡ true → is_plain history ≡ true
+        → Ends (λ text status. IfSome (F.bytes_at files.old development) (λ file. AnswersJudge file (F.bytes_at files.old history) text status)) (O.contents out.old) (O.contents out.new) result }
     ensures wrong { AreWrong (texts_of words.now) → ((result ≡ 2) ⊎ (result ≡ 4)) × (out.new ≡ out.old) × (files.new ≡ files.old) }
 {
     match read_words(alloc, words) {

@@ -10,7 +10,8 @@ pub trait Files {
     // The bytes of the file at a path, where they are known.
     ghost bytes_at: { Self → List ℕ → Option (List ℕ) } = { λ _ _. None };
 
-    /// Opens the file at a path, to be read from its first byte on.
+    /// Opens the file at a path, to be read from its first byte on. The bytes of files stay as they are.
     fn open(&mut self, path: &str) -> io::Result<Self::Reader>
-        ensures { IfOk result (λ reader. IfSome (bytes_at self.old path.now) (λ bytes. Self.Reader.remaining reader ≡ Some bytes)) };
+        ensures keeps { (other : List ℕ) → bytes_at self.new other ≡ bytes_at self.old other }
+        ensures reads { IfOk result (λ reader. IfSome (bytes_at self.old path.now) (λ bytes. Self.Reader.remaining reader ≡ Some bytes)) };
 }

@@ -7,6 +7,7 @@ mod disk;
 mod execute;
 mod files;
 mod formula;
+mod judge;
 mod laws;
 mod reading;
 #[cfg(test)]

@@ -1,4 +1,4 @@
-ghost use Rattle.std.specs.Prelude.{◌≡◌, ◌+◌, ◌≤◌, vec_len, IfOk, IfSome};
+ghost use Rattle.std.specs.Prelude.{◌≡◌, ◌+◌, ◌≤◌, ℕ, List, vec_len, IfOk, IfSome};
 ghost use Rattle.std.specs.Io.KnownBytes.{Consumes, IsAtEnd};
 ghost use Rattle.lincheck.specs.Reading.{within_limit};
 
@@ -65,7 +65,8 @@ pub fn read_file<'a, F: Files>(
     files: &mut F,
     path: &'a str,
 ) -> Result<Vec<u8>, Failure<'a>>
-    ensures { IfOk result (λ bytes. IfSome (F.bytes_at files.old path.now) (λ file. bytes.items ≡ within_limit file)) }
+    ensures keeps { (other : List ℕ) → F.bytes_at files.new other ≡ F.bytes_at files.old other }
+    ensures bytes { IfOk result (λ bytes. IfSome (F.bytes_at files.old path.now) (λ file. bytes.items ≡ within_limit file)) }
 {
     let Ok(mut reader) = files.open(path) else {
         return Err(Failure::CannotRead(path));

@@ -81,8 +81,8 @@ impl<'a> Files for Folder<'a> {
 
     fn open(&mut self, path: &str) -> io::Result<File<'a>> {
         self.opened = self.opened.saturating_add(1);
-        match self.file {
-            Some(file) if file.path == path => Ok(file),
+        match &self.file {
+            Some(file) if file.path == path => Ok(*file),
             _ => Err(io::Error::from(ErrorKind::NotFound)),
         }
     }
@@ -103,6 +103,39 @@ impl<'a> Files for Everywhere<'a> {
 
     fn open(&mut self, _path: &str) -> io::Result<&'a [u8]> {
         Ok(self.bytes)
+    }
+}
+
+/// A development at `d`, and a history at `h` where there is one. It counts how often a file is opened.
+#[derive(Drop)]
+pub struct Pair<'a> {
+    pub development: &'a [u8],
+    pub history: Option<&'a [u8]>,
+    pub opened: u32,
+}
+
+impl<'a> Pair<'a> {
+    pub fn of(development: &'a [u8], history: Option<&'a [u8]>) -> Pair<'a> {
+        Pair {
+            development,
+            history,
+            opened: 0,
+        }
+    }
+}
+
+impl<'a> Files for Pair<'a> {
+    type Reader = &'a [u8];
+
+    fn open(&mut self, path: &str) -> io::Result<&'a [u8]> {
+        self.opened = self.opened.saturating_add(1);
+        if path == "d" {
+            return Ok(self.development);
+        }
+        match self.history {
+            Some(history) if path == "h" => Ok(history),
+            _ => Err(io::Error::from(ErrorKind::NotFound)),
+        }
     }
 }
 

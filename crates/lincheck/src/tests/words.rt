@@ -14,6 +14,7 @@ fn wrong_words(rt: HostRuntime) -> Result<(), Fail> {
         ["lincheck", "frobnicate", "a"].as_slice(),
         ["lincheck", "formula"].as_slice(),
         ["lincheck", "formula", "a", "a"].as_slice(),
+        ["lincheck", "judge", "a"].as_slice(),
         ["lincheck", "formula", "a", "--workers", "2"].as_slice(),
         ["lincheck", "--version"].as_slice(),
     ] {

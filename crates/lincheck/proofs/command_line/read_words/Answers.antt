@@ -24,5 +24,5 @@ returns-in_err-error-in-None-clause-plain c =
     (nothing_plain (app_of c.in_ok-program.field-0) (texts_of c.args.words.now) c.in_ok-matches.matches c.in_ok-program.ensures c.in_ok-matches.ensures.matches c.in-None.ensures)
 
 pub returns-clause-plain : goal.returns-clause-plain
-returns-clause-plain c = λ name path w plain.
-    absurd (nothing_plain (app_of c.in_ok-program.field-0) (texts_of c.args.words.now) c.in_ok-matches.matches c.in_ok-program.ensures c.in_ok-matches.ensures.matches c.in-None.ensures name path w plain)
+returns-clause-plain c = λ name task w plain.
+    absurd (nothing_plain (app_of c.in_ok-program.field-0) (texts_of c.args.words.now) c.in_ok-matches.matches c.in_ok-program.ensures c.in_ok-matches.ensures.matches c.in-None.ensures name task w plain)

@@ -1,18 +1,30 @@
-use Rattle.std.proofs.Common.{ap, IfSome}
+use Rattle.std.proofs.Common.{ap}
 use Rattle.lincheck.proofs.Endings.{ends_unread, ends_told}
 use Rattle.lincheck.proofs.Words.{request_is}
-use Rattle.lincheck.specs.CommandLine.{texts_of}
-use Rattle.lincheck.specs.Formula.{AnswersFormula}
+use Rattle.lincheck.specs.CommandLine.{CheckFormula, JudgeHistory, task_of, texts_of}
+use Rattle.lincheck.specs.Execution.{AnswersTask}
 use Rattle.lincheck.proofs.execute.execute.Goals as goal
 
 pub returns-in-Err-clause-formula : goal.returns-in-Err-clause-formula
 returns-in-Err-clause-formula g c = λ name path w plain.
-    let told = c.tell_usage.ensures.memory (c.in-Err.ensures.plain name path w plain) in
-    ends_unread (λ text status. IfSome (g.F.Files.bytes_at c.args.files.now path) (λ file. AnswersFormula file text status))
+    let told = c.tell_usage.ensures.memory (c.in-Err.ensures.plain name (CheckFormula path) w plain) in
+    ends_unread (AnswersTask (g.F.Files.bytes_at c.args.files.now) (CheckFormula path))
+    (g.O.Write.contents c.args.out.now) (g.O.Write.contents c.tell_usage.new.out) c.tell_usage.result told.0 (ap g.O.Write.contents told.1)
+
+pub returns-in-Err-clause-judge : goal.returns-in-Err-clause-judge
+returns-in-Err-clause-judge g c = λ name development history w plain plain'.
+    let told = c.tell_usage.ensures.memory (c.in-Err.ensures.plain name (JudgeHistory development history) w (plain, plain')) in
+    ends_unread (AnswersTask (g.F.Files.bytes_at c.args.files.now) (JudgeHistory development history))
     (g.O.Write.contents c.args.out.now) (g.O.Write.contents c.tell_usage.new.out) c.tell_usage.result told.0 (ap g.O.Write.contents told.1)
 
 pub returns-in-Ok-answer-clause-formula : goal.returns-in-Ok-answer-clause-formula
 returns-in-Ok-answer-clause-formula g c = λ name path w plain.
-    ends_told (g.F.Files.bytes_at c.args.files.now) c.in-Ok.request path c.in-Ok-answer.answer.text.items c.in-Ok-answer.answer.status c.tell.result
+    ends_told (g.F.Files.bytes_at c.args.files.now) (task_of c.in-Ok.request) (CheckFormula path) c.in-Ok-answer.answer.text.items c.in-Ok-answer.answer.status c.tell.result
     (g.O.Write.contents c.args.out.now) (g.O.Write.contents c.tell.new.out)
-    (request_is (texts_of c.args.words.now) c.in-Ok.request name path c.in-Ok.ensures.reads w plain) c.in-Ok-answer.ensures c.tell.ensures
+    (request_is (texts_of c.args.words.now) c.in-Ok.request name (CheckFormula path) c.in-Ok.ensures.reads w plain) c.in-Ok-answer.ensures c.tell.ensures
+
+pub returns-in-Ok-answer-clause-judge : goal.returns-in-Ok-answer-clause-judge
+returns-in-Ok-answer-clause-judge g c = λ name development history w plain plain'.
+    ends_told (g.F.Files.bytes_at c.args.files.now) (task_of c.in-Ok.request) (JudgeHistory development history) c.in-Ok-answer.answer.text.items c.in-Ok-answer.answer.status c.tell.result
+    (g.O.Write.contents c.args.out.now) (g.O.Write.contents c.tell.new.out)
+    (request_is (texts_of c.args.words.now) c.in-Ok.request name (JudgeHistory development history) c.in-Ok.ensures.reads w (plain, plain')) c.in-Ok-answer.ensures c.tell.ensures

@@ -1,0 +1,147 @@
+-- A judgement from the answers to the history's text and to its order, and from the beginning of a file.
+use Rattle.std.proofs.Common.{◌≡◌, ℕ, ◌<◌, ◌≤◌, length, take, List, Option, Some, None, IfSome, IfOk, Result, Ok, Err, refl, sym, subst, ◌∙◌, inl, inr, arith, Vec, ℤ}
+use Rattle.std.specs.declared.alloc.Global.{Global}
+use Rattle.std.proofs.lemmas.List.{take_all, length-take}
+use Rattle.lc_base.specs.declared.refusal.Fault.{Fault}
+use Rattle.lc_base.specs.declared.refusal.Fault.TheVariants.{Refused, OutOfMemory}
+use Rattle.lc_base.specs.declared.refusal.Refusal.{Refusal}
+use Rattle.lc_base.specs.declared.refusal.Refusal.TheVariants.{Text, Shape, Unknown, Repeated, Auxiliary, Bound, CertText, CertShape, Missing, Extra, Proof, Large, HistoryShape, Order}
+use Rattle.lc_hist.specs.History.{Event, Entry}
+use Rattle.lc_hist.specs.JsonHistories.{SaysHistory, IsWrongItem, IsRefusedAt, entries_seen}
+use Rattle.lc_hist.specs.Judged.{IsJudged}
+use Rattle.lc_hist.specs.declared.event.Done.{Done}
+use Rattle.lc_hist.specs.declared.judging.JudgeFault as F
+use Rattle.lc_hist.specs.declared.judging.JudgeFault.TheVariants as V
+use Rattle.lc_seq.specs.SpecReading as S
+use Rattle.lc_seq.specs.Specification.{Specification}
+use Rattle.lc_seq.specs.TextStep.{text_step, TextFits, start_of}
+use Rattle.lc_seq.specs.declared.text_call.TextCall.{TextCall}
+use Rattle.lincheck.specs.Answers.{ToldFault}
+use Rattle.lincheck.specs.Judge.{HasCall, IsLinearization, FailsFirst, Overflows, SaysSuch, IsJudgement, judgement_of, AnswersHistory, AnswersJudge, ToldJudgement}
+use Rattle.lincheck.specs.Reading.{within_limit}
+use Rattle.lincheck.specs.declared.answer.Answer.{Answer}
+use Rattle.lincheck.specs.declared.answer.Failure.{Failure}
+use Rattle.lincheck.specs.declared.judge.Judgement.{Judgement}
+use Rattle.lincheck.specs.declared.judge.Judgement.TheVariants.{Linearizable, Overflow}
+use Rattle.lincheck.proofs.Truncated.{fault_of_whole, reading_of_whole, either}
+
+-- what is answered of the order that the text says makes the judgement
+judged : (spec : Specification) (bytes : List ℕ) (history : List Event) (order : List Entry) (result : Result (Unit {0}) F.JudgeFault) → SaysHistory spec.operations bytes history order
+    → IsJudged (HasCall spec) (text_step spec.operations) (TextFits spec.operations) (start_of spec.columns) history order result → IsJudgement spec bytes (judgement_of result)
+judged spec bytes history order (Ok done) says is = (history, order, says, is)
+judged spec bytes history order (Err (V.Order place reason)) says is = (reason, refl, (history, order, says, is))
+judged spec bytes history order (Err V.Overflow) says is = (history, order, says, is)
+judged spec bytes history order (Err V.OutOfMemory) says is = tt
+
+pub order_judged : (spec : Specification) (bytes : List ℕ) (history : List Event) (order seen : List (Done TextCall (Vec ℤ Global))) (result : Result (Unit {0}) F.JudgeFault)
+    → SaysHistory spec.operations bytes history (entries_seen order) → seen ≡ order
+    → IsJudged (HasCall spec) (text_step spec.operations) (TextFits spec.operations) (start_of spec.columns) history (entries_seen seen) result → IsJudgement spec bytes (judgement_of result)
+order_judged spec bytes history order seen result says same is =
+    judged spec bytes history (entries_seen order) result says
+    (subst (λ (l : List (Done TextCall (Vec ℤ Global))). IsJudged (HasCall spec) (text_step spec.operations) (TextFits spec.operations) (start_of spec.columns) history (entries_seen l) result) same is)
+
+-- a fault of the text is its judgement
+pub unread : (spec : Specification) (bytes : List ℕ) (fault : Fault) → IsRefusedAt (IsWrongItem spec.operations bytes) fault → IsJudgement spec bytes (Err fault)
+unread spec bytes (Refused (HistoryShape item)) wrong = wrong
+unread spec bytes (Refused (Text n)) wrong = absurd wrong
+unread spec bytes (Refused (Shape n)) wrong = absurd wrong
+unread spec bytes (Refused (Unknown n)) wrong = absurd wrong
+unread spec bytes (Refused (Repeated n)) wrong = absurd wrong
+unread spec bytes (Refused (Auxiliary n)) wrong = absurd wrong
+unread spec bytes (Refused (Bound n)) wrong = absurd wrong
+unread spec bytes (Refused (CertText n)) wrong = absurd wrong
+unread spec bytes (Refused (CertShape n)) wrong = absurd wrong
+unread spec bytes (Refused (Missing n)) wrong = absurd wrong
+unread spec bytes (Refused (Extra n)) wrong = absurd wrong
+unread spec bytes (Refused (Proof k n r)) wrong = absurd wrong
+unread spec bytes (Refused (Large k n)) wrong = absurd wrong
+unread spec bytes (Refused (Order k r)) wrong = absurd wrong
+unread spec bytes OutOfMemory wrong = tt
+
+-- the beginning of a file that is beyond the limit says nothing
+says_nothing : (Holds : Specification → List Event → List Entry → Type 0) (spec : Specification) (n : ℕ) (file : List ℕ) → n ≡ 16777217 → n ≤ length file → SaysSuch Holds spec (take n file) → ⊥
+says_nothing Holds spec n file e long (history, order, says, holds) = omega (arith, length-take n file, says.text.limit)
+
+-- nor does the file, so item 0 is wrong in both
+wrong_of_long : (spec : Specification) (n : ℕ) (file : List ℕ) (item : ℕ) → n ≡ 16777217 → n ≤ length file → IsWrongItem spec.operations (take n file) item → IsWrongItem spec.operations file item
+wrong_of_long spec n file item e long (inl (is, none)) = inl (is, λ parts has. omega (arith, has.limit))
+wrong_of_long spec n file item e long (inr (parts, has, wrong)) = absurd (omega (arith, length-take n file, has.limit))
+
+of_long : (spec : Specification) (n : ℕ) (file : List ℕ) (judgement : Result Judgement Fault) → n ≡ 16777217 → n ≤ length file → IsJudgement spec (take n file) judgement → IsJudgement spec file judgement
+of_long spec n file (Ok Linearizable) e long is = absurd (says_nothing IsLinearization spec n file e long is)
+of_long spec n file (Ok Overflow) e long is = absurd (says_nothing Overflows spec n file e long is)
+of_long spec n file (Err (Refused (HistoryShape item))) e long is = wrong_of_long spec n file item e long is
+of_long spec n file (Err (Refused (Order place number))) e long (reason, same, says) = absurd (says_nothing (FailsFirst place reason) spec n file e long says)
+of_long spec n file (Err (Refused (Text k))) e long is = absurd is
+of_long spec n file (Err (Refused (Shape k))) e long is = absurd is
+of_long spec n file (Err (Refused (Unknown k))) e long is = absurd is
+of_long spec n file (Err (Refused (Repeated k))) e long is = absurd is
+of_long spec n file (Err (Refused (Auxiliary k))) e long is = absurd is
+of_long spec n file (Err (Refused (Bound k))) e long is = absurd is
+of_long spec n file (Err (Refused (CertText k))) e long is = absurd is
+of_long spec n file (Err (Refused (CertShape k))) e long is = absurd is
+of_long spec n file (Err (Refused (Missing k))) e long is = absurd is
+of_long spec n file (Err (Refused (Extra k))) e long is = absurd is
+of_long spec n file (Err (Refused (Proof k m r))) e long is = absurd is
+of_long spec n file (Err (Refused (Large k m))) e long is = absurd is
+of_long spec n file (Err OutOfMemory) e long is = tt
+
+-- the judgement of what is read of a file is that of the file
+of_whole : (spec : Specification) (n : ℕ) (file : List ℕ) (judgement : Result Judgement Fault) → n ≡ 16777217 → IsJudgement spec (take n file) judgement → IsJudgement spec file judgement
+of_whole spec n file judgement e is = elim (either (length file) n) [
+  | inl h ↦ subst (λ l. IsJudgement spec l judgement) (take_all n file (omega arith)) is
+  | inr h ↦ of_long spec n file judgement e h is
+]
+
+-- what is told of the judgement of what is read answers the file
+pub history_answered : (spec : Specification) (known : Option (List ℕ)) (bytes seen : List ℕ) (judgement : Result Judgement Fault) (text : List ℕ) (status : ℕ)
+    → IfSome known (λ file. bytes ≡ within_limit file) → seen ≡ bytes → IsJudgement spec seen judgement → ToldJudgement judgement text status
+    → IfSome known (λ file. AnswersHistory spec file text status)
+history_answered spec None bytes seen judgement text status read same is told = tt
+history_answered spec (Some file) bytes seen judgement text status read same is told =
+    (judgement, of_whole spec 16777217 file judgement refl (subst (λ b. IsJudgement spec b judgement) (same ∙ read) is), told)
+
+said_of_whole : (file : List ℕ) (spec : Specification) → S.Says (within_limit file) spec → S.Says file spec
+said_of_whole file spec says = (says.0, reading_of_whole 16777217 file says.0 refl says.1, says.2, says.3)
+
+refusal_of_whole : (file : List ℕ) (refusal : Refusal) → S.IsFirstRefusal (within_limit file) refusal → S.IsFirstRefusal file refusal
+refusal_of_whole file (Text offset) first = fault_of_whole 16777217 file offset refl first
+refusal_of_whole file (Shape n) first = (first.0, reading_of_whole 16777217 file first.0 refl first.1, first.2)
+refusal_of_whole file (Unknown n) first = (first.0, reading_of_whole 16777217 file first.0 refl first.1, first.2)
+refusal_of_whole file (Repeated n) first = (first.0, reading_of_whole 16777217 file first.0 refl first.1, first.2)
+refusal_of_whole file (Auxiliary n) first = (first.0, reading_of_whole 16777217 file first.0 refl first.1, first.2)
+refusal_of_whole file (Bound n) first = (first.0, reading_of_whole 16777217 file first.0 refl first.1, first.2)
+refusal_of_whole file (CertText n) first = (first.0, reading_of_whole 16777217 file first.0 refl first.1, first.2)
+refusal_of_whole file (CertShape n) first = (first.0, reading_of_whole 16777217 file first.0 refl first.1, first.2)
+refusal_of_whole file (Missing n) first = (first.0, reading_of_whole 16777217 file first.0 refl first.1, first.2)
+refusal_of_whole file (Extra n) first = (first.0, reading_of_whole 16777217 file first.0 refl first.1, first.2)
+refusal_of_whole file (Proof k n r) first = (first.0, reading_of_whole 16777217 file first.0 refl first.1, first.2)
+refusal_of_whole file (Large k n) first = (first.0, reading_of_whole 16777217 file first.0 refl first.1, first.2)
+refusal_of_whole file (HistoryShape n) first = (first.0, reading_of_whole 16777217 file first.0 refl first.1, first.2)
+refusal_of_whole file (Order k r) first = (first.0, reading_of_whole 16777217 file first.0 refl first.1, first.2)
+
+-- what is told of the history answers both files, where the development is read
+pub read_answered : (known history history' : Option (List ℕ)) (bytes seen : List ℕ) (spec : Specification) (text : List ℕ) (status : ℕ)
+    → IfSome known (λ file. bytes ≡ within_limit file) → seen ≡ bytes → S.Says seen spec → history' ≡ history → IfSome history' (λ file. AnswersHistory spec file text status)
+    → IfSome known (λ file. AnswersJudge file history text status)
+read_answered None history history' bytes seen spec text status read same says keeps answers = tt
+read_answered (Some file) history history' bytes seen spec text status read same says keeps answers =
+    inr (spec, said_of_whole file spec (subst (λ b. S.Says b spec) (same ∙ read) says), subst (λ h. IfSome h (λ f. AnswersHistory spec f text status)) keeps answers)
+
+-- likewise where it may not be told
+pub read_answered_if : (known history history' : Option (List ℕ)) (bytes seen : List ℕ) (spec : Specification) (result : Result Answer Failure)
+    → IfSome known (λ file. bytes ≡ within_limit file) → seen ≡ bytes → S.Says seen spec → history' ≡ history
+    → IfOk result (λ answer. IfSome history' (λ file. AnswersHistory spec file answer.text.items answer.status))
+    → IfOk result (λ answer. IfSome known (λ file. AnswersJudge file history answer.text.items answer.status))
+read_answered_if known history history' bytes seen spec (Ok answer) read same says keeps answers =
+    read_answered known history history' bytes seen spec answer.text.items answer.status read same says keeps answers
+read_answered_if known history history' bytes seen spec (Err failure) read same says keeps answers = tt
+
+-- what is told of the refusal of the development answers both files
+pub refused_answered : (known history : Option (List ℕ)) (bytes seen : List ℕ) (fault : Fault) (text : List ℕ) (status : ℕ)
+    → IfSome known (λ file. bytes ≡ within_limit file) → seen ≡ bytes → S.IsAnswerTo seen (Err fault) → ToldFault fault text status
+    → IfSome known (λ file. AnswersJudge file history text status)
+refused_answered None history bytes seen fault text status read same is told = tt
+refused_answered (Some file) history bytes seen (Refused refusal) text status read same is told =
+    inl (refusal, refusal_of_whole file refusal (subst (λ b. S.IsFirstRefusal b refusal) (same ∙ read) is), told)
+refused_answered (Some file) history bytes seen OutOfMemory text status read same is told = absurd told

@@ -1,0 +1,90 @@
+//! The command `judge`.
+ghost use Rattle.std.specs.Prelude.{◌≡◌, IfOk, IfSome};
+ghost use Rattle.lc_seq.specs.TextView.{specification_of};
+ghost use Rattle.lincheck.specs.Judge.{AnswersHistory, AnswersJudge, IsJudgement, ToldJudgement, judgement_of};
+
+use crate::answer::{Answer, Failure, REFUSED, told, told_fault};
+use crate::files::Files;
+use crate::reading::read_file;
+use lc_base::{Fault, OutOfMemory, Refusal, write_line};
+use lc_hist::{JudgeFault, history_from_json, judge};
+use lc_seq::{TextSpec, spec_of};
+use std::alloc::Global;
+
+/// What is said of an order that is not refused.
+#[derive(Clone, Copy, Debug, PartialEq, Eq)]
+pub enum Judgement {
+    /// It linearizes the history.
+    Linearizable,
+    /// A number that the specification reaches leaves 64 bits, so nothing is said.
+    Overflow,
+}
+
+/// What the judge of an order answers, as a judgement.
+fn judgement_of(judged: Result<(), JudgeFault>) -> Result<Judgement, Fault>
+    ensures { result ≡ judgement_of judged }
+{
+    match judged {
+        Ok(()) => Ok(Judgement::Linearizable),
+        Err(JudgeFault::Order { place, reason }) => {
+            Err(Fault::Refused(Refusal::Order(place, reason.code())))
+        }
+        Err(JudgeFault::Overflow) => Ok(Judgement::Overflow),
+        Err(JudgeFault::OutOfMemory) => Err(Fault::OutOfMemory),
+    }
+}
+
+/// Whether the order that a history's text says linearizes its history, by a specification; else the first refusal.
+pub fn judge_history(alloc: Global, spec: &TextSpec, bytes: &[u8]) -> Result<Judgement, Fault>
+    ensures { IsJudgement (specification_of spec.now) bytes.now result }
+{
+    let (history, order) = history_from_json(alloc, spec, bytes)?;
+    judgement_of(judge(alloc, spec, &history, &order))
+}
+
+/// The line of a judgement, or of the refusal.
+fn tell_judgement(alloc: Global, judgement: Result<Judgement, Fault>) -> Result<Answer, OutOfMemory>
+    ensures { IfOk result (λ answer. ToldJudgement judgement answer.text.items answer.status) }
+{
+    match judgement {
+        Ok(Judgement::Linearizable) => told(alloc, "linearizable", Ok(())),
+        Ok(Judgement::Overflow) => {
+            Ok(Answer {
+                text: write_line(alloc, "overflow", &[])?,
+                status: REFUSED,
+            })
+        }
+        Err(fault) => told_fault(alloc, fault),
+    }
+}
+
+/// The answer to the history at a path, by a specification.
+fn answer_history<'a, F: Files>(
+    alloc: Global,
+    files: &mut F,
+    spec: &TextSpec,
+    path: &'a str,
+) -> Result<Answer, Failure<'a>>
+    ensures { IfOk result (λ answer. IfSome (F.bytes_at files.old path.now) (λ file. AnswersHistory (specification_of spec.now) file answer.text.items answer.status)) }
+{
+    let bytes = read_file(alloc, files, path)?;
+    let judgement = judge_history(alloc, spec, &bytes);
+    Ok(tell_judgement(alloc, judgement)?)
+}
+
+/// The answer of the command `judge` to the development and the history at two paths. Where the development is
+/// refused, the history is not opened.
+pub fn answer_judge<'a, F: Files>(
+    alloc: Global,
+    files: &mut F,
+    development: &'a str,
+    history: &'a str,
+) -> Result<Answer, Failure<'a>>
+    ensures { IfOk result (λ answer. IfSome (F.bytes_at files.old development.now) (λ file. AnswersJudge file (F.bytes_at files.old history.now) answer.text.items answer.status)) }
+{
+    let bytes = read_file(alloc, files, development)?;
+    match spec_of(alloc, &bytes) {
+        Ok(spec) => answer_history(alloc, files, &spec, history),
+        Err(fault) => Ok(told_fault(alloc, fault)?),
+    }
+}
