@@ -1,5 +1,5 @@
 -- A judgement from the answers to the history's text and to its order, and from the beginning of a file.
-use Rattle.std.proofs.Common.{◌≡◌, ℕ, ◌<◌, ◌≤◌, length, take, List, Option, Some, None, IfSome, IfOk, Result, Ok, Err, refl, sym, subst, ◌∙◌, inl, inr, arith, Vec, ℤ}
+use Rattle.std.proofs.Common.{◌≡◌, ℕ, ◌≤◌, length, take, List, Option, Some, None, IfSome, IfOk, Result, Ok, Err, refl, subst, ◌∙◌, inl, inr, arith, Vec, ℤ}
 use Rattle.std.specs.declared.alloc.Global.{Global}
 use Rattle.std.proofs.lemmas.List.{take_all, length-take}
 use Rattle.lc_base.specs.declared.refusal.Fault.{Fault}

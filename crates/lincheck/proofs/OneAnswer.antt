@@ -1,6 +1,6 @@
 -- A formula file has one answer, and what is accepted is true.
-use Rattle.std.proofs.Common.{◌≡◌, ℕ, ◌⊎◌, inl, inr, List, [], codes, Result, Ok, Err, refl, sym, ap, ap₂, ◌∙◌, subst}
-use Rattle.lc_base.specs.Line.{line_of, refusal_line_of}
+use Rattle.std.proofs.Common.{◌≡◌, ℕ, ◌⊎◌, inl, inr, List, Result, Ok, Err, refl, sym, ap, ap₂, ◌∙◌, subst}
+use Rattle.lc_base.specs.Line.{refusal_line_of}
 use Rattle.lc_base.specs.declared.refusal.Fault.{Fault}
 use Rattle.lc_base.specs.declared.refusal.Fault.TheVariants.{Refused, OutOfMemory}
 use Rattle.lc_base.specs.declared.refusal.Refusal.{Refusal}
@@ -10,11 +10,10 @@ use Rattle.lc_kernel.proofs.FormulaReads.{IsFounded, founded}
 use Rattle.lc_kernel.proofs.ReadBelow.{FormulasIn, each_in}
 use Rattle.lc_kernel.proofs.Sound.{valid}
 use Rattle.lc_kernel.specs.FormulaReading.{Claim, Says, IsFirstRefusal}
-use Rattle.lc_kernel.specs.declared.reason.Flaw.{Flaw}
 use Rattle.lc_sexp.specs.Trees.{item_count_of_all}
 use Rattle.lc_term.specs.Syntax.{Formulas, none, more, formulas, parts}
 use Rattle.lincheck.specs.Answers.{Told}
-use Rattle.lincheck.specs.Formula.{IsProved, IsTrueClaim, FailsAt, IsProofRefusal, refusal_at, IsVerdict, AnswersFormula}
+use Rattle.lincheck.specs.Formula.{IsProved, IsTrueClaim, FailsAt, IsProofRefusal, refusal_at, AnswersFormula}
 
 -- what is told of one verdict
 told_once : (word : List ℕ) (verdict : Result (Unit {0}) Fault) (text text' : List ℕ) (status status' : ℕ) → Told word verdict text status → Told word verdict text' status'

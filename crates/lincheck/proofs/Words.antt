@@ -12,7 +12,7 @@ use Rattle.clap.specs.declared.parser.matches.Found.{Found}
 use Rattle.clap.proofs.WalkLemmas.{first_value-rows}
 use Rattle.lincheck.specs.declared.command_line.Request.{Request}
 use Rattle.clap.proofs.OnLiterals.{clap_on_literals}
-use Rattle.lincheck.specs.CommandLine.{AreWrong, AsksForText, HasPlainPaths, Reads, Task, CheckFormula, JudgeHistory, formula_task, judge_task, task_in_command, program_app, task_in, task_of, words_for, is_plain}
+use Rattle.lincheck.specs.CommandLine.{AreWrong, AsksForText, HasPlainPaths, Reads, Task, CheckFormula, JudgeHistory, formula_task, judge_task, task_in_command, program_app, task_in, task_of, words_for}
 
 is_other : (b : ℕ) → not (b == 45) ≡ true → (b == 45) ≡ false
 is_other b plain = by (b == 45) refl plain

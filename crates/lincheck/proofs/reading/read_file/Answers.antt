@@ -1,4 +1,4 @@
-use Rattle.std.proofs.Common.{◌≡◌, ◌+◌, ◌≤◌, length, arith}
+use Rattle.std.proofs.Common.{◌+◌, ◌≤◌, arith}
 use Rattle.lincheck.proofs.Taken.{taken}
 use Rattle.lincheck.proofs.reading.read_file.Goals as goal
 
