@@ -1,5 +1,5 @@
 -- Steps of a walk over the text of an instruction.
-use Rattle.std.proofs.Common.{◌≡◌, ℕ, ◌+◌, ◌≤◌, Bool, true, false, List, [], ◌∷◌, ◌++◌, Option, Some, None, Ok, Err, length, refl, sym, ap, ap₂, ◌∙◌, subst, arith, cond}
+use Rattle.std.proofs.Common.{◌≡◌, ℕ, ◌+◌, true, false, List, [], ◌∷◌, ◌++◌, Option, Some, None, Ok, Err, refl, sym, ap, ap₂, ◌∙◌, subst, cond}
 use Rattle.std.specs.Prelude.{is_some}
 use Rattle.std.specs.Option.{option_or}
 use Rattle.std.specs.Borrow.{Bor}
@@ -8,12 +8,12 @@ use Rattle.lc_term.specs.Bound.{names_in}
 use Rattle.lc_term.specs.Grammar.{is}
 use Rattle.lc_term.specs.declared.passes.Pass.TheVariants.{Shape, Unknown, Repeated, Auxiliary, Bound}
 use Rattle.lc_sexp.specs.declared.misfit.Misfit.{Misfit}
-use Rattle.lc_sexp.specs.Trees.{Tree, Trees, atom, list, none, ◌▸◌, item_count, item_count_of_all}
-use Rattle.lc_sexp.specs.Parts.{any_fit, atom_fit}
-use Rattle.lc_sexp.specs.Shown.{rest_of, number_of, IsPart, GivesPart, ShowsItem, IsWithin}
+use Rattle.lc_sexp.specs.Trees.{Tree, Trees, list, none, ◌▸◌, item_count}
+use Rattle.lc_sexp.specs.Parts.{any_fit}
+use Rattle.lc_sexp.specs.Shown.{rest_of, number_of, IsPart, GivesPart, ShowsItem}
 use Rattle.lc_sexp.specs.declared.cursor.Cursor.{Cursor}
 use Rattle.lc_sexp.specs.declared.cursor.Item.{Item}
-use Rattle.lc_sexp.specs.declared.cursor.Item.TheVariants.{Atom as AtomItem, List as ListItem}
+use Rattle.lc_sexp.specs.declared.cursor.Item.TheVariants.{List as ListItem}
 use Rattle.lc_term.specs.Names.{Names}
 use Rattle.lc_term.specs.Passes.{surplus, wrong_in}
 use Rattle.lc_term.specs.declared.grammar.Kind.TheVariants.{Term}

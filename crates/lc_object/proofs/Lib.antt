@@ -6,3 +6,7 @@ pub mod Placed
 pub mod Walked
 pub mod SectionWalk
 pub mod FormsWalk
+pub mod ReadRows
+pub mod FormRows
+pub mod BodyRows
+pub mod FewBodies

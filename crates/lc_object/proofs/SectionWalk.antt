@@ -1,8 +1,8 @@
 -- Steps of a walk over the sections of a development file.
-use Rattle.std.proofs.Common.{◌≡◌, ℕ, ◌+◌, ◌<◌, ◌≤◌, Bool, true, false, List, [], ◌∷◌, ◌++◌, Option, Some, None, Ok, Err, map, length, refl, sym, ap, ap₂, ◌∙◌, subst, arith, cond, append_assoc, length-append, append-nil}
+use Rattle.std.proofs.Common.{◌≡◌, ℕ, ◌+◌, ◌<◌, ◌≤◌, Bool, true, false, List, [], ◌∷◌, ◌++◌, Option, Some, Ok, Err, map, length, refl, sym, ap, ap₂, ◌∙◌, arith, cond, append_assoc, length-append, append-nil}
 use Rattle.lc_sexp.specs.Trees.{Tree, Trees, atom, list, none, ◌▸◌, item_count, item_count_of_all}
 use Rattle.lc_sexp.specs.TreeCode.{tree_count}
-use Rattle.lc_sexp.specs.Parts.{any_fit, begins_form, form_fit, Fit, fits, misshapen, beyond}
+use Rattle.lc_sexp.specs.Parts.{any_fit, begins_form, fits, misshapen}
 use Rattle.lc_sexp.specs.Shown.{rest_of, number_of, IsPart, GivesPart, ShowsItem}
 use Rattle.lc_sexp.specs.declared.misfit.Misfit.{Misfit}
 use Rattle.lc_sexp.specs.declared.cursor.Cursor.{Cursor}
@@ -10,12 +10,12 @@ use Rattle.lc_sexp.specs.declared.cursor.Item.{Item}
 use Rattle.lc_sexp.specs.declared.cursor.Item.TheVariants.{Atom as AtomItem, List as ListItem}
 use Rattle.lc_term.proofs.Walk.{taken}
 use Rattle.lc_term.specs.Items.{size_of}
-use Rattle.lc_object.specs.Sections.{Items, begins, behind_lists, behind_forms, forms_in, some_forms_in, parts_in, parts_of_fit}
-use Rattle.lc_object.specs.Seen.{items_of, size, forms_left, IsNextForm}
+use Rattle.lc_object.specs.Sections.{behind_lists, behind_forms, forms_in, parts_in, parts_of_fit}
+use Rattle.lc_object.specs.Seen.{items_of, size, IsNextForm}
 use Rattle.lc_object.specs.ObjectNames.{first_text, items_within, within_first, names_of_columns, columns_of_arrays, spans_from, span_of, Span, Body, later}
 use Rattle.lc_names.specs.Listed.{atoms_in}
-use Rattle.lc_object.specs.ObjectNames.{Call, Declared, call_of, body_of, bodies_from, labels_of_bodies, points_in, parts_in_first}
-use Rattle.std.specs.Prelude.{codes, zero, suc, ◌-◌}
+use Rattle.lc_object.specs.ObjectNames.{Call, Declared, body_of, bodies_from, labels_of_bodies, points_in, parts_in_first}
+use Rattle.std.specs.Prelude.{codes, zero, suc}
 use Rattle.std.specs.Bool.{nat_eq}
 use Rattle.std.specs.Cmp.Lexicographic.{pointwise}
 

@@ -1,6 +1,6 @@
 -- The first two items of a list.
 use Rattle.std.specs.Prelude.{◌≡◌, ℕ, ◌+◌, ◌<◌, Option, Some, None}
-use Rattle.lc_sexp.specs.Trees.{Tree, Trees, none, ◌▸◌, item_count}
+use Rattle.lc_sexp.specs.Trees.{Trees, ◌▸◌, item_count}
 use Rattle.lc_sexp.specs.TreeCode.{tree_count}
 use Rattle.lc_sexp.specs.Shown.{rest_of, number_of, ShowsItem}
 use Rattle.lc_sexp.specs.declared.cursor.Cursor.{Cursor}

@@ -15,3 +15,6 @@ pub mod Walks
 pub mod ObjectText
 pub mod Seen
 pub mod DeclaredView
+pub mod CodeReading
+pub mod ObjectReading
+pub mod ReadView

@@ -1,5 +1,5 @@
 -- What is wrong in a development file, pass by pass, as far as its object's code goes.
-use Rattle.std.specs.Prelude.{ℕ, zero, suc, ◌+◌, ◌<◌, Bool, true, false, not, ◌&&◌, ◌||◌, ◌==◌, nat_lt, nat_le, ℤ, pos, negsuc, codes, List, [], ◌∷◌, ◌++◌, take, length, slice_get, Option, Some, None, is_some, if◌then◌else◌}
+use Rattle.std.specs.Prelude.{ℕ, ◌+◌, Bool, true, false, not, ◌&&◌, ◌||◌, ◌==◌, nat_lt, nat_le, ℤ, pos, negsuc, codes, List, [], ◌∷◌, ◌++◌, take, length, slice_get, Option, Some, None, is_some, if◌then◌else◌}
 use Rattle.std.specs.List.{list_any}
 use Rattle.std.specs.Option.{option_or}
 use Rattle.lc_base.specs.declared.refusal.Refusal.{Refusal}
@@ -10,7 +10,7 @@ use Rattle.lc_sexp.specs.Parts.{Fit, fits, misshapen, beyond, integer_fit}
 use Rattle.lc_term.specs.Grammar.{is}
 use Rattle.lc_term.specs.Passes.{surplus}
 use Rattle.lc_term.specs.declared.passes.Pass.{Pass}
-use Rattle.lc_term.specs.declared.passes.Pass.TheVariants.{Shape, Unknown, Repeated, Auxiliary, Bound}
+use Rattle.lc_term.specs.declared.passes.Pass.TheVariants.{Shape, Bound}
 use Rattle.lc_names.specs.FirstRefusal.{left_over, first_refusal}
 use Rattle.lc_names.specs.Naming.{wrong_in_use, wrong_in_declaration, is_beyond_limit}
 use Rattle.lc_object.specs.CodeText.{wrong_in_instruction}

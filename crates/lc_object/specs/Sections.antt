@@ -1,6 +1,6 @@
 -- The sections of a development file, each with the number of its first item.
 use Rattle.std.specs.Prelude.{ℕ, ◌+◌, Bool, codes, List, [], ◌∷◌, if◌then◌else◌}
-use Rattle.lc_sexp.specs.Trees.{Tree, Trees, atom, list, none, ◌▸◌, item_count}
+use Rattle.lc_sexp.specs.Trees.{Tree, Trees, none, ◌▸◌, item_count}
 use Rattle.lc_sexp.specs.Parts.{Fit, fits, misshapen, beyond, form_fit, is_fitting}
 
 -- items in a row, and the number of the first of them, or of what stands behind them

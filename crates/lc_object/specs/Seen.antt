@@ -1,6 +1,6 @@
 -- What clauses see of cursors in the text of an object.
 use Rattle.std.specs.Prelude.{◌≡◌, ℕ, ◌+◌, ◌<◌, ◌≤◌, Bool, true, false, List, [], ◌∷◌, Option, Some, None}
-use Rattle.lc_sexp.specs.Trees.{Tree, Trees, item_count_of_all}
+use Rattle.lc_sexp.specs.Trees.{Trees, item_count_of_all}
 use Rattle.lc_sexp.specs.Shown.{rest_of, number_of}
 use Rattle.lc_sexp.specs.declared.cursor.Cursor.{Cursor}
 use Rattle.lc_term.specs.Passes.{surplus}

@@ -98,7 +98,7 @@ fn read_arrays<'a>(
 }
 
 /// The number of replies that stands next, if one does.
-fn reply_count(mut list: Cursor<'_>) -> Option<u64>
+pub(crate) fn reply_count(mut list: Cursor<'_>) -> Option<u64>
     ensures { result ≡ reply_count (rest_of list.entry) }
 {
     match list.integer() {

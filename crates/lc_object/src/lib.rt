@@ -2,6 +2,7 @@
 #![tactic(auto)]
 
 mod body_passes;
+mod body_reading;
 mod body_scope;
 mod code_grammar;
 mod code_pairs;
@@ -12,10 +13,14 @@ mod declared_names;
 mod edge_table;
 mod file_passes;
 mod instr;
+mod instruction_reading;
 mod object;
 mod object_passes;
+mod object_reading;
+mod part_reading;
 mod parts;
 mod place_passes;
+mod reads;
 mod section_finding;
 mod sections;
 mod testing;
@@ -26,7 +31,9 @@ pub use code_scope::{CodeScope, Row};
 pub use edge_table::{Edge, Update, edges};
 pub use file_passes::object_refusal;
 pub use instr::{ArrayId, EdgeKind, Instr, LocalId};
+pub use instruction_reading::read_instruction;
 pub use object::Object;
+pub use object_reading::read_object;
 pub use parts::{Array, Column, Operation, Parts, Point};
 pub use testing::{
     ARGUMENT_LIMIT, LOCAL_LIMIT, OPERATION_LIMIT, POINT_LIMIT, REPLY_LIMIT, WIDTH_LIMIT,

@@ -1,10 +1,6 @@
-use Rattle.std.proofs.Common.{◌≡◌, ℕ, ◌+◌, ◌<◌, List, [], ◌∷◌, None, drop, get_or, map, length, refl, sym, ap, ap₂, ◌∙◌, arith}
-use Rattle.std.specs.Option.{option_or}
+use Rattle.std.proofs.Common.{◌+◌, ◌∷◌, drop, sym, ap, ◌∙◌}
 use Rattle.lc_sexp.specs.Shown.{rest_of, number_of}
-use Rattle.lc_term.specs.Passes.{surplus}
-use Rattle.lc_names.specs.TableView.{listed}
 use Rattle.lc_object.specs.DeclaredView.{declared_seen, body_seen, bodies_seen}
-use Rattle.lc_object.specs.Seen.{sections_seen}
 use Rattle.std.proofs.lemmas.List.{drop_more}
 use Rattle.lc_object.specs.ObjectText.{wrong_in_bodies}
 use Rattle.lc_object.proofs.Walked.{some_first, none_first, is_none}

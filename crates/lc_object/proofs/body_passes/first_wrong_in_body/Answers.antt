@@ -1,11 +1,9 @@
-use Rattle.std.proofs.Common.{◌≡◌, ℕ, ◌+◌, List, [], None, refl, sym, ap, ap₂, ◌∙◌, arith}
-use Rattle.std.specs.Option.{option_or}
+use Rattle.std.proofs.Common.{sym, ap, ◌∙◌}
 use Rattle.lc_sexp.specs.Shown.{rest_of, number_of}
 use Rattle.lc_term.specs.Passes.{surplus}
-use Rattle.lc_names.specs.TableView.{listed}
-use Rattle.std.proofs.Common.{Some, true, false, Bool, cond}
+use Rattle.std.proofs.Common.{Some, cond}
 use Rattle.lc_object.specs.DeclaredView.{declared_seen, body_seen}
-use Rattle.lc_object.specs.ObjectText.{wrong_in_due_body, wrong_in_body_parts, is_out_of_order}
+use Rattle.lc_object.specs.ObjectText.{wrong_in_due_body, wrong_in_body_parts}
 use Rattle.lc_object.proofs.body_passes.first_wrong_in_body.Goals as goal
 
 pub returns-in_default : goal.returns-in_default

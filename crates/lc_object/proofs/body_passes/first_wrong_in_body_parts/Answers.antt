@@ -1,8 +1,4 @@
-use Rattle.std.proofs.Common.{◌≡◌, ℕ, ◌+◌, List, [], None, refl, sym, ap, ap₂, ◌∙◌, arith}
-use Rattle.std.specs.Option.{option_or}
-use Rattle.lc_sexp.specs.Shown.{rest_of, number_of}
-use Rattle.lc_term.specs.Passes.{surplus}
-use Rattle.lc_names.specs.TableView.{listed}
+use Rattle.std.proofs.Common.{ap₂, ◌∙◌}
 use Rattle.std.proofs.Common.{◌++◌, length}
 use Rattle.lc_names.specs.Naming.{wrong_in_use}
 use Rattle.lc_object.specs.DeclaredView.{declared_seen, body_seen}

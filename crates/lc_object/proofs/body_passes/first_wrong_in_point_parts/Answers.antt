@@ -1,8 +1,4 @@
-use Rattle.std.proofs.Common.{◌≡◌, ℕ, ◌+◌, List, [], None, refl, sym, ap, ap₂, ◌∙◌, arith}
-use Rattle.std.specs.Option.{option_or}
-use Rattle.lc_sexp.specs.Shown.{rest_of, number_of}
-use Rattle.lc_term.specs.Passes.{surplus}
-use Rattle.lc_names.specs.TableView.{listed}
+use Rattle.std.proofs.Common.{◌+◌, refl, ◌∙◌}
 use Rattle.std.specs.Prelude.{codes}
 use Rattle.lc_object.specs.DeclaredView.{declared_seen, body_seen}
 use Rattle.lc_object.specs.Walks.{wrong_then, wrong_in_each}

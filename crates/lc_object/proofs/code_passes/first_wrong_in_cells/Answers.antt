@@ -1,4 +1,4 @@
-use Rattle.std.proofs.Common.{◌≡◌, ◌∙◌, ap, sym, refl, [], subst}
+use Rattle.std.proofs.Common.{◌∙◌, ap, sym, refl, [], subst}
 use Rattle.lc_sexp.specs.Shown.{rest_of, number_of}
 use Rattle.lc_term.specs.Passes.{surplus}
 use Rattle.lc_object.specs.CodeText.{wrong_in_cells}

@@ -1,4 +1,4 @@
-use Rattle.std.proofs.Common.{◌≡◌, ◌∙◌, ap, ap₂, sym}
+use Rattle.std.proofs.Common.{◌∙◌, ap}
 use Rattle.std.specs.Option.{option_or}
 use Rattle.lc_object.proofs.CodeWalk.{assignment_walked, assignment_seen}
 use Rattle.lc_object.proofs.code_passes.wrong_in_assignment.Goals as goal

@@ -1,4 +1,4 @@
-use Rattle.std.proofs.Common.{◌≡◌, ℕ, List, ◌++◌, subst, sym}
+use Rattle.std.proofs.Common.{ℕ, List, ◌++◌, subst, sym}
 use Rattle.std.specs.Prelude.{OnOk}
 use Rattle.lc_sexp.specs.Trees.{Tree}
 use Rattle.lc_sexp.specs.Shown.{ShowsItem}

@@ -1,4 +1,4 @@
-use Rattle.std.proofs.Common.{◌≡◌, ◌∙◌, ap, sym}
+use Rattle.std.proofs.Common.{◌∙◌, ap, sym}
 use Rattle.lc_object.specs.CodeText.{wrong_in_part}
 use Rattle.lc_object.proofs.code_passes.wrong_in_part.Goals as goal
 

@@ -1,10 +1,10 @@
-use Rattle.std.proofs.Common.{◌≡◌, ◌∙◌, ◌+◌, ◌∷◌, ap, sym, drop, length, get_or}
+use Rattle.std.proofs.Common.{◌∙◌, ◌+◌, sym, drop, get_or}
 use Rattle.lc_term.specs.declared.grammar.Kind.TheVariants.{Term}
 use Rattle.lc_object.specs.declared.code_grammar.Part.TheVariants.{Plain}
 use Rattle.std.proofs.lemmas.List.{drop_more}
 use Rattle.lc_sexp.specs.Shown.{rest_of, number_of}
 use Rattle.lc_object.specs.CodeText.{wrong_in_parts}
-use Rattle.lc_object.proofs.CodeWalk.{parts_end, part_walked, parts_missed, none_or, some_first, is_none}
+use Rattle.lc_object.proofs.CodeWalk.{part_walked, parts_missed, none_or, some_first, is_none}
 use Rattle.lc_object.proofs.code_passes.wrong_in_parts.Goals as goal
 
 pub returns-in_default : goal.returns-in_default

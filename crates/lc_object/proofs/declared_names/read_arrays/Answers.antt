@@ -1,4 +1,4 @@
-use Rattle.std.proofs.Common.{◌≡◌, ◌+◌, ◌≤◌, ◌∷◌, [], length, length-append, ap, ◌∙◌, arith}
+use Rattle.std.proofs.Common.{◌∷◌, [], length, length-append, ap, ◌∙◌, arith}
 use Rattle.std.specs.Prelude.{codes}
 use Rattle.lc_sexp.specs.Shown.{rest_of}
 use Rattle.lc_names.specs.TableView.{listed}

@@ -1,12 +1,11 @@
-use Rattle.std.proofs.Common.{◌≡◌, ℕ, ◌+◌, ◌-◌, ◌<◌, ◌≤◌, ◌++◌, ◌∷◌, [], List, length, length-append, map, ap, ap₂, sym, ◌∙◌, arith}
+use Rattle.std.proofs.Common.{◌≡◌, ℕ, ◌+◌, ◌-◌, ◌++◌, ◌∷◌, [], List, length, length-append, map, ap, sym, ◌∙◌, arith}
 use Rattle.std.specs.Prelude.{codes}
 use Rattle.lc_sexp.specs.Shown.{rest_of}
 use Rattle.lc_sexp.specs.Trees.{item_count_of_all}
 use Rattle.lc_names.specs.TableView.{listed}
 use Rattle.lc_object.specs.DeclaredView.{body_seen, bodies_seen, calls_seen}
-use Rattle.lc_object.specs.ObjectNames.{Body, first_text, later, points_in, body_of, bodies_from, labels_of_bodies}
+use Rattle.lc_object.specs.ObjectNames.{Body, first_text, later, points_in, body_of, labels_of_bodies}
 use Rattle.lc_object.specs.Sections.{some_forms_in}
-use Rattle.lc_object.specs.Seen.{size}
 use Rattle.lc_object.proofs.SectionWalk.{bodies_more, bodies_ended, bodies_done, labels_last, mapped_length, own_small}
 use Rattle.std.proofs.lemmas.List.{map-append}
 use Rattle.lc_object.proofs.declared_names.read_bodies.Goals as goal

@@ -1,4 +1,4 @@
-use Rattle.std.proofs.Common.{◌≡◌, ◌+◌, ◌-◌, ◌++◌, ◌≤◌, length, map}
+use Rattle.std.proofs.Common.{◌≡◌, ◌+◌, ◌-◌, ◌++◌, ◌≤◌, length}
 use Rattle.lc_sexp.specs.Shown.{rest_of}
 use Rattle.lc_names.specs.TableView.{listed}
 use Rattle.lc_object.specs.DeclaredView.{calls_seen, bodies_seen}

@@ -1,4 +1,4 @@
-use Rattle.std.proofs.Common.{◌≡◌, ◌+◌, ◌<◌, ◌≤◌, ◌++◌, length, ap, ap₂, sym, ◌∙◌, arith}
+use Rattle.std.proofs.Common.{◌++◌, length, ap, ap₂, sym, ◌∙◌, arith}
 use Rattle.lc_sexp.specs.Shown.{rest_of}
 use Rattle.lc_names.specs.Listed.{atoms_in}
 use Rattle.lc_names.specs.TableView.{listed}

@@ -1,8 +1,5 @@
-use Rattle.std.proofs.Common.{◌≡◌, ℕ, ◌+◌, ◌<◌, ◌≤◌, ◌++◌, [], length, map, ap, ap₂, sym, ◌∙◌, arith}
-use Rattle.std.specs.Prelude.{codes}
+use Rattle.std.proofs.Common.{◌++◌, length, map, ap, ap₂, ◌∙◌, arith}
 use Rattle.lc_sexp.specs.Shown.{rest_of}
-use Rattle.lc_names.specs.TableView.{listed}
-use Rattle.lc_object.specs.DeclaredView.{bodies_seen, calls_seen}
 use Rattle.lc_object.specs.ObjectNames.{first_text, call_of, names_of_columns, columns_of_arrays, spans_from, bodies_from, bodies_due, labels_of_bodies, arrays_in, operations_in}
 use Rattle.lc_object.specs.Seen.{sections_seen}
 use Rattle.lc_object.proofs.SectionWalk.{same_declared, mapped_length}

@@ -1,5 +1,4 @@
-use Rattle.std.proofs.Common.{◌≡◌, map, get_or, refl}
-use Rattle.lc_object.specs.View.{point_of}
+use Rattle.std.proofs.Common.{map}
 use Rattle.lc_object.specs.Objects.{object_shown}
 use Rattle.lc_object.specs.Edges.{edges}
 use Rattle.lc_object.specs.EdgeView.{edge_of}

@@ -1,8 +1,7 @@
-use Rattle.std.proofs.Common.{◌≡◌, drop, map, ◌++◌}
-use Rattle.lc_term.specs.View.{term_of, formulas_of}
+use Rattle.std.proofs.Common.{◌≡◌, drop, ◌++◌}
+use Rattle.lc_term.specs.View.{term_of}
 use Rattle.lc_object.specs.View.{columns_of, terms_of}
-use Rattle.lc_object.specs.Edges.{reads, row_updates, row_facts}
-use Rattle.lc_object.specs.EdgeView.{update_of, edge_of}
+use Rattle.lc_object.specs.Edges.{reads}
 use Rattle.lc_object.proofs.edge_table.reads.Given as goal
 
 -- the reads so far, with those of the columns that are left, are all

@@ -1,8 +1,8 @@
 use Rattle.std.proofs.Common.{◌≡◌, drop, map, ◌++◌}
-use Rattle.lc_term.specs.View.{term_of, formulas_of}
+use Rattle.lc_term.specs.View.{term_of}
 use Rattle.lc_object.specs.View.{columns_of, terms_of}
-use Rattle.lc_object.specs.Edges.{reads, row_updates, row_facts}
-use Rattle.lc_object.specs.EdgeView.{update_of, edge_of}
+use Rattle.lc_object.specs.Edges.{row_updates}
+use Rattle.lc_object.specs.EdgeView.{update_of}
 use Rattle.lc_object.proofs.edge_table.row_updates.Given as goal
 
 -- the updates so far, with those that are left, are all

@@ -1,4 +1,4 @@
-use Rattle.std.proofs.Common.{◌≡◌, ℕ, List, [], refl, ap, ◌∙◌}
+use Rattle.std.proofs.Common.{refl}
 use Rattle.std.specs.Prelude.{codes}
 use Rattle.lc_object.specs.DeclaredView.{declared_seen}
 use Rattle.lc_object.specs.ObjectText.{wrong_in_column_section}

@@ -1,12 +1,10 @@
-use Rattle.std.proofs.Common.{◌≡◌, ℕ, ap, ap₂, ◌∙◌}
+use Rattle.std.proofs.Common.{ℕ, ap, ap₂, ◌∙◌}
 use Rattle.lc_sexp.specs.Shown.{rest_of, number_of}
 use Rattle.lc_sexp.specs.Trees.{Trees, row}
 use Rattle.lc_names.specs.FirstRefusal.{first_refusal}
-use Rattle.lc_object.specs.DeclaredView.{declared_seen}
 use Rattle.lc_object.specs.ObjectNames.{Declared, declared_in, declared_in_sections}
 use Rattle.lc_object.specs.ObjectText.{wrong_in_forms}
 use Rattle.lc_object.specs.Sections.{Sections, sections_at, sections_of}
-use Rattle.lc_object.specs.Seen.{sections_seen}
 use Rattle.lc_object.proofs.file_passes.object_refusal.Goals as goal
 
 pub returns : goal.returns

@@ -1,4 +1,4 @@
-use Rattle.std.proofs.Common.{◌≡◌, ℕ, List, [], refl, ap, ◌∙◌}
+use Rattle.std.proofs.Common.{ℕ, List, [], refl, ap, ◌∙◌}
 use Rattle.lc_object.specs.ObjectText.{wrong_at_place}
 use Rattle.lc_object.specs.Walks.{nothing_wrong}
 use Rattle.lc_object.proofs.Walked.{then_last}

@@ -1,7 +1,4 @@
-use Rattle.std.proofs.Common.{◌≡◌, ℕ, ◌+◌, List, [], None, refl, sym, ap, ap₂, ◌∙◌, arith}
-use Rattle.std.specs.Option.{option_or}
-use Rattle.lc_sexp.specs.Shown.{rest_of, number_of}
-use Rattle.lc_term.specs.Passes.{surplus}
+use Rattle.std.proofs.Common.{refl, ◌∙◌, arith}
 use Rattle.lc_names.specs.TableView.{listed}
 use Rattle.lc_object.specs.Walks.{wrong_then, nothing_wrong}
 use Rattle.lc_object.specs.ObjectText.{wrong_at_place, wrong_in_list_of_names, wrong_in_replies}

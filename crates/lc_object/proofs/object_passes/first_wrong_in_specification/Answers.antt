@@ -1,8 +1,5 @@
-use Rattle.std.proofs.Common.{◌≡◌, ℕ, ◌+◌, List, [], None, refl, sym, ap, ap₂, ◌∙◌, arith}
-use Rattle.std.specs.Option.{option_or}
-use Rattle.lc_sexp.specs.Shown.{rest_of, number_of}
+use Rattle.std.proofs.Common.{sym, ap, ◌∙◌}
 use Rattle.lc_term.specs.Passes.{surplus}
-use Rattle.lc_names.specs.TableView.{listed}
 use Rattle.lc_object.specs.DeclaredView.{declared_seen}
 use Rattle.lc_object.specs.ObjectText.{wrong_in_specification_parts}
 use Rattle.lc_object.proofs.object_passes.first_wrong_in_specification.Goals as goal

@@ -1,6 +1,4 @@
-use Rattle.std.proofs.Common.{◌≡◌, ℕ, ◌+◌, List, [], None, refl, sym, ap, ap₂, ◌∙◌, arith}
-use Rattle.std.specs.Option.{option_or}
-use Rattle.lc_sexp.specs.Shown.{rest_of, number_of}
+use Rattle.std.proofs.Common.{sym, ap, ◌∙◌}
 use Rattle.lc_term.specs.Passes.{surplus}
 use Rattle.lc_names.specs.TableView.{listed}
 use Rattle.lc_object.specs.Walks.{wrong_in_each}

@@ -1,5 +1,5 @@
-use Rattle.std.proofs.Common.{◌≡◌, ◌≤◌, ◌<◌, sym, ◌∙◌, arith}
-use Rattle.lc_object.proofs.SectionWalk.{passed_form, stopped_form, ended_form, smaller}
+use Rattle.std.proofs.Common.{sym, ◌∙◌, arith}
+use Rattle.lc_object.proofs.SectionWalk.{passed_form, stopped_form, smaller}
 use Rattle.lc_object.proofs.section_finding.behind_forms.Goals as goal
 
 pub returns-then-not-is_at_form-clause-items : goal.returns-then-not-is_at_form-clause-items

@@ -1,5 +1,5 @@
-use Rattle.std.proofs.Common.{◌≡◌, ℕ, ◌+◌, sym, ◌∙◌, arith}
-use Rattle.lc_sexp.specs.Shown.{rest_of, number_of, part_count}
+use Rattle.std.proofs.Common.{◌+◌, sym, ◌∙◌, arith}
+use Rattle.lc_sexp.specs.Shown.{rest_of, number_of}
 use Rattle.lc_object.proofs.Walked.{each_ended, each_walked, emptied, some_first, none_first, is_none, fewer}
 use Rattle.lc_object.specs.Walks.{wrong_in_each}
 use Rattle.lc_object.proofs.walks.first_wrong_in_each.Goals as goal

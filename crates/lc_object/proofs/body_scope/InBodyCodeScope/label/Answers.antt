@@ -1,4 +1,4 @@
-use Rattle.std.proofs.Common.{◌≡◌, ℕ, ◌+◌, ◌<◌, ◌∙◌, sym, length, arith}
+use Rattle.std.proofs.Common.{sym, arith}
 use Rattle.lc_names.specs.TableView.{listed}
 use Rattle.lc_object.proofs.Placed.{place_below}
 use Rattle.lc_object.proofs.body_scope.InBodyCodeScope.label.Goals as goal

@@ -1,9 +1,7 @@
-use Rattle.std.proofs.Common.{◌≡◌, ℕ, ◌+◌, ◌<◌, List, [], ◌∷◌, None, drop, get_or, map, length, refl, sym, ap, ap₂, ◌∙◌, arith}
+use Rattle.std.proofs.Common.{ap, ◌∙◌}
 use Rattle.std.specs.Option.{option_or}
-use Rattle.lc_sexp.specs.Shown.{rest_of, number_of}
 use Rattle.lc_term.specs.Passes.{surplus}
-use Rattle.lc_names.specs.TableView.{listed}
-use Rattle.lc_object.specs.DeclaredView.{declared_seen, body_seen, bodies_seen}
+use Rattle.lc_object.specs.DeclaredView.{declared_seen}
 use Rattle.lc_object.specs.Seen.{sections_seen}
 use Rattle.lc_object.specs.ObjectText.{wrong_in_object}
 use Rattle.lc_object.proofs.FormsWalk.{two_forms, one_form}

@@ -1,5 +1,4 @@
-use Rattle.std.proofs.Common.{◌≡◌, ℕ, ◌+◌, List, [], None, refl, sym, ap, ap₂, ◌∙◌, arith}
-use Rattle.std.specs.Option.{option_or}
+use Rattle.std.proofs.Common.{ℕ, sym, ap, ◌∙◌, arith}
 use Rattle.lc_sexp.specs.Shown.{rest_of, number_of}
 use Rattle.lc_term.specs.Passes.{surplus}
 use Rattle.lc_names.specs.TableView.{listed}

@@ -1,9 +1,8 @@
-use Rattle.std.proofs.Common.{◌≡◌, ℕ, ◌+◌, List, [], None, refl, sym, ap, ap₂, ◌∙◌, arith}
+use Rattle.std.proofs.Common.{◌+◌, refl, sym, ap, ap₂, ◌∙◌}
 use Rattle.std.specs.Option.{option_or}
-use Rattle.lc_sexp.specs.Shown.{rest_of, number_of}
 use Rattle.lc_term.specs.Passes.{surplus}
 use Rattle.lc_names.specs.TableView.{listed}
-use Rattle.lc_object.specs.Walks.{wrong_then, nothing_wrong}
+use Rattle.lc_object.specs.Walks.{nothing_wrong}
 use Rattle.lc_object.specs.ObjectText.{past, wrong_at_place, wrong_in_limited_name}
 use Rattle.lc_object.proofs.Walked.{then_last, then_ended, or_none}
 use Rattle.lc_object.proofs.object_passes.ColumnNamesExamines.first_wrong.Goals as goal

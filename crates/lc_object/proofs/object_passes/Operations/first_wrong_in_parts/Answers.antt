@@ -1,4 +1,4 @@
-use Rattle.std.proofs.Common.{◌≡◌, ℕ, List, ap, sym, ◌∙◌}
+use Rattle.std.proofs.Common.{ℕ, List, ap, ◌∙◌}
 use Rattle.lc_sexp.specs.Shown.{rest_of, number_of}
 use Rattle.lc_names.specs.TableView.{listed}
 use Rattle.lc_object.specs.ObjectText.{wrong_in_call}

@@ -1,8 +1,6 @@
-use Rattle.std.proofs.Common.{◌≡◌, ℕ, ◌+◌, List, [], None, refl, sym, ap, ap₂, ◌∙◌, arith}
+use Rattle.std.proofs.Common.{sym, ap, ap₂, ◌∙◌, arith}
 use Rattle.std.specs.Option.{option_or}
-use Rattle.lc_sexp.specs.Shown.{rest_of, number_of}
 use Rattle.lc_term.specs.Passes.{surplus}
-use Rattle.lc_names.specs.TableView.{listed}
 use Rattle.lc_object.specs.DeclaredView.{declared_seen}
 use Rattle.lc_object.specs.ObjectText.{past, wrong_in_limited_call}
 use Rattle.lc_object.proofs.object_passes.OperationsExamines.first_wrong.Goals as goal
