@@ -29,7 +29,7 @@ fit_small : (b : Bool) (ts : Trees) → item_count_of_all (parts_of_fit (cond b 
 fit_small true ts = omega arith
 fit_small false ts = omega arith
 
-parts_small : (word : List ℕ) (t : Tree) → item_count_of_all (parts_in word t) ≤ item_count t
+pub parts_small : (word : List ℕ) (t : Tree) → item_count_of_all (parts_in word t) ≤ item_count t
 parts_small word (atom w) = omega arith
 parts_small word (list none) = omega arith
 parts_small word (list (list us ▸ ts)) = omega arith

@@ -10,3 +10,14 @@ pub mod ReadRows
 pub mod FormRows
 pub mod BodyRows
 pub mod FewBodies
+pub mod CodeSound
+pub mod InstructionSound
+pub mod WalkSound
+pub mod ArraySound
+pub mod CallSound
+pub mod BodySound
+pub mod BodiesSound
+pub mod Distinct
+pub mod ObjectChecks
+pub mod ObjectSound
+pub mod ObjectFiles

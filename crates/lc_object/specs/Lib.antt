@@ -18,3 +18,4 @@ pub mod DeclaredView
 pub mod CodeReading
 pub mod ObjectReading
 pub mod ReadView
+pub mod ObjectAnswer

@@ -141,7 +141,7 @@ impl Examined for File<'_> {
 /// It looks at the names of abstract and auxiliary columns, at operations without their branches, at arrays, and at the
 /// locals, points and instructions of bodies. Actions, `invariant`, `idle`, `assert` and `on` only have to be lists that
 /// begin with their word.
-pub fn object_refusal(alloc: Global, forms: &[Sexp]) -> Result<Option<Refusal>, OutOfMemory>
+pub(crate) fn object_refusal(alloc: Global, forms: &[Sexp]) -> Result<Option<Refusal>, OutOfMemory>
     requires { item_count_of_all (row forms.now) ≤ 16777216 }
     ensures { IfOk result (λ refusal. refusal ≡ object_refusal (row forms.now)) }
 {

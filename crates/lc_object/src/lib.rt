@@ -15,6 +15,8 @@ mod file_passes;
 mod instr;
 mod instruction_reading;
 mod object;
+mod object_file;
+mod object_laws;
 mod object_passes;
 mod object_reading;
 mod part_reading;
@@ -29,11 +31,11 @@ mod walks;
 pub use code_passes::wrong_in_instruction;
 pub use code_scope::{CodeScope, Row};
 pub use edge_table::{Edge, Update, edges};
-pub use file_passes::object_refusal;
 pub use instr::{ArrayId, EdgeKind, Instr, LocalId};
 pub use instruction_reading::read_instruction;
 pub use object::Object;
-pub use object_reading::read_object;
+pub use object_file::object_of;
+pub use object_laws::sound_objects_read;
 pub use parts::{Array, Column, Operation, Parts, Point};
 pub use testing::{
     ARGUMENT_LIMIT, LOCAL_LIMIT, OPERATION_LIMIT, POINT_LIMIT, REPLY_LIMIT, WIDTH_LIMIT,

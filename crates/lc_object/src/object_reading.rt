@@ -100,7 +100,7 @@ fn read_parts(
 
 /// What the forms of a development file say of its object. `NoReading` is answered exactly where they say nothing;
 /// `object_refusal` tells where a file is to be refused.
-pub fn read_object(alloc: Global, forms: &[Sexp]) -> Result<Parts, ReadFault>
+pub(crate) fn read_object(alloc: Global, forms: &[Sexp]) -> Result<Parts, ReadFault>
     requires { item_count_of_all (row forms.now) ≤ 16777216 }
     ensures { IsReading parts_of (object_from (row forms.now)) result }
 {

@@ -13,7 +13,8 @@ use Rattle.lc_sexp.specs.Trees.{Trees, item_count_of_all}
 use Rattle.lc_term.specs.declared.passes.Pass.{Pass}
 use Rattle.lc_term.specs.declared.passes.Pass.TheVariants as P
 use Rattle.lc_names.specs.FirstRefusal.{refusal_of, refused_in, all_passes}
-use Rattle.lc_seq.proofs.SpecSound.{IsResolved, first_has, has_some}
+use Rattle.lc_names.proofs.Sound.{has_some}
+use Rattle.lc_seq.proofs.SpecSound.{IsResolved, first_has}
 use Rattle.lc_seq.specs.SpecReading.{first_from, Says, IsFirstRefusal}
 use Rattle.lc_seq.specs.SpecText.{wrong_in_first, spec_refusal}
 use Rattle.lc_seq.specs.Specification.{Specification}

@@ -7,7 +7,8 @@ use Rattle.lc_sexp.specs.Trees.{Tree, Trees, none, ◌▸◌, item_count_of_all}
 use Rattle.lc_sexp.specs.declared.cursor.Cursor.{Cursor}
 use Rattle.lc_sexp.specs.declared.cursor.Item.{Item}
 use Rattle.lc_term.specs.declared.passes.Pass.{Pass}
-use Rattle.lc_seq.proofs.SpecSound.{IsResolved, first_has, there, held}
+use Rattle.lc_names.proofs.Sound.{there, held}
+use Rattle.lc_seq.proofs.SpecSound.{IsResolved, first_has}
 use Rattle.lc_seq.specs.SpecParts.{parts_of}
 use Rattle.lc_seq.specs.SpecReading.{first_from}
 use Rattle.lc_seq.specs.SpecText.{spec_refusal, wrong_in_specification, wrong_in_first}

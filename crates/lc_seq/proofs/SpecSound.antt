@@ -4,7 +4,7 @@ use Rattle.std.proofs.lemmas.Bool.{true≢false}
 use Rattle.std.proofs.lemmas.Bool.Decides.{nat_tests}
 use Rattle.std.specs.Prelude.{option_map, codes, nat_lt, nat_le, not, ◌==◌, is_some, ℤ, pos, negsuc}
 use Rattle.std.specs.List.{list_all}
-use Rattle.std.specs.Option.{option_or, IsSome}
+use Rattle.std.specs.Option.{option_or}
 use Rattle.lc_base.specs.NameText.{is_name}
 use Rattle.lc_sexp.specs.Numerals.{integer_of}
 use Rattle.lc_sexp.specs.Parts.{fits, beyond, fits_i64, integer_within}
@@ -15,56 +15,24 @@ use Rattle.lc_term.proofs.SoundTexts.{sound_term, sound_formula}
 use Rattle.lc_term.specs.Grammar.{is}
 use Rattle.lc_term.specs.Passes.{surplus, wrong_in}
 use Rattle.lc_term.specs.Places.{known, term_passes, is_known}
-use Rattle.lc_term.specs.ReadAs.{both, three, number_from, term_from, formula_from, usable}
+use Rattle.lc_term.specs.ReadAs.{three, number_from, term_from, formula_from, usable}
 use Rattle.lc_term.specs.Syntax.{Term}
 use Rattle.lc_term.specs.Truth.{is_ground}
 use Rattle.lc_term.specs.declared.grammar.Kind.TheVariants.{Formula as FormulaKind}
 use Rattle.lc_term.specs.declared.passes.Pass.{Pass}
-use Rattle.lc_term.specs.declared.passes.Pass.TheVariants.{Shape, Unknown, Repeated, Auxiliary, Bound}
+use Rattle.lc_term.specs.declared.passes.Pass.TheVariants.{Shape, Unknown, Bound}
 use Rattle.lc_names.proofs.Places.{has_place}
-use Rattle.lc_names.specs.FirstRefusal.{left_over, refusal_of, refused_in, first_refusal}
+use Rattle.lc_names.proofs.Sound.{Has, has_of, is_there, found, has_weaker, both_has, three_has, and_true, not_not, Clean, right_both, right_atom, right_told, clean_test, none_left, named_has, clean_file}
+use Rattle.lc_names.specs.FirstRefusal.{left_over}
 use Rattle.lc_names.specs.Listed.{place_of, atoms_in}
 use Rattle.lc_names.specs.Naming.{wrong_in_declaration, wrong_in_names, declaration_is_wrong, is_beyond_limit}
 use Rattle.lc_seq.proofs.Places.{placed_below}
-use Rattle.lc_seq.proofs.ReadKnown.{TermKnown, FormulaKnown, ColumnKnown, NamesKnown, term_known, formula_known, and_true}
+use Rattle.lc_seq.proofs.ReadKnown.{TermKnown, FormulaKnown, ColumnKnown, NamesKnown, term_known, formula_known}
 use Rattle.lc_seq.specs.Rows.{Look, RowLook, wrong_in_list, wrong_in_form, wrong_in_two, wrong_in_three, wrong_in_each}
 use Rattle.lc_seq.specs.SpecNames.{Columns, items_in, behind_word, first_name, second_name, column_names, columns_in, column_at, variables_with, branch_names}
 use Rattle.lc_seq.specs.SpecReading.{each_from, list_from, name_from, the_column, column_from, the_update, number_of_use, written_from, update_from, the_branch, branch_from, the_operation, few, signature_from, operation_from, the_specification, parts_from, specification_from, first_from}
 use Rattle.lc_seq.specs.SpecText.{wrong_in_number, wrong_in_column, wrong_in_columns, wrong_in_abstract, wrong_in_term, wrong_in_written, wrong_in_update, wrong_in_updates, wrong_in_terms, wrong_in_replies, wrong_in_branch, wrong_in_arguments, natural, is_many, wrong_in_count, fitting_natural, count_in, arguments_in, replies_in, wrong_in_signature, wrong_in_operation, wrong_in_operations, wrong_in_parts, wrong_in_specification, wrong_in_first, spec_refusal}
 use Rattle.lc_seq.specs.Specification.{Branch, Specification, variables_of, update_is_resolved, branch_is_resolved, operation_is_resolved}
-
--- it is there, and this holds of it
-abbrev pub Has : {X : Type 0} → (X → Type 0) → Option X → Type 0
-Has P None = ⊥
-Has P (Some x) = P x
-
-has_of : {X : Type 0} (P : X → Type 0) (o : Option X) → IsSome o → IfSome o P → Has P o
-has_of P None h g = absurd (cc)
-has_of P (Some x) h g = g
-
-is_there : {X : Type 0} (o : Option X) → IsSome o → Has (λ x. Unit {0}) o
-is_there None h = absurd (cc)
-is_there (Some x) h = tt
-
-both_has : {X Y Z : Type 0} (P : X → Type 0) (Q : Y → Type 0) (R : Z → Type 0) (f : X → Y → Z) (o : Option X) (p : Option Y) → Has P o → Has Q p → ((x : X) (y : Y) → P x → Q y → R (f x y)) → Has R (both f o p)
-both_has P Q R f None p h g k = absurd h
-both_has P Q R f (Some x) None h g k = absurd g
-both_has P Q R f (Some x) (Some y) h g k = k x y h g
-
-three_has : {X Y Z W : Type 0} (P : X → Type 0) (Q : Y → Type 0) (R : Z → Type 0) (S : W → Type 0) (f : X → Y → Z → W) (o : Option X) (p : Option Y) (q : Option Z)
-    → Has P o → Has Q p → Has R q → ((x : X) (y : Y) (z : Z) → P x → Q y → R z → S (f x y z)) → Has S (three f o p q)
-three_has P Q R S f None p q h g i k = absurd h
-three_has P Q R S f (Some x) None q h g i k = absurd g
-three_has P Q R S f (Some x) (Some y) None h g i k = absurd i
-three_has P Q R S f (Some x) (Some y) (Some z) h g i k = k x y z h g i
-
--- no pass finds anything wrong
-abbrev Clean : (Pass → Option ℕ) → Type 0
-Clean o = (pass : Pass) → o pass ≡ None
-
-right_both : (o p : Option ℕ) → option_or o p ≡ None → (o ≡ None) × (p ≡ None)
-right_both None p h = (refl, h)
-right_both (Some n) p h = absurd (let e : Some n ≡ None = h in cc)
 
 three_right : (o p q r : Option ℕ) → option_or o (option_or p (option_or q r)) ≡ None → (o ≡ None) × (p ≡ None) × (q ≡ None) × (r ≡ None)
 three_right o p q r h =
@@ -72,19 +40,6 @@ three_right o p q r h =
     let g = right_both p (option_or q r) f.1 in
     let k = right_both q r g.1 in
     (f.0, g.0, k.0, k.1)
-
-right_atom : (b : Bool) (n : ℕ) → cond b (Some n) None ≡ None → b ≡ false
-right_atom true n h = cc
-right_atom false n h = refl
-
-right_told : (b : Bool) (n : ℕ) (o : Option ℕ) → cond b (Some n) o ≡ None → o ≡ None
-right_told true n o h = absurd (let e : Some n ≡ None = h in cc)
-right_told false n o h = h
-
--- a test that is told in the pass of shapes
-clean_test : (b : Bool) (n : ℕ) (o : Pass → Option ℕ) → Clean (λ pass. cond b (surplus pass n) (o pass)) → (b ≡ false) × Clean o
-clean_test true n o h = absurd (let e : Some n ≡ None = h Shape in cc)
-clean_test false n o h = (refl, h)
 
 record ListClean (inside : Pass → ℕ → RowLook) (n : ℕ) (t : Tree) : Type 0 where
   parts : Trees
@@ -141,22 +96,13 @@ three_clean first second third others n m (a ▸ b ▸ c ▸ ts) h =
       behind = λ pass. (all pass).3;
     }
 
-none_left : (n : ℕ) (ts : Trees) → left_over Shape n ts ≡ None → ts ≡ none
-none_left n none h = refl
-none_left n (t ▸ ts) h = absurd (let e : Some n ≡ None = h in cc)
-
 -- numbers and names
 number_has : (n : ℕ) (t : Tree) → Clean (λ pass. wrong_in_number pass n t) → Has (λ z. Unit {0}) (number_from t)
 number_has n (atom w) h = is_there (number_from (atom w)) (number_reads w (right_atom _ n (h Shape)) (right_atom _ n (h Bound)))
 number_has n (list ts) h = absurd (let e : Some n ≡ None = h Shape in cc)
 
-named_has : (b : Bool) (w : List ℕ) → not b ≡ false → (b && nat_lt 64 (length w)) ≡ false → Has (λ v. Unit {0}) (cond (b && nat_le (length w) 64) (Some w) None)
-named_has true w h g =
-    let small : nat_le (length w) 64 ≡ true = grind (arith, nat_tests) in rw small tt
-named_has false w h g = absurd (cc)
-
 name_has : (before : List (List ℕ)) (n : ℕ) (t : Tree) → Clean (λ pass. wrong_in_declaration pass before n t) → Has (λ w. Unit {0}) (name_from t)
-name_has before n (atom w) h = named_has (is_name w) w (right_atom _ n (h Shape)) (right_atom _ n (h Bound))
+name_has before n (atom w) h = has_weaker (λ v. v ≡ w) (λ v. Unit {0}) (name_from (atom w)) (λ v e. tt) (named_has (is_name w) w (right_atom _ n (h Shape)) (right_atom _ n (h Bound)))
 name_has before n (list ts) h = absurd (let e : Some n ≡ None = h Shape in cc)
 
 -- columns
@@ -197,7 +143,7 @@ arguments_have before n (list us ▸ ts) h = absurd (let e : Some n ≡ None = (
 arguments_have before n (atom w ▸ ts) h =
     let parts : (pass : Pass) → (declaration_is_wrong pass before w ≡ false) × (wrong_in_names pass (Some 3) (before ++ w ∷ []) (n + 1) ts ≡ None) =
     λ pass. argument_parts pass before n w (is_beyond_limit pass (Some 3) (length before)) (wrong_in_names pass (Some 3) (before ++ w ∷ []) (n + 1) ts) (h pass) in
-    both_has (λ v. Unit {0}) (λ ws. length ws ≡ length (atoms_in ts)) (λ ws. length ws ≡ suc (length (atoms_in ts))) (λ v ws. v ∷ ws) (name_from (atom w)) (each_from name_from ts)
+    both_has (λ v. v ≡ w) (λ ws. length ws ≡ length (atoms_in ts)) (λ ws. length ws ≡ suc (length (atoms_in ts))) (λ v ws. v ∷ ws) (name_from (atom w)) (each_from name_from ts)
     (named_has (is_name w) w (parts Shape).0 (parts Bound).0) (arguments_have (before ++ w ∷ []) (n + 1) ts (λ pass. (parts pass).1))
     (λ v ws u g. ap suc g)
 
@@ -289,10 +235,6 @@ number_below : (c : ℕ) (o : Option ℕ) → is_some o ≡ true → IfSome o (�
 number_below c None h g = absurd (cc)
 number_below c (Some k) h g = grind (arith, nat_tests)
 
-not_not : (b : Bool) → not b ≡ false → b ≡ true
-not_not true e = refl
-not_not false e = cc
-
 written_has : (columns : Columns) (variables : List (List ℕ)) (n : ℕ) (t : Tree) → Clean (λ pass. wrong_in_written pass columns n t) → Has (λ k. nat_lt k (length columns.own) ≡ true) (written_from (branch_names columns.own variables) t)
 written_has columns variables n (list ts) h = absurd (let e : Some n ≡ None = h Shape in cc)
 written_has columns variables n (atom w) h =
@@ -325,10 +267,6 @@ each_has look read p q size f n (t ▸ ts) room h =
     both_has (λ x. (p x ≡ true) × (q x ≡ true)) (λ xs. (list_all p xs ≡ true) × (list_all q xs ≡ true)) (λ xs. (list_all p xs ≡ true) × (list_all q xs ≡ true)) (λ x xs. x ∷ xs) (read t) (each_from read ts)
     (f n t (omega arith) (λ pass. (right_both _ _ (h pass)).0)) (each_has look read p q size f (n + item_count t) ts (omega arith) (λ pass. (right_both _ _ (h pass)).1))
     (λ x xs g k. (and_true (p x) (list_all p xs) g.0 k.0, and_true (q x) (list_all q xs) g.1 k.1))
-
-has_weaker : {X : Type 0} (P Q : X → Type 0) (o : Option X) → ((x : X) → P x → Q x) → Has P o → Has Q o
-has_weaker P Q None f h = h
-has_weaker P Q (Some x) f h = f x h
 
 updates_have : (columns : Columns) (arguments : List (List ℕ)) (n : ℕ) (t : Tree) → item_count t ≤ 4294967296
     → Clean (λ pass. wrong_in_updates pass columns (branch_names columns.own (variables_with arguments)) n t)
@@ -378,10 +316,6 @@ operation_made c ws vs count name bs e h =
 arguments_clean : (n : ℕ) (t : Tree) → Clean (λ pass. wrong_in_arguments pass n t) → Has (λ ws. length ws ≡ length (atoms_in (items_in t))) (list_from name_from t)
 arguments_clean n (atom w) h = absurd (let e : Some n ≡ None = h Shape in cc)
 arguments_clean n (list ts) h = arguments_have [] (n + 1) ts h
-
-found : {X : Type 0} (x : X) (o : Option X) → o ≡ Some x → Has (λ y. y ≡ x) o
-found x None e = cc
-found x (Some y) e = let same : y ≡ x = cc in same
 
 signature_has : (columns : Columns) (before : List (List ℕ)) (n m : ℕ) (ts : Trees) → item_count_of_all ts ≤ 4294967296 → Clean (λ pass. wrong_in_signature pass columns before n m ts)
     → Has (λ o. operation_is_resolved (length columns.own) o ≡ true) (signature_from columns.own ts)
@@ -479,46 +413,7 @@ specification_has others n t room h =
     let size : item_count t ≡ item_count (list (atom l.word ▸ l.parts)) = ap item_count l.is in
     subst (λ vs. Has IsResolved (parts_from (columns_in t) vs)) (sym (ap behind_word l.is)) (parts_have columns n (n + 2) l.parts (atom l.word) (ap columns_in l.is) (omega (arith, size, room)) l.clean)
 
-not_refused : (pass : Pass) (o : Option ℕ) → option_map (refusal_of pass) o ≡ None → o ≡ None
-not_refused pass None h = refl
-not_refused pass (Some n) h = cc
-
-neither : {X : Type 0} (o p : Option X) → option_or o p ≡ None → (o ≡ None) × (p ≡ None)
-neither None p h = (refl, h)
-neither (Some n) p h = absurd (let e : Some n ≡ None = h in cc)
-
-clean_file : (wrong : Pass → Option ℕ) → first_refusal wrong ≡ None → Clean wrong
-clean_file wrong h =
-    let told = λ (pass : Pass). option_map (refusal_of pass) (wrong pass) in
-    let a = neither (told Shape) (refused_in wrong (Unknown ∷ Repeated ∷ Auxiliary ∷ Bound ∷ [])) h in
-    let b = neither (told Unknown) (refused_in wrong (Repeated ∷ Auxiliary ∷ Bound ∷ [])) a.1 in
-    let c = neither (told Repeated) (refused_in wrong (Auxiliary ∷ Bound ∷ [])) b.1 in
-    let d = neither (told Auxiliary) (refused_in wrong (Bound ∷ [])) c.1 in
-    let e = neither (told Bound) (refused_in wrong []) d.1 in
-    by_pass a.0 b.0 c.0 d.0 e.0 where
-      by_pass : option_map (refusal_of Shape) (wrong Shape) ≡ None → option_map (refusal_of Unknown) (wrong Unknown) ≡ None → option_map (refusal_of Repeated) (wrong Repeated) ≡ None
-          → option_map (refusal_of Auxiliary) (wrong Auxiliary) ≡ None → option_map (refusal_of Bound) (wrong Bound) ≡ None → Clean wrong
-      by_pass a b c d e Shape = not_refused Shape (wrong Shape) a
-      by_pass a b c d e Unknown = not_refused Unknown (wrong Unknown) b
-      by_pass a b c d e Repeated = not_refused Repeated (wrong Repeated) c
-      by_pass a b c d e Auxiliary = not_refused Auxiliary (wrong Auxiliary) d
-      by_pass a b c d e Bound = not_refused Bound (wrong Bound) e
-
 -- where nothing in a file is refused, its first form says a specification in which all names are declared
 pub first_has : (ts : Trees) → item_count_of_all ts ≤ 4294967296 → spec_refusal ts ≡ None → Has IsResolved (first_from ts)
 first_has none room h = absurd (let e : Some 0 ≡ None = clean_file (wrong_in_first none) h Shape in cc)
 first_has (t ▸ ts) room h = specification_has [] 0 t (omega arith) (clean_file (wrong_in_first (t ▸ ts)) h)
-
--- what is there is not nothing
-pub there : {X : Type 0} (P : X → Type 0) (o : Option X) → Has P o → o ≡ None → ⊥
-there P None h e = h
-there P (Some x) h e = cc
-
--- what holds of it
-pub held : {X : Type 0} (P : X → Type 0) (o : Option X) (x : X) → Has P o → o ≡ Some x → P x
-held P None x h e = absurd h
-held P (Some y) x h e = let same : y ≡ x = cc in subst P same h
-
-pub has_some : {X : Type 0} (P : X → Type 0) (o : Option X) → Has P o → (x : X) × (o ≡ Some x) × P x
-has_some P None h = absurd h
-has_some P (Some x) h = (x, refl, h)

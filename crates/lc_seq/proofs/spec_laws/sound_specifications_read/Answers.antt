@@ -1,4 +1,5 @@
-use Rattle.lc_seq.proofs.SpecSound.{IsResolved, has_some, specification_has}
+use Rattle.lc_names.proofs.Sound.{has_some}
+use Rattle.lc_seq.proofs.SpecSound.{IsResolved, specification_has}
 use Rattle.lc_seq.specs.SpecReading.{specification_from}
 use Rattle.lc_seq.proofs.spec_laws.sound_specifications_read.Goals as goal
 
