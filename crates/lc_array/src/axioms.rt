@@ -16,10 +16,7 @@ fn negated(alloc: Global, formula: Formula) -> Result<Formula, OutOfMemory>
 fn pair(alloc: Global, first: Formula, second: Formula) -> Result<Vec<Formula>, OutOfMemory>
     ensures { IfOk result (λ fs. formulas_of fs.items ≡ formula_of first ∷ formula_of second ∷ []) }
 {
-    let mut pair = Vec::with_capacity(alloc, 2)?;
-    pair.push(first)?;
-    pair.push(second)?;
-    Ok(pair)
+    Ok(Vec::from_array(alloc, [first, second])?)
 }
 
 fn read(alloc: Global, column: ColExpr, index: &Term) -> Result<Term, OutOfMemory>
@@ -32,6 +29,12 @@ fn equation(alloc: Global, left: &Term, right: &Term) -> Result<Formula, OutOfMe
     ensures { IfOk result (λ f. formula_of f ≡ S.Eq (term_of left.now) (term_of right.now)) }
 {
     Ok(Formula::Eq(left.try_clone(alloc)?, right.try_clone(alloc)?))
+}
+
+fn unequal(alloc: Global, left: &Term, right: &Term) -> Result<Formula, OutOfMemory>
+    ensures { IfOk result (λ f. formula_of f ≡ S.Not (S.Eq (term_of left.now) (term_of right.now))) }
+{
+    negated(alloc, equation(alloc, left, right)?)
 }
 
 fn stored(
@@ -49,6 +52,54 @@ fn stored(
     ))
 }
 
+/// `(= (rd C i) v)`.
+fn has_value(
+    alloc: Global,
+    column: ColExpr,
+    index: &Term,
+    value: &Term,
+) -> Result<Formula, OutOfMemory>
+    ensures { IfOk result (λ f. formula_of f ≡ S.Eq (S.Read (column_of column) (term_of index.now)) (term_of value.now)) }
+{
+    let cell = read(alloc, column, index)?;
+    Ok(Formula::Eq(cell, value.try_clone(alloc)?))
+}
+
+/// `(= c (rd C i))`, where `c` is a cell.
+fn agrees(alloc: Global, cell: Term, column: &ColExpr, index: &Term) -> Result<Formula, OutOfMemory>
+    ensures { IfOk result (λ f. formula_of f ≡ S.Eq (term_of cell) (S.Read (column_of column.now) (term_of index.now))) }
+{
+    Ok(Formula::Eq(cell, read(alloc, column.try_clone(alloc)?, index)?))
+}
+
+/// `(= i j)` and `(= (rd C j) v)`.
+fn written_there(
+    alloc: Global,
+    after: ColExpr,
+    index: &Term,
+    value: &Term,
+    other: &Term,
+) -> Result<Vec<Formula>, OutOfMemory>
+    ensures { IfOk result (λ fs. formulas_of fs.items ≡ S.Eq (term_of index.now) (term_of other.now) ∷ S.Eq (S.Read (column_of after) (term_of other.now)) (term_of value.now) ∷ []) }
+{
+    let changed = has_value(alloc, after, other, value)?;
+    pair(alloc, equation(alloc, index, other)?, changed)
+}
+
+/// `(not (= i j))` and `(= (rd D j) (rd C j))`, where `D` is the column afterwards.
+fn kept_elsewhere(
+    alloc: Global,
+    after: ColExpr,
+    column: &ColExpr,
+    index: &Term,
+    other: &Term,
+) -> Result<Vec<Formula>, OutOfMemory>
+    ensures { IfOk result (λ fs. formulas_of fs.items ≡ S.Not (S.Eq (term_of index.now) (term_of other.now)) ∷ S.Eq (S.Read (column_of after) (term_of other.now)) (S.Read (column_of column.now) (term_of other.now)) ∷ []) }
+{
+    let kept = agrees(alloc, read(alloc, after, other)?, column, other)?;
+    pair(alloc, unequal(alloc, index, other)?, kept)
+}
+
 /// `(or (and (= i j) (= (rd (store C i v) j) v)) (and (not (= i j)) (= (rd (store C i v) j) (rd C j))))`, where the
 /// value `v` is stored in column `C` at the index `i`, and `j` is the other index: the cell at `j` has `v` where `i`
 /// and `j` are the same, and else what it had.
@@ -62,22 +113,8 @@ pub fn written_axiom(
     ensures { IfOk result (λ f. formula_of f ≡ written (column_of column.now) (term_of index.now) (term_of value.now) (term_of other.now)) }
 {
     let after = stored(alloc, column, index, value)?;
-    let same = pair(
-        alloc,
-        equation(alloc, index, other)?,
-        Formula::Eq(
-            read(alloc, after.try_clone(alloc)?, other)?,
-            value.try_clone(alloc)?,
-        ),
-    )?;
-    let apart = pair(
-        alloc,
-        negated(alloc, equation(alloc, index, other)?)?,
-        Formula::Eq(
-            read(alloc, after, other)?,
-            read(alloc, column.try_clone(alloc)?, other)?,
-        ),
-    )?;
+    let same = written_there(alloc, after.try_clone(alloc)?, index, value, other)?;
+    let apart = kept_elsewhere(alloc, after, column, index, other)?;
     Ok(Formula::Or(pair(alloc, Formula::And(same), Formula::And(apart))?))
 }
 
@@ -90,11 +127,13 @@ pub fn same_index_axiom(
 ) -> Result<Formula, OutOfMemory>
     ensures { IfOk result (λ f. formula_of f ≡ same_index (column_of column.now) (term_of index.now) (term_of other.now)) }
 {
-    let apart = negated(alloc, equation(alloc, index, other)?)?;
-    let same = Formula::Eq(
+    let same = agrees(
+        alloc,
         read(alloc, column.try_clone(alloc)?, index)?,
-        read(alloc, column.try_clone(alloc)?, other)?,
-    );
+        column,
+        other,
+    )?;
+    let apart = negated(alloc, equation(alloc, index, other)?)?;
     Ok(Formula::Or(pair(alloc, apart, same)?))
 }
 

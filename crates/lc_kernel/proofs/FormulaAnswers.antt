@@ -12,9 +12,10 @@ use Rattle.lc_sexp.specs.Reads.{ReadsAs, IsFirstFault}
 use Rattle.lc_sexp.specs.Trees.{Trees, item_count_of_all}
 use Rattle.lc_term.specs.declared.passes.Pass.{Pass}
 use Rattle.lc_term.specs.declared.passes.Pass.TheVariants as P
+use Rattle.lc_names.specs.FirstRefusal.{refusal_of, refused_in, all_passes}
 use Rattle.lc_kernel.proofs.FormulaReads.{file_reads}
 use Rattle.lc_kernel.specs.FormulaReading.{Claim, file_from, Says, IsFirstRefusal}
-use Rattle.lc_kernel.specs.FormulaText.{wrong_in_file, refusal_of, refused_by, refused_in, all_passes, first_refusal}
+use Rattle.lc_kernel.specs.FormulaText.{wrong_in_file, formula_refusal}
 
 not_text : (pass : Pass) (o : Option ℕ) (offset : ℕ) → option_map (refusal_of pass) o ≡ Some (Text offset) → ⊥
 not_text pass None offset e = cc
@@ -28,16 +29,16 @@ neither_text : (o p : Option Refusal) (offset : ℕ) → (o ≡ Some (Text offse
 neither_text None p offset f g e = g e
 neither_text (Some r) p offset f g e = f e
 
-no_text : (ts : Trees) (passes : List Pass) (offset : ℕ) → refused_in ts passes ≡ Some (Text offset) → ⊥
-no_text ts [] offset e = cc
-no_text ts (pass ∷ passes) offset e = neither_text (refused_by ts pass) (refused_in ts passes) offset (not_text pass (wrong_in_file pass ts) offset) (no_text ts passes offset) e
+no_text : (wrong : Pass → Option ℕ) (passes : List Pass) (offset : ℕ) → refused_in wrong passes ≡ Some (Text offset) → ⊥
+no_text wrong [] offset e = cc
+no_text wrong (pass ∷ passes) offset e = neither_text (option_map (refusal_of pass) (wrong pass)) (refused_in wrong passes) offset (not_text pass (wrong pass) offset) (no_text wrong passes offset) e
 
 -- a refusal that is no text fault is that of trees
 abbrev OfTrees : List ℕ → Refusal → Type 0
-OfTrees bytes refusal = (ts : Trees) × ReadsAs bytes ts × (first_refusal ts ≡ Some refusal)
+OfTrees bytes refusal = (ts : Trees) × ReadsAs bytes ts × (formula_refusal ts ≡ Some refusal)
 
 told : (bytes : List ℕ) (refusal : Refusal) → OfTrees bytes refusal → IsFirstRefusal bytes refusal
-told bytes (Text offset) h = absurd (no_text h.0 all_passes offset h.2)
+told bytes (Text offset) h = absurd (no_text (wrong_in_file h.0) all_passes offset h.2)
 told bytes (Shape n) h = h
 told bytes (Unknown n) h = h
 told bytes (Repeated n) h = h
@@ -73,7 +74,7 @@ some_claim : (o : Option Claim) → IsSome o → (claim : Claim) × (o ≡ Some 
 some_claim None h = absurd (cc)
 some_claim (Some claim) h = (claim, refl)
 
-by_trees : (bytes : List ℕ) (ts : Trees) → ReadsAs bytes ts → (o : Option Refusal) → first_refusal ts ≡ o → ((claim : Claim) × Says bytes claim) ⊎ ((refusal : Refusal) × IsFirstRefusal bytes refusal)
+by_trees : (bytes : List ℕ) (ts : Trees) → ReadsAs bytes ts → (o : Option Refusal) → formula_refusal ts ≡ o → ((claim : Claim) × Says bytes claim) ⊎ ((refusal : Refusal) × IsFirstRefusal bytes refusal)
 by_trees bytes ts reads (Some refusal) e = inr (refusal, told bytes refusal (ts, reads, e))
 by_trees bytes ts reads None e =
     let few : item_count_of_all ts ≤ 4294967296 = omega (arith, items_fit_lem bytes ts reads, reads.size) in
@@ -83,14 +84,14 @@ by_trees bytes ts reads None e =
 pub said_or_refused : (bytes : List ℕ) → ((claim : Claim) × Says bytes claim) ⊎ ((refusal : Refusal) × IsFirstRefusal bytes refusal)
 said_or_refused bytes = by_reading (reading_or_fault_lem bytes) where
   by_reading : ((ts : Trees) × ReadsAs bytes ts) ⊎ ((offset : ℕ) × IsFirstFault bytes offset) → ((claim : Claim) × Says bytes claim) ⊎ ((refusal : Refusal) × IsFirstRefusal bytes refusal)
-  by_reading (inl (ts, reads)) = by_trees bytes ts reads (first_refusal ts) refl
+  by_reading (inl (ts, reads)) = by_trees bytes ts reads (formula_refusal ts) refl
   by_reading (inr (offset, fault)) = inr (Text offset, fault)
 
 not_both : (bytes : List ℕ) (claim : Claim) (refusal : Refusal) → Says bytes claim → ((offset : ℕ) × (refusal ≡ Text offset) × IsFirstFault bytes offset) ⊎ OfTrees bytes refusal → ⊥
 not_both bytes claim refusal (ts, reads, clean, says) (inl (offset, e, fault)) = no_fault_lem bytes ts offset reads fault
 not_both bytes claim refusal (ts, reads, clean, says) (inr (us, other, refused)) =
     let same : us ≡ ts = one_reading_lem bytes us ts other reads in
-    let e : Some refusal ≡ None = sym refused ∙ ap first_refusal same ∙ clean in cc
+    let e : Some refusal ≡ None = sym refused ∙ ap formula_refusal same ∙ clean in cc
 
 pub said_not_refused : (bytes : List ℕ) (claim : Claim) (refusal : Refusal) → Says bytes claim → IsFirstRefusal bytes refusal → ⊥
 said_not_refused bytes claim refusal h r = not_both bytes claim refusal h (kind_of bytes refusal r)
@@ -106,7 +107,7 @@ one_of bytes r s (inl (o, e, fault)) (inr (us, reads, refused)) = absurd (no_fau
 one_of bytes r s (inr (ts, reads, refused)) (inl (o, e, fault)) = absurd (no_fault_lem bytes ts o reads fault)
 one_of bytes r s (inr (ts, reads, refused)) (inr (us, other, refused')) =
     let same : us ≡ ts = one_reading_lem bytes us ts other reads in
-    let e : Some r ≡ Some s = sym refused ∙ sym (ap first_refusal same) ∙ refused' in cc
+    let e : Some r ≡ Some s = sym refused ∙ sym (ap formula_refusal same) ∙ refused' in cc
 
 pub one_refusal : (bytes : List ℕ) (r s : Refusal) → IsFirstRefusal bytes r → IsFirstRefusal bytes s → r ≡ s
 one_refusal bytes r s h g = one_of bytes r s (kind_of bytes r h) (kind_of bytes s g)

@@ -2,7 +2,7 @@
 use Rattle.std.proofs.Common.{◌≡◌, ℕ, suc, ◌+◌, ◌≤◌, ◌<◌, Bool, true, false, ◌&&◌, cond, List, [], ◌∷◌, length, Option, Some, None, refl, ap, ◌∙◌, subst, arith, IfSome}
 use Rattle.std.proofs.lemmas.Bool.Decides.{nat_tests}
 use Rattle.std.specs.Prelude.{option_map, is_some, codes, nat_lt, nat_le, IsTrue, Result, Ok, Err, IfOk}
-use Rattle.std.specs.Option.{option_or, IsSome}
+use Rattle.std.specs.Option.{IsSome}
 use Rattle.lc_base.specs.declared.refusal.Fault.{Fault}
 use Rattle.lc_term.specs.View.{formula_of, formulas_of}
 use Rattle.lc_kernel.specs.View.{proof_of}
@@ -17,51 +17,25 @@ use Rattle.lc_term.specs.ReadAs.{formula_from, formulas_from}
 use Rattle.lc_term.specs.Sound.{AreFree, is_restricted}
 use Rattle.lc_term.specs.Syntax.{Formula, Formulas}
 use Rattle.lc_term.specs.declared.passes.Pass.{Pass}
-use Rattle.lc_term.specs.declared.passes.Pass.TheVariants.{Shape, Unknown, Repeated, Auxiliary, Bound}
-use Rattle.lc_kernel.proofs.Listing.{fewer_behind}
+use Rattle.lc_term.specs.declared.passes.Pass.TheVariants.{Shape}
+use Rattle.lc_names.proofs.Sound.{clean_file, right_both}
+use Rattle.lc_names.specs.FirstRefusal.{left_over}
+use Rattle.lc_names.specs.Listed.{atoms_in, place_of}
+use Rattle.lc_kernel.proofs.FormulaSections.{fewer_behind}
 use Rattle.lc_kernel.proofs.ReadBelow.{NamesBelow, FormulaIn, FormulasIn, formula_in, formulas_in, each_in, both_if, anything}
 use Rattle.lc_kernel.proofs.SoundProofs.{sound_part}
 use Rattle.lc_kernel.specs.Below.{formula_below, all_below}
-use Rattle.lc_kernel.specs.FormulaNames.{Declared, Sections, sections_of, declared_by, declared_in, behind_word, atoms_in, place_of, column_at, claim_names, proof_names}
+use Rattle.lc_kernel.specs.FormulaNames.{Declared, Sections, sections_of, declared_by, declared_in, behind_word, column_at, claim_names, proof_names}
 use Rattle.lc_kernel.specs.FormulaReading.{Claim, claim_of, claim_from, file_from, single, seen_claim, IsAnswerOf}
-use Rattle.lc_kernel.specs.FormulaText.{wrong_in_sections, all_sections, wrong_in_form, wrong_in_file, refusal_of, refused_by, refused_in, first_refusal}
+use Rattle.lc_kernel.specs.FormulaText.{wrong_in_sections, all_sections, wrong_in_form, wrong_in_file, formula_refusal}
 use Rattle.lc_kernel.specs.Grammar.{first_of_parts, rest_of_parts}
 use Rattle.lc_kernel.specs.ProofReading.{step_from, with_proof, is_step, proof_from, proofs_among}
-use Rattle.lc_kernel.specs.ProofText.{left_over, parts_due}
+use Rattle.lc_kernel.specs.ProofText.{parts_due}
 use Rattle.lc_kernel.specs.Proofs as S
 use Rattle.lc_kernel.specs.Proofs.{size, size_of_all}
 use Rattle.lc_kernel.specs.declared.grammar.Form.TheVariants.{Step, Hypotheses, Goal, Proof}
 use Rattle.lc_kernel.specs.declared.grammar.Part.{Part}
 use Rattle.lc_kernel.specs.declared.grammar.Part.TheVariants.{Headed}
-
--- no pass finds anything wrong
-abbrev pub IsClean : Trees → Type 0
-IsClean ts = (pass : Pass) → wrong_in_file pass ts ≡ None
-
-not_refused : (ts : Trees) (pass : Pass) → refused_by ts pass ≡ None → wrong_in_file pass ts ≡ None
-not_refused ts pass h = inner (wrong_in_file pass ts) h where
-  inner : (o : Option ℕ) → option_map (refusal_of pass) o ≡ None → o ≡ None
-  inner None h = refl
-  inner (Some n) h = cc
-
-neither : {X : Type 0} (o p : Option X) → option_or o p ≡ None → (o ≡ None) × (p ≡ None)
-neither None p h = (refl, h)
-neither (Some n) p h = absurd (let e : Some n ≡ None = h in cc)
-
-pub clean_file : (ts : Trees) → first_refusal ts ≡ None → IsClean ts
-clean_file ts h =
-    let a = neither (refused_by ts Shape) (refused_in ts (Unknown ∷ Repeated ∷ Auxiliary ∷ Bound ∷ [])) h in
-    let b = neither (refused_by ts Unknown) (refused_in ts (Repeated ∷ Auxiliary ∷ Bound ∷ [])) a.1 in
-    let c = neither (refused_by ts Repeated) (refused_in ts (Auxiliary ∷ Bound ∷ [])) b.1 in
-    let d = neither (refused_by ts Auxiliary) (refused_in ts (Bound ∷ [])) c.1 in
-    let e = neither (refused_by ts Bound) (refused_in ts []) d.1 in
-    by_pass a.0 b.0 c.0 d.0 e.0 where
-      by_pass : refused_by ts Shape ≡ None → refused_by ts Unknown ≡ None → refused_by ts Repeated ≡ None → refused_by ts Auxiliary ≡ None → refused_by ts Bound ≡ None → IsClean ts
-      by_pass a b c d e Shape = not_refused ts Shape a
-      by_pass a b c d e Unknown = not_refused ts Unknown b
-      by_pass a b c d e Repeated = not_refused ts Repeated c
-      by_pass a b c d e Auxiliary = not_refused ts Auxiliary d
-      by_pass a b c d e Bound = not_refused ts Bound e
 
 column_free : (o : Option ℕ) → is_restricted (column_at o) ≡ false
 column_free None = refl
@@ -91,11 +65,11 @@ sections_read d n v c h g p ts room clean =
     let small_h : item_count h ≤ 4294967296 = omega arith in
     let small_g : item_count g ≤ 4294967296 = omega arith in
     let small_p : item_count p ≤ 4294967296 = omega arith in
-    let first = λ (pass : Pass). (neither _ _ (neither _ _ (clean pass)).1).1 in
+    let first = λ (pass : Pass). (right_both _ _ (right_both _ _ (clean pass)).1).1 in
     claim_some (length d.variables) _ _ _
-    (sound_part (claim_names d) (claim_free d) (Headed Hypotheses) n2 h small_h (λ pass. (neither _ _ (first pass)).0))
-    (sound_part (claim_names d) (claim_free d) (Headed Goal) n3 g small_g (λ pass. (neither _ _ (neither _ _ (first pass)).1).0))
-    (sound_part (proof_names d) (proof_free d) (Headed Proof) n4 p small_p (λ pass. (neither _ _ (neither _ _ (neither _ _ (first pass)).1).1).0))
+    (sound_part (claim_names d) (claim_free d) (Headed Hypotheses) n2 h small_h (λ pass. (right_both _ _ (first pass)).0))
+    (sound_part (claim_names d) (claim_free d) (Headed Goal) n3 g small_g (λ pass. (right_both _ _ (right_both _ _ (first pass)).1).0))
+    (sound_part (proof_names d) (proof_free d) (Headed Proof) n4 p small_p (λ pass. (right_both _ _ (right_both _ _ (right_both _ _ (first pass)).1).1).0))
 
 -- a form of five sections
 too_few : (n m : ℕ) → nat_le n m ≡ true → n ≤ m
@@ -124,11 +98,11 @@ clean_form d (list (atom w ▸ ts)) us room clean =
     form_reads d 2 ts (omega arith) (too_few 5 (tree_count ts) parts.0) parts.1 (atom w) us
 
 -- where nothing is wrong in a file, it says something
-pub file_reads : (ts : Trees) → item_count_of_all ts ≤ 4294967296 → first_refusal ts ≡ None → IsSome (file_from ts)
-file_reads none room h = absurd (let e : Some 0 ≡ None = clean_file none h Shape in cc)
+pub file_reads : (ts : Trees) → item_count_of_all ts ≤ 4294967296 → formula_refusal ts ≡ None → IsSome (file_from ts)
+file_reads none room h = absurd (let e : Some 0 ≡ None = clean_file (wrong_in_file none) h Shape in cc)
 file_reads (t ▸ us) room h =
-    let clean = clean_file (t ▸ us) h in
-    clean_form (declared_in (t ▸ us)) t us (omega arith) (λ pass. (neither (wrong_in_form pass (declared_in (t ▸ us)) 0 t) (left_over pass (item_count t) us) (clean pass)).0)
+    let clean = clean_file (wrong_in_file (t ▸ us)) h in
+    clean_form (declared_in (t ▸ us)) t us (omega arith) (λ pass. (right_both (wrong_in_form pass (declared_in (t ▸ us)) 0 t) (left_over pass (item_count t) us) (clean pass)).0)
 
 -- names that are listed stand at places below their count
 placed_below : (vs : List (List ℕ)) (w : List ℕ) → IfSome (place_of vs w) (λ k. nat_lt k (length vs) ≡ true)
@@ -230,10 +204,6 @@ founded_by (Some s) items claim f e =
 -- a file's variables are in use, and there are no more of them, with its steps, than items
 pub founded : (ts : Trees) (claim : Claim) → file_from ts ≡ Some claim → IsFounded claim (item_count_of_all ts)
 founded ts claim e = founded_by (sections_of ts) (item_count_of_all ts) claim (λ s h. sections_fewer ts s h) e
-
--- where a pass finds nothing, those behind it decide
-pub passed_on : (ts : Trees) (pass : Pass) (others passes : List Pass) → passes ≡ pass ∷ others → wrong_in_file pass ts ≡ None → refused_in ts passes ≡ refused_in ts others
-passed_on ts pass others passes e h = ap (refused_in ts) e ∙ ap (λ o. option_or (option_map (refusal_of pass) o) (refused_in ts others)) h
 
 no_goal : (n : ℕ) (hs : Option Formulas) (g : Option Formula) (p : Option S.Proof) → g ≡ None → claim_of n hs g p ≡ None
 no_goal n None g p e = refl

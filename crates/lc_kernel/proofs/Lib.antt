@@ -15,7 +15,7 @@ pub mod ProofWalk
 pub mod ProofParts
 pub mod ProofBranches
 pub mod SoundProofs
-pub mod Listing
+pub mod FormulaSections
 pub mod ReadBelow
 pub mod FormulaWalk
 pub mod FormulaReads

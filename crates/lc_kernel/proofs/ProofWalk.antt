@@ -15,7 +15,8 @@ use Rattle.lc_term.specs.Passes.{surplus, wrong_in}
 use Rattle.lc_term.specs.declared.grammar.Kind.TheVariants.{Number}
 use Rattle.lc_term.specs.declared.passes.Pass.{Pass}
 use Rattle.lc_kernel.specs.Grammar.{Layout, exactly, form_layout, first_of_parts, rest_of_parts}
-use Rattle.lc_kernel.specs.ProofText.{left_over, lacks_parts, parts_due, wrong_in_multiple, wrong_in_part, wrong_among}
+use Rattle.lc_names.specs.FirstRefusal.{left_over}
+use Rattle.lc_kernel.specs.ProofText.{lacks_parts, parts_due, wrong_in_multiple, wrong_in_part, wrong_among}
 use Rattle.lc_kernel.specs.declared.grammar.Form.{Form}
 use Rattle.lc_kernel.specs.declared.grammar.Part.{Part}
 use Rattle.lc_kernel.specs.declared.grammar.Part.TheVariants.{Headed}

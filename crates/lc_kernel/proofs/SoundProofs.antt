@@ -21,7 +21,8 @@ use Rattle.lc_kernel.specs.FormulaNames.{behind_word}
 use Rattle.lc_kernel.specs.FormulaReading.{single}
 use Rattle.lc_kernel.specs.Grammar.{Layout, number, term, column, formula, step, step_layout, form_layout}
 use Rattle.lc_kernel.specs.ProofReading.{four, multiple_from, multiples_from, is_step, with_proof, step_from, proof_from, proofs_among}
-use Rattle.lc_kernel.specs.ProofText.{left_over, lacks_parts, parts_due, wrong_in_multiple, wrong_in_part, wrong_among}
+use Rattle.lc_names.specs.FirstRefusal.{left_over}
+use Rattle.lc_kernel.specs.ProofText.{lacks_parts, parts_due, wrong_in_multiple, wrong_in_part, wrong_among}
 use Rattle.lc_kernel.specs.Proofs as S
 use Rattle.lc_kernel.specs.declared.grammar.Form.{Form}
 use Rattle.lc_kernel.specs.declared.grammar.Form.TheVariants.{Step, Hypotheses, Goal, Proof}

@@ -1,12 +1,12 @@
 -- The names that a formula file declares, and how they are read in it.
-use Rattle.std.specs.Prelude.{ℕ, suc, Bool, true, false, List, [], ◌∷◌, Option, Some, None, option_map, if◌then◌else◌}
-use Rattle.lc_sexp.specs.Trees.{Tree, Trees, atom, list, none, ◌▸◌}
-use Rattle.lc_term.specs.Grammar.{is}
+use Rattle.std.specs.Prelude.{ℕ, Bool, true, false, List, [], Option, Some, None, if◌then◌else◌}
+use Rattle.lc_sexp.specs.Trees.{Tree, Trees, list, none, ◌▸◌}
 use Rattle.lc_term.specs.Names.{Names}
 use Rattle.lc_term.specs.declared.scope.ColumnUse.{ColumnUse}
 use Rattle.lc_term.specs.declared.scope.ColumnUse.TheVariants.{Usable, Undeclared}
 use Rattle.lc_term.specs.declared.scope.Extra.{Extra}
 use Rattle.lc_term.specs.declared.scope.Extra.TheVariants.{NumberedVariables}
+use Rattle.lc_names.specs.Listed.{atoms_in, place_of}
 
 -- the names of variables and of columns, as listed
 pub record Declared : Type 0 where
@@ -17,12 +17,6 @@ pub record Declared : Type 0 where
 abbrev pub behind_word : Tree → Trees
 behind_word (list (t ▸ ts)) = ts
 behind_word t = none
-
--- the atoms among items in a row
-abbrev pub atoms_in : Trees → List (List ℕ)
-atoms_in none = []
-atoms_in (atom w ▸ ts) = w ∷ atoms_in ts
-atoms_in (list us ▸ ts) = atoms_in ts
 
 -- What stands behind the words of the five sections of a formula file
 pub record Sections : Type 0 where
@@ -46,11 +40,6 @@ declared_by None = record { variables = []; columns = [] }
 -- the names that a formula file declares
 abbrev pub declared_in : Trees → Declared
 declared_in ts = declared_by (sections_of ts)
-
--- the place at which a name stands first
-abbrev pub place_of : List (List ℕ) → List ℕ → Option ℕ
-place_of [] w = None
-place_of (v ∷ vs) w = if is w v then Some 0 else option_map suc (place_of vs w)
 
 -- the column at this place
 abbrev pub column_at : Option ℕ → ColumnUse

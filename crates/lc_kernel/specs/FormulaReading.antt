@@ -10,7 +10,7 @@ use Rattle.lc_term.specs.ReadAs.{formula_from, formulas_from}
 use Rattle.lc_term.specs.Syntax.{Formula, Formulas, formulas}
 use Rattle.lc_term.specs.View.{formula_of, formulas_of}
 use Rattle.lc_kernel.specs.FormulaNames.{Declared, Sections, sections_of, declared_in, claim_names, proof_names}
-use Rattle.lc_kernel.specs.FormulaText.{first_refusal}
+use Rattle.lc_kernel.specs.FormulaText.{formula_refusal}
 use Rattle.lc_kernel.specs.ProofReading.{proof_from}
 use Rattle.lc_kernel.specs.Proofs as S
 use Rattle.lc_kernel.specs.View.{proof_of}
@@ -51,17 +51,17 @@ seen_claim answer =
 
 -- It is a formula file that says this: it reads as trees in which no pass finds anything wrong
 abbrev pub Says : List ℕ → Claim → Type 0
-Says bytes claim = (ts : Trees) × ReadsAs bytes ts × (first_refusal ts ≡ None) × (file_from ts ≡ Some claim)
+Says bytes claim = (ts : Trees) × ReadsAs bytes ts × (formula_refusal ts ≡ None) × (file_from ts ≡ Some claim)
 
 -- the refusal is the first one of the file: its first text fault, or what the first pass over its trees finds
 abbrev pub IsFirstRefusal : List ℕ → Refusal → Type 0
 IsFirstRefusal bytes (Text offset) = IsFirstFault bytes offset
-IsFirstRefusal bytes refusal = (ts : Trees) × ReadsAs bytes ts × (first_refusal ts ≡ Some refusal)
+IsFirstRefusal bytes refusal = (ts : Trees) × ReadsAs bytes ts × (formula_refusal ts ≡ Some refusal)
 
 -- what the file of these trees says, where nothing in it is refused, else its first refusal, or want of memory
 abbrev pub IsAnswerOf : Trees → Result (Goal × Proof) Fault → Type 0
-IsAnswerOf ts (Ok answer) = (first_refusal ts ≡ None) × (file_from ts ≡ Some (seen_claim answer))
-IsAnswerOf ts (Err (Refused refusal)) = first_refusal ts ≡ Some refusal
+IsAnswerOf ts (Ok answer) = (formula_refusal ts ≡ None) × (file_from ts ≡ Some (seen_claim answer))
+IsAnswerOf ts (Err (Refused refusal)) = formula_refusal ts ≡ Some refusal
 IsAnswerOf ts (Err OutOfMemory) = Unit {0}
 
 -- The answer to a formula file: what it says, where nothing in it is refused, else its first refusal, or want of memory

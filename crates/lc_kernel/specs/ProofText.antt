@@ -7,15 +7,11 @@ use Rattle.lc_term.specs.Names.{Names}
 use Rattle.lc_term.specs.Passes.{surplus, wrong_in}
 use Rattle.lc_term.specs.declared.grammar.Kind.TheVariants.{Number}
 use Rattle.lc_term.specs.declared.passes.Pass.{Pass}
+use Rattle.lc_names.specs.FirstRefusal.{left_over}
 use Rattle.lc_kernel.specs.Grammar.{Layout, exactly, form_layout}
 use Rattle.lc_kernel.specs.declared.grammar.Form.{Form}
 use Rattle.lc_kernel.specs.declared.grammar.Part.{Part}
 use Rattle.lc_kernel.specs.declared.grammar.Part.TheVariants.{Plain, Multiple, Headed}
-
--- a part too many, which is the first of these
-abbrev pub left_over : Pass → ℕ → Trees → Option ℕ
-left_over pass n none = None
-left_over pass n (t ▸ ts) = surplus pass n
 
 -- a list that may not begin so, or has fewer parts than are due
 abbrev pub lacks_parts : Option Layout → Trees → Bool

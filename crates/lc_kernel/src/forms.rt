@@ -42,10 +42,7 @@ fn negated_each(alloc: Global, formulas: &[Formula]) -> Result<Vec<Formula>, Out
 fn pair(alloc: Global, first: Formula, second: Formula) -> Result<Vec<Formula>, OutOfMemory>
     ensures { IfOk result (λ fs. formulas_of fs.items ≡ formula_of first ∷ formula_of second ∷ []) }
 {
-    let mut pair = Vec::with_capacity(alloc, 2)?;
-    pair.push(first)?;
-    pair.push(second)?;
-    Ok(pair)
+    Ok(Vec::from_array(alloc, [first, second])?)
 }
 
 /// `(<= (+ t 1) u)`.

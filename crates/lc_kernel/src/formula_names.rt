@@ -1,12 +1,14 @@
 ghost use Rattle.std.specs.Prelude.{◌≡◌, ◌<◌, ◌^◌, IfOk};
 ghost use Rattle.lc_sexp.specs.Trees.{item_count_of_all};
 ghost use Rattle.lc_sexp.specs.Shown.{rest_of};
+ghost use Rattle.lc_names.specs.Listed.{atoms_in};
+ghost use Rattle.lc_names.specs.TableView.{listed};
 ghost use Rattle.lc_kernel.specs.FormulaNames.{column_at, declared_in};
 ghost use Rattle.lc_kernel.specs.SeenNames.{declared_of};
 
-use crate::places::Places;
 use crate::sections::find_sections;
 use lc_base::{ColId, OutOfMemory};
+use lc_names::NameTable;
 use lc_sexp::Cursor;
 use lc_term::{ColumnUse, Extra, Scope};
 use std::alloc::Global;
@@ -14,8 +16,8 @@ use std::alloc::Global;
 /// The names that a formula file declares.
 #[derive(Drop)]
 pub(crate) struct Declared<'a> {
-    pub(crate) variables: Places<'a>,
-    pub(crate) columns: Places<'a>,
+    pub(crate) variables: NameTable<'a>,
+    pub(crate) columns: NameTable<'a>,
 }
 
 /// How names are read in the hypotheses and the goal.
@@ -73,12 +75,18 @@ impl Scope for InProof<'_, '_> {
     }
 }
 
+/// The atoms among items, as names.
+fn names_among<'a>(alloc: Global, items: Cursor<'a>) -> Result<NameTable<'a>, OutOfMemory>
+    ensures { IfOk result (λ names. listed names ≡ atoms_in (rest_of items.entry)) }
+{
+    NameTable::new(alloc).enter_atoms(items)
+}
+
 /// The names that the file of these forms declares, whatever else is wrong in it.
 pub(crate) fn read_declarations<'a>(
     alloc: Global,
     forms: Cursor<'a>,
 ) -> Result<Declared<'a>, OutOfMemory>
-    requires { item_count_of_all (rest_of forms) < 2 ^ 32 }
     ensures { IfOk result (λ d. declared_of d ≡ declared_in (rest_of forms.entry)) }
 {
     let nothing = Cursor::new(&[]);
@@ -87,7 +95,7 @@ pub(crate) fn read_declarations<'a>(
         Err(_) => (nothing, nothing),
     };
     Ok(Declared {
-        variables: Places::of(alloc, variables)?,
-        columns: Places::of(alloc, columns)?,
+        variables: names_among(alloc, variables)?,
+        columns: names_among(alloc, columns)?,
     })
 }

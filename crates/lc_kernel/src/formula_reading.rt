@@ -7,48 +7,41 @@ ghost use Rattle.lc_term.specs.View.{formula_of, formulas_of};
 ghost use Rattle.lc_kernel.specs.Below.{all_below, formula_below};
 ghost use Rattle.lc_kernel.specs.FormulaNames.{declared_in};
 ghost use Rattle.lc_kernel.specs.FormulaReading.{single, file_from, seen_claim, IsAnswerOf, IsAnswerTo};
-ghost use Rattle.lc_kernel.specs.FormulaText.{first_refusal};
 ghost use Rattle.lc_kernel.specs.ProofReading.{proof_from};
 ghost use Rattle.lc_kernel.specs.Proofs.{size};
 ghost use Rattle.lc_kernel.specs.SeenNames.{declared_of};
 ghost use Rattle.lc_kernel.specs.View.{proof_of};
 
 use crate::formula_names::{Declared, InClaim, InProof, read_declarations};
-use crate::formula_passes::{first_wrong_in_file, refusal_of};
+use crate::formula_passes::first_wrong_in_file;
 use crate::goal::Goal;
 use crate::proof::Proof;
 use crate::proof_reading::read_proof;
 use crate::sections::find_sections;
-use lc_base::{Fault, OutOfMemory, Refusal};
+use lc_base::{Fault, OutOfMemory};
+use lc_names::{Examined, find_refusal};
 use lc_sexp::{Cursor, Item, Misfit, read};
 use lc_term::{Formula, Pass, ReadFault, Scope, read_formula, read_formulas};
 use std::alloc::Global;
 
-/// The passes over a file, in order.
-const PASSES: [Pass; 5] = [
-    Pass::Shape,
-    Pass::Unknown,
-    Pass::Repeated,
-    Pass::Auxiliary,
-    Pass::Bound,
-];
+/// A file that is to be a formula file, and the names that it declares.
+#[derive(Drop)]
+struct FormulaFile<'a> {
+    forms: Cursor<'a>,
+    declared: Declared<'a>,
+    ghost start: { number_of forms ≡ 0 },
+    ghost names: { declared_of declared ≡ declared_in (rest_of forms) },
+}
 
-/// The first refusal of a file, by the first pass that finds something wrong in it.
-fn find_refusal(
-    alloc: Global,
-    declared: &Declared<'_>,
-    forms: Cursor<'_>,
-) -> Result<Option<Refusal>, OutOfMemory>
-    requires names { declared_of declared.now ≡ declared_in (rest_of forms) }
-    requires start { number_of forms ≡ 0 }
-    ensures { IfOk result (λ refusal. refusal ≡ first_refusal (rest_of forms.entry)) }
-{
-    for pass in &PASSES {
-        if let Some(item) = first_wrong_in_file(alloc, *pass, declared, forms)? {
-            return Ok(Some(refusal_of(*pass, item)));
-        }
+impl Examined for FormulaFile<'_> {
+    ghost use Rattle.lc_sexp.specs.Shown.{rest_of};
+    ghost use Rattle.lc_kernel.specs.FormulaText.{wrong_in_file};
+
+    ghost wrong = { λ file. wrong_in_file (rest_of file.forms) };
+
+    fn first_wrong(&self, alloc: Global, pass: Pass) -> Result<Option<u64>, OutOfMemory> {
+        first_wrong_in_file(alloc, pass, &self.declared, self.forms)
     }
-    Ok(None)
 }
 
 /// The one item that is left in a list.
@@ -105,10 +98,11 @@ fn read_forms(alloc: Global, forms: Cursor<'_>) -> Result<(Goal, Proof), Fault>
     ensures { IsAnswerOf (rest_of forms.entry) result }
 {
     let declared = read_declarations(alloc, forms)?;
-    if let Some(refusal) = find_refusal(alloc, &declared, forms)? {
+    let file = FormulaFile { forms, declared };
+    if let Some(refusal) = find_refusal(alloc, &file)? {
         return Err(Fault::Refused(refusal));
     }
-    match read_claim(alloc, &declared, forms) {
+    match read_claim(alloc, &file.declared, forms) {
         Ok(answer) => Ok(answer),
         Err(ReadFault::OutOfMemory) => Err(Fault::OutOfMemory),
         Err(ReadFault::NoReading) => unreachable!(),

@@ -13,7 +13,6 @@ mod goal;
 mod grammar;
 pub mod laws;
 mod opened;
-mod places;
 mod proof;
 mod proof_passes;
 mod proof_reading;

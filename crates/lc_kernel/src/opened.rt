@@ -30,18 +30,14 @@ pub(crate) fn one_branch(
 ) -> Result<Vec<Vec<Formula>>, OutOfMemory>
     ensures { IfOk result (λ bs. branches_of bs.items ≡ formulas_of formulas.items ∷ []) }
 {
-    let mut branches = Vec::with_capacity(alloc, 1)?;
-    branches.push(formulas)?;
-    Ok(branches)
+    Ok(Vec::from_array(alloc, [formulas])?)
 }
 
 /// One branch, with one formula.
 pub(crate) fn appending(alloc: Global, formula: Formula) -> Result<Vec<Vec<Formula>>, OutOfMemory>
     ensures { IfOk result (λ bs. branches_of bs.items ≡ (formula_of formula ∷ []) ∷ []) }
 {
-    let mut formulas = Vec::with_capacity(alloc, 1)?;
-    formulas.push(formula)?;
-    one_branch(alloc, formulas)
+    one_branch(alloc, Vec::from_array(alloc, [formula])?)
 }
 
 /// A branch for each formula.
@@ -53,9 +49,7 @@ pub(crate) fn each_branch(
 {
     let mut branches = Vec::with_capacity(alloc, formulas.len())?;
     for formula in formulas {
-        let mut branch = Vec::with_capacity(alloc, 1)?;
-        branch.push(formula)?;
-        branches.push(branch)?;
+        branches.push(Vec::from_array(alloc, [formula])?)?;
     }
     Ok(branches)
 }
@@ -68,8 +62,5 @@ pub(crate) fn two_branches(
 ) -> Result<Vec<Vec<Formula>>, OutOfMemory>
     ensures { IfOk result (λ bs. branches_of bs.items ≡ each (formula_of first ∷ formula_of second ∷ [])) }
 {
-    let mut formulas = Vec::with_capacity(alloc, 2)?;
-    formulas.push(first)?;
-    formulas.push(second)?;
-    each_branch(alloc, formulas)
+    each_branch(alloc, Vec::from_array(alloc, [first, second])?)
 }

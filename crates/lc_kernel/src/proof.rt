@@ -28,7 +28,7 @@ impl Proof {
 }
 
 /// A step of a proof. A hypothesis is given by its number.
-#[derive(Debug, Drop)]
+#[derive(Debug)]
 pub enum Step {
     /// `(split h P)`: of `(and F ..)` one branch, with each F.
     Split {
@@ -96,6 +96,51 @@ pub enum Step {
     },
     /// `(open)`: never holds.
     Open,
+}
+
+// Written out and not derived, so that a place where a step is let go has one call.
+impl Drop for Step {
+    fn drop(self) {
+        match self {
+            Step::Split { hypothesis: _ }
+            | Step::Cases { hypothesis: _ }
+            | Step::Push { hypothesis: _ }
+            | Step::Fresh { hypothesis: _ }
+            | Step::Trichotomy { hypothesis: _ } => {}
+            Step::Instantiate {
+                hypothesis: _,
+                term: _,
+            } => {}
+            Step::Cut { formula: _ } => {}
+            Step::Written {
+                column: _,
+                index: _,
+                value: _,
+                other: _,
+            } => {}
+            Step::Same {
+                column: _,
+                index: _,
+                other: _,
+            } => {}
+            Step::Affine {
+                slope: _,
+                start: _,
+                index: _,
+            } => {}
+            Step::Divide {
+                hypothesis: _,
+                divisor: _,
+                quotient: _,
+            } => {}
+            Step::Sum { multiples: _ } => {}
+            Step::Opposite {
+                hypothesis: _,
+                negation: _,
+            } => {}
+            Step::Open => {}
+        }
+    }
 }
 
 /// So many times a hypothesis.

@@ -1,38 +1,17 @@
 ghost use Rattle.std.specs.Prelude.{◌≡◌, ℕ, IfOk};
 ghost use Rattle.lc_sexp.specs.Trees.{Tree};
 ghost use Rattle.lc_sexp.specs.Shown.{rest_of, number_of, ShowsItem};
-ghost use Rattle.lc_term.specs.Passes.{surplus};
 ghost use Rattle.lc_kernel.specs.Grammar.{layout_of};
-ghost use Rattle.lc_kernel.specs.ProofText.{left_over, wrong_in_multiple, wrong_in_part, wrong_among};
+ghost use Rattle.lc_kernel.specs.ProofText.{wrong_in_multiple, wrong_in_part, wrong_among};
 ghost use Rattle.lc_kernel.specs.declared.grammar.Part.TheVariants.{Headed};
 ghost use Rattle.lc_kernel.specs.declared.grammar.Form.TheVariants.{Step};
 
 use crate::grammar::{Form, Layout, Part, form_layout};
 use lc_base::OutOfMemory;
+use lc_names::{left_over, surplus};
 use lc_sexp::{Cursor, Item};
 use lc_term::{Kind, Pass, Scope, first_wrong};
 use std::alloc::Global;
-
-/// A part too many, and a list that may not stand there, are told in the pass of shapes.
-pub(crate) fn surplus(pass: Pass, number: u64) -> Option<u64>
-    ensures { result ≡ surplus pass number }
-{
-    match pass {
-        Pass::Shape => Some(number),
-        Pass::Unknown | Pass::Repeated | Pass::Auxiliary | Pass::Bound => None,
-    }
-}
-
-/// What is left in a list is too much, which is told at the first of it.
-pub(crate) fn left_over(pass: Pass, list: &Cursor<'_>) -> Option<u64>
-    ensures { result ≡ left_over pass (number_of list.now) (rest_of list.now) }
-{
-    if list.is_empty() {
-        None
-    } else {
-        surplus(pass, list.number())
-    }
-}
 
 /// The number of the first item that is wrong in a pass, in an item where a proof is due: a step, with its proofs.
 ///

@@ -10,11 +10,21 @@ use std::alloc::Global;
 
 /// A linear form: a constant, and a coefficient for each of its atoms. The atoms are variables and reads that stand
 /// in the terms that the form was made of.
-#[derive(Debug, Drop)]
+#[derive(Debug)]
 pub struct LinForm<'a> {
     constant: i128,
     coefficients: IndexMap<&'a Term, i128>,
     ghost fits: { AllFit coefficients.entries },
+}
+
+// Written out and not derived, so that a place where a form is let go has one call.
+impl Drop for LinForm<'_> {
+    fn drop(self) {
+        let LinForm {
+            constant: _,
+            coefficients: _,
+        } = self;
+    }
 }
 
 impl<'a> LinForm<'a> {

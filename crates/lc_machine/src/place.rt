@@ -233,6 +233,5 @@ pub fn execute(object: &Object, state: &mut State, place: &mut Place) -> Result<
     ensures columns { column_count state.new ≡ column_count state.old }
 {
     let point = &object.parts().points[place.point.0 as usize];
-    let point = &object.parts().points[place.point.0 as usize];
     run(object, state, place, &point.instruction)
 }

@@ -1,3 +1,4 @@
 pub mod Places
 pub mod ReadHolds
+pub mod ReadRows
 pub mod Sound

@@ -1,7 +1,7 @@
 -- What holds of a text in which no pass finds anything wrong.
 use Rattle.std.proofs.Common.{◌≡◌, ℕ, ◌≤◌, Bool, true, false, ◌&&◌, cond, List, [], ◌∷◌, length, Option, Some, None, refl, sym, ap, ◌∙◌, subst, arith, IfSome}
 use Rattle.std.proofs.lemmas.Bool.Decides.{nat_tests}
-use Rattle.std.specs.Prelude.{option_map, nat_lt, nat_le, not, is_some}
+use Rattle.std.specs.Prelude.{option_map, nat_lt, nat_le, not, is_some, ◌||◌}
 use Rattle.std.specs.Option.{option_or, IsSome}
 use Rattle.lc_base.specs.NameText.{is_name}
 use Rattle.lc_sexp.specs.Trees.{Trees, none, ◌▸◌}
@@ -70,6 +70,11 @@ and_true false b h g = cc
 pub not_not : (b : Bool) → not b ≡ false → b ≡ true
 not_not true e = refl
 not_not false e = cc
+
+-- neither test is passed
+pub neither_holds : (a b : Bool) → (a || b) ≡ false → (a ≡ false) × (b ≡ false)
+neither_holds true b h = cc
+neither_holds false b h = (refl, h)
 
 -- no pass finds anything wrong
 abbrev pub Clean : (Pass → Option ℕ) → Type 0

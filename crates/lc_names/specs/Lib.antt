@@ -2,3 +2,4 @@ pub mod FirstRefusal
 pub mod Naming
 pub mod Listed
 pub mod TableView
+pub mod EachRead

@@ -6,7 +6,7 @@ use Rattle.lc_base.specs.NameText.{is_name}
 use Rattle.lc_sexp.specs.Trees.{Tree, Trees, atom, list, none, ◌▸◌, item_count}
 use Rattle.lc_term.specs.Grammar.{is}
 use Rattle.lc_term.specs.Passes.{surplus, is_long_name}
-use Rattle.lc_term.specs.Reserved.{is_reserved}
+use Rattle.lc_term.specs.Reserved.{is_call_column, is_reply_column, is_note_column, is_reserved}
 use Rattle.lc_term.specs.declared.passes.Pass.{Pass}
 use Rattle.lc_term.specs.declared.passes.Pass.TheVariants.{Shape, Unknown, Repeated, Auxiliary, Bound}
 
@@ -53,3 +53,7 @@ wrong_in_names pass limit before n none = None
 wrong_in_names pass limit before n (atom w ▸ ts) =
     if declaration_is_wrong pass before w || is_beyond_limit pass limit (length before) then Some n else wrong_in_names pass limit (before ++ w ∷ []) (n + 1) ts
 wrong_in_names pass limit before n (list us ▸ ts) = option_or (surplus pass n) (wrong_in_names pass limit before (n + item_count (list us)) ts)
+
+-- the columns of a client's call, its replies and its note, which each object has
+abbrev pub is_system_column : List ℕ → Bool
+is_system_column w = is_call_column w || is_reply_column w || is_note_column w

@@ -86,7 +86,6 @@ pub fn first_wrong_in_names<'a>(
     before: NameTable<'a>,
     mut list: Cursor<'a>,
 ) -> Result<Option<u64>, OutOfMemory>
-    requires { length (listed before) + item_count_of_all (rest_of list) < 2 ^ 32 }
     ensures { IfOk result (λ wrong. wrong ≡ wrong_in_names pass limit (listed before.entry) (number_of list.entry) (rest_of list.entry)) }
 {
     let mut names = before;

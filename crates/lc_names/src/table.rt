@@ -10,7 +10,10 @@ use lc_base::OutOfMemory;
 use lc_sexp::{Cursor, Item};
 use std::alloc::Global;
 
-/// Names in a row, and for each the place at which it stands first.
+/// A table takes so many names, which are more than a file may have.
+const NAME_LIMIT: usize = 4_294_967_295;
+
+/// Names in a row, and for each the place at which it stands first. There are fewer than 2^32 of them.
 #[derive(Drop)]
 pub struct NameTable<'a> {
     names: Vec<&'a str>,
@@ -37,7 +40,6 @@ fn note_place<'a>(
 impl<'a> NameTable<'a> {
     ghost use Rattle.std.specs.Prelude.{◌≡◌, ◌<◌, ◌^◌, ◌+◌, ◌++◌, ◌∷◌, [], length, IfOk};
     ghost use Rattle.std.specs.List.{list_any};
-    ghost use Rattle.lc_sexp.specs.Trees.{item_count_of_all};
     ghost use Rattle.lc_sexp.specs.Shown.{rest_of};
     ghost use Rattle.lc_term.specs.Grammar.{is};
     ghost use Rattle.lc_names.specs.Listed.{place_of, atoms_in};
@@ -53,23 +55,25 @@ impl<'a> NameTable<'a> {
         }
     }
 
-    /// The names with one more behind them.
+    /// The names with one more behind them. `OutOfMemory` is answered also where the table has as many as it takes.
     pub fn enter(self, name: &'a str) -> Result<NameTable<'a>, OutOfMemory>
-        requires { length (listed self) + 1 < 2 ^ 32 }
         ensures { IfOk result (λ names. listed names ≡ listed self.entry ++ name.now ∷ []) }
     {
         let NameTable {
             mut names,
             mut places,
         } = self;
-        note_place(&mut places, name, names.len() as u32)?;
+        let count = names.len();
+        if count >= NAME_LIMIT {
+            return Err(OutOfMemory);
+        }
+        note_place(&mut places, name, count as u32)?;
         names.push(name)?;
         Ok(NameTable { names, places })
     }
 
     /// The names with those behind them that are atoms among items.
     pub fn enter_atoms(self, atoms: Cursor<'a>) -> Result<NameTable<'a>, OutOfMemory>
-        requires { length (listed self) + item_count_of_all (rest_of atoms) < 2 ^ 32 }
         ensures { IfOk result (λ names. listed names ≡ listed self.entry ++ atoms_in (rest_of atoms.entry)) }
     {
         let mut names = self;

@@ -1,5 +1,5 @@
 -- Names, columns and arrays in whose text nothing is wrong.
-use Rattle.std.proofs.Common.{◌≡◌, ℕ, suc, ◌+◌, ◌≤◌, ◌<◌, false, cond, List, [], ◌∷◌, take, length, length-append, Option, Some, None, refl, sym, ap, subst, arith}
+use Rattle.std.proofs.Common.{◌≡◌, ℕ, suc, ◌+◌, ◌≤◌, ◌<◌, false, cond, List, [], ◌∷◌, take, length, length-append, Option, Some, None, refl, sym, ap, ◌∙◌, subst, arith}
 use Rattle.std.specs.Prelude.{ℤ, codes, slice_get, nat_lt}
 use Rattle.std.specs.Option.{option_or}
 use Rattle.lc_base.specs.NameText.{is_name}
@@ -13,8 +13,8 @@ use Rattle.lc_names.proofs.Sound.{Has, has_weaker, map_has, both_has, three_has,
 use Rattle.lc_names.specs.FirstRefusal.{left_over}
 use Rattle.lc_names.specs.Listed.{atoms_in}
 use Rattle.lc_names.specs.Naming.{wrong_in_declaration}
-use Rattle.lc_object.proofs.WalkSound.{ThenClean, then_clean, form_clean, list_clean, EachClean, each_clean, within, enough}
-use Rattle.lc_object.specs.CodeReading.{each_from}
+use Rattle.lc_object.proofs.WalkSound.{ThenClean, then_clean, form_clean, list_clean, EachClean, each_clean, within, enough, three_items}
+use Rattle.lc_names.specs.EachRead.{each_from}
 use Rattle.lc_object.specs.ObjectNames.{Span, Declared, items_within, later, spans_from}
 use Rattle.lc_object.specs.ObjectReading.{name_from, first_name_from, column_name_from, the_column, column_parts_from, column_from, joined, concretes_from, the_array, array_from, arrays_from}
 use Rattle.lc_object.specs.ObjectText.{past, fit_is_wrong, wrong_at_place, wrong_in_listed_name, wrong_in_list_of_names, wrong_in_number, wrong_in_limited_name, wrong_in_column_name, wrong_in_column_section, wrong_in_column_parts, wrong_in_limited_column, wrong_in_column, first_column, wrong_in_array}
@@ -82,16 +82,13 @@ column_section_has word names base n t h =
     let f = form_clean word 0 (λ pass. wrong_in_each (wrong_in_column_name pass names base) 0) n t h in
     column_names_have names base 0 (n + 2) (parts_in word t) (each_clean (λ pass. wrong_in_column_name pass names base) 0 (n + 2) (parts_in word t) f.clean)
 
-three_items : (ts us vs ws : Trees) (a b c : Tree) → ts ≡ a ▸ us → us ≡ b ▸ vs → vs ≡ c ▸ ws → ws ≡ none → ts ≡ a ▸ b ▸ c ▸ none
-three_items ts us vs ws a b c e f g h = cc
-
 -- (NAME a b)
 column_parts_have : (names : List (List ℕ)) (base i n : ℕ) (ts : Trees) → 3 ≤ tree_count ts → Clean (λ pass. wrong_in_column_parts pass names base i n ts) → Has (λ c. Unit {0}) (column_parts_from ts)
 column_parts_have names base i n ts many h =
     let a = then_clean (λ pass. wrong_at_place pass names (base + i)) (λ pass. wrong_then (wrong_in_number pass) (wrong_then (wrong_in_number pass) (left_over pass))) n ts (omega (arith, many)) h in
     let b = then_clean wrong_in_number (λ pass. wrong_then (wrong_in_number pass) (left_over pass)) (n + item_count a.head) a.rest (omega (arith, many, ap tree_count a.shown)) a.at_rest in
     let c = then_clean wrong_in_number left_over (n + item_count a.head + item_count b.head) b.rest (omega (arith, many, ap tree_count a.shown, ap tree_count b.shown)) b.at_rest in
-    let all : ts ≡ a.head ▸ b.head ▸ c.head ▸ none = three_items ts a.rest b.rest c.rest a.head b.head c.head a.shown b.shown c.shown (none_left _ c.rest (c.at_rest Shape)) in
+    let all : ts ≡ a.head ▸ b.head ▸ c.head ▸ none = three_items ts a.rest b.rest none a.head b.head c.head a.shown b.shown (c.shown ∙ ap (λ us. c.head ▸ us) (none_left _ c.rest (c.at_rest Shape))) in
     subst (λ us. Has (λ c. Unit {0}) (column_parts_from us)) {x = a.head ▸ b.head ▸ c.head ▸ none} (sym all)
     (three_has (λ w. a.head ≡ atom w) (λ z. Unit {0}) (λ z. Unit {0}) (λ d. Unit {0}) the_column (name_from a.head) (number_from b.head) (number_from c.head)
     (name_has (take (base + i) names) n a.head a.at_head) (number_has _ b.head b.at_head) (number_has _ c.head c.at_head) (λ w y z e u v. tt))

@@ -8,13 +8,13 @@ use Rattle.std.specs.List.{list_any}
 use Rattle.lc_sexp.specs.TreeCode.{tree_count}
 use Rattle.lc_sexp.specs.Trees.{Trees, none, ◌▸◌, item_count, item_count_of_all}
 use Rattle.lc_term.specs.Grammar.{is}
-use Rattle.lc_names.proofs.Sound.{Has, found, both_has, three_has, Clean, clean_both}
+use Rattle.lc_names.proofs.Sound.{Has, found, both_has, three_has, Clean, clean_both, neither_holds}
 use Rattle.lc_names.specs.Listed.{place_of, atoms_in}
 use Rattle.lc_object.proofs.BodySound.{ArePointsOf, BodyRead, body_read}
 use Rattle.lc_object.proofs.CallSound.{CallClean, CallsClean}
 use Rattle.lc_object.proofs.CodeSound.{same_name}
-use Rattle.lc_object.proofs.WalkSound.{AllForms, parts_of_all, some_forms}
-use Rattle.lc_object.specs.CodeReading.{each_from}
+use Rattle.lc_object.proofs.WalkSound.{AllForms, parts_of_all, some_forms, parts_counted}
+use Rattle.lc_names.specs.EachRead.{each_from}
 use Rattle.lc_object.specs.ObjectNames.{Call, Declared, Body, first_text, within_first, later, call_of, call_or, call_at, name_or, points_in, body_of, bodies_from, reply_count}
 use Rattle.lc_object.specs.ObjectReading.{name_from, joined, few, call_from, the_operation, operation_from, operations_from, body_from, points_from}
 use Rattle.lc_object.specs.ObjectText.{wrong_in_body, wrong_in_bodies}
@@ -27,19 +27,11 @@ pub at_seam : {X : Type 0} (before behind : List X) (x : X) → slice_get (befor
 at_seam [] behind x = refl
 at_seam (y ∷ before) behind x = at_seam before behind x
 
-first_false : (a b : Bool) → (a || b) ≡ false → a ≡ false
-first_false true b h = h
-first_false false b h = refl
-
-second_false : (a b : Bool) → (a || b) ≡ false → b ≡ false
-second_false true b h = cc
-second_false false b h = h
-
 placed_at_seam : (before behind : List (List ℕ)) (w : List ℕ) → list_any (is w) before ≡ false → place_of (before ++ w ∷ behind) w ≡ Some (length before)
 placed_at_seam [] behind w new = ap (λ b. cond b (Some 0) (option_map suc (place_of behind w))) (same_name w)
 placed_at_seam (v ∷ before) behind w new =
-    ap (λ b. cond b (Some 0) (option_map suc (place_of (before ++ w ∷ behind) w))) (first_false (is w v) (list_any (is w) before) new)
-    ∙ ap (option_map suc) (placed_at_seam before behind w (second_false (is w v) (list_any (is w) before) new))
+    ap (λ b. cond b (Some 0) (option_map suc (place_of (before ++ w ∷ behind) w))) (neither_holds (is w v) (list_any (is w) before) new).0
+    ∙ ap (option_map suc) (placed_at_seam before behind w (neither_holds (is w v) (list_any (is w) before) new).1)
 
 -- the operation of a body
 pub record IsOperationOf (b : Body) (o : Operation) : Type 0 where
@@ -67,10 +59,6 @@ pub record BodyPoints (d : Declared) (b : Body) (k p : ℕ) (qs own others : Lis
 abbrev pub ArePoints : Declared → ℕ → ℕ → List Body → List Point → Type 0
 ArePoints d k p [] qs = (qs ≡ []) × (p ≤ 256)
 ArePoints d k p (b ∷ bs) qs = (own : List Point) × (others : List Point) × BodyPoints d b k p qs own others × ArePoints d (k + 1) (p + length own) bs others
-
-parts_counted : (word : List ℕ) (ts : Trees) → length (parts_of_all word ts) ≡ tree_count ts
-parts_counted word none = refl
-parts_counted word (t ▸ ts) = ap suc (parts_counted word ts)
 
 points_counted : (us : Trees) → AllForms (codes "point") (later (later us)) → length (points_in us) ≡ tree_count (later (later us))
 points_counted us forms = ap length (some_forms (codes "point") (later (later us)) forms) ∙ parts_counted (codes "point") (later (later us))

@@ -10,8 +10,9 @@ use Rattle.lc_sexp.specs.declared.misfit.Misfit.{Misfit}
 use Rattle.lc_term.proofs.Heads.{item_taken, no_item}
 use Rattle.lc_term.specs.Items.{tree_of_item}
 use Rattle.lc_term.specs.ReadAs.{both}
-use Rattle.lc_object.proofs.ReadRows.{before_more, before_none, joined_on, joined_lacking}
-use Rattle.lc_object.specs.CodeReading.{behind}
+use Rattle.lc_object.proofs.ReadRows.{joined_on, joined_lacking}
+use Rattle.lc_names.proofs.ReadRows.{before_more, before_none}
+use Rattle.lc_names.specs.EachRead.{behind}
 use Rattle.lc_object.specs.ObjectNames.{Body, Declared, parts_in_first}
 use Rattle.lc_object.specs.ObjectReading.{body_from, points_from, operation_from, operations_from}
 use Rattle.lc_object.specs.Sections.{parts_in}

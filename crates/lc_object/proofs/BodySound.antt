@@ -20,10 +20,12 @@ use Rattle.lc_object.proofs.CodeSound.{IsTerm, NoColumn, IsFormula, AreFormulas,
 use Rattle.lc_object.proofs.FewBodies.{parts_small}
 use Rattle.lc_object.proofs.InstructionSound.{instruction_has}
 use Rattle.lc_object.proofs.Placed.{place_below}
-use Rattle.lc_object.proofs.WalkSound.{then_clean, form_clean, EachClean, lists_clean, AllForms, within}
-use Rattle.lc_object.specs.CodeReading.{each_from, instruction_from}
+use Rattle.lc_object.proofs.WalkSound.{then_clean, form_clean, EachClean, lists_clean, AllForms, within, two_items}
+use Rattle.lc_object.specs.CodeReading.{instruction_from}
+use Rattle.lc_names.specs.EachRead.{each_from}
 use Rattle.lc_object.specs.CodeText.{wrong_in_instruction}
-use Rattle.lc_object.specs.ObjectNames.{Declared, Body, text_in, first_text, within_first, later, column_use, variable_of, code_names, body_names, is_system_column}
+use Rattle.lc_object.specs.ObjectNames.{Declared, Body, text_in, first_text, within_first, later, column_use, variable_of, code_names, body_names}
+use Rattle.lc_names.specs.Naming.{is_system_column}
 use Rattle.lc_object.specs.ObjectReading.{name_from, the_point, point_parts_from, point_from, body_from}
 use Rattle.lc_object.specs.ObjectText.{past, wrong_at_place, wrong_in_list_of_names, wrong_in_headed, wrong_in_each_headed, wrong_in_point_parts, wrong_in_limited_point, wrong_in_point, wrong_in_points, is_out_of_order, wrong_in_body_parts, wrong_in_due_body, wrong_in_body}
 use Rattle.lc_object.specs.Sections.{parts_in}
@@ -135,9 +137,6 @@ IsPointOf d b k q = (q.operation ≡ k) × Fits (body_names d b) (first_local b)
 abbrev pub ArePointsOf : Declared → Body → ℕ → List Point → Type 0
 ArePointsOf d b k [] = Unit {0}
 ArePointsOf d b k (q ∷ qs) = IsPointOf d b k q × ArePointsOf d b k qs
-
-two_items : (ts us vs : Trees) (a b : Tree) → ts ≡ a ▸ us → us ≡ b ▸ vs → ts ≡ a ▸ b ▸ vs
-two_items ts us vs a b e f = cc
 
 point_parts_have : (d : Declared) (b : Body) (k p n : ℕ) (us : Trees) → 3 ≤ tree_count us → item_count_of_all us ≤ 4294967296 → Clean (λ pass. wrong_in_point_parts pass d b p n us)
     → Has (IsPointOf d b k) (point_parts_from (code_names d b) (body_names d b) k us)

@@ -10,12 +10,13 @@ use Rattle.lc_sexp.specs.Trees.{Tree, Trees, atom, list, none, ◌▸◌, item_c
 use Rattle.lc_term.specs.Grammar.{is}
 use Rattle.lc_term.specs.Reserved.{is_reserved}
 use Rattle.lc_term.specs.declared.passes.Pass.TheVariants.{Shape, Repeated, Bound}
-use Rattle.lc_names.proofs.Sound.{Has, both_has, Clean, clean_both, right_atom, not_not}
+use Rattle.lc_names.proofs.Sound.{Has, both_has, Clean, clean_both, right_atom, not_not, neither_holds}
 use Rattle.lc_names.specs.Listed.{atoms_in}
 use Rattle.lc_names.specs.Naming.{wrong_in_declaration}
 use Rattle.lc_object.proofs.ArraySound.{name_has, list_of_names_has}
-use Rattle.lc_object.proofs.WalkSound.{then_clean, form_clean, EachClean, AllForms, within}
-use Rattle.lc_object.specs.CodeReading.{each_from, pair_made}
+use Rattle.lc_object.proofs.WalkSound.{then_clean, form_clean, EachClean, AllForms, within, three_items}
+use Rattle.lc_object.specs.CodeReading.{pair_made}
+use Rattle.lc_names.specs.EachRead.{each_from}
 use Rattle.lc_object.specs.ObjectNames.{Declared, text_in, first_text, items_within, count_of_fit, reply_count, call_or, call_of}
 use Rattle.lc_object.specs.ObjectReading.{name_from, call_from}
 use Rattle.lc_object.specs.ObjectText.{past, wrong_at_place, wrong_in_list_of_names, are_many, replies_are_wrong, wrong_in_replies, wrong_in_call, wrong_in_limited_call, wrong_in_operation}
@@ -23,17 +24,9 @@ use Rattle.lc_object.specs.Sections.{parts_in}
 use Rattle.lc_object.specs.Walks.{nothing_wrong, wrong_then}
 
 -- a name that is declared is none of those before it
-second_false : (a b : Bool) → (a || b) ≡ false → b ≡ false
-second_false true b h = cc
-second_false false b h = h
-
-first_false : (a b : Bool) → (a || b) ≡ false → a ≡ false
-first_false true b h = h
-first_false false b h = refl
-
 declared_once : (before : List (List ℕ)) (n : ℕ) (t : Tree) → Clean (λ pass. wrong_in_declaration pass before n t) → list_any (is (text_in t)) before ≡ false
 declared_once before n (list ts) h = absurd (let e : Some n ≡ None = h Shape in cc)
-declared_once before n (atom w) h = second_false (is_reserved w) (list_any (is w) before) (right_atom _ n (h Repeated))
+declared_once before n (atom w) h = (neither_holds (is_reserved w) (list_any (is w) before) (right_atom _ n (h Repeated))).1
 
 -- how many numbers are returned
 record Replies (t : Tree) (ts : Trees) : Type 0 where
@@ -64,8 +57,8 @@ replies_clean n (list us) ts h = absurd (let e : Some n ≡ None = h Shape in cc
 replies_clean n (atom []) ts h = absurd (let e : Some n ≡ None = h Shape in cc)
 replies_clean n (atom (b ∷ w)) ts h =
     let shape = right_atom (replies_are_wrong Shape (b ∷ w)) n (h Shape) in
-    let number = not_not _ (first_false (not (is_some (integer_of (b ∷ w)))) (b == 45) shape) in
-    let c = of_integer (b == 45) (negative_of (natural_of w)) (natural_of (b ∷ w)) (second_false (not (is_some (integer_of (b ∷ w)))) (b == 45) shape) number (right_atom _ n (h Bound)) in
+    let number = neither_holds (not (is_some (integer_of (b ∷ w)))) (b == 45) shape in
+    let c = of_integer (b == 45) (negative_of (natural_of w)) (natural_of (b ∷ w)) number.1 (not_not _ number.0) (right_atom _ n (h Bound)) in
     record { count = c.0; counted = c.1; at_most = c.2 }
 
 -- The i-th of operations with these names
@@ -75,9 +68,6 @@ pub record CallClean (names : List (List ℕ)) (i : ℕ) (us : Trees) : Type 0 w
   pub counted : (call_of us).replies ≡ Some replies
   pub at_most : replies ≤ 3
   pub new : list_any (is (first_text us)) (take i names) ≡ false
-
-three_items : (ts us vs ws : Trees) (a b c : Tree) → ts ≡ a ▸ us → us ≡ b ▸ vs → vs ≡ c ▸ ws → ts ≡ a ▸ b ▸ c ▸ ws
-three_items ts us vs ws a b c e f g = cc
 
 call_clean : (names arguments : List (List ℕ)) (i n : ℕ) (us : Trees) → 3 ≤ tree_count us → Clean (λ pass. wrong_in_call pass names arguments i n us) → CallClean names i us
 call_clean names arguments i n us many h =

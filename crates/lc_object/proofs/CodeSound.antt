@@ -16,9 +16,10 @@ use Rattle.lc_term.specs.Syntax.{Term, Column, Formula, Formulas}
 use Rattle.lc_term.specs.declared.grammar.Kind.TheVariants.{Term as TermKind, Formula as FormulaKind}
 use Rattle.lc_term.specs.declared.passes.Pass.TheVariants.{Shape, Unknown, Repeated}
 use Rattle.lc_names.proofs.ReadHolds.{Holds, term_holds, formula_holds}
-use Rattle.lc_names.proofs.Sound.{Has, has_of, found, has_weaker, both_has, and_true, not_not, Clean, clean_both, right_atom, clean_test}
+use Rattle.lc_names.proofs.Sound.{Has, has_of, found, has_weaker, both_has, and_true, not_not, neither_holds, Clean, clean_both, right_atom, clean_test}
 use Rattle.lc_object.specs.CodeNames.{CodeNames}
-use Rattle.lc_object.specs.CodeReading.{each_from, label_from, pair_made, labels_from}
+use Rattle.lc_object.specs.CodeReading.{label_from, pair_made, labels_from}
+use Rattle.lc_names.specs.EachRead.{each_from}
 use Rattle.lc_object.specs.CodeText.{wrong_in_name, wrong_in_cell, target_in, are_few, wrong_in_cells, wrong_in_row}
 use Rattle.lc_object.specs.Syntax.{Instr, Load, Store, Cas, Set, If, Return}
 use Rattle.lc_object.specs.WellFormed.{is_code_term, are_code_terms, is_code_formula, are_code_formulas, are_distinct}
@@ -191,10 +192,6 @@ pub same_name : (w : List ℕ) → is w w ≡ true
 same_name [] = refl
 same_name (b ∷ w) = and_true (b == b) (is w w) (grind (arith, nat_tests)) (same_name w)
 
-or_false : (a b : Bool) → (a || b) ≡ false → a ≡ false
-or_false true b h = h
-or_false false b h = refl
-
 or_second : (a b : Bool) → b ≡ true → (a || b) ≡ true
 or_second true b h = refl
 or_second false b h = h
@@ -204,7 +201,7 @@ listed_last before w =
     list_any-append (is w) before (w ∷ []) ∙ or_second (list_any (is w) before) (list_any (is w) (w ∷ [])) (ap (λ b. b || false) (same_name w))
 
 not_before : (before : List (List ℕ)) (v w : List ℕ) → list_any (is v) (before ++ w ∷ []) ≡ false → list_any (is v) before ≡ false
-not_before before v w h = or_false (list_any (is v) before) (list_any (is v) (w ∷ [])) (sym (list_any-append (is v) before (w ∷ [])) ∙ h)
+not_before before v w h = (neither_holds (list_any (is v) before) (list_any (is v) (w ∷ [])) (sym (list_any-append (is v) before (w ∷ [])) ∙ h)).0
 
 is_same : (m r : ℕ) → (m == r) ≡ true → m ≡ r
 is_same m r h = grind (arith, nat_tests)

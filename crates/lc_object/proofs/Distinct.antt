@@ -4,7 +4,7 @@ use Rattle.std.proofs.lemmas.Bool.{and_parts}
 use Rattle.std.proofs.lemmas.Bool.Decides.{nat_tests}
 use Rattle.std.specs.Prelude.{not, ◌==◌}
 use Rattle.std.specs.List.{list_all, list_any}
-use Rattle.lc_names.proofs.Sound.{and_true}
+use Rattle.lc_names.proofs.Sound.{and_true, neither_holds}
 use Rattle.lc_object.proofs.CodeSound.{is_between}
 use Rattle.lc_object.specs.WellFormed.{are_distinct, numbers_from}
 
@@ -30,13 +30,9 @@ all_without p x (r ∷ rs) h = by_test (r == x) (and_parts (p r) (list_all p rs)
   by_test true h f = h.1
   by_test false h f = and_true (p r) (list_all p (without x rs)) h.0 (f h.1)
 
-neither : (a b : Bool) → (a || b) ≡ false → (a ≡ false) × (b ≡ false)
-neither true b h = cc
-neither false b h = (refl, h)
-
 any_without : (p : ℕ → Bool) (x : ℕ) (rs : List ℕ) → list_any p rs ≡ false → list_any p (without x rs) ≡ false
 any_without p x [] h = refl
-any_without p x (r ∷ rs) h = by_test (r == x) (neither (p r) (list_any p rs) h) (λ g. any_without p x rs g) where
+any_without p x (r ∷ rs) h = by_test (r == x) (neither_holds (p r) (list_any p rs) h) (λ g. any_without p x rs g) where
   by_test : (b : Bool) → (p r ≡ false) × (list_any p rs ≡ false) → (list_any p rs ≡ false → list_any p (without x rs) ≡ false) → list_any p (cond b rs (r ∷ without x rs)) ≡ false
   by_test true h f = h.1
   by_test false h f = ap (λ b. b || list_any p (without x rs)) h.0 ∙ f h.1
@@ -76,7 +72,7 @@ narrower : (low n : ℕ) (rs : List ℕ) → list_all (is_between low (low + suc
 narrower low n [] h g = refl
 narrower low n (r ∷ rs) h g =
     let a = and_parts (is_between low (low + suc n) r) (list_all (is_between low (low + suc n)) rs) h in
-    let b = neither (r == low + n) (stands_in (low + n) rs) g in
+    let b = neither_holds (r == low + n) (stands_in (low + n) rs) g in
     and_true (is_between low (low + n) r) (list_all (is_between low (low + n)) rs) (closer low n r a.0 b.0) (narrower low n rs a.1 b.1)
 
 -- there are no more distinct numbers than places for them

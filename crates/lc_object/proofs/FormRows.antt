@@ -3,8 +3,9 @@ use Rattle.std.proofs.Common.{◌≡◌, ℕ, suc, ◌+◌, List, [], ◌∷◌,
 use Rattle.lc_sexp.specs.TreeCode.{tree_count}
 use Rattle.lc_sexp.specs.Trees.{Trees}
 use Rattle.lc_term.specs.ReadAs.{both}
-use Rattle.lc_object.proofs.ReadRows.{before_more, before_none, joined_on, joined_lacking}
-use Rattle.lc_object.specs.CodeReading.{behind, each_from}
+use Rattle.lc_object.proofs.ReadRows.{joined_on, joined_lacking}
+use Rattle.lc_names.proofs.ReadRows.{before_more, before_none}
+use Rattle.lc_names.specs.EachRead.{behind, each_from}
 use Rattle.lc_object.specs.ObjectNames.{later}
 use Rattle.lc_object.specs.ObjectReading.{column_from, concretes_from, array_from, arrays_from}
 use Rattle.lc_object.specs.Syntax.{Column, Array}

@@ -18,7 +18,8 @@ use Rattle.lc_names.specs.FirstRefusal.{left_over}
 use Rattle.lc_object.proofs.CodeSound.{IsTerm, IsFormula, Scope, IsRow, IsLabel, Counted, Fits, ValuesOf, NewTargets, TargetClean, term_has, formula_has, some_of, name_clean, label_has, labels_has, cells_clean, row_clean, values_have, targets_have}
 use Rattle.lc_object.specs.CodeGrammar.{instruction_parts}
 use Rattle.lc_object.specs.CodeNames.{CodeNames}
-use Rattle.lc_object.specs.CodeReading.{each_from, list_from, array_from, target_from, label_from, pair_made, place_from, rows_from, labels_from, assigned_from, value_from, the_load, load_from, the_store, store_from, the_cas, cas_from, set_from, the_if, if_from, return_from, code_from, instruction_from}
+use Rattle.lc_object.specs.CodeReading.{array_from, target_from, label_from, pair_made, place_from, rows_from, labels_from, assigned_from, value_from, the_load, load_from, the_store, store_from, the_cas, cas_from, set_from, the_if, if_from, return_from, code_from, instruction_from}
+use Rattle.lc_names.specs.EachRead.{each_from, list_from}
 use Rattle.lc_object.specs.CodeText.{is_target, wrong_in_cells, are_few, wrong_in_name, wrong_in_cell, wrong_in_part, wrong_in_parts, row_width, wrong_behind, wrong_in_return, wrong_in_code, wrong_in_instruction}
 use Rattle.lc_object.specs.Syntax.{Instr, Set, Return}
 use Rattle.lc_object.specs.declared.code_grammar.Cell.TheVariants.{Target, Value, Assignment}

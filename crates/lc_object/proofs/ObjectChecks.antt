@@ -31,7 +31,7 @@ and_seven a b c d e f g p q r s t u v = cc
 is_equal : (m n : ℕ) → m ≡ n → (m == n) ≡ true
 is_equal m n e = grind (arith, nat_tests)
 
-is_at_most : (m n : ℕ) → m ≤ n → nat_le m n ≡ true
+pub is_at_most : (m n : ℕ) → m ≤ n → nat_le m n ≡ true
 is_at_most m n h = grind (arith, nat_tests)
 
 -- targets of an operation, whose locals are few

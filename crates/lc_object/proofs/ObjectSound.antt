@@ -17,9 +17,9 @@ use Rattle.lc_object.proofs.ArraySound.{name_has, column_section_has, columns_co
 use Rattle.lc_object.proofs.BodiesSound.{AreOperationsOf, ArePoints, bodies_have}
 use Rattle.lc_object.proofs.CallSound.{CallsClean, calls_clean}
 use Rattle.lc_object.proofs.FewBodies.{parts_small}
-use Rattle.lc_object.proofs.ObjectChecks.{BodiesAre, arrays_are, bodies_are}
-use Rattle.lc_object.proofs.WalkSound.{then_clean, form_clean, lists_clean, AllForms, parts_of_all, some_forms}
-use Rattle.lc_object.specs.CodeReading.{each_from}
+use Rattle.lc_object.proofs.ObjectChecks.{BodiesAre, is_at_most, arrays_are, bodies_are}
+use Rattle.lc_object.proofs.WalkSound.{then_clean, form_clean, lists_clean, AllForms, parts_of_all, some_forms, parts_counted}
+use Rattle.lc_names.specs.EachRead.{each_from}
 use Rattle.lc_object.specs.ObjectNames.{Declared, Body, Call, first_text, call_of, names_of_columns, parts_in_first, bodies_due, bodies_from, abstracts_in, arrays_in, operations_in, declared_in, declared_in_sections, points_in, spans_from}
 use Rattle.lc_object.specs.ObjectReading.{name_from, first_name_from, column_name_from, concretes_from, arrays_from, operations_from, points_from, ReadColumns, the_columns, columns_from, ReadCode, the_code, object_code_from, the_object, object_in, object_from}
 use Rattle.lc_object.specs.ObjectText.{wrong_at_place, wrong_in_column_section, wrong_in_arrays, wrong_in_operation, wrong_in_operations, wrong_in_specification_parts, wrong_in_specification, wrong_in_headed, wrong_in_bodies, wrong_in_object_parts, has_parts, wrong_in_object, wrong_in_file, object_refusal}
@@ -124,10 +124,6 @@ all_due : (n : ℕ) → 1 ≤ n → bodies_due n ≡ n
 all_due zero h = absurd (omega (arith, h))
 all_due (suc n) h = refl
 
-parts_counted : (word : List ℕ) (ts : Trees) → length (parts_of_all word ts) ≡ tree_count ts
-parts_counted word none = refl
-parts_counted word (t ▸ ts) = ap suc (parts_counted word ts)
-
 bodies_counted : (names : List (List ℕ)) (calls : List Call) (k p n : ℕ) (ts : Trees) → length (bodies_from names calls k p n ts) ≤ n
 bodies_counted names calls k p zero ts = omega arith
 bodies_counted names calls k p (suc n) none = omega arith
@@ -138,9 +134,6 @@ operations_counted [] [] h = refl
 operations_counted [] (o ∷ os) h = absurd h
 operations_counted (b ∷ bs) [] h = absurd h
 operations_counted (b ∷ bs) (o ∷ os) h = ap suc (operations_counted bs os h.1)
-
-is_at_most : (m n : ℕ) → m ≤ n → nat_le m n ≡ true
-is_at_most m n h = grind (arith, nat_tests)
 
 and_five : (a b c d e : Bool) → a ≡ true → b ≡ true → c ≡ true → d ≡ true → e ≡ true → (a && b && c && d && e) ≡ true
 and_five a b c d e p q r s t = cc

@@ -1,5 +1,5 @@
 -- Items in a row, in which no pass finds anything wrong.
-use Rattle.std.proofs.Common.{◌≡◌, ℕ, ◌+◌, ◌≤◌, ◌<◌, Bool, true, false, cond, List, [], ◌∷◌, Option, Some, None, refl, sym, ap, ◌∙◌, subst, arith}
+use Rattle.std.proofs.Common.{◌≡◌, ℕ, suc, ◌+◌, ◌≤◌, ◌<◌, Bool, true, false, cond, List, [], ◌∷◌, length, Option, Some, None, refl, sym, ap, ◌∙◌, subst, arith}
 use Rattle.std.proofs.lemmas.Bool.Decides.{nat_tests}
 use Rattle.std.specs.Prelude.{◌||◌, ◌==◌, nat_lt, nat_le}
 use Rattle.std.specs.Option.{option_or}
@@ -12,6 +12,13 @@ use Rattle.lc_names.proofs.Sound.{Clean, clean_both, clean_test, right_atom}
 use Rattle.lc_object.specs.ObjectText.{past}
 use Rattle.lc_object.specs.Sections.{parts_of_fit, parts_in, begins, before_others, forms_in, some_forms_in}
 use Rattle.lc_object.specs.Walks.{wrong_then, wrong_in_each, wrong_behind, wrong_in_lists, wrong_in_fit, wrong_in_form, wrong_in_list}
+
+-- the first items, and those behind them
+pub two_items : (ts us vs : Trees) (a b : Tree) → ts ≡ a ▸ us → us ≡ b ▸ vs → ts ≡ a ▸ b ▸ vs
+two_items ts us vs a b e f = cc
+
+pub three_items : (ts us vs ws : Trees) (a b c : Tree) → ts ≡ a ▸ us → us ≡ b ▸ vs → vs ≡ c ▸ ws → ts ≡ a ▸ b ▸ c ▸ ws
+three_items ts us vs ws a b c e f g = cc
 
 pub enough : (n m : ℕ) → nat_lt n m ≡ false → m ≤ n
 enough n m h = grind (arith, nat_tests)
@@ -104,3 +111,7 @@ pub within : (limit k n : ℕ) → Clean (λ pass. past pass limit k n) → k < 
 within limit k n h = by_bound (right_atom (nat_le limit k) n (h Bound)) where
   by_bound : nat_le limit k ≡ false → k < limit
   by_bound e = grind (arith, nat_tests)
+
+pub parts_counted : (word : List ℕ) (ts : Trees) → length (parts_of_all word ts) ≡ tree_count ts
+parts_counted word none = refl
+parts_counted word (t ▸ ts) = ap suc (parts_counted word ts)

@@ -11,28 +11,10 @@ use Rattle.lc_term.specs.ReadAs.{both, three, term_from, formula_from}
 use Rattle.lc_term.specs.Syntax.{Term, Formula}
 use Rattle.lc_term.specs.View.{term_of}
 use Rattle.lc_term.specs.declared.term.Term.{Term as SeenTerm}
+use Rattle.lc_names.specs.EachRead.{each_from, list_from}
 use Rattle.lc_object.specs.CodeNames.{CodeNames}
 use Rattle.lc_object.specs.Syntax.{Instr, Load, Store, Cas, Set, If, Return}
 use Rattle.lc_object.specs.declared.instr.ArrayId.{ArrayId}
-
--- what items in a row read as, if each of them reads
-abbrev pub each_from : {X : Type 0} → (Tree → Option X) → Trees → Option (List X)
-each_from read none = Some []
-each_from read (t ▸ ts) = both (λ x xs. x ∷ xs) (read t) (each_from read ts)
-
--- these values before others, if those are there
-abbrev pub behind : {X : Type 0} → List X → Option (List X) → Option (List X)
-behind xs o = option_map (λ ys. xs ++ ys) o
-
--- what stands in a list, if each item of it reads
-abbrev pub list_from : {X : Type 0} → (Tree → Option X) → Tree → Option (List X)
-list_from read (atom w) = None
-list_from read (list ts) = each_from read ts
-
--- the four items that are left; or that another number is left
-abbrev pub IsFour : Trees → Result (Item × Item × Item × Item) Misfit → Type 0
-IsFour ts (Ok items) = ts ≡ tree_of_item items.0 ▸ tree_of_item items.1 ▸ tree_of_item items.2 ▸ tree_of_item items.3 ▸ none
-IsFour ts (Err misfit) = part_count ts ≡ 4 → ⊥
 
 -- the number of an array
 abbrev pub array_from : CodeNames → Tree → Option ℕ

@@ -5,10 +5,10 @@ use Rattle.lc_sexp.specs.TreeCode.{tree_count}
 use Rattle.lc_sexp.specs.Parts.{Fit, fits, misshapen, beyond, integer_fit}
 use Rattle.lc_term.specs.Grammar.{is}
 use Rattle.lc_term.specs.Names.{Names}
-use Rattle.lc_term.specs.Reserved.{is_call_column, is_reply_column, is_note_column}
 use Rattle.lc_term.specs.declared.scope.ColumnUse.{ColumnUse}
 use Rattle.lc_term.specs.declared.scope.ColumnUse.TheVariants.{Misplaced, Hidden, Undeclared}
 use Rattle.lc_names.specs.Listed.{place_of, atoms_in}
+use Rattle.lc_names.specs.Naming.{is_system_column}
 use Rattle.lc_object.specs.CodeNames.{CodeNames}
 use Rattle.lc_object.specs.Sections.{Sections, sections_of, parts_in, forms_in, some_forms_in}
 
@@ -189,10 +189,6 @@ declared_in_sections s = record {
 -- The names that the file of these forms declares
 abbrev pub declared_in : Trees → Declared
 declared_in ts = declared_in_sections (sections_of ts)
-
--- the columns of a client's call, which each object has
-abbrev pub is_system_column : List ℕ → Bool
-is_system_column w = is_call_column w || is_reply_column w || is_note_column w
 
 -- what the column at this place, or of no place, is to code, where those from a to c are concrete
 abbrev pub column_use : ℕ → ℕ → Bool → Option ℕ → ColumnUse

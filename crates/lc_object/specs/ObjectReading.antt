@@ -6,7 +6,8 @@ use Rattle.lc_sexp.specs.Trees.{Tree, Trees, atom, list, none, ◌▸◌}
 use Rattle.lc_term.specs.Names.{Names}
 use Rattle.lc_term.specs.ReadAs.{both, three, number_from}
 use Rattle.lc_object.specs.CodeNames.{CodeNames}
-use Rattle.lc_object.specs.CodeReading.{each_from, pair_made, instruction_from}
+use Rattle.lc_object.specs.CodeReading.{pair_made, instruction_from}
+use Rattle.lc_names.specs.EachRead.{each_from}
 use Rattle.lc_object.specs.ObjectNames.{Declared, Body, declared_in, arrays_in, items_within, within_first, later, parts_in_first, reply_count, code_names, body_names}
 use Rattle.lc_object.specs.Sections.{Sections, sections_of, parts_in}
 use Rattle.lc_object.specs.Syntax.{Instr, Column, Array, Operation, Point, Object}

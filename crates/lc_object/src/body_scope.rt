@@ -1,13 +1,13 @@
 ghost use Rattle.std.specs.Prelude.{◌≡◌, option_map};
 ghost use Rattle.lc_names.specs.TableView.{listed};
 ghost use Rattle.lc_object.specs.DeclaredView.{span_seen, spans_seen};
-ghost use Rattle.lc_term.specs.Reserved.{is_call_column, is_reply_column, is_note_column};
-ghost use Rattle.lc_object.specs.ObjectNames.{is_system_column, column_use, row_at};
+ghost use Rattle.lc_object.specs.ObjectNames.{column_use, row_at};
 
 use crate::code_scope::{CodeScope, Row};
 use crate::declared::{Body, Declared, Span};
 use crate::instr::{ArrayId, LocalId};
 use lc_base::PointId;
+use lc_names::is_system_column;
 use lc_term::{ColumnUse, Extra, Scope};
 
 /// How names are read in the instructions of a body.
@@ -15,34 +15,6 @@ use lc_term::{ColumnUse, Extra, Scope};
 pub(crate) struct InBody<'a, 'b> {
     pub(crate) declared: &'b Declared<'a>,
     pub(crate) body: &'b Body<'a>,
-}
-
-#[tactic(auto, unfolding(lc_term::specs::Reserved::is_call_column))]
-fn is_call_column(name: &str) -> bool
-    ensures { result ≡ is_call_column name.now }
-{
-    name == "pend" || name == "op" || name == "arg1" || name == "arg2" || name == "arg3"
-}
-
-#[tactic(auto, unfolding(lc_term::specs::Reserved::is_reply_column))]
-fn is_reply_column(name: &str) -> bool
-    ensures { result ≡ is_reply_column name.now }
-{
-    name == "rep1" || name == "rep2" || name == "rep3"
-}
-
-#[tactic(auto, unfolding(lc_term::specs::Reserved::is_note_column))]
-fn is_note_column(name: &str) -> bool
-    ensures { result ≡ is_note_column name.now }
-{
-    name == "noted" || name == "note1" || name == "note2" || name == "note3"
-}
-
-/// Whether this is a column of a client's call, which each object has.
-fn is_system_column(name: &str) -> bool
-    ensures { result ≡ is_system_column name.now }
-{
-    is_call_column(name) || is_reply_column(name) || is_note_column(name)
 }
 
 /// What the column at this place is to code, or of no place, where concrete ones stand between these places.

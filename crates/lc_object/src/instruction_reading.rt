@@ -8,15 +8,11 @@ ghost use Rattle.lc_object.specs.View.{instruction_of, terms_of};
 use crate::code_pairs::take_pair;
 use crate::code_scope::CodeScope;
 use crate::instr::{ArrayId, Instr, LocalId};
-use crate::reads::{Reads, only_four, only_three, only_two, read_each, read_list};
 use lc_base::PointId;
+use lc_names::{Reads, Terms, only_four, only_three, only_two, read_each, read_list};
 use lc_sexp::{Cursor, Item};
 use lc_term::{ReadFault, Scope, Term, read_formula, read_term};
 use std::alloc::Global;
-
-/// Reads terms.
-#[derive(Drop)]
-struct Values<'s, S>(&'s S);
 
 /// Reads the names of locals that are written.
 #[derive(Drop)]
@@ -66,25 +62,6 @@ fn read_label<S: CodeScope>(scope: &S, item: Item<'_>) -> Result<PointId, ReadFa
             Some(point) => Ok(point),
             None => Err(ReadFault::NoReading),
         },
-    }
-}
-
-impl<S: Scope> Reads for Values<'_, S> {
-    ghost use Rattle.std.specs.Prelude.{[]};
-    ghost use Rattle.lc_term.specs.ReadAs.{term_from};
-    ghost use Rattle.lc_term.specs.Syntax.{Term};
-    ghost use Rattle.lc_term.specs.View.{term_of};
-
-    type Value = Term;
-
-    ghost Meaning = { Term };
-
-    ghost meaning = { term_of };
-
-    ghost reading = { λ reader. term_from (S.names reader.0.now) [] };
-
-    fn read(&self, alloc: Global, item: Item<'_>) -> Result<Term, ReadFault> {
-        read_term(alloc, self.0, item)
     }
 }
 
@@ -189,8 +166,8 @@ fn read_rows<S: Scope>(
 ) -> Result<(Vec<Term>, Vec<Term>), ReadFault>
     ensures { IsReading (λ rows. (terms_of rows.0.items, terms_of rows.1.items)) (rows_from (S.names scope.now) (tree_of_item old.entry) (tree_of_item new.entry)) result }
 {
-    let old = read_list(alloc, &Values(scope), old)?;
-    let new = read_list(alloc, &Values(scope), new)?;
+    let old = read_list(alloc, &Terms(scope), old)?;
+    let new = read_list(alloc, &Terms(scope), new)?;
     Ok((old, new))
 }
 
@@ -237,7 +214,7 @@ fn read_store<S: Scope + CodeScope>(
 {
     let (array, index, row, label) = only_four(list)?;
     let (array, index) = read_place(alloc, scope, array, index)?;
-    let values = read_list(alloc, &Values(scope), row)?;
+    let values = read_list(alloc, &Terms(scope), row)?;
     let next = read_label(scope, label)?;
     Ok(Instr::Store {
         array,
@@ -313,7 +290,7 @@ fn read_if<S: Scope + CodeScope>(
 fn read_return<S: Scope>(alloc: Global, scope: &S, list: Cursor<'_>) -> Result<Instr, ReadFault>
     ensures { IsReading instruction_of (return_from (S.names scope.now) (rest_of list.entry)) result }
 {
-    let values = read_each(alloc, &Values(scope), list)?;
+    let values = read_each(alloc, &Terms(scope), list)?;
     Ok(Instr::Return { values })
 }
 

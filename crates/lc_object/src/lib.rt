@@ -22,7 +22,6 @@ mod object_reading;
 mod part_reading;
 mod parts;
 mod place_passes;
-mod reads;
 mod section_finding;
 mod sections;
 mod testing;

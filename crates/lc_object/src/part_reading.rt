@@ -12,9 +12,9 @@ ghost use Rattle.lc_object.specs.View.{columns_of, array_of, column_shown};
 ghost use Rattle.lc_object.specs.WellFormed.{numbers_from};
 
 use crate::parts::{Array, Column};
-use crate::reads::{Reads, only_three, read_more};
 use crate::section_finding::{behind_first, next_form};
 use lc_base::{ColId, Name, OutOfMemory};
+use lc_names::{Reads, only_three, read_more};
 use lc_sexp::{Cursor, Item};
 use lc_term::ReadFault;
 use std::alloc::Global;

@@ -8,35 +8,10 @@ use Rattle.lc_term.specs.declared.reading.ReadFault.{ReadFault}
 use Rattle.lc_term.specs.declared.reading.ReadFault.TheVariants.{NoReading, OutOfMemory}
 use Rattle.lc_names.specs.Listed.{atoms_in}
 use Rattle.lc_seq.specs.SpecNames.{items_in, variables_with, branch_names}
-use Rattle.lc_seq.specs.SpecReading.{each_from, list_from, name_from, branch_from, the_operation, few, with_others, signature_from}
+use Rattle.lc_seq.specs.SpecReading.{name_from, branch_from, the_operation, few, with_others, signature_from}
+use Rattle.lc_names.specs.EachRead.{each_from, list_from}
 use Rattle.lc_seq.specs.SpecText.{count_in}
 use Rattle.lc_seq.specs.Specification.{Branch, Operation}
-
--- these values before others, if those are there
-abbrev pub values_before : {X : Type 0} → List X → Option (List X) → Option (List X)
-values_before xs o = option_map (λ ys. xs ++ ys) o
-
-pub before_none : {X : Type 0} (xs : List X) → values_before xs (Some []) ≡ Some xs
-before_none xs = ap Some (append-nil xs)
-
-before_more : {X : Type 0} (xs : List X) (x : X) (o : Option (List X)) → values_before (xs ++ x ∷ []) o ≡ values_before xs (both (λ y ys. y ∷ ys) (Some x) o)
-before_more xs x None = refl
-before_more xs x (Some ys) = ap Some (append_assoc xs (x ∷ []) ys)
-
--- one more value is read
-pub values_on : {X : Type 0} (read : Tree → Option X) (xs : List X) (x : X) (ts : Trees) (t : Tree) (us : Trees) → ts ≡ t ▸ us → read t ≡ Some x
-    → values_before xs (each_from read ts) ≡ values_before (xs ++ x ∷ []) (each_from read us)
-values_on read xs x ts t us e h =
-    ap (λ vs. values_before xs (each_from read vs)) e ∙ ap (λ o. values_before xs (both (λ y ys. y ∷ ys) o (each_from read us))) h ∙ sym (before_more xs x (each_from read us))
-
--- an item that does not read
-pub values_lacking : {X : Type 0} (read : Tree → Option X) (xs : List X) (ts : Trees) (t : Tree) (us : Trees) → ts ≡ t ▸ us → read t ≡ None → values_before xs (each_from read ts) ≡ None
-values_lacking read xs ts t us e h = ap (λ vs. values_before xs (each_from read vs)) e ∙ ap (λ o. values_before xs (both (λ y ys. y ∷ ys) o (each_from read us))) h
-
--- where a part is not read, the whole is not
-pub fault_through : {X Y : Type 0} (fault : ReadFault) (part : Option X) (whole : Option Y) → IsReadFault part fault → (part ≡ None → whole ≡ None) → IsReadFault whole fault
-fault_through NoReading part whole h f = f h
-fault_through OutOfMemory part whole h f = tt
 
 pub three_first : {A B C D : Type 0} (f : A → B → C → D) (a : Option A) (b : Option B) (c : Option C) → a ≡ None → three f a b c ≡ None
 three_first f None b c e = refl

@@ -30,7 +30,8 @@ use Rattle.lc_seq.proofs.Places.{placed_below}
 use Rattle.lc_seq.proofs.ReadKnown.{TermKnown, FormulaKnown, ColumnKnown, NamesKnown, term_known, formula_known}
 use Rattle.lc_seq.specs.Rows.{Look, RowLook, wrong_in_list, wrong_in_form, wrong_in_two, wrong_in_three, wrong_in_each}
 use Rattle.lc_seq.specs.SpecNames.{Columns, items_in, behind_word, first_name, second_name, column_names, columns_in, column_at, variables_with, branch_names}
-use Rattle.lc_seq.specs.SpecReading.{each_from, list_from, name_from, the_column, column_from, the_update, number_of_use, written_from, update_from, the_branch, branch_from, the_operation, few, signature_from, operation_from, the_specification, parts_from, specification_from, first_from}
+use Rattle.lc_seq.specs.SpecReading.{name_from, the_column, column_from, the_update, number_of_use, written_from, update_from, the_branch, branch_from, the_operation, few, signature_from, operation_from, the_specification, parts_from, specification_from, first_from}
+use Rattle.lc_names.specs.EachRead.{each_from, list_from}
 use Rattle.lc_seq.specs.SpecText.{wrong_in_number, wrong_in_column, wrong_in_columns, wrong_in_abstract, wrong_in_term, wrong_in_written, wrong_in_update, wrong_in_updates, wrong_in_terms, wrong_in_replies, wrong_in_branch, wrong_in_arguments, natural, is_many, wrong_in_count, fitting_natural, count_in, arguments_in, replies_in, wrong_in_signature, wrong_in_operation, wrong_in_operations, wrong_in_parts, wrong_in_specification, wrong_in_first, spec_refusal}
 use Rattle.lc_seq.specs.Specification.{Branch, Specification, variables_of, update_is_resolved, branch_is_resolved, operation_is_resolved}
 

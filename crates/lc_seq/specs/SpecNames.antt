@@ -2,7 +2,6 @@
 use Rattle.std.specs.Prelude.{ℕ, suc, Bool, false, ◌||◌, codes, List, [], ◌∷◌, ◌++◌, Option, Some, None, option_map}
 use Rattle.lc_sexp.specs.Trees.{Tree, Trees, atom, list, none, ◌▸◌}
 use Rattle.lc_term.specs.Names.{Names}
-use Rattle.lc_term.specs.Reserved.{is_call_column, is_reply_column, is_note_column}
 use Rattle.lc_term.specs.declared.scope.ColumnUse.{ColumnUse}
 use Rattle.lc_term.specs.declared.scope.ColumnUse.TheVariants.{Usable, Undeclared}
 use Rattle.lc_names.specs.Listed.{place_of}
@@ -46,10 +45,6 @@ first_columns (t ▸ ts) = columns_in t
 pub record Columns : Type 0 where
   pub own : List (List ℕ)
   pub others : List (List ℕ)
-
--- the system columns
-abbrev pub is_system_column : List ℕ → Bool
-is_system_column w = is_call_column w || is_reply_column w || is_note_column w
 
 -- the column at this place
 abbrev pub column_at : Option ℕ → ColumnUse

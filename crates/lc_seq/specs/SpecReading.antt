@@ -12,22 +12,13 @@ use Rattle.lc_term.specs.ReadAs.{both, three, number_from, term_from, formula_fr
 use Rattle.lc_term.specs.Syntax.{Term, Formula}
 use Rattle.lc_term.specs.declared.scope.ColumnUse.{ColumnUse}
 use Rattle.lc_term.specs.declared.scope.ColumnUse.TheVariants.{Usable}
+use Rattle.lc_names.specs.EachRead.{each_from, list_from}
 use Rattle.lc_names.specs.Listed.{atoms_in}
 use Rattle.lc_seq.specs.SpecNames.{behind_word, items_in, columns_in, variables_with, branch_names}
 use Rattle.lc_seq.specs.SpecText.{spec_refusal, count_in}
 use Rattle.lc_seq.specs.Specification.{Column, Update, Branch, Operation, Specification}
 use Rattle.lc_seq.specs.TextView.{specification_of}
 use Rattle.lc_seq.specs.declared.specification.TextSpec.{TextSpec}
-
--- what items in a row read as, if each of them reads
-abbrev pub each_from : {X : Type 0} → (Tree → Option X) → Trees → Option (List X)
-each_from read none = Some []
-each_from read (t ▸ ts) = both (λ x xs. x ∷ xs) (read t) (each_from read ts)
-
--- what stands in a list, if each item of it reads
-abbrev pub list_from : {X : Type 0} → (Tree → Option X) → Tree → Option (List X)
-list_from read (atom w) = None
-list_from read (list ts) = each_from read ts
 
 -- a NAME of at most 64 bytes
 abbrev pub name_from : Tree → Option (List ℕ)

@@ -18,7 +18,8 @@ use Rattle.lc_names.specs.FirstRefusal.{left_over, first_refusal}
 use Rattle.lc_names.specs.Listed.{atoms_in}
 use Rattle.lc_names.specs.Naming.{is_beyond_limit, wrong_in_declaration, wrong_in_names}
 use Rattle.lc_seq.specs.Rows.{Look, RowLook, wrong_in_list, wrong_in_form, wrong_in_two, wrong_in_three, wrong_in_each, wrong_in_declared}
-use Rattle.lc_seq.specs.SpecNames.{Columns, items_in, first_name, second_name, columns_in, is_system_column, variables_with, branch_names}
+use Rattle.lc_seq.specs.SpecNames.{Columns, items_in, first_name, second_name, columns_in, variables_with, branch_names}
+use Rattle.lc_names.specs.Naming.{is_system_column}
 
 -- an atom that is wrong in this pass, where a NUMBER is due
 abbrev pub number_is_wrong : Pass → List ℕ → Bool

@@ -1,47 +1,17 @@
 ghost use Rattle.std.specs.Prelude.{◌≡◌, ℕ, IfOk};
 ghost use Rattle.lc_sexp.specs.Trees.{Tree};
 ghost use Rattle.lc_sexp.specs.Shown.{rest_of, number_of, owner_of, ShowsItem};
-ghost use Rattle.lc_term.specs.Reserved.{is_call_column, is_reply_column, is_note_column};
 ghost use Rattle.lc_seq.specs.SpecSeen.{columns_of};
-ghost use Rattle.lc_seq.specs.SpecNames.{is_system_column};
 ghost use Rattle.lc_seq.specs.Rows.{wrong_in_each};
 ghost use Rattle.lc_seq.specs.SpecText.{is_elsewhere, written_is_wrong, wrong_in_written, wrong_in_update, wrong_in_updates, wrong_in_terms, wrong_in_counted, wrong_in_replies, wrong_in_branch};
 
 use crate::rows::{form_of, item_number, list_of, three_of};
 use crate::spec_columns::Columns;
 use lc_base::{OutOfMemory, is_name};
-use lc_names::{is_long_name, left_over, surplus};
+use lc_names::{is_long_name, is_system_column, left_over, surplus};
 use lc_sexp::{Cursor, Item};
 use lc_term::{Kind, Pass, Scope, first_wrong};
 use std::alloc::Global;
-
-#[tactic(auto, unfolding(lc_term::specs::Reserved::is_call_column))]
-fn is_call_column(name: &str) -> bool
-    ensures { result ≡ is_call_column name.now }
-{
-    name == "pend" || name == "op" || name == "arg1" || name == "arg2" || name == "arg3"
-}
-
-#[tactic(auto, unfolding(lc_term::specs::Reserved::is_reply_column))]
-fn is_reply_column(name: &str) -> bool
-    ensures { result ≡ is_reply_column name.now }
-{
-    name == "rep1" || name == "rep2" || name == "rep3"
-}
-
-#[tactic(auto, unfolding(lc_term::specs::Reserved::is_note_column))]
-fn is_note_column(name: &str) -> bool
-    ensures { result ≡ is_note_column name.now }
-{
-    name == "noted" || name == "note1" || name == "note2" || name == "note3"
-}
-
-/// Whether this is the name of a system column.
-fn is_system_column(name: &str) -> bool
-    ensures { result ≡ is_system_column name.now }
-{
-    is_call_column(name) || is_reply_column(name) || is_note_column(name)
-}
 
 /// Whether a column is declared, and not by the specification.
 fn is_elsewhere(columns: &Columns<'_>, name: &str) -> bool

@@ -3,20 +3,17 @@ ghost use Rattle.lc_sexp.specs.Trees.{item_count_of_all};
 ghost use Rattle.lc_sexp.specs.Shown.{rest_of};
 ghost use Rattle.lc_term.specs.Items.{tree_of_item, size_of};
 ghost use Rattle.lc_term.specs.Reading.{IsReading};
-ghost use Rattle.lc_seq.specs.SpecReading.{written_from, update_from, branch_from, list_from};
+ghost use Rattle.lc_seq.specs.SpecReading.{written_from, update_from, branch_from};
+ghost use Rattle.lc_names.specs.EachRead.{list_from};
 ghost use Rattle.lc_seq.specs.SpecView.{update_of, updates_of, branch_of};
 
-use crate::reads::{Reads, only_three, read_each};
 use crate::spec_columns::{behind_word, items_in};
 use crate::specification::{Branch, Update};
 use lc_base::ColId;
+use lc_names::{Reads, Terms, only_three, read_each};
 use lc_sexp::Item;
 use lc_term::{ColumnUse, ReadFault, Scope, Term, read_formula, read_term};
 use std::alloc::Global;
-
-/// Reads terms.
-#[derive(Drop)]
-struct Terms<'s, S>(&'s S);
 
 /// Reads updates.
 #[derive(Drop)]
@@ -25,25 +22,6 @@ struct Updates<'s, S>(&'s S);
 /// Reads branches.
 #[derive(Drop)]
 pub(crate) struct Branches<'s, S>(pub(crate) &'s S);
-
-impl<S: Scope> Reads for Terms<'_, S> {
-    ghost use Rattle.std.specs.Prelude.{[]};
-    ghost use Rattle.lc_term.specs.ReadAs.{term_from};
-    ghost use Rattle.lc_term.specs.Syntax.{Term};
-    ghost use Rattle.lc_term.specs.View.{term_of};
-
-    type Value = Term;
-
-    ghost Meaning = { Term };
-
-    ghost meaning = { term_of };
-
-    ghost reading = { λ reader. term_from (S.names reader.0.now) [] };
-
-    fn read(&self, alloc: Global, item: Item<'_>) -> Result<Term, ReadFault> {
-        read_term(alloc, self.0, item)
-    }
-}
 
 /// The column of an update.
 fn read_written<S: Scope>(scope: &S, item: Item<'_>) -> Option<ColId>
@@ -98,7 +76,6 @@ pub(crate) fn read_list<R: Reads>(
     reader: &R,
     item: Item<'_>,
 ) -> Result<Vec<R::Value>, ReadFault>
-    requires { size_of item < 2 ^ 31 }
     ensures { IsReading (λ values. map R.meaning values.items) (list_from (R.reading reader.now) (tree_of_item item.entry)) result }
 {
     match item {
@@ -108,7 +85,6 @@ pub(crate) fn read_list<R: Reads>(
 }
 
 fn read_branch<S: Scope>(alloc: Global, scope: &S, item: Item<'_>) -> Result<Branch, ReadFault>
-    requires { size_of item < 2 ^ 31 }
     ensures { IsReading branch_of (branch_from (S.names scope.now) (tree_of_item item.entry)) result }
 {
     let (guard, updates, replies) = only_three(behind_word(item))?;

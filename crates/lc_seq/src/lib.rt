@@ -5,7 +5,6 @@ mod branch_passes;
 mod branch_reading;
 mod fault;
 mod object;
-mod reads;
 mod resolving;
 mod rows;
 mod running;

@@ -27,8 +27,7 @@ pub(crate) fn item_number(item: Item<'_>) -> u64
 
 /// A cursor at the beginning of an item that is a list; else the number at which this is told.
 pub(crate) fn list_of<'a>(item: Item<'a>) -> Result<Cursor<'a>, u64>
-    ensures list { IsListOf item.entry result }
-    ensures size { IfOk result (λ list. item_count_of_all (rest_of list) ≤ size_of item.entry) }
+    ensures { IsListOf item.entry result }
 {
     match item {
         Item::Atom(atom) => Err(atom.number()),
@@ -38,8 +37,7 @@ pub(crate) fn list_of<'a>(item: Item<'a>) -> Result<Cursor<'a>, u64>
 
 /// A cursor behind the word that an item begins with, which is a list; else the number at which this is told.
 pub(crate) fn form_of<'a>(item: Item<'a>, word: &str) -> Result<Cursor<'a>, u64>
-    ensures form { IsFormOf word.now item.entry result }
-    ensures size { IfOk result (λ list. item_count_of_all (rest_of list) ≤ size_of item.entry) }
+    ensures { IsFormOf word.now item.entry result }
 {
     let mut list = match item {
         Item::Atom(atom) => return Err(atom.number()),
@@ -56,7 +54,6 @@ pub(crate) fn form_of<'a>(item: Item<'a>, word: &str) -> Result<Cursor<'a>, u64>
 pub(crate) fn three_of<'a>(mut list: Cursor<'a>) -> Result<Three<'a>, u64>
     ensures three { AreThree list.entry result }
     ensures trees { IfOk result (λ parts. rest_of list.entry ≡ tree_of_item parts.first ▸ tree_of_item parts.second ▸ tree_of_item parts.third ▸ rest_of parts.others) }
-    ensures size { IfOk result (λ parts. size_of parts.second + item_count_of_all (rest_of parts.others) ≤ item_count_of_all (rest_of list.entry)) }
 {
     let number = list.owner();
     let (Ok(first), Ok(second), Ok(third)) = (list.item(), list.item(), list.item()) else {

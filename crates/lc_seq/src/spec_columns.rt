@@ -22,8 +22,7 @@ pub struct Columns<'a> {
 
 /// What stands in a list.
 pub(crate) fn items_in<'a>(item: Item<'a>) -> Cursor<'a>
-    ensures items { rest_of result ≡ items_in (tree_of_item item.entry) }
-    ensures size { item_count_of_all (rest_of result) ≤ size_of item.entry }
+    ensures { rest_of result ≡ items_in (tree_of_item item.entry) }
 {
     match item {
         Item::Atom(_) => Cursor::new(&[]),
@@ -33,8 +32,7 @@ pub(crate) fn items_in<'a>(item: Item<'a>) -> Cursor<'a>
 
 /// What stands in a list behind its first item.
 pub(crate) fn behind_word<'a>(item: Item<'a>) -> Cursor<'a>
-    ensures items { rest_of result ≡ behind_word (tree_of_item item.entry) }
-    ensures size { item_count_of_all (rest_of result) ≤ size_of item.entry }
+    ensures { rest_of result ≡ behind_word (tree_of_item item.entry) }
 {
     let mut list = items_in(item);
     let _ = list.item();
@@ -68,7 +66,6 @@ pub(crate) fn enter_named<'a>(
     names: NameTable<'a>,
     name: Option<&'a str>,
 ) -> Result<NameTable<'a>, OutOfMemory>
-    requires { length (listed names) + 1 < 2 ^ 32 }
     ensures { IfOk result (λ entered. listed entered ≡ listed names.entry ++ named name.entry) }
 {
     match name {
@@ -79,7 +76,6 @@ pub(crate) fn enter_named<'a>(
 
 /// The names of the columns that are left in a list.
 fn column_names<'a>(alloc: Global, columns: Cursor<'a>) -> Result<NameTable<'a>, OutOfMemory>
-    requires { item_count_of_all (rest_of columns) < 2 ^ 31 }
     ensures { IfOk result (λ names. listed names ≡ column_names (rest_of columns.entry)) }
 {
     let mut names = NameTable::new(alloc);
@@ -94,8 +90,7 @@ fn column_names<'a>(alloc: Global, columns: Cursor<'a>) -> Result<NameTable<'a>,
 
 /// The list of columns in a specification, behind its word.
 fn column_items<'a>(item: Item<'a>) -> Cursor<'a>
-    ensures columns { column_names (rest_of result) ≡ columns_in (tree_of_item item.entry) }
-    ensures size { item_count_of_all (rest_of result) ≤ size_of item.entry }
+    ensures { column_names (rest_of result) ≡ columns_in (tree_of_item item.entry) }
 {
     let mut list = behind_word(item);
     let _ = list.item();
@@ -107,7 +102,6 @@ fn column_items<'a>(item: Item<'a>) -> Cursor<'a>
 
 /// The names of the columns that a specification declares, whatever else is wrong in it.
 pub fn columns_in<'a>(alloc: Global, item: Item<'a>) -> Result<NameTable<'a>, OutOfMemory>
-    requires { size_of item < 2 ^ 31 }
     ensures { IfOk result (λ names. listed names ≡ columns_in (tree_of_item item.entry)) }
 {
     column_names(alloc, column_items(item))

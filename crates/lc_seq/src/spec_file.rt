@@ -27,7 +27,6 @@ struct SpecFile<'a> {
     forms: Cursor<'a>,
     columns: Columns<'a>,
     ghost start: { number_of forms ≡ 0 },
-    ghost small: { item_count_of_all (rest_of forms) < 2 ^ 31 },
     ghost own: { listed columns.own ≡ first_columns (rest_of forms) },
     ghost others: { listed columns.others ≡ [] },
 }
@@ -49,7 +48,6 @@ impl Examined for SpecFile<'_> {
 
 /// The names of the columns that the first form of a file declares.
 fn first_columns<'a>(alloc: Global, mut forms: Cursor<'a>) -> Result<NameTable<'a>, OutOfMemory>
-    requires { item_count_of_all (rest_of forms) < 2 ^ 31 }
     ensures { IfOk result (λ names. listed names ≡ first_columns (rest_of forms.entry)) }
 {
     match forms.item() {
@@ -64,7 +62,6 @@ fn read_first(
     columns: &NameTable<'_>,
     mut forms: Cursor<'_>,
 ) -> Result<SpecParts, ReadFault>
-    requires size { item_count_of_all (rest_of forms) < 2 ^ 31 }
     requires columns { listed columns.now ≡ first_columns (rest_of forms) }
     ensures { IsReading parts_of (first_from (rest_of forms.entry)) result }
 {

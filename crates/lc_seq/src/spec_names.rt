@@ -1,4 +1,4 @@
-ghost use Rattle.std.specs.Prelude.{◌≡◌, ◌<◌, ◌^◌, length};
+ghost use Rattle.std.specs.Prelude.{◌≡◌, ◌+◌, ◌<◌, ◌^◌, length};
 ghost use Rattle.lc_names.specs.TableView.{listed};
 ghost use Rattle.lc_seq.specs.SpecNames.{column_at};
 
@@ -15,7 +15,7 @@ pub(crate) struct InBranch<'a, 'b> {
     columns: &'b NameTable<'a>,
     /// The client, and the arguments.
     variables: NameTable<'a>,
-    ghost counted: { length (listed variables) < 2 ^ 32 },
+    ghost counted: { length (listed variables) + 1 < 2 ^ 32 },
 }
 
 fn column_at(place: Option<u32>) -> ColumnUse
@@ -41,12 +41,14 @@ impl<'a, 'b> InBranch<'a, 'b> {
         columns: &'b NameTable<'a>,
         arguments: Cursor<'a>,
     ) -> Result<InBranch<'a, 'b>, OutOfMemory>
-        requires { item_count_of_all (rest_of arguments) < 2 ^ 31 }
         ensures columns { IfOk result (λ names. listed names.columns.now ≡ listed columns.now) }
         ensures variables { IfOk result (λ names. listed names.variables ≡ variables_with (atoms_in (rest_of arguments.entry))) }
     {
         let client = NameTable::new(alloc).enter("self")?;
         let variables = client.enter_atoms(arguments)?;
+        if variables.len() == u32::MAX {
+            return Err(OutOfMemory);
+        }
         Ok(InBranch { columns, variables })
     }
 }

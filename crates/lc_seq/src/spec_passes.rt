@@ -85,7 +85,6 @@ fn first_wrong_in_columns(
     pass: Pass,
     mut list: Cursor<'_>,
 ) -> Result<Option<u64>, OutOfMemory>
-    requires { item_count_of_all (rest_of list) < 2 ^ 31 }
     ensures { IfOk result (λ wrong. wrong ≡ wrong_in_columns pass [] (number_of list.entry) (rest_of list.entry)) }
 {
     let mut names = NameTable::new(alloc);
@@ -107,7 +106,6 @@ fn first_wrong_in_abstract(
     pass: Pass,
     item: Item<'_>,
 ) -> Result<Option<u64>, OutOfMemory>
-    requires { size_of item < 2 ^ 31 }
     ensures { IfOk result (λ wrong. (n : ℕ) (t : Tree) → ShowsItem n t item.entry → wrong ≡ wrong_in_abstract pass n t) }
 {
     match form_of(item, "abstract") {
@@ -122,7 +120,6 @@ fn first_wrong_in_arguments(
     pass: Pass,
     item: Item<'_>,
 ) -> Result<Option<u64>, OutOfMemory>
-    requires { size_of item < 2 ^ 31 }
     ensures { IfOk result (λ wrong. (n : ℕ) (t : Tree) → ShowsItem n t item.entry → wrong ≡ wrong_in_arguments pass n t) }
 {
     match list_of(item) {
@@ -203,7 +200,6 @@ fn first_wrong_in_signature<'a>(
     before: &NameTable<'a>,
     list: Cursor<'a>,
 ) -> Result<Option<u64>, OutOfMemory>
-    requires { item_count_of_all (rest_of list) < 2 ^ 31 }
     ensures { IfOk result (λ wrong. wrong ≡ wrong_in_signature pass (columns_of columns.now) (listed before.now) (owner_of list.entry) (number_of list.entry) (rest_of list.entry)) }
 {
     if list.len() < 4 {
@@ -236,7 +232,6 @@ fn first_wrong_in_operation<'a>(
     before: &NameTable<'a>,
     item: Item<'a>,
 ) -> Result<Option<u64>, OutOfMemory>
-    requires { size_of item < 2 ^ 31 }
     ensures { IfOk result (λ wrong. (n : ℕ) (t : Tree) → ShowsItem n t item.entry → wrong ≡ wrong_in_operation pass (columns_of columns.now) (listed before.now) n t) }
 {
     if is_beyond_limit(pass, OPERATION_LIMIT, before) {
@@ -255,7 +250,6 @@ fn first_wrong_in_operations<'a>(
     columns: &Columns<'a>,
     mut list: Cursor<'a>,
 ) -> Result<Option<u64>, OutOfMemory>
-    requires { item_count_of_all (rest_of list) < 2 ^ 31 }
     ensures { IfOk result (λ wrong. wrong ≡ wrong_in_operations pass (columns_of columns.now) [] (number_of list.entry) (rest_of list.entry)) }
 {
     let mut names = NameTable::new(alloc);
@@ -278,7 +272,6 @@ fn first_wrong_in_parts<'a>(
     columns: &Columns<'a>,
     mut list: Cursor<'a>,
 ) -> Result<Option<u64>, OutOfMemory>
-    requires { item_count_of_all (rest_of list) < 2 ^ 31 }
     ensures { IfOk result (λ wrong. wrong ≡ wrong_in_parts pass (columns_of columns.now) (owner_of list.entry) (number_of list.entry) (rest_of list.entry)) }
 {
     let number = list.owner();
@@ -302,7 +295,6 @@ pub fn first_wrong_in_specification<'a>(
     columns: &Columns<'a>,
     item: Item<'a>,
 ) -> Result<Option<u64>, OutOfMemory>
-    requires size { size_of item < 2 ^ 31 }
     requires columns { listed columns.now.own ≡ columns_in (tree_of_item item) }
     ensures { IfOk result (λ wrong. (n : ℕ) (t : Tree) → ShowsItem n t item.entry → wrong ≡ wrong_in_specification pass (listed columns.now.others) n t) }
 {

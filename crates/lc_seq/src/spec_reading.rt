@@ -13,13 +13,12 @@ ghost use Rattle.lc_seq.specs.SpecText.{count_in};
 ghost use Rattle.lc_seq.specs.SpecView.{column_of, operation_of};
 
 use crate::branch_reading::{Branches, read_list};
-use crate::reads::{Reads, only_three, read_each};
 use crate::spec_columns::{behind_word, items_in};
 use crate::spec_names::InBranch;
 use crate::spec_passes::count_in;
 use crate::specification::{Column, Operation};
 use lc_base::Name;
-use lc_names::NameTable;
+use lc_names::{NameTable, Reads, only_three, read_each};
 use lc_sexp::{Cursor, Item};
 use lc_term::ReadFault;
 use std::alloc::Global;
@@ -131,7 +130,6 @@ fn read_signature(
     columns: &NameTable<'_>,
     mut list: Cursor<'_>,
 ) -> Result<Operation, ReadFault>
-    requires { item_count_of_all (rest_of list) < 2 ^ 31 }
     ensures { IsReading operation_of (signature_from (listed columns.now) (rest_of list.entry)) result }
 {
     let name = list.item()?;
@@ -179,7 +177,6 @@ fn read_parts(
     columns: &NameTable<'_>,
     mut list: Cursor<'_>,
 ) -> Result<SpecParts, ReadFault>
-    requires { item_count_of_all (rest_of list) < 2 ^ 31 }
     ensures { IsReading parts_of (parts_from (listed columns.now) (rest_of list.entry)) result }
 {
     let name = list.item()?;
@@ -203,7 +200,6 @@ pub fn read_specification(
     columns: &NameTable<'_>,
     item: Item<'_>,
 ) -> Result<SpecParts, ReadFault>
-    requires size { size_of item < 2 ^ 31 }
     requires columns { listed columns.now ≡ columns_in (tree_of_item item) }
     ensures { IsReading parts_of (specification_from (tree_of_item item.entry)) result }
 {

@@ -10,7 +10,7 @@ use lc_base::OutOfMemory;
 use std::alloc::Global;
 
 /// A statement on the columns and the variables.
-#[derive(Debug, Drop)]
+#[derive(Debug)]
 pub enum Formula {
     /// The first term is at most the second.
     Le(Term, Term),
@@ -28,6 +28,18 @@ pub enum Formula {
     Forall(Box<Formula>),
     /// The formula holds of some whole number, which is the value of its innermost bound variable.
     Exists(Box<Formula>),
+}
+
+// Written out and not derived, as for terms.
+impl Drop for Formula {
+    fn drop(self) {
+        match self {
+            Formula::Le(_, _) | Formula::Eq(_, _) => {}
+            Formula::Not(_) | Formula::Forall(_) | Formula::Exists(_) => {}
+            Formula::And(_) | Formula::Or(_) => {}
+            Formula::Implies(_, _) => {}
+        }
+    }
 }
 
 impl Formula {

@@ -3,7 +3,7 @@ use Rattle.lc_sexp.specs.Shown.{rest_of}
 use Rattle.lc_sexp.specs.Trees.{◌▸◌}
 use Rattle.lc_term.proofs.Heads.{item_taken}
 use Rattle.lc_term.specs.Items.{tree_of_item}
-use Rattle.lc_kernel.proofs.Listing.{list_taken, sections_found, same_sections}
+use Rattle.lc_kernel.proofs.FormulaSections.{list_taken, sections_found, same_sections}
 use Rattle.lc_kernel.proofs.sections.find_sections.Goals as goal
 
 pub returns : goal.returns

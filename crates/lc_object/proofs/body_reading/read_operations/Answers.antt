@@ -1,7 +1,7 @@
 use Rattle.std.proofs.Common.{◌+◌, [], ◌∷◌, drop, map, ap, sym, ◌∙◌}
 use Rattle.std.proofs.lemmas.List.{drop_more, map-append}
 use Rattle.lc_sexp.specs.Shown.{rest_of}
-use Rattle.lc_object.specs.CodeReading.{behind}
+use Rattle.lc_names.specs.EachRead.{behind}
 use Rattle.lc_object.specs.DeclaredView.{body_seen, bodies_seen}
 use Rattle.lc_object.specs.ObjectReading.{operations_from}
 use Rattle.lc_object.specs.View.{operation_of}

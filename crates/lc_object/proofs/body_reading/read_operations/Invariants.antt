@@ -1,6 +1,6 @@
 use Rattle.std.proofs.Common.{◌≡◌, drop, map}
 use Rattle.lc_sexp.specs.Shown.{rest_of}
-use Rattle.lc_object.specs.CodeReading.{behind}
+use Rattle.lc_names.specs.EachRead.{behind}
 use Rattle.lc_object.specs.DeclaredView.{bodies_seen}
 use Rattle.lc_object.specs.ObjectReading.{operations_from}
 use Rattle.lc_object.specs.View.{operation_of}

@@ -2,12 +2,12 @@ use Rattle.std.proofs.Common.{◌+◌, ◌∷◌, drop, length, map, ap, sym, �
 use Rattle.std.proofs.lemmas.List.{drop_more, length-map}
 use Rattle.std.proofs.lemmas.Result.{err_from_is_err_and}
 use Rattle.lc_sexp.specs.Shown.{rest_of}
-use Rattle.lc_object.specs.CodeReading.{behind}
+use Rattle.lc_names.specs.EachRead.{behind}
 use Rattle.lc_object.specs.DeclaredView.{body_seen, bodies_seen, declared_seen}
 use Rattle.lc_object.specs.ObjectReading.{body_from, points_from}
 use Rattle.lc_object.specs.View.{point_of}
 use Rattle.lc_object.proofs.BodyRows.{points_lacking}
-use Rattle.lc_object.proofs.ReadRows.{fault_through}
+use Rattle.lc_names.proofs.ReadRows.{fault_through}
 use Rattle.lc_object.proofs.body_reading.read_points.Goals as goal
 
 pub returns-in_err-more : goal.returns-in_err-more

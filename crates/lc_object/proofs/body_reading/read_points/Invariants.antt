@@ -1,6 +1,6 @@
 use Rattle.std.proofs.Common.{◌≡◌, drop, map}
 use Rattle.lc_sexp.specs.Shown.{rest_of}
-use Rattle.lc_object.specs.CodeReading.{behind}
+use Rattle.lc_names.specs.EachRead.{behind}
 use Rattle.lc_object.specs.DeclaredView.{declared_seen, bodies_seen}
 use Rattle.lc_object.specs.ObjectReading.{points_from}
 use Rattle.lc_object.specs.View.{point_of}

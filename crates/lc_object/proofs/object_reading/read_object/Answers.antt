@@ -5,7 +5,7 @@ use Rattle.lc_object.specs.DeclaredView.{declared_seen}
 use Rattle.lc_object.specs.ObjectReading.{object_in, object_from}
 use Rattle.lc_object.specs.Seen.{sections_seen}
 use Rattle.lc_object.proofs.FewBodies.{few_bodies, few_abstracts, same_object}
-use Rattle.lc_object.proofs.ReadRows.{fault_through}
+use Rattle.lc_names.proofs.ReadRows.{fault_through}
 use Rattle.lc_object.proofs.object_reading.read_object.Goals as goal
 
 pub read_parts-requires-clause-room : goal.read_parts-requires-clause-room

@@ -3,7 +3,7 @@ use Rattle.std.specs.Prelude.{codes}
 use Rattle.std.proofs.lemmas.List.{map-append}
 use Rattle.lc_sexp.specs.Shown.{rest_of}
 use Rattle.lc_sexp.specs.TreeCode.{tree_count}
-use Rattle.lc_object.specs.CodeReading.{behind}
+use Rattle.lc_names.specs.EachRead.{behind}
 use Rattle.lc_object.specs.ObjectReading.{arrays_from}
 use Rattle.lc_object.specs.Sections.{forms_in}
 use Rattle.lc_object.specs.View.{array_of}

@@ -1,7 +1,7 @@
 use Rattle.std.proofs.Common.{◌≡◌, ◌+◌, ◌≤◌, map}
 use Rattle.std.specs.Prelude.{codes}
 use Rattle.lc_sexp.specs.Shown.{rest_of}
-use Rattle.lc_object.specs.CodeReading.{behind}
+use Rattle.lc_names.specs.EachRead.{behind}
 use Rattle.lc_object.specs.ObjectReading.{arrays_from}
 use Rattle.lc_object.specs.Sections.{forms_in}
 use Rattle.lc_object.specs.Seen.{size}

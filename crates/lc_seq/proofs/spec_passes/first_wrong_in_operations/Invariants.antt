@@ -1,4 +1,4 @@
-use Rattle.std.proofs.Common.{◌≡◌, ◌+◌, ◌≤◌, length, []}
+use Rattle.std.proofs.Common.{◌≡◌, []}
 use Rattle.lc_sexp.specs.Shown.{rest_of, number_of}
 use Rattle.lc_sexp.specs.Trees.{item_count_of_all}
 use Rattle.lc_names.specs.TableView.{listed}
@@ -7,10 +7,8 @@ use Rattle.lc_seq.specs.SpecText.{wrong_in_operations}
 use Rattle.lc_seq.proofs.spec_passes.first_wrong_in_operations.Given as goal
 
 abbrev pub invariant-items : goal.invariant-items
-invariant-items l = record {
-  wrong : wrong_in_operations l.pass (columns_of l.columns) [] (number_of l.fn.list) (rest_of l.fn.list) ≡ wrong_in_operations l.pass (columns_of l.columns) (listed l.names) (number_of l.list) (rest_of l.list);
-  room : length (listed l.names) + item_count_of_all (rest_of l.list) ≤ item_count_of_all (rest_of l.fn.list);
-}
+invariant-items l =
+    wrong_in_operations l.pass (columns_of l.columns) [] (number_of l.fn.list) (rest_of l.fn.list) ≡ wrong_in_operations l.pass (columns_of l.columns) (listed l.names) (number_of l.list) (rest_of l.list)
 
 abbrev pub decreases-items : goal.decreases-items
 decreases-items l = item_count_of_all (rest_of l.list)

@@ -24,7 +24,7 @@ returns c =
     let count = c.count_in.result in
     let many : 4 ≤ tree_count ts = omega (arith, c.if-len-lt4.false, c.len.ensures) in
     let these : variables ≡ variables_with (arguments_in ts) =
-    c.in_ok-names.ensures.variables ∙ ap (λ us. variables_with (atoms_in us)) c.items_in.ensures.items ∙ sym (ap (λ us. variables_with (arguments_in us)) c.in-Ok.ensures.trees) in
+    c.in_ok-names.ensures.variables ∙ ap (λ us. variables_with (atoms_in us)) c.items_in.ensures ∙ sym (ap (λ us. variables_with (arguments_in us)) c.in-Ok.ensures.trees) in
     let counted : count ≡ replies_in ts = c.count_in.ensures ∙ sym (ap replies_in c.in-Ok.ensures.trees) in
     signature_walked pass columns before own variables count (owner_of c.args.list) (number_of c.args.list) ts c.or-3.result many c.in_ok-names.ensures.columns these counted
     (c.or-3.ensures

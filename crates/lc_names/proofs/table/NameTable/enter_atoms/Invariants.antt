@@ -7,10 +7,7 @@ use Rattle.lc_names.proofs.table.NameTable.enter_atoms.Given as goal
 
 -- the names so far, and those among the items that are left, are all that will be there
 abbrev pub invariant-items : goal.invariant-items
-invariant-items l = record {
-  names : listed l.names ++ atoms_in (rest_of l.rest) ≡ listed l.fn.self ++ atoms_in (rest_of l.atoms);
-  room : length (listed l.names) + item_count_of_all (rest_of l.rest) ≤ length (listed l.fn.self) + item_count_of_all (rest_of l.atoms);
-}
+invariant-items l = listed l.names ++ atoms_in (rest_of l.rest) ≡ listed l.fn.self ++ atoms_in (rest_of l.atoms)
 
 abbrev pub decreases-items : goal.decreases-items
 decreases-items l = item_count_of_all (rest_of l.rest)
