@@ -55,7 +55,7 @@ fn what_a_file_says(rt: HostRuntime) -> Result<(), Fail> {
     assert_eq!(rt; goal.hypotheses.len(), 2);
     let shown = format!(in rt.alloc(); "{:?}", goal.goal)?;
     assert_eq!(rt; shown.as_str(), "Eq(Variable(0), Variable(1))");
-    assert!(rt; matches!(proof.step, Step::Trichotomy { hypothesis: 2 }));
+    assert!(rt; matches!(&proof.step, Step::Trichotomy { hypothesis: 2 }));
     assert_eq!(rt; proof.branches.len(), 2);
     let multiples = [
         Multiple {

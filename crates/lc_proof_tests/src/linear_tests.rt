@@ -38,7 +38,8 @@ fn a_difference_is_taken_directly(rt: HostRuntime) -> Result<(), Fail> {
     assert_eq!(rt; constant(alloc, &least(alloc)?), Ok(i128::MIN));
     assert_eq!(rt; constant(alloc, &greatest(alloc)?), Ok(i128::MAX));
     let low = least(alloc)?;
-    let form = form_of_difference(alloc, &Term::Number(-1), &low)?;
+    let one_less = Term::Number(-1);
+    let form = form_of_difference(alloc, &one_less, &low)?;
     assert_eq!(rt; form.constant(), i128::MAX);
     let negated = subtract(alloc, Term::Number(0), least(alloc)?)?;
     assert_eq!(rt; constant(alloc, &negated), Err(LinFault::Large));
@@ -208,7 +209,8 @@ fn atoms_are_variables_and_whole_reads(rt: HostRuntime) -> Result<(), Fail> {
         (apart.coefficient(&same), apart.coefficient(&other)),
         (1, -1)
     );
-    let bound = form_of_difference(alloc, &Term::Bound(0), &Term::Variable(0))?;
+    let (left, right) = (Term::Bound(0), Term::Variable(0));
+    let bound = form_of_difference(alloc, &left, &right)?;
     assert_eq!(rt;
         (bound.coefficient(&Term::Bound(0)), bound.constant()),
         (1, 0)
