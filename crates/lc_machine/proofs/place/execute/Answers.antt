@@ -16,22 +16,22 @@ pub run-requires-clause-may_run : goal.run-requires-clause-may_run
 run-requires-clause-may_run c =
     let p = c.args.place.now.point.0 in
     let n = variable_count c.args.place.now.variables in
-    let parts = c.parts-2.result.now in
-    let point = c.index-point-2.result.now in
-    let shown = c.parts-2.ensures.shown in
+    let parts = c.parts.result.now in
+    let point = c.index-point.result.now in
+    let shown = c.parts.ensures.shown in
     let place = subst (λ (o : S.Object). variables_at o p ≡ Some n) (sym shown) c.requires.place in
-    let at = viewed_at point_of parts.points.items p point (placed (parts_of parts) p n place) c.index-point-2.ensures in
-    subst (λ o. MayRun o n (point_of point).instruction) shown (may_run (parts_of parts) c.parts-2.ensures.well_formed p (point_of point) n at place)
+    let at = viewed_at point_of parts.points.items p point (placed (parts_of parts) p n place) c.index-point.ensures in
+    subst (λ o. MayRun o n (point_of point).instruction) shown (may_run (parts_of parts) c.parts.ensures.well_formed p (point_of point) n at place)
 
 pub returns-clause-executed : goal.returns-clause-executed
 returns-clause-executed c =
     let p = c.args.place.now.point.0 in
     let n = variable_count c.args.place.now.variables in
-    let parts = c.parts-2.result.now in
-    let point = c.index-point-2.result.now in
-    let shown = c.parts-2.ensures.shown in
+    let parts = c.parts.result.now in
+    let point = c.index-point.result.now in
+    let shown = c.parts.ensures.shown in
     let place = subst (λ (o : S.Object). variables_at o p ≡ Some n) (sym shown) c.requires.place in
-    let at = viewed_at point_of parts.points.items p point (placed (parts_of parts) p n place) c.index-point-2.ensures in
+    let at = viewed_at point_of parts.points.items p point (placed (parts_of parts) p n place) c.index-point.ensures in
     λ (other : S.Point) there.
     let same = same_Some (point_of point) other (sym at ∙ ap (λ (o : S.Object). slice_get o.points p) shown ∙ there) in
     subst (λ (q : S.Point). IsExecuted (object_shown c.args.object.now) q.instruction (state_of c.args.state.now) c.args.place.now (state_of c.run.new.state) c.run.new.place c.run.result)
