@@ -1,5 +1,4 @@
-ghost use Rattle.std.specs.Prelude.{◌≡◌, ◌<◌, ◌^◌, IfOk};
-ghost use Rattle.lc_sexp.specs.Trees.{item_count_of_all};
+ghost use Rattle.std.specs.Prelude.{◌≡◌, IfOk};
 ghost use Rattle.lc_sexp.specs.Shown.{rest_of};
 ghost use Rattle.lc_names.specs.Listed.{atoms_in};
 ghost use Rattle.lc_names.specs.TableView.{listed};

@@ -1,7 +1,6 @@
-ghost use Rattle.std.specs.Prelude.{◌≡◌, ◌≤◌, ◌<◌, ◌^◌, ℕ, IfOk};
-ghost use Rattle.lc_sexp.specs.Trees.{Tree, item_count_of_all};
+ghost use Rattle.std.specs.Prelude.{◌≡◌, ◌≤◌, ℕ, IfOk};
+ghost use Rattle.lc_sexp.specs.Trees.{Tree};
 ghost use Rattle.lc_sexp.specs.Shown.{rest_of, number_of, part_count, ShowsItem};
-ghost use Rattle.lc_term.specs.Items.{size_of};
 ghost use Rattle.lc_kernel.specs.FormulaNames.{declared_in};
 ghost use Rattle.lc_kernel.specs.FormulaText.{wrong_in_declarations, wrong_in_section, wrong_in_sections, all_sections, wrong_in_form, wrong_in_file};
 ghost use Rattle.lc_kernel.specs.SeenNames.{declared_of};

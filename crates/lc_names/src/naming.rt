@@ -1,5 +1,5 @@
-ghost use Rattle.std.specs.Prelude.{◌≡◌, ◌+◌, ◌<◌, ◌^◌, ℕ, IfOk, length};
-ghost use Rattle.lc_sexp.specs.Trees.{Tree, item_count_of_all};
+ghost use Rattle.std.specs.Prelude.{◌≡◌, ℕ, IfOk};
+ghost use Rattle.lc_sexp.specs.Trees.{Tree};
 ghost use Rattle.lc_sexp.specs.Shown.{rest_of, number_of, ShowsItem};
 ghost use Rattle.lc_term.specs.Passes.{is_long_name};
 ghost use Rattle.lc_names.specs.TableView.{listed};

@@ -38,7 +38,7 @@ fn note_place<'a>(
 }
 
 impl<'a> NameTable<'a> {
-    ghost use Rattle.std.specs.Prelude.{◌≡◌, ◌<◌, ◌^◌, ◌+◌, ◌++◌, ◌∷◌, [], length, IfOk};
+    ghost use Rattle.std.specs.Prelude.{◌≡◌, ◌++◌, ◌∷◌, [], length, IfOk};
     ghost use Rattle.std.specs.List.{list_any};
     ghost use Rattle.lc_sexp.specs.Shown.{rest_of};
     ghost use Rattle.lc_term.specs.Grammar.{is};

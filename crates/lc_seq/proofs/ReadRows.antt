@@ -1,11 +1,7 @@
 -- Items in a row that are read one after another.
-use Rattle.std.proofs.Common.{◌≡◌, ℕ, List, [], ◌∷◌, ◌++◌, Option, Some, None, refl, sym, ap, ◌∙◌, append_assoc, append-nil}
-use Rattle.std.specs.Prelude.{option_map}
+use Rattle.std.proofs.Common.{◌≡◌, ℕ, List, Option, Some, None, refl, ap, ◌∙◌}
 use Rattle.lc_sexp.specs.Trees.{Tree, Trees, ◌▸◌}
-use Rattle.lc_term.specs.ReadAs.{both, three}
-use Rattle.lc_term.specs.Reading.{IsReadFault}
-use Rattle.lc_term.specs.declared.reading.ReadFault.{ReadFault}
-use Rattle.lc_term.specs.declared.reading.ReadFault.TheVariants.{NoReading, OutOfMemory}
+use Rattle.lc_term.specs.ReadAs.{three}
 use Rattle.lc_names.specs.Listed.{atoms_in}
 use Rattle.lc_seq.specs.SpecNames.{items_in, variables_with, branch_names}
 use Rattle.lc_seq.specs.SpecReading.{name_from, branch_from, the_operation, few, with_others, signature_from}

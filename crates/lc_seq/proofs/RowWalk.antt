@@ -1,8 +1,7 @@
 -- Steps of a walk over the parts of a specification.
-use Rattle.std.proofs.Common.{◌≡◌, ℕ, suc, ◌+◌, ◌≤◌, Bool, true, false, List, ◌++◌, length, length-append, Option, Some, None, Ok, Err, cond, refl, sym, ap, ◌∙◌, arith}
+use Rattle.std.proofs.Common.{◌≡◌, ℕ, suc, ◌+◌, ◌≤◌, Bool, true, false, List, ◌++◌, Option, Some, None, Ok, Err, cond, refl, sym, ap, ◌∙◌, arith}
 use Rattle.std.proofs.lemmas.Bool.Decides.{nat_tests}
 use Rattle.std.specs.Prelude.{nat_lt, is_some}
-use Rattle.std.specs.Borrow.{Bor}
 use Rattle.std.specs.Option.{option_or}
 use Rattle.lc_sexp.specs.Parts.{any_fit}
 use Rattle.lc_sexp.specs.Shown.{rest_of, number_of, IsPart, GivesPart, ShowsItem}
@@ -10,15 +9,13 @@ use Rattle.lc_sexp.specs.TreeCode.{tree_count}
 use Rattle.lc_sexp.specs.Trees.{Tree, Trees, none, ◌▸◌, item_count}
 use Rattle.lc_sexp.specs.declared.cursor.Cursor.{Cursor}
 use Rattle.lc_sexp.specs.declared.cursor.Item.{Item}
-use Rattle.lc_sexp.specs.declared.cursor.Item.TheVariants.{Atom as AtomItem, List as ListItem}
-use Rattle.lc_term.specs.Items.{tree_of_item, size_of}
+use Rattle.lc_term.specs.Items.{tree_of_item}
 use Rattle.lc_term.specs.Names.{Names}
 use Rattle.lc_term.specs.Passes.{surplus}
 use Rattle.lc_term.specs.declared.passes.Pass.{Pass}
 use Rattle.lc_names.specs.Naming.{wrong_in_declaration}
 use Rattle.lc_seq.specs.Rows.{Look, wrong_in_three, wrong_in_each, wrong_in_declared}
 use Rattle.lc_seq.specs.SpecNames.{Columns, variables_with, branch_names}
-use Rattle.lc_seq.specs.SpecSeen.{named}
 use Rattle.lc_seq.specs.SpecText.{wrong_in_term, wrong_in_terms, wrong_in_branch, wrong_in_arguments, wrong_in_count, arguments_in, replies_in, wrong_in_signature}
 
 -- what is beyond a limit is told at its own number
@@ -107,16 +104,3 @@ signature_walked pass columns before own variables count n m ts wrong many e f g
     is ∙ ap (λ x. with_names pass columns before n m ts x variables count) e ∙ ap (λ x. with_names pass columns before n m ts columns.own x count) f
     ∙ ap (λ x. with_names pass columns before n m ts columns.own (variables_with (arguments_in ts)) x) g
     ∙ sym (ap (λ b. cond b (surplus pass n) (with_names pass columns before n m ts columns.own (variables_with (arguments_in ts)) (replies_in ts))) (enough 4 (tree_count ts) many))
-
--- an item has a size
-pub sized : (item : Item) → 1 ≤ size_of item
-sized (AtomItem a) = omega arith
-sized (ListItem c) = omega arith
-
-named_few : (name : Option (Bor (List ℕ))) → length (named name) ≤ 1
-named_few None = omega arith
-named_few (Some name) = omega arith
-
--- where a declaration is entered among those before it, there is room for those behind it
-pub room_kept : (names names' : List (List ℕ)) (name : Option (Bor (List ℕ))) (size left left' whole : ℕ) → names' ≡ names ++ named name → 1 ≤ size → size + left' ≡ left → length names + left ≤ whole → length names' + left' ≤ whole
-room_kept names names' name size left left' whole e s f g = omega (arith, ap length e, length-append names (named name), named_few name, s, f, g)

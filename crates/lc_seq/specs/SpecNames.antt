@@ -1,5 +1,5 @@
 -- The names that a specification declares, and how they are read in it.
-use Rattle.std.specs.Prelude.{ℕ, suc, Bool, false, ◌||◌, codes, List, [], ◌∷◌, ◌++◌, Option, Some, None, option_map}
+use Rattle.std.specs.Prelude.{ℕ, suc, false, codes, List, [], ◌∷◌, ◌++◌, Option, Some, None, option_map}
 use Rattle.lc_sexp.specs.Trees.{Tree, Trees, atom, list, none, ◌▸◌}
 use Rattle.lc_term.specs.Names.{Names}
 use Rattle.lc_term.specs.declared.scope.ColumnUse.{ColumnUse}

@@ -1,5 +1,5 @@
 -- What a specification says, and what is answered to a file whose first form is to be one.
-use Rattle.std.specs.Prelude.{◌≡◌, ℕ, ℤ, ◌&&◌, nat_le, if◌then◌else◌, List, [], ◌∷◌, length, Option, Some, None, Result, Ok, Err}
+use Rattle.std.specs.Prelude.{◌≡◌, ℕ, ℤ, ◌&&◌, nat_le, if◌then◌else◌, List, [], length, Option, Some, None, Result, Ok, Err}
 use Rattle.lc_base.specs.NameText.{is_name}
 use Rattle.lc_base.specs.declared.refusal.Fault.{Fault}
 use Rattle.lc_base.specs.declared.refusal.Fault.TheVariants.{Refused, OutOfMemory}

@@ -1,11 +1,9 @@
-ghost use Rattle.std.specs.Prelude.{◌≡◌, ◌<◌, ◌^◌, ℕ, List, Option, [], option_map, map};
-ghost use Rattle.lc_sexp.specs.Trees.{item_count_of_all};
-ghost use Rattle.lc_sexp.specs.Shown.{rest_of};
-ghost use Rattle.lc_term.specs.Items.{tree_of_item, size_of};
+ghost use Rattle.std.specs.Prelude.{◌≡◌, List, Option, option_map, map};
+ghost use Rattle.lc_term.specs.Items.{tree_of_item};
 ghost use Rattle.lc_term.specs.Reading.{IsReading};
 ghost use Rattle.lc_seq.specs.SpecReading.{written_from, update_from, branch_from};
 ghost use Rattle.lc_names.specs.EachRead.{list_from};
-ghost use Rattle.lc_seq.specs.SpecView.{update_of, updates_of, branch_of};
+ghost use Rattle.lc_seq.specs.SpecView.{update_of, branch_of};
 
 use crate::spec_columns::{behind_word, items_in};
 use crate::specification::{Branch, Update};

@@ -1,4 +1,3 @@
-ghost use Rattle.std.specs.Prelude.{◌≡◌};
 
 use crate::fault::SeqFault;
 use lc_base::OutOfMemory;
@@ -7,7 +6,7 @@ use std::alloc::Global;
 /// An object that is called by one client at a time. A call has a code, which is the number of its operation, and
 /// numbers; a reply is known by its numbers, so two replies with equal numbers are equal.
 pub trait SeqObject {
-    ghost use Rattle.std.specs.Prelude.{◌≡◌, ◌↔◌, ℕ, List, ℤ, Option, Some, true, IfOk, MatchOption};
+    ghost use Rattle.std.specs.Prelude.{◌≡◌, ◌↔◌, ℕ, List, ℤ, Option, true, IfOk, MatchOption};
     ghost use Rattle.lc_seq.specs.Sequential.{Call, Sequential, Step};
     ghost use Rattle.lc_seq.specs.Applied.{IsApplied};
 

@@ -1,4 +1,4 @@
-ghost use Rattle.std.specs.Prelude.{◌≡◌, ◌+◌, ◌&&◌, ◌==◌, true, length, map, nat_lt};
+ghost use Rattle.std.specs.Prelude.{◌≡◌, ◌+◌, ◌&&◌, ◌==◌, true, length, map};
 ghost use Rattle.std.specs.List.{list_all};
 ghost use Rattle.lc_term.specs.Places.{known, term_passes, column_passes, is_known, are_known};
 ghost use Rattle.lc_term.specs.Syntax.{formulas};

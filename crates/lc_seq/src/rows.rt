@@ -1,7 +1,7 @@
-ghost use Rattle.std.specs.Prelude.{◌≡◌, ◌≤◌, ◌+◌, ℕ, IfOk};
-ghost use Rattle.lc_sexp.specs.Trees.{Tree, ◌▸◌, item_count_of_all};
-ghost use Rattle.lc_sexp.specs.Shown.{rest_of, number_of, ShowsItem};
-ghost use Rattle.lc_term.specs.Items.{tree_of_item, size_of};
+ghost use Rattle.std.specs.Prelude.{◌≡◌, ℕ, IfOk};
+ghost use Rattle.lc_sexp.specs.Trees.{Tree, ◌▸◌};
+ghost use Rattle.lc_sexp.specs.Shown.{rest_of, ShowsItem};
+ghost use Rattle.lc_term.specs.Items.{tree_of_item};
 ghost use Rattle.lc_seq.specs.Parts.{IsListOf, IsFormOf, AreThree};
 
 use lc_sexp::{Cursor, Item};

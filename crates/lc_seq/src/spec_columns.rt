@@ -1,7 +1,6 @@
-ghost use Rattle.std.specs.Prelude.{◌≡◌, ◌<◌, ◌≤◌, ◌+◌, ◌++◌, ◌^◌, IfOk, length};
-ghost use Rattle.lc_sexp.specs.Trees.{item_count_of_all};
+ghost use Rattle.std.specs.Prelude.{◌≡◌, ◌++◌, IfOk};
 ghost use Rattle.lc_sexp.specs.Shown.{rest_of};
-ghost use Rattle.lc_term.specs.Items.{tree_of_item, size_of};
+ghost use Rattle.lc_term.specs.Items.{tree_of_item};
 ghost use Rattle.lc_names.specs.TableView.{listed};
 ghost use Rattle.lc_seq.specs.SpecNames.{items_in, behind_word, first_name, second_name, column_names, columns_in};
 ghost use Rattle.lc_seq.specs.SpecSeen.{named};

@@ -28,9 +28,8 @@ fn column_at(place: Option<u32>) -> ColumnUse
 }
 
 impl<'a, 'b> InBranch<'a, 'b> {
-    ghost use Rattle.std.specs.Prelude.{◌≡◌, ◌<◌, ◌^◌, IfOk};
+    ghost use Rattle.std.specs.Prelude.{◌≡◌, IfOk};
     ghost use Rattle.lc_sexp.specs.Shown.{rest_of};
-    ghost use Rattle.lc_sexp.specs.Trees.{item_count_of_all};
     ghost use Rattle.lc_names.specs.Listed.{atoms_in};
     ghost use Rattle.lc_names.specs.TableView.{listed};
     ghost use Rattle.lc_seq.specs.SpecNames.{variables_with};

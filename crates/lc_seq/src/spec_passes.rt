@@ -1,8 +1,8 @@
-ghost use Rattle.std.specs.Prelude.{◌≡◌, ◌+◌, ◌<◌, ◌^◌, ℕ, [], IfOk, length, is_some};
+ghost use Rattle.std.specs.Prelude.{◌≡◌, ◌<◌, ℕ, [], IfOk, length, is_some};
 ghost use Rattle.lc_sexp.specs.Numerals.{integer_of};
-ghost use Rattle.lc_sexp.specs.Trees.{Tree, item_count_of_all};
+ghost use Rattle.lc_sexp.specs.Trees.{Tree};
 ghost use Rattle.lc_sexp.specs.Shown.{rest_of, number_of, owner_of, text_of, ShowsItem};
-ghost use Rattle.lc_term.specs.Items.{tree_of_item, size_of};
+ghost use Rattle.lc_term.specs.Items.{tree_of_item};
 ghost use Rattle.lc_names.specs.TableView.{listed};
 ghost use Rattle.lc_names.specs.Naming.{is_beyond_limit};
 ghost use Rattle.lc_seq.specs.SpecSeen.{columns_of};

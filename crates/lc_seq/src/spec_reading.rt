@@ -1,12 +1,11 @@
-ghost use Rattle.std.specs.Prelude.{◌≡◌, ◌<◌, ◌^◌, option_map};
+ghost use Rattle.std.specs.Prelude.{◌≡◌, option_map};
 ghost use Rattle.lc_base.specs.Name.{bytes_of};
 ghost use Rattle.lc_sexp.specs.Shown.{rest_of};
-ghost use Rattle.lc_sexp.specs.Trees.{item_count_of_all};
-ghost use Rattle.lc_term.specs.Items.{tree_of_item, size_of};
+ghost use Rattle.lc_term.specs.Items.{tree_of_item};
 ghost use Rattle.lc_term.specs.ReadAs.{number_from};
 ghost use Rattle.lc_term.specs.Reading.{IsReading};
 ghost use Rattle.lc_names.specs.TableView.{listed};
-ghost use Rattle.lc_seq.specs.SpecReading.{name_from, column_from, few, signature_from, operation_from, parts_from, specification_from};
+ghost use Rattle.lc_seq.specs.SpecReading.{name_from, column_from, few, signature_from, parts_from, specification_from};
 ghost use Rattle.lc_seq.specs.SpecNames.{columns_in};
 ghost use Rattle.lc_seq.specs.SpecParts.{parts_of};
 ghost use Rattle.lc_seq.specs.SpecText.{count_in};

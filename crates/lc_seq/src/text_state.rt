@@ -1,4 +1,3 @@
-ghost use Rattle.std.specs.Prelude.{◌≡◌};
 
 use lc_base::{ColId, OutOfMemory};
 use lc_term::State;
@@ -23,7 +22,7 @@ pub struct TextState {
 }
 
 impl TextState {
-    ghost use Rattle.std.specs.Prelude.{◌≡◌, ℕ, [], OnOk};
+    ghost use Rattle.std.specs.Prelude.{◌≡◌, [], OnOk};
     ghost use Rattle.lc_seq.specs.TextView.{text_state_of, IsStateOf};
 
     // Stores what is still to be stored. The state stays the same, also where memory is refused.
