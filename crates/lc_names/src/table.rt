@@ -10,8 +10,8 @@ use lc_base::OutOfMemory;
 use lc_sexp::{Cursor, Item};
 use std::alloc::Global;
 
-/// A table takes so many names, which are more than a file may have.
-const NAME_LIMIT: usize = 4_294_967_295;
+/// So many names a table takes, more than a file may have.
+const TABLE_LIMIT: usize = 4_294_967_295;
 
 /// Names in a row, and for each the place at which it stands first. There are fewer than 2^32 of them.
 #[derive(Drop)]
@@ -64,7 +64,7 @@ impl<'a> NameTable<'a> {
             mut places,
         } = self;
         let count = names.len();
-        if count >= NAME_LIMIT {
+        if count >= TABLE_LIMIT {
             return Err(OutOfMemory);
         }
         note_place(&mut places, name, count as u32)?;
