@@ -1,4 +1,3 @@
-
 use crate::fault::SeqFault;
 use lc_base::OutOfMemory;
 use std::alloc::Global;

@@ -1,4 +1,3 @@
-
 use crate::fault::SeqFault;
 use crate::object::SeqObject;
 use crate::running::{call_env, run};

@@ -1,4 +1,3 @@
-
 use lc_base::{ColId, OutOfMemory};
 use lc_term::State;
 
