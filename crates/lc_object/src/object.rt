@@ -9,7 +9,7 @@ use crate::testing::is_object;
 /// and variables that are there, in the right numbers.
 #[derive(Debug, Drop)]
 pub struct Object {
-    parts: Parts,
+    pub(crate) parts: Parts,
     ghost well_formed: { is_object (parts_of parts) ≡ true },
 }
 

@@ -19,10 +19,7 @@ fn object(parts: Parts) -> Object
     requires { is_object (parts_of parts) ≡ true }
     ensures { object_shown result ≡ parts_of parts }
 {
-    match Object::new(parts) {
-        Some(object) => object,
-        None => unreachable!(),
-    }
+    Object { parts }
 }
 
 /// The object of a development file, given all forms of the file.
