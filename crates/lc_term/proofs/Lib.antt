@@ -21,3 +21,9 @@ pub mod SoundTexts
 pub mod PrintedTrees
 pub mod Reread
 pub mod Written
+pub mod Rows
+pub mod Parts
+pub mod Trees
+pub mod Tables
+pub mod Later
+pub mod Taken

@@ -7,6 +7,8 @@ pub mod Hash
 pub mod Items
 pub mod Meaning
 pub mod Names
+pub mod NodeTables
+pub mod Nodes
 pub mod Passes
 pub mod Places
 pub mod Reached
@@ -14,6 +16,7 @@ pub mod ReadAs
 pub mod Reading
 pub mod Replacement
 pub mod Reserved
+pub mod Rows
 pub mod Sound
 pub mod Spelled
 pub mod SpelledTree
@@ -21,6 +24,7 @@ pub mod Spelling
 pub mod State
 pub mod Substitution
 pub mod Syntax
+pub mod Tables
 pub mod Truth
 pub mod View
 pub mod Written

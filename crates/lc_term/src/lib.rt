@@ -1,6 +1,8 @@
 //! Terms, column expressions and formulas: what they mean, how they are computed, read and printed.
 #![tactic(auto)]
 
+mod building;
+mod entering;
 mod evaluation;
 mod formula;
 mod formula_reading;
@@ -8,6 +10,7 @@ mod grammar;
 mod ground;
 mod hash;
 pub mod laws;
+mod node;
 mod passes;
 mod printing;
 mod reading;
@@ -17,6 +20,7 @@ mod scope;
 mod shifting;
 mod state;
 mod substitution;
+mod table;
 mod term;
 
 pub use evaluation::{eval, eval_term};
@@ -24,6 +28,7 @@ pub use formula::{Formula, copy_formulas};
 pub use formula_reading::{read_formula, read_formulas};
 pub use grammar::Kind;
 pub use ground::{is_closed, is_ground_of_quantifiers};
+pub use node::{ColExprId, FormulaId, FormulaNode, TermId, TermNode};
 pub use passes::{Pass, first_wrong};
 pub use printing::{Spelling, write_column, write_formula, write_term};
 pub use reading::{ReadFault, read_column, read_term};
@@ -32,4 +37,5 @@ pub use scope::{ColumnUse, Extra, Scope};
 pub use shifting::{shift, shift_formula};
 pub use state::{CellWrite, Env, EvalFault, State};
 pub use substitution::{instantiate, substitute};
+pub use table::Terms;
 pub use term::{ColExpr, Term};
