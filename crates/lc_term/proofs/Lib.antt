@@ -21,3 +21,6 @@ pub mod SoundTexts
 pub mod PrintedTrees
 pub mod Reread
 pub mod Written
+pub mod Stores
+pub mod Tests
+pub mod Symbolic

@@ -5,6 +5,7 @@ pub mod EqualLaws
 pub mod Grammar
 pub mod Hash
 pub mod Items
+pub mod Lists
 pub mod Meaning
 pub mod Names
 pub mod Passes
@@ -14,6 +15,7 @@ pub mod ReadAs
 pub mod Reading
 pub mod Replacement
 pub mod Reserved
+pub mod Said
 pub mod Sound
 pub mod Spelled
 pub mod SpelledTree
@@ -21,6 +23,8 @@ pub mod Spelling
 pub mod State
 pub mod Substitution
 pub mod Syntax
+pub mod SystemColumns
 pub mod Truth
+pub mod Updates
 pub mod View
 pub mod Written
