@@ -6,9 +6,11 @@ use Rattle.std.proofs.lemmas.Bool.Decides.{nat_tests}
 use Rattle.std.proofs.lemmas.List.{length-append, length-map, length-replicate}
 use Rattle.std.proofs.lemmas.Option.{same_Some, slice_get-map, slice_get_read}
 use Rattle.lc_object.specs.Syntax.{Array, Operation, Point, Object}
+pub use Rattle.lc_object.proofs.ObjectParts.{operations_pass}
 use Rattle.lc_object.specs.WellFormed.{is_object, is_array, is_point, are_operations, are_distinct}
 use Rattle.lc_machine.specs.World.{initial_numbers}
 use Rattle.lc_machine.specs.Executed.{AreBelow}
+pub use Rattle.lc_term.proofs.Tests.{at_all}
 use Rattle.lc_machine.proofs.Known.{left_true, right_true}
 
 pub initial_count : (object : Object) → length (initial_numbers object) ≡ length object.abstracts + length object.concretes
@@ -16,21 +18,12 @@ initial_count object =
     length-append (replicate (length object.abstracts) (pos 0, pos 0)) (map (λ c. (c.slope, c.start)) object.concretes) ∙
     ap₂ (λ a b. a + b) (length-replicate (length object.abstracts) (pos 0, pos 0)) (length-map object.concretes (λ c. (c.slope, c.start)))
 
--- what each element passes, the one at a place passes
-pub at_all : {A : Type 0} (p : A → Bool) (xs : List A) (k : ℕ) (x : A) → list_all p xs ≡ true → slice_get xs k ≡ Some x → p x ≡ true
-at_all p [] k x e f = cc
-at_all p (y ∷ ys) zero x e f = ap p (sym (same_Some y x f)) ∙ left_true (p y) (list_all p ys) e
-at_all p (y ∷ ys) (suc k) x e f = at_all p ys k x (right_true (p y) (list_all p ys) e) f
-
 -- the parts of the test of an object
 pub operations_few : (object : Object) → is_object object ≡ true → nat_le (length object.operations) 16 ≡ true
 operations_few object e = left_true _ _ (left_true _ _ (left_true _ _ (left_true _ _ e)))
 
 pub arrays_pass : (object : Object) → is_object object ≡ true → list_all (is_array object) object.arrays ≡ true
 arrays_pass object e = right_true _ _ (left_true _ _ (left_true _ _ e))
-
-pub operations_pass : (object : Object) → is_object object ≡ true → are_operations object 0 object.operations ≡ true
-operations_pass object e = right_true _ _ (left_true _ _ e)
 
 pub points_pass : (object : Object) → is_object object ≡ true → list_all (is_point object) object.points ≡ true
 points_pass object e = right_true _ _ e

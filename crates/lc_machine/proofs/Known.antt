@@ -8,19 +8,8 @@ use Rattle.lc_term.specs.Syntax.{Term, Number, Variable, Bound, Add, Subtract, M
 use Rattle.lc_term.specs.Syntax.{Formula, Le, Eq, Not, And, Or, Implies, Forall, Exists, Formulas, none, more}
 use Rattle.lc_term.specs.Places.{known, term_passes, passes, all_pass, is_known, are_known}
 use Rattle.lc_term.specs.Truth.{is_ground, are_ground}
+pub use Rattle.lc_term.proofs.Tests.{left_true, right_true, both_true}
 use Rattle.lc_object.specs.WellFormed.{is_code_term, are_code_terms, is_code_formula, are_code_formulas}
-
-pub left_true : (a b : Bool) → (a && b) ≡ true → a ≡ true
-left_true true b e = refl
-left_true false b e = e
-
-pub right_true : (a b : Bool) → (a && b) ≡ true → b ≡ true
-right_true true b e = e
-right_true false b e = cc
-
-pub both_true : (a b : Bool) → a ≡ true → b ≡ true → (a && b) ≡ true
-both_true true b e f = f
-both_true false b e f = e
 
 -- a term of an instruction can be computed over any columns
 pub known_term : (columns count : ℕ) (t : Term) → is_code_term count t ≡ true → term_passes (known columns count) t ≡ true

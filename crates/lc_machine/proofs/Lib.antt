@@ -7,3 +7,5 @@ pub mod Promised
 pub mod Stepping
 pub mod Worlds
 pub mod EdgeLaw
+pub mod Bodies
+pub mod Over

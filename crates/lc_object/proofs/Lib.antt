@@ -21,3 +21,4 @@ pub mod Distinct
 pub mod ObjectChecks
 pub mod ObjectSound
 pub mod ObjectFiles
+pub mod ObjectParts

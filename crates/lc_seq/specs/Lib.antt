@@ -1,4 +1,5 @@
 pub mod Applied
+pub mod Branches
 pub mod Counts
 pub mod Parts
 pub mod Rows

@@ -27,3 +27,6 @@ pub mod Trees
 pub mod Tables
 pub mod Later
 pub mod Taken
+pub mod Stores
+pub mod Tests
+pub mod Symbolic

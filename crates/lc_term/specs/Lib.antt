@@ -5,6 +5,7 @@ pub mod EqualLaws
 pub mod Grammar
 pub mod Hash
 pub mod Items
+pub mod Lists
 pub mod Meaning
 pub mod Names
 pub mod NodeTables
@@ -17,6 +18,7 @@ pub mod Reading
 pub mod Replacement
 pub mod Reserved
 pub mod Rows
+pub mod Said
 pub mod Sound
 pub mod Spelled
 pub mod SpelledTree
@@ -25,6 +27,8 @@ pub mod State
 pub mod Substitution
 pub mod Syntax
 pub mod Tables
+pub mod SystemColumns
 pub mod Truth
+pub mod Updates
 pub mod View
 pub mod Written
