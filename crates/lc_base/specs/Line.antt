@@ -8,6 +8,10 @@ use Rattle.lc_base.specs.declared.refusal.Refusal.{Refusal}
 abbrev pub line_of : List ℕ → List ℕ → List ℕ
 line_of word numbers = word ++ flat_map (λ n. 32 ∷ decimal n) numbers ++ (10 ∷ [])
 
+-- a refusal as it is displayed: `refused`, its code, and each of its numbers after one space
+abbrev pub refusal_text : Refusal → List ℕ
+refusal_text refusal = codes "refused" ++ flat_map (λ n. 32 ∷ decimal n) (code_of refusal ∷ numbers_of refusal)
+
 -- the line that a refusal prints
 abbrev pub refusal_line_of : Refusal → List ℕ
 refusal_line_of refusal = line_of (codes "refused") (code_of refusal ∷ numbers_of refusal)

@@ -3,58 +3,76 @@ ghost use Rattle.lc_base.specs.Refusal.{code_of};
 
 use crate::memory::OutOfMemory;
 use std::alloc::{AllocError, AllocFailed};
-use thiserror::Error;
+use std::error::Error;
+use std::fmt;
 
 /// Why a file or an order is refused. Offsets count bytes and items count in preorder, both from 0.
 /// It is printed as `refused`, its code and its numbers.
-#[derive(Clone, Copy, Debug, PartialEq, Eq, Hash, Error)]
+#[derive(Clone, Copy, Debug, PartialEq, Eq, Hash)]
 pub enum Refusal {
     /// The bytes are no s-expressions. The number is the offset of the first fault.
-    #[error("refused 1 {0}")]
     Text(u64),
     /// An item does not fit the grammar.
-    #[error("refused 2 {0}")]
     Shape(u64),
     /// An item is a name that is not declared.
-    #[error("refused 3 {0}")]
     Unknown(u64),
     /// An item is a name that is declared twice or reserved.
-    #[error("refused 4 {0}")]
     Repeated(u64),
     /// An item of object code reads an auxiliary, abstract or system column.
-    #[error("refused 5 {0}")]
     Auxiliary(u64),
     /// A number or a count, told at an item, is beyond a limit.
-    #[error("refused 6 {0}")]
     Bound(u64),
     /// As `Text`, of a certificate.
-    #[error("refused 7 {0}")]
     CertText(u64),
     /// An item of a certificate is refused for any reason of `Shape` to `Bound`.
-    #[error("refused 8 {0}")]
     CertShape(u64),
     /// The condition of this number has no proof.
-    #[error("refused 9 {0}")]
     Missing(u64),
     /// There is a proof for this number, and no such condition.
-    #[error("refused 10 {0}")]
     Extra(u64),
     /// In the proof of a condition a step does not hold, for a reason: condition, step and reason.
-    #[error("refused 11 {0} {1} {2}")]
     Proof(u64, u64, u8),
     /// In the proof of a condition the arithmetic of a step leaves 128 bits: condition and step.
-    #[error("refused 12 {0} {1}")]
     Large(u64, u64),
     /// A history is not of the form. The number is that of the first wrong event or entry, or 0.
-    #[error("refused 13 {0}")]
     HistoryShape(u64),
     /// An order is no linearization: the place in the order, and the reason.
-    #[error("refused 14 {0} {1}")]
     Order(u64, u8),
 }
 
+impl fmt::Display for Refusal {
+    ghost use Rattle.std.specs.Prelude.{Some};
+    ghost use Rattle.lc_base.specs.Line.{refusal_text};
+
+    ghost output = { λ refusal. Some (refusal_text refusal) };
+
+    fn fmt<W: fmt::Write>(&self, f: &mut fmt::Formatter<W>) -> fmt::Result {
+        let code = code(self);
+        match self {
+            Refusal::Text(number)
+            | Refusal::Shape(number)
+            | Refusal::Unknown(number)
+            | Refusal::Repeated(number)
+            | Refusal::Auxiliary(number)
+            | Refusal::Bound(number)
+            | Refusal::CertText(number)
+            | Refusal::CertShape(number)
+            | Refusal::Missing(number)
+            | Refusal::Extra(number)
+            | Refusal::HistoryShape(number) => write!(f, "refused {code} {number}"),
+            Refusal::Proof(condition, step, reason) => {
+                write!(f, "refused {code} {condition} {step} {reason}")
+            }
+            Refusal::Large(condition, step) => write!(f, "refused {code} {condition} {step}"),
+            Refusal::Order(place, reason) => write!(f, "refused {code} {place} {reason}"),
+        }
+    }
+}
+
+impl Error for Refusal {}
+
 /// What a reader answers in place of a value.
-#[derive(Clone, Copy, Debug, PartialEq, Eq, Hash, Error)]
+#[derive(Clone, Copy, Debug, PartialEq, Eq, Hash, thiserror::Error)]
 pub enum Fault {
     /// The input is refused.
     #[error("{0}")]

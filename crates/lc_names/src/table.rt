@@ -14,12 +14,20 @@ use std::alloc::Global;
 const TABLE_LIMIT: usize = 4_294_967_295;
 
 /// Names in a row, and for each the place at which it stands first. There are fewer than 2^32 of them.
-#[derive(Drop)]
 pub struct NameTable<'a> {
     names: Vec<&'a str>,
     places: IndexMap<&'a str, u32>,
     ghost counted: { length names.items < 2 ^ 32 },
     ghost placed: { (w : List ℕ) → lookup (λ name. is w name.now) places.entries ≡ place_of (names_in names.items) w },
+}
+
+impl Drop for NameTable<'_> {
+    fn drop(self) {
+        let NameTable {
+            names: _,
+            places: _,
+        } = self;
+    }
 }
 
 /// Notes the place of a name, unless it stands at one already.

@@ -1,21 +1,7 @@
-//! The program `lincheck`: a thin shell over the calls of the libraries.
+//! The program `lincheck`: `lincheck::execute` over the files of the system and its streams.
 #![tactic(auto)]
 
-mod answer;
-mod command_line;
-mod disk;
-mod execute;
-mod files;
-mod formula;
-mod judge;
-mod laws;
-mod reading;
-#[cfg(test)]
-mod tests;
-
-use crate::answer::{COMMAND_LINE_FAULT, OUT_OF_MEMORY};
-use crate::disk::Disk;
-use crate::execute::execute;
+use lincheck::{COMMAND_LINE_FAULT, Disk, OUT_OF_MEMORY, execute};
 use std::io::ErrorKind;
 use std::process::ExitCode;
 use std::{env, io};

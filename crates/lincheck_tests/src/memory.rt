@@ -1,6 +1,5 @@
 //! Files and streams in memory, and runs of the program over them.
-use crate::execute::execute;
-use crate::files::Files;
+use lincheck::{Files, execute};
 use std::alloc::{AllocError, Global};
 use std::io;
 use std::io::{ErrorKind, Read, Write};
@@ -16,7 +15,6 @@ pub enum End {
 /// A file in memory. Each read gives one byte.
 #[derive(Clone, Copy)]
 pub struct File<'a> {
-    pub path: &'a str,
     pub bytes: &'a [u8],
     pub end: End,
     /// So many reads are interrupted first.
@@ -24,10 +22,9 @@ pub struct File<'a> {
 }
 
 impl<'a> File<'a> {
-    pub fn new(path: &'a str, bytes: &'a [u8], end: End) -> File<'a> {
+    pub fn new(text: &'a str, end: End) -> File<'a> {
         File {
-            path,
-            bytes,
+            bytes: text.as_bytes(),
             end,
             interruptions: 0,
         }
@@ -53,24 +50,19 @@ impl Read for File<'_> {
     }
 }
 
-/// A folder with one file at most. It counts how often a file is opened.
+/// A folder with a file `a` and a file `b`, where they are there. It counts how often a file is opened.
 #[derive(Drop)]
 pub struct Folder<'a> {
-    pub file: Option<File<'a>>,
+    pub first: Option<File<'a>>,
+    pub second: Option<File<'a>>,
     pub opened: u32,
 }
 
 impl<'a> Folder<'a> {
-    pub fn of(file: File<'a>) -> Folder<'a> {
+    pub fn of(first: Option<File<'a>>) -> Folder<'a> {
         Folder {
-            file: Some(file),
-            opened: 0,
-        }
-    }
-
-    pub fn empty() -> Folder<'a> {
-        Folder {
-            file: None,
+            first,
+            second: None,
             opened: 0,
         }
     }
@@ -81,14 +73,19 @@ impl<'a> Files for Folder<'a> {
 
     fn open(&mut self, path: &str) -> io::Result<File<'a>> {
         self.opened = self.opened.saturating_add(1);
-        match &self.file {
-            Some(file) if file.path == path => Ok(*file),
-            _ => Err(io::Error::from(ErrorKind::NotFound)),
+        let file = match path {
+            "a" => self.first,
+            "b" => self.second,
+            _ => None,
+        };
+        match file {
+            Some(file) => Ok(file),
+            None => Err(io::Error::from(ErrorKind::NotFound)),
         }
     }
 }
 
-/// A file that is the same at each path.
+/// A file that is the same at each path, and whose bytes are known.
 #[derive(Drop)]
 pub struct Everywhere<'a> {
     pub bytes: &'a [u8],
@@ -103,39 +100,6 @@ impl<'a> Files for Everywhere<'a> {
 
     fn open(&mut self, _path: &str) -> io::Result<&'a [u8]> {
         Ok(self.bytes)
-    }
-}
-
-/// A development at `d`, and a history at `h` where there is one. It counts how often a file is opened.
-#[derive(Drop)]
-pub struct Pair<'a> {
-    pub development: &'a [u8],
-    pub history: Option<&'a [u8]>,
-    pub opened: u32,
-}
-
-impl<'a> Pair<'a> {
-    pub fn of(development: &'a [u8], history: Option<&'a [u8]>) -> Pair<'a> {
-        Pair {
-            development,
-            history,
-            opened: 0,
-        }
-    }
-}
-
-impl<'a> Files for Pair<'a> {
-    type Reader = &'a [u8];
-
-    fn open(&mut self, path: &str) -> io::Result<&'a [u8]> {
-        self.opened = self.opened.saturating_add(1);
-        if path == "d" {
-            return Ok(self.development);
-        }
-        match self.history {
-            Some(history) if path == "h" => Ok(history),
-            _ => Err(io::Error::from(ErrorKind::NotFound)),
-        }
     }
 }
 
@@ -171,9 +135,9 @@ pub struct Ended {
 
 impl Ended {
     pub fn is(&self, status: u8, out: &str, err: &str) -> bool {
-        self.status == status
-            && self.out.as_slice() == out.as_bytes()
-            && self.err.as_slice() == err.as_bytes()
+        (self.status == status)
+            & (self.out.as_slice() == out.as_bytes())
+            & (self.err.as_slice() == err.as_bytes())
     }
 }
 
@@ -183,18 +147,4 @@ pub fn run<F: Files>(alloc: Global, words: &[&str], files: &mut F) -> Result<End
     let mut err = Vec::new(alloc);
     let status = execute(alloc, words.as_slice(), files, &mut out, &mut err);
     Ok(Ended { status, out, err })
-}
-
-/// What `formula` answers to a file of these bytes.
-pub fn formula(alloc: Global, bytes: &[u8]) -> Result<Ended, AllocError> {
-    run(
-        alloc,
-        ["lincheck", "formula", "a.formula"].as_slice(),
-        &mut Everywhere { bytes },
-    )
-}
-
-/// Whether `formula` prints this line, and ends with this status.
-pub fn is_answered(alloc: Global, text: &str, status: u8, line: &str) -> Result<bool, AllocError> {
-    Ok(formula(alloc, text.as_bytes())?.is(status, line, ""))
 }
