@@ -1,13 +1,13 @@
 use lc_base::Fault;
-use lc_object::object_of;
-use lc_sexp::read;
+use lc_object::object_at;
+use lc_sexp::Forms;
 use std::alloc::Global;
 use std::io;
 
 /// How many points the object of a development has.
 fn count_points(alloc: Global, text: &[u8]) -> Result<usize, Fault> {
-    let forms = read(alloc, text)?;
-    let object = object_of(alloc, &forms)?;
+    let forms = Forms::read(alloc, text)?;
+    let object = object_at(alloc, forms.cursor())?;
     Ok(object.parts().points.len())
 }
 

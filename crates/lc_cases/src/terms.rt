@@ -1,6 +1,6 @@
 use anyhow::{Context, bail};
 use lc_base::{ColId, OutOfMemory};
-use lc_sexp::{Cursor, Item, read};
+use lc_sexp::{Forms, Item};
 use lc_term::{
     ColumnUse, Extra, Kind, Pass, ReadFault, Scope, Spelling, first_wrong, read_column,
     read_formula, read_term, write_column, write_formula, write_term,
@@ -135,8 +135,8 @@ pub fn answer_term(rt: &HostRuntime, place: Place, name: &str, text: &str) -> an
     let (task, rest) = text.split_once(' ').context("a task stands first")?;
     let (word, item) = rest.split_once(' ').context("a kind stands second")?;
     let kind = kind_of(word).context("a kind is that of an item")?;
-    let forms = read(rt.alloc(), item.as_bytes())?;
-    let mut cursor = Cursor::new(&forms);
+    let forms = Forms::read(rt.alloc(), item.as_bytes())?;
+    let mut cursor = forms.cursor();
     match cursor.item() {
         Ok(item) => answer_item(rt, place, name, task, kind, item),
         Err(_) => bail!("an item stands third"),

@@ -88,7 +88,7 @@ pub(crate) fn read_declarations<'a>(
 ) -> Result<Declared<'a>, OutOfMemory>
     ensures { IfOk result (λ d. declared_of d ≡ declared_in (rest_of forms.entry)) }
 {
-    let nothing = Cursor::new(&[]);
+    let nothing = Cursor::empty();
     let (variables, columns) = match find_sections(forms) {
         Ok(sections) => (sections.variables, sections.columns),
         Err(_) => (nothing, nothing),

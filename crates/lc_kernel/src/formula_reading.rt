@@ -20,7 +20,7 @@ use crate::proof_reading::read_proof;
 use crate::sections::find_sections;
 use lc_base::{Fault, OutOfMemory};
 use lc_names::{Examined, find_refusal};
-use lc_sexp::{Cursor, Item, Misfit, read};
+use lc_sexp::{Cursor, Forms, Item, Misfit};
 use lc_term::{Formula, Pass, ReadFault, Scope, read_formula, read_formulas};
 use std::alloc::Global;
 
@@ -121,6 +121,6 @@ pub fn formula_of(alloc: Global, bytes: &[u8]) -> Result<(Goal, Proof), Fault>
     ensures goal { IfOk result (λ answer. IsTrue (formula_below answer.0.vars (formula_of answer.0.goal))) }
     ensures steps { IfOk result (λ answer. answer.0.vars + size (proof_of answer.1) < 2 ^ 32) }
 {
-    let forms = read(alloc, bytes)?;
-    read_forms(alloc, Cursor::new(&forms))
+    let forms = Forms::read(alloc, bytes)?;
+    read_forms(alloc, forms.cursor())
 }

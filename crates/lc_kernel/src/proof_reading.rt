@@ -263,8 +263,10 @@ fn read_branches<S: Scope>(
 {
     let mut branches = Vec::new(alloc);
     let mut due = layout;
+    let mut left = list.len();
     'parts: loop {
-        let left = list.len();
+        let room = left;
+        left = left.saturating_sub(1);
         let Ok(item) = list.item() else {
             return Ok(branches);
         };
@@ -273,7 +275,7 @@ fn read_branches<S: Scope>(
         if !is_step(part) {
             continue 'parts;
         }
-        branches.reserve_exact(left)?;
+        branches.reserve_exact(room)?;
         branches.push(read_proof(alloc, scope, item)?)?;
     }
 }

@@ -20,13 +20,11 @@ pub(crate) struct Sections<'a> {
 fn behind_word<'a>(item: Item<'a>) -> Cursor<'a>
     ensures { rest_of result ≡ behind_word (tree_of_item item.entry) }
 {
-    match item {
-        Item::Atom(_) => Cursor::new(&[]),
-        Item::List(mut list) => {
-            let _ = list.item();
-            list
-        }
-    }
+    let Item::List(mut list) = item else {
+        return Cursor::empty();
+    };
+    let _ = list.item();
+    list
 }
 
 /// The sections of the first form of a file, if it has as many. What they begin with is not looked at.

@@ -194,7 +194,7 @@ fn find_arguments<'a>(operations: &Operations<'a>, name: &str) -> (Cursor<'a>, O
 {
     match find_call(operations, name) {
         Some(call) => (call.items, call.replies),
-        None => (Cursor::new(&[]), None),
+        None => (Cursor::empty(), None),
     }
 }
 

@@ -1,5 +1,5 @@
 ghost use Rattle.std.specs.Prelude.{◌≡◌, ◌≤◌, ◌+◌, [], codes, IfOk};
-ghost use Rattle.lc_sexp.specs.Trees.{row, item_count_of_all};
+ghost use Rattle.lc_sexp.specs.Trees.{item_count_of_all};
 ghost use Rattle.lc_sexp.specs.Shown.{rest_of, number_of};
 ghost use Rattle.lc_object.specs.DeclaredView.{declared_seen};
 ghost use Rattle.lc_object.specs.ObjectText.{wrong_at_place, wrong_in_column_section, wrong_in_headed, wrong_in_object_parts, has_parts, wrong_in_object, wrong_in_forms, object_refusal};
@@ -17,7 +17,7 @@ use crate::section_finding::find_sections;
 use crate::sections::Sections;
 use lc_base::{OutOfMemory, Refusal};
 use lc_names::{Examined, NameTable, find_refusal, left_over, surplus};
-use lc_sexp::{Cursor, Sexp};
+use lc_sexp::Cursor;
 use lc_term::Pass;
 use std::alloc::Global;
 
@@ -141,11 +141,11 @@ impl Examined for File<'_> {
 /// It looks at the names of abstract and auxiliary columns, at operations without their branches, at arrays, and at the
 /// locals, points and instructions of bodies. Actions, `invariant`, `idle`, `assert` and `on` only have to be lists that
 /// begin with their word.
-pub(crate) fn object_refusal(alloc: Global, forms: &[Sexp]) -> Result<Option<Refusal>, OutOfMemory>
-    requires { item_count_of_all (row forms.now) ≤ 16777216 }
-    ensures { IfOk result (λ refusal. refusal ≡ object_refusal (row forms.now)) }
+pub(crate) fn object_refusal(alloc: Global, forms: Cursor<'_>) -> Result<Option<Refusal>, OutOfMemory>
+    requires size { item_count_of_all (rest_of forms) ≤ 16777216 }
+    requires start { number_of forms ≡ 0 }
+    ensures { IfOk result (λ refusal. refusal ≡ object_refusal (rest_of forms.entry)) }
 {
-    let forms = Cursor::new(forms);
     let sections = find_sections(forms);
     let declared = read_declarations(alloc, &sections)?;
     let file = File {

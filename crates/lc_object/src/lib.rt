@@ -33,7 +33,7 @@ pub use edge_table::{Edge, Update, edges};
 pub use instr::{ArrayId, EdgeKind, Instr, LocalId};
 pub use instruction_reading::read_instruction;
 pub use object::Object;
-pub use object_file::object_of;
+pub use object_file::{object_at, object_of};
 pub use object_laws::sound_objects_read;
 pub use parts::{Array, Column, Operation, Parts, Point};
 pub use testing::{

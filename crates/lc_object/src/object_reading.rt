@@ -1,6 +1,6 @@
 ghost use Rattle.std.specs.Prelude.{◌≤◌, ◌<◌, ◌+◌, ◌^◌, length};
-ghost use Rattle.lc_sexp.specs.Trees.{row, item_count_of_all};
-ghost use Rattle.lc_sexp.specs.Shown.{rest_of};
+ghost use Rattle.lc_sexp.specs.Trees.{item_count_of_all};
+ghost use Rattle.lc_sexp.specs.Shown.{rest_of, number_of};
 ghost use Rattle.lc_term.specs.Reading.{IsReading};
 ghost use Rattle.lc_object.specs.DeclaredView.{bodies_seen, declared_seen};
 ghost use Rattle.lc_object.specs.ObjectReading.{columns_from, object_code_from, object_in, object_from};
@@ -17,7 +17,7 @@ use crate::section_finding::{find_sections, items_in_first};
 use crate::sections::Sections;
 use lc_base::Name;
 use lc_names::read_each;
-use lc_sexp::{Cursor, Sexp};
+use lc_sexp::Cursor;
 use lc_term::ReadFault;
 use std::alloc::Global;
 
@@ -100,11 +100,12 @@ fn read_parts(
 
 /// What the forms of a development file say of its object. `NoReading` is answered exactly where they say nothing;
 /// `object_refusal` tells where a file is to be refused.
-pub(crate) fn read_object(alloc: Global, forms: &[Sexp]) -> Result<Parts, ReadFault>
-    requires { item_count_of_all (row forms.now) ≤ 16777216 }
-    ensures { IsReading parts_of (object_from (row forms.now)) result }
+pub(crate) fn read_object(alloc: Global, forms: Cursor<'_>) -> Result<Parts, ReadFault>
+    requires size { item_count_of_all (rest_of forms) ≤ 16777216 }
+    requires start { number_of forms ≡ 0 }
+    ensures { IsReading parts_of (object_from (rest_of forms.entry)) result }
 {
-    let sections = find_sections(Cursor::new(forms));
+    let sections = find_sections(forms);
     let declared = read_declarations(alloc, &sections)?;
     let parts = read_parts(alloc, &declared, &sections)?;
     Ok(parts)

@@ -35,10 +35,7 @@ struct Columns;
 fn items_within<'a>(item: Item<'a>) -> Cursor<'a>
     ensures { rest_of result ≡ items_within (tree_of_item item.entry) }
 {
-    match item {
-        Item::Atom(_) => Cursor::new(&[]),
-        Item::List(list) => list,
-    }
+    item.parts()
 }
 
 /// What stands in a list behind this word.
@@ -48,7 +45,7 @@ pub(crate) fn parts_in<'a>(item: Item<'a>, word: &str) -> Cursor<'a>
     let mut list = items_within(item);
     match list.atom() {
         Ok(head) if head.text() == word => list,
-        _ => Cursor::new(&[]),
+        _ => Cursor::empty(),
     }
 }
 

@@ -26,7 +26,7 @@ pub(crate) fn items_in_first<'a>(mut list: Cursor<'a>, word: &str) -> Cursor<'a>
 {
     match list.form(word) {
         Ok(items) => items,
-        Err(_) => Cursor::new(&[]),
+        Err(_) => Cursor::empty(),
     }
 }
 
@@ -86,7 +86,7 @@ pub(crate) fn within_first<'a>(mut list: Cursor<'a>) -> Cursor<'a>
 {
     match list.list() {
         Ok(items) => items,
-        Err(_) => Cursor::new(&[]),
+        Err(_) => Cursor::empty(),
     }
 }
 

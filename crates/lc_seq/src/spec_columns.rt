@@ -23,10 +23,7 @@ pub struct Columns<'a> {
 pub(crate) fn items_in<'a>(item: Item<'a>) -> Cursor<'a>
     ensures { rest_of result ≡ items_in (tree_of_item item.entry) }
 {
-    match item {
-        Item::Atom(_) => Cursor::new(&[]),
-        Item::List(list) => list,
-    }
+    item.parts()
 }
 
 /// What stands in a list behind its first item.
@@ -93,10 +90,10 @@ fn column_items<'a>(item: Item<'a>) -> Cursor<'a>
 {
     let mut list = behind_word(item);
     let _ = list.item();
-    match list.item() {
-        Ok(section) => behind_word(section),
-        Err(_) => Cursor::new(&[]),
-    }
+    let Ok(section) = list.item() else {
+        return Cursor::empty();
+    };
+    behind_word(section)
 }
 
 /// The names of the columns that a specification declares, whatever else is wrong in it.

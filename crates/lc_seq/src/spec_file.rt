@@ -17,7 +17,7 @@ use crate::spec_reading::{SpecParts, read_specification};
 use crate::specification::TextSpec;
 use lc_base::{Fault, OutOfMemory};
 use lc_names::{Examined, NameTable, find_refusal, surplus};
-use lc_sexp::{Cursor, read};
+use lc_sexp::{Cursor, Forms};
 use lc_term::{Pass, ReadFault};
 use std::alloc::Global;
 
@@ -113,6 +113,6 @@ fn read_forms(alloc: Global, forms: Cursor<'_>) -> Result<TextSpec, Fault>
 pub fn spec_of(alloc: Global, bytes: &[u8]) -> Result<TextSpec, Fault>
     ensures { IsAnswerTo bytes.now result }
 {
-    let forms = read(alloc, bytes)?;
-    read_forms(alloc, Cursor::new(&forms))
+    let forms = Forms::read(alloc, bytes)?;
+    read_forms(alloc, forms.cursor())
 }

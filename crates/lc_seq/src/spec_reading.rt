@@ -134,13 +134,13 @@ fn read_signature(
     let name = list.item()?;
     let arguments = list.item()?;
     let replies = list.item()?;
-    let names = InBranch::new(alloc, columns, items_in(arguments))?;
     let Some(name) = read_name(name) else {
         return Err(ReadFault::NoReading);
     };
     let Some(replies) = read_count(replies) else {
         return Err(ReadFault::NoReading);
     };
+    let names = InBranch::new(alloc, columns, items_in(arguments))?;
     let arguments = read_list(alloc, &Names, arguments)?;
     let branches = read_each(alloc, &Branches(&names), list)?;
     Ok(Operation {

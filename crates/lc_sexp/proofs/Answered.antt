@@ -1,10 +1,9 @@
 -- What reading answers, from the tokens and the fault.
-use Rattle.std.proofs.Common.{◌≡◌, ◌≤◌, ℕ, false, List, [], length, Option, Some, None, Result, Ok, Err, sym, ap, ◌∙◌, append-nil, IfOk, IfErr, OnOk, Vec, vec_len}
-use Rattle.std.specs.declared.alloc.Global.{Global}
+use Rattle.std.proofs.Common.{◌≡◌, ◌≤◌, ℕ, false, List, [], length, Option, Some, None, Result, Ok, Err, sym, ap, ◌∙◌, append-nil, IfOk, IfErr, OnOk, vec_len}
 use Rattle.lc_base.specs.declared.refusal.Refusal.TheVariants.{Text}
 use Rattle.lc_base.specs.declared.refusal.Fault.{Fault}
 use Rattle.lc_base.specs.declared.refusal.Fault.TheVariants.{Refused, OutOfMemory}
-use Rattle.lc_sexp.specs.Trees.{Tree, row, tokens_of_all, item_count_of_all}
+use Rattle.lc_sexp.specs.Trees.{Trees, tokens_of_all, item_count_of_all}
 use Rattle.lc_sexp.specs.Text.{lexed, uncommented}
 use Rattle.lc_sexp.specs.Reads.{IsFirstFault}
 use Rattle.lc_sexp.specs.Progress.{fault_from}
@@ -27,16 +26,16 @@ pub told_fault : (r : Reader) (o : ℕ) → r.fault ≡ Some o → (fed : List �
 told_fault r o e fed h = found_fault fed o (whole_fault fed r (Some o) (ap (λ x. fault_with x r.machine []) e) h)
 
 -- a reader that holds none
-pub told_answer : (x : Result (Vec Tree Global) Fault) (r : Reader) → r.fault ≡ None
-    → IfOk x (λ v. tokens_of_all (row v.items) ≡ tokens_with r.machine [])
-    → OnOk x (fault_from r.machine.offset (vec_len r.machine.outer) [] ≡ None)
-    → IfErr x (λ z. IsTextFault z (λ o. fault_from r.machine.offset (vec_len r.machine.outer) [] ≡ Some o))
+pub told_answer : (x : Result Trees Fault) (r : Reader) → r.fault ≡ None
+    → IfOk x (λ v. tokens_of_all v ≡ tokens_with r.machine [])
+    → OnOk x (fault_from r.machine.offset (vec_len r.machine.holes) [] ≡ None)
+    → IfErr x (λ z. IsTextFault z (λ o. fault_from r.machine.offset (vec_len r.machine.holes) [] ≡ Some o))
     → (fed : List ℕ) → IsAfter fed r → IsAnswerTo fed x
 told_answer (Ok v) r e t f z fed h =
-    found_trees fed (row v.items) (t ∙ h.tokens e [] ∙ ap (λ x. lexed (uncommented false x)) (append-nil fed)) (whole_fault fed r None (ap (λ x. fault_with x r.machine []) e ∙ f) h)
+    found_trees fed v (t ∙ h.tokens e [] ∙ ap (λ x. lexed (uncommented false x)) (append-nil fed)) (whole_fault fed r None (ap (λ x. fault_with x r.machine []) e ∙ f) h)
 told_answer (Err x) r e t f z fed h =
     IsTextFault-weaker _ (IsFirstFault fed) (λ o g. found_fault fed o (whole_fault fed r (Some o) (ap (λ y. fault_with y r.machine []) e ∙ g) h)) x z
 
-pub answer_counted : (bytes : List ℕ) (x : Result (Vec Tree Global) Fault) → IsAnswerTo bytes x → IfOk x (λ v. item_count_of_all (row v.items) ≤ length bytes)
-answer_counted bytes (Ok v) h = items_fit_lem bytes (row v.items) h
+pub answer_counted : (bytes : List ℕ) (x : Result Trees Fault) → IsAnswerTo bytes x → IfOk x (λ v. item_count_of_all v ≤ length bytes)
+answer_counted bytes (Ok v) h = items_fit_lem bytes v h
 answer_counted bytes (Err e) h = tt

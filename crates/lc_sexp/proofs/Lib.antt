@@ -1,10 +1,15 @@
 pub mod Answered
 pub mod Atoms
+pub mod Builds
 pub mod Exists
 pub mod Faults
+pub mod Flats
 pub mod Items
 pub mod Limits
+pub mod Nodes
 pub mod PrintedLemmas
+pub mod Prints
 pub mod Rows
 pub mod Tokens
 pub mod Unique
+pub mod Walks

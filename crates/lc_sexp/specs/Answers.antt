@@ -4,7 +4,7 @@ use Rattle.std.specs.declared.alloc.Global.{Global}
 use Rattle.lc_base.specs.declared.refusal.Refusal.TheVariants.{Text}
 use Rattle.lc_base.specs.declared.refusal.Fault.{Fault}
 use Rattle.lc_base.specs.declared.refusal.Fault.TheVariants.{Refused, OutOfMemory}
-use Rattle.lc_sexp.specs.Trees.{Tree, row}
+use Rattle.lc_sexp.specs.Trees.{Tree, Trees, row}
 use Rattle.lc_sexp.specs.Reads.{ReadsAs, IsFirstFault}
 
 -- want of memory, or a fault of the text at an offset of which this holds
@@ -14,6 +14,11 @@ IsTextFault (Refused (Text offset)) P = P offset
 IsTextFault (Refused _) P = ⊥
 
 -- The answer to a file: the trees that it reads as, else its first fault, or want of memory.
-abbrev pub IsAnswerTo : List ℕ → Result (Vec Tree Global) Fault → Type 0
-IsAnswerTo bytes (Ok forms) = ReadsAs bytes (row forms.items)
+abbrev pub IsAnswerTo : List ℕ → Result Trees Fault → Type 0
+IsAnswerTo bytes (Ok forms) = ReadsAs bytes forms
 IsAnswerTo bytes (Err fault) = IsTextFault fault (IsFirstFault bytes)
+
+-- The same where each tree stands alone.
+abbrev pub IsAnswerInParts : List ℕ → Result (Vec Tree Global) Fault → Type 0
+IsAnswerInParts bytes (Ok forms) = IsAnswerTo bytes (Ok (row forms.items))
+IsAnswerInParts bytes (Err fault) = IsAnswerTo bytes (Err fault)

@@ -1,12 +1,13 @@
 pub mod Answers
-pub mod Contents
+pub mod Built
+pub mod Entries
+pub mod Flat
 pub mod Misfit
 pub mod NaturalValue
-pub mod NodeFalls
-pub mod Nodes
 pub mod Numerals
 pub mod Parts
 pub mod Printed
+pub mod Printing
 pub mod Progress
 pub mod Reading
 pub mod Reads

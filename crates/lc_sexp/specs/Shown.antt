@@ -1,7 +1,8 @@
 -- What a walk over items shows.
 use Rattle.std.specs.Prelude.{◌≡◌, ℕ, ◌+◌, List, Result, Ok, Err, IsOk}
 use Rattle.std.specs.Borrow.{Bor}
-use Rattle.lc_sexp.specs.Trees.{Tree, Trees, atom, list, none, ◌▸◌, row, item_count}
+use Rattle.lc_sexp.specs.Trees.{Tree, Trees, atom, list, none, ◌▸◌, item_count}
+use Rattle.lc_sexp.specs.Flat.{trees_of}
 use Rattle.lc_sexp.specs.TreeCode.{tree_count}
 use Rattle.lc_sexp.specs.Parts.{Fit, fits, misshapen, beyond}
 use Rattle.lc_sexp.specs.declared.misfit.Misfit.{Misfit}
@@ -12,8 +13,8 @@ use Rattle.lc_sexp.specs.declared.cursor.Item.{Item}
 use Rattle.lc_sexp.specs.declared.cursor.Item.TheVariants.{Atom as AtomItem, List as ListItem}
 
 -- the trees that are left
-abbrev pub rest_of : Cursor → Trees
-rest_of c = row c.rest.now
+unfoldable pub rest_of : Cursor → Trees
+rest_of c = trees_of c.text.now c.nodes.now
 
 -- how many trees stand in a row
 abbrev pub part_count : Trees → ℕ
@@ -33,6 +34,16 @@ text_of a = a.text.now
 
 abbrev pub atom_number : Atom → ℕ
 atom_number a = a.number
+
+-- the tree that an item is
+abbrev pub item_tree : Item → Tree
+item_tree (AtomItem a) = atom (text_of a)
+item_tree (ListItem c) = list (rest_of c)
+
+-- the trees in it: those of the list, none of an atom
+abbrev pub item_parts : Item → Trees
+item_parts (AtomItem a) = none
+item_parts (ListItem c) = rest_of c
 
 -- the two are the same number
 abbrev pub Same : {X : Type 0} → X → X → Type 0

@@ -1,10 +1,16 @@
 ghost use Rattle.std.specs.Prelude.{◌+◌, ◌<◌, ◌^◌};
-ghost use Rattle.lc_sexp.specs.Trees.{row, item_count_of_all};
+ghost use Rattle.lc_sexp.specs.Trees.{item_count_of_all};
+ghost use Rattle.lc_sexp.specs.Flat.{trees_of, IsFlat};
+ghost use Rattle.lc_sexp.specs.Text.{are_letters};
+ghost use Rattle.std.specs.Prelude.{◌≡◌, ◌≤◌, true, take, drop, length as list_length};
 
+use crate::builder::{Builder, short};
 use crate::misfit::Misfit;
+use crate::node::Node;
 use crate::numerals::{read_integer, read_variable};
-use crate::sexp::{Contents, Sexp};
-use lc_base::is_name;
+use crate::sexp::Sexp;
+use lc_base::{OutOfMemory, is_name};
+use std::alloc::Global;
 
 /// Walks the s-expressions of a list, or the forms of a file, in order, and knows the item number of each:
 /// items are the atoms and the lists of a file, in preorder from 0.
@@ -12,19 +18,23 @@ use lc_base::is_name;
 /// Each call that asks for a part goes on behind it where it is there, and otherwise stays and names the misfit.
 #[derive(Clone, Copy)]
 pub struct Cursor<'a> {
-    rest: &'a [Sexp],
+    /// The items of the rest.
+    nodes: &'a [Node],
+    text: &'a [u8],
     /// The number of the first item of the rest, or of what stands behind the last.
     number: u64,
     /// The number at which a missing part is told: of the list, or for a file how many items it has.
     owner: u64,
-    ghost in_range: { number + item_count_of_all (row rest.now) < 2 ^ 64 },
+    ghost flat: { IsFlat text.now nodes.now },
+    ghost in_range: { number + item_count_of_all (trees_of text.now nodes.now) < 2 ^ 64 },
 }
 
 /// An atom, with its item number.
 #[derive(Clone, Copy)]
 pub struct Atom<'a> {
     number: u64,
-    text: &'a str,
+    text: &'a [u8],
+    ghost letters: { are_letters text.now ≡ true },
 }
 
 /// An item: an atom, or a list with a cursor at its beginning.
@@ -36,26 +46,42 @@ pub enum Item<'a> {
 
 impl<'a> Cursor<'a> {
     ghost use Rattle.std.specs.Prelude.{◌≡◌, ◌+◌, ◌<◌, ◌≤◌, ◌↔◌, ◌^◌, ◌==◌, IsOk, Ok, Err, IfErr};
-    ghost use Rattle.lc_sexp.specs.Trees.{row, item_count_of_all};
+    ghost use Rattle.lc_sexp.specs.Trees.{none, list, item_count_of_all};
+    ghost use Rattle.std.specs.Prelude.{true, false, IfOk};
+    ghost use Rattle.lc_sexp.specs.Flat.{trees_of, IsFlat};
     ghost use Rattle.lc_sexp.specs.declared.misfit.Misfit.TheVariants.{Shape};
     ghost use Rattle.lc_sexp.specs.Parts.{any_fit, atom_fit, name_fit, integer_fit, variable_fit, list_fit, form_fit, begins_form};
     ghost use Rattle.lc_sexp.specs.Shown.{rest_of, number_of, owner_of, part_count, ShowsItem, ShowsAtom, ShowsText, ShowsNumber, IsWithin, IsBehindWord, GivesPart, GivesEnd};
 
-    /// A cursor at the first form of a file, which has fewer than 2^64 items.
-    pub fn new(forms: &'a [Sexp]) -> Cursor<'a>
-        requires { item_count_of_all (row forms.now) < 2 ^ 64 }
-        ensures rest { rest_of result ≡ row forms.now }
+    /// A cursor at the first of these forms, which have so many items.
+    #[tactic(auto, unfolding(crate::specs::Shown::rest_of))]
+    pub(crate) fn new(nodes: &'a [Node], text: &'a [u8], count: u64) -> Cursor<'a>
+        requires flat { IsFlat text.now nodes.now }
+        requires counted { item_count_of_all (trees_of text.now nodes.now) ≡ count }
+        ensures rest { rest_of result ≡ trees_of text.now nodes.now }
         ensures number { number_of result ≡ 0 }
-        ensures owner { owner_of result ≡ item_count_of_all (row forms.now) }
+        ensures owner { owner_of result ≡ item_count_of_all (trees_of text.now nodes.now) }
     {
-        let mut owner = 0;
-        for form in forms {
-            owner += u64::from(form.item_count());
-        }
         Cursor {
-            rest: forms,
+            nodes,
+            text,
             number: 0,
-            owner,
+            owner: count,
+        }
+    }
+
+    /// A cursor with nothing left.
+    #[tactic(auto, unfolding(crate::specs::Shown::rest_of, crate::specs::Flat::trees_of))]
+    pub fn empty() -> Cursor<'a>
+        ensures rest { rest_of result ≡ none }
+        ensures number { number_of result ≡ 0 }
+        ensures owner { owner_of result ≡ 0 }
+    {
+        Cursor {
+            nodes: &[],
+            text: &[],
+            number: 0,
+            owner: 0,
         }
     }
 
@@ -73,39 +99,50 @@ impl<'a> Cursor<'a> {
         self.owner
     }
 
-    /// How many s-expressions are left.
-    #[tactic(auto, using(crate::proofs::Rows::counted_row))]
+    /// Goes on behind the first item of the rest, if there is one.
+    fn skip(&mut self) -> bool
+        ensures behind { result ≡ false → rest_of self.old ≡ none }
+        ensures skipped { result ≡ true → part_count (rest_of self.old) ≡ part_count (rest_of self.new) + 1 }
+    {
+        self.item().is_ok()
+    }
+
+    /// How many s-expressions are left. It goes over them all.
     pub fn len(&self) -> usize
         ensures { result ≡ part_count (rest_of self.now) }
     {
-        self.rest.len()
+        let mut ahead = *self;
+        let mut count = 0;
+        while ahead.skip() {
+            count += 1;
+        }
+        count
     }
 
     /// Whether none is left.
-    #[tactic(auto, using(crate::proofs::Rows::counted_row))]
     pub fn is_empty(&self) -> bool
         ensures { result ≡ (part_count (rest_of self.now) == 0) }
     {
-        self.rest.is_empty()
+        self.nodes.is_empty()
     }
 
     /// Refuses what is left as a part too many, at the first one's number.
+    #[tactic(auto, unfolding(crate::specs::Shown::rest_of, crate::specs::Flat::trees_of))]
     pub fn end(&self) -> Result<(), Misfit>
         ensures { GivesEnd self.now result }
     {
-        match self.rest.split_first() {
+        match self.nodes.split_first() {
             None => Ok(()),
             Some(_) => Err(Misfit::Shape(self.number)),
         }
     }
 
     /// Refuses the list where fewer parts than these are left, at its own number.
-    #[tactic(auto, using(crate::proofs::Rows::counted_row))]
     pub fn at_least(&self, parts: usize) -> Result<(), Misfit>
         ensures enough { IsOk result ↔ (parts ≤ part_count (rest_of self.now)) }
         ensures missing { IfErr result (λ misfit. misfit ≡ Shape (owner_of self.now)) }
     {
-        if parts <= self.rest.len() {
+        if parts <= self.len() {
             Ok(())
         } else {
             Err(Misfit::Shape(self.owner))
@@ -113,23 +150,44 @@ impl<'a> Cursor<'a> {
     }
 
     /// The next item, of any form.
+    #[tactic(auto, unfolding(crate::specs::Shown::rest_of, crate::specs::Flat::trees_of))]
     pub fn item(&mut self) -> Result<Item<'a>, Misfit>
         ensures { GivesPart any_fit ShowsItem self.old result self.new }
     {
-        let Some((first, others)) = self.rest.split_first() else {
+        let Some((first, others)) = self.nodes.split_first() else {
             return Err(Misfit::Shape(self.owner));
         };
         let number = self.number;
-        self.rest = others;
-        self.number = number + u64::from(first.item_count());
-        Ok(match first.contents() {
-            Contents::Atom(text) => Item::Atom(Atom { number, text }),
-            Contents::List(items) => Item::List(Cursor {
-                rest: items,
-                number: number + 1,
-                owner: number,
-            }),
-        })
+        match *first {
+            Node::Atom { start, length } => {
+                self.nodes = others;
+                self.number = number + 1;
+                let text = letters_at(self.text, start, length);
+                Ok(Item::Atom(Atom { number, text }))
+            }
+            Node::List { inside } => {
+                let (items, behind) = others.split_at(inside as usize);
+                self.nodes = behind;
+                self.number = number + 1 + u64::from(inside);
+                Ok(Item::List(Cursor {
+                    nodes: items,
+                    text: self.text,
+                    number: number + 1,
+                    owner: number,
+                }))
+            }
+            Node::Open => unreachable!(),
+        }
+    }
+
+    /// The list of copies of what is left.
+    fn to_list(&self, alloc: Global) -> Result<Sexp, OutOfMemory>
+        ensures { IfOk result (λ sexp. sexp ≡ list (rest_of self.now)) }
+    {
+        let mut built = Builder::new(alloc);
+        built.push_list(short(self.nodes.len())?)?;
+        built.push_row(self.nodes, self.text)?;
+        Ok(built.into_sexp())
     }
 
     /// The next item, which is an atom.
@@ -201,7 +259,7 @@ impl<'a> Cursor<'a> {
         let mut list = ahead.list()?;
         let owner = list.owner;
         match list.atom() {
-            Ok(atom) if atom.text == word => {
+            Ok(atom) if atom.text() == word => {
                 *self = ahead;
                 Ok(list)
             }
@@ -218,6 +276,31 @@ impl<'a> Cursor<'a> {
     }
 }
 
+impl<'a> Item<'a> {
+    ghost use Rattle.std.specs.Prelude.{◌≡◌, IfOk};
+    ghost use Rattle.lc_sexp.specs.Shown.{rest_of, item_tree, item_parts};
+
+    /// A cursor at the beginning of the list that it is; of an atom, one with nothing left.
+    pub fn parts(self) -> Cursor<'a>
+        ensures { rest_of result ≡ item_parts self.entry }
+    {
+        let Item::List(list) = self else {
+            return Cursor::empty();
+        };
+        list
+    }
+
+    /// A copy of it, with memory of its own.
+    pub fn to_sexp(&self, alloc: Global) -> Result<Sexp, OutOfMemory>
+        ensures { IfOk result (λ sexp. sexp ≡ item_tree self.now) }
+    {
+        match self {
+            Item::Atom(atom) => Sexp::of_letters(alloc, atom.text),
+            Item::List(list) => list.to_list(alloc),
+        }
+    }
+}
+
 impl<'a> Atom<'a> {
     ghost use Rattle.std.specs.Prelude.{◌≡◌};
     ghost use Rattle.lc_sexp.specs.Trees.{atom};
@@ -231,19 +314,26 @@ impl<'a> Atom<'a> {
         self.number
     }
 
+    /// Its letters.
+    pub(crate) fn letters(&self) -> &'a [u8]
+        ensures { result.now ≡ text_of self.now }
+    {
+        self.text
+    }
+
     /// Its text.
     pub fn text(&self) -> &'a str
         ensures { result.now ≡ text_of self.now }
     {
-        self.text
+        as_text(self.text)
     }
 
     /// Its text, if it is a NAME.
     pub fn name(&self) -> Result<&'a str, Misfit>
         ensures { Answers (name_fit (atom (text_of self.now))) IsText (atom_number self.now) result }
     {
-        if is_name(self.text.as_bytes()) {
-            Ok(self.text)
+        if is_name(self.text) {
+            Ok(as_text(self.text))
         } else {
             Err(Misfit::Shape(self.number))
         }
@@ -253,13 +343,33 @@ impl<'a> Atom<'a> {
     pub fn integer(&self) -> Result<i64, Misfit>
         ensures { Answers (integer_fit (atom (text_of self.now))) Same (atom_number self.now) result }
     {
-        read_integer(self.text.as_bytes(), self.number)
+        read_integer(self.text, self.number)
     }
 
     /// The number of the variable `?k` that it is. `Bound` is answered of one that is not of 32 bits.
     pub fn variable(&self) -> Result<u32, Misfit>
         ensures { Answers (variable_fit (atom (text_of self.now))) Same (atom_number self.now) result }
     {
-        read_variable(self.text.as_bytes(), self.number)
+        read_variable(self.text, self.number)
+    }
+}
+
+/// The letters of an atom.
+pub(crate) fn letters_at(text: &[u8], start: u32, length: u32) -> &[u8]
+    requires { start + length ≤ list_length text.now }
+    ensures { result.now ≡ take length (drop start text.now) }
+{
+    let start = start as usize;
+    &text[start..start + length as usize]
+}
+
+/// Letters as text.
+fn as_text(letters: &[u8]) -> &str
+    requires { are_letters letters.now ≡ true }
+    ensures { result.now ≡ letters.now }
+{
+    match str::from_utf8(letters) {
+        Ok(text) => text,
+        Err(_) => unreachable!(),
     }
 }

@@ -1,11 +1,14 @@
 //! S-expressions: read from bytes, printed, and walked item by item.
 #![tactic(auto)]
 
+mod builder;
 mod class;
 mod cursor;
+mod forms;
 mod laws;
 mod machine;
 mod misfit;
+mod node;
 mod numerals;
 mod printing;
 mod reader;
@@ -13,6 +16,7 @@ mod reading;
 mod sexp;
 
 pub use cursor::{Atom, Cursor, Item};
+pub use forms::Forms;
 pub use laws::{
     items_are_counted, items_fit, one_first_fault, one_reading, printed_is_read, read_has_atoms,
     reading_excludes_fault, reading_or_fault,
@@ -22,4 +26,4 @@ pub use misfit::Misfit;
 pub use printing::print;
 pub use reader::Reader;
 pub use reading::read;
-pub use sexp::{Contents, Sexp, is_atom};
+pub use sexp::{Sexp, is_atom};

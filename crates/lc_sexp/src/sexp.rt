@@ -1,142 +1,137 @@
-ghost use Rattle.std.specs.Prelude.{◌≡◌, ◌+◌, ◌<◌, ◌^◌, IfOk};
+ghost use Rattle.std.specs.Prelude.{◌≡◌, ◌+◌, ◌++◌, IfOk, OnOk};
 ghost use Rattle.lc_sexp.specs.Text.{class_of, are_letters, is_Letter};
 ghost use Rattle.lc_sexp.specs.Printed.{is_atom};
 ghost use Rattle.lc_sexp.specs.Trees.{row, item_count_of_all};
+ghost use Rattle.lc_sexp.specs.Entries.{entries_of_all};
+ghost use Rattle.lc_sexp.specs.Built.{entries_in};
 
+use crate::builder::{Builder, short};
 use crate::class::{Class, classify};
-use arrayvec::ArrayString;
+use crate::cursor::Cursor;
+use crate::node::Node;
 use lc_base::OutOfMemory;
 use std::alloc::Global;
 use std::marker::Model;
 
 /// An s-expression: an atom, or a list of s-expressions. A clause sees its tree.
-/// An atom of at most 16 bytes lies in the value itself.
-#[cycle(sexp)]
+///
+/// It lies flat: a node for each item, in preorder, and the letters of all atoms. It has fewer than 2^32 of
+/// each; `OutOfMemory` is answered where more were to lie in one.
 #[derive(Drop)]
 pub struct Sexp {
-    node: Node,
-}
-
-#[cycle(sexp)]
-#[derive(Drop)]
-pub(crate) enum Node {
-    Short(ArrayString<16>),
-    Long(String),
-    /// How many items it has in preorder, with itself, and the s-expressions in it.
-    List(u32, Vec<Sexp>),
-}
-
-/// What an s-expression holds: the text of an atom, or the s-expressions of a list.
-#[derive(Clone, Copy)]
-pub enum Contents<'a> {
-    Atom(&'a str),
-    List(&'a [Sexp]),
+    nodes: Vec<Node>,
+    text: Vec<u8>,
 }
 
 impl Model for Sexp {
-    ghost use Rattle.lc_sexp.specs.Trees.{Tree, item_count};
-    ghost use Rattle.lc_sexp.specs.TreeCode.{tree_code};
+    ghost use Rattle.lc_sexp.specs.Trees.{Tree};
+    ghost use Rattle.lc_sexp.specs.TreeCode.{tree_code, head_tree};
 
     ghost Value = { Tree };
 
     ghost coded = { tree_code };
 
-    ghost use Rattle.lc_sexp.specs.Nodes.{tree_of_node, IsCounted};
+    ghost use Rattle.lc_sexp.specs.Flat.{trees_of, IsOne};
 
-    ghost view = { λ s. tree_of_node s.node };
+    ghost view = { λ s. head_tree (trees_of s.text.items s.nodes.items) };
 
-    ghost invariant = { λ s. IsCounted s.node };
-
-    ghost size = { item_count };
-
-    ghost use Rattle.lc_sexp.specs.NodeFalls.{deep_le-item_count};
-
-    ghost size_decreases = { λ s counted. deep_le-item_count s.node };
+    ghost invariant = { λ s. IsOne s.text.items s.nodes.items };
 }
 
 impl Sexp {
-    ghost use Rattle.std.specs.Prelude.{◌≡◌, ◌+◌, ◌<◌, ◌^◌, ◌++◌, true, IfOk, OnOk};
-    ghost use Rattle.lc_sexp.specs.Trees.{atom, list, row, item_count, item_count_of_all};
-    ghost use Rattle.lc_sexp.specs.Printed.{is_atom, printed_tree};
-    ghost use Rattle.lc_sexp.specs.Contents.{tree_of_contents};
+    ghost use Rattle.std.specs.Prelude.{◌≡◌, ◌++◌, true, IfOk, OnOk};
+    ghost use Rattle.lc_sexp.specs.Trees.{atom, list, none, ◌▸◌, row, item_count};
+    ghost use Rattle.lc_sexp.specs.TreeCode.{head_tree};
+    ghost use Rattle.lc_sexp.specs.Entries.{entries_of};
+    ghost use Rattle.lc_sexp.specs.Flat.{trees_of, IsOne};
+    ghost use Rattle.lc_sexp.specs.Printed.{is_atom};
+    ghost use Rattle.lc_sexp.specs.Text.{are_letters};
+    ghost use Rattle.lc_sexp.specs.Shown.{rest_of, number_of, owner_of};
+    ghost use Rattle.lc_sexp.specs.Built.{entries_in};
+
+    /// The s-expression of these nodes, whose letters lie in the text.
+    pub(crate) fn new(nodes: Vec<Node>, text: Vec<u8>) -> Sexp
+        requires { IsOne text.items nodes.items }
+        ensures { result ≡ head_tree (trees_of text.items nodes.items) }
+    {
+        Sexp { nodes, text }
+    }
 
     /// The atom of this text.
     pub fn atom(alloc: Global, text: &str) -> Result<Sexp, OutOfMemory>
         requires { is_atom text.now ≡ true }
         ensures { IfOk result (λ sexp. sexp ≡ atom text.now) }
     {
-        let node = match ArrayString::from(text) {
-            Ok(short) => Node::Short(short),
-            Err(_) => Node::Long(String::from_str(alloc, text)?),
-        };
-        Ok(Sexp { node })
+        Sexp::of_letters(alloc, text.as_bytes())
     }
 
-    /// The list of these s-expressions, of fewer than 4,294,967,295 items together.
-    pub fn list(items: Vec<Sexp>) -> Sexp
-        requires { item_count_of_all (row items.items) + 1 < 2 ^ 32 }
-        ensures { result ≡ list (row items.items) }
+    /// The atom of these letters.
+    pub(crate) fn of_letters(alloc: Global, letters: &[u8]) -> Result<Sexp, OutOfMemory>
+        requires { are_letters letters.now ≡ true }
+        ensures { IfOk result (λ sexp. sexp ≡ atom letters.now) }
     {
-        let count = count_of_all(&items) + 1;
-        Sexp {
-            node: Node::List(count, items),
-        }
+        let mut built = Builder::new(alloc);
+        built.push_atom(letters)?;
+        Ok(built.into_sexp())
+    }
+
+    /// The list of these s-expressions.
+    pub fn list(alloc: Global, items: &[Sexp]) -> Result<Sexp, OutOfMemory>
+        ensures { IfOk result (λ sexp. sexp ≡ list (row items.now)) }
+    {
+        let mut built = Builder::new(alloc);
+        built.push_list(count_of_all(items)?)?;
+        put_all(&mut built, items)?;
+        Ok(built.into_sexp())
     }
 
     /// How many items it has in preorder: its atoms and lists, with itself.
-    pub fn item_count(&self) -> u32
+    pub fn item_count(&self) -> usize
         ensures { result ≡ item_count self.now }
     {
-        match &self.node {
-            Node::Short(_) | Node::Long(_) => 1,
-            Node::List(count, _) => *count,
-        }
+        self.nodes.len()
     }
 
-    /// Its text, or the s-expressions in it.
-    pub fn contents(&self) -> Contents<'_>
-        ensures { tree_of_contents result ≡ self.now }
+    /// A cursor at it, with nothing behind.
+    pub fn cursor(&self) -> Cursor<'_>
+        ensures rest { rest_of result ≡ self.now ▸ none }
+        ensures number { number_of result ≡ 0 }
+        ensures owner { owner_of result ≡ item_count self.now }
     {
-        match &self.node {
-            Node::Short(text) => Contents::Atom(text.as_str()),
-            Node::Long(text) => Contents::Atom(text.as_str()),
-            Node::List(_, items) => Contents::List(items.as_slice()),
-        }
+        let count = self.nodes.len();
+        Cursor::new(&self.nodes, &self.text, count as u64)
     }
 
-    /// Prints it behind what is there.
-    pub(crate) fn print_to(&self, out: &mut Vec<u8>) -> Result<(), OutOfMemory>
-        ensures { OnOk result (out.new.items ≡ out.old.items ++ printed_tree self.now) }
+    /// Puts a copy of its items behind others.
+    fn put(&self, built: &mut Builder) -> Result<(), OutOfMemory>
+        ensures { OnOk result (entries_in built.new ≡ entries_in built.old ++ entries_of self.now) }
     {
-        match &self.node {
-            Node::Short(text) => out.extend_from_slice(text.as_str().as_bytes())?,
-            Node::Long(text) => out.extend_from_slice(text.as_bytes())?,
-            Node::List(_, items) => {
-                out.push(b'(')?;
-                if let Some((first, others)) = items.split_first() {
-                    first.print_to(out)?;
-                    for item in others {
-                        out.push(b' ')?;
-                        item.print_to(out)?;
-                    }
-                }
-                out.push(b')')?;
-            }
-        }
-        Ok(())
+        built.push_row(&self.nodes, &self.text)
     }
 }
 
 /// How many items these s-expressions have together.
-fn count_of_all(sexps: &[Sexp]) -> u32
-    requires { item_count_of_all (row sexps.now) < 2 ^ 32 }
-    ensures { result ≡ item_count_of_all (row sexps.now) }
+fn count_of_all(sexps: &[Sexp]) -> Result<u32, OutOfMemory>
+    ensures { IfOk result (λ count. count ≡ item_count_of_all (row sexps.now)) }
 {
-    let mut count = 0;
+    let mut count = 0u32;
     for sexp in sexps {
-        count += sexp.item_count();
+        let Some(more) = count.checked_add(short(sexp.item_count())?) else {
+            return Err(OutOfMemory);
+        };
+        count = more;
     }
-    count
+    Ok(count)
+}
+
+/// Puts copies of all items of these s-expressions behind others.
+pub(crate) fn put_all(built: &mut Builder, sexps: &[Sexp]) -> Result<(), OutOfMemory>
+    ensures { OnOk result (entries_in built.new ≡ entries_in built.old ++ entries_of_all (row sexps.now)) }
+{
+    for sexp in sexps {
+        sexp.put(built)?;
+    }
+    Ok(())
 }
 
 fn is_letter(byte: u8) -> bool

@@ -1,6 +1,6 @@
 //! The passes, and what texts read as, are cases of the program `lc_cases`.
 use lc_base::{ColId, OutOfMemory};
-use lc_sexp::{Cursor, Item, read};
+use lc_sexp::{Forms, Item};
 use lc_term::{
     ColExpr, ColumnUse, Extra, Formula, ReadFault, Scope, Spelling, Term, read_formulas,
     write_column, write_formula, write_term,
@@ -91,13 +91,13 @@ fn prints_terms_and_formulas(rt: HostRuntime) -> Result<(), Fail> {
 
 /// How many formulas a list reads as.
 fn formula_count(alloc: Global, text: &str) -> Result<usize, ReadFault> {
-    let Ok(forms) = read(alloc, text.as_bytes()) else {
+    let Ok(forms) = Forms::read(alloc, text.as_bytes()) else {
         return Err(ReadFault::OutOfMemory);
     };
     if forms.len() != 1 {
         return Err(ReadFault::OutOfMemory);
     }
-    let Item::List(list) = Cursor::new(&forms).item()? else {
+    let Item::List(list) = forms.cursor().item()? else {
         return Err(ReadFault::NoReading);
     };
     Ok(read_formulas(alloc, &Place, list)?.len())

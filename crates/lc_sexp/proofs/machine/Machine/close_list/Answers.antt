@@ -1,16 +1,32 @@
-use Rattle.std.proofs.Common.{ap, ◌∙◌, arith}
-use Rattle.std.specs.Result.{is_ok}
-use Rattle.lc_sexp.proofs.Tokens.{told_ended, list_counted}
+use Rattle.std.proofs.Common.{◌-◌, refl, arith}
+use Rattle.lc_sexp.proofs.Nodes.{told_closed, closed_under_way, list_place}
 use Rattle.lc_sexp.proofs.machine.Machine.close_list.Goals as goal
 
-pub invariant_of-self-2-clause-counted : goal.invariant_of-self-2-clause-counted
-invariant_of-self-2-clause-counted c =
-    let more = list_counted c.args.self.now.outer.items c.pop.new.self.items c.unwrap-before.result c.replace-inner.new.dest c.in_ok-items.items.items c.args.self.now.items.items c.push-2.new.self.items
-    c.pop.result (is_ok c.push-2.result) c.list.result
-    c.pop.ensures.items c.unwrap-before.ensures (c.in_ok-items.ensures ∙ ap (λ v. v.items) c.replace-inner.ensures.value) c.replace-inner.ensures.after c.push-2.ensures.items c.list.ensures in
-    omega (arith, more, c.args.self.now.counted)
+pub overflow_sub-inside : goal.overflow_sub-inside
+overflow_sub-inside c =
+    let k = c.args.self.now.nodes.ok.0 in
+    omega (arith, k, c.len.ensures, list_place _ _ _ _ _ c.unwrap-at.result _ c.pop.ensures.items c.unwrap-at.ensures c.args.self.now.under_way)
+
+pub overflow_sub-inside-2 : goal.overflow_sub-inside-2
+overflow_sub-inside-2 c =
+    let k = c.args.self.now.nodes.ok.0 in
+    omega (arith, k, c.len.ensures, list_place _ _ _ _ _ c.unwrap-at.result _ c.pop.ensures.items c.unwrap-at.ensures c.args.self.now.under_way)
+
+pub index_mut-requires : goal.index_mut-requires
+index_mut-requires c =
+    let k = c.args.self.now.nodes.ok.0 in
+    omega (arith, k, list_place _ _ _ _ _ c.unwrap-at.result _ c.pop.ensures.items c.unwrap-at.ensures c.args.self.now.under_way)
+
+pub invariant_of-self-clause-under_way : goal.invariant_of-self-clause-under_way
+invariant_of-self-clause-under_way c =
+    let k = c.args.self.now.nodes.ok.0 in
+    let n = c.len.result - c.unwrap-at.result - 1 in
+    closed_under_way c.args.self.now.text.items c.args.self.now.start c.args.self.now.nodes.items _ c.args.self.now.holes.items c.pop.new.self.items c.unwrap-at.result n
+    c.pop.result refl c.pop.ensures.items c.unwrap-at.ensures (omega (arith, k, c.len.ensures)) c.args.self.now.under_way
 
 pub returns-clause-told : goal.returns-clause-told
 returns-clause-told c = λ tokens.
-    told_ended c.args.self.now.outer.items c.pop.new.self.items c.unwrap-before.result c.replace-inner.new.dest c.in_ok-items.items.items c.args.self.now.items.items c.push-2.new.self.items tokens c.pop.result c.list.result
-    c.pop.ensures.items c.unwrap-before.ensures (c.in_ok-items.ensures ∙ ap (λ v. v.items) c.replace-inner.ensures.value) c.replace-inner.ensures.after c.in_ok-push.ensures.items c.list.ensures
+    let k = c.args.self.now.nodes.ok.0 in
+    let n = c.len.result - c.unwrap-at.result - 1 in
+    told_closed c.args.self.now.text.items c.args.self.now.start c.args.self.now.nodes.items _ c.args.self.now.holes.items c.pop.new.self.items c.unwrap-at.result n
+    c.pop.result tokens refl c.pop.ensures.items c.unwrap-at.ensures (omega (arith, k, c.len.ensures)) c.args.self.now.under_way
