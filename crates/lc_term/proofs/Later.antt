@@ -10,8 +10,8 @@ use Rattle.lc_term.specs.Rows.{Extends}
 use Rattle.lc_term.specs.Nodes.{as_term, as_column, as_formula, is_term, is_column, AreFormulas as AreFormulasIn, formulas_in as formulas_among}
 use Rattle.lc_term.specs.Tables.{parts, formulas, term_in, column_in, formula_in, HasTerm, HasColumn, HasFormula, IsTerm, IsColumn, IsFormula, AreFormulas, formulas_in, Keeps}
 use Rattle.lc_term.proofs.Rows.{kept_left}
-use Rattle.lc_term.proofs.Trees.{formula-there, are_formulas-kept, formulas-kept}
-use Rattle.lc_term.proofs.Parts.{term-there}
+use Rattle.lc_term.proofs.FormulaNodes.{formula-there, are_formulas-kept, formulas-kept}
+use Rattle.lc_term.proofs.TermNodes.{term-there}
 
 pub term_later : (old new : Table) (k : TermId) (t : S.Term) → HasTerm old k t → Keeps old new → HasTerm new k t
 term_later old new k t h kept = ap (λ l. slice_get l k.0) kept.parts_kept.1 ∙ kept_left (parts old) kept.parts_kept.0 k.0 _ h

@@ -22,11 +22,12 @@ pub mod PrintedTrees
 pub mod Reread
 pub mod Written
 pub mod Rows
-pub mod Parts
-pub mod Trees
+pub mod TermNodes
+pub mod FormulaNodes
 pub mod Tables
 pub mod Later
 pub mod Taken
 pub mod Stores
 pub mod Tests
 pub mod Symbolic
+pub mod Listed

@@ -1,19 +1,19 @@
 -- One node more in a table of terms.
-use Rattle.std.proofs.Common.{◌≡◌, ℕ, Bool, true, false, List, [], ◌∷◌, ◌++◌, slice_get, Option, Some, None, refl, sym, ap, ap₂, ◌∙◌, subst, append-nil, is_some, length, ◌<◌, arith}
+use Rattle.std.proofs.Common.{◌≡◌, ℕ, Bool, true, false, List, [], ◌∷◌, ◌++◌, slice_get, Option, Some, None, refl, sym, ap, ap₂, ◌∙◌, subst, append-nil, is_some, length, ◌+◌, ◌<◌, arith}
 use Rattle.indexmap.specs.IndexSet.{insert_key}
 use Rattle.lc_term.specs.Syntax as S
 use Rattle.lc_term.specs.declared.node.TermNode.{TermNode}
 use Rattle.lc_term.specs.declared.node.FormulaNode.{FormulaNode}
 use Rattle.lc_term.specs.declared.node.FormulaNode.TheVariants.{Le, Eq, Not, And, Or, Implies, Forall, Exists}
 use Rattle.lc_term.specs.Rows.{grow, trees, Built, AreDistinct, IsTable, Extends}
-use Rattle.lc_term.specs.Nodes.{Part, part_of, PartFits, tree_of, TreeFits, as_formula, PartsBelow}
+use Rattle.lc_term.specs.Nodes.{Part, part_of, PartFits, PartBelow, tree_of, TreeFits, as_formula, PartsBelow}
 use Rattle.lc_term.specs.NodeTables.{Table, parts_of, formulas_of, IsPartTable, IsFormulaTable, IsNodeTable}
 use Rattle.lc_term.specs.Tables.{parts, formulas, formula_in, IsFormula, Keeps}
 use Rattle.lc_term.specs.declared.node.FormulaId.{FormulaId}
 use Rattle.std.proofs.lemmas.Option.{slice_get_within}
 use Rattle.lc_term.proofs.Rows as rows
-use Rattle.lc_term.proofs.Parts.{node_eq, part-kept, part_fits-kept, node_eq-part, part-node_eq, term-kept, is_term-kept}
-use Rattle.lc_term.proofs.Trees.{formula_node_eq, tree-kept, tree_fits-kept, node_eq-tree, tree-node_eq, formula-there, same_formula, parts_below}
+use Rattle.lc_term.proofs.TermNodes.{some-there, part_below, node_eq, part-kept, part_fits-kept, node_eq-part, part-node_eq, term-kept, is_term-kept}
+use Rattle.lc_term.proofs.FormulaNodes.{formula_node_eq, tree-kept, tree_fits-kept, node_eq-tree, tree-node_eq, formula-there, same_formula, parts_below}
 
 -- what an insert of a term leaves
 abbrev pub PartEntered : List TermNode → List TermNode → TermNode → ℕ → Type 0
@@ -132,3 +132,34 @@ formula_node_at now ns xs k view ok there = subst (λ t. is_some (slice_get (for
 pub same_number : (now : Table) (ns : List TermNode) (xs : List FormulaNode) (a b : FormulaId) → record { terms = ns; formulas = xs } ≡ now → IsNodeTable ns xs
     → IsFormula now a → IsFormula now b → formula_in now a ≡ formula_in now b → a ≡ b
 same_number now ns xs a b view ok = subst (λ t. IsFormula t a → IsFormula t b → formula_in t a ≡ formula_in t b → a ≡ b) view (same_formula (formulas_of ns xs) a b ok.1.distinct)
+
+-- the node of a term or a column expression
+abbrev pub PartAt : Table → ℕ → Option TermNode → Type 0
+PartAt now k (Some n) = (slice_get (parts now) k ≡ Some (part_of (parts now) n)) × PartFits (parts now) n × PartBelow k n
+PartAt now k None = ⊥
+
+no_term_node : (n : TermNode) → None ≡ Some n → ⊥
+no_term_node n e = cc
+
+pub part_node_at : (now : Table) (ns : List TermNode) (xs : List FormulaNode) (k : ℕ) → record { terms = ns; formulas = xs } ≡ now → IsNodeTable ns xs
+    → is_some (slice_get (parts now) k) ≡ true → PartAt now k (slice_get ns k)
+part_node_at now ns xs k view ok there = subst (λ t. is_some (slice_get (parts t) k) ≡ true → PartAt t k (slice_get ns k)) view (by (slice_get ns k) refl) there
+  where
+    by : (o : Option TermNode) → slice_get ns k ≡ o → is_some (slice_get (parts_of ns) k) ≡ true → PartAt (record { terms = ns; formulas = xs }) k o
+    by (Some n) e h =
+        let s = rows.stands-at part_of PartFits part-kept part_fits-kept ns k n ok.0.built e in
+        let b = rows.before part_of PartFits part-kept part_fits-kept [] ns k n ok.0.built e in
+        let len : length b.0 ≡ k = let z = b.1 in omega arith in
+        (s.0, s.1, part_below b.0 k n len b.2)
+    by None e h =
+        let there = some-there (slice_get (parts_of ns) k) h in
+        let lt : k < length ns = omega (arith, slice_get_within (parts_of ns) k _ there.1, rows.length-trees part_of PartFits part-kept part_fits-kept ns) in
+        let at = rows.element ns k lt in
+        absurd (no_term_node at.0 (sym e ∙ at.1))
+
+-- how many entries there are
+pub entry_count : (now : Table) (ns : List TermNode) (xs : List FormulaNode) → record { terms = ns; formulas = xs } ≡ now
+    → length ns + length xs ≡ length (parts now) + length (formulas now)
+entry_count now ns xs view = subst (λ t. length ns + length xs ≡ length (parts t) + length (formulas t)) view
+    (sym (ap₂ (λ a b. a + b) (rows.length-trees part_of PartFits part-kept part_fits-kept ns)
+    (rows.length-trees (tree_of (parts_of ns)) (TreeFits (parts_of ns)) (tree-kept (parts_of ns)) (tree_fits-kept (parts_of ns)) xs)))

@@ -87,6 +87,33 @@ PartFits ps (Base c) = Unit {0}
 PartFits ps (Store c i v) = IsColumn ps c × IsTerm ps i × IsTerm ps v
 PartFits ps (Affine a b) = Unit {0}
 
+-- its parts have numbers below k
+abbrev pub PartBelow : ℕ → TermNode → Type 0
+PartBelow k (Number n) = Unit {0}
+PartBelow k (Variable v) = Unit {0}
+PartBelow k (Bound v) = Unit {0}
+PartBelow k (Add a b) = (a.0 < k) × (b.0 < k)
+PartBelow k (Subtract a b) = (a.0 < k) × (b.0 < k)
+PartBelow k (Multiply n a) = a.0 < k
+PartBelow k (Read c i) = (c.0 < k) × (i.0 < k)
+PartBelow k (Base c) = Unit {0}
+PartBelow k (Store c i v) = (c.0 < k) × (i.0 < k) × (v.0 < k)
+PartBelow k (Affine a b) = Unit {0}
+
+-- a term, and no column expression
+abbrev pub is_term_node : TermNode → Bool
+is_term_node (Base c) = false
+is_term_node (Store c i v) = false
+is_term_node (Affine a b) = false
+is_term_node _ = true
+
+-- the term, the column expression that a node is
+abbrev pub term_of_node : List Part → TermNode → S.Term
+term_of_node ps n = as_term (Some (part_of ps n))
+
+abbrev pub column_of_node : List Part → TermNode → S.Column
+column_of_node ps n = as_column (Some (part_of ps n))
+
 abbrev pub tree_of : List Part → List S.Formula → FormulaNode → S.Formula
 tree_of ps fs (Le a b) = S.Le (term_in ps a) (term_in ps b)
 tree_of ps fs (Eq a b) = S.Eq (term_in ps a) (term_in ps b)

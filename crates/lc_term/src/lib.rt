@@ -22,6 +22,7 @@ mod state;
 mod substitution;
 mod table;
 mod term;
+mod trees;
 
 pub use evaluation::{eval, eval_term};
 pub use formula::{Formula, copy_formulas};
@@ -37,5 +38,5 @@ pub use scope::{ColumnUse, Extra, Scope};
 pub use shifting::{shift, shift_formula};
 pub use state::{CellWrite, Env, EvalFault, State};
 pub use substitution::{instantiate, substitute};
-pub use table::Terms;
+pub use table::{Terms, numbers_are_exact};
 pub use term::{ColExpr, Term};

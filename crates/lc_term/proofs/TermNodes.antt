@@ -1,5 +1,5 @@
 -- What a node of a term stands for.
-use Rattle.std.proofs.Common.{◌≡◌, rules, tests, eqb, Bool, true, false, ℕ, List, [], ◌∷◌, ◌++◌, slice_get, Option, Some, None, refl, sym, ap, ◌∙◌, subst}
+use Rattle.std.proofs.Common.{◌≡◌, rules, tests, eqb, Bool, true, false, ℕ, List, [], ◌∷◌, ◌++◌, slice_get, Option, Some, None, is_some, length, ◌<◌, refl, sym, ap, ◌∙◌, subst}
 use Rattle.std.specs.Bool.{Decides}
 use Rattle.std.proofs.lemmas.Bool.Decides.{Decides-eqb}
 use Rattle.lc_term.specs.Syntax as S
@@ -9,7 +9,8 @@ use Rattle.lc_term.specs.declared.node.TermId.{TermId}
 use Rattle.lc_term.specs.declared.node.ColExprId.{ColExprId}
 use Rattle.lc_term.specs.contracts.node.TermNodePartialEq.TheImpl.{eq-value}
 use Rattle.lc_term.specs.Rows.{AreDistinct}
-use Rattle.lc_term.specs.Nodes.{Part, term, column, part_of, PartFits, term_in, column_in, as_term, as_column, is_term, is_column, IsTerm, IsColumn}
+use Rattle.lc_term.specs.Nodes.{Part, term, column, part_of, PartFits, PartBelow, term_in, column_in, as_term, as_column, is_term, is_column, IsTerm, IsColumn}
+use Rattle.std.proofs.lemmas.Option.{slice_get_within}
 use Rattle.lc_term.proofs.Rows.{kept_left}
 
 abbrev pub node_eq : TermNode → TermNode → Bool
@@ -132,3 +133,26 @@ same_node ts _ _ d p q e = cc
 
 pub part-node_eq : (ts : List Part) (m n : TermNode) → AreDistinct ts → PartFits ts m → PartFits ts n → part_of ts m ≡ part_of ts n → node_eq m n ≡ true
 part-node_eq ts m n d p q e = subst (λ x. node_eq m x ≡ true) (same_node ts m n d p q e) (node_eq-self m)
+
+-- what stands at a place is something
+pub some-there : (o : Option Part) → is_some o ≡ true → (p : Part) × (o ≡ Some p)
+some-there (Some p) h = (p, refl)
+some-there None h = cc
+
+term_below : (ts : List Part) (n : ℕ) (k : TermId) → length ts ≡ n → IsTerm ts k → k.0 < n
+term_below ts n k len h = subst (λ m. k.0 < m) len (slice_get_within ts k.0 _ (term-there ts k h))
+
+column_below : (ts : List Part) (n : ℕ) (k : ColExprId) → length ts ≡ n → IsColumn ts k → k.0 < n
+column_below ts n k len h = subst (λ m. k.0 < m) len (slice_get_within ts k.0 _ (column-there ts k h))
+
+pub part_below : (ts : List Part) (n : ℕ) (m : TermNode) → length ts ≡ n → PartFits ts m → PartBelow n m
+part_below ts n (Number a) len f = tt
+part_below ts n (Variable a) len f = tt
+part_below ts n (Bound a) len f = tt
+part_below ts n (Add a b) len f = (term_below ts n a len f.0, term_below ts n b len f.1)
+part_below ts n (Subtract a b) len f = (term_below ts n a len f.0, term_below ts n b len f.1)
+part_below ts n (Multiply k a) len f = term_below ts n a len f
+part_below ts n (Read c i) len f = (column_below ts n c len f.0, term_below ts n i len f.1)
+part_below ts n (Base c) len f = tt
+part_below ts n (Store c i v) len f = (column_below ts n c len f.0, term_below ts n i len f.1, term_below ts n v len f.2)
+part_below ts n (Affine a b) len f = tt

@@ -14,7 +14,7 @@ use Rattle.lc_term.specs.Rows.{AreDistinct}
 use Rattle.lc_term.specs.Nodes.{Part, tree_of, TreeFits, term_in, formula_in, formulas_in, as_formula, IsTerm, IsFormula, AreFormulas, AllBelow, PartsBelow}
 use Rattle.std.proofs.lemmas.Option.{slice_get_within}
 use Rattle.lc_term.proofs.Rows.{kept_left}
-use Rattle.lc_term.proofs.Parts.{same_term, term-kept}
+use Rattle.lc_term.proofs.TermNodes.{same_term, term-kept}
 
 abbrev pub formula_node_eq : FormulaNode → FormulaNode → Bool
 formula_node_eq = eq-value.it
