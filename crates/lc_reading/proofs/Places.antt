@@ -1,0 +1,52 @@
+-- Names that are listed, and the places at which they stand first.
+use Rattle.std.proofs.Common.{◌≡◌, ℕ, suc, Bool, true, false, List, [], ◌∷◌, ◌++◌, Option, Some, None, refl, sym, ap, ◌∙◌, cond}
+use Rattle.std.specs.Borrow.{Bor}
+use Rattle.std.proofs.lemmas.List.{map-append, length-map}
+use Rattle.lc_reading.specs.Words.{names_in}
+use Rattle.std.specs.Prelude.{option_map, is_some, ◌||◌, length}
+use Rattle.std.specs.List.{list_any}
+use Rattle.std.specs.Map.{lookup}
+use Rattle.std.specs.Option.{option_or}
+use Rattle.lc_reading.specs.Words.{is}
+use Rattle.lc_reading.specs.Listed.{place_of}
+
+first_of_two : {X : Type 0} (here there : Bool) (v w : X) (o : Option X) → cond here (Some v) (option_or o (cond there (Some w) None)) ≡ option_or (cond here (Some v) o) (cond there (Some w) None)
+first_of_two true there v w o = refl
+first_of_two false there v w o = refl
+
+-- what is found where one more entry stands behind the others
+pub lookup_last : {K X : Type 0} (test : K → Bool) (es : List (K × X)) (k : K) (x : X) → lookup test (es ++ (k, x) ∷ []) ≡ option_or (lookup test es) (cond (test k) (Some x) None)
+lookup_last test [] k x = refl
+lookup_last test (e ∷ es) k x = ap (cond (test e.0) (Some e.1)) (lookup_last test es k x) ∙ first_of_two (test e.0) (test k) e.1 x (lookup test es)
+
+pub absent : {X : Type 0} (o : Option X) → is_some o ≡ false → o ≡ None
+absent None h = refl
+absent (Some x) h = cc
+
+later : (here there : Bool) (p : Option ℕ) (n : ℕ) → cond here (Some 0) (option_map suc (option_or p (cond there (Some n) None))) ≡ option_or (cond here (Some 0) (option_map suc p)) (cond there (Some (suc n)) None)
+later true there p n = refl
+later false there (Some k) n = refl
+later false true None n = refl
+later false false None n = refl
+
+-- the place of a name where one more stands behind the others
+pub place_of_last : (vs : List (List ℕ)) (v w : List ℕ) → place_of (vs ++ v ∷ []) w ≡ option_or (place_of vs w) (cond (is w v) (Some (length vs)) None)
+place_of_last [] v w = refl
+place_of_last (u ∷ vs) v w = ap (λ p. cond (is w u) (Some 0) (option_map suc p)) (place_of_last vs v w) ∙ later (is w u) (is w v) (place_of vs w) (length vs)
+
+placed : (here b : Bool) (p : Option ℕ) → is_some p ≡ b → is_some (cond here (Some 0) (option_map suc p)) ≡ (here || b)
+placed true b p e = refl
+placed false b None e = e
+placed false b (Some k) e = e
+
+-- a name has a place exactly where it is listed
+pub has_place : (vs : List (List ℕ)) (w : List ℕ) → is_some (place_of vs w) ≡ list_any (is w) vs
+has_place [] w = refl
+has_place (u ∷ vs) w = placed (is w u) (list_any (is w) vs) (place_of vs w) (has_place vs w)
+
+-- the same of names that are referred to
+pub entered : (ns : List (Bor (List ℕ))) (n : Bor (List ℕ)) (w : List ℕ) → option_or (place_of (names_in ns) w) (cond (is w n.now) (Some (length ns)) None) ≡ place_of (names_in (ns ++ n ∷ [])) w
+entered ns n w =
+    ap (λ k. option_or (place_of (names_in ns) w) (cond (is w n.now) (Some k) None)) (sym (length-map ns (λ (m : Bor (List ℕ)). m.now)))
+    ∙ sym (place_of_last (names_in ns) n.now w)
+    ∙ ap (λ vs. place_of vs w) (sym (map-append (λ (m : Bor (List ℕ)). m.now) ns (n ∷ [])))

@@ -1,0 +1,36 @@
+-- What is wrong in a text.
+use Rattle.std.specs.Prelude.{ℕ, Bool, ◌&&◌, ◌||◌, ◌==◌, nat_lt, min, if◌then◌else◌}
+use Rattle.lc_sexp.specs.declared.misfit.Misfit.{Misfit}
+use Rattle.lc_sexp.specs.declared.misfit.Misfit.TheVariants.{Shape as Misshapen, Bound as Beyond}
+use Rattle.lc_reading.specs.declared.pass.Pass.{Pass}
+use Rattle.lc_reading.specs.declared.pass.Pass.TheVariants.{Shape, Unknown, Repeated, Auxiliary, Bound}
+use Rattle.lc_reading.specs.declared.flaw.Flaw.{Flaw}
+
+-- the place of a pass among the passes
+abbrev pub rank : Pass → ℕ
+rank Shape = 0
+rank Unknown = 1
+rank Repeated = 2
+rank Auxiliary = 3
+rank Bound = 4
+
+-- one item is wrong in one pass
+abbrev pub at : Pass → ℕ → Flaw
+at pass n = record { pass = pass; item = n; least = n }
+
+-- the flaw that a misfit is
+abbrev pub misfit_flaw : Misfit → Flaw
+misfit_flaw (Misshapen n) = at Shape n
+misfit_flaw (Beyond n) = at Bound n
+
+-- this one is told before the other: in an earlier pass, or in the same pass at a lesser item
+abbrev pub is_before : Flaw → Flaw → Bool
+is_before f g = nat_lt (rank f.pass) (rank g.pass) || (rank f.pass == rank g.pass) && nat_lt f.item g.item
+
+-- what is told first of both, and the least item that is wrong at all
+abbrev pub lesser : Flaw → Flaw → Flaw
+lesser f g = record {
+  pass = if is_before g f then g.pass else f.pass;
+  item = if is_before g f then g.item else f.item;
+  least = min f.least g.least;
+}

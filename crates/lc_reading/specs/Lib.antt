@@ -1,0 +1,11 @@
+pub mod Words
+pub mod Reserved
+pub mod Flaws
+pub mod Readings
+pub mod Results
+pub mod Placed
+pub mod Parts
+pub mod Rows
+pub mod Listed
+pub mod TableView
+pub mod Naming

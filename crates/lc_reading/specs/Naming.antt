@@ -1,0 +1,44 @@
+-- What a text reads as where a name is declared, and where one is used.
+use Rattle.std.specs.Prelude.{ℕ, ◌+◌, Bool, false, ◌||◌, nat_le, if◌then◌else◌, List, ◌++◌, length, Option, Some, None}
+use Rattle.std.specs.List.{list_any}
+use Rattle.lc_base.specs.NameText.{is_name}
+use Rattle.lc_sexp.specs.Trees.{Tree, Trees, atom, list, none, ◌▸◌, item_count}
+use Rattle.lc_reading.specs.Listed.{place_of, declared_by}
+use Rattle.lc_reading.specs.Readings.{Reading, fine, wrong, both}
+use Rattle.lc_reading.specs.Reserved.{is_reserved}
+use Rattle.lc_reading.specs.Words.{is, is_long}
+use Rattle.lc_reading.specs.declared.pass.Pass.TheVariants.{Shape, Unknown, Repeated, Bound}
+
+-- this value for a name, if it is not too long
+abbrev pub within : {X : Type 0} → ℕ → List ℕ → X → Reading X
+within n w x = if is_long w then wrong Bound n else fine x
+
+-- the place of a name, if it has one
+abbrev pub known : ℕ → List ℕ → Option ℕ → Reading ℕ
+known n w (Some k) = within n w k
+known n w None = wrong Unknown n
+
+-- the item n where one of these names is due: its place among them
+abbrev pub use_reading : List (List ℕ) → ℕ → Tree → Reading ℕ
+use_reading names n (atom w) = if is_name w then known n w (place_of names w) else wrong Shape n
+use_reading names n (list ts) = wrong Shape n
+
+-- there are as many as there may be, if there is a limit
+abbrev pub is_full : Option ℕ → ℕ → Bool
+is_full None n = false
+is_full (Some limit) n = nat_le limit n
+
+-- the item n where a name is declared behind these, up to a limit of all
+abbrev pub declaration_reading : Option ℕ → List (List ℕ) → ℕ → Tree → Reading (Unit {0})
+declaration_reading limit before n (atom w) =
+    if is_name w then
+    (if is_reserved w || list_any (is w) before then wrong Repeated n
+    else (if is_full limit (length before) then wrong Bound n else within n w tt))
+    else wrong Shape n
+declaration_reading limit before n (list ts) = wrong Shape n
+
+-- each of the items from m on, where names are declared behind these
+abbrev pub names_reading : Option ℕ → List (List ℕ) → ℕ → Trees → Reading (Unit {0})
+names_reading limit before m none = fine tt
+names_reading limit before m (t ▸ ts) =
+    both (λ x y. y) (declaration_reading limit before m t) (names_reading limit (before ++ declared_by t) (m + item_count t) ts)

@@ -1,0 +1,4 @@
+pub mod Heads
+pub mod Terms
+pub mod Formulas
+pub mod Seen

@@ -1,0 +1,30 @@
+-- What parts that are read together stand for.
+use Rattle.std.specs.Prelude.{ℤ, Vec}
+use Rattle.std.specs.declared.alloc.Global.{Global}
+use Rattle.lc_term.specs.Syntax as S
+use Rattle.lc_term.specs.View.{term_of, column_of, formula_of, formulas_of}
+use Rattle.lc_term.specs.declared.term.Term.{Term}
+use Rattle.lc_term.specs.declared.term.ColExpr.{ColExpr}
+use Rattle.lc_term.specs.declared.formula.Formula.{Formula}
+
+abbrev pub numbers_of : ℤ × ℤ → ℤ × ℤ
+numbers_of p = (p.0, p.1)
+
+abbrev pub terms_of : Term × Term → S.Term × S.Term
+terms_of p = (term_of p.0, term_of p.1)
+
+abbrev pub product_parts : ℤ × Term → ℤ × S.Term
+product_parts p = (p.0, term_of p.1)
+
+abbrev pub access_parts : ColExpr × Term → S.Column × S.Term
+access_parts p = (column_of p.0, term_of p.1)
+
+abbrev pub store_parts : (ColExpr × Term) × Term → (S.Column × S.Term) × S.Term
+store_parts p = ((column_of p.0.0, term_of p.0.1), term_of p.1)
+
+abbrev pub formula_pair : Formula × Formula → S.Formula × S.Formula
+formula_pair p = (formula_of p.0, formula_of p.1)
+
+-- the formulas of a vector
+abbrev pub row_of : Vec Formula Global → S.Formulas
+row_of fs = S.formulas (formulas_of fs.items)

@@ -1,0 +1,110 @@
+ghost use Rattle.std.specs.Prelude.{◌≡◌, []};
+ghost use Rattle.lc_sexp.specs.Shown.{rest_of, number_of, owner_of, text_of, atom_number};
+ghost use Rattle.lc_reading.specs.Parts.{tree_of, place_of};
+ghost use Rattle.lc_reading.specs.Results.{IsReading};
+ghost use Rattle.lc_reading.specs.Words.{names_in};
+ghost use Rattle.lc_term.specs.View.{column_of};
+ghost use Rattle.lc_text.specs.Seen.{numbers_of, store_parts};
+ghost use Rattle.lc_text.specs.Terms.{base_reading, column_reading, numbers_reading, store_reading, built_with};
+
+use crate::made::{made_affine, made_store};
+use crate::term::{read_bound_term, read_number};
+use crate::words::{Built, built_due};
+use lc_base::{NAME_LIMIT, is_name};
+use lc_reading::{Part, Pass, ReadFault, both, ended, headed, three, two, wrong};
+use lc_sexp::{Atom, Cursor, Item};
+use lc_term::{ColExpr, ColumnUse, Scope, Term};
+use std::alloc::Global;
+
+/// The column of a name. One that may not be read so is told at the reader.
+fn read_base<S: Scope>(scope: &S, reader: u64, atom: &Atom<'_>) -> Result<ColExpr, ReadFault>
+    ensures { IsReading column_of (base_reading (S.names scope.now) reader (atom_number atom.now) (text_of atom.now)) result }
+{
+    let column = match scope.column(atom.text()) {
+        ColumnUse::Misplaced => return Err(wrong(Pass::Shape, reader)),
+        _ if !is_name(atom.text().as_bytes()) => return Err(wrong(Pass::Shape, atom.number())),
+        ColumnUse::Undeclared => return Err(wrong(Pass::Unknown, atom.number())),
+        ColumnUse::Hidden => return Err(wrong(Pass::Auxiliary, reader)),
+        ColumnUse::Usable(column) => column,
+    };
+    if atom.text().len() > NAME_LIMIT {
+        return Err(wrong(Pass::Bound, atom.number()));
+    }
+    Ok(ColExpr::Base(column))
+}
+
+/// The column expression that an item reads as. A column that may not be read so is told at the reader.
+pub fn read_column<S: Scope>(
+    alloc: Global,
+    scope: &S,
+    reader: u64,
+    part: Part<'_>,
+) -> Result<ColExpr, ReadFault>
+    ensures { IsReading column_of (column_reading (S.names scope.now) [] reader (place_of part.entry) (tree_of part.entry)) result }
+{
+    read_bound_column(alloc, scope, &[], reader, part)
+}
+
+/// The column expression that an item reads as, where quantifiers bind these names.
+#[cycle(read_term)]
+pub(crate) fn read_bound_column<S: Scope>(
+    alloc: Global,
+    scope: &S,
+    bound: &[&str],
+    reader: u64,
+    part: Part<'_>,
+) -> Result<ColExpr, ReadFault>
+    ensures { IsReading column_of (column_reading (S.names scope.now) (names_in bound.now) reader (place_of part.entry) (tree_of part.entry)) result }
+{
+    let list = match part.item() {
+        Item::Atom(atom) => return read_base(scope, reader, &atom),
+        Item::List(list) => list,
+    };
+    let (word, operands) = headed(list)?;
+    match built_due(scope, word) {
+        Some(built) => read_built(alloc, scope, bound, built, operands),
+        None => Err(wrong(Pass::Shape, list.owner())),
+    }
+}
+
+/// The column expression of a list's other parts that begins so.
+#[cycle(read_term)]
+fn read_built<S: Scope>(
+    alloc: Global,
+    scope: &S,
+    bound: &[&str],
+    built: Built,
+    list: Cursor<'_>,
+) -> Result<ColExpr, ReadFault>
+    ensures { IsReading column_of (built_with (S.names scope.now) (names_in bound.now) built (owner_of list.entry) (number_of list.entry) (rest_of list.entry)) result }
+{
+    match built {
+        Built::Affine => made_affine(read_numbers(list)),
+        Built::Store => made_store(alloc, read_store(alloc, scope, bound, list)),
+    }
+}
+
+/// Two numbers, which are all that is left in a list.
+fn read_numbers(list: Cursor<'_>) -> Result<(i64, i64), ReadFault>
+    ensures { IsReading numbers_of (numbers_reading (owner_of list.entry) (number_of list.entry) (rest_of list.entry)) result }
+{
+    let (first, second, rest) = two(list)?;
+    ended(both(read_number(first), read_number(second)), rest)
+}
+
+/// A column and two terms.
+#[cycle(read_term)]
+fn read_store<S: Scope>(
+    alloc: Global,
+    scope: &S,
+    bound: &[&str],
+    list: Cursor<'_>,
+) -> Result<((ColExpr, Term), Term), ReadFault>
+    ensures { IsReading store_parts (store_reading (S.names scope.now) (names_in bound.now) (owner_of list.entry) (number_of list.entry) (rest_of list.entry)) result }
+{
+    let (first, second, third, rest) = three(list)?;
+    let column = read_bound_column(alloc, scope, bound, list.owner(), first);
+    let index = read_bound_term(alloc, scope, bound, second);
+    let value = read_bound_term(alloc, scope, bound, third);
+    ended(both(both(column, index), value), rest)
+}

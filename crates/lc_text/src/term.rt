@@ -1,0 +1,215 @@
+ghost use Rattle.std.specs.Prelude.{◌≡◌, []};
+ghost use Rattle.lc_sexp.specs.Shown.{rest_of, number_of, owner_of, text_of, atom_number};
+ghost use Rattle.lc_reading.specs.Parts.{tree_of, place_of};
+ghost use Rattle.lc_reading.specs.Results.{IsReading};
+ghost use Rattle.lc_reading.specs.Words.{names_in};
+ghost use Rattle.lc_term.specs.View.{term_of};
+ghost use Rattle.lc_text.specs.Seen.{terms_of, product_parts, access_parts};
+ghost use Rattle.lc_text.specs.Terms.{bound_index, variable_reading, number_reading, numbered_reading, word_reading, atom_reading, term_reading, terms_reading, product_reading, access_reading, operation_with};
+
+use crate::column::read_bound_column;
+use crate::made::{made_access, made_product, made_sum};
+use crate::words::{Operation, operation_of};
+use lc_base::{NAME_LIMIT, is_name};
+use lc_reading::{Part, Pass, ReadFault, Reads, both, ended, headed, two, wrong};
+use lc_sexp::{Atom, Cursor, Item, Misfit};
+use lc_term::{ColExpr, Extra, Scope, Term};
+use std::alloc::Global;
+
+/// How many quantifiers stand between a place and the innermost one that binds a name.
+fn bound_index(bound: &[&str], text: &str) -> Option<usize>
+    ensures { result ≡ bound_index (names_in bound.now) text.now }
+{
+    for inside in 0..bound.len() {
+        if text == bound[bound.len() - 1 - inside] {
+            return Some(inside);
+        }
+    }
+    None
+}
+
+/// The variable of a name.
+fn read_variable<S: Scope>(
+    scope: &S,
+    bound: &[&str],
+    number: u64,
+    text: &str,
+) -> Result<Term, ReadFault>
+    ensures { IsReading term_of (variable_reading (S.names scope.now) (names_in bound.now) number text.now) result }
+{
+    let term = match bound_index(bound, text) {
+        Some(index) => match u32::try_from(index) {
+            Ok(index) => Term::Bound(index),
+            Err(_) => return Err(ReadFault::OutOfMemory),
+        },
+        None => match scope.variable(text) {
+            Some(variable) => Term::Variable(variable),
+            None => return Err(wrong(Pass::Unknown, number)),
+        },
+    };
+    if text.len() > NAME_LIMIT {
+        return Err(wrong(Pass::Bound, number));
+    }
+    Ok(term)
+}
+
+/// A NUMBER.
+pub fn read_number(part: Part<'_>) -> Result<i64, ReadFault>
+    ensures { IsReading (λ z. z) (number_reading (place_of part.entry) (tree_of part.entry)) result }
+{
+    match part.item() {
+        Item::Atom(atom) => Ok(atom.integer()?),
+        Item::List(list) => Err(wrong(Pass::Shape, list.owner())),
+    }
+}
+
+/// A variable `?k`, where these stand.
+fn read_numbered<S: Scope>(scope: &S, atom: &Atom<'_>) -> Result<Term, ReadFault>
+    ensures { IsReading term_of (numbered_reading (S.names scope.now) (atom_number atom.now) (text_of atom.now)) result }
+{
+    if scope.allows(Extra::NumberedVariables) {
+        Ok(Term::Variable(atom.variable()?))
+    } else {
+        Err(wrong(Pass::Shape, atom.number()))
+    }
+}
+
+/// A NAME or a variable `?k`.
+fn read_word<S: Scope>(scope: &S, bound: &[&str], atom: &Atom<'_>) -> Result<Term, ReadFault>
+    ensures { IsReading term_of (word_reading (S.names scope.now) (names_in bound.now) (atom_number atom.now) (text_of atom.now)) result }
+{
+    if is_name(atom.text().as_bytes()) {
+        read_variable(scope, bound, atom.number(), atom.text())
+    } else {
+        read_numbered(scope, atom)
+    }
+}
+
+/// A NUMBER, a NAME or a variable `?k`.
+fn read_atom<S: Scope>(scope: &S, bound: &[&str], atom: &Atom<'_>) -> Result<Term, ReadFault>
+    ensures { IsReading term_of (atom_reading (S.names scope.now) (names_in bound.now) (atom_number atom.now) (text_of atom.now)) result }
+{
+    match atom.integer() {
+        Ok(number) => Ok(Term::Number(number)),
+        Err(Misfit::Bound(item)) => Err(wrong(Pass::Bound, item)),
+        Err(Misfit::Shape(_)) => read_word(scope, bound, atom),
+    }
+}
+
+/// The term that an item reads as.
+pub fn read_term<S: Scope>(alloc: Global, scope: &S, part: Part<'_>) -> Result<Term, ReadFault>
+    ensures { IsReading term_of (term_reading (S.names scope.now) [] (place_of part.entry) (tree_of part.entry)) result }
+{
+    read_bound_term(alloc, scope, &[], part)
+}
+
+/// The term that an item reads as, where quantifiers bind these names.
+#[cycle(read_term)]
+pub(crate) fn read_bound_term<S: Scope>(
+    alloc: Global,
+    scope: &S,
+    bound: &[&str],
+    part: Part<'_>,
+) -> Result<Term, ReadFault>
+    ensures { IsReading term_of (term_reading (S.names scope.now) (names_in bound.now) (place_of part.entry) (tree_of part.entry)) result }
+{
+    let list = match part.item() {
+        Item::Atom(atom) => return read_atom(scope, bound, &atom),
+        Item::List(list) => list,
+    };
+    let (word, operands) = headed(list)?;
+    match operation_of(word) {
+        Some(operation) => read_operation(alloc, scope, bound, operation, operands),
+        None => Err(wrong(Pass::Shape, list.owner())),
+    }
+}
+
+/// The term of a list's other parts that begins so.
+#[cycle(read_term)]
+fn read_operation<S: Scope>(
+    alloc: Global,
+    scope: &S,
+    bound: &[&str],
+    operation: Operation,
+    list: Cursor<'_>,
+) -> Result<Term, ReadFault>
+    ensures { IsReading term_of (operation_with (S.names scope.now) (names_in bound.now) operation (owner_of list.entry) (number_of list.entry) (rest_of list.entry)) result }
+{
+    match operation {
+        Operation::Add | Operation::Subtract => {
+            made_sum(alloc, operation, read_terms(alloc, scope, bound, list))
+        }
+        Operation::Multiply => made_product(alloc, read_product(alloc, scope, bound, list)),
+        Operation::Read => made_access(alloc, read_access(alloc, scope, bound, list)),
+    }
+}
+
+/// Two terms, which are all that is left in a list.
+#[cycle(read_term)]
+pub(crate) fn read_terms<S: Scope>(
+    alloc: Global,
+    scope: &S,
+    bound: &[&str],
+    list: Cursor<'_>,
+) -> Result<(Term, Term), ReadFault>
+    ensures { IsReading terms_of (terms_reading (S.names scope.now) (names_in bound.now) (owner_of list.entry) (number_of list.entry) (rest_of list.entry)) result }
+{
+    let (first, second, rest) = two(list)?;
+    let left = read_bound_term(alloc, scope, bound, first);
+    let right = read_bound_term(alloc, scope, bound, second);
+    ended(both(left, right), rest)
+}
+
+/// A number and a term.
+#[cycle(read_term)]
+fn read_product<S: Scope>(
+    alloc: Global,
+    scope: &S,
+    bound: &[&str],
+    list: Cursor<'_>,
+) -> Result<(i64, Term), ReadFault>
+    ensures { IsReading product_parts (product_reading (S.names scope.now) (names_in bound.now) (owner_of list.entry) (number_of list.entry) (rest_of list.entry)) result }
+{
+    let (first, second, rest) = two(list)?;
+    let factor = read_number(first);
+    let term = read_bound_term(alloc, scope, bound, second);
+    ended(both(factor, term), rest)
+}
+
+/// A column and an index.
+#[cycle(read_term)]
+fn read_access<S: Scope>(
+    alloc: Global,
+    scope: &S,
+    bound: &[&str],
+    list: Cursor<'_>,
+) -> Result<(ColExpr, Term), ReadFault>
+    ensures { IsReading access_parts (access_reading (S.names scope.now) (names_in bound.now) (owner_of list.entry) (number_of list.entry) (rest_of list.entry)) result }
+{
+    let (first, second, rest) = two(list)?;
+    let column = read_bound_column(alloc, scope, bound, list.owner(), first);
+    let index = read_bound_term(alloc, scope, bound, second);
+    ended(both(column, index), rest)
+}
+
+/// Reads terms, with the names of this scope.
+pub struct Terms<'s, S>(pub &'s S);
+
+impl<S: Scope> Reads for Terms<'_, S> {
+    ghost use Rattle.std.specs.Prelude.{[]};
+    ghost use Rattle.lc_term.specs.Syntax.{Term};
+    ghost use Rattle.lc_term.specs.View.{term_of};
+    ghost use Rattle.lc_text.specs.Terms.{term_reading};
+
+    type Value = Term;
+
+    ghost Meaning = { Term };
+
+    ghost meaning = { term_of };
+
+    ghost reading = { λ reader. term_reading (S.names reader.0.now) [] };
+
+    fn read(&self, alloc: Global, part: Part<'_>) -> Result<Term, ReadFault> {
+        read_term(alloc, self.0, part)
+    }
+}

@@ -1,0 +1,99 @@
+ghost use Rattle.std.specs.Prelude.{◌≡◌};
+ghost use Rattle.lc_text.specs.Heads.{operation_of, built_of, built_due, connective_of, is_quantifier, connective_due};
+
+use lc_term::{Extra, Scope};
+
+/// What the first word of a term that is a list says.
+#[derive(Clone, Copy)]
+pub(crate) enum Operation {
+    Add,
+    Subtract,
+    Multiply,
+    Read,
+}
+
+/// What the first word of a column expression that is a list says.
+#[derive(Clone, Copy)]
+pub(crate) enum Built {
+    Store,
+    Affine,
+}
+
+/// What the first word of a formula says.
+#[derive(Clone, Copy)]
+pub(crate) enum Connective {
+    Le,
+    Eq,
+    Not,
+    And,
+    Or,
+    Implies,
+    Forall,
+    Exists,
+}
+
+/// What this word says, where a term is due.
+pub(crate) fn operation_of(word: &str) -> Option<Operation>
+    ensures { result ≡ operation_of word.now }
+{
+    match word {
+        "+" => Some(Operation::Add),
+        "-" => Some(Operation::Subtract),
+        "*" => Some(Operation::Multiply),
+        "rd" => Some(Operation::Read),
+        _ => None,
+    }
+}
+
+fn built_of(word: &str) -> Option<Built>
+    ensures { result ≡ built_of word.now }
+{
+    match word {
+        "store" => Some(Built::Store),
+        "affine" => Some(Built::Affine),
+        _ => None,
+    }
+}
+
+/// The same where a column expression is due, if one may be built here.
+pub(crate) fn built_due<S: Scope>(scope: &S, word: &str) -> Option<Built>
+    ensures { result ≡ built_due (S.names scope.now) word.now }
+{
+    if scope.allows(Extra::BuiltColumns) {
+        built_of(word)
+    } else {
+        None
+    }
+}
+
+fn connective_of(word: &str) -> Option<Connective>
+    ensures { result ≡ connective_of word.now }
+{
+    match word {
+        "<=" => Some(Connective::Le),
+        "=" => Some(Connective::Eq),
+        "not" => Some(Connective::Not),
+        "and" => Some(Connective::And),
+        "or" => Some(Connective::Or),
+        "=>" => Some(Connective::Implies),
+        "forall" => Some(Connective::Forall),
+        "exists" => Some(Connective::Exists),
+        _ => None,
+    }
+}
+
+fn is_quantifier(connective: Connective) -> bool
+    ensures { result ≡ is_quantifier connective }
+{
+    matches!(connective, Connective::Forall | Connective::Exists)
+}
+
+/// The same where a formula is due: a quantifier only where these stand.
+pub(crate) fn connective_due<S: Scope>(scope: &S, word: &str) -> Option<Connective>
+    ensures { result ≡ connective_due (S.names scope.now) word.now }
+{
+    match connective_of(word) {
+        Some(connective) if is_quantifier(connective) && !scope.allows(Extra::Quantifiers) => None,
+        due => due,
+    }
+}
