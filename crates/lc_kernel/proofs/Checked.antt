@@ -1,6 +1,6 @@
 -- What is said of a proof, by what is said of its step and of the proofs of its branches.
 use Rattle.std.specs.Prelude.{◌≡◌, ℕ, suc, ◌+◌, List, [], ◌∷◌, length, Result, Ok, Err, Vec}
-use Rattle.std.proofs.Common.{refl, sym, ap, ◌∙◌, arith, rules}
+use Rattle.std.proofs.Common.{refl, ap, arith, rules}
 use Rattle.std.specs.declared.alloc.Global.{Global}
 use Rattle.lc_term.specs.Syntax as S
 use Rattle.lc_term.specs.declared.formula.Formula.{Formula}
@@ -19,28 +19,22 @@ use Rattle.lc_kernel.specs.declared.reason.Flaw.TheVariants.{Bad, Large}
 pub proof_of-proof : (p : Proof) → proof_of p ≡ proof (step_of (out-Proof p).step) (proofs (proofs_of (out-Proof p).branches.items))
 proof_of-proof p = search (rules, the_lemmas)
 
-pub root_flawed : (v : ℕ) (H : List S.Formula) (s : Step) (ps : Proofs) (first : ℕ) (fault : StepFault) → StepMeets v H s (Err fault) → Checks v H (proof s ps) first (Err (fault_at first fault))
+pub root_flawed : (v : ℕ) (H : List S.Formula) (s : Step) (ps : Proofs) (first : ℕ) (fault : StepFault) → StepMeets v H (proof_count ps) s (Err fault) → Checks v H (proof s ps) first (Err (fault_at first fault))
 root_flawed v H s ps first (Flawed (Bad reason)) h = (0, omega arith, fails_here h)
 root_flawed v H s ps first (Flawed Large) h = (0, omega arith, fails_here h)
 root_flawed v H s ps first OutOfMemory h = tt
 
-branch_count : (bs : List (Vec Formula Global)) → length (branches_of bs) ≡ length bs
+pub branch_count : (bs : List (Vec Formula Global)) → length (branches_of bs) ≡ length bs
 branch_count [] = refl
 branch_count (b ∷ bs) = ap suc (branch_count bs)
 
-child_count : (ps : List Proof) → proof_count (proofs (proofs_of ps)) ≡ length ps
+pub child_count : (ps : List Proof) → proof_count (proofs (proofs_of ps)) ≡ length ps
 child_count [] = refl
 child_count (p ∷ ps) = ap suc (child_count ps)
 
-pub counts_differ : (bs : List (Vec Formula Global)) (ps : List Proof) → (length bs ≡ length ps → ⊥) → length (branches_of bs) ≡ proof_count (proofs (proofs_of ps)) → ⊥
-counts_differ bs ps no' same = no' (sym (branch_count bs) ∙ same ∙ child_count ps)
-
-pub counts_agree : (bs : List (Vec Formula Global)) (ps : List Proof) → length bs ≡ length ps → length (branches_of bs) ≡ proof_count (proofs (proofs_of ps))
-counts_agree bs ps same = branch_count bs ∙ same ∙ sym (child_count ps)
-
 pub root_checks : (v w : ℕ) (H : List S.Formula) (s : Step) (bs : List (List S.Formula)) (ps : Proofs) (first : ℕ) (r : Result ℕ ProofFault) →
-    Gives v H s (opens w bs) → length bs ≡ proof_count ps → ChecksEach w H bs ps (first + 1) r → Checks v H (proof s ps) first r
-root_checks v w H s bs ps first (Ok next) gives same h = (let e = h.0 in omega arith, derives gives h.1)
-root_checks v w H s bs ps first (Err (NotHolding step reason)) gives same h = (suc h.0, let e = h.1 in omega arith, fails_below gives same h.2)
-root_checks v w H s bs ps first (Err (TooLarge step)) gives same h = (suc h.0, let e = h.1 in omega arith, fails_below gives same h.2)
-root_checks v w H s bs ps first (Err NoMore) gives same h = tt
+    Gives v H (proof_count ps) s (opens w bs) → ChecksEach w H bs ps (first + 1) r → Checks v H (proof s ps) first r
+root_checks v w H s bs ps first (Ok next) gives h = (let e = h.0 in omega arith, derives gives h.1)
+root_checks v w H s bs ps first (Err (NotHolding step reason)) gives h = (suc h.0, let e = h.1 in omega arith, fails_below gives h.2)
+root_checks v w H s bs ps first (Err (TooLarge step)) gives h = (suc h.0, let e = h.1 in omega arith, fails_below gives h.2)
+root_checks v w H s bs ps first (Err NoMore) gives h = tt

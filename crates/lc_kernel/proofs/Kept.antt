@@ -1,6 +1,6 @@
 -- What each rule appends has variables in use alone.
-use Rattle.std.proofs.Common.{◌≡◌, ℕ, suc, ◌≤◌, Bool, true, false, ◌&&◌, List, [], ◌∷◌, ◌++◌, Option, Some, None, IsTrue, refl, sym, subst, arith}
-use Rattle.std.specs.Prelude.{ℤ, if◌then◌else◌}
+use Rattle.std.proofs.Common.{◌≡◌, ℕ, suc, ◌≤◌, true, ◌&&◌, List, [], ◌∷◌, ◌++◌, Some, IsTrue, refl, sym, subst, arith}
+use Rattle.std.specs.Prelude.{ℤ, length}
 use Rattle.std.specs.List.{AllByRecursion}
 use Rattle.std.proofs.lemmas.Bool.{and_parts, and_from}
 use Rattle.std.proofs.lemmas.Bool.Decides.{nat_tests}
@@ -8,16 +8,12 @@ use Rattle.lc_array.specs.Axioms.{written, same_index, affine_cell}
 use Rattle.lc_term.specs.Places.{is_closed}
 use Rattle.lc_term.specs.Substitution.{instantiated}
 use Rattle.lc_term.specs.Syntax.{Term, Variable, Column, Formula, Le, Eq, Not, And, Or, Implies, Forall, Exists, Formulas, none, more, formulas, parts}
-use Rattle.lc_linear.specs.Closing.{Entry}
 use Rattle.lc_kernel.proofs.InUse.{inner_below, parts_below, instantiated_below, all_below-more, all_below-append}
-use Rattle.lc_kernel.proofs.Found.{opens_same, need_opens, taking_opens, in_use_opens, hypothesis_has}
+use Rattle.lc_kernel.proofs.Found.{opens_same, taking_opens, in_use_opens, branching_in_use, summed, opposed, open_opens, hypothesis_has}
 use Rattle.lc_kernel.specs.Below.{term_below, column_below, formula_below, all_below}
 use Rattle.lc_kernel.specs.Proofs as S
 use Rattle.lc_kernel.specs.Proofs.{Step}
-use Rattle.lc_kernel.specs.Table.{flawed, opens, conjuncts, negations, failing, alternatives, less, pushed_inward, pushed, for_all, for_some, sides, apart, excess, hypothesis, need, in_use, each, appends, entries, all_comparisons, SumOf, SumGives, QuotientInUse, QuotientOf, DivideGives, opposite, Gives}
-use Rattle.lc_kernel.specs.declared.reason.Reason.TheVariants.{NoHypothesis, NotOpposite}
-use Rattle.lc_kernel.specs.declared.reason.Flaw.TheVariants.{Bad}
-use Rattle.lc_term.specs.Equal.{formula_eq}
+use Rattle.lc_kernel.specs.Table.{opens, conjuncts, negations, failing, alternatives, less, pushed_inward, pushed, for_all, for_some, sides, apart, excess, hypothesis, each, InUse, Opens, Appends, QuotientGives, Gives}
 
 -- ---- what each rule takes from a formula
 
@@ -137,7 +133,7 @@ kept_none v w bs is = kept v w bs [] is tt
 kept_one : (v w : ℕ) (bs : List (List Formula)) (fs : List Formula) → opens w bs ≡ opens v (fs ∷ []) → IsTrue (all_below v fs) → Kept v w bs
 kept_one v w bs fs is h = kept v w bs (fs ∷ []) is (h, tt)
 
-kept_formula : (v w : ℕ) (bs : List (List Formula)) (f : Formula) → opens w bs ≡ appends v f → IsTrue (formula_below v f) → Kept v w bs
+kept_formula : (v w : ℕ) (bs : List (List Formula)) (f : Formula) → Appends v f (opens w bs) → IsTrue (formula_below v f) → Kept v w bs
 kept_formula v w bs f is h = kept_one v w bs (f ∷ []) is (and_from (formula_below v f) true h refl)
 
 each_below : (v : ℕ) (fs : List Formula) → IsTrue (all_below v fs) → AllByRecursion (λ b. IsTrue (all_below v b)) (each fs)
@@ -156,89 +152,63 @@ in_use_zero : (v : ℕ) → IsTrue (term_below (suc v) (Variable v))
 in_use_zero v = grind (arith, nat_tests)
 
 -- `fresh` takes one more variable into use
-kept_fresh : (v w : ℕ) (bs : List (List Formula)) (f : Formula) → opens w bs ≡ appends (suc v) (instantiated (Variable v) f) → IsTrue (inner_below v 1 f) → Kept v w bs
+kept_fresh : (v w : ℕ) (bs : List (List Formula)) (f : Formula) → Appends (suc v) (instantiated (Variable v) f) (opens w bs) → IsTrue (inner_below v 1 f) → Kept v w bs
 kept_fresh v w bs f is h =
     let k = kept_formula (suc v) w bs (instantiated (Variable v) f) is (instantiated_below v (suc v) 1 (Variable v) f (omega arith) (in_use_zero v) h) in
     let l = k.more in
     record { more = omega arith; all = k.all }
 
--- ---- sums, quotients
-
-kept_sum : (v w : ℕ) (bs : List (List Formula)) (es : List Entry) (b : Bool) → SumOf b v es (opens w bs) → Kept v w bs
-kept_sum v w bs es true st = kept_none v w bs st.0
-kept_sum v w bs es false st = cc
-
-kept_sum_gives : (v w : ℕ) (bs : List (List Formula)) (o : Option (List Entry)) → SumGives v o (opens w bs) → Kept v w bs
-kept_sum_gives v w bs None st = cc
-kept_sum_gives v w bs (Some es) st = kept_sum v w bs es (all_comparisons es) st
-
-kept_quotient_in_use : (v w : ℕ) (bs : List (List Formula)) (f : Formula) (t : Term) (k : ℤ) (b : Bool) → formula_below v f ≡ b → QuotientInUse b v f t k (opens w bs) → Kept v w bs
-kept_quotient_in_use v w bs f t k true in_use st = kept_formula v w bs f st.0 in_use
-kept_quotient_in_use v w bs f t k false in_use st = cc
-
-kept_quotient : (v w : ℕ) (bs : List (List Formula)) (f : Formula) (k : ℤ) (x : Option Term) → QuotientOf v f k x (opens w bs) → Kept v w bs
-kept_quotient v w bs f k None st = cc
-kept_quotient v w bs f k (Some t) st = kept_quotient_in_use v w bs f t k (formula_below v f) refl st
-
-kept_divide : (v w : ℕ) (bs : List (List Formula)) (f : Formula) (k : ℤ) (x : Option Formula) → DivideGives v f k x (opens w bs) → Kept v w bs
-kept_divide v w bs f k None st = cc
-kept_divide v w bs f k (Some g) st = kept_quotient v w bs f k (excess g) st
-
-kept_opposite : (v w : ℕ) (bs : List (List Formula)) (b : Bool) → opens w bs ≡ (if b then opens v [] else flawed (Bad NotOpposite)) → Kept v w bs
-kept_opposite v w bs true is = kept_none v w bs is
-kept_opposite v w bs false is = cc
-
 -- where the hypotheses have variables in use alone, so has what a step appends
-pub Gives-kept : (v w : ℕ) (H : List Formula) (s : Step) (bs : List (List Formula)) → Gives v H s (opens w bs) → IsTrue (all_below v H) → Kept v w bs
-Gives-kept v w H (S.Split h) bs is all =
-    let t = taking_opens w bs H h conjuncts (λ fs. opens v (fs ∷ [])) is in
+pub Gives-kept : (v w : ℕ) (H : List Formula) (n : ℕ) (s : Step) (bs : List (List Formula)) → Gives v H n s (opens w bs) → IsTrue (all_below v H) → Kept v w bs
+Gives-kept v w H n (S.Split h) bs is all =
+    let t = taking_opens w bs H h conjuncts n (λ fs. 1) (λ fs. Opens v (fs ∷ [])) is in
     kept_one v w bs t.part t.gives (conjuncts_below v t.formula t.part t.has (hypothesis_below v H h t.formula t.stands all))
-Gives-kept v w H (S.Cases h) bs is all =
-    let t = taking_opens w bs H h alternatives (λ fs. opens v (each fs)) is in
+Gives-kept v w H n (S.Cases h) bs is all =
+    let t = taking_opens w bs H h alternatives n (λ fs. length fs) (λ fs. Opens v (each fs)) is in
     kept_each v w bs t.part t.gives (alternatives_below v t.formula t.part t.has (hypothesis_below v H h t.formula t.stands all))
-Gives-kept v w H (S.Push h) bs is all =
-    let t = taking_opens w bs H h pushed (λ f. appends v f) is in
+Gives-kept v w H n (S.Push h) bs is all =
+    let t = taking_opens w bs H h pushed n (λ f. 1) (λ f. Appends v f) is in
     kept_formula v w bs t.part t.gives (pushed_below v t.formula t.part t.has (hypothesis_below v H h t.formula t.stands all))
-Gives-kept v w H (S.Instantiate h u) bs is all =
-    let t = taking_opens w bs H h for_all (λ f. in_use (term_below v u && is_closed u) (appends v (instantiated u f))) is in
-    let g = in_use_opens w bs (term_below v u && is_closed u) (appends v (instantiated u t.part)) t.gives in
+Gives-kept v w H n (S.Instantiate h u) bs is all =
+    let t = taking_opens w bs H h for_all n (λ f. 1) (λ f. InUse (term_below v u && is_closed u) (Appends v (instantiated u f))) is in
+    let g = in_use_opens w bs (term_below v u && is_closed u) (Appends v (instantiated u t.part)) t.gives in
     let p = and_parts (term_below v u) (is_closed u) g.0 in
     kept_formula v w bs (instantiated u t.part) g.1
     (instantiated_below v v 1 u t.part (omega arith) p.0 (for_all_below v t.formula t.part t.has (hypothesis_below v H h t.formula t.stands all)))
-Gives-kept v w H (S.Fresh h) bs is all =
-    let t = taking_opens w bs H h for_some (λ f. appends (suc v) (instantiated (Variable v) f)) is in
+Gives-kept v w H n (S.Fresh h) bs is all =
+    let t = taking_opens w bs H h for_some n (λ f. 1) (λ f. Appends (suc v) (instantiated (Variable v) f)) is in
     kept_fresh v w bs t.part t.gives (for_some_below v t.formula t.part t.has (hypothesis_below v H h t.formula t.stands all))
-Gives-kept v w H (S.Cut f) bs is all =
-    let g = in_use_opens w bs (formula_below v f) (opens v (each (Not f ∷ f ∷ []))) is in
+Gives-kept v w H n (S.Cut f) bs is all =
+    let g = branching_in_use w bs n 2 (formula_below v f) (Opens v (each (Not f ∷ f ∷ []))) is in
     kept_each v w bs (Not f ∷ f ∷ []) g.1 (two_below v (Not f) f g.0 g.0)
-Gives-kept v w H (S.Written c i x j) bs is all =
-    let g = in_use_opens w bs (column_below v c && term_below v i && term_below v x && term_below v j) (appends v (written c i x j)) is in
+Gives-kept v w H n (S.Written c i x j) bs is all =
+    let g = branching_in_use w bs n 1 (column_below v c && term_below v i && term_below v x && term_below v j) (Appends v (written c i x j)) is in
     kept_formula v w bs (written c i x j) g.1 (written_below v c i x j g.0)
-Gives-kept v w H (S.Same c i j) bs is all =
-    let g = in_use_opens w bs (column_below v c && term_below v i && term_below v j) (appends v (same_index c i j)) is in
+Gives-kept v w H n (S.Same c i j) bs is all =
+    let g = branching_in_use w bs n 1 (column_below v c && term_below v i && term_below v j) (Appends v (same_index c i j)) is in
     kept_formula v w bs (same_index c i j) g.1 (same_index_below v c i j g.0)
-Gives-kept v w H (S.Affine m n i) bs is all =
-    let g = in_use_opens w bs (term_below v i) (appends v (affine_cell m n i)) is in
-    kept_formula v w bs (affine_cell m n i) g.1 (affine_cell_below v m n i g.0)
-Gives-kept v w H (S.Trichotomy h) bs is all =
-    let t = taking_opens w bs H h apart (λ p. opens v (each (less p.0 p.1 ∷ less p.1 p.0 ∷ []))) is in
+Gives-kept v w H n (S.Affine a b i) bs is all =
+    let g = branching_in_use w bs n 1 (term_below v i) (Appends v (affine_cell a b i)) is in
+    kept_formula v w bs (affine_cell a b i) g.1 (affine_cell_below v a b i g.0)
+Gives-kept v w H n (S.Trichotomy h) bs is all =
+    let t = taking_opens w bs H h apart n (λ p. 2) (λ p. Opens v (each (less p.0 p.1 ∷ less p.1 p.0 ∷ []))) is in
     let p = t.part in
     let b = apart_below v t.formula p t.has (hypothesis_below v H h t.formula t.stands all) in
     kept_each v w bs (less p.0 p.1 ∷ less p.1 p.0 ∷ []) t.gives (two_below v (less p.0 p.1) (less p.1 p.0) (less_below v p.0 p.1 b.0 b.1) (less_below v p.1 p.0 b.1 b.0))
-Gives-kept v w H (S.Divide h k f) bs is all = kept_divide v w bs f k (hypothesis H h) is
-Gives-kept v w H (S.Sum ms) bs is all = kept_sum_gives v w bs (entries H ms) is
-Gives-kept v w H (S.Opposite h g) bs is all =
-    let a = need_opens w bs (hypothesis H h) NoHypothesis (λ f. need (hypothesis H g) NoHypothesis (opposite v f)) is in
-    let b = need_opens w bs (hypothesis H g) NoHypothesis (opposite v a.0) a.2 in
-    kept_opposite v w bs (formula_eq b.0 (Not a.0)) b.2
-Gives-kept v w H S.Open bs is all = cc
+Gives-kept v w H n (S.Divide h k f) bs is all =
+    let t = taking_opens w bs H h excess n (λ t. 1) (λ t. InUse (formula_below v f) (QuotientGives v f t k)) is in
+    let g = in_use_opens w bs (formula_below v f) (QuotientGives v f t.part k) t.gives in
+    kept_formula v w bs f g.1.0 g.0
+Gives-kept v w H n (S.Sum ms) bs is all = kept_none v w bs (summed v H n ms w bs is).gives.0
+Gives-kept v w H n (S.Opposite h g) bs is all = kept_none v w bs (opposed v H n h g w bs is).gives
+Gives-kept v w H n S.Open bs is all = absurd (open_opens v H n w bs is)
 
 branches_below : (w : ℕ) (H : List Formula) (bs : List (List Formula)) → IsTrue (all_below w H) → AllByRecursion (λ b. IsTrue (all_below w b)) bs → AllByRecursion (λ b. IsTrue (all_below w (H ++ b))) bs
 branches_below w H [] all each' = tt
 branches_below w H (b ∷ bs) all each' = (all_below-append w H b all each'.0, branches_below w H bs all each'.1)
 
 -- so in each branch all hypotheses have variables in use alone
-pub Gives-branches : (v w : ℕ) (H : List Formula) (s : Step) (bs : List (List Formula)) → Gives v H s (opens w bs) → IsTrue (all_below v H) → AllByRecursion (λ b. IsTrue (all_below w (H ++ b))) bs
-Gives-branches v w H s bs is all =
-    let k = Gives-kept v w H s bs is all in
+pub Gives-branches : (v w : ℕ) (H : List Formula) (n : ℕ) (s : Step) (bs : List (List Formula)) → Gives v H n s (opens w bs) → IsTrue (all_below v H) → AllByRecursion (λ b. IsTrue (all_below w (H ++ b))) bs
+Gives-branches v w H n s bs is all =
+    let k = Gives-kept v w H n s bs is all in
     branches_below w H bs (all_below-more v w k.more H all) k.all

@@ -6,9 +6,10 @@ pub mod Found
 pub mod Holding
 pub mod Kept
 pub mod Sound
+pub mod Decided
 pub mod Once
-pub mod First
 pub mod Grows
+pub mod First
 pub mod Branches
 pub mod Checked
 pub mod ProofWalk

@@ -1,5 +1,5 @@
 -- What the code answers of a step and of a proof.
-use Rattle.std.specs.Prelude.{◌≡◌, ℕ, ◌+◌, ℤ, Option, Some, None, Result, Ok, Err, List, map, Vec}
+use Rattle.std.specs.Prelude.{◌≡◌, ℕ, ◌+◌, ℤ, Bool, true, false, Option, Some, None, Result, Ok, Err, List, map, Vec}
 use Rattle.std.specs.Borrow.{Bor}
 use Rattle.std.specs.declared.alloc.Global.{Global}
 use Rattle.lc_term.specs.Syntax as S
@@ -42,9 +42,14 @@ Meets P (Ok opened) = P (opens opened.variables (branches_of opened.branches.ite
 Meets P (Err (Flawed why)) = P (flawed why)
 Meets P (Err OutOfMemory) = Unit {0}
 
--- what a step comes to
-abbrev pub StepMeets : ℕ → List S.Formula → Step → Result Opened StepFault → Type 0
-StepMeets v H s result = Meets (Gives v H s) result
+-- what a step comes to, where n proofs stand below it
+abbrev pub StepMeets : ℕ → List S.Formula → ℕ → Step → Result Opened StepFault → Type 0
+StepMeets v H n s result = Meets (Gives v H n s) result
+
+-- a test that holds, or the reason that is told where it fails
+abbrev pub Tests : Bool → Reason → Result (Unit {0}) Flaw → Type 0
+Tests holds reason (Ok u) = holds ≡ true
+Tests holds reason (Err why) = (holds ≡ false) × (why ≡ Bad reason)
 
 -- what there is, or the reason that is told where it is not there
 abbrev pub Finds : {A B : Type 0} → (A → B) → Option B → Reason → Result A Flaw → Type 0

@@ -1,18 +1,16 @@
 -- Derivations, and the first step of a proof that does not hold.
-use Rattle.std.specs.Prelude.{◌≡◌, ℕ, suc, ◌+◌, List, [], ◌∷◌, ◌++◌, length}
+use Rattle.std.specs.Prelude.{ℕ, suc, ◌+◌, List, [], ◌∷◌, ◌++◌}
 use Rattle.lc_term.specs.Syntax.{Formula, Not}
 use Rattle.lc_kernel.specs.Proofs.{Step, Proof, proof, Proofs, none, more, proof_count, size}
 use Rattle.lc_kernel.specs.Table.{flawed, opens, Gives}
 use Rattle.lc_kernel.specs.declared.reason.Flaw.{Flaw}
-use Rattle.lc_kernel.specs.declared.reason.Flaw.TheVariants.{Bad}
-use Rattle.lc_kernel.specs.declared.reason.Reason.TheVariants.{WrongForm}
 
 mutual
   -- A proof derives a contradiction from hypotheses, where v variables are in use: its step opens branches, and each
   -- is closed by the proof below it
   pub data Derives : ℕ → List Formula → Proof → Type 0 where
     derives : {v w : ℕ} {H : List Formula} {s : Step} {ps : Proofs} {bs : List (List Formula)} →
-        Gives v H s (opens w bs) → EachDerives w H bs ps → Derives v H (proof s ps)
+        Gives v H (proof_count ps) s (opens w bs) → EachDerives w H bs ps → Derives v H (proof s ps)
 
   -- Each branch is closed by its proof, and there are no other proofs
   pub data EachDerives : ℕ → List Formula → List (List Formula) → Proofs → Type 0 where
@@ -24,11 +22,9 @@ mutual
   -- Step n of a proof, in preorder, is the first that does not hold, for this flaw
   pub data Fails : ℕ → List Formula → Proof → ℕ → Flaw → Type 0 where
     fails_here : {v : ℕ} {H : List Formula} {s : Step} {ps : Proofs} {why : Flaw} →
-        Gives v H s (flawed why) → Fails v H (proof s ps) 0 why
-    fails_by_count : {v : ℕ} {H : List Formula} {s : Step} {ps : Proofs} (w : ℕ) (bs : List (List Formula)) →
-        Gives v H s (opens w bs) → (length bs ≡ proof_count ps → ⊥) → Fails v H (proof s ps) 0 (Bad WrongForm)
+        Gives v H (proof_count ps) s (flawed why) → Fails v H (proof s ps) 0 why
     fails_below : {v w : ℕ} {H : List Formula} {s : Step} {ps : Proofs} {bs : List (List Formula)} {n : ℕ} {why : Flaw} →
-        Gives v H s (opens w bs) → length bs ≡ proof_count ps → SomeFails w H bs ps n why → Fails v H (proof s ps) (suc n) why
+        Gives v H (proof_count ps) s (opens w bs) → SomeFails w H bs ps n why → Fails v H (proof s ps) (suc n) why
 
   -- The same of the proofs of branches, whose steps are counted through
   pub data SomeFails : ℕ → List Formula → List (List Formula) → Proofs → ℕ → Flaw → Type 0 where

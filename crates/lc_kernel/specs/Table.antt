@@ -1,6 +1,6 @@
 -- The table of steps: what a step needs, and what it opens.
 -- Hypotheses are numbered from 0. Nothing is ever taken away from them.
-use Rattle.std.specs.Prelude.{◌≡◌, ℕ, suc, ℤ, pos, negsuc, Bool, true, false, ◌&&◌, IsTrue, Option, Some, None, slice_get, if◌then◌else◌, List, [], ◌∷◌, map}
+use Rattle.std.specs.Prelude.{◌≡◌, ℕ, suc, ℤ, pos, negsuc, Bool, true, false, ◌&&◌, IsTrue, Option, Some, None, slice_get, ◌==◌, List, [], ◌∷◌, length, map}
 use Rattle.lc_term.specs.Equal.{formula_eq}
 use Rattle.lc_term.specs.Places.{is_closed}
 use Rattle.lc_term.specs.Substitution.{instantiated}
@@ -96,17 +96,26 @@ hypothesis H (pos n) = slice_get H n
 hypothesis H (negsuc n) = None
 
 -- what is needed, or the reason that is told where it is not there
-abbrev pub need : {A : Type 0} → Option A → Reason → (A → Outcome) → Outcome
-need None reason next = flawed (Bad reason)
-need (Some a) reason next = next a
+abbrev pub Needing : {A : Type 0} → Option A → Reason → (A → Outcome → Type 0) → Outcome → Type 0
+Needing None reason next o = o ≡ flawed (Bad reason)
+Needing (Some a) reason next o = next a o
 
 -- hypothesis h, which has this form
-abbrev pub taking : {A : Type 0} → List Formula → ℤ → (Formula → Option A) → (A → Outcome) → Outcome
-taking H h form next = need (hypothesis H h) NoHypothesis (λ f. need (form f) WrongForm next)
+abbrev pub Taking : {A : Type 0} → List Formula → ℤ → (Formula → Option A) → (A → Outcome → Type 0) → Outcome → Type 0
+Taking H h form next o = Needing (hypothesis H h) NoHypothesis (λ f. Needing (form f) WrongForm next) o
+
+-- a test, or the reason that is told where it fails
+abbrev pub Testing : Bool → Reason → (Outcome → Type 0) → Outcome → Type 0
+Testing true reason next o = next o
+Testing false reason next o = o ≡ flawed (Bad reason)
+
+-- m branches, where n proofs stand below the step
+abbrev pub Branching : ℕ → ℕ → (Outcome → Type 0) → Outcome → Type 0
+Branching n m next o = Testing (n == m) WrongForm next o
 
 -- each variable is in use
-abbrev pub in_use : Bool → Outcome → Outcome
-in_use yes' next = if yes' then next else flawed (Bad VariableNotInUse)
+abbrev pub InUse : Bool → (Outcome → Type 0) → Outcome → Type 0
+InUse yes' next o = Testing yes' VariableNotInUse next o
 
 -- ---- what a step opens
 
@@ -114,9 +123,13 @@ in_use yes' next = if yes' then next else flawed (Bad VariableNotInUse)
 abbrev pub each : List Formula → List (List Formula)
 each fs = map (λ f. f ∷ []) fs
 
+-- these branches, where v variables are in use
+abbrev pub Opens : ℕ → List (List Formula) → Outcome → Type 0
+Opens v bs o = o ≡ opens v bs
+
 -- one branch, with one formula more
-abbrev pub appends : ℕ → Formula → Outcome
-appends v f = opens v ((f ∷ []) ∷ [])
+abbrev pub Appends : ℕ → Formula → Outcome → Type 0
+Appends v f o = Opens v ((f ∷ []) ∷ []) o
 
 -- ---- sums and quotients
 
@@ -140,19 +153,10 @@ all_comparisons [] = true
 all_comparisons (e ∷ es) = is_comparison e.0 && all_comparisons es
 
 -- The sum of these comparisons: a multiplier that is not allowed, then Large, then whether it closes
-abbrev pub SumOfComparisons : ℕ → List Entry → Outcome → Type 0
-SumOfComparisons v es (opens w bs) = (opens w bs ≡ opens v []) × Closes es
-SumOfComparisons v es (flawed Large) = IsTrue (are_allowed es) × (HasForm (combined es) → ⊥)
-SumOfComparisons v es (flawed (Bad reason)) = (reason ≡ DoesNotClose) × (IsTrue (are_allowed es) → HasForm (combined es)) × (Closes es → ⊥)
-
--- The sum of these formulas: first, each is a comparison
-abbrev pub SumOf : Bool → ℕ → List Entry → Outcome → Type 0
-SumOf true v es o = SumOfComparisons v es o
-SumOf false v es o = o ≡ flawed (Bad WrongForm)
-
-abbrev pub SumGives : ℕ → Option (List Entry) → Outcome → Type 0
-SumGives v None o = o ≡ flawed (Bad NoHypothesis)
-SumGives v (Some es) o = SumOf (all_comparisons es) v es o
+abbrev pub SumGives : ℕ → List Entry → Outcome → Type 0
+SumGives v es (opens w bs) = Opens v [] (opens w bs) × Closes es
+SumGives v es (flawed Large) = IsTrue (are_allowed es) × (HasForm (combined es) → ⊥)
+SumGives v es (flawed (Bad reason)) = (reason ≡ DoesNotClose) × (IsTrue (are_allowed es) → HasForm (combined es)) × (Closes es → ⊥)
 
 -- the form of a `<=` can be made; nothing is asked of another formula
 abbrev pub CanCompare : Option Term → Type 0
@@ -166,43 +170,27 @@ IsQuotient t k None = ⊥
 
 -- the formula f, which says that q is at most 0 if it is a `<=`, from a `<=` which says that t is at most 0
 abbrev pub QuotientGives : ℕ → Formula → Term → ℤ → Outcome → Type 0
-QuotientGives v f t k (opens w bs) = (opens w bs ≡ appends v f) × HasForm t × CanCompare (excess f) × IsQuotient t k (excess f)
+QuotientGives v f t k (opens w bs) = Appends v f (opens w bs) × HasForm t × CanCompare (excess f) × IsQuotient t k (excess f)
 QuotientGives v f t k (flawed Large) = HasForm t × CanCompare (excess f) → ⊥
 QuotientGives v f t k (flawed (Bad NotDivisible)) = HasForm t × CanCompare (excess f) × (Divides k (form_of t) → ⊥)
 QuotientGives v f t k (flawed (Bad WrongQuotient)) = HasForm t × CanCompare (excess f) × Divides k (form_of t) × (IsQuotient t k (excess f) → ⊥)
 QuotientGives v f t k (flawed (Bad _)) = ⊥
 
-abbrev pub QuotientInUse : Bool → ℕ → Formula → Term → ℤ → Outcome → Type 0
-QuotientInUse true v f t k o = QuotientGives v f t k o
-QuotientInUse false v f t k o = o ≡ flawed (Bad VariableNotInUse)
-
-abbrev pub QuotientOf : ℕ → Formula → ℤ → Option Term → Outcome → Type 0
-QuotientOf v f k None o = o ≡ flawed (Bad WrongForm)
-QuotientOf v f k (Some t) o = QuotientInUse (formula_below v f) v f t k o
-
-abbrev pub DivideGives : ℕ → Formula → ℤ → Option Formula → Outcome → Type 0
-DivideGives v f k None o = o ≡ flawed (Bad NoHypothesis)
-DivideGives v f k (Some g) o = QuotientOf v f k (excess g) o
-
 -- ---- the table
 
--- g is the negation of f
-abbrev pub opposite : ℕ → Formula → Formula → Outcome
-opposite v f g = if formula_eq g (Not f) then opens v [] else flawed (Bad NotOpposite)
-
--- What a step comes to, where v variables are in use and H are the hypotheses
-abbrev pub Gives : ℕ → List Formula → Step → Outcome → Type 0
-Gives v H (S.Split h) o = o ≡ taking H h conjuncts (λ fs. opens v (fs ∷ []))
-Gives v H (S.Cases h) o = o ≡ taking H h alternatives (λ fs. opens v (each fs))
-Gives v H (S.Push h) o = o ≡ taking H h pushed (λ f. appends v f)
-Gives v H (S.Instantiate h t) o = o ≡ taking H h for_all (λ f. in_use (term_below v t && is_closed t) (appends v (instantiated t f)))
-Gives v H (S.Fresh h) o = o ≡ taking H h for_some (λ f. appends (suc v) (instantiated (Variable v) f))
-Gives v H (S.Cut f) o = o ≡ in_use (formula_below v f) (opens v (each (Not f ∷ f ∷ [])))
-Gives v H (S.Written c i x j) o = o ≡ in_use (column_below v c && term_below v i && term_below v x && term_below v j) (appends v (written c i x j))
-Gives v H (S.Same c i j) o = o ≡ in_use (column_below v c && term_below v i && term_below v j) (appends v (same_index c i j))
-Gives v H (S.Affine m n i) o = o ≡ in_use (term_below v i) (appends v (affine_cell m n i))
-Gives v H (S.Trichotomy h) o = o ≡ taking H h apart (λ p. opens v (each (less p.0 p.1 ∷ less p.1 p.0 ∷ [])))
-Gives v H (S.Divide h k f) o = DivideGives v f k (hypothesis H h) o
-Gives v H (S.Sum ms) o = SumGives v (entries H ms) o
-Gives v H (S.Opposite h g) o = o ≡ need (hypothesis H h) NoHypothesis (λ f. need (hypothesis H g) NoHypothesis (opposite v f))
-Gives v H S.Open o = o ≡ flawed (Bad IsOpen)
+-- What a step comes to, where v variables are in use, H are the hypotheses and n proofs stand below the step
+abbrev pub Gives : ℕ → List Formula → ℕ → Step → Outcome → Type 0
+Gives v H n (S.Split h) o = Taking H h conjuncts (λ fs. Branching n 1 (Opens v (fs ∷ []))) o
+Gives v H n (S.Cases h) o = Taking H h alternatives (λ fs. Branching n (length fs) (Opens v (each fs))) o
+Gives v H n (S.Push h) o = Taking H h pushed (λ f. Branching n 1 (Appends v f)) o
+Gives v H n (S.Instantiate h t) o = Taking H h for_all (λ f. Branching n 1 (InUse (term_below v t && is_closed t) (Appends v (instantiated t f)))) o
+Gives v H n (S.Fresh h) o = Taking H h for_some (λ f. Branching n 1 (Appends (suc v) (instantiated (Variable v) f))) o
+Gives v H n (S.Cut f) o = Branching n 2 (InUse (formula_below v f) (Opens v (each (Not f ∷ f ∷ [])))) o
+Gives v H n (S.Written c i x j) o = Branching n 1 (InUse (column_below v c && term_below v i && term_below v x && term_below v j) (Appends v (written c i x j))) o
+Gives v H n (S.Same c i j) o = Branching n 1 (InUse (column_below v c && term_below v i && term_below v j) (Appends v (same_index c i j))) o
+Gives v H n (S.Affine a b i) o = Branching n 1 (InUse (term_below v i) (Appends v (affine_cell a b i))) o
+Gives v H n (S.Trichotomy h) o = Taking H h apart (λ p. Branching n 2 (Opens v (each (less p.0 p.1 ∷ less p.1 p.0 ∷ [])))) o
+Gives v H n (S.Divide h k f) o = Taking H h excess (λ t. Branching n 1 (InUse (formula_below v f) (QuotientGives v f t k))) o
+Gives v H n (S.Sum ms) o = Needing (entries H ms) NoHypothesis (λ es. Testing (all_comparisons es) WrongForm (Branching n 0 (SumGives v es))) o
+Gives v H n (S.Opposite h g) o = Needing (hypothesis H h) NoHypothesis (λ f. Needing (hypothesis H g) NoHypothesis (λ f'. Testing (formula_eq f' (Not f)) NotOpposite (Branching n 0 (Opens v [])))) o
+Gives v H n S.Open o = Branching n 0 (λ o'. o' ≡ flawed (Bad IsOpen)) o

@@ -2,7 +2,7 @@
 ghost use Rattle.std.specs.Prelude.{◌≡◌, ◌↔◌, IsTrue, map};
 ghost use Rattle.lc_kernel.specs.Answers.{StepMeets, Meets, Finds, Makes, entry_list, seen_difference, GivesClaim, DividesAs, IsClaimed};
 ghost use Rattle.lc_kernel.specs.Proofs as S;
-ghost use Rattle.lc_kernel.specs.Table.{entries, excess, is_comparison, all_comparisons, SumOfComparisons, QuotientGives};
+ghost use Rattle.lc_kernel.specs.Table.{entries, excess, is_comparison, all_comparisons, SumGives, QuotientGives};
 ghost use Rattle.lc_kernel.specs.View.{multiple_of};
 ghost use Rattle.lc_kernel.specs.declared.reason.Reason.TheVariants.{NoHypothesis, WrongForm};
 ghost use Rattle.lc_linear.specs.Closing.{entries_of};
@@ -13,7 +13,7 @@ ghost use Rattle.lc_term.specs.View.{term_of, formula_of, formulas_of};
 use crate::below::formula_below;
 use crate::fault::StepFault;
 use crate::forms::find;
-use crate::opened::{Opened, appending, no_branch};
+use crate::opened::{Opened, appending, count_branches, no_branch};
 use crate::proof::Multiple;
 use crate::reason::{Flaw, Reason};
 use lc_linear::{LinFault, LinForm, closes, form_of_difference};
@@ -55,7 +55,7 @@ fn all_comparisons(entries: &[(&Formula, i64)]) -> bool
 
 /// Whether comparisons, each so many times, contradict each other.
 fn close(alloc: Global, variables: u32, entries: &[(&Formula, i64)]) -> Result<Opened, StepFault>
-    ensures { Meets (SumOfComparisons variables (entries_of entries.now)) result }
+    ensures { Meets (SumGives variables (entries_of entries.now)) result }
 {
     match closes(alloc, entries) {
         Ok(true) => Ok(Opened {
@@ -74,14 +74,16 @@ pub(crate) fn sum(
     alloc: Global,
     hypotheses: &[Formula],
     variables: u32,
+    proofs: usize,
     multiples: &[Multiple],
 ) -> Result<Opened, StepFault>
-    ensures { StepMeets variables (formulas_of hypotheses.now) (S.Sum (map multiple_of multiples.now)) result }
+    ensures { StepMeets variables (formulas_of hypotheses.now) proofs (S.Sum (map multiple_of multiples.now)) result }
 {
     let entries = find_all(alloc, hypotheses, multiples)?;
     if !all_comparisons(&entries) {
         return Err(StepFault::Flawed(Flaw::Bad(Reason::WrongForm)));
     }
+    count_branches(proofs, 0)?;
     close(alloc, variables, &entries)
 }
 
@@ -155,13 +157,15 @@ pub(crate) fn divide(
     alloc: Global,
     hypotheses: &[Formula],
     variables: u32,
+    proofs: usize,
     hypothesis: i64,
     divisor: i64,
     quotient: &Formula,
 ) -> Result<Opened, StepFault>
-    ensures { StepMeets variables (formulas_of hypotheses.now) (S.Divide hypothesis divisor (formula_of quotient.now)) result }
+    ensures { StepMeets variables (formulas_of hypotheses.now) proofs (S.Divide hypothesis divisor (formula_of quotient.now)) result }
 {
     let (left, right) = inequality(find(hypotheses, hypothesis)?)?;
+    count_branches(proofs, 1)?;
     if !formula_below(variables, quotient) {
         return Err(StepFault::Flawed(Flaw::Bad(Reason::VariableNotInUse)));
     }

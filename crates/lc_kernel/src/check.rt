@@ -7,7 +7,7 @@ ghost use Rattle.lc_term.specs.View.{formulas_of};
 
 use crate::arithmetic::{divide, sum};
 use crate::fault::{ProofFault, StepFault};
-use crate::opened::Opened;
+use crate::opened::{Opened, count_branches};
 use crate::proof::{Proof, Step};
 use crate::reason::{Flaw, Reason};
 use crate::rules::{
@@ -16,54 +16,66 @@ use crate::rules::{
 use lc_term::Formula;
 use std::alloc::Global;
 
-/// What a step opens, or what is wrong with it.
+/// What a step opens, where so many proofs stand below it, or what is wrong with it.
 fn take_step(
     alloc: Global,
     hypotheses: &[Formula],
     variables: u32,
+    proofs: usize,
     step: &Step,
 ) -> Result<Opened, StepFault>
     requires { variables + 1 < 2 ^ 32 }
-    ensures { StepMeets variables (formulas_of hypotheses.now) (step_of step.now) result }
+    ensures { StepMeets variables (formulas_of hypotheses.now) proofs (step_of step.now) result }
 {
     let known = hypotheses;
     match step {
-        Step::Split { hypothesis } => split(alloc, known, variables, *hypothesis),
-        Step::Cases { hypothesis } => cases(alloc, known, variables, *hypothesis),
-        Step::Push { hypothesis } => push(alloc, known, variables, *hypothesis),
+        Step::Split { hypothesis } => split(alloc, known, variables, proofs, *hypothesis),
+        Step::Cases { hypothesis } => cases(alloc, known, variables, proofs, *hypothesis),
+        Step::Push { hypothesis } => push(alloc, known, variables, proofs, *hypothesis),
         Step::Instantiate { hypothesis, term } => {
-            instantiated(alloc, known, variables, *hypothesis, term)
+            instantiated(alloc, known, variables, proofs, *hypothesis, term)
         }
-        Step::Fresh { hypothesis } => fresh(alloc, known, variables, *hypothesis),
-        Step::Cut { formula } => cut(alloc, known, variables, formula),
+        Step::Fresh { hypothesis } => fresh(alloc, known, variables, proofs, *hypothesis),
+        Step::Cut { formula } => cut(alloc, known, variables, proofs, formula),
         Step::Written {
             column,
             index,
             value,
             other,
-        } => written(alloc, known, variables, column, index, value, other),
+        } => written(alloc, known, variables, proofs, column, index, value, other),
         Step::Same {
             column,
             index,
             other,
-        } => same(alloc, known, variables, column, index, other),
+        } => same(alloc, known, variables, proofs, column, index, other),
         Step::Affine {
             slope,
             start,
             index,
-        } => affine(alloc, known, variables, *slope, *start, index),
-        Step::Trichotomy { hypothesis } => trichotomy(alloc, known, variables, *hypothesis),
+        } => affine(alloc, known, variables, proofs, *slope, *start, index),
+        Step::Trichotomy { hypothesis } => trichotomy(alloc, known, variables, proofs, *hypothesis),
         Step::Divide {
             hypothesis,
             divisor,
             quotient,
-        } => divide(alloc, known, variables, *hypothesis, *divisor, quotient),
-        Step::Sum { multiples } => sum(alloc, known, variables, multiples),
+        } => divide(
+            alloc,
+            known,
+            variables,
+            proofs,
+            *hypothesis,
+            *divisor,
+            quotient,
+        ),
+        Step::Sum { multiples } => sum(alloc, known, variables, proofs, multiples),
         Step::Opposite {
             hypothesis,
             negation,
-        } => opposite(alloc, known, variables, *hypothesis, *negation),
-        Step::Open => Err(StepFault::Flawed(Flaw::Bad(Reason::IsOpen))),
+        } => opposite(alloc, known, variables, proofs, *hypothesis, *negation),
+        Step::Open => {
+            count_branches(proofs, 0)?;
+            Err(StepFault::Flawed(Flaw::Bad(Reason::IsOpen)))
+        }
     }
 }
 
@@ -81,16 +93,16 @@ pub(crate) fn check(
     ensures kept { OnOk result (hypotheses.new.items ≡ hypotheses.old.items) }
     ensures checks { Checks variables (formulas_of hypotheses.old.items) (proof_of proof.now) first result }
 {
-    let opened = match take_step(alloc, hypotheses, variables, &proof.step) {
+    let opened = match take_step(
+        alloc,
+        hypotheses,
+        variables,
+        proof.branches.len(),
+        &proof.step,
+    ) {
         Ok(opened) => opened,
         Err(fault) => return Err(fault.at(first)),
     };
-    if opened.branches.len() != proof.branches.len() {
-        return Err(ProofFault::Bad {
-            step: first,
-            reason: Reason::WrongForm,
-        });
-    }
     check_each(
         alloc,
         &proof.branches,

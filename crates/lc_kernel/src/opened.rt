@@ -1,8 +1,10 @@
-ghost use Rattle.std.specs.Prelude.{◌≡◌, [], ◌∷◌, IfOk};
-ghost use Rattle.lc_kernel.specs.Answers.{branches_of};
+ghost use Rattle.std.specs.Prelude.{◌≡◌, ◌==◌, [], ◌∷◌, IfOk};
+ghost use Rattle.lc_kernel.specs.Answers.{Tests, branches_of};
 ghost use Rattle.lc_kernel.specs.Table.{each};
+ghost use Rattle.lc_kernel.specs.declared.reason.Reason.TheVariants.{WrongForm};
 ghost use Rattle.lc_term.specs.View.{formula_of, formulas_of};
 
+use crate::reason::{Flaw, Reason};
 use lc_base::OutOfMemory;
 use lc_term::Formula;
 use std::alloc::Global;
@@ -14,6 +16,17 @@ pub(crate) struct Opened {
     pub(crate) variables: u32,
     /// For each branch the formulas that are appended to the hypotheses.
     pub(crate) branches: Vec<Vec<Formula>>,
+}
+
+/// Tests that there are as many proofs below a step as it opens branches.
+pub(crate) fn count_branches(proofs: usize, branches: usize) -> Result<(), Flaw>
+    ensures { Tests (proofs == branches) WrongForm result }
+{
+    if proofs == branches {
+        Ok(())
+    } else {
+        Err(Flaw::Bad(Reason::WrongForm))
+    }
 }
 
 /// No branch.

@@ -12,7 +12,9 @@ use crate::fault::StepFault;
 use crate::forms::{
     alternatives, apart, conjuncts, find, for_all, for_some, less, negated, pushed,
 };
-use crate::opened::{Opened, appending, each_branch, no_branch, one_branch, two_branches};
+use crate::opened::{
+    Opened, appending, count_branches, each_branch, no_branch, one_branch, two_branches,
+};
 use crate::reason::{Flaw, Reason};
 use lc_array::{affine_axiom, same_index_axiom, written_axiom};
 use lc_term::{ColExpr, Formula, Term, instantiate, is_closed};
@@ -23,12 +25,15 @@ pub(crate) fn split(
     alloc: Global,
     hypotheses: &[Formula],
     variables: u32,
+    proofs: usize,
     hypothesis: i64,
 ) -> Result<Opened, StepFault>
-    ensures { StepMeets variables (formulas_of hypotheses.now) (S.Split hypothesis) result }
+    ensures { StepMeets variables (formulas_of hypotheses.now) proofs (S.Split hypothesis) result }
 {
     let formula = find(hypotheses, hypothesis)?;
-    let branches = one_branch(alloc, conjuncts(alloc, formula)?)?;
+    let parts = conjuncts(alloc, formula)?;
+    count_branches(proofs, 1)?;
+    let branches = one_branch(alloc, parts)?;
     Ok(Opened {
         variables,
         branches,
@@ -41,12 +46,15 @@ pub(crate) fn cases(
     alloc: Global,
     hypotheses: &[Formula],
     variables: u32,
+    proofs: usize,
     hypothesis: i64,
 ) -> Result<Opened, StepFault>
-    ensures { StepMeets variables (formulas_of hypotheses.now) (S.Cases hypothesis) result }
+    ensures { StepMeets variables (formulas_of hypotheses.now) proofs (S.Cases hypothesis) result }
 {
     let formula = find(hypotheses, hypothesis)?;
-    let branches = each_branch(alloc, alternatives(alloc, formula)?)?;
+    let parts = alternatives(alloc, formula)?;
+    count_branches(proofs, parts.len())?;
+    let branches = each_branch(alloc, parts)?;
     Ok(Opened {
         variables,
         branches,
@@ -58,12 +66,15 @@ pub(crate) fn push(
     alloc: Global,
     hypotheses: &[Formula],
     variables: u32,
+    proofs: usize,
     hypothesis: i64,
 ) -> Result<Opened, StepFault>
-    ensures { StepMeets variables (formulas_of hypotheses.now) (S.Push hypothesis) result }
+    ensures { StepMeets variables (formulas_of hypotheses.now) proofs (S.Push hypothesis) result }
 {
     let formula = find(hypotheses, hypothesis)?;
-    let branches = appending(alloc, pushed(alloc, formula)?)?;
+    let formula = pushed(alloc, formula)?;
+    count_branches(proofs, 1)?;
+    let branches = appending(alloc, formula)?;
     Ok(Opened {
         variables,
         branches,
@@ -76,12 +87,14 @@ pub(crate) fn instantiated(
     alloc: Global,
     hypotheses: &[Formula],
     variables: u32,
+    proofs: usize,
     hypothesis: i64,
     term: &Term,
 ) -> Result<Opened, StepFault>
-    ensures { StepMeets variables (formulas_of hypotheses.now) (S.Instantiate hypothesis (term_of term.now)) result }
+    ensures { StepMeets variables (formulas_of hypotheses.now) proofs (S.Instantiate hypothesis (term_of term.now)) result }
 {
     let body = for_all(find(hypotheses, hypothesis)?)?;
+    count_branches(proofs, 1)?;
     if !(term_below(variables, term) && is_closed(term)) {
         return Err(StepFault::Flawed(Flaw::Bad(Reason::VariableNotInUse)));
     }
@@ -98,12 +111,14 @@ pub(crate) fn fresh(
     alloc: Global,
     hypotheses: &[Formula],
     variables: u32,
+    proofs: usize,
     hypothesis: i64,
 ) -> Result<Opened, StepFault>
     requires { variables + 1 < 2 ^ 32 }
-    ensures { StepMeets variables (formulas_of hypotheses.now) (S.Fresh hypothesis) result }
+    ensures { StepMeets variables (formulas_of hypotheses.now) proofs (S.Fresh hypothesis) result }
 {
     let body = for_some(find(hypotheses, hypothesis)?)?;
+    count_branches(proofs, 1)?;
     let witness = Term::Variable(variables);
     let branches = appending(alloc, instantiate(alloc, body, &witness)?)?;
     Ok(Opened {
@@ -117,10 +132,12 @@ pub(crate) fn cut(
     alloc: Global,
     hypotheses: &[Formula],
     variables: u32,
+    proofs: usize,
     formula: &Formula,
 ) -> Result<Opened, StepFault>
-    ensures { StepMeets variables (formulas_of hypotheses.now) (S.Cut (formula_of formula.now)) result }
+    ensures { StepMeets variables (formulas_of hypotheses.now) proofs (S.Cut (formula_of formula.now)) result }
 {
+    count_branches(proofs, 2)?;
     if !formula_below(variables, formula) {
         return Err(StepFault::Flawed(Flaw::Bad(Reason::VariableNotInUse)));
     }
@@ -136,13 +153,15 @@ pub(crate) fn written(
     alloc: Global,
     hypotheses: &[Formula],
     variables: u32,
+    proofs: usize,
     column: &ColExpr,
     index: &Term,
     value: &Term,
     other: &Term,
 ) -> Result<Opened, StepFault>
-    ensures { StepMeets variables (formulas_of hypotheses.now) (S.Written (column_of column.now) (term_of index.now) (term_of value.now) (term_of other.now)) result }
+    ensures { StepMeets variables (formulas_of hypotheses.now) proofs (S.Written (column_of column.now) (term_of index.now) (term_of value.now) (term_of other.now)) result }
 {
+    count_branches(proofs, 1)?;
     if !(column_below(variables, column)
         && term_below(variables, index)
         && term_below(variables, value)
@@ -162,12 +181,14 @@ pub(crate) fn same(
     alloc: Global,
     hypotheses: &[Formula],
     variables: u32,
+    proofs: usize,
     column: &ColExpr,
     index: &Term,
     other: &Term,
 ) -> Result<Opened, StepFault>
-    ensures { StepMeets variables (formulas_of hypotheses.now) (S.Same (column_of column.now) (term_of index.now) (term_of other.now)) result }
+    ensures { StepMeets variables (formulas_of hypotheses.now) proofs (S.Same (column_of column.now) (term_of index.now) (term_of other.now)) result }
 {
+    count_branches(proofs, 1)?;
     if !(column_below(variables, column)
         && term_below(variables, index)
         && term_below(variables, other))
@@ -186,12 +207,14 @@ pub(crate) fn affine(
     alloc: Global,
     hypotheses: &[Formula],
     variables: u32,
+    proofs: usize,
     slope: i64,
     start: i64,
     index: &Term,
 ) -> Result<Opened, StepFault>
-    ensures { StepMeets variables (formulas_of hypotheses.now) (S.Affine slope start (term_of index.now)) result }
+    ensures { StepMeets variables (formulas_of hypotheses.now) proofs (S.Affine slope start (term_of index.now)) result }
 {
+    count_branches(proofs, 1)?;
     if !term_below(variables, index) {
         return Err(StepFault::Flawed(Flaw::Bad(Reason::VariableNotInUse)));
     }
@@ -207,11 +230,13 @@ pub(crate) fn trichotomy(
     alloc: Global,
     hypotheses: &[Formula],
     variables: u32,
+    proofs: usize,
     hypothesis: i64,
 ) -> Result<Opened, StepFault>
-    ensures { StepMeets variables (formulas_of hypotheses.now) (S.Trichotomy hypothesis) result }
+    ensures { StepMeets variables (formulas_of hypotheses.now) proofs (S.Trichotomy hypothesis) result }
 {
     let (left, right) = apart(find(hypotheses, hypothesis)?)?;
+    count_branches(proofs, 2)?;
     let branches = two_branches(alloc, less(alloc, left, right)?, less(alloc, right, left)?)?;
     Ok(Opened {
         variables,
@@ -219,21 +244,23 @@ pub(crate) fn trichotomy(
     })
 }
 
-/// `(opposite h g)`: no branch; g is the negation of h.
+/// `(opposite h g)`: no branch; g is the negation of h. Only after this are the branches counted.
 pub(crate) fn opposite(
     alloc: Global,
     hypotheses: &[Formula],
     variables: u32,
+    proofs: usize,
     hypothesis: i64,
     negation: i64,
 ) -> Result<Opened, StepFault>
-    ensures { StepMeets variables (formulas_of hypotheses.now) (S.Opposite hypothesis negation) result }
+    ensures { StepMeets variables (formulas_of hypotheses.now) proofs (S.Opposite hypothesis negation) result }
 {
     let formula = find(hypotheses, hypothesis)?;
     let negated = find(hypotheses, negation)?;
     if !is_negation(negated, formula) {
         return Err(StepFault::Flawed(Flaw::Bad(Reason::NotOpposite)));
     }
+    count_branches(proofs, 0)?;
     Ok(Opened {
         variables,
         branches: no_branch(alloc),

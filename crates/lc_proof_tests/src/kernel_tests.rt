@@ -43,6 +43,8 @@ fn faults_say_what_is_wrong(rt: HostRuntime) -> Result<(), Fail> {
 fn laws_have_no_effect() {
     laws::derivations_are_valid();
     laws::a_step_comes_to_one_outcome();
+    laws::branches_have_proofs();
+    laws::a_proof_derives_or_fails();
     laws::a_proof_has_one_first_flaw();
 }
 

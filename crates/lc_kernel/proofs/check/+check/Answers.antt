@@ -3,16 +3,14 @@ use Rattle.std.proofs.Math.Seq.{take-append_seam}
 use Rattle.std.proofs.lemmas.List.{drop-set-lt}
 use Rattle.lc_term.specs.View.{formulas_of}
 use Rattle.lc_kernel.specs.Answers.{branches_of, StepMeets, Checks, ChecksEach}
-use Rattle.lc_kernel.specs.Derivation.{Derives, Fails, fails_by_count}
-use Rattle.lc_kernel.specs.Proofs.{proof, proofs, size, size_of_all}
+use Rattle.lc_kernel.specs.Derivation.{Derives}
+use Rattle.lc_kernel.specs.Proofs.{proof, proofs, proof_count, size, size_of_all}
 use Rattle.lc_kernel.specs.Table.{opens, Gives}
 use Rattle.lc_kernel.specs.View.{step_of, proof_of, proofs_of}
 use Rattle.lc_kernel.specs.declared.proof.Proof.{out-Proof}
-use Rattle.lc_kernel.specs.declared.reason.Flaw.TheVariants.{Bad}
-use Rattle.lc_kernel.specs.declared.reason.Reason.TheVariants.{WrongForm}
 use Rattle.lc_kernel.proofs.Branches.{Left, one_less, one_fails, next_left, nothing_left, formulas_append}
-use Rattle.lc_kernel.proofs.Checked.{proof_of-proof, root_flawed, root_checks, counts_differ, counts_agree}
-use Rattle.lc_kernel.proofs.Grows.{Gives-grows}
+use Rattle.lc_kernel.proofs.Checked.{proof_of-proof, child_count, branch_count, root_flawed, root_checks}
+use Rattle.lc_kernel.proofs.Grows.{Gives-grows, Gives-count}
 use Rattle.lc_kernel.proofs.check.+check.Goals as goal
 
 pub check-returns-in-Err-clause-checks : goal.check-returns-in-Err-clause-checks
@@ -21,34 +19,23 @@ check-returns-in-Err-clause-checks t c =
     let s = step_of (out-Proof p).step in
     let ps = proofs (proofs_of (out-Proof p).branches.items) in
     let H = formulas_of c.args.hypotheses.now.items in
-    let flawed = subst (λ xs. StepMeets c.args.variables (formulas_of xs) s (Err c.in-Err.fault)) c.deref.ensures.value c.in-Err.ensures in
+    let count : c.len.result ≡ proof_count ps = search rules ∙ sym (child_count (out-Proof p).branches.items) in
+    let flawed = subst (λ xs. StepMeets c.args.variables (formulas_of xs) c.len.result s (Err c.in-Err.fault)) c.deref.ensures.value c.in-Err.ensures in
     subst (λ q. Checks c.args.variables H q c.args.first (Err c.at.result)) (sym (proof_of-proof p))
     (subst (λ e. Checks c.args.variables H (proof s ps) c.args.first (Err e)) (sym c.at.ensures)
-    (root_flawed c.args.variables H s ps c.args.first c.in-Err.fault flawed))
-
-pub check-returns-then-len-clause-checks : goal.check-returns-then-len-clause-checks
-check-returns-then-len-clause-checks t c =
-    let p = c.args.proof.now in
-    let s = step_of (out-Proof p).step in
-    let w = c.in-Ok.opened.variables in
-    let bs = branches_of c.in-Ok.opened.branches.items in
-    let gives = subst (λ xs. Gives c.args.variables (formulas_of xs) s (opens w bs)) c.deref.ensures.value c.in-Ok.ensures in (
-      0,
-      omega arith,
-      subst (λ q. Fails c.args.variables (formulas_of c.args.hypotheses.now.items) q 0 (Bad WrongForm)) (sym (proof_of-proof p))
-          (fails_by_count w bs gives (counts_differ c.in-Ok.opened.branches.items (out-Proof p).branches.items (search rules))),
-    )
+    (root_flawed c.args.variables H s ps c.args.first c.in-Err.fault (subst (λ n. StepMeets c.args.variables H n s (Err c.in-Err.fault)) count flawed)))
 
 pub check-check_each-requires : goal.check-check_each-requires
 check-check_each-requires t c =
     let p = c.args.proof.now in
     let w = c.in-Ok.opened.variables in
     let bs = branches_of c.in-Ok.opened.branches.items in
-    let gives = subst (λ xs. Gives c.args.variables (formulas_of xs) (step_of (out-Proof p).step) (opens w bs)) c.deref.ensures.value c.in-Ok.ensures in
-    let grows = Gives-grows c.args.variables w (formulas_of c.args.hypotheses.now.items) (step_of (out-Proof p).step) bs gives in
+    let gives = subst (λ xs. Gives c.args.variables (formulas_of xs) c.len.result (step_of (out-Proof p).step) (opens w bs)) c.deref.ensures.value c.in-Ok.ensures in
+    let grows = Gives-grows c.args.variables w (formulas_of c.args.hypotheses.now.items) c.len.result (step_of (out-Proof p).step) bs gives in
     let sizes : size (proof_of p) ≡ suc (size_of_all (proofs (proofs_of c.deref-2.result.now))) =
     ap size (proof_of-proof p) ∙ ap (λ xs. suc (size_of_all (proofs (proofs_of xs)))) (sym c.deref-2.ensures.value) in
-    let same : length c.in-Ok.opened.branches.items ≡ length c.deref-2.result.now = search rules in
+    let counted = Gives-count c.args.variables w (formulas_of c.args.hypotheses.now.items) c.len.result (step_of (out-Proof p).step) bs gives in
+    let same : length c.in-Ok.opened.branches.items ≡ length c.deref-2.result.now = sym (branch_count c.in-Ok.opened.branches.items) ∙ counted ∙ c.len.ensures ∙ sym c.deref-2.ensures.len in
     let r = c.requires in
     (omega (arith, c.decreases, sizes), (omega (arith, sizes, grows, r.variables), (omega (arith, sizes, r.steps), same)))
 
@@ -60,12 +47,12 @@ check-returns-clause-checks t c =
     let w = c.in-Ok.opened.variables in
     let bs = branches_of c.in-Ok.opened.branches.items in
     let H = formulas_of c.args.hypotheses.now.items in
-    let gives = subst (λ xs. Gives c.args.variables (formulas_of xs) s (opens w bs)) c.deref.ensures.value c.in-Ok.ensures in
-    let same : length c.in-Ok.opened.branches.items ≡ length (out-Proof p).branches.items = search rules in
+    let count : c.len.result ≡ proof_count ps = search rules ∙ sym (child_count (out-Proof p).branches.items) in
+    let gives = subst (λ n. Gives c.args.variables H n s (opens w bs)) count (subst (λ xs. Gives c.args.variables (formulas_of xs) c.len.result s (opens w bs)) c.deref.ensures.value c.in-Ok.ensures) in
     let each : ChecksEach w H bs ps (c.args.first + 1) c.check_each.result =
     subst (λ xs. ChecksEach w H bs (proofs (proofs_of xs)) (c.args.first + 1) c.check_each.result) c.deref-2.ensures.value c.check_each.ensures.checks in
     subst (λ q. Checks c.args.variables H q c.args.first c.check_each.result) (sym (proof_of-proof p))
-    (root_checks c.args.variables w H s bs ps c.args.first c.check_each.result gives (counts_agree c.in-Ok.opened.branches.items (out-Proof p).branches.items same) each)
+    (root_checks c.args.variables w H s bs ps c.args.first c.check_each.result gives each)
 
 pub check_each-returns-in_err-next-clause-checks : goal.check_each-returns-in_err-next-clause-checks
 check_each-returns-in_err-next-clause-checks t c =
