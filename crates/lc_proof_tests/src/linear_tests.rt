@@ -171,7 +171,9 @@ fn a_quotient_is_rounded_up(rt: HostRuntime) -> Result<(), Fail> {
     let alloc = rt.alloc();
     let no_divisor = is_quotient(alloc, 1, 0, None)? & is_quotient(alloc, 1, -1, None)?;
     let greatest = is_quotient(alloc, i64::MIN, i64::MAX, Some(-1))?;
-    assert!(rt; odd_numbers_are_rounded_up(alloc)? & multiples_are_divided(alloc)? & no_divisor & greatest);
+    assert!(rt;
+        odd_numbers_are_rounded_up(alloc)? & multiples_are_divided(alloc)? & no_divisor & greatest
+    );
     Ok(())
 }
 
