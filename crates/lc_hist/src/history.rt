@@ -70,7 +70,7 @@ impl History {
 }
 
 // Which clients are in a call: the clients whose numbers it has, and no other.
-#[derive(Debug, Drop)]
+#[derive(Drop)]
 struct InCall {
     clients: Vec<bool>,
 }

@@ -50,14 +50,18 @@ fn name_value(alloc: Global, operations: &[Operation], op: OpId) -> Result<Value
 fn call_value(alloc: Global, client: u32, name: Value, numbers: Value) -> Result<Value, AllocError>
     ensures { IfOk result (λ value. view value ≡ list_data (number (unsigned client) ∷ string (codes "call") ∷ view name ∷ view numbers ∷ [])) }
 {
-    json!(in alloc; [client, "call", name, numbers])
+    let word = Value::try_from_str(alloc, "call")?;
+    let items = Vec::from_array(alloc, [Value::from(client), word, name, numbers])?;
+    Ok(Value::from(items))
 }
 
 /// `[CLIENT,"return",[NUMBER,..]]`
 fn return_value(alloc: Global, client: u32, numbers: Value) -> Result<Value, AllocError>
     ensures { IfOk result (λ value. view value ≡ list_data (number (unsigned client) ∷ string (codes "return") ∷ view numbers ∷ [])) }
 {
-    json!(in alloc; [client, "return", numbers])
+    let word = Value::try_from_str(alloc, "return")?;
+    let items = Vec::from_array(alloc, [Value::from(client), word, numbers])?;
+    Ok(Value::from(items))
 }
 
 /// `[CLIENT,NAME,[NUMBER,..],[NUMBER,..]]`
@@ -70,7 +74,8 @@ fn done_value(
 ) -> Result<Value, AllocError>
     ensures { IfOk result (λ value. view value ≡ list_data (number (unsigned client) ∷ view name ∷ view numbers ∷ view reply ∷ [])) }
 {
-    json!(in alloc; [client, name, numbers, reply])
+    let items = Vec::from_array(alloc, [Value::from(client), name, numbers, reply])?;
+    Ok(Value::from(items))
 }
 
 /// `{"events":[..],"order":[..]}`

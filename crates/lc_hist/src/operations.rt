@@ -10,12 +10,17 @@ use lc_seq::Operation;
 use std::alloc::Global;
 
 /// The operations of a specification, which are found by their names.
-#[derive(Drop)]
 pub(crate) struct Operations<'a> {
     all: &'a [Operation],
     /// For each name the place at which it stands first.
     places: IndexMap<&'a str, usize>,
     ghost placed: { (name : List ℕ) → lookup (λ key. bytes_eq name key.now) places.entries ≡ place_of (operations_of all.now) name },
+}
+
+impl Drop for Operations<'_> {
+    fn drop(self) {
+        let Operations { all: _, places: _ } = self;
+    }
 }
 
 /// Notes the place of a name, unless it stands at one already.

@@ -12,18 +12,27 @@ use lc_seq::SeqObject;
 use std::alloc::Global;
 
 // Where a call stands in a history.
-#[derive(Clone, Copy, Debug)]
+#[derive(Clone, Copy)]
 pub(crate) struct Span {
     pub(crate) called: usize,
     pub(crate) returned: Option<usize>,
 }
 
 // A client, with the places of its calls and of its returns in a history, and how many entries of it were seen.
-#[derive(Debug, Drop)]
 pub(crate) struct Client {
     calls: Vec<usize>,
     returns: Vec<usize>,
     entries: usize,
+}
+
+impl Drop for Client {
+    fn drop(self) {
+        let Client {
+            calls: _,
+            returns: _,
+            entries: _,
+        } = self;
+    }
 }
 
 impl Client {

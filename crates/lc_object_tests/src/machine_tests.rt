@@ -56,8 +56,26 @@ fn object(alloc: Global, text: &str) -> Result<Object, Fail> {
     Ok(object)
 }
 
-fn went(point: u32, edge: EdgeKind, moved: Result<Moved, StepFault>) -> bool {
-    matches!(moved, Ok(Moved::Went { point: reached, edge: by }) if reached == PointId(point) && by == edge)
+/// Whether the client calls operation 0.
+fn calls(bare: &mut Bare<'_>, client: u32) -> bool {
+    bare.invoke(client, OpId(0), &[]) == Ok(())
+}
+
+/// Whether the client goes on to this point, by this edge.
+fn goes(bare: &mut Bare<'_>, client: u32, point: u32, edge: EdgeKind) -> bool {
+    matches!(bare.advance(client), Ok(Moved::Went { point: reached, edge: by }) if reached == PointId(point) && by == edge)
+}
+
+/// Whether the call of the client returns this number.
+fn returns(bare: &mut Bare<'_>, client: u32, number: i64) -> bool {
+    match bare.advance(client) {
+        Ok(Moved::Returned(reply)) => reply.as_slice() == [number].as_slice(),
+        _ => false,
+    }
+}
+
+fn overflows(bare: &mut Bare<'_>, client: u32) -> bool {
+    matches!(bare.advance(client), Err(StepFault::Overflow))
 }
 
 /// A cell of one of the machine's columns.
@@ -69,84 +87,81 @@ fn cell(bare: &Bare<'_>, column: u32, index: i64) -> Option<Result<i64, EvalFaul
     }
 }
 
+fn has(bare: &Bare<'_>, column: u32, index: i64, number: i64) -> bool {
+    cell(bare, column, index) == Some(Ok(number))
+}
+
+/// Both clients load before one of them swaps, so the other has to begin again.
+fn one_of_two_swaps(bare: &mut Bare<'_>) -> bool {
+    let first_loads = calls(bare, 0) & goes(bare, 0, 1, EdgeKind::Next);
+    let second_loads = calls(bare, 1) & goes(bare, 1, 1, EdgeKind::Next);
+    let second_swaps = goes(bare, 1, 2, EdgeKind::Then);
+    let first_begins_again = goes(bare, 0, 0, EdgeKind::Else);
+    first_loads & second_loads & second_swaps & first_begins_again
+}
+
 #[test]
 fn two_clients_count(rt: HostRuntime) -> Result<(), Fail> {
-    let alloc = rt.alloc();
-    let counter = object(alloc, COUNTER)?;
-    let mut bare = Bare::new(alloc, &counter, 2)?;
-    assert_eq!(rt; bare.invoke(0, OpId(0), &[]), Ok(()));
-    assert!(rt; went(1, EdgeKind::Next, bare.advance(0)));
-    assert_eq!(rt; bare.invoke(1, OpId(0), &[]), Ok(()));
-    assert!(rt; went(1, EdgeKind::Next, bare.advance(1)));
-    assert!(rt; went(2, EdgeKind::Then, bare.advance(1)));
-    assert!(rt; went(0, EdgeKind::Else, bare.advance(0)));
-    let Ok(Moved::Returned(reply)) = bare.advance(1) else {
-        panic!(rt; "the call of client 1 returns");
-    };
-    assert_eq!(rt; reply.as_slice(), &[0][..]);
-    assert!(rt; matches!(bare.advance(1), Err(StepFault::Idle)));
-    assert_eq!(rt; bare.invoke(2, OpId(0), &[]), Err(StepFault::NoClient));
-    assert_eq!(rt; cell(&bare, 1, 0), Some(Ok(1)));
+    let counter = object(rt.alloc(), COUNTER)?;
+    let mut bare = Bare::new(rt.alloc(), &counter, 2)?;
+    let swapped = one_of_two_swaps(&mut bare) & returns(&mut bare, 1, 0);
+    let is_idle = matches!(bare.advance(1), Err(StepFault::Idle));
+    let is_missing = bare.invoke(2, OpId(0), &[]) == Err(StepFault::NoClient);
+    assert!(rt; swapped & is_idle & is_missing & has(&bare, 1, 0, 1));
     Ok(())
+}
+
+/// A call that is wrong in several ways has the first fault, and a client in a call is busy before all else.
+fn calls_are_refused_in_order(bare: &mut Bare<'_>) -> bool {
+    let no_client = bare.invoke(1, OpId(9), &[5]) == Err(StepFault::NoClient);
+    let no_operation = bare.invoke(0, OpId(9), &[5]) == Err(StepFault::NoOp);
+    let wrong_numbers = bare.invoke(0, OpId(0), &[5]) == Err(StepFault::Arity);
+    let is_busy = calls(bare, 0) & (bare.invoke(0, OpId(9), &[5]) == Err(StepFault::Busy));
+    no_client & no_operation & wrong_numbers & is_busy
 }
 
 #[test]
 fn faults_come_in_their_order(rt: HostRuntime) -> Result<(), Fail> {
-    let alloc = rt.alloc();
-    let counter = object(alloc, FULL_COUNTER)?;
-    let mut bare = Bare::new(alloc, &counter, 1)?;
-    assert_eq!(rt; bare.invoke(1, OpId(9), &[5]), Err(StepFault::NoClient));
-    assert_eq!(rt; bare.invoke(0, OpId(9), &[5]), Err(StepFault::NoOp));
-    assert_eq!(rt; bare.invoke(0, OpId(0), &[5]), Err(StepFault::Arity));
-    assert_eq!(rt; bare.invoke(0, OpId(0), &[]), Ok(()));
-    assert_eq!(rt; bare.invoke(0, OpId(9), &[5]), Err(StepFault::Busy));
-    assert!(rt; went(1, EdgeKind::Next, bare.advance(0)));
+    let counter = object(rt.alloc(), FULL_COUNTER)?;
+    let mut bare = Bare::new(rt.alloc(), &counter, 1)?;
+    let refused = calls_are_refused_in_order(&mut bare) & goes(&mut bare, 0, 1, EdgeKind::Next);
     // The new row is one more than the greatest number, again and again.
-    assert!(rt; matches!(bare.advance(0), Err(StepFault::Overflow)));
-    assert!(rt; matches!(bare.advance(0), Err(StepFault::Overflow)));
-    assert_eq!(rt; cell(&bare, 0, 0), Some(Ok(i64::MAX)));
+    let too_large = overflows(&mut bare, 0) & overflows(&mut bare, 0);
+    assert!(rt; refused & too_large & has(&bare, 0, 0, i64::MAX));
     Ok(())
 }
 
 #[test]
 fn a_compare_and_swap_compares_the_whole_row(rt: HostRuntime) -> Result<(), Fail> {
-    let alloc = rt.alloc();
-    let pair = object(alloc, SWAP)?;
-    let mut bare = Bare::new(alloc, &pair, 1)?;
-    assert_eq!(rt; bare.invoke(0, OpId(0), &[]), Ok(()));
-    assert!(rt; went(1, EdgeKind::Else, bare.advance(0)));
-    assert_eq!(rt; cell(&bare, 0, 0), Some(Ok(0)));
-    assert_eq!(rt; cell(&bare, 1, 0), Some(Ok(5)));
-    assert_eq!(rt; cell(&bare, 1, 2), Some(Err(EvalFault::Overflow)));
+    let pair = object(rt.alloc(), SWAP)?;
+    let mut bare = Bare::new(rt.alloc(), &pair, 1)?;
+    let differs = calls(&mut bare, 0) & goes(&mut bare, 0, 1, EdgeKind::Else);
+    let stays = has(&bare, 0, 0, 0) & has(&bare, 1, 0, 5);
+    let is_too_far = cell(&bare, 1, 2) == Some(Err(EvalFault::Overflow));
+    assert!(rt; differs & stays & is_too_far);
     Ok(())
 }
 
 #[test]
 fn a_comparison_stops_at_the_first_difference(rt: HostRuntime) -> Result<(), Fail> {
-    let alloc = rt.alloc();
-    let pair = object(alloc, FAR_SWAP)?;
-    let mut bare = Bare::new(alloc, &pair, 1)?;
-    assert_eq!(rt; bare.invoke(0, OpId(0), &[]), Ok(()));
+    let pair = object(rt.alloc(), FAR_SWAP)?;
+    let mut bare = Bare::new(rt.alloc(), &pair, 1)?;
     // The cell beyond the difference leaves 64 bits, and is not reached; a load reaches it.
-    assert!(rt; went(1, EdgeKind::Else, bare.advance(0)));
-    assert!(rt; matches!(bare.advance(0), Err(StepFault::Overflow)));
+    let differs = calls(&mut bare, 0) & goes(&mut bare, 0, 1, EdgeKind::Else);
+    assert!(rt; differs & overflows(&mut bare, 0));
     Ok(())
 }
 
 #[test]
 fn locals_are_set_at_once(rt: HostRuntime) -> Result<(), Fail> {
-    let alloc = rt.alloc();
-    let pair = object(alloc, EXCHANGE)?;
-    let mut bare = Bare::new(alloc, &pair, 2)?;
-    assert_eq!(rt; bare.invoke(1, OpId(0), &[]), Ok(()));
-    assert!(rt; went(1, EdgeKind::Next, bare.advance(1)));
-    assert!(rt; went(2, EdgeKind::Next, bare.advance(1)));
-    assert!(rt; went(3, EdgeKind::Next, bare.advance(1)));
-    assert!(rt; went(4, EdgeKind::Else, bare.advance(1)));
-    assert!(rt; matches!(bare.advance(1), Ok(Moved::Returned(_))));
-    assert_eq!(rt; cell(&bare, 0, 1), Some(Ok(4)));
-    assert_eq!(rt; cell(&bare, 1, 1), Some(Ok(3)));
-    assert_eq!(rt; cell(&bare, 0, 0), Some(Ok(0)));
+    let pair = object(rt.alloc(), EXCHANGE)?;
+    let mut bare = Bare::new(rt.alloc(), &pair, 2)?;
+    let set = calls(&mut bare, 1) & goes(&mut bare, 1, 1, EdgeKind::Next);
+    let turned = goes(&mut bare, 1, 2, EdgeKind::Next) & goes(&mut bare, 1, 3, EdgeKind::Next);
+    let tested = goes(&mut bare, 1, 4, EdgeKind::Else);
+    let returned = matches!(bare.advance(1), Ok(Moved::Returned(_)));
+    let stored = has(&bare, 0, 1, 4) & has(&bare, 1, 1, 3) & has(&bare, 0, 0, 0);
+    assert!(rt; set & turned & tested & returned & stored);
     Ok(())
 }
 

@@ -32,104 +32,100 @@ fn constant(alloc: Global, term: &Term) -> Result<i128, LinFault> {
     Ok(form_of(alloc, term)?.constant())
 }
 
+// Whether a term has no form, since a number on the way does not fit.
+fn is_large(alloc: Global, term: &Term) -> bool {
+    constant(alloc, term) == Err(LinFault::Large)
+}
+
 #[test]
 fn a_difference_is_taken_directly(rt: HostRuntime) -> Result<(), Fail> {
     let alloc = rt.alloc();
-    assert_eq!(rt; constant(alloc, &least(alloc)?), Ok(i128::MIN));
-    assert_eq!(rt; constant(alloc, &greatest(alloc)?), Ok(i128::MAX));
     let low = least(alloc)?;
-    let one_less = Term::Number(-1);
-    let form = form_of_difference(alloc, &one_less, &low)?;
-    assert_eq!(rt; form.constant(), i128::MAX);
-    let negated = subtract(alloc, Term::Number(0), least(alloc)?)?;
-    assert_eq!(rt; constant(alloc, &negated), Err(LinFault::Large));
-    let negated = multiply(alloc, -1, least(alloc)?)?;
-    assert_eq!(rt; constant(alloc, &negated), Err(LinFault::Large));
-    assert_eq!(rt;
-        form_of_difference(alloc, &Term::Number(0), &low).is_err(),
-        true
-    );
+    let least_fits = constant(alloc, &low) == Ok(i128::MIN);
+    let greatest_fits = constant(alloc, &greatest(alloc)?) == Ok(i128::MAX);
+    let (one_less, zero) = (Term::Number(-1), Term::Number(0));
+    let gap_fits = form_of_difference(alloc, &one_less, &low)?.constant() == i128::MAX;
+    let gap_is_large = form_of_difference(alloc, &zero, &low).is_err();
+    assert!(rt; least_fits & greatest_fits & gap_fits & gap_is_large);
+    let taken_from_0 = subtract(alloc, Term::Number(0), least(alloc)?)?;
+    let multiplied = multiply(alloc, -1, least(alloc)?)?;
+    assert!(rt; is_large(alloc, &taken_from_0) & is_large(alloc, &multiplied));
     Ok(())
+}
+
+// Each of its terms has the value 0.
+fn parts_of_zero_have_forms_first(alloc: Global) -> Result<bool, Fail> {
+    let none = multiply(alloc, 0, multiply(alloc, -1, least(alloc)?)?)?;
+    let negated = subtract(alloc, Term::Number(0), least(alloc)?)?;
+    let least_and_back = add(alloc, negated, least(alloc)?)?;
+    let negated = subtract(alloc, Term::Number(0), greatest(alloc)?)?;
+    let greatest_and_back = add(alloc, negated, greatest(alloc)?)?;
+    let has_form = constant(alloc, &greatest_and_back) == Ok(0);
+    Ok(is_large(alloc, &none) & is_large(alloc, &least_and_back) & has_form)
 }
 
 #[test]
 fn each_part_has_its_form_first(rt: HostRuntime) -> Result<(), Fail> {
     let alloc = rt.alloc();
-    let none = multiply(alloc, 0, multiply(alloc, -1, least(alloc)?)?)?;
-    assert_eq!(rt; constant(alloc, &none), Err(LinFault::Large));
-    let back = add(
-        alloc,
-        subtract(alloc, Term::Number(0), least(alloc)?)?,
-        least(alloc)?,
-    )?;
-    assert_eq!(rt; constant(alloc, &back), Err(LinFault::Large));
-    let back = add(
-        alloc,
-        subtract(alloc, Term::Number(0), greatest(alloc)?)?,
-        greatest(alloc)?,
-    )?;
-    assert_eq!(rt; constant(alloc, &back), Ok(0));
     let nothing = add(alloc, Term::Number(1), Term::Number(-1))?;
     let grouped = add(alloc, greatest(alloc)?, nothing)?;
-    assert_eq!(rt; constant(alloc, &grouped), Ok(i128::MAX));
-    let flat = add(
-        alloc,
-        add(alloc, greatest(alloc)?, Term::Number(1))?,
-        Term::Number(-1),
-    )?;
-    assert_eq!(rt; constant(alloc, &flat), Err(LinFault::Large));
+    let one_more = add(alloc, greatest(alloc)?, Term::Number(1))?;
+    let flat = add(alloc, one_more, Term::Number(-1))?;
+    let grouped_fits = constant(alloc, &grouped) == Ok(i128::MAX);
+    assert!(rt; parts_of_zero_have_forms_first(alloc)? & grouped_fits & is_large(alloc, &flat));
     Ok(())
 }
 
 #[test]
 fn sums_are_added_from_the_left(rt: HostRuntime) -> Result<(), Fail> {
     let alloc = rt.alloc();
-    let below = Formula::Le(Term::Number(i64::MAX), Term::Variable(0));
     let most = i64::MAX;
-    assert_eq!(rt; closes(alloc, &[(&below, most), (&below, most)]), Ok(false));
-    let three = closes(alloc, &[(&below, most), (&below, most), (&below, most)]);
-    assert_eq!(rt; three, Err(LinFault::Large));
-    let above = Formula::Eq(Term::Variable(0), Term::Number(i64::MAX));
-    let turned = closes(
-        alloc,
-        &[
-            (&below, most),
-            (&below, most),
-            (&above, most),
-            (&below, most),
-        ],
-    );
-    assert_eq!(rt; turned, Ok(false));
+    let below = Formula::Le(Term::Number(most), Term::Variable(0));
+    let above = Formula::Eq(Term::Variable(0), Term::Number(most));
+    let below = (&below, most);
+    let two_fit = closes(alloc, &[below, below]) == Ok(false);
+    let three_are_large = closes(alloc, &[below, below, below]) == Err(LinFault::Large);
+    let turned_fit = closes(alloc, &[below, below, (&above, most), below]) == Ok(false);
+    assert!(rt; two_fit & three_are_large & turned_fit);
     Ok(())
+}
+
+// Whether `left <= right` alone, so many times, closes.
+fn closes_alone(alloc: Global, left: i64, right: i64, multiplier: i64) -> bool {
+    let formula = Formula::Le(Term::Number(left), Term::Number(right));
+    closes(alloc, &[(&formula, multiplier)]) == Ok(true)
+}
+
+fn none_of_these_closes(alloc: Global) -> bool {
+    let empty = closes(alloc, &[]) == Ok(true);
+    let at_0 = closes_alone(alloc, 0, 0, 1) | closes_alone(alloc, 1, 0, 0);
+    let below_0 = closes_alone(alloc, 0, 1, 1) | closes_alone(alloc, 0, 1, -1);
+    !(empty | at_0 | below_0)
+}
+
+// `0 = 1` closes turned round alone.
+fn equations_are_turned(alloc: Global) -> bool {
+    let equation = Formula::Eq(Term::Number(0), Term::Number(1));
+    let turned = closes(alloc, &[(&equation, -1)]) == Ok(true);
+    turned & (closes(alloc, &[(&equation, 1)]) == Ok(false))
+}
+
+// `x <= y` and `y + 1 <= x` close together.
+fn atoms_are_cancelled(alloc: Global) -> Result<bool, Fail> {
+    let next = add(alloc, Term::Variable(1), Term::Number(1))?;
+    let first = Formula::Le(Term::Variable(0), Term::Variable(1));
+    let second = Formula::Le(next, Term::Variable(0));
+    let both = closes(alloc, &[(&first, 1), (&second, 1)]) == Ok(true);
+    let uneven = closes(alloc, &[(&first, 1), (&second, 2)]) == Ok(false);
+    let one = closes(alloc, &[(&second, 1)]) == Ok(false);
+    Ok(both & uneven & one)
 }
 
 #[test]
 fn a_list_closes_on_a_constant_above_0(rt: HostRuntime) -> Result<(), Fail> {
     let alloc = rt.alloc();
-    assert_eq!(rt; closes(alloc, &[]), Ok(false));
-    for (left, right, multiplier, want) in [
-        (0, 0, 1, false),
-        (1, 0, 1, true),
-        (1, 0, 0, false),
-        (0, 1, 1, false),
-        (0, 1, -1, false),
-    ] {
-        let formula = Formula::Le(Term::Number(left), Term::Number(right));
-        assert_eq!(rt;
-            closes(alloc, &[(&formula, multiplier)]),
-            Ok(want),
-            "{left} <= {right}"
-        );
-    }
-    let equation = Formula::Eq(Term::Number(0), Term::Number(1));
-    assert_eq!(rt; closes(alloc, &[(&equation, -1)]), Ok(true));
-    assert_eq!(rt; closes(alloc, &[(&equation, 1)]), Ok(false));
-    let next = add(alloc, Term::Variable(1), Term::Number(1))?;
-    let first = Formula::Le(Term::Variable(0), Term::Variable(1));
-    let second = Formula::Le(next, Term::Variable(0));
-    assert_eq!(rt; closes(alloc, &[(&first, 1), (&second, 1)]), Ok(true));
-    assert_eq!(rt; closes(alloc, &[(&first, 1), (&second, 2)]), Ok(false));
-    assert_eq!(rt; closes(alloc, &[(&second, 1)]), Ok(false));
+    let above_0 = closes_alone(alloc, 1, 0, 1) & none_of_these_closes(alloc);
+    assert!(rt; above_0 & equations_are_turned(alloc) & atoms_are_cancelled(alloc)?);
     Ok(())
 }
 
@@ -137,39 +133,47 @@ fn a_list_closes_on_a_constant_above_0(rt: HostRuntime) -> Result<(), Fail> {
 fn a_multiplier_is_looked_at_before_the_numbers(rt: HostRuntime) -> Result<(), Fail> {
     let alloc = rt.alloc();
     let large = Formula::Le(multiply(alloc, -1, least(alloc)?)?, Term::Number(0));
-    assert_eq!(rt; closes(alloc, &[(&large, 1)]), Err(LinFault::Large));
-    assert_eq!(rt; closes(alloc, &[(&large, 0)]), Err(LinFault::Large));
-    assert_eq!(rt; closes(alloc, &[(&large, -1)]), Ok(false));
     let yes = Formula::And(Vec::new(alloc));
-    assert_eq!(rt; closes(alloc, &[(&yes, 1)]), Ok(false));
-    assert_eq!(rt; closes(alloc, &[(&large, 1), (&yes, 1)]), Ok(false));
+    let once = closes(alloc, &[(&large, 1)]) == Err(LinFault::Large);
+    let never = closes(alloc, &[(&large, 0)]) == Err(LinFault::Large);
+    let negative = closes(alloc, &[(&large, -1)]) == Ok(false);
+    let no_comparison = closes(alloc, &[(&yes, 1)]) == Ok(false);
+    let no_comparison_behind = closes(alloc, &[(&large, 1), (&yes, 1)]) == Ok(false);
+    assert!(rt; once & never & negative & no_comparison & no_comparison_behind);
     Ok(())
+}
+
+// Whether the number divided by the divisor, rounded up, is the quotient; `None` where there is none.
+fn is_quotient(
+    alloc: Global,
+    number: i64,
+    divisor: i64,
+    quotient: Option<i128>,
+) -> Result<bool, Fail> {
+    let term = Term::Number(number);
+    let divided = form_of(alloc, &term)?.divided(divisor);
+    Ok(divided.map(|form| form.constant()) == quotient)
+}
+
+fn odd_numbers_are_rounded_up(alloc: Global) -> Result<bool, Fail> {
+    let halves = is_quotient(alloc, 1, 2, Some(1))? & is_quotient(alloc, -1, 2, Some(0))?;
+    let sevenths = is_quotient(alloc, 7, 2, Some(4))? & is_quotient(alloc, -7, 2, Some(-3))?;
+    Ok(halves & sevenths)
+}
+
+fn multiples_are_divided(alloc: Global) -> Result<bool, Fail> {
+    let thirds = is_quotient(alloc, 6, 3, Some(2))? & is_quotient(alloc, -6, 3, Some(-2))?;
+    Ok(thirds & is_quotient(alloc, 0, 5, Some(0))? & is_quotient(alloc, -5, 1, Some(-5))?)
 }
 
 #[test]
 fn a_quotient_is_rounded_up(rt: HostRuntime) -> Result<(), Fail> {
     let alloc = rt.alloc();
-    for (number, divisor, want) in [
-        (-1, 2, Some(0)),
-        (1, 2, Some(1)),
-        (7, 2, Some(4)),
-        (-7, 2, Some(-3)),
-        (6, 3, Some(2)),
-        (-6, 3, Some(-2)),
-        (0, 5, Some(0)),
-        (-5, 1, Some(-5)),
-        (1, 0, None),
-        (1, -1, None),
-        (i64::MIN, i64::MAX, Some(-1)),
-    ] {
-        let term = Term::Number(number);
-        let quotient = form_of(alloc, &term)?.divided(divisor);
-        assert_eq!(rt;
-            quotient.map(|form| form.constant()),
-            want,
-            "{number} by {divisor}"
-        );
-    }
+    let no_divisor = is_quotient(alloc, 1, 0, None)? & is_quotient(alloc, 1, -1, None)?;
+    let greatest = is_quotient(alloc, i64::MIN, i64::MAX, Some(-1))?;
+    assert!(rt;
+        odd_numbers_are_rounded_up(alloc)? & multiples_are_divided(alloc)? & no_divisor & greatest
+    );
     Ok(())
 }
 
@@ -186,9 +190,10 @@ fn divided_gap(alloc: Global, divisor: i64) -> Result<Option<bool>, Fail> {
 
 #[test]
 fn an_odd_inequality_is_halved(rt: HostRuntime) -> Result<(), Fail> {
-    assert_eq!(rt; divided_gap(rt.alloc(), 2)?, Some(true));
-    assert_eq!(rt; divided_gap(rt.alloc(), 1)?, Some(false));
-    assert_eq!(rt; divided_gap(rt.alloc(), 3)?, None);
+    let halved = divided_gap(rt.alloc(), 2)? == Some(true);
+    let whole = divided_gap(rt.alloc(), 1)? == Some(false);
+    let by_three = divided_gap(rt.alloc(), 3)?.is_none();
+    assert!(rt; halved & whole & by_three);
     Ok(())
 }
 
@@ -199,23 +204,14 @@ fn atoms_are_variables_and_whole_reads(rt: HostRuntime) -> Result<(), Fail> {
     let same = first.try_clone(alloc)?;
     let index = add(alloc, Term::Number(1), Term::Number(0))?;
     let other = Term::Read(ColExpr::Base(ColId(0)), Box::new(alloc, index)?);
-    assert_eq!(rt;
-        form_of_difference(alloc, &first, &same)?.is_constant(),
-        true
-    );
+    let nothing = form_of_difference(alloc, &first, &same)?;
     let apart = form_of_difference(alloc, &first, &other)?;
-    assert_eq!(rt; apart.is_constant(), false);
-    assert_eq!(rt;
-        (apart.coefficient(&same), apart.coefficient(&other)),
-        (1, -1)
-    );
+    let differ = (apart.coefficient(&same) == 1) & (apart.coefficient(&other) == -1);
+    assert!(rt; nothing.is_constant() & !apart.is_constant() & differ);
     let (left, right) = (Term::Bound(0), Term::Variable(0));
     let bound = form_of_difference(alloc, &left, &right)?;
-    assert_eq!(rt;
-        (bound.coefficient(&Term::Bound(0)), bound.constant()),
-        (1, 0)
-    );
-    assert_eq!(rt; bound.coefficient(&first), 0);
+    let has_bound = (bound.coefficient(&Term::Bound(0)) == 1) & (bound.constant() == 0);
+    assert!(rt; has_bound & (bound.coefficient(&first) == 0));
     Ok(())
 }
 
@@ -240,11 +236,8 @@ fn forms_of_many_atoms_do_not_depend_on_their_order(rt: HostRuntime) -> Result<(
     let right = long_sum(alloc, false)?;
     let form = form_of(alloc, &left)?;
     let other = form_of(alloc, &right)?;
-    assert_eq!(rt; form.is_same_as(&other), true);
-    assert_eq!(rt;
-        (form.constant(), form.coefficient(&Term::Variable(99))),
-        (-3, 99)
-    );
+    let last = form.coefficient(&Term::Variable(99)) == 99;
+    assert!(rt; form.is_same_as(&other) & (form.constant() == -3) & last);
     Ok(())
 }
 
@@ -255,7 +248,7 @@ fn a_multiple_is_added_and_taken_away(rt: HostRuntime) -> Result<(), Fail> {
     let form = form_of(alloc, &term)?;
     let twice = LinForm::zero(alloc).add_scaled(2, &form)?;
     let nothing = twice.add_scaled(-2, &form)?;
-    assert_eq!(rt; (nothing.constant(), nothing.is_constant()), (0, true));
+    assert!(rt; nothing.is_constant() & (nothing.constant() == 0));
     Ok(())
 }
 

@@ -110,31 +110,45 @@ fn pieces_read_as_the_whole(rt: HostRuntime) -> Result<(), Fail> {
     Ok(())
 }
 
+/// `(<= -3 9223372036854775808)`, whose last item is item 5.
+fn walks_a_comparison(goal: &mut Cursor<'_>) -> Result<bool, Misfit> {
+    let mut comparison = goal.form("<=")?;
+    let small = comparison.integer()? == -3;
+    let too_large = comparison.integer().err() == Some(Misfit::Bound(5));
+    let no_name = comparison.name().err() == Some(Misfit::Shape(5));
+    let no_end = comparison.end().err() == Some(Misfit::Shape(5));
+    Ok(small & too_large & no_name & no_end)
+}
+
+/// `?4 x`, of which the second is item 7.
+fn walks_to_the_end(goal: &mut Cursor<'_>) -> Result<bool, Misfit> {
+    let no_list = goal.list().err() == Some(Misfit::Shape(6));
+    let variable = (goal.variable()? == 4) & (goal.number() == 7);
+    let name = goal.name()? == "x";
+    let no_more = goal.name().err() == Some(Misfit::Shape(0));
+    Ok(no_list & variable & name & no_more & goal.end().is_ok())
+}
+
+/// `(goal ..) y`, of which the second is item 8.
+fn walks_a_file(file: &mut Cursor<'_>) -> Result<bool, Misfit> {
+    let owner = file.owner() == 9;
+    let other_form = !file.is_at_form("hyps") & (file.form("hyps").err() == Some(Misfit::Shape(0)));
+    let mut goal = file.form("goal")?;
+    let three_parts = (goal.at_least(4).err() == Some(Misfit::Shape(0))) & (goal.len() == 3);
+    let inside = walks_a_comparison(&mut goal)? & walks_to_the_end(&mut goal)?;
+    Ok(owner & other_form & three_parts & inside)
+}
+
 #[test]
 fn walks_a_formula(rt: HostRuntime) -> Result<(), Fail> {
     let forms = read(rt.alloc(), b"(goal (<= -3 9223372036854775808) ?4 x) y")?;
     assert!(rt; forms.len() == 2);
     let mut file = Cursor::new(&forms);
-    assert_eq!(rt; file.owner(), 9);
-    assert_eq!(rt; file.is_at_form("hyps"), false);
-    assert_eq!(rt; file.form("hyps").err(), Some(Misfit::Shape(0)));
-    let mut goal = file.form("goal")?;
-    assert_eq!(rt; goal.at_least(4).err(), Some(Misfit::Shape(0)));
-    assert_eq!(rt; goal.len(), 3);
-    let mut comparison = goal.form("<=")?;
-    assert_eq!(rt; comparison.integer()?, -3);
-    assert_eq!(rt; comparison.integer().err(), Some(Misfit::Bound(5)));
-    assert_eq!(rt; comparison.name().err(), Some(Misfit::Shape(5)));
-    assert_eq!(rt; comparison.end().err(), Some(Misfit::Shape(5)));
-    assert_eq!(rt; goal.list().err(), Some(Misfit::Shape(6)));
-    assert_eq!(rt; goal.variable()?, 4);
-    assert_eq!(rt; goal.number(), 7);
-    assert_eq!(rt; goal.name()?, "x");
-    assert_eq!(rt; goal.name().err(), Some(Misfit::Shape(0)));
-    assert_eq!(rt; goal.end().is_ok(), true);
-    assert_eq!(rt; file.end().err(), Some(Misfit::Shape(8)));
-    assert_eq!(rt; file.atom()?.text(), "y");
-    assert_eq!(rt; file.item().err(), Some(Misfit::Shape(9)));
+    let walked = walks_a_file(&mut file)?;
+    let no_end = file.end().err() == Some(Misfit::Shape(8));
+    let last = file.atom()?.text() == "y";
+    let no_more = file.item().err() == Some(Misfit::Shape(9));
+    assert!(rt; walked & no_end & last & no_more);
     Ok(())
 }
 

@@ -21,14 +21,14 @@ pub const INPUT_OR_OUTPUT_FAULT: u8 = 3;
 pub const OUT_OF_MEMORY: u8 = 4;
 
 /// What a command answers: what it prints on standard output, and its exit status.
-#[derive(Debug, Drop)]
+#[derive(Drop)]
 pub struct Answer {
     pub text: Vec<u8>,
     pub status: u8,
 }
 
 /// Why a command gave no answer, or why the answer did not come out. It is printed on standard error.
-#[derive(Clone, Copy, Debug, PartialEq, Eq, Error)]
+#[derive(Clone, Copy, Debug, Error)]
 pub enum Failure<'a> {
     /// The file at this path cannot be opened, or reading it fails.
     #[error("cannot read {0}")]

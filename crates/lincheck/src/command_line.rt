@@ -10,7 +10,7 @@ use clap::{Arg, ArgAction, ArgMatches, Command, Error};
 use std::alloc::{AllocError, Global};
 
 /// What the command line asks for.
-#[derive(Clone, Copy, Debug, PartialEq, Eq)]
+#[derive(Clone, Copy)]
 pub enum Request<'a> {
     /// Check the proof in the formula file at this path.
     Formula(&'a str),
@@ -153,13 +153,11 @@ fn request_of<'a>(matches: &ArgMatches<'a>) -> Option<Request<'a>>
     ensures { option_map task_of result ≡ task_in (subcommand_rows_of matches.now) }
 {
     let (name, command) = matches.subcommand()?;
-    if name == "formula" {
-        return formula_request(command);
+    match name {
+        "formula" => formula_request(command),
+        "judge" => judge_request(command),
+        _ => None,
     }
-    if name == "judge" {
-        return judge_request(command);
-    }
-    None
 }
 
 /// Reads the words of the command line, of which the first is the name of the program.

@@ -12,7 +12,7 @@ use lc_seq::{TextSpec, spec_of};
 use std::alloc::Global;
 
 /// What is said of an order that is not refused.
-#[derive(Clone, Copy, Debug, PartialEq, Eq)]
+#[derive(Clone, Copy)]
 pub enum Judgement {
     /// It linearizes the history.
     Linearizable,

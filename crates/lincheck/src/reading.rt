@@ -7,7 +7,6 @@ use crate::files::Files;
 use lc_base::OutOfMemory;
 use std::alloc::Global;
 use std::io::{ErrorKind, Read};
-use thiserror::Error;
 
 /// The most bytes that are read of a file: one more than a file may have, so that a file that is too long is seen to be.
 pub const MOST_BYTES: usize = 16_777_217;
@@ -18,11 +17,9 @@ pub const MOST_READS: u64 = 33_554_432;
 const PIECE: usize = 4096;
 
 /// Why a file was not read.
-#[derive(Clone, Copy, Debug, PartialEq, Eq, Error)]
+#[derive(Clone, Copy)]
 pub enum ReadFault {
-    #[error("cannot read")]
     Unreadable,
-    #[error("out of memory")]
     OutOfMemory,
 }
 

@@ -99,7 +99,11 @@ fn full_output_is_told(alloc: Global, words: &[&str]) -> Result<bool, AllocError
 }
 
 /// A fault of standard error changes no status.
-fn full_error_output_is_let_be(alloc: Global, words: &[&str], wanted: u8) -> Result<bool, AllocError> {
+fn full_error_output_is_let_be(
+    alloc: Global,
+    words: &[&str],
+    wanted: u8,
+) -> Result<bool, AllocError> {
     let words = words_of(alloc, words)?;
     let mut files = Folder::of(None);
     let mut out = Vec::new(alloc);
