@@ -28,3 +28,5 @@ pub mod Tables
 pub mod Later
 pub mod Taken
 pub mod Listed
+pub mod Copied
+pub mod NodeReplacement

@@ -1,4 +1,5 @@
 pub mod Bound
+pub mod Copies
 pub mod Counter
 pub mod Equal
 pub mod EqualLaws
@@ -7,6 +8,7 @@ pub mod Hash
 pub mod Items
 pub mod Meaning
 pub mod Names
+pub mod NodeReplacement
 pub mod NodeTables
 pub mod Nodes
 pub mod Passes

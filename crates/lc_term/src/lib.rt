@@ -2,6 +2,7 @@
 #![tactic(auto)]
 
 mod building;
+mod copying;
 mod entering;
 mod evaluation;
 mod formula;
