@@ -19,8 +19,8 @@ use Rattle.lc_term.proofs.Later.{term_later, column_later, term_is, column_is, t
 some_same : {T : Type 0} (x y : T) → Some x ≡ Some y → x ≡ y
 some_same x y e = cc
 
-pub part-there : (ts : Table) (k : ℕ) → is_some (slice_get (parts ts) k) ≡ true → slice_get (parts ts) k ≡ Some (part_in ts k)
-part-there ts k h = by (slice_get (parts ts) k) h
+pub part_there : (ts : Table) (k : ℕ) → is_some (slice_get (parts ts) k) ≡ true → slice_get (parts ts) k ≡ Some (part_in ts k)
+part_there ts k h = by (slice_get (parts ts) k) h
   where
     by : (o : Option Part) → is_some o ≡ true → o ≡ Some (as_part o)
     by (Some p) e = refl
@@ -100,3 +100,6 @@ first_term r t0 t1 t2 a l kept h = term_is t2 l _ (term_later t1 t2 l _ h kept)
 
 pub first_column : (r : Replacement) (t0 t1 t2 : Table) (a l : ColExprId) → Keeps t1 t2 → HasColumn t1 l (replace_column r (column_in t0 a)) → column_in t2 l ≡ replace_column r (column_in t0 a)
 first_column r t0 t1 t2 a l kept h = column_is t2 l _ (column_later t1 t2 l _ h kept)
+
+pub later_term : (r s : Replacement) (t0 t1 t2 t3 : Table) (b m : TermId) → s ≡ r → IsTerm t0 b → Keeps t0 t1 → Keeps t2 t3 → HasTerm t2 m (replace_term s (term_in t1 b)) → term_in t3 m ≡ replace_term r (term_in t0 b)
+later_term r s t0 t1 t2 t3 b m same is kept later h = term_is t3 m _ (term_later t2 t3 m _ h later) ∙ ap₂ replace_term same (term_still t0 t1 b is kept)
