@@ -31,3 +31,5 @@ pub mod Stores
 pub mod Tests
 pub mod Symbolic
 pub mod Listed
+pub mod Copied
+pub mod NodeReplacement

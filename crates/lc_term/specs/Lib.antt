@@ -1,4 +1,5 @@
 pub mod Bound
+pub mod Copies
 pub mod Counter
 pub mod Equal
 pub mod EqualLaws
@@ -8,6 +9,7 @@ pub mod Items
 pub mod Lists
 pub mod Meaning
 pub mod Names
+pub mod NodeReplacement
 pub mod NodeTables
 pub mod Nodes
 pub mod Passes

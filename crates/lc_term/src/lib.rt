@@ -2,6 +2,7 @@
 #![tactic(auto)]
 
 mod building;
+mod copying;
 mod entering;
 mod evaluation;
 mod formula;
@@ -11,6 +12,8 @@ mod ground;
 mod hash;
 pub mod laws;
 mod node;
+mod node_replacement;
+mod node_shift;
 mod passes;
 mod printing;
 mod reading;
