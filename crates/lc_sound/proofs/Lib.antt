@@ -1,0 +1,5 @@
+pub mod Own
+pub mod Legal
+pub mod Kept
+pub mod Cuts
+pub mod Linearized

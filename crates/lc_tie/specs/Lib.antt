@@ -1,0 +1,2 @@
+pub mod Tie
+pub mod TieView
