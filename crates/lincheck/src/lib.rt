@@ -4,14 +4,14 @@
 mod answer;
 mod command_line;
 mod disk;
-mod execute;
 mod files;
 mod formula;
 mod judge;
 pub mod laws;
+mod program;
 mod reading;
 
 pub use answer::{COMMAND_LINE_FAULT, OUT_OF_MEMORY};
 pub use disk::Disk;
-pub use execute::execute;
 pub use files::Files;
+pub use program::execute;

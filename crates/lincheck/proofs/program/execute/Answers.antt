@@ -3,7 +3,7 @@ use Rattle.lincheck.proofs.Endings.{ends_unread, ends_told}
 use Rattle.lincheck.proofs.Words.{request_is}
 use Rattle.lincheck.specs.CommandLine.{CheckFormula, JudgeHistory, task_of, texts_of}
 use Rattle.lincheck.specs.Execution.{AnswersTask}
-use Rattle.lincheck.proofs.execute.execute.Goals as goal
+use Rattle.lincheck.proofs.program.execute.Goals as goal
 
 pub returns-in-Err-clause-formula : goal.returns-in-Err-clause-formula
 returns-in-Err-clause-formula g c = λ name path w plain.
