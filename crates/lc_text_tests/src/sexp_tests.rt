@@ -1,11 +1,11 @@
 use lc_base::{Fault, Refusal};
-use lc_sexp::{Contents, Cursor, Misfit, Reader, Sexp, is_atom, print, read};
+use lc_sexp::{Forms, Misfit, Reader, Sexp, is_atom, print, read};
 use std::alloc::Global;
 use std::test::Fail;
 
 /// The offset of the fault with which a text is refused.
 fn fault_of(alloc: Global, text: &[u8]) -> Option<u64> {
-    match read(alloc, text) {
+    match Forms::read(alloc, text) {
         Err(Fault::Refused(Refusal::Text(offset))) => Some(offset),
         _ => None,
     }
@@ -13,7 +13,7 @@ fn fault_of(alloc: Global, text: &[u8]) -> Option<u64> {
 
 /// How many forms a text reads as.
 fn form_count(alloc: Global, text: &[u8]) -> Option<usize> {
-    Some(read(alloc, text).ok()?.len())
+    Some(Forms::read(alloc, text).ok()?.cursor().len())
 }
 
 #[test]
@@ -95,7 +95,7 @@ fn read_in_pieces(alloc: Global, text: &[u8], size: usize) -> Result<Vec<u8>, Fa
     for piece in text.chunks(size.max(1)) {
         reader.feed(piece)?;
     }
-    Ok(print(alloc, &reader.finish()?)?)
+    Ok(print(alloc, &reader.finish()?.parts(alloc)?)?)
 }
 
 #[test]
@@ -141,9 +141,9 @@ fn walks_a_file(file: &mut Cursor<'_>) -> Result<bool, Misfit> {
 
 #[test]
 fn walks_a_formula(rt: HostRuntime) -> Result<(), Fail> {
-    let forms = read(rt.alloc(), b"(goal (<= -3 9223372036854775808) ?4 x) y")?;
-    assert!(rt; forms.len() == 2);
-    let mut file = Cursor::new(&forms);
+    let forms = Forms::read(rt.alloc(), b"(goal (<= -3 9223372036854775808) ?4 x) y")?;
+    let mut file = forms.cursor();
+    assert!(rt; file.len() == 2);
     let walked = walks_a_file(&mut file)?;
     let no_end = file.end().err() == Some(Misfit::Shape(8));
     let last = file.atom()?.text() == "y";
@@ -156,13 +156,12 @@ fn walks_a_formula(rt: HostRuntime) -> Result<(), Fail> {
 fn numbers_as_they_are_written(rt: HostRuntime) -> Result<(), Fail> {
     let text =
         "0 -1 9223372036854775807 -9223372036854775808 -0 01 -01 - +1 1a 9223372036854775808 -9223372036854775809 99999999999999999999999 ?0 ?4294967295 ?4294967296 ?00 ? ?-1";
-    let forms = read(rt.alloc(), text.as_bytes())?;
+    let forms = Forms::read(rt.alloc(), text.as_bytes())?;
     let mut numbers = Vec::new(rt.alloc());
     let mut variables = Vec::new(rt.alloc());
-    assert!(rt; forms.len() == 19);
-    let mut cursor = Cursor::new(&forms);
-    for _ in 0..forms.len() {
-        let atom = cursor.atom()?;
+    let mut cursor = forms.cursor();
+    assert!(rt; cursor.len() == 19);
+    while let Ok(atom) = cursor.atom() {
         numbers.push(atom.integer())?;
         variables.push(atom.variable())?;
     }
@@ -195,12 +194,30 @@ fn numbers_as_they_are_written(rt: HostRuntime) -> Result<(), Fail> {
 }
 
 #[test]
-fn contents_of_an_atom_and_of_a_list(rt: HostRuntime) -> Result<(), Fail> {
-    let forms = read(rt.alloc(), b"(a b)")?;
-    for form in &forms {
-        assert_eq!(rt; form.item_count(), 3);
-        assert!(rt; matches!(form.contents(), Contents::List(_)));
+fn lists_are_made_of_copies(rt: HostRuntime) -> Result<(), Fail> {
+    let parts = read(rt.alloc(), b"(a (b)) c ()")?;
+    let list = Sexp::list(rt.alloc(), &parts)?;
+    assert_eq!(rt; list.item_count(), 7);
+    let mut around = Vec::new(rt.alloc());
+    around.push(list)?;
+    let text = print(rt.alloc(), &around)?;
+    assert_eq!(rt; text.as_slice(), b"((a (b)) c ())\n".as_slice());
+    let row = Forms::of(rt.alloc(), &parts)?;
+    assert_eq!(rt; row.cursor().owner(), 6);
+    assert_eq!(rt; row.cursor().item()?.parts().len(), 2);
+    Ok(())
+}
+
+/// Lists are nested beyond what a file may have: nothing recurses, in making, printing or dropping.
+#[test]
+fn deep_lists(rt: HostRuntime) -> Result<(), Fail> {
+    let mut deep = Vec::new(rt.alloc());
+    for _ in 0..1100 {
+        let list = Sexp::list(rt.alloc(), &deep)?;
+        deep.clear();
+        deep.push(list)?;
     }
+    assert_eq!(rt; print(rt.alloc(), &deep)?.len(), 2201);
     Ok(())
 }
 

@@ -94,7 +94,7 @@ fn formula_count(alloc: Global, text: &str) -> Result<usize, ReadFault> {
     let Ok(forms) = Forms::read(alloc, text.as_bytes()) else {
         return Err(ReadFault::OutOfMemory);
     };
-    if forms.len() != 1 {
+    if forms.cursor().len() != 1 {
         return Err(ReadFault::OutOfMemory);
     }
     let Item::List(list) = forms.cursor().item()? else {
