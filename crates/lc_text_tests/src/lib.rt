@@ -6,6 +6,8 @@ mod base_tests;
 #[cfg(test)]
 mod sexp_tests;
 #[cfg(test)]
+mod table_tests;
+#[cfg(test)]
 mod term_tests;
 #[cfg(test)]
 mod term_text_tests;
