@@ -5,9 +5,8 @@ use Rattle.std.proofs.lemmas.Bool.Decides.{Decides-int_eq}
 use Rattle.std.proofs.lemmas.Int.{ints}
 use Rattle.lc_term.specs.Updates.{Update, Write, stored_all, write_of, writes_of, values_of, cell_writes}
 use Rattle.lc_term.specs.Syntax.{Term, Variable, Number, Formula, Not}
-use Rattle.lc_term.specs.Meaning.{State, Env, outside, value, Holds, EachHolds}
-use Rattle.lc_term.specs.Replacement.{replacing, replace_term}
-use Rattle.lc_term.specs.Truth.{is_ground, truth}
+use Rattle.lc_term.specs.Meaning.{State, Env, outside, value, Holds}
+use Rattle.lc_term.specs.Truth.{truth}
 use Rattle.lc_term.specs.Lists.{Every, IsIn, concat_map}
 use Rattle.lc_term.specs.Said.{told, said, at_client, term_at}
 use Rattle.lc_term.specs.SystemColumns.{pend, op_column, rep_columns, noted, note_columns}
@@ -18,9 +17,9 @@ use Rattle.lc_seq.specs.Branches.{op_branches}
 use Rattle.lc_seq.specs.Specification.{Branch, Operation}
 use Rattle.lc_seq.specs.TextStep.{run, call_env}
 use Rattle.lc_rider.specs.Rider.{Mark, Marking, Own, Other, Note, Deed, Assign, Marks, Rider, arguments_in, IsSettled, IsNoted, IsDone, IsDoneWhere, RideAll, mark_writes, note_writes}
-use Rattle.lc_rider.specs.Paths.{Path, Duty, observing_duty, named_duty, is_empty, with_fact, mark_variables, mark_updates, marked_op, mark_duties, branch_paths, deed_paths, deed_paths_where, rider_paths, paths}
+use Rattle.lc_rider.specs.Paths.{Path, Duty, observing_duty, is_empty, with_fact, mark_variables, mark_updates, marked_op, mark_duties, branch_paths, deed_paths, deed_paths_where, rider_paths, paths}
 use Rattle.lc_rider.specs.PathLaws.{AreGround, OnlyClients, LeavesCalls, DeedLeavesCalls, PathsAreTaken}
-use Rattle.lc_rider.proofs.Riding.{v, st, Facts, AreMet, Lawful, be, branch_env_is, client, with_duties, settled_writes, noted_writes}
+use Rattle.lc_rider.proofs.Riding.{v, st, Facts, Lawful, be, branch_env_is, client, with_duties, settled_writes, noted_writes}
 
 -- ---- lists
 

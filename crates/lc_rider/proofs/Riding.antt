@@ -8,7 +8,7 @@ use Rattle.lc_term.specs.Updates.{Update, Write, stored_all, write_of, writes_of
 use Rattle.lc_term.specs.Syntax.{formulas, Term, Number, Variable, Formula, Not}
 use Rattle.lc_term.specs.Meaning.{NoneHolds, State, Env, outside, value, Holds, EachHolds}
 use Rattle.lc_term.specs.Replacement.{replacing, replace_term}
-use Rattle.lc_term.specs.Truth.{is_ground, truth}
+use Rattle.lc_term.specs.Truth.{truth}
 use Rattle.lc_term.proofs.Truth.{Decides-truth}
 use Rattle.lc_seq.specs.Specification.{Branch, Operation, branch_is_resolved}
 use Rattle.lc_seq.specs.TextStep.{run, call_env}
