@@ -1,0 +1,3 @@
+pub mod Rider
+pub mod Paths
+pub mod PathLaws

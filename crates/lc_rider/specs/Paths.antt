@@ -1,0 +1,115 @@
+-- The paths of riders: what holds, what the columns are, and what is owed, said of the state before.
+use Rattle.std.specs.Prelude.{ℕ, suc, List, [], ◌∷◌, ◌++◌, pos, Option, Some, None, map, take}
+use Rattle.lc_term.specs.Updates.{Update}
+use Rattle.lc_term.specs.Syntax.{Term, Number, Variable, Read, Column, Formula, Eq, Not, And, Or, formulas}
+use Rattle.lc_term.specs.Replacement.{replacing, replace_term}
+use Rattle.lc_seq.specs.Specification.{Branch, Operation}
+use Rattle.lc_term.specs.Lists.{concat_map}
+use Rattle.lc_seq.specs.Branches.{op_branches, arity}
+use Rattle.lc_term.specs.Said.{put, term_at, said, after, told, reads, at_client}
+use Rattle.lc_term.specs.SystemColumns.{pend, op_column, arg_columns, rep_columns, noted, note_columns}
+use Rattle.lc_rider.specs.Rider.{Marking, Own, Other, Note, Deed, Assign, Marks, Rider}
+
+-- ---- marks
+
+-- the variables of a branch at a call of c: no specification reads the number of clients
+abbrev pub branch_variables : (ℕ → Column) → ℕ → ℕ → Term → List Term
+branch_variables σ first n c = Number (pos 0) ∷ c ∷ take n (reads σ (arg_columns first) c)
+
+-- what a mark by a branch stores, in the branch's words
+abbrev pub mark_updates : ℕ → Marking → Branch → List Update
+mark_updates first Own b = b.updates ++ (at_client (rep_columns first) b.replies ++ at_client (pend first ∷ []) (Number (pos 2) ∷ []))
+mark_updates first (Other t o) b = b.updates ++ (at_client (rep_columns first) b.replies ++ at_client (pend first ∷ []) (Number (pos 2) ∷ []))
+mark_updates first Note b = at_client (noted first ∷ note_columns first) (Number (pos 1) ∷ b.replies)
+
+abbrev pub marked_client : Marking → Term
+marked_client Own = Variable 1
+marked_client (Other t o) = t
+marked_client Note = Variable 1
+
+-- the operation that is marked, in the body of o
+abbrev pub marked_op : ℕ → Marking → ℕ
+marked_op o Own = o
+marked_op o (Other t p) = p
+marked_op o Note = o
+
+-- ---- paths
+
+pub data Owing : Type 0 where
+  Pending : Owing
+  Named : Owing
+  Enabled : Owing
+  Observing : Owing
+
+-- what is to hold at the rider of this number, under the facts before it
+pub record Duty : Type 0 where
+  pub kind : Owing
+  pub rider : ℕ
+  pub facts : List Formula
+  pub goal : Formula
+
+pub record Path : Type 0 where
+  pub columns : ℕ → Column
+  pub facts : List Formula
+  pub duties : List Duty
+
+abbrev pub with_fact : Path → Formula → Path
+with_fact p f = record p { facts = p.facts ++ f ∷ [] }
+
+abbrev pub is_empty : List Update → Formula
+is_empty [] = And (formulas [])
+is_empty (u ∷ us) = Or (formulas [])
+
+module _ (operations : List Operation) (first : ℕ) where
+  abbrev pub named_duty : ℕ → Marking → Path → Term → List Duty
+  named_duty n Own p c = []
+  named_duty n (Other t o) p c = record { kind = Named; rider = n; facts = p.facts; goal = Eq (Read (p.columns (op_column first)) c) (Number (pos o)) } ∷ []
+  named_duty n Note p c = []
+
+  abbrev pub observing_duty : ℕ → Marking → List Formula → Branch → List Duty
+  observing_duty n Own facts b = []
+  observing_duty n (Other t o) facts b = []
+  observing_duty n Note facts b = record { kind = Observing; rider = n; facts = facts; goal = is_empty b.updates } ∷ []
+
+  abbrev pub mark_variables : ℕ → Path → Term → List Term
+  mark_variables o p c = branch_variables p.columns first (arity operations o) c
+
+  abbrev pub mark_duties : ℕ → ℕ → Marking → Path → Term → List Branch → List Duty
+  mark_duties n o k p c bs =
+      record { kind = Pending; rider = n; facts = p.facts; goal = Eq (Read (p.columns (pend first)) c) (Number (pos 1)) } ∷
+      named_duty n k p c ++
+      (record { kind = Enabled; rider = n; facts = p.facts; goal = Or (formulas (map (λ (b : Branch). told p.columns (mark_variables o p c) b.guard) bs)) } ∷ [])
+
+  -- the guards of the branches before fail, and that of this one holds
+  abbrev pub branch_paths : ℕ → ℕ → Marking → Term → List Branch → Path → List Path
+  branch_paths n o k c [] p = []
+  branch_paths n o k c (b ∷ bs) p =
+      (let g = told p.columns (mark_variables o p c) b.guard in
+      record {
+        columns = after p.columns (mark_variables o p c) (mark_updates first k b);
+        facts = p.facts ++ g ∷ [];
+        duties = p.duties ++ observing_duty n k (p.facts ++ g ∷ []) b;
+      } ∷ branch_paths n o k c bs (with_fact p (Not g)))
+
+  -- a mark in the body of o, whose variables are τ
+  abbrev pub mark_paths : ℕ → ℕ → List Term → Marking → Path → List Path
+  mark_paths n o τ k p =
+      (let c = replace_term (replacing p.columns (term_at τ)) (marked_client k) in
+      let bs = op_branches operations (marked_op o k) in
+      branch_paths n (marked_op o k) k c bs (record p { duties = p.duties ++ mark_duties n (marked_op o k) k p c bs }))
+
+  abbrev pub deed_paths : ℕ → ℕ → List Term → Deed → Path → List Path
+  deed_paths n o τ (Assign u) p = record p { columns = put p.columns (said p.columns τ u) } ∷ []
+  deed_paths n o τ (Marks k) p = mark_paths n o τ k p
+
+  abbrev pub deed_paths_where : Option Formula → ℕ → ℕ → List Term → Deed → Path → List Path
+  deed_paths_where None n o τ d p = deed_paths n o τ d p
+  deed_paths_where (Some f) n o τ d p = deed_paths n o τ d (with_fact p (told p.columns τ f)) ++ with_fact p (Not (told p.columns τ f)) ∷ []
+
+  abbrev pub rider_paths : ℕ → ℕ → List Term → Rider → Path → List Path
+  rider_paths n o τ r p = deed_paths_where r.condition n o τ r.deed p
+
+  -- the paths of riders from the number n on; the first varies slowest
+  abbrev pub paths : ℕ → ℕ → List Term → List Rider → Path → List Path
+  paths n o τ [] p = p ∷ []
+  paths n o τ (r ∷ rs) p = concat_map (paths (suc n) o τ rs) (rider_paths n o τ r p)
