@@ -1,5 +1,5 @@
 use lc_base::{Fault, Refusal};
-use lc_sexp::{Forms, Misfit, Reader, Sexp, is_atom, print, read};
+use lc_sexp::{Cursor, Forms, Misfit, Reader, Sexp, is_atom, print, read};
 use std::alloc::Global;
 use std::test::Fail;
 
