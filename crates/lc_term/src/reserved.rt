@@ -5,35 +5,35 @@ ghost use Rattle.lc_term.specs.Reserved.{is_client_name, is_call_column, is_repl
 fn is_client_name(name: &str) -> bool
     ensures { result ≡ is_client_name name.now }
 {
-    name == "self" || name == "N"
+    matches!(name, "self" | "N")
 }
 
 #[tactic(auto, unfolding(crate::specs::Reserved::is_call_column))]
 fn is_call_column(name: &str) -> bool
     ensures { result ≡ is_call_column name.now }
 {
-    name == "pend" || name == "op" || name == "arg1" || name == "arg2" || name == "arg3"
+    matches!(name, "pend" | "op" | "arg1" | "arg2" | "arg3")
 }
 
 #[tactic(auto, unfolding(crate::specs::Reserved::is_reply_column))]
 fn is_reply_column(name: &str) -> bool
     ensures { result ≡ is_reply_column name.now }
 {
-    name == "rep1" || name == "rep2" || name == "rep3"
+    matches!(name, "rep1" | "rep2" | "rep3")
 }
 
 #[tactic(auto, unfolding(crate::specs::Reserved::is_note_column))]
 fn is_note_column(name: &str) -> bool
     ensures { result ≡ is_note_column name.now }
 {
-    name == "noted" || name == "note1" || name == "note2" || name == "note3"
+    matches!(name, "noted" | "note1" | "note2" | "note3")
 }
 
 #[tactic(auto, unfolding(crate::specs::Reserved::is_action_name))]
 fn is_action_name(name: &str) -> bool
     ensures { result ≡ is_action_name name.now }
 {
-    name == "skip" || name == "enter" || name == "leave"
+    matches!(name, "skip" | "enter" | "leave")
 }
 
 /// Whether no file may declare this name: `self`, `N`, the system columns and the built-in actions.
