@@ -192,10 +192,10 @@ fn find_arguments<'a>(operations: &Operations<'a>, name: &str) -> (Cursor<'a>, O
     ensures replies { (call_named (listed operations.now.names) (calls_seen operations.now.calls.items) name.now).replies ≡ result.1 }
     ensures size { size result.0 ≤ 16777216 }
 {
-    match find_call(operations, name) {
-        Some(call) => (call.items, call.replies),
-        None => (Cursor::empty(), None),
-    }
+    let Some(call) = find_call(operations, name) else {
+        return (Cursor::empty(), None);
+    };
+    (call.items, call.replies)
 }
 
 /// The names of a list.

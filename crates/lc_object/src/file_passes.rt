@@ -141,7 +141,10 @@ impl Examined for File<'_> {
 /// It looks at the names of abstract and auxiliary columns, at operations without their branches, at arrays, and at the
 /// locals, points and instructions of bodies. Actions, `invariant`, `idle`, `assert` and `on` only have to be lists that
 /// begin with their word.
-pub(crate) fn object_refusal(alloc: Global, forms: Cursor<'_>) -> Result<Option<Refusal>, OutOfMemory>
+pub(crate) fn object_refusal(
+    alloc: Global,
+    forms: Cursor<'_>,
+) -> Result<Option<Refusal>, OutOfMemory>
     requires size { item_count_of_all (rest_of forms) ≤ 16777216 }
     requires start { number_of forms ≡ 0 }
     ensures { IfOk result (λ refusal. refusal ≡ object_refusal (rest_of forms.entry)) }

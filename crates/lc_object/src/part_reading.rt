@@ -43,10 +43,13 @@ pub(crate) fn parts_in<'a>(item: Item<'a>, word: &str) -> Cursor<'a>
     ensures { rest_of result ≡ parts_in word.now (tree_of_item item.entry) }
 {
     let mut list = items_within(item);
-    match list.atom() {
-        Ok(head) if head.text() == word => list,
-        _ => Cursor::empty(),
+    let Ok(head) = list.atom() else {
+        return Cursor::empty();
+    };
+    if head.text() == word {
+        return list;
     }
+    Cursor::empty()
 }
 
 pub(crate) fn read_name(item: Item<'_>) -> Result<Name, ReadFault>

@@ -24,10 +24,10 @@ pub(crate) fn items_in_first<'a>(mut list: Cursor<'a>, word: &str) -> Cursor<'a>
     ensures rest { rest_of result ≡ parts_in_first word.now (rest_of list.entry) }
     ensures size { size result ≤ size list.entry }
 {
-    match list.form(word) {
-        Ok(items) => items,
-        Err(_) => Cursor::empty(),
-    }
+    let Ok(items) = list.form(word) else {
+        return Cursor::empty();
+    };
+    items
 }
 
 /// What stands behind the lists at the beginning that begin with a word.
@@ -84,10 +84,10 @@ pub(crate) fn within_first<'a>(mut list: Cursor<'a>) -> Cursor<'a>
     ensures rest { rest_of result ≡ within_first (rest_of list.entry) }
     ensures size { size result ≤ size list.entry }
 {
-    match list.list() {
-        Ok(items) => items,
-        Err(_) => Cursor::empty(),
-    }
+    let Ok(items) = list.list() else {
+        return Cursor::empty();
+    };
+    items
 }
 
 /// The parts of the next list that begins with a word, behind the word. Where some are due the next item is taken for

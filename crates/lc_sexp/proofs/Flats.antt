@@ -67,11 +67,11 @@ list_split text n nodes h =
     let parts = same_branch (item_count_of_all a) n (entries_of_all a ++ entries_of_all b) (entries text nodes) h.whole in
     let count : length (entries_of_all a) ≡ n = entries_all_counted a ∙ parts.0 in
     let front : entries text (take n nodes) ≡ entries_of_all a =
-        sym (take-map (entry_of text) n nodes) ∙ ap (take n) (sym parts.1) ∙ ap (λ k. take k (entries_of_all a ++ entries_of_all b)) (sym count) ∙ take-append_seam (entries_of_all a) (entries_of_all b) in
+    sym (take-map (entry_of text) n nodes) ∙ ap (take n) (sym parts.1) ∙ ap (λ k. take k (entries_of_all a ++ entries_of_all b)) (sym count) ∙ take-append_seam (entries_of_all a) (entries_of_all b) in
     let back : entries text (drop n nodes) ≡ entries_of_all b =
-        sym (drop-map (entry_of text) n nodes) ∙ ap (drop n) (sym parts.1) ∙ ap (λ k. drop k (entries_of_all a ++ entries_of_all b)) (sym count) ∙ drop-append_seam (entries_of_all a) (entries_of_all b) in
+    sym (drop-map (entry_of text) n nodes) ∙ ap (drop n) (sym parts.1) ∙ ap (λ k. drop k (entries_of_all a ++ entries_of_all b)) (sym count) ∙ drop-append_seam (entries_of_all a) (entries_of_all b) in
     let both = and_parts (list_all (is_within (length text)) (take n nodes)) (list_all (is_within (length text)) (drop n nodes))
-        (sym (list_all-append (is_within (length text)) (take n nodes) (drop n nodes)) ∙ ap (list_all (is_within (length text))) (take-append-drop n nodes) ∙ h.within) in
+    (sym (list_all-append (is_within (length text)) (take n nodes) (drop n nodes)) ∙ ap (list_all (is_within (length text))) (take-append-drop n nodes) ∙ h.within) in
     let f = flat_from text (take n nodes) a front both.0 h.letters in
     let g = flat_from text (drop n nodes) b back both.1 h.letters in
     record {

@@ -94,7 +94,7 @@ ended text start nodes nodes' holes le e h =
     let rest : List ℕ = drop start text in
     let all : take (length text - start) rest ≡ rest = take_all (length text - start) rest (omega (arith, length-drop start text)) in
     let more : entries text nodes' ≡ laid (first_row es) (later_rows es) ++ (leaf rest ∷ []) =
-        ap (entries text) e ∙ map-append (entry_of text) nodes (Atom start (length text - start) ∷ []) ∙ ap (λ w. es ++ (leaf w ∷ [])) all ∙ ap (λ x. x ++ (leaf rest ∷ [])) (sym h.whole) in
+    ap (entries text) e ∙ map-append (entry_of text) nodes (Atom start (length text - start) ∷ []) ∙ ap (λ w. es ++ (leaf w ∷ [])) all ∙ ap (λ x. x ++ (leaf rest ∷ [])) (sym h.whole) in
     let rows = rows_from _ _ _ (atom_behind 0 (first_row es) (later_rows es) rest) in
     let end : is_within (length text) (Atom start (length text - start)) ≡ true = (let s : start + (length text - start) ≤ length text = omega arith in grind (arith, nat_tests)) in
     pushed text start (length text) nodes nodes' holes (word rest ∷ [])
@@ -139,11 +139,11 @@ begun : (text : List ℕ) (start : ℕ) (nodes nodes' : List Node) (holes holes'
 begun text start nodes nodes' holes holes' e f h =
     let es : List Entry = entries text nodes in
     let more : entries text nodes' ≡ laid (first_row es) (later_rows es) ++ (hole ∷ []) =
-        ap (entries text) e ∙ map-append (entry_of text) nodes (Open ∷ []) ∙ ap (λ x. x ++ (hole ∷ [])) (sym h.whole) in
+    ap (entries text) e ∙ map-append (entry_of text) nodes (Open ∷ []) ∙ ap (λ x. x ++ (hole ∷ [])) (sym h.whole) in
     let count : 0 + length (laid (first_row es) (later_rows es)) ≡ length nodes = zero-add _ ∙ ap length h.whole ∙ length-map nodes (entry_of text) in
     let rows = rows_from _ _ _ (hole_behind 0 (first_row es) (later_rows es)) in
     let place : holes' ≡ holes_from 0 (first_row es) (later_rows es) ++ ((0 + length (laid (first_row es) (later_rows es))) ∷ []) =
-        f ∙ ap (λ x. x ++ (length nodes ∷ [])) h.places ∙ ap (λ n. holes_from 0 (first_row es) (later_rows es) ++ (n ∷ [])) (sym count) in
+    f ∙ ap (λ x. x ++ (length nodes ∷ [])) h.places ∙ ap (λ n. holes_from 0 (first_row es) (later_rows es) ++ (n ∷ [])) (sym count) in
     pushed text start start nodes nodes' holes' (open_list ∷ [])
     (ap (list_all (is_within start)) e ∙ within_push start nodes Open h.within refl)
     (subst (λ x. AreRows x holes' (node_tokens text nodes ++ (open_list ∷ []))) (sym more)
@@ -172,7 +172,7 @@ closed text start nodes nodes' holes holes' at n e f c h =
     let es : List Entry = entries text nodes in
     let there : at - 0 ≡ at = omega arith in
     let more : entries text nodes' ≡ set (laid (first_row es) (later_rows es)) (at - 0) (branch n) =
-        ap (entries text) e ∙ map-set (entry_of text) nodes at (ListOf n) ∙ ap (λ x. set x at (branch n)) (sym h.whole) ∙ ap (λ i. set (laid (first_row es) (later_rows es)) i (branch n)) (sym there) in
+    ap (entries text) e ∙ map-set (entry_of text) nodes at (ListOf n) ∙ ap (λ x. set x at (branch n)) (sym h.whole) ∙ ap (λ i. set (laid (first_row es) (later_rows es)) i (branch n)) (sym there) in
     let count : n + at + 1 ≡ 0 + length (laid (first_row es) (later_rows es)) = omega (arith, c, ap length h.whole, length-map nodes (entry_of text)) in
     let rows = rows_from _ _ _ (close_behind 0 (first_row es) (later_rows es) holes' at n (sym h.places ∙ f) count) in
     pushed text start start nodes nodes' holes' (close_list ∷ [])

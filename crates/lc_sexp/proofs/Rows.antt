@@ -126,17 +126,23 @@ Becomes es places tokens k = (t : Trees) × (us : List Trees) × (es ≡ laid t 
 behind_row : (t u : Trees) (us : List Trees) (es : List Entry) (places : List ℕ) (more : List Token) (k : ℕ)
     → Becomes es places (rows_tokens u us ++ more) (k + item_count_of_all t + 1)
     → Becomes (entries_of_all t ++ (hole ∷ es)) ((k + item_count_of_all t) ∷ places) (rows_tokens t (u ∷ us) ++ more) k
-behind_row t u us es places more k h =
-    (t, h.0 ∷ h.1,
-     ap (λ x. entries_of_all t ++ (hole ∷ x)) h.2,
-     ap (λ x. (k + item_count_of_all t) ∷ x) h.3,
-     ap (λ x. tokens_of_all t ++ (open_list ∷ x)) h.4 ∙ sym (append_assoc (tokens_of_all t) (open_list ∷ rows_tokens u us) more))
+behind_row t u us es places more k h = (
+  t,
+  h.0 ∷ h.1,
+  ap (λ x. entries_of_all t ++ (hole ∷ x)) h.2,
+  ap (λ x. (k + item_count_of_all t) ∷ x) h.3,
+  ap (λ x. tokens_of_all t ++ (open_list ∷ x)) h.4 ∙ sym (append_assoc (tokens_of_all t) (open_list ∷ rows_tokens u us) more),
+)
 
 -- an atom at the end
 pub atom_behind : (k : ℕ) (t : Trees) (us : List Trees) (w : List ℕ) → Becomes (laid t us ++ (leaf w ∷ [])) (holes_from k t us) (rows_tokens t us ++ (word w ∷ [])) k
-atom_behind k t [] w =
-    (joined_rows t (atom w ▸ none), [], sym (entries_joined t (atom w ▸ none)), refl,
-     append-nil (tokens_of_all (joined_rows t (atom w ▸ none))) ∙ tokens_joined t (atom w ▸ none) ∙ ap (λ x. x ++ (word w ∷ [])) (sym (append-nil (tokens_of_all t))))
+atom_behind k t [] w = (
+  joined_rows t (atom w ▸ none),
+  [],
+  sym (entries_joined t (atom w ▸ none)),
+  refl,
+  append-nil (tokens_of_all (joined_rows t (atom w ▸ none))) ∙ tokens_joined t (atom w ▸ none) ∙ ap (λ x. x ++ (word w ∷ [])) (sym (append-nil (tokens_of_all t))),
+)
 atom_behind k t (u ∷ us) w =
     let h = behind_row t u us _ _ (word w ∷ []) k (atom_behind (k + item_count_of_all t + 1) u us w) in
     subst (λ x. Becomes x (holes_from k t (u ∷ us)) (rows_tokens t (u ∷ us) ++ (word w ∷ [])) k) (sym (append_assoc (entries_of_all t) (hole ∷ laid u us) (leaf w ∷ []))) h
@@ -148,7 +154,7 @@ hole_behind k t [] =
 hole_behind k t (u ∷ us) =
     let h = behind_row t u us _ _ (open_list ∷ []) k (hole_behind (k + item_count_of_all t + 1) u us) in
     let e : k + item_count_of_all t + 1 + length (laid u us) ≡ k + length (laid t (u ∷ us)) =
-        omega (arith, length-append (entries_of_all t) (hole ∷ laid u us), entries_all_counted t) in
+    omega (arith, length-append (entries_of_all t) (hole ∷ laid u us), entries_all_counted t) in
     subst (λ x. Becomes x (holes_from k t (u ∷ us) ++ ((k + length (laid t (u ∷ us))) ∷ [])) (rows_tokens t (u ∷ us) ++ (open_list ∷ [])) k) (sym (append_assoc (entries_of_all t) (hole ∷ laid u us) (hole ∷ [])))
     (subst (λ n. Becomes (entries_of_all t ++ (hole ∷ (laid u us ++ (hole ∷ [])))) (holes_from k t (u ∷ us) ++ (n ∷ [])) (rows_tokens t (u ∷ us) ++ (open_list ∷ [])) k) e h)
 
@@ -185,14 +191,16 @@ innermost : (k : ℕ) (t u : Trees) (at n : ℕ) → k + item_count_of_all t ≡
     → Becomes (set (laid t (u ∷ [])) (at - k) (branch n)) [] (rows_tokens t (u ∷ []) ++ (close_list ∷ [])) k
 innermost k t u at n e h =
     let same : n ≡ item_count_of_all u = omega (arith, laid_counted t u [], entries_all_counted u) in
-    let here : length (entries_of_all t) ≡ at - k = omega (arith, entries_all_counted t) in
-    (joined_rows t (list u ▸ none), [],
-     set_at (entries_of_all t) hole (entries_of_all u) (branch n) (at - k) here
-     ∙ ap (λ m. entries_of_all t ++ (branch m ∷ entries_of_all u)) same
-     ∙ ap (λ es. entries_of_all t ++ (branch (item_count_of_all u) ∷ es)) (sym (append-nil (entries_of_all u)))
-     ∙ sym (entries_joined t (list u ▸ none)),
-     refl,
-     ap (λ ts. ts ++ []) (tokens_joined t (list u ▸ none)) ∙ sym (regroup (tokens_of_all t) (open_list ∷ []) (tokens_of_all u) (close_list ∷ [])))
+    let here : length (entries_of_all t) ≡ at - k = omega (arith, entries_all_counted t) in (
+      joined_rows t (list u ▸ none),
+      [],
+      set_at (entries_of_all t) hole (entries_of_all u) (branch n) (at - k) here
+          ∙ ap (λ m. entries_of_all t ++ (branch m ∷ entries_of_all u)) same
+          ∙ ap (λ es. entries_of_all t ++ (branch (item_count_of_all u) ∷ es)) (sym (append-nil (entries_of_all u)))
+          ∙ sym (entries_joined t (list u ▸ none)),
+      refl,
+      ap (λ ts. ts ++ []) (tokens_joined t (list u ▸ none)) ∙ sym (regroup (tokens_of_all t) (open_list ∷ []) (tokens_of_all u) (close_list ∷ [])),
+    )
 
 pub close_behind : (k : ℕ) (t : Trees) (us : List Trees) (front : List ℕ) (at n : ℕ) → holes_from k t us ≡ front ++ (at ∷ []) → n + at + 1 ≡ k + length (laid t us)
     → Becomes (set (laid t us) (at - k) (branch n)) front (rows_tokens t us ++ (close_list ∷ [])) k

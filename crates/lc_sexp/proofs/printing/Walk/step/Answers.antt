@@ -20,7 +20,7 @@ pub returns-in_ok-push-in-List-2-clause-told : goal.returns-in_ok-push-in-List-2
 returns-in_ok-push-in-List-2-clause-told c =
     let w = c.args.self.now in
     let space : c.if-not-self.out.items ≡ c.args.out.now.items ++ space_before w.fresh = elim c.if-not-self.branch [
-      then-not-self+in_ok-push-2 b ↦ ap (λ v. v.items) b.out-is ∙ b.in_ok-push-2.ensures.items ∙ ap (λ x. c.args.out.now.items ++ space_before x) (sym b.if-not-self.true)
+      | then-not-self+in_ok-push-2 b ↦ ap (λ v. v.items) b.out-is ∙ b.in_ok-push-2.ensures.items ∙ ap (λ x. c.args.out.now.items ++ space_before x) (sym b.if-not-self.true)
       | else-not-self b ↦ ap (λ v. v.items) b.out-is ∙ sym (append-nil c.args.out.now.items) ∙ ap (λ x. c.args.out.now.items ++ space_before x) (sym b.if-not-self.false)
     ] in
     told_open c.args.out.now.items c.push-in-List.new.self.items w.fresh w.rest c.item.new.self c.in-List.inner w.around.items c.push-in-List-2.new.self.items
