@@ -11,7 +11,7 @@ mod reserved;
 mod rows;
 mod table;
 
-pub use flaw::{Flaw, ReadFault, also, both, ended, pushed, wrong};
+pub use flaw::{Flaw, ReadFault, also, both, ended, misshapen_too, pushed, wrong};
 pub use lists::{behind_word, headed, next_part, one, three, two};
 pub use names::{read_declaration, read_names, read_use};
 pub use part::Part;

@@ -1,5 +1,5 @@
 //! What is made of parts that are read.
-ghost use Rattle.std.specs.Prelude.{ℤ, ◌×◌};
+ghost use Rattle.std.specs.Prelude.{ℤ};
 ghost use Rattle.lc_reading.specs.Readings.{Reading, mapped};
 ghost use Rattle.lc_reading.specs.Results.{IsReading};
 ghost use Rattle.lc_term.specs.Syntax as S;
