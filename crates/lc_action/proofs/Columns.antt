@@ -1,12 +1,8 @@
 -- Columns after stores, one entry or one update after another.
-use Rattle.std.proofs.Common.{◌≡◌, ℕ, zero, suc, ◌+◌, ◌<◌, ◌≤◌, Bool, true, false, ◌==◌, if◌then◌else◌, List, [], ◌∷◌, ◌++◌, length, take, drop, map, get_or, refl, sym, ap, ap₂, ◌∙◌, arith, inl, inr}
-use Rattle.std.specs.Prelude.{slice_set}
+use Rattle.std.proofs.Common.{◌≡◌, ℕ, Bool, true, false, ◌==◌, if◌then◌else◌, List, [], ◌∷◌, ◌++◌, refl, sym, ap, ◌∙◌, inl, inr}
 use Rattle.std.proofs.lemmas.Bool.Decides.{eqb_tells}
-use Rattle.std.proofs.lemmas.List.{drop_more, map_more, map-append}
-use Rattle.std.proofs.Math.ListN.{drop_of_length-le}
 use mathlib.Core.Path.{fun_ext}
 use Rattle.lc_term.specs.Syntax.{Term, Column, Base, Store}
-use Rattle.lc_term.specs.Updates.{Update}
 use Rattle.lc_term.specs.Said.{put}
 use Rattle.lc_term.specs.Lists.{Every}
 use Rattle.lc_action.specs.Telling.{column_at}

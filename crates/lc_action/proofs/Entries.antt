@@ -1,19 +1,16 @@
 -- The entries of a list of columns, and updates, one after another.
-use Rattle.std.proofs.Common.{◌≡◌, ℕ, zero, suc, ◌+◌, ◌<◌, ◌≤◌, Bool, true, false, ◌==◌, List, [], ◌∷◌, ◌++◌, length, take, drop, map, get_or, refl, sym, ap, ap₂, ◌∙◌, subst, arith, add-one}
+use Rattle.std.proofs.Common.{◌≡◌, ℕ, zero, suc, ◌+◌, ◌<◌, true, false, ◌==◌, List, [], ◌∷◌, ◌++◌, length, take, drop, map, get_or, sym, ap, ap₂, ◌∙◌, subst, arith, add-one}
 use Rattle.std.specs.Prelude.{slice_set}
 use Rattle.std.proofs.lemmas.List.{drop_more, map_more, map-append, take-append-drop, set_split, set-set, get_or-set_same}
-use Rattle.std.proofs.Math.ListN.{drop_of_length-le}
 use Rattle.lc_base.specs.declared.ids.ColId.{ColId}
 use Rattle.lc_term.specs.Syntax as S
-use Rattle.lc_term.specs.Updates as U
 use Rattle.lc_term.specs.Said.{put, puts, said}
-use Rattle.lc_term.specs.View.{term_of, column_of}
-use Rattle.lc_term.specs.declared.term.Term.{Term}
+use Rattle.lc_term.specs.View.{column_of}
 use Rattle.lc_term.specs.declared.term.ColExpr.{ColExpr}
 use Rattle.lc_seq.specs.SpecView.{update_of, updates_of}
 use Rattle.lc_seq.specs.declared.specification.Update.{Update}
 use Rattle.lc_action.specs.Telling.{column_at, entry_of, columns_in}
-use Rattle.lc_action.proofs.Columns.{IsAbsent, same, found, missing, absent-more, put_in_place, put_behind}
+use Rattle.lc_action.proofs.Columns.{IsAbsent, same, found, absent-more, put_in_place, put_behind}
 
 -- the front, the element at a place, and the rest
 split : {A : Type 0} (xs : List A) (i : ℕ) (d : A) → i < length xs → xs ≡ take i xs ++ get_or xs i d ∷ drop (i + 1) xs

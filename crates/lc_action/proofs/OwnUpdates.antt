@@ -1,6 +1,6 @@
 -- Terms stored in the cells of a client, one after another.
-use Rattle.std.proofs.Common.{◌≡◌, ℕ, ◌+◌, ◌<◌, ◌≤◌, List, [], ◌∷◌, ◌++◌, length, drop, map, get_or, refl, sym, ap, ap₂, ◌∙◌, append-nil, append_assoc}
-use Rattle.std.proofs.lemmas.List.{drop_more, map-append}
+use Rattle.std.proofs.Common.{◌≡◌, ℕ, ◌+◌, ◌<◌, ◌≤◌, List, [], ◌∷◌, ◌++◌, length, drop, map, get_or, refl, sym, ap, ap₂, ◌∙◌, append-nil}
+use Rattle.std.proofs.lemmas.List.{drop_more}
 use Rattle.std.proofs.Math.ListN.{drop_of_length-le}
 use Rattle.lc_base.specs.declared.ids.ColId.{ColId}
 use Rattle.lc_term.specs.Syntax as S
@@ -8,8 +8,6 @@ use Rattle.lc_term.specs.Updates as U
 use Rattle.lc_term.specs.Said.{at_client}
 use Rattle.lc_term.specs.View.{term_of}
 use Rattle.lc_term.specs.declared.term.Term.{Term}
-use Rattle.lc_seq.specs.SpecView.{update_of, updates_of}
-use Rattle.lc_seq.specs.declared.specification.Update.{Update}
 
 abbrev pub numbers_of : List ColId → List ℕ
 numbers_of cs = map (λ c. c.0) cs

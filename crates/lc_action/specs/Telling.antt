@@ -1,5 +1,5 @@
 -- Columns after stores as a list, and what they and terms in place of variables make of a term or a formula.
-use Rattle.std.specs.Prelude.{ℕ, zero, suc, ◌==◌, Bool, true, if◌then◌else◌, List, [], ◌∷◌, map}
+use Rattle.std.specs.Prelude.{ℕ, zero, suc, ◌==◌, true, if◌then◌else◌, List, [], ◌∷◌, map}
 use Rattle.lc_base.specs.declared.ids.ColId.{ColId}
 use Rattle.lc_term.specs.Syntax.{Column, Base}
 use Rattle.lc_term.specs.Replacement.{Replacement, replacing, under_many}

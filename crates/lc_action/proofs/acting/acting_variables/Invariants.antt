@@ -1,4 +1,4 @@
-use Rattle.std.proofs.Common.{◌≡◌, ◌∷◌, map, take}
+use Rattle.std.proofs.Common.{◌≡◌, map, take}
 use Rattle.lc_term.specs.View.{term_of}
 use Rattle.lc_action.specs.Action.{acting_variables}
 use Rattle.lc_action.proofs.acting.acting_variables.Given as goal

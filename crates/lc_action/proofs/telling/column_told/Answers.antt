@@ -1,6 +1,6 @@
-use Rattle.std.proofs.Common.{◌≡◌, ℕ, IsTrue, sym, ◌∙◌, map}
+use Rattle.std.proofs.Common.{◌≡◌, ℕ, IsTrue, sym, ◌∙◌}
 use Rattle.std.proofs.lemmas.Result.{IfOk-weaker}
-use Rattle.lc_term.specs.View.{term_of, column_of}
+use Rattle.lc_term.specs.View.{column_of}
 use Rattle.lc_term.specs.declared.term.ColExpr.{ColExpr}
 use Rattle.lc_action.specs.Telling.{columns_in, tellable, telling_under}
 use Rattle.lc_action.proofs.Tellable.{column_put}

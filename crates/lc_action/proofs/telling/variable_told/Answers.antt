@@ -1,9 +1,9 @@
 use Rattle.std.proofs.Common.{◌≡◌, ℕ, IsTrue, sym, ◌∙◌, map}
 use Rattle.std.proofs.lemmas.Result.{IfOk-weaker}
 use Rattle.lc_term.specs.Said.{term_at}
-use Rattle.lc_term.specs.View.{term_of, column_of}
+use Rattle.lc_term.specs.View.{term_of}
 use Rattle.lc_term.specs.declared.term.Term.{Term}
-use Rattle.lc_action.specs.Telling.{columns_in, tellable, telling_under}
+use Rattle.lc_action.specs.Telling.{tellable, telling_under}
 use Rattle.lc_action.proofs.Tellable.{variable_put}
 use Rattle.lc_action.proofs.telling.variable_told.Goals as goal
 
