@@ -1,3 +1,4 @@
 pub mod Rider
 pub mod Paths
 pub mod PathLaws
+pub mod RiderView

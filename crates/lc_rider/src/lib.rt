@@ -2,3 +2,6 @@
 #![tactic(auto)]
 
 pub mod laws;
+mod rider;
+
+pub use rider::{Rider, When};

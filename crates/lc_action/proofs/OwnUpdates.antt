@@ -1,0 +1,33 @@
+-- Terms stored in the cells of a client, one after another.
+use Rattle.std.proofs.Common.{◌≡◌, ℕ, ◌+◌, ◌<◌, ◌≤◌, List, [], ◌∷◌, ◌++◌, length, drop, map, get_or, refl, sym, ap, ap₂, ◌∙◌, append-nil}
+use Rattle.std.proofs.lemmas.List.{drop_more}
+use Rattle.std.proofs.Math.ListN.{drop_of_length-le}
+use Rattle.lc_base.specs.declared.ids.ColId.{ColId}
+use Rattle.lc_term.specs.Syntax as S
+use Rattle.lc_term.specs.Updates as U
+use Rattle.lc_term.specs.Said.{at_client}
+use Rattle.lc_term.specs.View.{term_of}
+use Rattle.lc_term.specs.declared.term.Term.{Term}
+
+abbrev pub numbers_of : List ColId → List ℕ
+numbers_of cs = map (λ c. c.0) cs
+
+no_terms : (cs : List ℕ) → at_client cs [] ≡ []
+no_terms [] = refl
+no_terms (c ∷ cs) = refl
+
+-- no term is left
+pub own_end : (cs : List ColId) (ts : List Term) (i : ℕ) → length ts ≤ i → at_client (numbers_of (drop i cs)) (map term_of (drop i ts)) ≡ []
+own_end cs ts i h = ap (λ (l : List Term). at_client (numbers_of (drop i cs)) (map term_of l)) (drop_of_length-le ts h) ∙ no_terms (numbers_of (drop i cs))
+
+-- one more term
+pub own_more : (cs : List ColId) (ts : List Term) (i : ℕ) (c : ColId) (t : Term) → i < length cs → c ≡ get_or cs i (record { 0 = 0 }) → i < length ts → t ≡ get_or ts i t →
+    at_client (numbers_of (drop i cs)) (map term_of (drop i ts)) ≡ record { column = c.0; index = S.Variable 1; value = term_of t } ∷ at_client (numbers_of (drop (i + 1) cs)) (map term_of (drop (i + 1) ts))
+own_more cs ts i c t hc ec ht et =
+    ap₂ (λ (ks : List ColId) (us : List Term). at_client (numbers_of ks) (map term_of us))
+    (drop_more cs i (record { 0 = 0 }) hc ∙ ap (λ (x : ColId). x ∷ drop (i + 1) cs) (sym ec))
+    (drop_more ts i t ht ∙ ap (λ (x : Term). x ∷ drop (i + 1) ts) (sym et))
+
+pub updates_end : (cs : List ColId) (ts : List Term) (i : ℕ) (done whole : List U.Update) → length ts ≤ i →
+    done ++ at_client (numbers_of (drop i cs)) (map term_of (drop i ts)) ≡ whole → done ≡ whole
+updates_end cs ts i done whole h e = sym (append-nil done) ∙ ap (λ r. done ++ r) (sym (own_end cs ts i h)) ∙ e

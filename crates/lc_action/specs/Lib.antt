@@ -1,0 +1,3 @@
+pub mod Action
+pub mod Telling
+pub mod ActionView
