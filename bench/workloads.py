@@ -58,6 +58,26 @@ def spine():
     return formula("x", "", hypothesis, "(<= x 0)", proof).encode()
 
 
+def layers():
+    """Conjunctions that are nested as deep as they may be, each taken apart by as deep a proof."""
+    formula_text = "(and " * NESTING + "(<= 1 0)" + ")" * NESTING
+    steps = [f"(split {2 + i}" for i in range(NESTING)]
+    branch = nested(steps, f"(sum ({2 + NESTING} 1))")
+    copies = (LIMIT - 1000) // (len(formula_text) + len(branch) + 2)
+    hypothesis = "(or " + "\n".join([formula_text] * copies) + ")"
+    proof = "(cases 0\n" + "\n".join([branch] * copies) + ")"
+    return formula("x", "", hypothesis, "(<= x 0)", proof).encode()
+
+
+def shared():
+    """Chains of `cut`, each with the same large formula, which is hypothesis 1 too."""
+    part = "(<= (+ (rd c (* 2 {0})) {1}) (rd (store c {0} 5) (+ {0} 1)))"
+    claim = "(and" + (" " + part.format("x", "y")) * 20 + ")"
+    again = "(and" + (" " + part.format("?0", "?1")) * 20 + ")"
+    steps = [f"(cut {again} (opposite 1 {4 + i})" for i in range(NESTING)]
+    return in_branches(claim, claim, nested(steps, "(opposite 1 2)"), columns="c")
+
+
 def wide_sum():
     """One `sum` with as many entries as fit, over a ring of 1,000 comparisons."""
     count = 1000
@@ -112,6 +132,8 @@ WORKLOADS = {
         instances,
         stores,
         spine,
+        layers,
+        shared,
         wide_sum,
         many_sums,
         wide_formula,
