@@ -1,4 +1,5 @@
-use Rattle.std.proofs.Common.{◌≡◌, ℕ, List, ◌++◌, Option, sym, ap, ◌∙◌, refl}
+use Rattle.std.proofs.Common.{◌≡◌, ℕ, ◌+◌, List, ◌++◌, Option, sym, ap, ◌∙◌, refl}
+use Rattle.lc_sexp.specs.Trees.{Tree, Trees, ◌▸◌, item_count}
 use Rattle.std.proofs.lemmas.List.{append_assoc}
 use Rattle.lc_sexp.specs.Shown.{rest_of, number_of}
 use Rattle.lc_sexp.specs.declared.cursor.Cursor.{Cursor}
@@ -11,13 +12,19 @@ use Rattle.lc_reading.specs.Readings.{both}
 use Rattle.lc_reading.specs.TableView.{listed}
 use Rattle.lc_reading.specs.declared.part.Part.{Part}
 
+-- behind the item n the others are left, from m on
+one_more_at : (limit : Option ℕ) (before after : List (List ℕ)) (n i m : ℕ) (t : Tree) (ts us : Trees) → i ≡ n → us ≡ t ▸ ts → m ≡ n + item_count t
+    → after ≡ before ++ declared_by t
+    → names_reading limit before n us ≡ both (λ (x y : Unit {0}). y) (declaration_reading limit before i t) (names_reading limit after m ts)
+one_more_at limit before after n i m t ts us at rest number entered = ap (names_reading limit before n) rest ∙ rw (at, number, entered) refl
+
 -- behind one item the others are left
 one_more : (limit : Option ℕ) (before after : List (List ℕ)) (l behind : Cursor) (part : Part) → place_of part ≡ number_of l → IsBehind l (tree_of part) behind
     → after ≡ before ++ declared_by (tree_of part)
     → names_reading limit before (number_of l) (rest_of l)
     ≡ both (λ (x y : Unit {0}). y) (declaration_reading limit before (place_of part) (tree_of part)) (names_reading limit after (number_of behind) (rest_of behind))
 one_more limit before after l behind part at next entered =
-    ap (names_reading limit before (number_of l)) next.rest ∙ rw (at, next.number, entered) refl
+    one_more_at limit before after (number_of l) (place_of part) (number_of behind) (tree_of part) (rest_of behind) (rest_of l) at next.rest next.number entered
 
 pub names-preserved : goal.names-preserved
 names-preserved c =
