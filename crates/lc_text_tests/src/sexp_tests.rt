@@ -161,7 +161,8 @@ fn numbers_as_they_are_written(rt: HostRuntime) -> Result<(), Fail> {
     let mut variables = Vec::new(rt.alloc());
     let mut cursor = forms.cursor();
     assert!(rt; cursor.len() == 19);
-    while let Ok(atom) = cursor.atom() {
+    for _ in 0..cursor.len() {
+        let atom = cursor.atom()?;
         numbers.push(atom.integer())?;
         variables.push(atom.variable())?;
     }
