@@ -11,7 +11,7 @@ columns-preserved c =
     let entered = c.in_ok-names.ensures in
     let left = smaller c.columns.list c.item.new.self c.in-Ok.field-0 c.in-Ok.ensures in
     let count : length (listed c.in_ok-names.names) ≡ length (listed c.columns.names) + 1 =
-        ap length entered ∙ length-append (listed c.columns.names) (c.first_text-name.result.now ∷ []) in
+    ap length entered ∙ length-append (listed c.columns.names) (c.first_text-name.result.now ∷ []) in
     record {
       names = sym (columns_more c.columns.list c.item.new.self c.in-Ok.field-0 (listed c.columns.names) (listed c.in_ok-names.names) c.first_text-name.result.now c.in-Ok.ensures name entered) ∙ c.columns.invariant.names;
       room = omega (arith, count, left, c.columns.invariant.room);
