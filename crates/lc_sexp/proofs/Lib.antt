@@ -1,8 +1,11 @@
 pub mod Answered
 pub mod Atoms
 pub mod Builds
+pub mod Cuts
 pub mod Exists
 pub mod Faults
+pub mod Fed
+pub mod Fills
 pub mod Flats
 pub mod Items
 pub mod Limits
@@ -10,6 +13,8 @@ pub mod Nodes
 pub mod PrintedLemmas
 pub mod Prints
 pub mod Rows
+pub mod Splits
+pub mod Takings
 pub mod Tokens
 pub mod Unique
 pub mod Walks

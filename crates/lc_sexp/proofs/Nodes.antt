@@ -117,7 +117,7 @@ letters_take [] (suc n) h = refl
 letters_take (b ∷ text) (suc n) h = let hs = and_parts (is_Letter (class_of b)) (are_letters text) h in both _ _ hs.0 (letters_take text n hs.1)
 
 -- a word before a text that begins none
-word_lexed : (w rest : List ℕ) → length w ≢ 0 → are_letters w ≡ true → begins_word rest ≡ false → word w ∷ lexed rest ≡ lexed (w ++ rest)
+pub word_lexed : (w rest : List ℕ) → length w ≢ 0 → are_letters w ≡ true → begins_word rest ≡ false → word w ∷ lexed rest ≡ lexed (w ++ rest)
 word_lexed [] rest some h e = absurd (some refl)
 word_lexed (b ∷ w) rest some h e = sym (lexed_word b w rest h e)
 

@@ -1,11 +1,13 @@
 -- What reading may answer.
-use Rattle.std.specs.Prelude.{ℕ, List, Result, Ok, Err, Vec}
+use Rattle.std.specs.Prelude.{◌≡◌, ℕ, List, length, take, Result, Ok, Err, Vec}
 use Rattle.std.specs.declared.alloc.Global.{Global}
 use Rattle.lc_base.specs.declared.refusal.Refusal.TheVariants.{Text}
 use Rattle.lc_base.specs.declared.refusal.Fault.{Fault}
 use Rattle.lc_base.specs.declared.refusal.Fault.TheVariants.{Refused, OutOfMemory}
 use Rattle.lc_sexp.specs.Trees.{Tree, Trees, row}
 use Rattle.lc_sexp.specs.Reads.{ReadsAs, IsFirstFault}
+use Rattle.lc_sexp.specs.Takes.{parts_of, without}
+use Rattle.lc_sexp.specs.declared.part.Part.{Part}
 
 -- want of memory, or a fault of the text at an offset of which this holds
 abbrev pub IsTextFault : Fault → (ℕ → Type 0) → Type 0
@@ -17,6 +19,11 @@ IsTextFault (Refused _) P = ⊥
 abbrev pub IsAnswerTo : List ℕ → Result Trees Fault → Type 0
 IsAnswerTo bytes (Ok forms) = ReadsAs bytes forms
 IsAnswerTo bytes (Err fault) = IsTextFault fault (IsFirstFault bytes)
+
+-- The answer to a file of which these parts were taken: they are its first parts, and the trees are without them.
+abbrev pub IsAnswerWithout : List ℕ → List Part → Result Trees Fault → Type 0
+IsAnswerWithout bytes taken (Ok forms) = (trees : Trees) × ReadsAs bytes trees × (taken ≡ take (length taken) (parts_of trees)) × (forms ≡ without (length taken) trees)
+IsAnswerWithout bytes taken (Err fault) = IsTextFault fault (IsFirstFault bytes)
 
 -- The same where each tree stands alone.
 abbrev pub IsAnswerInParts : List ℕ → Result (Vec Tree Global) Fault → Type 0

@@ -1,5 +1,5 @@
 -- What nodes and their letters show.
-use Rattle.std.specs.Prelude.{◌≡◌, ℕ, ◌+◌, nat_le, Bool, true, List, map, take, drop, length}
+use Rattle.std.specs.Prelude.{◌≡◌, ℕ, ◌+◌, nat_le, Bool, true, false, List, [], ◌∷◌, map, take, drop, length}
 use Rattle.std.specs.List.{list_all}
 use Rattle.lc_sexp.specs.Trees.{Trees, none, ◌▸◌, Token}
 use Rattle.lc_sexp.specs.TreeCode.{head_tree}
@@ -52,3 +52,10 @@ abbrev pub letter_count : Node → ℕ
 letter_count (Atom start len) = len
 letter_count (ListOf inside) = 0
 letter_count Open = 0
+
+-- nodes that are none, or begin with a list that is open
+abbrev pub is_rooted : List Node → Bool
+is_rooted [] = true
+is_rooted (Open ∷ nodes) = true
+is_rooted (Atom start len ∷ nodes) = false
+is_rooted (ListOf inside ∷ nodes) = false

@@ -1,6 +1,8 @@
 pub mod Answers
+pub mod Begins
 pub mod Built
 pub mod Entries
+pub mod Filling
 pub mod Flat
 pub mod Misfit
 pub mod NaturalValue
@@ -12,6 +14,8 @@ pub mod Progress
 pub mod Reading
 pub mod Reads
 pub mod Shown
+pub mod Splitting
+pub mod Takes
 pub mod Text
 pub mod TreeCode
 pub mod Trees

@@ -13,8 +13,8 @@ use std::alloc::Global;
 /// Items in preorder that are put one behind another, with letters of their own.
 #[derive(Drop)]
 pub(crate) struct Builder {
-    nodes: Vec<Node>,
-    text: Vec<u8>,
+    pub(crate) nodes: Vec<Node>,
+    pub(crate) text: Vec<u8>,
     ghost within: { list_all (is_within (vec_len text)) nodes.items ≡ true },
     ghost letters: { are_letters text.items ≡ true },
 }
@@ -54,7 +54,7 @@ impl Builder {
     }
 
     /// Puts a copy of an item behind, whose letters lie in this text.
-    fn push_copy(&mut self, node: Node, text: &[u8]) -> Result<(), OutOfMemory>
+    pub(crate) fn push_copy(&mut self, node: Node, text: &[u8]) -> Result<(), OutOfMemory>
         requires within { is_within (length text.now) node ≡ true }
         requires letters { are_letters text.now ≡ true }
         ensures { OnOk result (entries_in self.new ≡ entries_in self.old ++ (entry_of text.now node ∷ [])) }

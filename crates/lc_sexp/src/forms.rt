@@ -1,9 +1,9 @@
 use crate::builder::Builder;
 use crate::cursor::Cursor;
+use crate::machine::Machine;
 use crate::node::Node;
-use crate::reader::Reader;
 use crate::sexp::{Sexp, put_all};
-use lc_base::{Fault, OutOfMemory};
+use lc_base::{Fault, OutOfMemory, Refusal};
 use std::alloc::Global;
 use std::marker::Model;
 
@@ -55,9 +55,12 @@ impl Forms {
         ensures answer { IsAnswerTo bytes.now result }
         ensures counted { IfOk result (λ forms. item_count_of_all forms ≤ length bytes.now) }
     {
-        let mut reader = Reader::new(alloc);
-        reader.feed(bytes)?;
-        reader.finish()
+        let mut machine = Machine::new(alloc);
+        let whole = machine.push_all(bytes)?;
+        if !whole {
+            return Err(Fault::Refused(Refusal::Text(machine.offset())));
+        }
+        machine.finish()
     }
 
     /// Copies of these s-expressions in one row.

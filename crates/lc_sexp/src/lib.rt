@@ -4,16 +4,19 @@
 mod builder;
 mod class;
 mod cursor;
+mod filling;
 mod forms;
 mod laws;
 mod machine;
 mod misfit;
 mod node;
 mod numerals;
+mod part;
 mod printing;
 mod reader;
 mod reading;
 mod sexp;
+mod splitter;
 
 pub use cursor::{Atom, Cursor, Item};
 pub use forms::Forms;
@@ -23,6 +26,7 @@ pub use laws::{
 };
 pub use machine::{DEPTH_LIMIT, FILE_LIMIT};
 pub use misfit::Misfit;
+pub use part::Part;
 pub use printing::print;
 pub use reader::Reader;
 pub use reading::read;

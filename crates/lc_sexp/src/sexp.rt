@@ -103,7 +103,7 @@ impl Sexp {
     }
 
     /// Puts a copy of its items behind others.
-    fn put(&self, built: &mut Builder) -> Result<(), OutOfMemory>
+    pub(crate) fn put(&self, built: &mut Builder) -> Result<(), OutOfMemory>
         ensures { OnOk result (entries_in built.new ≡ entries_in built.old ++ entries_of self.now) }
     {
         built.push_row(&self.nodes, &self.text)
@@ -111,7 +111,7 @@ impl Sexp {
 }
 
 /// How many items these s-expressions have together.
-fn count_of_all(sexps: &[Sexp]) -> Result<u32, OutOfMemory>
+pub(crate) fn count_of_all(sexps: &[Sexp]) -> Result<u32, OutOfMemory>
     ensures { IfOk result (λ count. count ≡ item_count_of_all (row sexps.now)) }
 {
     let mut count = 0u32;
