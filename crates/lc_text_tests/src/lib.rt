@@ -4,8 +4,6 @@
 #[cfg(test)]
 mod base_tests;
 #[cfg(test)]
-mod part_tests;
-#[cfg(test)]
 mod sexp_tests;
 #[cfg(test)]
 mod table_tests;
