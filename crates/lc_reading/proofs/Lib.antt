@@ -5,3 +5,4 @@ pub mod SoFar
 pub mod Sections
 pub mod Places
 pub mod Noted
+pub mod Files
