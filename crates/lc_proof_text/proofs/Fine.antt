@@ -58,4 +58,4 @@ behind_fine P word read n (list (atom w ▸ ts)) h = cond_fine P (is w word) (re
 
 -- what holds of each value that is read
 pub of_fine : {X : Type 0} (P : X → Type 0) (r : Reading X) (x : X) → IfFine r P → r ≡ fine x → P x
-of_fine P r x h e = subst (λ (r : Reading _). IfFine r P) e h
+of_fine {X} P r x h e = subst (λ (r : Reading X). IfFine r P) e h

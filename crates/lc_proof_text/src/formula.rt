@@ -8,8 +8,10 @@ ghost use Rattle.lc_reading.specs.Files.{IsAnswerTo};
 ghost use Rattle.lc_reading.specs.Parts.{tree_of, place_of};
 ghost use Rattle.lc_reading.specs.Results.{IsReading};
 ghost use Rattle.lc_text.specs.Seen.{row_of};
-ghost use Rattle.lc_proof_text.specs.Declared.{declared_of};
+ghost use Rattle.lc_text.specs.Formulas.{formula_reading};
+ghost use Rattle.lc_proof_text.specs.Declared.{declared_of, claim_names, proof_names};
 ghost use Rattle.lc_proof_text.specs.Files.{seen_claim, seen_statement, hypotheses_reading, goal_reading, shown_reading, statement_reading, claim_reading, sections_reading, form_reading, file_reading, only};
+ghost use Rattle.lc_proof_text.specs.Proofs.{proof_reading};
 
 use crate::names::{Declared, InClaim, InProof, read_declarations};
 use crate::proof::read_proof;
@@ -33,17 +35,36 @@ fn read_hypotheses(
     read_formulas(alloc, &InClaim(declared), list)
 }
 
-/// `(goal F)`
-fn read_goal(
+/// A formula of the claim, which is all that is left in a list.
+fn read_only_formula(
     alloc: Global,
     declared: &Declared<'_>,
-    part: Part<'_>,
+    list: Cursor<'_>,
 ) -> Result<Formula, ReadFault>
+    ensures { IsReading formula_of (only (formula_reading (claim_names (declared_of declared.now)) []) (owner_of list.entry) (number_of list.entry) (rest_of list.entry)) result }
+{
+    let (part, rest) = one(list)?;
+    ended(read_formula(alloc, &InClaim(declared), part), rest)
+}
+
+/// `(goal F)`
+fn read_goal(alloc: Global, declared: &Declared<'_>, part: Part<'_>) -> Result<Formula, ReadFault>
     ensures { IsReading formula_of (goal_reading (declared_of declared.now) (place_of part.entry) (tree_of part.entry)) result }
 {
     let list = behind_word(part, "goal")?;
+    read_only_formula(alloc, declared, list)
+}
+
+/// A proof, which is all that is left in a list.
+fn read_only_proof(
+    alloc: Global,
+    declared: &Declared<'_>,
+    list: Cursor<'_>,
+) -> Result<Proof, ReadFault>
+    ensures { IsReading proof_of (only (proof_reading (proof_names (declared_of declared.now))) (owner_of list.entry) (number_of list.entry) (rest_of list.entry)) result }
+{
     let (part, rest) = one(list)?;
-    ended(read_formula(alloc, &InClaim(declared), part), rest)
+    ended(read_proof(alloc, &InProof(declared), part), rest)
 }
 
 /// `(proof P)`
@@ -51,8 +72,7 @@ fn read_shown(alloc: Global, declared: &Declared<'_>, part: Part<'_>) -> Result<
     ensures { IsReading proof_of (shown_reading (declared_of declared.now) (place_of part.entry) (tree_of part.entry)) result }
 {
     let list = behind_word(part, "proof")?;
-    let (part, rest) = one(list)?;
-    ended(read_proof(alloc, &InProof(declared), part), rest)
+    read_only_proof(alloc, declared, list)
 }
 
 /// The hypotheses and the goal.

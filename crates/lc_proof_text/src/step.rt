@@ -96,11 +96,7 @@ fn read_numbers(first: Part<'_>, second: Part<'_>) -> Result<(i64, i64), ReadFau
     both(read_number(first), read_number(second))
 }
 
-fn read_written<'a, S: Scope>(
-    alloc: Global,
-    scope: &S,
-    list: Cursor<'a>,
-) -> Result<Own<'a>, Misfit>
+fn read_written<'a, S: Scope>(alloc: Global, scope: &S, list: Cursor<'a>) -> Result<Own<'a>, Misfit>
     ensures { IsOwn (written_reading (S.names scope.now) (owner_of list.entry) (number_of list.entry) (rest_of list.entry)) 4 list.entry result }
 {
     let mut rest = list;

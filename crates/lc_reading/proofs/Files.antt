@@ -11,25 +11,24 @@ use Rattle.lc_sexp.proofs.Unique.{one_reading_lem}
 use Rattle.lc_sexp.specs.Answers.{IsTextFault}
 use Rattle.lc_sexp.specs.Reads.{ReadsAs, IsFirstFault}
 use Rattle.lc_sexp.specs.Trees.{Trees}
-use Rattle.lc_reading.specs.Files.{refusal_of, IsAnswerOf, IsAnswerTo, Says, IsFirstRefusal}
+use Rattle.lc_reading.specs.Files.{refusal_of, fault_of, IsAnswerTo, Says, IsFirstRefusal}
 use Rattle.lc_reading.specs.Readings.{Reading, fine, flawed}
-use Rattle.lc_reading.specs.Results.{IsReading}
+use Rattle.lc_reading.specs.Results.{IsReadFault}
 use Rattle.lc_reading.specs.declared.flaw.Flaw.{Flaw}
 use Rattle.lc_reading.specs.declared.flaw.ReadFault.{ReadFault}
 use Rattle.lc_reading.specs.declared.flaw.ReadFault.TheVariants.{Flawed, OutOfMemory as NoMore}
-
--- the answer to trees is that to their file
-pub answer_to : {T X : Type 0} (view : T → X) (read : Trees → Reading X) (bytes : List ℕ) (ts : Trees) (result : Result T Fault) → ReadsAs bytes ts → IsAnswerOf view (read ts) result
-    → IsAnswerTo view read bytes result
-answer_to view read bytes ts (Ok value) reads h = (ts, reads, h)
-answer_to view read bytes ts (Err (Refused refusal)) reads (f, h, e) = inr (ts, f, reads, h, e)
-answer_to view read bytes ts (Err OutOfMemory) reads h = tt
 
 -- a fault of the text
 pub text_fault : {T X : Type 0} (view : T → X) (read : Trees → Reading X) (bytes : List ℕ) (fault : Fault) → IsTextFault fault (IsFirstFault bytes) → IsAnswerTo {T = T} view read bytes (Err fault)
 text_fault view read bytes OutOfMemory h = tt
 text_fault view read bytes (Refused (R.Text offset)) h = inl (offset, refl, h)
 text_fault view read bytes (Refused _) h = absurd h
+
+-- a flaw of the trees
+pub trees_fault : {T X : Type 0} (view : T → X) (read : Trees → Reading X) (bytes : List ℕ) (ts : Trees) (fault : ReadFault) → ReadsAs bytes ts → IsReadFault (read ts) fault
+    → IsAnswerTo view read bytes (Err (fault_of fault))
+trees_fault view read bytes ts (Flawed f) reads h = inr (ts, f, reads, h, refl)
+trees_fault view read bytes ts NoMore reads h = tt
 
 of_trees : {X : Type 0} (read : Trees → Reading X) (bytes : List ℕ) (ts : Trees) → ReadsAs bytes ts → (r : Reading X) → read ts ≡ r → ((x : X) × Says read bytes x) ⊎ ((refusal : Refusal) × IsFirstRefusal read bytes refusal)
 of_trees read bytes ts reads (fine x) e = inl (x, (ts, reads, e))

@@ -29,12 +29,6 @@ abbrev pub fault_of : ReadFault → Fault
 fault_of (Flawed f) = Refused (refusal_of f)
 fault_of NoMore = OutOfMemory
 
--- the value that trees read as, seen by this view; or their first refusal
-abbrev pub IsAnswerOf : {T X : Type 0} → (T → X) → Reading X → Result T Fault → Type 0
-IsAnswerOf view read (Ok value) = read ≡ fine (view value)
-IsAnswerOf view read (Err (Refused refusal)) = (f : Flaw) × (read ≡ flawed f) × (refusal ≡ refusal_of f)
-IsAnswerOf view read (Err OutOfMemory) = Unit {0}
-
 -- the file says this: it reads as trees that read so
 abbrev pub Says : {X : Type 0} → (Trees → Reading X) → List ℕ → X → Type 0
 Says read bytes x = (ts : Trees) × ReadsAs bytes ts × (read ts ≡ fine x)
