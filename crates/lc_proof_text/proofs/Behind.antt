@@ -18,7 +18,7 @@ use Rattle.lc_reading.specs.declared.flaw.ReadFault.{ReadFault}
 use Rattle.lc_reading.specs.declared.flaw.ReadFault.TheVariants.{Flawed}
 use Rattle.lc_reading.specs.declared.part.Part.{Part}
 use Rattle.lc_reading.specs.declared.pass.Pass.TheVariants.{Shape}
-use Rattle.lc_proof_text.specs.Declared.{names_behind}
+use Rattle.lc_proof_text.specs.FileNames.{names_behind}
 
 -- what is read behind the word
 pub behind_ok : {T X : Type 0} (view : T → X) (word : List ℕ) (read : ℕ → ℕ → Trees → Reading X) (part : Part) (c : Cursor) (result : Result T ReadFault) → IsBehindWord word part (Ok c)
@@ -26,7 +26,7 @@ pub behind_ok : {T X : Type 0} (view : T → X) (word : List ℕ) (read : ℕ �
 behind_ok view word read part c result behind h = subst (λ r. IsReading view r result) (sym (behind_reading-is word read part c behind)) h
 
 -- another list is misshapen
-misfit_at : {T X : Type 0} (view : T → X) (n : ℕ) (r : Reading X) (misfit : Misfit) (result : Result T ReadFault) → r ≡ wrong Shape n → misfit ≡ Misshapen n → IsErrAnd result (λ fault. fault ≡ Flawed (misfit_flaw misfit))
+pub misfit_at : {T X : Type 0} (view : T → X) (n : ℕ) (r : Reading X) (misfit : Misfit) (result : Result T ReadFault) → r ≡ wrong Shape n → misfit ≡ Misshapen n → IsErrAnd result (λ fault. fault ≡ Flawed (misfit_flaw misfit))
     → IsReading view r result
 misfit_at view n r misfit (Ok x) e is told = absurd told
 misfit_at view n r misfit (Err fault) e is told = let same : fault ≡ Flawed (misfit_flaw misfit) = told in rw (same, is) e

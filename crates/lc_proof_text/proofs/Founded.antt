@@ -13,9 +13,9 @@ use Rattle.lc_term.specs.Names.{Names}
 use Rattle.lc_term.specs.Syntax.{Formula, Formulas}
 use Rattle.lc_text.specs.Formulas.{formula_reading, formulas_reading}
 use Rattle.lc_text.specs.Terms.{pair}
-use Rattle.lc_proof_text.proofs.Fine.{IfFine, anything, weaker, cond_fine, mapped_fine, both_fine, ended_fine, behind_fine, of_fine}
-use Rattle.lc_proof_text.proofs.ReadBelow.{NamesBelow, FormulaIn, FormulasIn, formula_in, formulas_in}
-use Rattle.lc_proof_text.specs.Declared.{Declared, names_behind, declared_by, claim_names, proof_names}
+use Rattle.lc_reading.proofs.Fine.{IfFine, anything, weaker, cond_fine, mapped_fine, both_fine, ended_fine, behind_fine, of_fine}
+use Rattle.lc_text.proofs.Variables.{NamesIn, FormulaIn, FormulasIn, formula_in, formulas_in}
+use Rattle.lc_proof_text.specs.FileNames.{Declared, names_behind, declared_by, claim_names, proof_names}
 use Rattle.lc_proof_text.specs.Files.{Claim, claim_of, only, declarations_reading, hypotheses_reading, goal_reading, shown_reading, statement_reading, claim_reading, sections_reading, form_reading, file_reading}
 use Rattle.lc_proof_text.specs.Heads.{head_of, own_parts, proofs_due, later, is_met, is_full}
 use Rattle.lc_proof_text.specs.Proofs.{sum_reading, headed_reading, proof_reading, proofs_reading}
@@ -32,7 +32,11 @@ placed_below (v ∷ vs) w = at_first (is w v) (place_of vs w) (placed_below vs w
   at_first false None h = tt
   at_first false (Some k) h = grind (arith, nat_tests)
 
-claim_below : (d : Declared) → NamesBelow (length d.variables) (claim_names d)
+-- the number of a variable of so many
+abbrev pub below : ℕ → ℕ → Bool
+below count k = nat_lt k count
+
+claim_below : (d : Declared) → NamesIn (below (length d.variables)) (claim_names d)
 claim_below d = record { variables = λ w. placed_below d.variables w; numbered = refl }
 
 declared_fewer : (t : Tree) → length (declared_at t) ≤ item_count t
@@ -99,16 +103,16 @@ only_fine : {X : Type 0} (P : X → Type 0) (read : ℕ → Tree → Reading X) 
 only_fine P read n m none h = tt
 only_fine P read n m (t ▸ ts) h = ended_fine P (m + item_count t) ts (read m t) (h m t (omega arith))
 
-hypotheses_founded : (d : Declared) (n : ℕ) (t : Tree) → IfFine (hypotheses_reading d n t) (FormulasIn (length d.variables))
+hypotheses_founded : (d : Declared) (n : ℕ) (t : Tree) → IfFine (hypotheses_reading d n t) (FormulasIn (below (length d.variables)))
 hypotheses_founded d n t =
-    behind_fine (FormulasIn (length d.variables)) (codes "hyps") (λ n m ts. formulas_reading (claim_names d) [] m ts) n t
-    (λ m ts few. formulas_in (length d.variables) (claim_names d) (claim_below d) [] m ts)
+    behind_fine (FormulasIn (below (length d.variables))) (codes "hyps") (λ n m ts. formulas_reading (claim_names d) [] m ts) n t
+    (λ m ts few. formulas_in (below (length d.variables)) (claim_names d) (claim_below d) [] m ts)
 
-goal_founded : (d : Declared) (n : ℕ) (t : Tree) → IfFine (goal_reading d n t) (FormulaIn (length d.variables))
+goal_founded : (d : Declared) (n : ℕ) (t : Tree) → IfFine (goal_reading d n t) (FormulaIn (below (length d.variables)))
 goal_founded d n t =
     let read = formula_reading (claim_names d) [] in
-    behind_fine (FormulaIn (length d.variables)) (codes "goal") (only read) n t
-    (λ m ts few. only_fine (FormulaIn (length d.variables)) read n m ts (λ m t few. formula_in (length d.variables) (claim_names d) (claim_below d) [] m t))
+    behind_fine (FormulaIn (below (length d.variables))) (codes "goal") (only read) n t
+    (λ m ts few. only_fine (FormulaIn (below (length d.variables))) read n m ts (λ m t few. formula_in (below (length d.variables)) (claim_names d) (claim_below d) [] m t))
 
 shown_sized : (d : Declared) (n : ℕ) (t : Tree) → IfFine (shown_reading d n t) (λ p. size p ≤ item_count t)
 shown_sized d n t =
@@ -119,18 +123,18 @@ shown_sized d n t =
 
 -- what holds of a claim that is read
 pub record IsFounded (claim : Claim) (items : ℕ) : Type 0 where
-  pub hypotheses : FormulasIn claim.variables claim.hypotheses
-  pub goal : FormulaIn claim.variables claim.goal
+  pub hypotheses : FormulasIn (below claim.variables) claim.hypotheses
+  pub goal : FormulaIn (below claim.variables) claim.goal
   pub room : claim.variables + size claim.proof ≤ items
 
 abbrev StatementIn : ℕ → Formulas × Formula → Type 0
-StatementIn n s = FormulasIn n s.0 × FormulaIn n s.1
+StatementIn n s = FormulasIn (below n) s.0 × FormulaIn (below n) s.1
 
 claim_founded : (d : Declared) (i : ℕ) (h : Tree) (j : ℕ) (g : Tree) (k : ℕ) (p : Tree) (items : ℕ) → length d.variables + item_count p ≤ items → IfFine (claim_reading d i h j g k p) (λ c. IsFounded c items)
 claim_founded d i h j g k p items room =
     let n = length d.variables in
     both_fine (StatementIn n) (λ q. size q ≤ item_count p) (λ c. IsFounded c items) (claim_of n) (statement_reading d i h j g) (shown_reading d k p)
-    (both_fine (FormulasIn n) (FormulaIn n) (StatementIn n) pair (hypotheses_reading d i h) (goal_reading d j g) (hypotheses_founded d i h) (goal_founded d j g) (λ hs f a b. (a, b)))
+    (both_fine (FormulasIn (below n)) (FormulaIn (below n)) (StatementIn n) pair (hypotheses_reading d i h) (goal_reading d j g) (hypotheses_founded d i h) (goal_founded d j g) (λ hs f a b. (a, b)))
     (shown_sized d k p) (λ s q a b. record { hypotheses = a.0; goal = a.1; room = omega (arith, b, room) })
 
 sections_founded : (n m : ℕ) (ts : Trees) → IfFine (sections_reading n m ts) (λ c. IsFounded c (item_count_of_all ts))

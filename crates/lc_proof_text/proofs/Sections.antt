@@ -13,8 +13,13 @@ use Rattle.lc_reading.specs.Results.{IsReading, both_results, also_results, ende
 use Rattle.lc_reading.specs.declared.flaw.ReadFault.{ReadFault}
 use Rattle.lc_reading.specs.declared.flaw.ReadFault.TheVariants.{Flawed, OutOfMemory}
 use Rattle.lc_reading.specs.declared.part.Part.{Part}
-use Rattle.lc_proof_text.specs.Declared.{Declared, declared_by}
+use Rattle.lc_proof_text.specs.FileNames.{Declared, declared_by}
 use Rattle.lc_proof_text.specs.Files.{seen_claim, only, declarations_reading, claim_reading, sections_reading, form_reading, file_reading}
+
+-- two results together
+pub both_told : {A B X Y Z : Type 0} (v : A → X) (w : B → Y) (f : X → Y → Z) (r : Reading X) (s : Reading Y) (a : Result A ReadFault) (b : Result B ReadFault) (c : Result (A × B) ReadFault)
+    → c ≡ both_results a b → IsReading v r a → IsReading w s b → IsReading (λ (p : A × B). f (v p.0) (w p.1)) (both f r s) c
+both_told v w f r s a b c together h k = rw together (both_read v w f r s a b h k)
 
 -- what is wrong in either of two
 pub also_read : (r s : Reading (Unit {0})) (a b : Result (Unit {0}) ReadFault) → IsReading (λ (u : Unit {0}). u) r a → IsReading (λ (u : Unit {0}). u) s b

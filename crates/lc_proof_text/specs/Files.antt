@@ -15,7 +15,7 @@ use Rattle.lc_reading.specs.declared.pass.Pass.TheVariants.{Shape}
 use Rattle.lc_text.specs.Formulas.{formula_reading, formulas_reading}
 use Rattle.lc_text.specs.Seen.{row_of}
 use Rattle.lc_text.specs.Terms.{pair}
-use Rattle.lc_proof_text.specs.Declared.{Declared, declared_by, claim_names, proof_names}
+use Rattle.lc_proof_text.specs.FileNames.{Declared, declared_by, claim_names, proof_names}
 use Rattle.lc_proof_text.specs.Proofs.{proof_reading}
 
 -- How many variables there are, the hypotheses, the goal, and its proof

@@ -9,7 +9,7 @@ ghost use Rattle.lc_reading.specs.Parts.{tree_of, place_of};
 ghost use Rattle.lc_reading.specs.Results.{IsReading};
 ghost use Rattle.lc_text.specs.Seen.{row_of};
 ghost use Rattle.lc_text.specs.Formulas.{formula_reading};
-ghost use Rattle.lc_proof_text.specs.Declared.{declared_of, claim_names, proof_names};
+ghost use Rattle.lc_proof_text.specs.FileNames.{declared_of, claim_names, proof_names};
 ghost use Rattle.lc_proof_text.specs.Files.{seen_claim, seen_statement, hypotheses_reading, goal_reading, shown_reading, statement_reading, claim_reading, sections_reading, form_reading, file_reading, only};
 ghost use Rattle.lc_proof_text.specs.Proofs.{proof_reading};
 

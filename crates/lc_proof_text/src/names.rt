@@ -2,7 +2,7 @@ ghost use Rattle.std.specs.Prelude.{◌≡◌, Some, None, IfOk, codes, []};
 ghost use Rattle.lc_reading.specs.Parts.{tree_of, place_of};
 ghost use Rattle.lc_reading.specs.Results.{IsReading};
 ghost use Rattle.lc_reading.specs.TableView.{listed};
-ghost use Rattle.lc_proof_text.specs.Declared.{column_at, names_behind, declared_by, declared_of};
+ghost use Rattle.lc_proof_text.specs.FileNames.{column_at, names_behind, declared_by, declared_of};
 ghost use Rattle.lc_proof_text.specs.Files.{section_reading, declarations_reading};
 
 use lc_base::{ColId, OutOfMemory};
@@ -47,7 +47,7 @@ fn column_at(place: Option<u32>) -> ColumnUse
 }
 
 impl Scope for InClaim<'_, '_> {
-    ghost use Rattle.lc_proof_text.specs.Declared.{claim_names, declared_of};
+    ghost use Rattle.lc_proof_text.specs.FileNames.{claim_names, declared_of};
 
     ghost names = { λ scope. claim_names (declared_of scope.0.now) };
 
@@ -65,7 +65,7 @@ impl Scope for InClaim<'_, '_> {
 }
 
 impl Scope for InProof<'_, '_> {
-    ghost use Rattle.lc_proof_text.specs.Declared.{proof_names, declared_of};
+    ghost use Rattle.lc_proof_text.specs.FileNames.{proof_names, declared_of};
 
     ghost names = { λ scope. proof_names (declared_of scope.0.now) };
 

@@ -1,6 +1,7 @@
 -- Each file says one thing or has one first refusal, and never both.
 use Rattle.std.proofs.Common.{◌≡◌, ℕ, ◌⊎◌, inl, inr, List, Ok, Err, refl, sym, ap, ◌∙◌}
 use Rattle.std.specs.Prelude.{Result}
+use Rattle.std.specs.Result.{IsErrAnd}
 use Rattle.lc_base.specs.declared.refusal.Fault.{Fault}
 use Rattle.lc_base.specs.declared.refusal.Fault.TheVariants.{Refused, OutOfMemory}
 use Rattle.lc_base.specs.declared.refusal.Refusal.{Refusal}
@@ -19,16 +20,26 @@ use Rattle.lc_reading.specs.declared.flaw.ReadFault.{ReadFault}
 use Rattle.lc_reading.specs.declared.flaw.ReadFault.TheVariants.{Flawed, OutOfMemory as NoMore}
 
 -- a fault of the text
-pub text_fault : {T X : Type 0} (view : T → X) (read : Trees → Reading X) (bytes : List ℕ) (fault : Fault) → IsTextFault fault (IsFirstFault bytes) → IsAnswerTo {T = T} view read bytes (Err fault)
-text_fault view read bytes OutOfMemory h = tt
-text_fault view read bytes (Refused (R.Text offset)) h = inl (offset, refl, h)
-text_fault view read bytes (Refused _) h = absurd h
+text_told : {T X : Type 0} (view : T → X) (read : Trees → Reading X) (bytes : List ℕ) (fault : Fault) → IsTextFault fault (IsFirstFault bytes) → IsAnswerTo view read bytes (Err fault)
+text_told view read bytes OutOfMemory h = tt
+text_told view read bytes (Refused (R.Text offset)) h = inl (offset, refl, h)
+text_told view read bytes (Refused _) h = absurd h
+
+pub text_fault : {T X : Type 0} (view : T → X) (read : Trees → Reading X) (bytes : List ℕ) (fault : Fault) (result : Result T Fault) → IsTextFault fault (IsFirstFault bytes) → IsErrAnd result (λ f. f ≡ fault)
+    → IsAnswerTo view read bytes result
+text_fault view read bytes fault (Ok value) h told = absurd told
+text_fault view read bytes fault (Err f) h told = let same : f ≡ fault = told in rw same (text_told view read bytes fault h)
 
 -- a flaw of the trees
-pub trees_fault : {T X : Type 0} (view : T → X) (read : Trees → Reading X) (bytes : List ℕ) (ts : Trees) (fault : ReadFault) → ReadsAs bytes ts → IsReadFault (read ts) fault
+trees_told : {T X : Type 0} (view : T → X) (read : Trees → Reading X) (bytes : List ℕ) (ts : Trees) (fault : ReadFault) → ReadsAs bytes ts → IsReadFault (read ts) fault
     → IsAnswerTo view read bytes (Err (fault_of fault))
-trees_fault view read bytes ts (Flawed f) reads h = inr (ts, f, reads, h, refl)
-trees_fault view read bytes ts NoMore reads h = tt
+trees_told view read bytes ts (Flawed f) reads h = inr (ts, f, reads, h, refl)
+trees_told view read bytes ts NoMore reads h = tt
+
+pub trees_fault : {T X : Type 0} (view : T → X) (read : Trees → Reading X) (bytes : List ℕ) (ts : Trees) (fault : ReadFault) (result : Result T Fault) → ReadsAs bytes ts → IsReadFault (read ts) fault
+    → IsErrAnd result (λ f. f ≡ fault_of fault) → IsAnswerTo view read bytes result
+trees_fault view read bytes ts fault (Ok value) reads h told = absurd told
+trees_fault view read bytes ts fault (Err f) reads h told = let same : f ≡ fault_of fault = told in rw same (trees_told view read bytes ts fault reads h)
 
 of_trees : {X : Type 0} (read : Trees → Reading X) (bytes : List ℕ) (ts : Trees) → ReadsAs bytes ts → (r : Reading X) → read ts ≡ r → ((x : X) × Says read bytes x) ⊎ ((refusal : Refusal) × IsFirstRefusal read bytes refusal)
 of_trees read bytes ts reads (fine x) e = inl (x, (ts, reads, e))

@@ -6,3 +6,4 @@ pub mod Sections
 pub mod Places
 pub mod Noted
 pub mod Files
+pub mod Fine

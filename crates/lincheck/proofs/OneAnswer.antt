@@ -6,8 +6,8 @@ use Rattle.lc_base.specs.declared.refusal.Fault.TheVariants.{Refused, OutOfMemor
 use Rattle.lc_base.specs.declared.refusal.Refusal.{Refusal}
 use Rattle.lc_kernel.proofs.First.{fails_not_derives, fails_once}
 use Rattle.lc_kernel.proofs.Sound.{valid}
-use Rattle.lc_proof_text.proofs.Founded.{IsFounded, founded}
-use Rattle.lc_proof_text.proofs.ReadBelow.{FormulasIn, each_in}
+use Rattle.lc_proof_text.proofs.Founded.{below, IsFounded, founded}
+use Rattle.lc_text.proofs.Variables.{FormulasIn, each_in}
 use Rattle.lc_proof_text.specs.Files.{Claim, file_reading}
 use Rattle.lc_reading.proofs.Files.{says_not_refused, says_one, refused_once}
 use Rattle.lc_reading.specs.Files.{Says, IsFirstRefusal}
@@ -60,7 +60,7 @@ proved_is_true : (file : List ℕ) (claim : Claim) → Says file_reading file cl
 proved_is_true file claim (ts, reads, says) proves =
     let has : IsFounded claim (item_count_of_all ts) = founded ts claim says in
     valid claim.variables (parts claim.hypotheses) claim.goal claim.proof proves
-    (each_in claim.variables (parts claim.hypotheses) (subst (FormulasIn claim.variables) (sym (formulas_parts claim.hypotheses)) has.hypotheses))
+    (each_in (below claim.variables) (parts claim.hypotheses) (subst (FormulasIn (below claim.variables)) (sym (formulas_parts claim.hypotheses)) has.hypotheses))
     (has.goal 0)
 
 pub accepted_is_true : (file text : List ℕ) → AnswersFormula file text 0 → (claim : Claim) × Says file_reading file claim × IsTrueClaim claim

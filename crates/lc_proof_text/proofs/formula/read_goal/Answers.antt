@@ -2,7 +2,7 @@ use Rattle.std.proofs.Common.{[], codes}
 use Rattle.lc_term.specs.View.{formula_of}
 use Rattle.lc_text.specs.Formulas.{formula_reading}
 use Rattle.lc_proof_text.proofs.Behind.{behind_ok, behind_err}
-use Rattle.lc_proof_text.specs.Declared.{claim_names, declared_of}
+use Rattle.lc_proof_text.specs.FileNames.{claim_names, declared_of}
 use Rattle.lc_proof_text.specs.Files.{only}
 use Rattle.lc_proof_text.proofs.formula.read_goal.Goals as goal
 

@@ -2,7 +2,7 @@ use Rattle.std.proofs.Common.{[], codes}
 use Rattle.lc_text.specs.Formulas.{formulas_reading}
 use Rattle.lc_text.specs.Seen.{row_of}
 use Rattle.lc_proof_text.proofs.Behind.{behind_ok, behind_err}
-use Rattle.lc_proof_text.specs.Declared.{claim_names, declared_of}
+use Rattle.lc_proof_text.specs.FileNames.{claim_names, declared_of}
 use Rattle.lc_proof_text.proofs.formula.read_hypotheses.Goals as goal
 
 pub returns-in_err-list : goal.returns-in_err-list

@@ -1,6 +1,6 @@
 use Rattle.lc_term.specs.View.{formula_of}
 use Rattle.lc_text.specs.Formulas.{formula_reading}
-use Rattle.lc_proof_text.specs.Declared.{claim_names, declared_of}
+use Rattle.lc_proof_text.specs.FileNames.{claim_names, declared_of}
 use Rattle.std.proofs.Common.{[], refl}
 use Rattle.lc_sexp.specs.Shown.{owner_of}
 use Rattle.lc_reading.proofs.Combined.{one_part}

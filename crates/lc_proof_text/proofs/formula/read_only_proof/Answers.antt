@@ -1,5 +1,5 @@
 use Rattle.lc_kernel.specs.View.{proof_of}
-use Rattle.lc_proof_text.specs.Declared.{proof_names, declared_of}
+use Rattle.lc_proof_text.specs.FileNames.{proof_names, declared_of}
 use Rattle.lc_proof_text.specs.Proofs.{proof_reading}
 use Rattle.std.proofs.Common.{refl}
 use Rattle.lc_sexp.specs.Shown.{owner_of}

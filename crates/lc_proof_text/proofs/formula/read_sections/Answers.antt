@@ -1,5 +1,5 @@
 use Rattle.lc_reading.proofs.Combined.{ok_arm, err_arm}
-use Rattle.lc_proof_text.specs.Declared.{declared_of}
+use Rattle.lc_proof_text.specs.FileNames.{declared_of}
 use Rattle.lc_proof_text.specs.Files.{seen_claim}
 use Rattle.lc_proof_text.proofs.Sections.{sections_read}
 use Rattle.lc_proof_text.proofs.formula.read_sections.Goals as goal

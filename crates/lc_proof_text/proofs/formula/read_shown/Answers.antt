@@ -1,7 +1,7 @@
 use Rattle.std.proofs.Common.{codes}
 use Rattle.lc_kernel.specs.View.{proof_of}
 use Rattle.lc_proof_text.proofs.Behind.{behind_ok, behind_err}
-use Rattle.lc_proof_text.specs.Declared.{proof_names, declared_of}
+use Rattle.lc_proof_text.specs.FileNames.{proof_names, declared_of}
 use Rattle.lc_proof_text.specs.Files.{only}
 use Rattle.lc_proof_text.specs.Proofs.{proof_reading}
 use Rattle.lc_proof_text.proofs.formula.read_shown.Goals as goal

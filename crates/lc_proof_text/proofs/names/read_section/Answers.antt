@@ -1,22 +1,31 @@
-use Rattle.std.proofs.Common.{[], ◌++◌, sym, ap, ◌∙◌}
+use Rattle.std.proofs.Common.{◌≡◌, [], ◌++◌, Err, sym, ap, ◌∙◌}
 use Rattle.std.proofs.lemmas.Result.{IfOk-weaker}
-use Rattle.lc_sexp.specs.Shown.{rest_of}
+use Rattle.lc_sexp.specs.Shown.{rest_of, number_of}
 use Rattle.lc_reading.specs.Listed.{names_among}
 use Rattle.lc_reading.specs.Naming.{names_reading}
-use Rattle.lc_reading.specs.Parts.{tree_of}
+use Rattle.lc_reading.specs.Parts.{tree_of, place_of}
+use Rattle.lc_reading.specs.Results.{IsReading}
+use Rattle.lc_reading.specs.TableView.{listed}
 use Rattle.lc_proof_text.proofs.Behind.{behind_ok, behind_err, names_behind-is, names_behind-other}
+use Rattle.lc_proof_text.specs.FileNames.{names_behind}
+use Rattle.lc_proof_text.specs.Files.{section_reading}
 use Rattle.lc_proof_text.proofs.names.read_section.Goals as goal
 
 pub returns-in-Ok-clause-names : goal.returns-in-Ok-clause-names
 returns-in-Ok-clause-names c =
-    IfOk-weaker c.read_names.result _ _
-    (λ r h. h ∙ ap (λ vs. vs ++ names_among (rest_of c.in-Ok.list)) c.new-names.ensures ∙ sym (names_behind-is c.args.word.now c.args.part c.in-Ok.list c.in-Ok.ensures))
+    let word = c.args.word.now in
+    let left = c.in-Ok.list in
+    IfOk-weaker c.read_names.result (λ r. listed r.0 ≡ listed c.new-names.result ++ names_among (rest_of left)) (λ r. listed r.0 ≡ names_behind word (tree_of c.args.part))
+    (λ r h. h ∙ ap (λ vs. vs ++ names_among (rest_of left)) c.new-names.ensures ∙ sym (names_behind-is word c.args.part left c.in-Ok.ensures))
     c.read_names.ensures.names
 
 pub returns-in-Ok-clause-wrong : goal.returns-in-Ok-clause-wrong
 returns-in-Ok-clause-wrong c =
-    IfOk-weaker c.read_names.result _ _
-    (λ r h. behind_ok (λ u. u) c.args.word.now (λ n m ts. names_reading c.args.limit [] m ts) c.args.part c.in-Ok.list r.1 c.in-Ok.ensures (rw c.new-names.ensures at h))
+    let word = c.args.word.now in
+    let left = c.in-Ok.list in
+    IfOk-weaker c.read_names.result (λ r. IsReading (λ (u : Unit {0}). u) (names_reading c.args.limit (listed c.new-names.result) (number_of left) (rest_of left)) r.1)
+    (λ r. IsReading (λ (u : Unit {0}). u) (section_reading word c.args.limit (place_of c.args.part) (tree_of c.args.part)) r.1)
+    (λ r h. behind_ok (λ (u : Unit {0}). u) word (λ n m ts. names_reading c.args.limit [] m ts) c.args.part left r.1 c.in-Ok.ensures (rw c.new-names.ensures at h))
     c.read_names.ensures.wrong
 
 pub returns-in-Err-clause-names : goal.returns-in-Err-clause-names
@@ -24,4 +33,4 @@ returns-in-Err-clause-names c = c.new-names.ensures ∙ sym (names_behind-other 
 
 pub returns-in-Err-clause-wrong : goal.returns-in-Err-clause-wrong
 returns-in-Err-clause-wrong c =
-    behind_err (λ u. u) c.args.word.now (λ n m ts. names_reading c.args.limit [] m ts) c.args.part c.in-Err.misfit _ c.in-Err.ensures c.from.ensures
+    behind_err (λ (u : Unit {0}). u) c.args.word.now (λ n m ts. names_reading c.args.limit [] m ts) c.args.part c.in-Err.misfit (Err c.from.result) c.in-Err.ensures c.from.ensures

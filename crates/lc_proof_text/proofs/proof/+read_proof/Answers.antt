@@ -1,13 +1,16 @@
-use Rattle.std.proofs.Common.{◌≡◌, ℕ, ◌+◌, zero, false, refl, rules, sym, ap, ◌∙◌, arith}
+use Rattle.std.proofs.Common.{◌≡◌, ℕ, ◌+◌, zero, false, refl, rules, sym, ap, ap₂, ◌∙◌, arith}
 use Rattle.std.specs.Prelude.{Result, Vec}
+use Rattle.std.specs.Result.{IsErrAnd}
 use Rattle.std.specs.declared.alloc.Global.{Global}
 use Rattle.lc_sexp.specs.Trees.{Tree, Trees, ◌▸◌, item_count, item_count_of_all}
 use Rattle.lc_sexp.specs.Shown.{rest_of, number_of, owner_of}
 use Rattle.lc_sexp.specs.declared.cursor.Cursor.{Cursor}
+use Rattle.lc_sexp.specs.declared.misfit.Misfit.{Misfit}
+use Rattle.lc_sexp.specs.declared.misfit.Misfit.TheVariants.{Shape as Misshapen}
 use Rattle.lc_term.specs.Names.{Names}
 use Rattle.lc_kernel.specs.Proofs as S
 use Rattle.lc_kernel.specs.Proofs.{more}
-use Rattle.lc_proof_text.specs.Own.{branches_of}
+use Rattle.lc_proof_text.specs.Own.{branches_of, IsShort}
 use Rattle.lc_kernel.specs.View.{step_of, proof_of}
 use Rattle.lc_kernel.specs.declared.proof.Step.{Step}
 use Rattle.lc_kernel.specs.declared.proof.Proof.{Proof as SeenProof, the_lemmas}
@@ -16,14 +19,18 @@ use Rattle.lc_reading.specs.declared.flaw.ReadFault.{ReadFault}
 use Rattle.lc_proof_text.specs.declared.head.Head.{Head}
 use Rattle.lc_reading.specs.declared.part.Part.{Part}
 use Rattle.lc_reading.specs.Parts.{IsBehind, tree_of, place_of}
-use Rattle.lc_reading.specs.Readings.{both}
+use Rattle.lc_reading.specs.Flaws.{misfit_flaw}
+use Rattle.lc_reading.specs.Readings.{both, wrong}
+use Rattle.lc_reading.specs.declared.flaw.ReadFault.TheVariants.{Flawed}
+use Rattle.lc_reading.specs.declared.pass.Pass.TheVariants.{Shape}
 use Rattle.lc_reading.proofs.Combined.{both_read, ok_arm, err_arm, headed_at}
 use Rattle.lc_reading.proofs.SoFar.{so_far_push}
 use Rattle.lc_proof_text.specs.Heads.{later, is_full, own_parts, proofs_due}
 use Rattle.lc_proof_text.specs.Proofs.{proof_reading, proofs_reading, with_proofs}
 use Rattle.lc_proof_text.specs.Steps.{step_reading}
 use Rattle.lc_proof_text.specs.declared.head.Due.{Due}
-use Rattle.lc_proof_text.proofs.Left.{left_proofs}
+use Rattle.lc_proof_text.proofs.Behind.{misfit_at}
+use Rattle.lc_proof_text.proofs.Left.{left_proofs, short_proofs}
 use Rattle.lc_proof_text.proofs.Proofs.{proofs_end, proofs_wrong}
 use Rattle.lc_proof_text.proofs.proof.+read_proof.Goals as goal
 
@@ -92,6 +99,17 @@ steps : (names : Names) (h : Head) (l rest : Cursor) (a : Result Step ReadFault)
     → IsReading (λ (p : Step × Vec SeenProof Global). S.proof (step_of p.0) (branches_of p.1)) (with_proofs names h (owner_of l) (number_of l) (rest_of l)) c
 steps names h l rest a b c own due proofs together =
     steps_at names h (owner_of l) (number_of l) (number_of rest) (rest_of l) (rest_of rest) a b c own due proofs together
+
+-- a step that lacks parts
+short_step : (names : Names) (h : Head) (n m : ℕ) (ts : Trees) (misfit : Misfit) (result : Result SeenProof ReadFault)
+    → (misfit ≡ Misshapen n) × (step_reading names h n m ts ≡ wrong Shape n) × IsShort (own_parts h) ts → IsErrAnd result (λ fault. fault ≡ Flawed (misfit_flaw misfit))
+    → IsReading proof_of (with_proofs names h n m ts) result
+short_step names h n m ts misfit result (is, own, short) told =
+    misfit_at proof_of n (with_proofs names h n m ts) misfit result (ap₂ (both S.proof) own (short_proofs names n (own_parts h) (proofs_due h) m ts short)) is told
+
+pub read_step-returns-in_err-step : goal.read_step-returns-in_err-step
+read_step-returns-in_err-step g t c =
+    short_step (g.S.Scope.names c.args.scope.now) c.args.head (owner_of c.args.list) (number_of c.args.list) (rest_of c.args.list) _ c.from_residual.result c.in_err-step.ensures c.from_residual.ensures.1
 
 pub read_step-returns-in_err-step-2 : goal.read_step-returns-in_err-step-2
 read_step-returns-in_err-step-2 g t c =
