@@ -1,8 +1,9 @@
 -- What a formula file says is of the variables that it declares, and it has no more of them, with the steps of its proof, than items.
-use Rattle.std.proofs.Common.{◌≡◌, ℕ, zero, suc, ◌+◌, ◌≤◌, ◌<◌, Bool, true, false, cond, List, [], ◌∷◌, ◌++◌, length, Option, Some, None, refl, ap, subst, arith, IfSome, length-append}
+use Rattle.std.proofs.Common.{◌≡◌, ℕ, zero, suc, ◌+◌, ◌≤◌, ◌<◌, Bool, true, false, cond, List, [], ◌∷◌, ◌++◌, length, Option, Some, None, refl, sym, ap, subst, arith, IfSome, length-append}
 use Rattle.std.proofs.lemmas.Bool.Decides.{nat_tests}
 use Rattle.std.specs.Prelude.{option_map, codes, nat_lt, IsTrue, Ok, Err, IfOk}
 use Rattle.lc_sexp.specs.Trees.{Tree, Trees, atom, list, none, ◌▸◌, item_count, item_count_of_all}
+use Rattle.lc_kernel.specs.Below.{all_below}
 use Rattle.lc_kernel.specs.Proofs as S
 use Rattle.lc_kernel.specs.Proofs.{size, size_of_all, proof, more}
 use Rattle.lc_reading.specs.Listed.{names_among, declared_by as declared_at, place_of}
@@ -10,11 +11,11 @@ use Rattle.lc_reading.specs.Readings.{Reading, fine, wrong, both, ended, behind_
 use Rattle.lc_reading.specs.Words.{is}
 use Rattle.lc_reading.specs.declared.pass.Pass.TheVariants.{Shape}
 use Rattle.lc_term.specs.Names.{Names}
-use Rattle.lc_term.specs.Syntax.{Formula, Formulas}
+use Rattle.lc_term.specs.Syntax.{Formula, Formulas, formulas, parts, none as no_formulas, more as more_formulas}
 use Rattle.lc_text.specs.Formulas.{formula_reading, formulas_reading}
 use Rattle.lc_text.specs.Terms.{pair}
 use Rattle.lc_reading.proofs.Fine.{IfFine, anything, weaker, cond_fine, mapped_fine, both_fine, ended_fine, behind_fine, of_fine}
-use Rattle.lc_text.proofs.Variables.{NamesIn, FormulaIn, FormulasIn, formula_in, formulas_in}
+use Rattle.lc_text.proofs.Variables.{NamesIn, FormulaIn, FormulasIn, formula_in, formulas_in, each_in}
 use Rattle.lc_proof_text.specs.FileNames.{Declared, names_behind, declared_by, claim_names, proof_names}
 use Rattle.lc_proof_text.specs.Files.{Claim, claim_of, only, declarations_reading, hypotheses_reading, goal_reading, shown_reading, statement_reading, claim_reading, sections_reading, form_reading, file_reading}
 use Rattle.lc_proof_text.specs.Heads.{head_of, own_parts, proofs_due, later, is_met, is_full}
@@ -170,3 +171,12 @@ file_founded ts =
 
 pub founded : (ts : Trees) (claim : Claim) → file_reading ts ≡ fine claim → IsFounded claim (item_count_of_all ts)
 founded ts claim e = of_fine (λ c. IsFounded c (item_count_of_all ts)) (file_reading ts) claim (file_founded ts) e
+
+formulas_parts : (fs : Formulas) → formulas (parts fs) ≡ fs
+formulas_parts no_formulas = refl
+formulas_parts (more_formulas f fs) = ap (more_formulas f) (formulas_parts fs)
+
+-- the hypotheses speak of the variables that there are
+pub founded_hypotheses : (claim : Claim) (items : ℕ) → IsFounded claim items → all_below claim.variables (parts claim.hypotheses) ≡ true
+founded_hypotheses claim items h =
+    each_in (below claim.variables) (parts claim.hypotheses) (subst (FormulasIn (below claim.variables)) (sym (formulas_parts claim.hypotheses)) h.hypotheses)

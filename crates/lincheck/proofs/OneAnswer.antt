@@ -6,13 +6,12 @@ use Rattle.lc_base.specs.declared.refusal.Fault.TheVariants.{Refused, OutOfMemor
 use Rattle.lc_base.specs.declared.refusal.Refusal.{Refusal}
 use Rattle.lc_kernel.proofs.First.{fails_not_derives, fails_once}
 use Rattle.lc_kernel.proofs.Sound.{valid}
-use Rattle.lc_proof_text.proofs.Founded.{below, IsFounded, founded}
-use Rattle.lc_text.proofs.Variables.{FormulasIn, each_in}
+use Rattle.lc_proof_text.proofs.Founded.{IsFounded, founded, founded_hypotheses}
 use Rattle.lc_proof_text.specs.Files.{Claim, file_reading}
 use Rattle.lc_reading.proofs.Files.{says_not_refused, says_one, refused_once}
 use Rattle.lc_reading.specs.Files.{Says, IsFirstRefusal}
 use Rattle.lc_sexp.specs.Trees.{item_count_of_all}
-use Rattle.lc_term.specs.Syntax.{Formulas, none, more, formulas, parts}
+use Rattle.lc_term.specs.Syntax.{parts}
 use Rattle.lincheck.specs.Answers.{Told}
 use Rattle.lincheck.specs.Formula.{IsProved, IsTrueClaim, FailsAt, IsProofRefusal, refusal_at, AnswersFormula}
 
@@ -51,16 +50,12 @@ one_answer file text text' status status' (Err (Refused r), verdict, told) (Err 
 one_answer file text text' status status' (Err (Refused r), verdict, told) (Err OutOfMemory, verdict', told') = absurd told'
 one_answer file text text' status status' (Err OutOfMemory, verdict, told) (verdict', is, told') = absurd told
 
-formulas_parts : (fs : Formulas) → formulas (parts fs) ≡ fs
-formulas_parts none = refl
-formulas_parts (more f fs) = ap (more f) (formulas_parts fs)
-
 -- a claim that is read, and whose proof derives it, is true
 proved_is_true : (file : List ℕ) (claim : Claim) → Says file_reading file claim → IsProved claim → IsTrueClaim claim
 proved_is_true file claim (ts, reads, says) proves =
     let has : IsFounded claim (item_count_of_all ts) = founded ts claim says in
     valid claim.variables (parts claim.hypotheses) claim.goal claim.proof proves
-    (each_in (below claim.variables) (parts claim.hypotheses) (subst (FormulasIn (below claim.variables)) (sym (formulas_parts claim.hypotheses)) has.hypotheses))
+    (founded_hypotheses claim (item_count_of_all ts) has)
     (has.goal 0)
 
 pub accepted_is_true : (file text : List ℕ) → AnswersFormula file text 0 → (claim : Claim) × Says file_reading file claim × IsTrueClaim claim
