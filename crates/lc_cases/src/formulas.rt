@@ -1,5 +1,6 @@
 use lc_base::{Fault, Refusal};
-use lc_kernel::{ProofFault, formula_of, prove};
+use lc_kernel::{ProofFault, prove};
+use lc_proof_text::formula_of;
 use std::alloc::Global;
 use std::io;
 

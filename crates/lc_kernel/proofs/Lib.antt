@@ -12,12 +12,3 @@ pub mod Grows
 pub mod First
 pub mod Branches
 pub mod Checked
-pub mod ProofWalk
-pub mod ProofParts
-pub mod ProofBranches
-pub mod SoundProofs
-pub mod FormulaSections
-pub mod ReadBelow
-pub mod FormulaWalk
-pub mod FormulaReads
-pub mod FormulaAnswers

@@ -1,5 +1,6 @@
 //! The answers of steps and the refusals of files are cases of the program `lc_cases`.
-use lc_kernel::{Multiple, Proof, ProofFault, Reason, Step, formula_of, laws, text_laws};
+use lc_kernel::{Multiple, Proof, ProofFault, Reason, Step, laws};
+use lc_proof_text::{formula_of, laws as text_laws};
 use std::alloc::Global;
 use std::test::Fail;
 
@@ -46,6 +47,7 @@ fn laws_have_no_effect() {
     laws::branches_have_proofs();
     laws::a_proof_derives_or_fails();
     laws::a_proof_has_one_first_flaw();
+    text_laws::a_file_is_read_or_refused();
 }
 
 #[test]

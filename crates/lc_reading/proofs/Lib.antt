@@ -5,3 +5,5 @@ pub mod SoFar
 pub mod Sections
 pub mod Places
 pub mod Noted
+pub mod Files
+pub mod Fine

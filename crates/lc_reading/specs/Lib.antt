@@ -9,3 +9,4 @@ pub mod Rows
 pub mod Listed
 pub mod TableView
 pub mod Naming
+pub mod Files

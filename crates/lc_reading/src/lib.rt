@@ -7,6 +7,7 @@ mod lists;
 mod names;
 mod part;
 mod pass;
+mod refusal;
 mod reserved;
 mod rows;
 mod table;

@@ -5,13 +5,13 @@ use Rattle.lc_base.specs.declared.refusal.Fault.{Fault}
 use Rattle.lc_base.specs.declared.refusal.Fault.TheVariants.{Refused, OutOfMemory}
 use Rattle.lc_base.specs.declared.refusal.Refusal.{Refusal}
 use Rattle.lc_kernel.proofs.First.{fails_not_derives, fails_once}
-use Rattle.lc_kernel.proofs.FormulaAnswers.{said_not_refused, one_claim, one_refusal}
-use Rattle.lc_kernel.proofs.FormulaReads.{IsFounded, founded}
-use Rattle.lc_kernel.proofs.ReadBelow.{FormulasIn, each_in}
 use Rattle.lc_kernel.proofs.Sound.{valid}
-use Rattle.lc_kernel.specs.FormulaReading.{Claim, Says, IsFirstRefusal}
+use Rattle.lc_proof_text.proofs.Founded.{IsFounded, founded, founded_hypotheses}
+use Rattle.lc_proof_text.specs.Files.{Claim, file_reading}
+use Rattle.lc_reading.proofs.Files.{says_not_refused, says_one, refused_once}
+use Rattle.lc_reading.specs.Files.{Says, IsFirstRefusal}
 use Rattle.lc_sexp.specs.Trees.{item_count_of_all}
-use Rattle.lc_term.specs.Syntax.{Formulas, none, more, formulas, parts}
+use Rattle.lc_term.specs.Syntax.{parts}
 use Rattle.lincheck.specs.Answers.{Told}
 use Rattle.lincheck.specs.Formula.{IsProved, IsTrueClaim, FailsAt, IsProofRefusal, refusal_at, AnswersFormula}
 
@@ -24,20 +24,20 @@ told_once word (Err OutOfMemory) text text' status status' h g = absurd h
 
 one_flaw : (file : List ℕ) (r s : Refusal) → IsProofRefusal file r → IsProofRefusal file s → r ≡ s
 one_flaw file r s (claim, step, flaw, says, fails, is) (claim', step', flaw', says', fails', is') =
-    let same : claim' ≡ claim = one_claim file claim' claim says' says in
+    let same : claim' ≡ claim = says_one file_reading file claim' claim says' says in
     let once = fails_once fails (subst (λ (c : Claim). FailsAt c step' flaw') same fails') in
     is ∙ ap₂ refusal_at once.0 once.1 ∙ sym is'
 
-one_told : (file : List ℕ) (r s : Refusal) → IsFirstRefusal file r ⊎ IsProofRefusal file r → IsFirstRefusal file s ⊎ IsProofRefusal file s → r ≡ s
-one_told file r s (inl h) (inl g) = one_refusal file r s h g
-one_told file r s (inl h) (inr (claim, step, flaw, says, fails, is)) = absurd (said_not_refused file claim r says h)
-one_told file r s (inr (claim, step, flaw, says, fails, is)) (inl g) = absurd (said_not_refused file claim s says g)
+one_told : (file : List ℕ) (r s : Refusal) → IsFirstRefusal file_reading file r ⊎ IsProofRefusal file r → IsFirstRefusal file_reading file s ⊎ IsProofRefusal file s → r ≡ s
+one_told file r s (inl h) (inl g) = refused_once file_reading file r s h g
+one_told file r s (inl h) (inr (claim, step, flaw, says, fails, is)) = absurd (says_not_refused file_reading file claim r says h)
+one_told file r s (inr (claim, step, flaw, says, fails, is)) (inl g) = absurd (says_not_refused file_reading file claim s says g)
 one_told file r s (inr h) (inr g) = one_flaw file r s h g
 
-proved_or_refused : (file : List ℕ) (refusal : Refusal) (claim : Claim) → Says file claim → IsProved claim → IsFirstRefusal file refusal ⊎ IsProofRefusal file refusal → ⊥
-proved_or_refused file refusal claim says proves (inl h) = said_not_refused file claim refusal says h
+proved_or_refused : (file : List ℕ) (refusal : Refusal) (claim : Claim) → Says file_reading file claim → IsProved claim → IsFirstRefusal file_reading file refusal ⊎ IsProofRefusal file refusal → ⊥
+proved_or_refused file refusal claim says proves (inl h) = says_not_refused file_reading file claim refusal says h
 proved_or_refused file refusal claim says proves (inr (claim', step, flaw, says', fails, is)) =
-    fails_not_derives (subst (λ (c : Claim). FailsAt c step flaw) (one_claim file claim' claim says' says) fails) proves
+    fails_not_derives (subst (λ (c : Claim). FailsAt c step flaw) (says_one file_reading file claim' claim says' says) fails) proves
 
 pub one_answer : (file text text' : List ℕ) (status status' : ℕ) → AnswersFormula file text status → AnswersFormula file text' status' → (text ≡ text') × (status ≡ status')
 one_answer file text text' status status' (Ok u, verdict, told) (Ok v, verdict', told') = (told.0 ∙ sym told'.0, told.1 ∙ sym told'.1)
@@ -50,19 +50,15 @@ one_answer file text text' status status' (Err (Refused r), verdict, told) (Err 
 one_answer file text text' status status' (Err (Refused r), verdict, told) (Err OutOfMemory, verdict', told') = absurd told'
 one_answer file text text' status status' (Err OutOfMemory, verdict, told) (verdict', is, told') = absurd told
 
-formulas_parts : (fs : Formulas) → formulas (parts fs) ≡ fs
-formulas_parts none = refl
-formulas_parts (more f fs) = ap (more f) (formulas_parts fs)
-
 -- a claim that is read, and whose proof derives it, is true
-proved_is_true : (file : List ℕ) (claim : Claim) → Says file claim → IsProved claim → IsTrueClaim claim
-proved_is_true file claim (ts, reads, clean, says) proves =
+proved_is_true : (file : List ℕ) (claim : Claim) → Says file_reading file claim → IsProved claim → IsTrueClaim claim
+proved_is_true file claim (ts, reads, says) proves =
     let has : IsFounded claim (item_count_of_all ts) = founded ts claim says in
     valid claim.variables (parts claim.hypotheses) claim.goal claim.proof proves
-    (each_in claim.variables (parts claim.hypotheses) (subst (FormulasIn claim.variables) (sym (formulas_parts claim.hypotheses)) has.hypotheses))
+    (founded_hypotheses claim (item_count_of_all ts) has)
     (has.goal 0)
 
-pub accepted_is_true : (file text : List ℕ) → AnswersFormula file text 0 → (claim : Claim) × Says file claim × IsTrueClaim claim
+pub accepted_is_true : (file text : List ℕ) → AnswersFormula file text 0 → (claim : Claim) × Says file_reading file claim × IsTrueClaim claim
 accepted_is_true file text (Ok u, (claim, says, proves), told) = (claim, says, proved_is_true file claim says proves)
 accepted_is_true file text (Err (Refused r), verdict, told) = absurd (let e : 0 ≡ 1 = told.1 in cc)
 accepted_is_true file text (Err OutOfMemory, verdict, told) = absurd told

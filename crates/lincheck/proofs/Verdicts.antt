@@ -3,17 +3,17 @@ use Rattle.std.proofs.Common.{◌≡◌, ℕ, List, codes, Option, Some, None, I
 use Rattle.lc_base.specs.declared.refusal.Fault.{Fault}
 use Rattle.lc_base.specs.declared.refusal.Fault.TheVariants.{Refused, OutOfMemory}
 use Rattle.lc_base.specs.declared.refusal.Refusal.{Refusal}
-use Rattle.lc_base.specs.declared.refusal.Refusal.TheVariants.{Text, Shape, Unknown, Repeated, Auxiliary, Bound, CertText, CertShape, Missing, Extra, Proof, Large, HistoryShape, Order}
 use Rattle.lc_kernel.proofs.Views.{parts_formulas}
 use Rattle.lc_kernel.specs.Answers.{Proves}
 use Rattle.lc_kernel.specs.Derivation.{DerivesGoal, FailsGoal}
-use Rattle.lc_kernel.specs.FormulaReading.{Claim, Says, IsFirstRefusal, IsAnswerTo, seen_claim}
 use Rattle.lc_kernel.specs.View.{proof_of}
 use Rattle.lc_kernel.specs.declared.fault.ProofFault.{ProofFault}
 use Rattle.lc_kernel.specs.declared.fault.ProofFault.TheVariants.{Bad, Large as TooLarge, OutOfMemory as NoMore}
 use Rattle.lc_kernel.specs.declared.goal.Goal.{Goal}
 use Rattle.lc_kernel.specs.declared.proof.Proof.{Proof as SeenProof}
 use Rattle.lc_kernel.specs.declared.reason.Flaw.TheVariants.{Bad as BadFlaw, Large as LargeFlaw}
+use Rattle.lc_proof_text.specs.Files.{Claim, seen_claim, file_reading}
+use Rattle.lc_reading.specs.Files.{Says, IsFirstRefusal, IsAnswerTo}
 use Rattle.lc_term.specs.Syntax as T
 use Rattle.lc_term.specs.View.{formula_of, formulas_of}
 use Rattle.lincheck.specs.Answers.{Told}
@@ -29,12 +29,12 @@ listed : (P : List T.Formula → Type 0) (fs : List T.Formula) → P fs → P (T
 listed P fs h = subst P (sym (parts_formulas fs)) h
 
 -- a proof that derives its goal makes the verdict
-pub proved : (bytes : List ℕ) (a : Goal × SeenProof) (u : Unit {0}) → Says bytes (seen_claim a) → Answered a (Ok u) → IsVerdict bytes (Ok u)
+pub proved : (bytes : List ℕ) (a : Goal × SeenProof) (u : Unit {0}) → Says file_reading bytes (seen_claim a) → Answered a (Ok u) → IsVerdict bytes (Ok u)
 proved bytes a u says derives =
     (seen_claim a, says, listed (λ H. DerivesGoal a.0.vars H (formula_of a.0.goal) (proof_of a.1)) (formulas_of a.0.hypotheses.items) derives)
 
 -- a proof that was not found to hold makes the verdict a refusal
-pub not_proved : (bytes : List ℕ) (a : Goal × SeenProof) (fault : ProofFault) → Says bytes (seen_claim a) → Answered a (Err fault)
+pub not_proved : (bytes : List ℕ) (a : Goal × SeenProof) (fault : ProofFault) → Says file_reading bytes (seen_claim a) → Answered a (Err fault)
     → IsVerdict bytes (Err (fault_of fault))
 not_proved bytes a (Bad step reason) says fails =
     inr (seen_claim a, step, BadFlaw reason, says, listed (λ H. FailsGoal a.0.vars H (formula_of a.0.goal) (proof_of a.1) step (BadFlaw reason)) (formulas_of a.0.hypotheses.items) fails, refl)
@@ -43,28 +43,16 @@ not_proved bytes a (TooLarge step) says fails =
 not_proved bytes a NoMore says fails = tt
 
 -- a fault of the file is its verdict
-pub not_read : (bytes : List ℕ) (fault : Fault) → IsAnswerTo bytes (Err fault) → IsVerdict bytes (Err fault)
+pub not_read : (bytes : List ℕ) (fault : Fault) → IsAnswerTo seen_claim file_reading bytes (Err fault) → IsVerdict bytes (Err fault)
 not_read bytes (Refused refusal) first = inl first
 not_read bytes OutOfMemory h = tt
 
-said_of_whole : (file : List ℕ) (claim : Claim) → Says (within_limit file) claim → Says file claim
-said_of_whole file claim says = (says.0, reading_of_whole 16777217 file says.0 refl says.1, says.2, says.3)
+said_of_whole : (file : List ℕ) (claim : Claim) → Says file_reading (within_limit file) claim → Says file_reading file claim
+said_of_whole file claim says = (says.0, reading_of_whole 16777217 file says.0 refl says.1, says.2)
 
-refusal_of_whole : (file : List ℕ) (refusal : Refusal) → IsFirstRefusal (within_limit file) refusal → IsFirstRefusal file refusal
-refusal_of_whole file (Text offset) first = fault_of_whole 16777217 file offset refl first
-refusal_of_whole file (Shape n) first = (first.0, reading_of_whole 16777217 file first.0 refl first.1, first.2)
-refusal_of_whole file (Unknown n) first = (first.0, reading_of_whole 16777217 file first.0 refl first.1, first.2)
-refusal_of_whole file (Repeated n) first = (first.0, reading_of_whole 16777217 file first.0 refl first.1, first.2)
-refusal_of_whole file (Auxiliary n) first = (first.0, reading_of_whole 16777217 file first.0 refl first.1, first.2)
-refusal_of_whole file (Bound n) first = (first.0, reading_of_whole 16777217 file first.0 refl first.1, first.2)
-refusal_of_whole file (CertText n) first = (first.0, reading_of_whole 16777217 file first.0 refl first.1, first.2)
-refusal_of_whole file (CertShape n) first = (first.0, reading_of_whole 16777217 file first.0 refl first.1, first.2)
-refusal_of_whole file (Missing n) first = (first.0, reading_of_whole 16777217 file first.0 refl first.1, first.2)
-refusal_of_whole file (Extra n) first = (first.0, reading_of_whole 16777217 file first.0 refl first.1, first.2)
-refusal_of_whole file (Proof k n r) first = (first.0, reading_of_whole 16777217 file first.0 refl first.1, first.2)
-refusal_of_whole file (Large k n) first = (first.0, reading_of_whole 16777217 file first.0 refl first.1, first.2)
-refusal_of_whole file (HistoryShape n) first = (first.0, reading_of_whole 16777217 file first.0 refl first.1, first.2)
-refusal_of_whole file (Order k r) first = (first.0, reading_of_whole 16777217 file first.0 refl first.1, first.2)
+refusal_of_whole : (file : List ℕ) (refusal : Refusal) → IsFirstRefusal file_reading (within_limit file) refusal → IsFirstRefusal file_reading file refusal
+refusal_of_whole file refusal (inl (offset, is, fault)) = inl (offset, is, fault_of_whole 16777217 file offset refl fault)
+refusal_of_whole file refusal (inr (ts, flaw, reads, refused, is)) = inr (ts, flaw, reading_of_whole 16777217 file ts refl reads, refused, is)
 
 -- the verdict on what is read of a file is the verdict on the file
 pub verdict_of_whole : (file : List ℕ) (verdict : Result (Unit {0}) Fault) → IsVerdict (within_limit file) verdict → IsVerdict file verdict

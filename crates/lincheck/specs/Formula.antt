@@ -5,12 +5,13 @@ use Rattle.lc_base.specs.declared.refusal.Fault.TheVariants.{Refused, OutOfMemor
 use Rattle.lc_base.specs.declared.refusal.Refusal.{Refusal}
 use Rattle.lc_base.specs.declared.refusal.Refusal.TheVariants.{Proof, Large}
 use Rattle.lc_kernel.specs.Derivation.{DerivesGoal, FailsGoal}
-use Rattle.lc_kernel.specs.FormulaReading.{Claim, Says, IsFirstRefusal}
 use Rattle.lc_kernel.specs.Reasons.{code_of}
 use Rattle.lc_kernel.specs.declared.fault.ProofFault.{ProofFault}
 use Rattle.lc_kernel.specs.declared.fault.ProofFault.TheVariants.{Bad as NotHolding, Large as TooLarge, OutOfMemory as NoMore}
 use Rattle.lc_kernel.specs.declared.reason.Flaw.{Flaw}
 use Rattle.lc_kernel.specs.declared.reason.Flaw.TheVariants.{Bad, Large as LargeFlaw}
+use Rattle.lc_proof_text.specs.Files.{Claim, file_reading}
+use Rattle.lc_reading.specs.Files.{Says, IsFirstRefusal}
 use Rattle.lc_term.specs.Meaning.{Valid}
 use Rattle.lc_term.specs.Syntax.{parts}
 use Rattle.lincheck.specs.Answers.{Told}
@@ -40,12 +41,12 @@ fault_of NoMore = OutOfMemory
 
 -- the refusal tells the first step that does not hold of the proof that the file gives
 abbrev pub IsProofRefusal : List ℕ → Refusal → Type 0
-IsProofRefusal bytes refusal = (claim : Claim) × (step : ℕ) × (flaw : Flaw) × Says bytes claim × FailsAt claim step flaw × (refusal ≡ refusal_at step flaw)
+IsProofRefusal bytes refusal = (claim : Claim) × (step : ℕ) × (flaw : Flaw) × Says file_reading bytes claim × FailsAt claim step flaw × (refusal ≡ refusal_at step flaw)
 
 -- The verdict on a formula file: its proof derives what it claims; or the first refusal of the file, or of its proof
 abbrev pub IsVerdict : List ℕ → Result (Unit {0}) Fault → Type 0
-IsVerdict bytes (Ok u) = (claim : Claim) × Says bytes claim × IsProved claim
-IsVerdict bytes (Err (Refused refusal)) = IsFirstRefusal bytes refusal ⊎ IsProofRefusal bytes refusal
+IsVerdict bytes (Ok u) = (claim : Claim) × Says file_reading bytes claim × IsProved claim
+IsVerdict bytes (Err (Refused refusal)) = IsFirstRefusal file_reading bytes refusal ⊎ IsProofRefusal bytes refusal
 IsVerdict bytes (Err OutOfMemory) = Unit {0}
 
 -- The answer to a formula file: its verdict, told by the line `proved` or by the line of the refusal

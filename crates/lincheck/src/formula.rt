@@ -6,7 +6,8 @@ use crate::answer::{Answer, Failure, told};
 use crate::files::Files;
 use crate::reading::read_file;
 use lc_base::{Fault, Refusal};
-use lc_kernel::{ProofFault, formula_of, prove};
+use lc_kernel::{ProofFault, prove};
+use lc_proof_text::formula_of;
 use std::alloc::Global;
 
 /// The number of the only condition that a formula file has.

@@ -1,0 +1,33 @@
+-- What is left behind a step's own parts.
+use Rattle.std.proofs.Common.{◌≡◌, ℕ, ◌+◌, ◌≤◌, zero, suc, refl, sym, ap, ◌∙◌, arith}
+use Rattle.lc_sexp.specs.Trees.{Tree, Trees, none, ◌▸◌, item_count, item_count_of_all}
+use Rattle.lc_sexp.specs.Shown.{rest_of, number_of}
+use Rattle.lc_sexp.specs.declared.cursor.Cursor.{Cursor}
+use Rattle.lc_term.specs.Names.{Names}
+use Rattle.lc_kernel.specs.Proofs as S
+use Rattle.lc_reading.specs.Readings.{Reading, fine}
+use Rattle.lc_proof_text.specs.Own.{IsLeft, IsShort}
+use Rattle.lc_proof_text.specs.Proofs.{proofs_reading}
+use Rattle.lc_proof_text.specs.declared.head.Due.{Due}
+
+pub left_fewer : (k m : ℕ) (ts : Trees) (rest : Cursor) → IsLeft k m ts rest → item_count_of_all (rest_of rest) ≤ item_count_of_all ts
+left_fewer zero m ts rest (at, same) = let e = ap item_count_of_all same in omega (arith, e)
+left_fewer (suc k) m none rest h = absurd h
+left_fewer (suc k) m (t ▸ ts) rest h = let e = left_fewer k (m + item_count t) ts rest h in omega (arith, e)
+
+-- the same proofs
+proofs_same : (names : Names) (n : ℕ) (due : Due) (m k : ℕ) (ts us : Trees) → k ≡ m → us ≡ ts → proofs_reading names n zero due m ts ≡ proofs_reading names n zero due k us
+proofs_same names n due m k ts us at same = rw (at, same) refl
+
+-- the proofs stand behind them
+pub left_proofs : (names : Names) (n k : ℕ) (due : Due) (m : ℕ) (ts : Trees) (rest : Cursor) → IsLeft k m ts rest
+    → proofs_reading names n k due m ts ≡ proofs_reading names n zero due (number_of rest) (rest_of rest)
+left_proofs names n zero due m ts rest (at, same) = proofs_same names n due m (number_of rest) ts (rest_of rest) at same
+left_proofs names n (suc k) due m none rest h = absurd h
+left_proofs names n (suc k) due m (t ▸ ts) rest h = left_proofs names n k due (m + item_count t) ts rest h
+
+-- where own parts are missing, nothing is said of proofs
+pub short_proofs : (names : Names) (n k : ℕ) (due : Due) (m : ℕ) (ts : Trees) → IsShort k ts → proofs_reading names n k due m ts ≡ fine S.none
+short_proofs names n zero due m ts h = absurd h
+short_proofs names n (suc k) due m none h = refl
+short_proofs names n (suc k) due m (t ▸ ts) h = short_proofs names n k due (m + item_count t) ts h

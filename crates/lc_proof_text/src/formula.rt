@@ -1,0 +1,162 @@
+ghost use Rattle.std.specs.Prelude.{◌≡◌, ◌+◌, ◌<◌, ◌^◌, IfOk, IsTrue, []};
+ghost use Rattle.lc_sexp.specs.Shown.{rest_of, number_of, owner_of};
+ghost use Rattle.lc_term.specs.View.{formula_of, formulas_of};
+ghost use Rattle.lc_kernel.specs.Below.{all_below, formula_below};
+ghost use Rattle.lc_kernel.specs.Proofs.{size};
+ghost use Rattle.lc_kernel.specs.View.{proof_of};
+ghost use Rattle.lc_reading.specs.Files.{IsAnswerTo};
+ghost use Rattle.lc_reading.specs.Parts.{tree_of, place_of};
+ghost use Rattle.lc_reading.specs.Results.{IsReading};
+ghost use Rattle.lc_text.specs.Seen.{row_of};
+ghost use Rattle.lc_text.specs.Formulas.{formula_reading};
+ghost use Rattle.lc_proof_text.specs.FileNames.{declared_of, claim_names, proof_names};
+ghost use Rattle.lc_proof_text.specs.Files.{seen_claim, seen_statement, hypotheses_reading, goal_reading, shown_reading, statement_reading, claim_reading, sections_reading, form_reading, file_reading, only};
+ghost use Rattle.lc_proof_text.specs.Proofs.{proof_reading};
+
+use crate::names::{Declared, InClaim, InProof, read_declarations};
+use crate::proof::read_proof;
+use lc_base::Fault;
+use lc_kernel::{Goal, Proof};
+use lc_reading::{Part, ReadFault, behind_word, both, ended, next_part, one};
+use lc_sexp::{Cursor, Forms};
+use lc_term::Formula;
+use lc_text::{read_formula, read_formulas};
+use std::alloc::Global;
+
+/// `(hyps F*)`
+fn read_hypotheses(
+    alloc: Global,
+    declared: &Declared<'_>,
+    part: Part<'_>,
+) -> Result<Vec<Formula>, ReadFault>
+    ensures { IsReading row_of (hypotheses_reading (declared_of declared.now) (place_of part.entry) (tree_of part.entry)) result }
+{
+    let list = behind_word(part, "hyps")?;
+    read_formulas(alloc, &InClaim(declared), list)
+}
+
+/// A formula of the claim, which is all that is left in a list.
+fn read_only_formula(
+    alloc: Global,
+    declared: &Declared<'_>,
+    list: Cursor<'_>,
+) -> Result<Formula, ReadFault>
+    ensures { IsReading formula_of (only (formula_reading (claim_names (declared_of declared.now)) []) (owner_of list.entry) (number_of list.entry) (rest_of list.entry)) result }
+{
+    let (part, rest) = one(list)?;
+    ended(read_formula(alloc, &InClaim(declared), part), rest)
+}
+
+/// `(goal F)`
+fn read_goal(alloc: Global, declared: &Declared<'_>, part: Part<'_>) -> Result<Formula, ReadFault>
+    ensures { IsReading formula_of (goal_reading (declared_of declared.now) (place_of part.entry) (tree_of part.entry)) result }
+{
+    let list = behind_word(part, "goal")?;
+    read_only_formula(alloc, declared, list)
+}
+
+/// A proof, which is all that is left in a list.
+fn read_only_proof(
+    alloc: Global,
+    declared: &Declared<'_>,
+    list: Cursor<'_>,
+) -> Result<Proof, ReadFault>
+    ensures { IsReading proof_of (only (proof_reading (proof_names (declared_of declared.now))) (owner_of list.entry) (number_of list.entry) (rest_of list.entry)) result }
+{
+    let (part, rest) = one(list)?;
+    ended(read_proof(alloc, &InProof(declared), part), rest)
+}
+
+/// `(proof P)`
+fn read_shown(alloc: Global, declared: &Declared<'_>, part: Part<'_>) -> Result<Proof, ReadFault>
+    ensures { IsReading proof_of (shown_reading (declared_of declared.now) (place_of part.entry) (tree_of part.entry)) result }
+{
+    let list = behind_word(part, "proof")?;
+    read_only_proof(alloc, declared, list)
+}
+
+/// The hypotheses and the goal.
+fn read_statement(
+    alloc: Global,
+    declared: &Declared<'_>,
+    hypotheses: Part<'_>,
+    goal: Part<'_>,
+) -> Result<(Vec<Formula>, Formula), ReadFault>
+    ensures { IsReading seen_statement (statement_reading (declared_of declared.now) (place_of hypotheses.entry) (tree_of hypotheses.entry) (place_of goal.entry) (tree_of goal.entry)) result }
+{
+    let hypotheses = read_hypotheses(alloc, declared, hypotheses);
+    let goal = read_goal(alloc, declared, goal);
+    both(hypotheses, goal)
+}
+
+/// The same with the proof.
+fn read_claim(
+    alloc: Global,
+    declared: &Declared<'_>,
+    hypotheses: Part<'_>,
+    goal: Part<'_>,
+    proof: Part<'_>,
+) -> Result<(Goal, Proof), ReadFault>
+    ensures { IsReading seen_claim (claim_reading (declared_of declared.now) (place_of hypotheses.entry) (tree_of hypotheses.entry) (place_of goal.entry) (tree_of goal.entry) (place_of proof.entry) (tree_of proof.entry)) result }
+{
+    let statement = read_statement(alloc, declared, hypotheses, goal);
+    let proof = read_shown(alloc, declared, proof);
+    let ((hypotheses, goal), proof) = both(statement, proof)?;
+    let vars = declared.variables.len();
+    Ok((
+        Goal {
+            vars,
+            hypotheses,
+            goal,
+        },
+        proof,
+    ))
+}
+
+/// The five sections, which are all that is left in a list.
+fn read_sections(alloc: Global, list: Cursor<'_>) -> Result<(Goal, Proof), ReadFault>
+    ensures { IsReading seen_claim (sections_reading (owner_of list.entry) (number_of list.entry) (rest_of list.entry)) result }
+{
+    let mut rest = list;
+    let variables = next_part(&mut rest)?;
+    let columns = next_part(&mut rest)?;
+    let hypotheses = next_part(&mut rest)?;
+    let goal = next_part(&mut rest)?;
+    let proof = next_part(&mut rest)?;
+    let (declared, wrong) = read_declarations(alloc, variables, columns)?;
+    let claim = read_claim(alloc, &declared, hypotheses, goal, proof);
+    let ((), claim) = ended(both(wrong, claim), rest)?;
+    Ok(claim)
+}
+
+/// The form of a formula file.
+fn read_form(alloc: Global, part: Part<'_>) -> Result<(Goal, Proof), ReadFault>
+    ensures { IsReading seen_claim (form_reading (place_of part.entry) (tree_of part.entry)) result }
+{
+    let list = behind_word(part, "formula")?;
+    read_sections(alloc, list)
+}
+
+/// The form of a formula file, which is all that is left in a list.
+fn read_file(alloc: Global, forms: Cursor<'_>) -> Result<(Goal, Proof), ReadFault>
+    ensures { IsReading seen_claim (only form_reading (owner_of forms.entry) (number_of forms.entry) (rest_of forms.entry)) result }
+{
+    let (form, rest) = one(forms)?;
+    ended(read_form(alloc, form), rest)
+}
+
+/// The goal and the proof of a formula file:
+/// `(formula (vars NAME*) (cols NAME*) (hyps F*) (goal F) (proof P))`.
+///
+/// Where the file is none, `Refused` has its first refusal: `Text` with the offset of its first text fault; else of
+/// `Shape`, `Unknown`, `Repeated` and `Bound`, in this order, the first for which an item is wrong, with the least such
+/// item. `OutOfMemory` says nothing of the file. `prove` may be called with what is read.
+pub fn formula_of(alloc: Global, bytes: &[u8]) -> Result<(Goal, Proof), Fault>
+    ensures answer { IsAnswerTo seen_claim file_reading bytes.now result }
+    ensures hypotheses { IfOk result (λ answer. IsTrue (all_below answer.0.vars (formulas_of answer.0.hypotheses.items))) }
+    ensures goal { IfOk result (λ answer. IsTrue (formula_below answer.0.vars (formula_of answer.0.goal))) }
+    ensures steps { IfOk result (λ answer. answer.0.vars + size (proof_of answer.1) < 2 ^ 32) }
+{
+    let forms = Forms::read(alloc, bytes)?;
+    Ok(read_file(alloc, forms.cursor())?)
+}

@@ -1,0 +1,98 @@
+ghost use Rattle.std.specs.Prelude.{◌≡◌};
+ghost use Rattle.lc_proof_text.specs.Heads.{head_of, proofs_due};
+
+/// What the first word of a step says, where it is any but `sum`.
+#[derive(Clone, Copy, Debug, PartialEq, Eq)]
+pub(crate) enum Head {
+    Split,
+    Cases,
+    Push,
+    Instantiate,
+    Fresh,
+    Cut,
+    Written,
+    Same,
+    Affine,
+    Trichotomy,
+    Divide,
+    Opposite,
+    Open,
+}
+
+/// How many proofs are due.
+#[derive(Clone, Copy, Debug, PartialEq, Eq)]
+pub(crate) enum Due {
+    Nothing,
+    One,
+    Two,
+    Any,
+}
+
+impl Due {
+    ghost use Rattle.std.specs.Prelude.{◌≡◌};
+    ghost use Rattle.lc_proof_text.specs.Heads.{later, is_met, is_full};
+
+    /// Those that are due behind one.
+    pub(crate) fn later(self) -> Due
+        ensures { result ≡ later self }
+    {
+        match self {
+            Due::Two => Due::One,
+            Due::Any => Due::Any,
+            Due::One | Due::Nothing => Due::Nothing,
+        }
+    }
+
+    /// No further one has to stand.
+    pub(crate) fn is_met(self) -> bool
+        ensures { result ≡ is_met self }
+    {
+        matches!(self, Due::Nothing | Due::Any)
+    }
+
+    /// No further one may stand.
+    pub(crate) fn is_full(self) -> bool
+        ensures { result ≡ is_full self }
+    {
+        matches!(self, Due::Nothing)
+    }
+}
+
+/// What this word says.
+pub(crate) fn head_of(word: &str) -> Option<Head>
+    ensures { result ≡ head_of word.now }
+{
+    match word {
+        "split" => Some(Head::Split),
+        "cases" => Some(Head::Cases),
+        "push" => Some(Head::Push),
+        "inst" => Some(Head::Instantiate),
+        "fresh" => Some(Head::Fresh),
+        "cut" => Some(Head::Cut),
+        "written" => Some(Head::Written),
+        "same" => Some(Head::Same),
+        "affine" => Some(Head::Affine),
+        "trich" => Some(Head::Trichotomy),
+        "divide" => Some(Head::Divide),
+        "opposite" => Some(Head::Opposite),
+        "open" => Some(Head::Open),
+        _ => None,
+    }
+}
+
+impl Head {
+    ghost use Rattle.std.specs.Prelude.{◌≡◌};
+    ghost use Rattle.lc_proof_text.specs.Heads.{proofs_due};
+
+    /// How many proofs stand behind the step's own parts.
+    pub(crate) fn proofs_due(self) -> Due
+        ensures { result ≡ proofs_due self }
+    {
+        match self {
+            Head::Opposite | Head::Open => Due::Nothing,
+            Head::Cut | Head::Trichotomy => Due::Two,
+            Head::Cases => Due::Any,
+            _ => Due::One,
+        }
+    }
+}
