@@ -1,2 +1,6 @@
 pub mod Happening
 pub mod Lawful
+pub mod Instrumented
+pub mod Order
+pub mod Claims
+pub mod Examples

@@ -1,6 +1,7 @@
 //! Laws of the definitions: functions without effect, whose contracts are the laws.
 ghost use Rattle.std.specs.Prelude.{List};
 ghost use Rattle.lc_hist.specs.History.{Linearizes};
+ghost use Rattle.lc_sound.specs.Claims.{OutlinesHold, BareStepsLift, StepsAreActions, RunsAreSimulated, OrdersLinearize, RunsStandOver, RunsExtend, StepsAreDetermined, Headline};
 ghost use Rattle.lc_sound.specs.Happening.{Happening, events, counted};
 ghost use Rattle.lc_sound.specs.Lawful.{Free, IsLawful};
 
@@ -11,4 +12,34 @@ use lc_seq::SeqObject;
 pub fn marks_linearize<S: SeqObject>()
     ensures { (object : S) (happenings : List Happening) → IsLawful (S.step object) (S.start object) (λ c. Free) happenings →
         Linearizes (S.step object) (S.start object) (events happenings) (counted happenings) }
+{}
+
+/// For every development, every number of clients and every instrumented run: the order of its marks linearizes its
+/// history. This asks for no condition.
+pub fn orders_linearize()
+    ensures { OrdersLinearize }
+{}
+
+/// Where all conditions of a development are valid, for every number of clients: in every world that an instrumented
+/// run reaches the invariant, the frames and the assertions hold; each bare step there has its instrumented step; each
+/// step is an instance of its edge's action; and over every bare run stands an instrumented run with the same steps.
+pub fn outline_holds()
+    ensures holds { OutlinesHold }
+    ensures lifts { BareStepsLift }
+    ensures acts { StepsAreActions }
+    ensures simulated { RunsAreSimulated }
+{}
+
+/// The labels of an instrumented run, marks taken off, are a bare run, over whose last world the last world stands. A run
+/// and one more step are a run. A client has at most one step, and where it begins a call one for each call.
+pub fn runs_stand_over()
+    ensures over { RunsStandOver }
+    ensures extends { RunsExtend }
+    ensures determined { StepsAreDetermined }
+{}
+
+/// Where all conditions of a development are valid, for every number of clients and every list of single-access steps of its
+/// object, the history of calls and returns is linearizable.
+pub fn linearizable_runs()
+    ensures { Headline }
 {}

@@ -1,4 +1,5 @@
-//! What runs with marks mean: the order of the marks explains the history.
+//! What a development means: where its conditions are valid, every history of its object is linearizable.
 #![tactic(auto)]
 
+pub mod examples;
 pub mod laws;

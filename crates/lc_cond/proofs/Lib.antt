@@ -1,0 +1,2 @@
+pub mod PartsList
+pub mod Printed

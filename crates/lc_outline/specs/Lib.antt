@@ -1,0 +1,3 @@
+pub mod Development
+pub mod Resolved
+pub mod Agreement

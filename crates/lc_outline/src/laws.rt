@@ -1,0 +1,9 @@
+//! Laws of the definitions: functions without effect, whose contracts are the laws.
+ghost use Rattle.lc_outline.specs.Agreement.{OperationsAgree, CallsAreSmall};
+
+/// In a development whose names are resolved each operation of the object takes as many arguments, and gives as many replies,
+/// as the operation of that number of the specification; and each takes and gives at most three.
+pub fn operations_agree()
+    ensures agree { OperationsAgree }
+    ensures small { CallsAreSmall }
+{}
