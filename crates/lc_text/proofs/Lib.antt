@@ -1,3 +1,7 @@
 pub mod Binders
 pub mod Rows
 pub mod Variables
+pub mod PrintedTrees
+pub mod Numerals
+pub mod Printed
+pub mod ReadBack

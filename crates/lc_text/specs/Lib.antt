@@ -2,3 +2,6 @@ pub mod Heads
 pub mod Terms
 pub mod Formulas
 pub mod Seen
+pub mod Spelling
+pub mod Spelled
+pub mod SpelledTree

@@ -1,12 +1,17 @@
-//! The text of terms, column expressions and formulas: how it is read, in one walk, as a value or its first flaw.
+//! The text of terms, column expressions and formulas: how it is read, in one walk, as a value or its first flaw, and how
+//! it is printed.
 #![tactic(auto)]
 
 mod column;
 mod formula;
+mod laws;
 mod made;
+mod printing;
 mod term;
 mod words;
 
 pub use column::read_column;
 pub use formula::{read_formula, read_formulas};
+pub use laws::{numbered_variables_read_back, printed_terms_read_back};
+pub use printing::{Spelling, write_column, write_formula, write_term};
 pub use term::{Terms, read_number, read_term};

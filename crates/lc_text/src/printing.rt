@@ -1,0 +1,181 @@
+ghost use Rattle.std.specs.Prelude.{◌≡◌, ◌++◌, OnOk, codes, string_bytes};
+ghost use Rattle.lc_term.specs.View.{term_of, column_of, formula_of, formulas_of};
+ghost use Rattle.lc_term.specs.Syntax.{formulas};
+ghost use Rattle.lc_text.specs.Spelled.{spaced, spelled_term, spelled_column, spelled_formula, spelled_parts};
+
+use lc_base::{ColId, OutOfMemory};
+use lc_term::{ColExpr, Formula, Term};
+
+/// How free variables and columns are spelled in a text.
+pub trait Spelling {
+    ghost use Rattle.std.specs.Prelude.{◌≡◌, ◌++◌, OnOk, string_bytes};
+    ghost use Rattle.lc_text.specs.Spelling.{Spelled};
+
+    ghost spelled: { Self → Spelled };
+
+    /// Writes a free variable behind what is there.
+    fn variable(&self, out: &mut String, number: u32) -> Result<(), OutOfMemory>
+        ensures { OnOk result (string_bytes out.new ≡ string_bytes out.old ++ (spelled self.now).variable number) };
+
+    /// Writes a column behind what is there.
+    fn column(&self, out: &mut String, column: ColId) -> Result<(), OutOfMemory>
+        ensures { OnOk result (string_bytes out.new ≡ string_bytes out.old ++ (spelled self.now).column column.0) };
+}
+
+/// Writes a term behind what is there, round whose place stand so many quantifiers.
+#[cycle(write_term)]
+pub fn write_term<S: Spelling>(
+    out: &mut String,
+    spelling: &S,
+    depth: u64,
+    term: &Term,
+) -> Result<(), OutOfMemory>
+    ensures { OnOk result (string_bytes out.new ≡ string_bytes out.old ++ spelled_term (S.spelled spelling.now) depth (term_of term.now)) }
+{
+    match term {
+        Term::Number(number) => write!(out, "{number}")?,
+        Term::Variable(number) => spelling.variable(out, *number)?,
+        Term::Bound(number) => {
+            let binder = depth.saturating_sub(1).saturating_sub(u64::from(*number));
+            write!(out, "b{binder}")?;
+        }
+        Term::Add(left, right) => {
+            out.push_str("(+ ")?;
+            write_term(out, spelling, depth, left)?;
+            out.push_str(" ")?;
+            write_term(out, spelling, depth, right)?;
+            out.push_str(")")?;
+        }
+        Term::Subtract(left, right) => {
+            out.push_str("(- ")?;
+            write_term(out, spelling, depth, left)?;
+            out.push_str(" ")?;
+            write_term(out, spelling, depth, right)?;
+            out.push_str(")")?;
+        }
+        Term::Multiply(factor, term) => {
+            write!(out, "(* {factor} ")?;
+            write_term(out, spelling, depth, term)?;
+            out.push_str(")")?;
+        }
+        Term::Read(column, index) => {
+            out.push_str("(rd ")?;
+            write_column(out, spelling, depth, column)?;
+            out.push_str(" ")?;
+            write_term(out, spelling, depth, index)?;
+            out.push_str(")")?;
+        }
+    }
+    Ok(())
+}
+
+/// Writes a column expression behind what is there, round whose place stand so many quantifiers.
+#[cycle(write_term)]
+pub fn write_column<S: Spelling>(
+    out: &mut String,
+    spelling: &S,
+    depth: u64,
+    column: &ColExpr,
+) -> Result<(), OutOfMemory>
+    ensures { OnOk result (string_bytes out.new ≡ string_bytes out.old ++ spelled_column (S.spelled spelling.now) depth (column_of column.now)) }
+{
+    match column {
+        ColExpr::Base(column) => spelling.column(out, *column)?,
+        ColExpr::Store(column, index, value) => {
+            out.push_str("(store ")?;
+            write_column(out, spelling, depth, column)?;
+            out.push_str(" ")?;
+            write_term(out, spelling, depth, index)?;
+            out.push_str(" ")?;
+            write_term(out, spelling, depth, value)?;
+            out.push_str(")")?;
+        }
+        ColExpr::Affine(slope, start) => write!(out, "(affine {slope} {start})")?,
+    }
+    Ok(())
+}
+
+/// Writes a formula behind what is there, round which stand so many quantifiers. The variable of a quantifier is
+/// written `b` and the number of quantifiers round it.
+#[cycle(write_formula)]
+pub fn write_formula<S: Spelling>(
+    out: &mut String,
+    spelling: &S,
+    depth: u64,
+    formula: &Formula,
+) -> Result<(), OutOfMemory>
+    ensures { OnOk result (string_bytes out.new ≡ string_bytes out.old ++ spelled_formula (S.spelled spelling.now) depth (formula_of formula.now)) }
+{
+    match formula {
+        Formula::Le(left, right) => write_comparison(out, spelling, depth, "(<= ", left, right)?,
+        Formula::Eq(left, right) => write_comparison(out, spelling, depth, "(= ", left, right)?,
+        Formula::Not(formula) => {
+            out.push_str("(not ")?;
+            write_formula(out, spelling, depth, formula)?;
+            out.push_str(")")?;
+        }
+        Formula::And(parts) => {
+            out.push_str("(and")?;
+            write_parts(out, spelling, depth, parts)?;
+            out.push_str(")")?;
+        }
+        Formula::Or(parts) => {
+            out.push_str("(or")?;
+            write_parts(out, spelling, depth, parts)?;
+            out.push_str(")")?;
+        }
+        Formula::Implies(left, right) => {
+            out.push_str("(=> ")?;
+            write_formula(out, spelling, depth, left)?;
+            out.push_str(" ")?;
+            write_formula(out, spelling, depth, right)?;
+            out.push_str(")")?;
+        }
+        Formula::Forall(body) => {
+            write!(out, "(forall b{depth} ")?;
+            write_formula(out, spelling, depth.saturating_add(1), body)?;
+            out.push_str(")")?;
+        }
+        Formula::Exists(body) => {
+            write!(out, "(exists b{depth} ")?;
+            write_formula(out, spelling, depth.saturating_add(1), body)?;
+            out.push_str(")")?;
+        }
+    }
+    Ok(())
+}
+
+fn write_comparison<S: Spelling>(
+    out: &mut String,
+    spelling: &S,
+    depth: u64,
+    word: &str,
+    left: &Term,
+    right: &Term,
+) -> Result<(), OutOfMemory>
+    ensures { OnOk result (string_bytes out.new ≡ string_bytes out.old ++
+        (word.now ++ spelled_term (S.spelled spelling.now) depth (term_of left.now) ++ spaced (spelled_term (S.spelled spelling.now) depth (term_of right.now)) ++ codes ")")) }
+{
+    out.push_str(word)?;
+    write_term(out, spelling, depth, left)?;
+    out.push_str(" ")?;
+    write_term(out, spelling, depth, right)?;
+    out.push_str(")")?;
+    Ok(())
+}
+
+#[cycle(write_formula)]
+fn write_parts<S: Spelling>(
+    out: &mut String,
+    spelling: &S,
+    depth: u64,
+    parts: &[Formula],
+) -> Result<(), OutOfMemory>
+    ensures { OnOk result (string_bytes out.new ≡ string_bytes out.old ++ spelled_parts (S.spelled spelling.now) depth (formulas (formulas_of parts.now))) }
+{
+    for part in parts {
+        out.push_str(" ")?;
+        write_formula(out, spelling, depth, part)?;
+    }
+    Ok(())
+}
