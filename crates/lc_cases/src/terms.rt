@@ -2,9 +2,10 @@ use anyhow::{Context, bail};
 use lc_base::{ColId, OutOfMemory};
 use lc_sexp::{Forms, Item};
 use lc_term::{
-    ColumnUse, Extra, Kind, Pass, ReadFault, Scope, Spelling, first_wrong, read_column,
-    read_formula, read_term, write_column, write_formula, write_term,
+    ColumnUse, Extra, Kind, Pass, ReadFault, Scope, first_wrong, read_column, read_formula,
+    read_term,
 };
+use lc_text::{Spelling, write_column, write_formula, write_term};
 use std::alloc::Global;
 
 /// A place with the variable `x`, and the columns `c`, `m`, which is misplaced, and `h`, which is hidden.

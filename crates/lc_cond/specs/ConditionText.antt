@@ -1,9 +1,9 @@
 -- The line of a condition.
 use Rattle.std.specs.Prelude.{ℕ, suc, codes, List, [], ◌∷◌, ◌++◌, Option, Some, None, slice_index_or, map}
 use Rattle.std.specs.Fmt.{decimal}
-use Rattle.lc_term.specs.Spelling.{Spelled}
+use Rattle.lc_text.specs.Spelling.{Spelled}
 use Rattle.lc_term.specs.Syntax.{Formula}
-use Rattle.lc_term.specs.Spelled.{spaced, spelled_formula}
+use Rattle.lc_text.specs.Spelled.{spaced, spelled_formula}
 use Rattle.lc_seq.specs.Specification as Q
 use Rattle.lc_object.specs.Syntax as O
 use Rattle.lc_object.specs.declared.instr.EdgeKind.{EdgeKind}

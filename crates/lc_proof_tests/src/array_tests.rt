@@ -1,6 +1,7 @@
 use lc_array::{affine_axiom, laws, same_index_axiom, written_axiom};
 use lc_base::{ColId, OutOfMemory};
-use lc_term::{ColExpr, Formula, Spelling, Term, write_formula};
+use lc_term::{ColExpr, Formula, Term};
+use lc_text::{Spelling, write_formula};
 use std::alloc::Global;
 
 /// `?0` for the variable 0, `c0` for the column 0.

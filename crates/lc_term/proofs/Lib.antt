@@ -18,8 +18,6 @@ pub mod Heads
 pub mod Fronts
 pub mod SoundAtoms
 pub mod SoundTexts
-pub mod PrintedTrees
-pub mod Reread
 pub mod Written
 pub mod Rows
 pub mod TermNodes

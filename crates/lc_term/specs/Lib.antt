@@ -22,9 +22,6 @@ pub mod Reserved
 pub mod Rows
 pub mod Said
 pub mod Sound
-pub mod Spelled
-pub mod SpelledTree
-pub mod Spelling
 pub mod State
 pub mod Substitution
 pub mod Syntax

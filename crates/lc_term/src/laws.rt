@@ -1,23 +1,17 @@
 //! What holds of the definitions. Each function is a law: it does nothing, and its contract is the law.
-ghost use Rattle.std.specs.Prelude.{◌≡◌, ◌<◌, ◌≤◌, ◌^◌, ◌↔◌, ℕ, ℤ, List, [], ◌++◌, codes, length, Some, IsTrue};
-ghost use Rattle.std.specs.Fmt.{decimal};
+ghost use Rattle.std.specs.Prelude.{◌≡◌, ◌≤◌, ◌^◌, ◌↔◌, ℕ, ℤ, List, [], length, IsTrue};
 ghost use Rattle.std.specs.Option.{IsSome};
-ghost use Rattle.lc_sexp.specs.Printed.{printed_tree};
 ghost use Rattle.lc_sexp.specs.Trees.{Tree, item_count};
 ghost use Rattle.lc_term.specs.Equal.{term_eq, column_eq, formula_eq};
 ghost use Rattle.lc_term.specs.Meaning.{State, Env, push, value, column, Holds};
 ghost use Rattle.lc_term.specs.Names.{Names};
 ghost use Rattle.lc_term.specs.Places.{Test, passes, term_passes, is_closed, shift_fits, put_fits, open_fits};
-ghost use Rattle.lc_term.specs.ReadAs.{atom_term, term_from, column_from, formula_from};
+ghost use Rattle.lc_term.specs.ReadAs.{term_from, column_from, formula_from};
 ghost use Rattle.lc_term.specs.Replacement.{Replacement, replace_term, replace, replacing, columns_by, variables_by, bounds_by};
 ghost use Rattle.lc_term.specs.Sound.{IsSound, AreFree, AreFreeWhereBuilt};
-ghost use Rattle.lc_term.specs.Spelled.{spelled_term, spelled_column, spelled_formula};
-ghost use Rattle.lc_term.specs.SpelledTree.{term_tree, column_tree, formula_tree, binders, TermReadsBack, ColumnReadsBack, FormulaReadsBack};
-ghost use Rattle.lc_term.specs.Spelling.{Spelled};
 ghost use Rattle.lc_term.specs.Substitution.{substituted, with_value, instantiated, shifted_term, shifted, push_all};
-ghost use Rattle.lc_term.specs.Syntax.{Term, Variable, Column, Formula};
+ghost use Rattle.lc_term.specs.Syntax.{Term, Column, Formula};
 ghost use Rattle.lc_term.specs.Truth.{is_ground, truth};
-ghost use Rattle.lc_term.specs.declared.scope.Extra.TheVariants.{NumberedVariables};
 ghost use Rattle.lc_term.specs.declared.grammar.Kind.TheVariants.{Term as TermKind, Column as ColumnKind, Formula as FormulaKind};
 
 /// The test of two terms, of two columns and of two formulas is true exactly where they are the same tree.
@@ -100,25 +94,4 @@ pub fn sound_texts_read()
         IsSound names [] ColumnKind n t → IsSome (column_from names [] t) }
     ensures formulas { (names : Names) (n : ℕ) (t : Tree) → AreFreeWhereBuilt names → item_count t ≤ 2 ^ 32 →
         IsSound names [] FormulaKind n t → IsSome (formula_from names [] t) }
-{}
-
-/// What is printed of a term, a column expression or a formula is the text of an s-expression, which reads as the
-/// same term, column expression or formula where it is one that reads back. Round it stand `depth` quantifiers, of
-/// the names that are printed of them.
-pub fn printed_terms_read_back()
-    ensures term_text { (by : Spelled) (depth : ℕ) (t : Term) → printed_tree (term_tree by depth t) ≡ spelled_term by depth t }
-    ensures column_text { (by : Spelled) (depth : ℕ) (c : Column) → printed_tree (column_tree by depth c) ≡ spelled_column by depth c }
-    ensures formula_text { (by : Spelled) (depth : ℕ) (f : Formula) → printed_tree (formula_tree by depth f) ≡ spelled_formula by depth f }
-    ensures term { (names : Names) (by : Spelled) (depth : ℕ) (t : Term) → depth ≤ 2 ^ 32 →
-        TermReadsBack names by depth t → term_from names (binders depth) (term_tree by depth t) ≡ Some t }
-    ensures column { (names : Names) (by : Spelled) (depth : ℕ) (c : Column) → depth ≤ 2 ^ 32 →
-        ColumnReadsBack names by depth c → column_from names (binders depth) (column_tree by depth c) ≡ Some c }
-    ensures formula { (names : Names) (by : Spelled) (depth : ℕ) (f : Formula) → depth ≤ 2 ^ 32 →
-        FormulaReadsBack names by depth f → formula_from names (binders depth) (formula_tree by depth f) ≡ Some f }
-{}
-
-/// A variable `?k` reads as the variable k where these stand, whatever names quantifiers bind.
-pub fn numbered_variables_read_back()
-    ensures { (names : Names) (bound : List (List ℕ)) (k : ℕ) → IsTrue (names.allows NumberedVariables) → k < 2 ^ 32 →
-        atom_term names bound (codes "?" ++ decimal k) ≡ Some (Variable k) }
 {}

@@ -1,10 +1,8 @@
 //! The passes, and what texts read as, are cases of the program `lc_cases`.
 use lc_base::{ColId, OutOfMemory};
 use lc_sexp::{Forms, Item};
-use lc_term::{
-    ColExpr, ColumnUse, Extra, Formula, ReadFault, Scope, Spelling, Term, read_formulas,
-    write_column, write_formula, write_term,
-};
+use lc_term::{ColExpr, ColumnUse, Extra, Formula, ReadFault, Scope, Term, read_formulas};
+use lc_text::{Spelling, write_column, write_formula, write_term};
 use std::alloc::Global;
 use std::test::Fail;
 
