@@ -2,3 +2,5 @@ pub mod Rider
 pub mod Paths
 pub mod PathLaws
 pub mod RiderView
+pub mod PathView
+pub mod MarkView

@@ -1,14 +1,24 @@
 -- The paths of riders: what holds, what the columns are, and what is owed, said of the state before.
 use Rattle.std.specs.Prelude.{ℕ, suc, List, [], ◌∷◌, ◌++◌, pos, Option, Some, None, map, take}
-use Rattle.lc_term.specs.Updates.{Update}
-use Rattle.lc_term.specs.Syntax.{Term, Number, Variable, Read, Column, Formula, Eq, Not, And, Or, formulas}
+use Rattle.lc_term.specs.Updates.{Update, assigned}
+use Rattle.lc_term.specs.Syntax.{Term, Number, Variable, Read, Column, Base, Formula, Eq, Not, And, Or, formulas}
 use Rattle.lc_term.specs.Replacement.{replacing, replace_term}
 use Rattle.lc_seq.specs.Specification.{Branch, Operation}
 use Rattle.lc_term.specs.Lists.{concat_map}
+use Rattle.lc_object.specs.Edges as E
 use Rattle.lc_seq.specs.Branches.{op_branches, arity}
-use Rattle.lc_term.specs.Said.{put, term_at, said, after, told, reads, at_client}
+use Rattle.lc_term.specs.Said.{put, puts, term_at, said, after, told, variables_from, reads, at_client}
 use Rattle.lc_term.specs.SystemColumns.{pend, op_column, arg_columns, rep_columns, noted, note_columns}
 use Rattle.lc_rider.specs.Rider.{Marking, Own, Other, Note, Deed, Assign, Marks, Rider}
+
+-- ---- the edge
+
+-- what an edge stores, and its variables afterwards, of n variables
+abbrev pub edge_columns : E.Edge → ℕ → Column
+edge_columns e = puts Base e.updates
+
+abbrev pub edge_variables : ℕ → E.Edge → List Term
+edge_variables n e = assigned (variables_from 0 n) e.targets e.values
 
 -- ---- marks
 
@@ -113,3 +123,7 @@ module _ (operations : List Operation) (first : ℕ) where
   abbrev pub paths : ℕ → ℕ → List Term → List Rider → Path → List Path
   paths n o τ [] p = p ∷ []
   paths n o τ (r ∷ rs) p = concat_map (paths (suc n) o τ rs) (rider_paths n o τ r p)
+
+-- the path of an edge on which no rider has been done
+abbrev pub path_start : E.Edge → Path
+path_start e = record { columns = edge_columns e; facts = []; duties = [] }

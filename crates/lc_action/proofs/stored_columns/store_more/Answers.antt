@@ -4,13 +4,7 @@ use Rattle.lc_term.specs.View.{term_of}
 use Rattle.lc_seq.specs.SpecView.{updates_of}
 use Rattle.lc_action.specs.Telling.{columns_in}
 use Rattle.lc_action.proofs.Entries.{puts_more}
-use Rattle.lc_action.proofs.stored_columns.store_together.Goals as goal
-
-pub loop-update-init : goal.loop-update-init
-loop-update-init c =
-    let σ = columns_in c.args.before.columns.now in
-    let τ = map term_of c.args.before.variables.now in
-    ap (λ ρ. puts ρ (map (said σ τ) (updates_of c.args.updates.now))) c.in_ok-stored.ensures
+use Rattle.lc_action.proofs.stored_columns.store_more.Goals as goal
 
 pub loop-update-preserved : goal.loop-update-preserved
 loop-update-preserved c =
@@ -20,6 +14,6 @@ loop-update-preserved c =
     let i = c.loop-update.update-index in
     let u = c.update-item.result in
     ap (λ ρ. puts ρ (map (said σ τ) (updates_of (drop (i + 1) us))))
-    (c.in_ok-stored-2.ensures ∙ (λ j. put (columns_in c.loop-update.stored.items) (record { column = u.column.0; index = c.in_ok-index.ensures j; value = c.in_ok-value.ensures j })))
+    (c.in_ok-stored.ensures ∙ (λ j. put (columns_in c.loop-update.stored.items) (record { column = u.column.0; index = c.in_ok-index.ensures j; value = c.in_ok-value.ensures j })))
     ∙ sym (puts_more σ τ us i u (columns_in c.loop-update.stored.items) c.loop-update-test.true c.update-item.is)
     ∙ c.loop-update.invariant
