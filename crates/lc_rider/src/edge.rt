@@ -1,4 +1,4 @@
-ghost use Rattle.std.specs.Prelude.{◌≡◌, IfOk, map};
+ghost use Rattle.std.specs.Prelude.{◌≡◌, IfOk, map, slice_set};
 ghost use Rattle.lc_term.specs.Said.{variables_from};
 ghost use Rattle.lc_term.specs.Updates.{assigned};
 ghost use Rattle.lc_term.specs.View.{term_of};
@@ -39,6 +39,18 @@ fn variables(alloc: Global, count: u32) -> Result<Vec<Term>, OutOfMemory>
     Ok(terms)
 }
 
+// The terms with one in place of that at this place, if there is one.
+fn put(mut terms: Vec<Term>, place: u32, term: Term) -> Vec<Term>
+    ensures { map term_of result.items ≡ slice_set (map term_of terms.items) place (term_of term) }
+{
+    let place = place as usize;
+    if place >= terms.len() {
+        return terms;
+    }
+    terms[place] = term;
+    terms
+}
+
 // Terms put to locals, one to each.
 fn assigned(
     alloc: Global,
@@ -52,9 +64,7 @@ fn assigned(
         let Some(value) = values.get(i) else {
             return Ok(terms);
         };
-        if let Some(term) = terms.get_mut(target.0 as usize) {
-            *term = value.try_clone(alloc)?;
-        }
+        terms = put(terms, target.0, value.try_clone(alloc)?);
     }
     Ok(terms)
 }

@@ -1,4 +1,4 @@
-ghost use Rattle.std.specs.Prelude.{◌≡◌, ◌++◌, [], ◌∷◌, IfOk, OnOk, map};
+ghost use Rattle.std.specs.Prelude.{◌≡◌, ◌++◌, IfOk, OnOk, map};
 ghost use Rattle.lc_term.specs.Lists.{concat_map};
 ghost use Rattle.lc_term.specs.Replacement.{replacing, replace_term};
 ghost use Rattle.lc_term.specs.Said.{put, said, term_at};
@@ -18,7 +18,7 @@ use crate::mark_paths::mark_paths;
 use crate::marking::{Mark, Marking, negation};
 use crate::path::Path;
 use crate::rider::Rider;
-use lc_action::{Before, SystemColumns, said, told};
+use lc_action::SystemColumns;
 use lc_base::{OpId, OutOfMemory};
 use lc_seq::{TextSpec, Update};
 use lc_term::Term;
@@ -44,12 +44,8 @@ fn updated(
     ensures { IfOk result (λ r. path_of r ≡
         with_columns (path_of path) (put (path_of path).columns (said (path_of path).columns (map term_of variables.now) (update_of update.now)))) }
 {
-    let before = Before {
-        columns: path.columns(),
-        variables,
-    };
-    let index = said(alloc, &update.index, before)?;
-    let value = said(alloc, &update.value, before)?;
+    let index = path.said_before(alloc, variables, &update.index)?;
+    let value = path.said_before(alloc, variables, &update.value)?;
     path.with_store(alloc, update.column, index, value)
 }
 
@@ -72,11 +68,7 @@ fn marked(
         branch_paths operations first rider operation.0 (marking_of marking c) c bs
         (with_duties (path_of path) (mark_duties operations first rider operation.0 (marking_of marking c) (path_of path) c bs))) }
 {
-    let before = Before {
-        columns: path.columns(),
-        variables: riding.variables,
-    };
-    let client = said(alloc, client, before)?;
+    let client = path.said_before(alloc, riding.variables, client)?;
     let mark = Mark {
         specification: riding.specification,
         system: riding.system,
@@ -104,7 +96,8 @@ fn deed_paths(
     let own = Term::Variable(1);
     match rider {
         Rider::Assign { update, .. } => {
-            paths.push(updated(alloc, riding.variables, update, path)?)?;
+            let behind = updated(alloc, riding.variables, update, path)?;
+            paths.push(behind)?;
             Ok(())
         }
         Rider::LinSelf { .. } => {
@@ -163,15 +156,14 @@ fn rider_paths(
     let Some(when) = rider.condition() else {
         return deed_paths(alloc, riding, number, rider, path, paths);
     };
-    let before = Before {
-        columns: path.columns(),
-        variables: riding.variables,
-    };
-    let condition = told(alloc, when.formula(), before)?;
+    let condition = path.told_before(alloc, riding.variables, when.formula())?;
     let fact = condition.try_clone(alloc)?;
-    let holds = path.try_clone(alloc)?.with_fact(fact)?;
+    let copy = path.try_clone(alloc)?;
+    let holds = copy.with_fact(fact)?;
     deed_paths(alloc, riding, number, rider, holds, paths)?;
-    paths.push(path.with_fact(negation(alloc, condition)?)?)?;
+    let negated = negation(alloc, condition)?;
+    let fails = path.with_fact(negated)?;
+    paths.push(fails)?;
     Ok(())
 }
 

@@ -1,6 +1,7 @@
 //! Riders: what is done beside an instruction, and the paths by which conditions speak of it.
 #![tactic(auto)]
 
+mod duty;
 mod edge;
 mod edge_paths;
 pub mod laws;
@@ -10,7 +11,8 @@ mod marking;
 mod path;
 mod rider;
 
+pub use duty::{Duty, Owing};
 pub use edge::Edge;
 pub use edge_paths::paths;
-pub use path::{Duty, Owing, Path};
+pub use path::Path;
 pub use rider::{Rider, When};

@@ -1,6 +1,4 @@
-ghost use Rattle.std.specs.Prelude.{◌≡◌, ◌++◌, [], ◌∷◌, pos, IfOk, OnOk, map};
-ghost use Rattle.lc_term.specs.Said.{told};
-ghost use Rattle.lc_term.specs.Syntax.{Eq, Number, Or, Read, formulas};
+ghost use Rattle.std.specs.Prelude.{◌≡◌, ◌++◌, IfOk, OnOk, map};
 ghost use Rattle.lc_term.specs.View.{term_of, formula_of};
 ghost use Rattle.lc_seq.specs.Branches.{op_branches};
 ghost use Rattle.lc_seq.specs.SpecView.{updates_of, branch_of, branches_of};
@@ -9,15 +7,14 @@ ghost use Rattle.lc_action.specs.ActionView.{first_of};
 ghost use Rattle.lc_rider.specs.MarkView.{marking_of, with_duties, branch_path};
 ghost use Rattle.lc_rider.specs.PathLaws.{AreGround};
 ghost use Rattle.lc_rider.specs.Paths.{is_empty, named_duty, mark_variables, mark_duties, branch_paths};
-ghost use Rattle.lc_rider.specs.Paths.{Enabled};
-ghost use Rattle.lc_rider.specs.PathView.{path_of, with_duty};
+ghost use Rattle.lc_rider.specs.PathView.{path_of};
 
+use crate::duty::Owing;
 use crate::marked_columns::marked_columns;
 use crate::marking::{
-    Mark, Marking, call_variables, cell_is, guards, negation, operation_branches,
+    Mark, Marking, call_variables, cell_is, guard_on, negation, operation_branches, some_guard,
 };
-use crate::path::{Owing, Path};
-use lc_action::{Before, told};
+use crate::path::Path;
 use lc_base::OutOfMemory;
 use lc_seq::{Branch, Update};
 use lc_term::{Formula, Term};
@@ -29,15 +26,13 @@ fn with_named_duty(alloc: Global, mark: Mark<'_>, path: Path) -> Result<Path, Ou
         IfOk result (λ r. path_of r ≡ with_duties (path_of path)
         (named_duty (specification_of mark.entry.specification.now).operations (first_of mark.entry.system) mark.entry.rider (marking_of mark.entry.marking c) (path_of path) c)) }
 {
-    match mark.marking {
-        Marking::Own | Marking::Note => Ok(path),
-        Marking::Other(operation) => {
-            let number = i64::from(operation.0);
-            let column = mark.system.operation();
-            let goal = cell_is(alloc, path.columns(), column, mark.client, number)?;
-            path.with_duty(Owing::Named, mark.rider, goal)
-        }
-    }
+    let Marking::Other(operation) = mark.marking else {
+        return Ok(path);
+    };
+    let number = i64::from(operation.0);
+    let column = mark.system.operation();
+    let goal = cell_is(alloc, &path, column, mark.client, number)?;
+    path.with_duty(Owing::Named, mark.rider, goal)
 }
 
 // What a mark asks for before one of these branches is taken.
@@ -56,15 +51,11 @@ fn with_mark_duties(
         (mark_duties (specification_of mark.entry.specification.now).operations (first_of mark.entry.system) mark.entry.rider mark.entry.operation.0
         (marking_of mark.entry.marking c) (path_of path) c (branches_of branches.now))) }
 {
-    let pending = cell_is(alloc, path.columns(), mark.system.pend(), mark.client, 1)?;
-    let before = Before {
-        columns: path.columns(),
-        variables,
-    };
-    let enabled = Formula::Or(guards(alloc, branches, before)?);
-    let path = path.with_duty(Owing::Pending, mark.rider, pending)?;
-    let path = with_named_duty(alloc, mark, path)?;
-    path.with_duty(Owing::Enabled, mark.rider, enabled)
+    let pending = cell_is(alloc, &path, mark.system.pend(), mark.client, 1)?;
+    let enabled = some_guard(alloc, &path, variables, branches)?;
+    let owed = path.with_duty(Owing::Pending, mark.rider, pending)?;
+    let named = with_named_duty(alloc, mark, owed)?;
+    named.with_duty(Owing::Enabled, mark.rider, enabled)
 }
 
 // True where nothing is stored.
@@ -91,19 +82,14 @@ fn taken(
         branch_path (specification_of mark.entry.specification.now).operations (first_of mark.entry.system) mark.entry.rider
         (marking_of mark.entry.marking (term_of mark.entry.client.now)) (map term_of variables.now) (branch_of branch.now) (formula_of guard) (path_of path.now)) }
 {
-    let before = Before {
-        columns: path.columns(),
-        variables,
+    let columns = marked_columns(alloc, mark, path, variables, branch)?;
+    let copy = path.copy_with(alloc, columns)?;
+    let known = copy.with_fact(guard)?;
+    let Marking::Note = mark.marking else {
+        return Ok(known);
     };
-    let columns = marked_columns(alloc, mark, branch, before)?;
-    let path = path.copy_with(alloc, columns)?.with_fact(guard)?;
-    match mark.marking {
-        Marking::Own | Marking::Other(_) => Ok(path),
-        Marking::Note => {
-            let goal = stores_nothing(alloc, &branch.updates);
-            path.with_duty(Owing::Observing, mark.rider, goal)
-        }
-    }
+    let goal = stores_nothing(alloc, &branch.updates);
+    known.with_duty(Owing::Observing, mark.rider, goal)
 }
 
 // A path for each branch, behind other paths: the guards of the branches before it fail, and its own holds.
@@ -124,14 +110,12 @@ fn branch_paths(
         (marking_of mark.entry.marking c) c (branches_of branches.now) (path_of path)) }
 {
     for branch in branches {
-        let before = Before {
-            columns: path.columns(),
-            variables,
-        };
-        let guard = told(alloc, &branch.guard, before)?;
+        let guard = guard_on(alloc, &path, variables, branch)?;
         let holds = guard.try_clone(alloc)?;
-        paths.push(taken(alloc, mark, branch, holds, variables, &path)?)?;
-        path = path.with_fact(negation(alloc, guard)?)?;
+        let behind = taken(alloc, mark, branch, holds, variables, &path)?;
+        paths.push(behind)?;
+        let fails = negation(alloc, guard)?;
+        path = path.with_fact(fails)?;
     }
     Ok(())
 }
@@ -152,7 +136,7 @@ pub(crate) fn mark_paths(
         (with_duties (path_of path) (mark_duties operations (first_of mark.entry.system) mark.entry.rider mark.entry.operation.0 k (path_of path) c bs))) }
 {
     let branches = operation_branches(mark.specification, mark.operation);
-    let variables = call_variables(alloc, mark, path.columns())?;
-    let path = with_mark_duties(alloc, mark, branches, &variables, path)?;
-    branch_paths(alloc, mark, branches, &variables, path, paths)
+    let variables = call_variables(alloc, mark, &path)?;
+    let owing = with_mark_duties(alloc, mark, branches, &variables, path)?;
+    branch_paths(alloc, mark, branches, &variables, owing, paths)
 }

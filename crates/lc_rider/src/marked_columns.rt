@@ -5,10 +5,12 @@ ghost use Rattle.lc_seq.specs.SpecView.{branch_of};
 ghost use Rattle.lc_action.specs.ActionView.{first_of};
 ghost use Rattle.lc_action.specs.Telling.{columns_in};
 ghost use Rattle.lc_rider.specs.MarkView.{marking_of};
+ghost use Rattle.lc_rider.specs.PathView.{path_of};
 ghost use Rattle.lc_rider.specs.Paths.{mark_updates};
 ghost use Rattle.lc_rider.specs.Rider.{Own, Note};
 
 use crate::marking::{Mark, Marking};
+use crate::path::Path;
 use lc_action::{Before, SystemColumns, at_client, copy_columns, store_more, store_together};
 use lc_base::{ColId, OutOfMemory};
 use lc_seq::Branch;
@@ -65,15 +67,19 @@ fn noted_columns(
 pub(crate) fn marked_columns(
     alloc: Global,
     mark: Mark<'_>,
+    path: &Path,
+    variables: &[Term],
     branch: &Branch,
-    before: Before<'_>,
 ) -> Result<Vec<(ColId, ColExpr)>, OutOfMemory>
     ensures { IfOk result (λ columns. columns_in columns.items ≡
-        after (columns_in before.entry.columns.now) (map term_of before.entry.variables.now)
+        after (path_of path.now).columns (map term_of variables.now)
         (mark_updates (first_of mark.entry.system) (marking_of mark.entry.marking (term_of mark.entry.client.now)) (branch_of branch.now))) }
 {
+    let columns = path.columns();
+    let before = Before { columns, variables };
     match mark.marking {
-        Marking::Own | Marking::Other(_) => settled_columns(alloc, mark.system, branch, before),
+        Marking::Own => settled_columns(alloc, mark.system, branch, before),
+        Marking::Other(_) => settled_columns(alloc, mark.system, branch, before),
         Marking::Note => noted_columns(alloc, mark.system, branch, before),
     }
 }

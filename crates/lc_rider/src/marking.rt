@@ -1,16 +1,19 @@
-ghost use Rattle.std.specs.Prelude.{◌≡◌, ◌++◌, ℤ, pos, IfOk, OnOk, map};
+ghost use Rattle.std.specs.Prelude.{◌≡◌, ◌++◌, true, IfOk, OnOk, map};
 ghost use Rattle.lc_term.specs.Said.{told, reads};
-ghost use Rattle.lc_term.specs.Syntax.{Eq, Not, Number, Read};
+ghost use Rattle.lc_term.specs.Syntax.{Eq, Not, Number, Or, Read, formulas};
+ghost use Rattle.lc_term.specs.Truth.{is_ground};
 ghost use Rattle.lc_term.specs.View.{term_of, formula_of, formulas_of};
 ghost use Rattle.lc_seq.specs.Branches.{op_branches, arity};
-ghost use Rattle.lc_seq.specs.SpecView.{branches_of};
+ghost use Rattle.lc_seq.specs.SpecView.{branch_of, branches_of};
 ghost use Rattle.lc_seq.specs.TextView.{specification_of};
 ghost use Rattle.lc_action.specs.ActionView.{first_of};
 ghost use Rattle.lc_action.specs.Telling.{columns_in};
 ghost use Rattle.lc_rider.specs.PathLaws.{AreGround};
-ghost use Rattle.lc_rider.specs.Paths.{branch_variables};
+ghost use Rattle.lc_rider.specs.Paths.{mark_variables};
+ghost use Rattle.lc_rider.specs.PathView.{path_of};
 
-use lc_action::{Before, SystemColumns, read_after, told};
+use crate::path::Path;
+use lc_action::{SystemColumns, read_after};
 use lc_base::{ColId, OpId, OutOfMemory};
 use lc_seq::{Branch, TextSpec};
 use lc_term::{ColExpr, Formula, Term};
@@ -78,59 +81,82 @@ fn push_reads(
     Ok(())
 }
 
-/// The variables of a branch at the call that is marked: the client, and its arguments as they stand in these columns.
+/// The variables of a branch at the call that is marked: the client, and its arguments as they stand on this path.
 pub(crate) fn call_variables(
     alloc: Global,
     mark: Mark<'_>,
-    columns: &[(ColId, ColExpr)],
+    path: &Path,
 ) -> Result<Vec<Term>, OutOfMemory>
     ensures { IfOk result (λ ts. map term_of ts.items ≡
-        branch_variables (columns_in columns.now) (first_of mark.entry.system)
-        (arity (specification_of mark.entry.specification.now).operations mark.entry.operation.0) (term_of mark.entry.client.now)) }
+        mark_variables (specification_of mark.entry.specification.now).operations (first_of mark.entry.system)
+        mark.entry.operation.0 (path_of path.now) (term_of mark.entry.client.now)) }
 {
     let mut variables = Vec::with_capacity(alloc, 5)?;
     variables.push(Term::Number(0))?;
     variables.push(mark.client.try_clone(alloc)?)?;
     let arguments = mark.system.arguments();
     let count = arity(mark.specification, mark.operation).min(3);
-    push_reads(
-        alloc,
-        columns,
-        &arguments[..count],
-        mark.client,
-        &mut variables,
-    )?;
+    let cells = &arguments[..count];
+    push_reads(alloc, path.columns(), cells, mark.client, &mut variables)?;
     Ok(variables)
 }
 
-/// The guards of branches, in order, said of the state before the edge.
-pub(crate) fn guards(
+/// The guard of a branch with these variables, said of the state before the edge.
+pub(crate) fn guard_on(
     alloc: Global,
+    path: &Path,
+    variables: &[Term],
+    branch: &Branch,
+) -> Result<Formula, OutOfMemory>
+    requires { is_ground (branch_of branch.now).guard ≡ true }
+    ensures { IfOk result (λ f. formula_of f ≡ told (path_of path.now).columns (map term_of variables.now) (branch_of branch.now).guard) }
+{
+    path.told_before(alloc, variables, &branch.guard)
+}
+
+// The guards of branches, in order.
+fn guards(
+    alloc: Global,
+    path: &Path,
+    variables: &[Term],
     branches: &[Branch],
-    before: Before<'_>,
 ) -> Result<Vec<Formula>, OutOfMemory>
     requires { AreGround (branches_of branches.now) }
     ensures { IfOk result (λ fs. formulas_of fs.items ≡
-        map (λ b. told (columns_in before.entry.columns.now) (map term_of before.entry.variables.now) b.guard) (branches_of branches.now)) }
+        map (λ b. told (path_of path.now).columns (map term_of variables.now) b.guard) (branches_of branches.now)) }
 {
     let mut guards = Vec::with_capacity(alloc, branches.len())?;
     for branch in branches {
-        guards.push(told(alloc, &branch.guard, before)?)?;
+        guards.push(guard_on(alloc, path, variables, branch)?)?;
     }
     Ok(guards)
+}
+
+/// Some guard of these branches holds.
+pub(crate) fn some_guard(
+    alloc: Global,
+    path: &Path,
+    variables: &[Term],
+    branches: &[Branch],
+) -> Result<Formula, OutOfMemory>
+    requires { AreGround (branches_of branches.now) }
+    ensures { IfOk result (λ f. formula_of f ≡
+        Or (formulas (map (λ b. told (path_of path.now).columns (map term_of variables.now) b.guard) (branches_of branches.now)))) }
+{
+    Ok(Formula::Or(guards(alloc, path, variables, branches)?))
 }
 
 /// This number stands in a cell of a column.
 pub(crate) fn cell_is(
     alloc: Global,
-    columns: &[(ColId, ColExpr)],
+    path: &Path,
     column: ColId,
     index: &Term,
     number: i64,
 ) -> Result<Formula, OutOfMemory>
-    ensures { IfOk result (λ f. formula_of f ≡ Eq (Read (columns_in columns.now column.0) (term_of index.now)) (Number number)) }
+    ensures { IfOk result (λ f. formula_of f ≡ Eq (Read ((path_of path.now).columns column.0) (term_of index.now)) (Number number)) }
 {
-    let cell = read_after(alloc, columns, column, index)?;
+    let cell = read_after(alloc, path.columns(), column, index)?;
     Ok(Formula::Eq(cell, Term::Number(number)))
 }
 

@@ -1,73 +1,11 @@
-ghost use Rattle.std.specs.Prelude.{◌≡◌, ◌≤◌, IfOk, length, map};
-ghost use Rattle.lc_term.specs.Lists.{Every};
-ghost use Rattle.lc_rider.specs.PathView.{owed_of};
+ghost use Rattle.std.specs.Prelude.{length};
+ghost use Rattle.lc_rider.specs.DutyView.{AreKnown, known_once};
 
-use lc_action::{copy_columns, store};
+use crate::duty::{Duty, Owing, copy_duties};
+use lc_action::{Before, copy_columns, said, store, told};
 use lc_base::{ColId, OutOfMemory};
 use lc_term::{ColExpr, Formula, Term, copy_formulas};
 use std::alloc::Global;
-
-/// What a mark asks for.
-#[derive(Clone, Copy, Debug, PartialEq, Eq)]
-pub enum Owing {
-    /// The call that is marked is pending.
-    Pending,
-    /// It is a call of the operation that is named.
-    Named,
-    /// The guard of some branch holds.
-    Enabled,
-    /// The branch by which replies are noted stores nothing.
-    Observing,
-}
-
-/// What is to hold where the first of a path's facts do.
-pub struct Duty {
-    pub kind: Owing,
-    /// The place of the rider that asks for it, the first being 0.
-    pub rider: usize,
-    /// How many of the path's facts are known there.
-    pub known: usize,
-    pub goal: Formula,
-}
-
-// Written out, so that a place where a duty is let go has one call.
-impl Drop for Duty {
-    fn drop(self) {
-        let Duty {
-            kind: _,
-            rider: _,
-            known: _,
-            goal: _,
-        } = self;
-    }
-}
-
-impl Duty {
-    ghost use Rattle.std.specs.Prelude.{◌≡◌, IfOk};
-    ghost use Rattle.lc_rider.specs.PathView.{owed_of};
-
-    // The same, in memory of its own.
-    fn try_clone(&self, alloc: Global) -> Result<Duty, OutOfMemory>
-        ensures { IfOk result (λ copy. owed_of copy ≡ owed_of self.now) }
-    {
-        Ok(Duty {
-            kind: self.kind,
-            rider: self.rider,
-            known: self.known,
-            goal: self.goal.try_clone(alloc)?,
-        })
-    }
-}
-
-fn copy_duties(alloc: Global, duties: &[Duty]) -> Result<Vec<Duty>, OutOfMemory>
-    ensures { IfOk result (λ copies. map owed_of copies.items ≡ map owed_of duties.now) }
-{
-    let mut copies = Vec::with_capacity(alloc, duties.len())?;
-    for duty in duties {
-        copies.push(duty.try_clone(alloc)?)?;
-    }
-    Ok(copies)
-}
 
 /// One way in which the riders of an edge may go, said of the state before the edge: the facts that tell it from the
 /// others, the columns behind the riders, and what the marks on it ask for.
@@ -75,7 +13,7 @@ pub struct Path {
     facts: Vec<Formula>,
     columns: Vec<(ColId, ColExpr)>,
     marks: Vec<Duty>,
-    ghost are_known: { Every (λ d. d.known ≤ length facts.items) marks.items },
+    ghost are_known: { AreKnown (length facts.items) marks.items } by { known_once (length facts.items) marks.items },
 }
 
 impl Drop for Path {
@@ -89,13 +27,15 @@ impl Drop for Path {
 }
 
 impl Path {
-    ghost use Rattle.std.specs.Prelude.{◌≡◌, ◌≤◌, [], IfOk, length, map};
-    ghost use Rattle.lc_term.specs.Lists.{Every};
-    ghost use Rattle.lc_term.specs.Said.{put};
+    ghost use Rattle.std.specs.Prelude.{◌≡◌, [], true, IfOk, length, map};
+    ghost use Rattle.lc_term.specs.Replacement.{replacing, replace_term};
+    ghost use Rattle.lc_term.specs.Said.{put, term_at, told};
+    ghost use Rattle.lc_term.specs.Truth.{is_ground};
     ghost use Rattle.lc_term.specs.View.{term_of, formula_of, formulas_of};
     ghost use Rattle.lc_action.specs.Telling.{columns_in};
     ghost use Rattle.lc_rider.specs.Paths.{with_fact};
-    ghost use Rattle.lc_rider.specs.PathView.{owing_of, owed_of, duty_in, path_of, with_columns, with_duty};
+    ghost use Rattle.lc_rider.specs.DutyView.{AreKnown, owing_of, owed_of, duty_in};
+    ghost use Rattle.lc_rider.specs.PathView.{path_of, with_columns, with_duty};
 
     /// What holds where this way is gone, in order.
     pub fn facts(&self) -> &[Formula]
@@ -115,9 +55,37 @@ impl Path {
     /// What the marks ask for, in order.
     pub fn marks(&self) -> &[Duty]
         ensures duties { map (duty_in (path_of self.now).facts) (map owed_of result.now) ≡ (path_of self.now).duties }
-        ensures known { Every (λ d. d.known ≤ length (path_of self.now).facts) result.now }
+        ensures known { AreKnown (length (path_of self.now).facts) result.now }
     {
         &self.marks
+    }
+
+    // A term over the columns of this path and these variables, said of the state before the edge.
+    pub(crate) fn said_before(
+        &self,
+        alloc: Global,
+        variables: &[Term],
+        term: &Term,
+    ) -> Result<Term, OutOfMemory>
+        ensures { IfOk result (λ t. term_of t ≡
+            replace_term (replacing (path_of self.now).columns (term_at (map term_of variables.now))) (term_of term.now)) }
+    {
+        let columns = &self.columns;
+        said(alloc, term, Before { columns, variables })
+    }
+
+    // A formula without quantifiers, likewise.
+    pub(crate) fn told_before(
+        &self,
+        alloc: Global,
+        variables: &[Term],
+        formula: &Formula,
+    ) -> Result<Formula, OutOfMemory>
+        requires { is_ground (formula_of formula.now) ≡ true }
+        ensures { IfOk result (λ f. formula_of f ≡ told (path_of self.now).columns (map term_of variables.now) (formula_of formula.now)) }
+    {
+        let columns = &self.columns;
+        told(alloc, formula, Before { columns, variables })
     }
 
     // The path that has these columns, and on which nothing is known and asked for.
