@@ -1,29 +1,16 @@
 -- Riders of the code, one after another.
-use Rattle.std.proofs.Common.{◌≡◌, ℕ, suc, ◌+◌, ◌<◌, ◌≤◌, Option, Some, None, List, [], ◌∷◌, ◌++◌, length, drop, map, get_or, sym, ap, ◌∙◌, add-one, append-nil}
+use Rattle.std.proofs.Common.{◌≡◌, ℕ, suc, ◌+◌, ◌<◌, ◌≤◌, List, ◌∷◌, length, drop, get_or, sym, ap, ◌∙◌, add-one}
 use Rattle.std.proofs.lemmas.List.{drop_more}
 use Rattle.std.proofs.Math.ListN.{drop_of_length-le}
 use Rattle.lc_term.specs.Lists.{concat_map}
-use Rattle.lc_term.specs.Syntax.{Term, Formula}
+use Rattle.lc_term.specs.Syntax.{Term}
 use Rattle.lc_seq.specs.Specification.{Operation}
-use Rattle.lc_rider.specs.Rider as S
-use Rattle.lc_rider.specs.Paths.{Path, deed_paths_where, rider_paths, paths}
-use Rattle.lc_rider.specs.PathView.{path_of}
+use Rattle.lc_rider.specs.Paths.{Path, rider_paths, paths}
 use Rattle.lc_rider.specs.RiderView.{rider_of, riders_of}
-use Rattle.lc_rider.specs.declared.path.Path as D
 use Rattle.lc_rider.specs.declared.rider.Rider.{Rider}
 use Rattle.lc_rider.proofs.PathSteps.{ridden_more, ridden_end}
 
 module _ (operations : List Operation) (first o : ℕ) (τ : List Term) where
-  -- the paths of a rider, by its condition
-  pub by_condition : (n : ℕ) (r : S.Rider) (x : Option Formula) (p : Path) → r.condition ≡ x → rider_paths operations first n o τ r p ≡ deed_paths_where operations first x n o τ r.deed p
-  by_condition n r x p e = ap (λ (y : Option Formula). deed_paths_where operations first y n o τ r.deed p) e
-
-  -- one path, behind which no rider has been done
-  pub ridden_start : (rs : List Rider) (start : D.Path) (ps : List D.Path) → ps ≡ [] ++ start ∷ [] →
-      concat_map (paths operations first 0 o τ (riders_of rs)) (map path_of ps) ≡ paths operations first 0 o τ (riders_of rs) (path_of start)
-  ridden_start rs start ps e =
-      ap (λ (qs : List D.Path). concat_map (paths operations first 0 o τ (riders_of rs)) (map path_of qs)) e ∙ append-nil (paths operations first 0 o τ (riders_of rs) (path_of start))
-
   -- one more rider
   pub ridden_step : (rs : List Rider) (i : ℕ) (r : Rider) (ps qs whole : List Path) → i < length rs → r ≡ get_or rs i r → qs ≡ concat_map (rider_paths operations first i o τ (rider_of r)) ps →
       concat_map (paths operations first i o τ (riders_of (drop i rs))) ps ≡ whole → concat_map (paths operations first (i + 1) o τ (riders_of (drop (i + 1) rs))) qs ≡ whole

@@ -5,13 +5,8 @@ use Rattle.lc_action.specs.ActionView.{first_of}
 use Rattle.lc_rider.specs.Paths.{paths}
 use Rattle.lc_rider.specs.PathView.{path_of}
 use Rattle.lc_rider.specs.RiderView.{riders_of}
-use Rattle.lc_rider.proofs.Ridden.{ridden_start, ridden_step, ridden_all}
+use Rattle.lc_rider.proofs.Ridden.{ridden_step, ridden_all}
 use Rattle.lc_rider.proofs.edge_paths.ridden.Goals as goal
-
-pub loop-number-init : goal.loop-number-init
-loop-number-init c =
-    ridden_start (specification_of c.args.riding.specification.now).operations (first_of c.args.riding.system) c.args.riding.operation.0 (map term_of c.args.riding.variables.now)
-    c.args.riders.now c.args.start c.push.new.self.items c.in_ok-push.ensures.items
 
 pub loop-number-preserved : goal.loop-number-preserved
 loop-number-preserved c =
@@ -19,8 +14,8 @@ loop-number-preserved c =
     let first = first_of c.args.riding.system in
     let o = c.args.riding.operation.0 in
     let τ = map term_of c.args.riding.variables.now in
-    ridden_step operations first o τ c.args.riders.now c.loop-number.number c.rider-item.result (map path_of c.loop-number.paths.items) (map path_of c.in_ok-paths.paths.items)
-    (paths operations first 0 o τ (riders_of c.args.riders.now) (path_of c.args.start)) c.loop-number-test.true c.rider-item.is c.in_ok-paths.ensures c.loop-number.invariant
+    ridden_step operations first o τ c.args.riders.now c.loop-number.number c.index-riders-number.result (map path_of c.loop-number.paths.items) (map path_of c.in_ok-paths.paths.items)
+    (paths operations first 0 o τ (riders_of c.args.riders.now) (path_of c.args.start)) c.loop-number-test.true c.index-riders-number.is c.in_ok-paths.ensures c.loop-number.invariant
 
 pub returns : goal.returns
 returns c =
