@@ -1,5 +1,5 @@
 -- What an instruction leaves, one local or one store after another.
-use Rattle.std.proofs.Common.{◌≡◌, ℕ, zero, suc, ◌+◌, ◌<◌, ◌≤◌, List, [], ◌∷◌, length, drop, map, get_or, refl, sym, ap, ap₂, ◌∙◌, arith}
+use Rattle.std.proofs.Common.{◌≡◌, ℕ, ◌+◌, ◌<◌, List, [], ◌∷◌, length, drop, map, get_or, refl, sym, ap, ap₂, ◌∙◌}
 use Rattle.std.specs.Prelude.{slice_set}
 use Rattle.std.proofs.lemmas.List.{drop_more}
 use Rattle.lc_term.specs.Said.{put, puts}
@@ -25,12 +25,6 @@ assigned_more xs rs ts i r t hr er ht et =
     ap₂ (λ (qs : List LocalId) (us : List Term). assigned xs (locals_of qs) (terms_of us))
     (drop_more rs i (record { 0 = 0 }) hr ∙ ap (λ (x : LocalId). x ∷ drop (i + 1) rs) (sym er))
     (drop_more ts i t ht ∙ ap (λ (x : Term). x ∷ drop (i + 1) ts) (sym et))
-
--- a place behind the last is no place
-pub set_past : (xs : List S.Term) (k : ℕ) (x : S.Term) → length xs ≤ k → slice_set xs k x ≡ xs
-set_past [] k x h = refl
-set_past (y ∷ xs) zero x h = absurd (omega arith)
-set_past (y ∷ xs) (suc k) x h = ap (λ ys. y ∷ ys) (set_past xs k x (omega arith))
 
 -- one more store
 pub stored_more : (us : List Update) (i : ℕ) (u : Update) (ρ : ℕ → S.Column) → i < length us → u ≡ get_or us i u →

@@ -1,14 +1,10 @@
 -- Lists that are mapped to lists and joined.
-use Rattle.std.proofs.Common.{◌≡◌, List, [], ◌∷◌, ◌++◌, refl, sym, ap, ◌∙◌, append_assoc, append-nil}
+use Rattle.std.proofs.Common.{◌≡◌, List, [], ◌∷◌, ◌++◌, refl, sym, ap, ◌∙◌, append_assoc}
 use Rattle.lc_term.specs.Lists.{concat_map}
 
 pub concat_map-append : {A B : Type 0} (f : A → List B) (xs ys : List A) → concat_map f (xs ++ ys) ≡ concat_map f xs ++ concat_map f ys
 concat_map-append f [] ys = refl
 concat_map-append f (x ∷ xs) ys = ap (λ zs. f x ++ zs) (concat_map-append f xs ys) ∙ sym (append_assoc (f x) (concat_map f xs) (concat_map f ys))
-
--- one more
-pub concat_map-more : {A B : Type 0} (f : A → List B) (xs : List A) (x : A) → concat_map f (xs ++ x ∷ []) ≡ concat_map f xs ++ f x
-concat_map-more f xs x = concat_map-append f xs (x ∷ []) ∙ ap (λ zs. concat_map f xs ++ zs) (append-nil (f x))
 
 pub concat_map-concat : {A B C : Type 0} (f : B → List C) (g : A → List B) (xs : List A) → concat_map f (concat_map g xs) ≡ concat_map (λ x. concat_map f (g x)) xs
 concat_map-concat f g [] = refl

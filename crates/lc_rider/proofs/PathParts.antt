@@ -31,7 +31,7 @@ copies_known fs gs ds es f d h =
     known_from (length gs) es (subst (λ xs. AreOwed (length gs) xs) (sym d) (known_to (length gs) ds (subst (λ n. AreKnown n ds) (sym (same_length fs gs f)) h)))
 
 -- facts as they are seen are as many
-pub known_seen : (fs : List Formula) (ds : List Duty) → AreKnown (length fs) ds → AreKnown (length (formulas_of fs)) ds
+known_seen : (fs : List Formula) (ds : List Duty) → AreKnown (length fs) ds → AreKnown (length (formulas_of fs)) ds
 known_seen fs ds h = subst (λ n. AreKnown n ds) (sym (length-map fs formula_of)) h
 
 -- one more fact
