@@ -36,8 +36,12 @@ impl Drop for Action {
     }
 }
 
-// These terms stored in the cells of the acting client, one in each column.
-fn at_client(alloc: Global, columns: &[ColId], values: &[Term]) -> Result<Vec<Update>, OutOfMemory>
+/// Updates that store these terms in the cells of client 1, one in each column.
+pub fn at_client(
+    alloc: Global,
+    columns: &[ColId],
+    values: &[Term],
+) -> Result<Vec<Update>, OutOfMemory>
     ensures { IfOk result (λ us. updates_of us.items ≡ at_client (map (λ c. c.0) columns.now) (map term_of values.now)) }
 {
     let mut updates = Vec::with_capacity(alloc, columns.len())?;

@@ -1,6 +1,6 @@
 ghost use Rattle.std.specs.Prelude.{◌≡◌, IfOk, map};
 ghost use Rattle.lc_term.specs.Syntax.{Read, Store};
-ghost use Rattle.lc_term.specs.Said.{put, after};
+ghost use Rattle.lc_term.specs.Said.{put, puts, said, after};
 ghost use Rattle.lc_term.specs.View.{term_of, column_of};
 ghost use Rattle.lc_seq.specs.SpecView.{updates_of};
 ghost use Rattle.lc_action.specs.Telling.{columns_in};
@@ -93,6 +93,24 @@ pub fn store(
     Ok(columns)
 }
 
+/// The columns after more updates, whose indexes and values are taken in the columns and with the variables before.
+pub fn store_more(
+    alloc: Global,
+    before: Before<'_>,
+    mut stored: Vec<(ColId, ColExpr)>,
+    updates: &[Update],
+) -> Result<Vec<(ColId, ColExpr)>, OutOfMemory>
+    ensures { IfOk result (λ after. columns_in after.items ≡ puts (columns_in stored.items)
+        (map (said (columns_in before.entry.columns.now) (map term_of before.entry.variables.now)) (updates_of updates.now))) }
+{
+    for update in updates {
+        let index = said(alloc, &update.index, before)?;
+        let value = said(alloc, &update.value, before)?;
+        stored = store(alloc, stored, update.column, index, value)?;
+    }
+    Ok(stored)
+}
+
 /// The columns after updates that take their indexes and values together, in these columns and with these variables,
 /// and are then stored in their order.
 pub fn store_together(
@@ -102,11 +120,6 @@ pub fn store_together(
 ) -> Result<Vec<(ColId, ColExpr)>, OutOfMemory>
     ensures { IfOk result (λ stored. columns_in stored.items ≡ after (columns_in before.entry.columns.now) (map term_of before.entry.variables.now) (updates_of updates.now)) }
 {
-    let mut stored = copy_columns(alloc, before.columns)?;
-    for update in updates {
-        let index = said(alloc, &update.index, before)?;
-        let value = said(alloc, &update.value, before)?;
-        stored = store(alloc, stored, update.column, index, value)?;
-    }
-    Ok(stored)
+    let stored = copy_columns(alloc, before.columns)?;
+    store_more(alloc, before, stored, updates)
 }

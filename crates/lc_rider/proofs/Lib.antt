@@ -1,3 +1,9 @@
 pub mod Riding
 pub mod PathLaw
 pub mod PathTaken
+pub mod Lists
+pub mod PathSteps
+pub mod PathParts
+pub mod Marked
+pub mod Assigned
+pub mod Ridden

@@ -2,3 +2,6 @@ pub mod Rider
 pub mod Paths
 pub mod PathLaws
 pub mod RiderView
+pub mod DutyView
+pub mod PathView
+pub mod MarkView

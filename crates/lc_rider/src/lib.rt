@@ -1,7 +1,18 @@
 //! Riders: what is done beside an instruction, and the paths by which conditions speak of it.
 #![tactic(auto)]
 
+mod duty;
+mod edge;
+mod edge_paths;
 pub mod laws;
+mod mark_paths;
+mod marked_columns;
+mod marking;
+mod path;
 mod rider;
 
+pub use duty::{Duty, Owing};
+pub use edge::Edge;
+pub use edge_paths::paths;
+pub use path::Path;
 pub use rider::{Rider, When};

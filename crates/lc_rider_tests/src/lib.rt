@@ -1,0 +1,5 @@
+//! What no contract says of the paths of riders.
+#![tactic(auto)]
+
+#[cfg(test)]
+mod path_tests;
