@@ -2,11 +2,13 @@
 #![tactic(auto)]
 
 mod column;
+mod declared_column;
 mod formula;
 mod made;
 mod term;
 mod words;
 
 pub use column::read_column;
+pub use declared_column::read_declared_column;
 pub use formula::{read_formula, read_formulas};
 pub use term::{Terms, read_number, read_term};
