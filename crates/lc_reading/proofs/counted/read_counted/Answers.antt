@@ -3,7 +3,6 @@ use Rattle.lc_sexp.specs.Trees.{Tree, Trees, none, ◌▸◌, item_count}
 use Rattle.lc_sexp.specs.Shown.{rest_of, number_of, owner_of}
 use Rattle.lc_reading.specs.Parts.{tree_of, place_of}
 use Rattle.lc_reading.specs.Readings.{Reading, fine, wrong, both}
-use Rattle.lc_reading.specs.Results.{IsReading}
 use Rattle.lc_reading.specs.Rows.{counted_reading}
 use Rattle.lc_reading.specs.declared.pass.Pass.TheVariants.{Shape}
 use Rattle.lc_reading.proofs.SoFar.{so_far_push, each_end, misshapen_end}
