@@ -6,7 +6,7 @@ use Rattle.lc_reading.specs.Readings.{Reading, wrong, mapped, three, behind_read
 use Rattle.lc_reading.specs.Rows.{first_name, second_name, all_declared, declared_reading}
 use Rattle.lc_reading.specs.Words.{is}
 use Rattle.lc_reading.specs.declared.pass.Pass.TheVariants.{Shape}
-use Rattle.lc_text.specs.Declared.{declared_column_reading}
+use Rattle.lc_text.specs.DeclaredColumn.{declared_column_reading}
 use Rattle.lc_text.specs.Terms.{triple}
 use Rattle.lc_seq.specs.Specification.{Column, Operation, Specification}
 use Rattle.lc_spec_text.specs.Scopes.{Columns}

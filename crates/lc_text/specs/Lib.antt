@@ -1,5 +1,5 @@
 pub mod Heads
 pub mod Terms
 pub mod Formulas
-pub mod Declared
+pub mod DeclaredColumn
 pub mod Seen

@@ -2,7 +2,7 @@ ghost use Rattle.lc_sexp.specs.Shown.{rest_of, number_of, owner_of};
 ghost use Rattle.lc_reading.specs.Parts.{tree_of, place_of};
 ghost use Rattle.lc_reading.specs.Results.{IsReading};
 ghost use Rattle.lc_reading.specs.TableView.{listed};
-ghost use Rattle.lc_text.specs.Declared.{column_parts_reading, declared_column_reading};
+ghost use Rattle.lc_text.specs.DeclaredColumn.{column_parts_reading, declared_column_reading};
 ghost use Rattle.lc_text.specs.Seen.{column_parts};
 
 use crate::term::read_number;
