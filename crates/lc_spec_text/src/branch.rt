@@ -92,11 +92,8 @@ fn read_branch(
 ) -> Result<Branch, ReadFault>
     ensures { IsReading branch_of (branch_reading (columns_seen scope.now.columns) (variables_seen scope.now) count (place_of part.entry) (tree_of part.entry)) result }
 {
-    let parts = match behind_word(part, "branch") {
-        Ok(list) => read_branch_parts(alloc, scope, count, list),
-        Err(misfit) => Err(ReadFault::from(misfit)),
-    };
-    made_branch(parts)
+    let list = behind_word(part, "branch")?;
+    made_branch(read_branch_parts(alloc, scope, count, list))
 }
 
 /// Reads branches, each with so many replies.

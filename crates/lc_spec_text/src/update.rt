@@ -74,11 +74,10 @@ fn read_update(
 ) -> Result<Update, ReadFault>
     ensures { IsReading update_of (update_reading (columns_seen scope.now.columns) (names_seen scope.now) (place_of part.entry) (tree_of part.entry)) result }
 {
-    let parts = match part.item() {
+    match part.item() {
         Item::Atom(atom) => Err(wrong(Pass::Shape, atom.number())),
-        Item::List(list) => read_update_parts(alloc, scope, list),
-    };
-    made_update(parts)
+        Item::List(list) => made_update(read_update_parts(alloc, scope, list)),
+    }
 }
 
 /// Reads updates.
