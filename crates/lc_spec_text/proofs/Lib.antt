@@ -1,1 +1,4 @@
+pub mod Counts
+pub mod Parts
 pub mod Places
+pub mod Resolved
