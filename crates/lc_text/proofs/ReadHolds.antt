@@ -23,7 +23,7 @@ use Rattle.lc_text.specs.declared.words.Operation.{Operation}
 use Rattle.lc_text.specs.declared.words.Operation.TheVariants as O
 use Rattle.lc_text.specs.declared.words.Built.{Built}
 use Rattle.lc_text.specs.declared.words.Connective.{Connective}
-use Rattle.lc_text.specs.declared.words.Connective.TheVariants as C
+use Rattle.lc_text.specs.declared.words.Connective.TheVariants as W
 
 -- of a column that may be used
 abbrev pub OfUsable : (Column → Type 0) → ColumnUse → Type 0
@@ -132,16 +132,16 @@ connective_holds : (names : Names) (P : Term → Type 0) (C : Column → Type 0)
     (terms : Reading (Term × Term)) (one : Reading Formula) (any : Reading Formulas) (two : Reading (Formula × Formula)) (body : Reading Formula)
     → Holds (λ p. P p.0 × P p.1) terms → Holds F one → Holds G any → Holds (λ p. F p.0 × F p.1) two → Holds F (connective_reading n (allowed q o) terms one any two body)
 connective_holds names P C F G all n q e None terms one any two body h g i k = tt
-connective_holds names P C F G all n q e (Some C.Le) terms one any two body h g i k = mapped_holds (λ p. P p.0 × P p.1) F (comparison_of C.Le) terms h (λ p u. all.orders p.0 p.1 u.0 u.1)
-connective_holds names P C F G all n q e (Some C.Eq) terms one any two body h g i k = mapped_holds (λ p. P p.0 × P p.1) F (comparison_of C.Eq) terms h (λ p u. all.equations p.0 p.1 u.0 u.1)
-connective_holds names P C F G all n q e (Some C.Not) terms one any two body h g i k = mapped_holds F F T.Not one g all.negations
-connective_holds names P C F G all n q e (Some C.And) terms one any two body h g i k = mapped_holds G F (joined_by C.And) any i all.conjunctions
-connective_holds names P C F G all n q e (Some C.Or) terms one any two body h g i k = mapped_holds G F (joined_by C.Or) any i all.disjunctions
-connective_holds names P C F G all n q e (Some C.Implies) terms one any two body h g i k = mapped_holds (λ p. F p.0 × F p.1) F implication_of two k (λ p u. all.implications p.0 p.1 u.0 u.1)
-connective_holds names P C F G all n true e (Some C.Forall) terms one any two body h g i k = absurd (cc)
-connective_holds names P C F G all n false e (Some C.Forall) terms one any two body h g i k = tt
-connective_holds names P C F G all n true e (Some C.Exists) terms one any two body h g i k = absurd (cc)
-connective_holds names P C F G all n false e (Some C.Exists) terms one any two body h g i k = tt
+connective_holds names P C F G all n q e (Some W.Le) terms one any two body h g i k = mapped_holds (λ p. P p.0 × P p.1) F (comparison_of W.Le) terms h (λ p u. all.orders p.0 p.1 u.0 u.1)
+connective_holds names P C F G all n q e (Some W.Eq) terms one any two body h g i k = mapped_holds (λ p. P p.0 × P p.1) F (comparison_of W.Eq) terms h (λ p u. all.equations p.0 p.1 u.0 u.1)
+connective_holds names P C F G all n q e (Some W.Not) terms one any two body h g i k = mapped_holds F F T.Not one g all.negations
+connective_holds names P C F G all n q e (Some W.And) terms one any two body h g i k = mapped_holds G F (joined_by W.And) any i all.conjunctions
+connective_holds names P C F G all n q e (Some W.Or) terms one any two body h g i k = mapped_holds G F (joined_by W.Or) any i all.disjunctions
+connective_holds names P C F G all n q e (Some W.Implies) terms one any two body h g i k = mapped_holds (λ p. F p.0 × F p.1) F implication_of two k (λ p u. all.implications p.0 p.1 u.0 u.1)
+connective_holds names P C F G all n true e (Some W.Forall) terms one any two body h g i k = absurd (cc)
+connective_holds names P C F G all n false e (Some W.Forall) terms one any two body h g i k = tt
+connective_holds names P C F G all n true e (Some W.Exists) terms one any two body h g i k = absurd (cc)
+connective_holds names P C F G all n false e (Some W.Exists) terms one any two body h g i k = tt
 
 mutual
   pub formula_holds : (names : Names) (P : Term → Type 0) (C : Column → Type 0) (F : Formula → Type 0) (G : Formulas → Type 0) → Kept names P C F G → (n : ℕ) (t : Tree) → Holds F (formula_reading names [] n t)
