@@ -1,6 +1,7 @@
 -- In a specification that is read all names are declared.
-use Rattle.std.proofs.Common.{◌≡◌, ℕ, zero, suc, ◌+◌, ◌<◌, Bool, true, false, ◌&&◌, cond, List, [], ◌∷◌, ◌++◌, length, length-append, length-map, Option, Some, None, Ok, Err, refl, sym, ap, ◌∙◌, subst, arith, IfSome}
+use Rattle.std.proofs.Common.{◌≡◌, ℕ, zero, suc, ◌+◌, ◌<◌, Bool, true, false, ◌&&◌, cond, List, [], ◌∷◌, ◌++◌, length, length-append, Option, Some, None, Ok, Err, refl, sym, ap, ◌∙◌, subst, arith, IfSome}
 use Rattle.std.proofs.lemmas.Bool.{eq-eqb}
+use Rattle.std.proofs.lemmas.List.{length-map}
 use Rattle.std.proofs.lemmas.Bool.Decides.{nat_tests}
 use Rattle.std.specs.Prelude.{Result, Vec, ℤ, pos, negsuc, option_map, codes, nat_lt, ◌==◌, IfOk}
 use Rattle.std.specs.declared.alloc.Global.{Global}
@@ -172,7 +173,7 @@ branch_parts_hold columns variables count n m (t ▸ u ▸ x ▸ ts) =
     )))
 
 branch_holds : (columns : Columns) (variables : List (List ℕ)) (count : Option ℕ) (n : ℕ) (t : Tree)
-    → Holds (Branched (length columns.own) (suc (length variables)) count) (branch_reading columns variables count n t)
+    → Holds (Branched (length columns.own) (suc (length variables)) count) (branch_reading columns (branch_names columns.own variables) count n t)
 branch_holds columns variables count n t =
     let P = Branched (length columns.own) (suc (length variables)) count in
     let N = branch_parts_reading columns (branch_names columns.own variables) count in
@@ -182,7 +183,7 @@ abbrev AllBranched : ℕ → ℕ → Option ℕ → List Branch → Type 0
 AllBranched c v count bs = (list_all (branch_is_resolved c v) bs ≡ true) × ((k : ℕ) → count ≡ Some k → list_all (λ (b : Branch). length b.replies == k) bs ≡ true)
 
 branches_hold : (columns : Columns) (variables : List (List ℕ)) (count : Option ℕ) (m : ℕ) (ts : Trees)
-    → Holds (AllBranched (length columns.own) (suc (length variables)) count) (each_reading (branch_reading columns variables count) m ts)
+    → Holds (AllBranched (length columns.own) (suc (length variables)) count) (each_reading (branch_reading columns (branch_names columns.own variables) count) m ts)
 branches_hold columns variables count m none = (refl, λ k e. refl)
 branches_hold columns variables count m (t ▸ ts) =
     let c = length columns.own in

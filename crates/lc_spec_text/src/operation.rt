@@ -9,6 +9,7 @@ ghost use Rattle.lc_seq.specs.Specification as S;
 ghost use Rattle.lc_seq.specs.SpecView.{operation_of};
 ghost use Rattle.lc_spec_text.specs.Branches.{branch_reading};
 ghost use Rattle.lc_spec_text.specs.Operations.{operation_parts_reading, the_operation, operation_reading};
+ghost use Rattle.lc_spec_text.specs.Scopes.{branch_names};
 ghost use Rattle.lc_spec_text.specs.ScopeView.{columns_seen};
 ghost use Rattle.lc_spec_text.specs.Seen.{branches_of, operation_parts};
 
@@ -34,10 +35,11 @@ fn read_branches(
     count: Option<u64>,
     list: Cursor<'_>,
 ) -> Result<Vec<Branch>, ReadFault>
-    ensures { IsReading branches_of (each_reading (branch_reading (columns_seen columns.entry) (listed variables.entry) count) (number_of list.entry) (rest_of list.entry)) result }
+    ensures { IsReading branches_of (each_reading (branch_reading (columns_seen columns.entry) (branch_names (columns_seen columns.entry).own (listed variables.entry)) count) (number_of list.entry) (rest_of list.entry)) result }
 {
-    let scope = InBranch::new(columns, variables)?;
+    let scope = InBranch::new(columns.own, variables)?;
     let branches = Branches {
+        columns,
         scope: &scope,
         count,
     };

@@ -1,6 +1,6 @@
 ghost use Rattle.std.specs.Prelude.{◌≡◌, ℕ, List, IfOk, Some, None, if◌then◌else◌};
 ghost use Rattle.lc_sexp.specs.Shown.{text_of, atom_number};
-ghost use Rattle.lc_sexp.specs.Trees.{atom};
+ghost use Rattle.lc_sexp.specs.Trees.{atom as the_atom};
 ghost use Rattle.lc_reading.specs.Parts.{tree_of, place_of};
 ghost use Rattle.lc_reading.specs.Readings.{Reading, three};
 ghost use Rattle.lc_reading.specs.Naming.{name_reading};
@@ -107,7 +107,7 @@ fn too_large(atom: &Atom<'_>) -> ReadFault
 
 /// The count of replies.
 fn read_few(atom: &Atom<'_>) -> Result<u32, ReadFault>
-    ensures { IsReading (λ k. k) (count_reading (atom_number atom.now) (atom (text_of atom.now))) result }
+    ensures { IsReading (λ k. k) (count_reading (atom_number atom.now) (the_atom (text_of atom.now))) result }
 {
     match atom.integer() {
         Ok(number) => few(number, atom.number()),
