@@ -14,7 +14,7 @@ use Rattle.lc_spec_text.proofs.branch.read_branch.Goals as goal
 pub returns-in_err-list : goal.returns-in_err-list
 returns-in_err-list g c =
     let read = branch_parts_reading (columns_seen c.args.columns) (g.S.Scope.names c.args.scope.now) c.args.count in
-    misfit_told branch_of _ c.in_err-list.field-0.0 _ (ap (mapped the_branch) (behind_reading-err (codes "branch") read c.args.part c.in_err-list.field-0.0 c.in_err-list.ensures)) c.from_residual-in_err-list.ensures.1
+    misfit_told branch_of _ c.in_err-list.field-0.0 _ (ap (mapped the_branch) (behind_reading-err (codes "branch") read c.args.part c.in_err-list.field-0.0 c.in_err-list.ensures)) c.from_residual.ensures.1
 
 pub returns : goal.returns
 returns g c =

@@ -15,7 +15,7 @@ use Rattle.lc_spec_text.proofs.operation.read_form.Goals as goal
 pub returns-in_err-list : goal.returns-in_err-list
 returns-in_err-list c =
     let read = operation_parts_reading (columns_seen c.args.columns) (listed c.args.before.now) in
-    misfit_told operation_of _ c.in_err-list.field-0.0 _ (ap (mapped the_operation) (behind_reading-err (codes "op") read c.args.part c.in_err-list.field-0.0 c.in_err-list.ensures)) c.from_residual-in_err-list.ensures.1
+    misfit_told operation_of _ c.in_err-list.field-0.0 _ (ap (mapped the_operation) (behind_reading-err (codes "op") read c.args.part c.in_err-list.field-0.0 c.in_err-list.ensures)) c.from_residual.ensures.1
 
 pub returns : goal.returns
 returns c =

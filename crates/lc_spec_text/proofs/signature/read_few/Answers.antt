@@ -1,4 +1,4 @@
-use Rattle.std.proofs.Common.{ℕ, sym, ap, ◌∙◌, subst}
+use Rattle.std.proofs.Common.{◌≡◌, ℕ, ℤ, Some, sym, ap, ◌∙◌, subst, rules, to_z, of_z, w64}
 use Rattle.lc_sexp.specs.Numerals.{integer_of}
 use Rattle.lc_sexp.specs.Parts.{integer_fit}
 use Rattle.lc_sexp.specs.Shown.{text_of, atom_number}
@@ -15,8 +15,9 @@ pub returns-in-Ok : goal.returns-in-Ok
 returns-in-Ok c =
     let n = atom_number c.args.atom.now in
     let w = text_of c.args.atom.now in
+    let same : to_z w64 (of_z w64 c.in-Ok.number) ≡ c.in-Ok.number = search rules in
     subst (λ r. IsReading (λ (k : ℕ). k) r c.few.result) (sym (fitting_told n w c.in-Ok.number (answers_fits (integer_fit (atom w)) n c.in-Ok.number c.in-Ok.ensures)))
-    (rw c.number.ensures at c.few.ensures)
+    (subst (λ (z : ℤ). IsReading (λ (k : ℕ). k) (few n (natural (Some z))) c.few.result) same (rw c.number.ensures at c.few.ensures))
 
 pub returns-in-Err-Shape : goal.returns-in-Err-Shape
 returns-in-Err-Shape c =

@@ -15,7 +15,7 @@ use Rattle.lc_spec_text.proofs.specification.read_specification.Goals as goal
 pub returns-in_err-list : goal.returns-in_err-list
 returns-in_err-list c =
     let read = specification_parts_reading (listed c.args.others.now) in
-    misfit_told specification_of _ c.in_err-list.field-0.0 _ (ap (mapped the_specification) (behind_reading-err (codes "spec") read c.args.part c.in_err-list.field-0.0 c.in_err-list.ensures)) c.from_residual-in_err-list.ensures.1
+    misfit_told specification_of _ c.in_err-list.field-0.0 _ (ap (mapped the_specification) (behind_reading-err (codes "spec") read c.args.part c.in_err-list.field-0.0 c.in_err-list.ensures)) c.from_residual.ensures.1
 
 pub returns : goal.returns
 returns c =
