@@ -1,13 +1,13 @@
 -- Counts of replies, and their signs.
-use Rattle.std.proofs.Common.{◌≡◌, ℕ, zero, suc, Bool, true, false, List, [], ◌∷◌, Option, Some, None, Ok, Err, cond, refl, sym, ap, ◌∙◌, arith}
+use Rattle.std.proofs.Common.{◌≡◌, ℕ, zero, suc, Bool, true, false, List, [], ◌∷◌, Option, Some, None, Ok, Err, cond, refl, ap, arith}
 use Rattle.std.proofs.lemmas.Bool.Decides.{nat_tests}
-use Rattle.std.specs.Prelude.{◌==◌, nat_lt, option_map, ℤ, pos, negsuc}
+use Rattle.std.specs.Prelude.{◌==◌, nat_lt, option_map, ℤ, pos}
 use Rattle.lc_sexp.specs.Numerals.{natural_of, negative_of, negated, integer_of}
 use Rattle.lc_sexp.specs.Parts.{Fit, fits, misshapen, beyond, fits_i64, integer_within, integer_fit}
 use Rattle.lc_sexp.specs.Shown.{Answers, Same}
 use Rattle.lc_sexp.specs.Trees.{atom}
 use Rattle.lc_sexp.specs.declared.misfit.Misfit.TheVariants as M
-use Rattle.lc_reading.specs.Readings.{Reading, flawed, wrong}
+use Rattle.lc_reading.specs.Readings.{flawed, wrong}
 use Rattle.lc_reading.specs.Flaws.{at}
 use Rattle.lc_reading.specs.declared.pass.Pass.TheVariants.{Shape, Bound}
 use Rattle.lc_spec_text.specs.Operations.{natural, few, is_negative}

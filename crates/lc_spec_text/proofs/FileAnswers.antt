@@ -12,7 +12,6 @@ use Rattle.lc_sexp.specs.Reads.{ReadsAs, IsFirstFault}
 use Rattle.lc_sexp.specs.Trees.{Trees}
 use Rattle.lc_reading.specs.Flaws.{refused_in, refusal_of}
 use Rattle.lc_reading.specs.Readings.{Reading, fine, flawed}
-use Rattle.lc_reading.specs.declared.flaw.Flaw.{Flaw}
 use Rattle.lc_reading.specs.declared.pass.Pass.{Pass}
 use Rattle.lc_reading.specs.declared.pass.Pass.TheVariants as P
 use Rattle.lc_seq.specs.Specification.{Specification}

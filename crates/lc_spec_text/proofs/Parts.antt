@@ -8,7 +8,7 @@ use Rattle.lc_sexp.specs.declared.cursor.Cursor.{Cursor}
 use Rattle.lc_sexp.specs.declared.misfit.Misfit.{Misfit}
 use Rattle.lc_reading.specs.Flaws.{misfit_flaw}
 use Rattle.lc_reading.specs.Naming.{name_reading}
-use Rattle.lc_reading.specs.Parts.{IsNext, IsBehind, IsBehindWord, begins, tree_of, place_of}
+use Rattle.lc_reading.specs.Parts.{IsNext, IsBehindWord, begins, tree_of, place_of}
 use Rattle.lc_reading.specs.Readings.{Reading, flawed, both, three}
 use Rattle.lc_reading.specs.Results.{IsReading, IsReadFault}
 use Rattle.lc_reading.specs.Rows.{each_reading, all_declared, first_name}
@@ -19,7 +19,7 @@ use Rattle.lc_reading.specs.declared.part.Part.{Part}
 use Rattle.lc_text.specs.Terms.{pair, triple}
 use Rattle.lc_spec_text.specs.Scopes.{Columns, branch_names}
 use Rattle.lc_spec_text.specs.Branches.{branch_reading}
-use Rattle.lc_spec_text.specs.Operations.{arguments_reading, count_reading, count_in, variables_in, signature_reading, operation_parts_reading}
+use Rattle.lc_spec_text.specs.Operations.{arguments_reading, count_reading, count_in, variables_in, operation_parts_reading}
 use Rattle.lc_spec_text.specs.Specifications.{columns_reading, columns_in, operations_reading, specification_parts_reading}
 
 -- a misfit that is passed on

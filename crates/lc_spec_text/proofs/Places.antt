@@ -1,5 +1,5 @@
 -- Places of names that are listed.
-use Rattle.std.proofs.Common.{◌≡◌, ℕ, suc, ◌<◌, ◌≤◌, Bool, true, false, List, [], ◌∷◌, Option, Some, None, cond, sym, arith, IfSome}
+use Rattle.std.proofs.Common.{◌≡◌, ℕ, suc, ◌<◌, Bool, true, false, List, [], ◌∷◌, Option, Some, None, cond, sym, arith, IfSome}
 use Rattle.std.specs.Prelude.{option_map, length}
 use Rattle.lc_reading.specs.Words.{is}
 use Rattle.lc_reading.specs.Listed.{place_of}

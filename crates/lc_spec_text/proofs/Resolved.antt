@@ -1,5 +1,5 @@
 -- In a specification that is read all names are declared.
-use Rattle.std.proofs.Common.{◌≡◌, ℕ, zero, suc, ◌+◌, ◌<◌, Bool, true, false, ◌&&◌, cond, List, [], ◌∷◌, ◌++◌, length, length-append, Option, Some, None, Ok, Err, refl, sym, ap, ◌∙◌, subst, arith, IfSome}
+use Rattle.std.proofs.Common.{◌≡◌, ℕ, suc, ◌+◌, ◌<◌, Bool, true, false, ◌&&◌, cond, List, [], ◌∷◌, ◌++◌, length, length-append, Option, Some, None, Ok, Err, refl, sym, ap, ◌∙◌, subst, arith, IfSome}
 use Rattle.std.proofs.lemmas.Bool.{eq-eqb}
 use Rattle.std.proofs.lemmas.List.{length-map}
 use Rattle.std.proofs.lemmas.Bool.Decides.{nat_tests}
@@ -7,16 +7,15 @@ use Rattle.std.specs.Prelude.{Result, Vec, ℤ, pos, negsuc, option_map, codes, 
 use Rattle.std.specs.declared.alloc.Global.{Global}
 use Rattle.std.specs.List.{list_all}
 use Rattle.lc_sexp.specs.Numerals.{integer_of}
-use Rattle.lc_sexp.specs.Parts.{fits, beyond, fits_i64, integer_within, integer_fit}
+use Rattle.lc_sexp.specs.Parts.{fits, beyond, fits_i64, integer_within}
 use Rattle.lc_sexp.specs.Trees.{Tree, Trees, atom, list, none, ◌▸◌, item_count}
 use Rattle.lc_term.specs.Places.{known, term_passes, column_passes, is_known, are_known}
 use Rattle.lc_term.specs.Syntax.{Term, Column, Formula, Formulas}
 use Rattle.lc_term.specs.Truth.{is_ground, are_ground}
-use Rattle.lc_term.specs.declared.scope.Extra.{Extra}
 use Rattle.lc_reading.proofs.Holding.{Holds, held, anything, mapped_holds, both_holds, three_holds, ended_holds, limited_holds, if_holds, listed_holds, behind_holds, and_true, each_holds, counted_holds, declared_holds, declared_counts}
 use Rattle.lc_reading.specs.Listed.{place_of, declared_by}
 use Rattle.lc_reading.specs.Naming.{is_full, name_reading}
-use Rattle.lc_reading.specs.Readings.{Reading, fine, flawed, wrong, mapped, limited, listed_reading}
+use Rattle.lc_reading.specs.Readings.{Reading, fine, flawed, wrong, listed_reading}
 use Rattle.lc_reading.specs.Results.{IsReading}
 use Rattle.lc_reading.specs.Rows.{first_name, second_name, all_declared, each_reading, counted_reading, declared_reading}
 use Rattle.lc_reading.specs.Words.{is}
@@ -24,7 +23,7 @@ use Rattle.lc_reading.specs.declared.flaw.ReadFault.{ReadFault}
 use Rattle.lc_reading.specs.declared.pass.Pass.TheVariants.{Shape, Bound}
 use Rattle.lc_base.specs.declared.name.Name.{Name}
 use Rattle.lc_text.proofs.ReadHolds.{Kept, OfUsable, term_holds, formula_holds}
-use Rattle.lc_text.specs.DeclaredColumn.{column_parts_reading, declared_column_reading}
+use Rattle.lc_text.specs.DeclaredColumn.{column_parts_reading}
 use Rattle.lc_text.specs.Formulas.{formula_reading}
 use Rattle.lc_text.specs.Terms.{pair, triple, number_reading, term_reading}
 use Rattle.lc_seq.specs.Specification as S
@@ -36,8 +35,8 @@ use Rattle.lc_spec_text.specs.Seen.{operations_of, specification_parts}
 use Rattle.lc_spec_text.proofs.Places.{placed_below}
 use Rattle.lc_spec_text.specs.Scopes.{Columns, client, column_at, branch_names}
 use Rattle.lc_spec_text.specs.Branches.{stored, written_reading, the_update, update_parts_reading, update_reading, updates_reading, replies_reading, the_branch, branch_parts_reading, branch_reading}
-use Rattle.lc_spec_text.specs.Operations.{natural, few, count_reading, count_in, fitting_natural, arguments_reading, variables_in, signature_reading, operation_parts_reading, the_operation, operation_reading}
-use Rattle.lc_spec_text.specs.Specifications.{the_column, column_reading, columns_reading, columns_in, operations_reading, specification_parts_reading, the_specification}
+use Rattle.lc_spec_text.specs.Operations.{natural, few, count_reading, count_in, fitting_natural, arguments_reading, variables_in, operation_parts_reading, the_operation, operation_reading}
+use Rattle.lc_spec_text.specs.Specifications.{the_column, column_reading, columns_reading, columns_in, specification_parts_reading}
 
 -- columns and variables of a term are below these counts
 abbrev pub TermKnown : ℕ → ℕ → Term → Type 0

@@ -8,7 +8,6 @@ use Rattle.lc_term.specs.Syntax as T
 use Rattle.lc_term.specs.View.{term_of, formula_of}
 use Rattle.lc_term.specs.declared.term.Term.{Term}
 use Rattle.lc_term.specs.declared.formula.Formula.{Formula}
-use Rattle.lc_reading.specs.TableView.{listed}
 use Rattle.lc_seq.specs.Specification as S
 use Rattle.lc_seq.specs.SpecView.{column_of, update_of, branch_of, operation_of}
 use Rattle.lc_seq.specs.declared.specification.Column.{Column}

@@ -1,5 +1,5 @@
 -- What a text reads as where a specification is due.
-use Rattle.std.specs.Prelude.{ℕ, ◌+◌, ℤ, codes, if◌then◌else◌, List, [], Option, Some, None}
+use Rattle.std.specs.Prelude.{ℕ, ◌+◌, ℤ, codes, if◌then◌else◌, List, [], Some, None}
 use Rattle.lc_sexp.specs.Trees.{Tree, Trees, atom, list, none, ◌▸◌, item_count}
 use Rattle.lc_reading.specs.Naming.{name_reading}
 use Rattle.lc_reading.specs.Readings.{Reading, wrong, mapped, three, behind_reading}

@@ -1,4 +1,4 @@
-use Rattle.std.proofs.Common.{◌≡◌, ℕ, List}
+use Rattle.std.proofs.Common.{ℕ, List}
 use Rattle.lc_base.specs.Name.{bytes_of}
 use Rattle.lc_reading.proofs.Combined.{both_read}
 use Rattle.lc_text.specs.Terms.{triple}
