@@ -1,7 +1,7 @@
 use anyhow::Context;
 use lc_base::{Fault, Refusal};
 use lc_hist::{JudgeFault, history_from_json, history_to_json, judge};
-use lc_seq::spec_of;
+use lc_spec_text::spec_of;
 use std::alloc::Global;
 use std::{io, str};
 

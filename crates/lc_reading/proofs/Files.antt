@@ -12,7 +12,9 @@ use Rattle.lc_sexp.proofs.Unique.{one_reading_lem}
 use Rattle.lc_sexp.specs.Answers.{IsTextFault}
 use Rattle.lc_sexp.specs.Reads.{ReadsAs, IsFirstFault}
 use Rattle.lc_sexp.specs.Trees.{Trees}
-use Rattle.lc_reading.specs.Files.{refusal_of, fault_of, IsAnswerTo, Says, IsFirstRefusal}
+use Rattle.lc_reading.specs.Files.{IsAnswerTo, Says, IsFirstRefusal}
+use Rattle.lc_reading.specs.Flaws.{refusal_of}
+use Rattle.lc_reading.specs.Results.{told as fault_of}
 use Rattle.lc_reading.specs.Readings.{Reading, fine, flawed}
 use Rattle.lc_reading.specs.Results.{IsReadFault}
 use Rattle.lc_reading.specs.declared.flaw.Flaw.{Flaw}

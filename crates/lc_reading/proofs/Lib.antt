@@ -3,6 +3,8 @@ pub mod Order
 pub mod Combined
 pub mod SoFar
 pub mod Sections
+pub mod Listed
+pub mod Holding
 pub mod Places
 pub mod Noted
 pub mod Files

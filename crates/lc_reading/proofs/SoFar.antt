@@ -1,12 +1,13 @@
 -- Readings of items one after another.
-use Rattle.std.proofs.Common.{◌≡◌, List, [], ◌∷◌, ◌++◌, Ok, Err, refl, sym, ap, ◌∙◌, subst, map}
+use Rattle.std.proofs.Common.{◌≡◌, ℕ, List, [], ◌∷◌, ◌++◌, Ok, Err, refl, sym, ap, ◌∙◌, subst, map}
 use Rattle.std.specs.Prelude.{Result, Vec}
 use Rattle.std.specs.declared.alloc.Global.{Global}
 use Rattle.std.proofs.lemmas.List.{map-append}
 use Rattle.lc_reading.proofs.Order.{lesser_assoc}
-use Rattle.lc_reading.specs.Flaws.{lesser}
-use Rattle.lc_reading.specs.Readings.{Reading, fine, flawed, both, mapped}
-use Rattle.lc_reading.specs.Results.{IsReading, IsPushed}
+use Rattle.lc_reading.specs.Flaws.{at, lesser}
+use Rattle.lc_reading.specs.Readings.{Reading, fine, flawed, wrong, both, mapped}
+use Rattle.lc_reading.specs.Results.{IsReading, IsPushed, misshapen_too}
+use Rattle.lc_reading.specs.declared.pass.Pass.TheVariants.{Shape}
 use Rattle.lc_reading.specs.declared.flaw.Flaw.{Flaw}
 use Rattle.lc_reading.specs.declared.flaw.ReadFault.{ReadFault}
 use Rattle.lc_reading.specs.declared.flaw.ReadFault.TheVariants.{Flawed, OutOfMemory}
@@ -84,3 +85,10 @@ pub each_end : {T X : Type 0} (view : T → X) (whole rest : Reading (List X)) (
 each_end view whole rest (Ok xs) e h = h ∙ ap (front (λ x xs. x ∷ xs) (map view xs.items)) e ∙ front_values (map view xs.items)
 each_end view whole rest (Err (Flawed g)) e h = h ∙ ap (flawed_before g) e
 each_end view whole rest (Err OutOfMemory) e h = tt
+
+-- behind them this item is misshapen
+pub misshapen_end : {T X : Type 0} (view : T → X) (n : ℕ) (whole rest : Reading (List X)) (a : Result (Vec T Global) ReadFault) → rest ≡ wrong Shape n → IsSoFar view (λ x xs. x ∷ xs) whole rest a
+    → IsReading (λ (xs : Vec T Global). map view xs.items) whole (misshapen_too n a)
+misshapen_end view n whole rest (Ok xs) e h = h ∙ ap (front (λ x xs. x ∷ xs) (map view xs.items)) e ∙ front_flawed (λ x xs. x ∷ xs) (map view xs.items) (at Shape n)
+misshapen_end view n whole rest (Err (Flawed g)) e h = h ∙ ap (flawed_before g) e
+misshapen_end view n whole rest (Err OutOfMemory) e h = tt

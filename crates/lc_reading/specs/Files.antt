@@ -6,28 +6,9 @@ use Rattle.lc_base.specs.declared.refusal.Refusal.{Refusal}
 use Rattle.lc_base.specs.declared.refusal.Refusal.TheVariants as R
 use Rattle.lc_sexp.specs.Reads.{ReadsAs, IsFirstFault}
 use Rattle.lc_sexp.specs.Trees.{Trees}
+use Rattle.lc_reading.specs.Flaws.{refusal_of}
 use Rattle.lc_reading.specs.Readings.{Reading, fine, flawed}
 use Rattle.lc_reading.specs.declared.flaw.Flaw.{Flaw}
-use Rattle.lc_reading.specs.declared.flaw.ReadFault.{ReadFault}
-use Rattle.lc_reading.specs.declared.flaw.ReadFault.TheVariants.{Flawed, OutOfMemory as NoMore}
-use Rattle.lc_reading.specs.declared.pass.Pass.{Pass}
-use Rattle.lc_reading.specs.declared.pass.Pass.TheVariants.{Shape, Unknown, Repeated, Auxiliary, Bound}
-
--- the refusal that an item is wrong in a pass
-abbrev pub told : Pass → ℕ → Refusal
-told Shape n = R.Shape n
-told Unknown n = R.Unknown n
-told Repeated n = R.Repeated n
-told Auxiliary n = R.Auxiliary n
-told Bound n = R.Bound n
-
--- what is told of a flaw
-abbrev pub refusal_of : Flaw → Refusal
-refusal_of f = told f.pass f.item
-
-abbrev pub fault_of : ReadFault → Fault
-fault_of (Flawed f) = Refused (refusal_of f)
-fault_of NoMore = OutOfMemory
 
 -- the file says this: it reads as trees that read so
 abbrev pub Says : {X : Type 0} → (Trees → Reading X) → List ℕ → X → Type 0

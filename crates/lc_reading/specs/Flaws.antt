@@ -1,5 +1,7 @@
 -- What is wrong in a text.
 use Rattle.std.specs.Prelude.{ℕ, Bool, ◌&&◌, ◌||◌, ◌==◌, nat_lt, min, if◌then◌else◌}
+use Rattle.lc_base.specs.declared.refusal.Refusal.{Refusal}
+use Rattle.lc_base.specs.declared.refusal.Refusal.TheVariants as R
 use Rattle.lc_sexp.specs.declared.misfit.Misfit.{Misfit}
 use Rattle.lc_sexp.specs.declared.misfit.Misfit.TheVariants.{Shape as Misshapen, Bound as Beyond}
 use Rattle.lc_reading.specs.declared.pass.Pass.{Pass}
@@ -34,3 +36,15 @@ lesser f g = record {
   item = if is_before g f then g.item else f.item;
   least = min f.least g.least;
 }
+
+-- the refusal of this pass at this item
+abbrev pub refused_in : Pass → ℕ → Refusal
+refused_in Shape n = R.Shape n
+refused_in Unknown n = R.Unknown n
+refused_in Repeated n = R.Repeated n
+refused_in Auxiliary n = R.Auxiliary n
+refused_in Bound n = R.Bound n
+
+-- the first refusal of a file in which this is wrong
+abbrev pub refusal_of : Flaw → Refusal
+refusal_of f = refused_in f.pass f.item

@@ -4,7 +4,7 @@ use Rattle.std.specs.List.{list_any}
 use Rattle.lc_base.specs.NameText.{is_name}
 use Rattle.lc_sexp.specs.Trees.{Tree, Trees, atom, list, none, ◌▸◌, item_count}
 use Rattle.lc_reading.specs.Listed.{place_of, declared_by}
-use Rattle.lc_reading.specs.Readings.{Reading, fine, wrong, both}
+use Rattle.lc_reading.specs.Readings.{Reading, fine, wrong, mapped, both}
 use Rattle.lc_reading.specs.Reserved.{is_reserved}
 use Rattle.lc_reading.specs.Words.{is, is_long}
 use Rattle.lc_reading.specs.declared.pass.Pass.TheVariants.{Shape, Unknown, Repeated, Bound}
@@ -42,3 +42,8 @@ abbrev pub names_reading : Option ℕ → List (List ℕ) → ℕ → Trees → 
 names_reading limit before m none = fine tt
 names_reading limit before m (t ▸ ts) =
     both (λ x y. y) (declaration_reading limit before m t) (names_reading limit (before ++ declared_by t) (m + item_count t) ts)
+
+-- the same item, as the name that it declares
+abbrev pub name_reading : Option ℕ → List (List ℕ) → ℕ → Tree → Reading (List ℕ)
+name_reading limit before n (atom w) = mapped (λ u. w) (declaration_reading limit before n (atom w))
+name_reading limit before n (list ts) = wrong Shape n

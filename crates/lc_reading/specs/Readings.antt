@@ -1,8 +1,8 @@
 -- What a text reads as: a value, or what is wrong in it.
-use Rattle.std.specs.Prelude.{ℕ, ◌+◌, List, if◌then◌else◌}
+use Rattle.std.specs.Prelude.{ℕ, ◌+◌, Bool, List, if◌then◌else◌}
 use Rattle.lc_sexp.specs.Trees.{Tree, Trees, atom, list, none, ◌▸◌, item_count}
 use Rattle.lc_reading.specs.declared.pass.Pass.{Pass}
-use Rattle.lc_reading.specs.declared.pass.Pass.TheVariants.{Shape}
+use Rattle.lc_reading.specs.declared.pass.Pass.TheVariants.{Shape, Bound}
 use Rattle.lc_reading.specs.Words.{is}
 use Rattle.lc_reading.specs.Flaws.{at, lesser}
 use Rattle.lc_reading.specs.declared.flaw.Flaw.{Flaw}
@@ -20,6 +20,10 @@ wrong pass n = flawed (at pass n)
 abbrev pub flawed_too : {X : Type 0} → Flaw → Reading X → Reading X
 flawed_too f (fine x) = flawed f
 flawed_too f (flawed g) = flawed (lesser g f)
+
+-- the item n, which is beyond a limit of its kind or not
+abbrev pub limited : {X : Type 0} → Bool → ℕ → Reading X → Reading X
+limited beyond n r = if beyond then flawed_too (at Bound n) r else r
 
 -- what is made of a value
 abbrev pub mapped : {X Y : Type 0} → (X → Y) → Reading X → Reading Y
@@ -46,6 +50,11 @@ ended m (t ▸ ts) r = flawed_too (at Shape m) r
 abbrev pub behind_reading : {X : Type 0} → List ℕ → (ℕ → ℕ → Trees → Reading X) → ℕ → Tree → Reading X
 behind_reading word read n (list (atom w ▸ ts)) = if is w word then read n (n + 2) ts else wrong Shape n
 behind_reading word read n _ = wrong Shape n
+
+-- the item n where a list is due, whose parts, numbered from n + 1 on, read so
+abbrev pub listed_reading : {X : Type 0} → (ℕ → ℕ → Trees → Reading X) → ℕ → Tree → Reading X
+listed_reading read n (list ts) = read n (n + 1) ts
+listed_reading read n (atom w) = wrong Shape n
 
 -- two parts from m on, and no other
 abbrev pub two_of : {X Y Z : Type 0} → (X → Y → Z) → ℕ → Tree → Tree → Trees → Reading X → Reading Y → Reading Z

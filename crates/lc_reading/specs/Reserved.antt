@@ -22,5 +22,9 @@ is_note_column w = is w (codes "noted") || is w (codes "note1") || is w (codes "
 unfoldable pub is_action_name : List ℕ → Bool
 is_action_name w = is w (codes "skip") || is w (codes "enter") || is w (codes "leave")
 
+-- the system columns, which each object has
+abbrev pub is_system_column : List ℕ → Bool
+is_system_column w = is_call_column w || is_reply_column w || is_note_column w
+
 abbrev pub is_reserved : List ℕ → Bool
-is_reserved w = is_client_name w || is_call_column w || is_reply_column w || is_note_column w || is_action_name w
+is_reserved w = is_client_name w || is_system_column w || is_action_name w

@@ -1,9 +1,11 @@
 -- What readers answer.
-use Rattle.std.specs.Prelude.{◌≡◌, ℕ, [], ◌∷◌, ◌++◌, Vec, Result, Ok, Err}
+use Rattle.std.specs.Prelude.{◌≡◌, ℕ, Bool, if◌then◌else◌, [], ◌∷◌, ◌++◌, Vec, Result, Ok, Err}
 use Rattle.std.specs.declared.alloc.Global.{Global}
+use Rattle.lc_base.specs.declared.refusal.Fault.{Fault}
+use Rattle.lc_base.specs.declared.refusal.Fault.TheVariants as F
 use Rattle.lc_sexp.specs.Trees.{Trees, none, ◌▸◌}
-use Rattle.lc_reading.specs.declared.pass.Pass.TheVariants.{Shape}
-use Rattle.lc_reading.specs.Flaws.{at, lesser}
+use Rattle.lc_reading.specs.declared.pass.Pass.TheVariants.{Shape, Bound}
+use Rattle.lc_reading.specs.Flaws.{at, lesser, refusal_of}
 use Rattle.lc_reading.specs.Readings.{Reading, fine, flawed}
 use Rattle.lc_reading.specs.declared.flaw.ReadFault.{ReadFault}
 use Rattle.lc_reading.specs.declared.flaw.ReadFault.TheVariants.{Flawed, OutOfMemory}
@@ -57,3 +59,13 @@ IsPushed (Ok xs) (Ok x) result = IsLonger xs x result
 IsPushed (Ok xs) (Err g) result = result ≡ Err g
 IsPushed (Err f) (Ok x) result = result ≡ Err f
 IsPushed (Err f) (Err g) result = result ≡ Err (joined f g)
+
+-- with the flaw too that this item is beyond a limit
+abbrev pub limited_result : {A : Type 0} → Bool → ℕ → Result A ReadFault → Result A ReadFault
+limited_result beyond n (Ok a) = if beyond then Err (Flawed (at Bound n)) else Ok a
+limited_result beyond n (Err f) = if beyond then Err (joined f (Flawed (at Bound n))) else Err f
+
+-- what is answered where nothing is read
+abbrev pub told : ReadFault → Fault
+told (Flawed f) = F.Refused (refusal_of f)
+told OutOfMemory = F.OutOfMemory

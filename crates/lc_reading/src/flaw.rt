@@ -1,11 +1,11 @@
 ghost use Rattle.std.specs.Prelude.{◌≡◌};
 ghost use Rattle.lc_sexp.specs.Shown.{rest_of, number_of};
 ghost use Rattle.lc_reading.specs.Flaws.{at, rank, is_before, lesser};
-ghost use Rattle.lc_reading.specs.Results.{joined, both_results, also_results, misshapen_too, ended_result, IsPushed};
+ghost use Rattle.lc_reading.specs.Results.{joined, both_results, also_results, misshapen_too, ended_result, limited_result, IsPushed};
 ghost use Rattle.lc_reading.specs.declared.flaw.ReadFault.TheVariants.{Flawed};
 
 use crate::pass::Pass;
-use lc_base::OutOfMemory;
+use lc_base::{Fault, OutOfMemory, Refusal};
 use lc_sexp::{Cursor, Misfit};
 use std::alloc::{AllocError, AllocFailed};
 
@@ -39,7 +39,7 @@ fn rank(pass: Pass) -> u8
 
 impl Flaw {
     ghost use Rattle.std.specs.Prelude.{◌≡◌};
-    ghost use Rattle.lc_reading.specs.Flaws.{at, is_before, lesser};
+    ghost use Rattle.lc_reading.specs.Flaws.{at, is_before, lesser, refusal_of};
 
     /// One item is wrong in one pass.
     pub fn at(pass: Pass, item: u64) -> Flaw
@@ -73,6 +73,33 @@ impl Flaw {
             pass: first.pass,
             item: first.item,
             least,
+        }
+    }
+
+    /// The first refusal of a file in which this is wrong.
+    pub fn refusal(self) -> Refusal
+        ensures { result ≡ refusal_of self }
+    {
+        match self.pass {
+            Pass::Shape => Refusal::Shape(self.item),
+            Pass::Unknown => Refusal::Unknown(self.item),
+            Pass::Repeated => Refusal::Repeated(self.item),
+            Pass::Auxiliary => Refusal::Auxiliary(self.item),
+            Pass::Bound => Refusal::Bound(self.item),
+        }
+    }
+}
+
+impl From<ReadFault> for Fault {
+    ghost use Rattle.std.specs.Prelude.{◌≡◌};
+    ghost use Rattle.lc_reading.specs.Results.{told};
+
+    ghost from_gives = { λ fault answer. answer ≡ told fault };
+
+    fn from(fault: ReadFault) -> Fault {
+        match fault {
+            ReadFault::Flawed(flaw) => Fault::Refused(flaw.refusal()),
+            ReadFault::OutOfMemory => Fault::OutOfMemory,
         }
     }
 }
@@ -184,6 +211,24 @@ pub fn misshapen_too<T: Drop>(value: Result<T, ReadFault>, item: u64) -> Result<
     match value {
         Ok(_) => Err(misshapen),
         Err(fault) => Err(joined(fault, misshapen)),
+    }
+}
+
+/// The same, with the flaw too that an item is beyond a limit, if it is.
+pub fn limited<T: Drop>(
+    beyond: bool,
+    item: u64,
+    value: Result<T, ReadFault>,
+) -> Result<T, ReadFault>
+    ensures { result ≡ limited_result beyond item value }
+{
+    if !beyond {
+        return value;
+    }
+    let wide = wrong(Pass::Bound, item);
+    match value {
+        Ok(_) => Err(wide),
+        Err(fault) => Err(joined(fault, wide)),
     }
 }
 

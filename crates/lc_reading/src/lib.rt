@@ -2,21 +2,24 @@
 //! items in a row; names, where they are declared and where they are used.
 #![tactic(auto)]
 
+mod counted;
+mod declared;
 mod flaw;
 mod lists;
 mod names;
 mod part;
 mod pass;
-mod refusal;
 mod reserved;
 mod rows;
 mod table;
 
-pub use flaw::{Flaw, ReadFault, also, both, ended, misshapen_too, pushed, wrong};
+pub use counted::read_counted;
+pub use declared::{Declares, read_declared};
+pub use flaw::{Flaw, ReadFault, also, both, ended, limited, misshapen_too, pushed, wrong};
 pub use lists::{behind_word, headed, next_part, one, three, two};
-pub use names::{read_declaration, read_names, read_use};
+pub use names::{is_full, read_declaration, read_name, read_names, read_use};
 pub use part::Part;
 pub use pass::Pass;
-pub use reserved::is_reserved;
+pub use reserved::{is_reserved, is_system_column};
 pub use rows::{Reads, read_each};
 pub use table::NameTable;

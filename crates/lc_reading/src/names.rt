@@ -1,7 +1,8 @@
 ghost use Rattle.std.specs.Prelude.{◌≡◌, ◌++◌, IfOk};
 ghost use Rattle.lc_sexp.specs.Shown.{rest_of, number_of};
+ghost use Rattle.lc_base.specs.Name.{bytes_of};
 ghost use Rattle.lc_reading.specs.Listed.{names_among};
-ghost use Rattle.lc_reading.specs.Naming.{is_full, use_reading, declaration_reading, names_reading};
+ghost use Rattle.lc_reading.specs.Naming.{is_full, use_reading, declaration_reading, name_reading, names_reading};
 ghost use Rattle.lc_reading.specs.Parts.{tree_of, place_of};
 ghost use Rattle.lc_reading.specs.Results.{IsReading};
 ghost use Rattle.lc_reading.specs.TableView.{listed};
@@ -12,7 +13,7 @@ use crate::part::Part;
 use crate::pass::Pass;
 use crate::reserved::is_reserved;
 use crate::table::NameTable;
-use lc_base::{NAME_LIMIT, OutOfMemory, is_name};
+use lc_base::{NAME_LIMIT, Name, OutOfMemory, is_name};
 use lc_sexp::{Cursor, Item};
 
 /// The place of the name that an item is, among these.
@@ -34,7 +35,7 @@ pub fn read_use(names: &NameTable<'_>, part: Part<'_>) -> Result<u32, ReadFault>
 }
 
 /// Whether there are as many as there may be, if there is a limit.
-fn is_full(limit: Option<u64>, count: u32) -> bool
+pub fn is_full(limit: Option<u64>, count: u32) -> bool
     ensures { result ≡ is_full limit count }
 {
     limit.is_some_and(|limit| limit <= u64::from(count))
@@ -60,6 +61,25 @@ pub fn read_declaration(
         Err(wrong(Pass::Bound, atom.number()))
     } else {
         Ok(())
+    }
+}
+
+/// The name that an item declares behind these, up to a limit of all.
+pub fn read_name(
+    limit: Option<u64>,
+    before: &NameTable<'_>,
+    part: Part<'_>,
+) -> Result<Name, ReadFault>
+    ensures { IsReading bytes_of (name_reading limit (listed before.now) (place_of part.entry) (tree_of part.entry)) result }
+{
+    read_declaration(limit, before, part)?;
+    let atom = match part.item() {
+        Item::Atom(atom) => atom,
+        Item::List(list) => return Err(wrong(Pass::Shape, list.owner())),
+    };
+    match Name::new(atom.text()) {
+        Some(name) => Ok(name),
+        None => Err(wrong(Pass::Bound, atom.number())),
     }
 }
 

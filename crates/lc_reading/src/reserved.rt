@@ -1,5 +1,5 @@
 ghost use Rattle.std.specs.Prelude.{◌≡◌};
-ghost use Rattle.lc_reading.specs.Reserved.{is_client_name, is_call_column, is_reply_column, is_note_column, is_action_name, is_reserved};
+ghost use Rattle.lc_reading.specs.Reserved.{is_client_name, is_call_column, is_reply_column, is_note_column, is_system_column, is_action_name, is_reserved};
 
 #[tactic(auto, unfolding(crate::specs::Reserved::is_client_name))]
 fn is_client_name(name: &str) -> bool
@@ -36,13 +36,16 @@ fn is_action_name(name: &str) -> bool
     matches!(name, "skip" | "enter" | "leave")
 }
 
+/// Whether this is the name of a column of a client's call, of its replies or of its note, which each object has.
+pub fn is_system_column(name: &str) -> bool
+    ensures { result ≡ is_system_column name.now }
+{
+    is_call_column(name) || is_reply_column(name) || is_note_column(name)
+}
+
 /// Whether no file may declare this name: `self`, `N`, the system columns and the built-in actions.
 pub fn is_reserved(name: &str) -> bool
     ensures { result ≡ is_reserved name.now }
 {
-    is_client_name(name)
-        || is_call_column(name)
-        || is_reply_column(name)
-        || is_note_column(name)
-        || is_action_name(name)
+    is_client_name(name) || is_system_column(name) || is_action_name(name)
 }

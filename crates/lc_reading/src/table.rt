@@ -5,6 +5,7 @@ ghost use Rattle.lc_reading.specs.Words.{names_in};
 ghost use Rattle.lc_reading.specs.Words.{is};
 ghost use Rattle.lc_reading.specs.Listed.{place_of};
 
+use crate::lists::{next_part, two};
 use crate::part::Part;
 use indexmap::IndexMap;
 use lc_base::OutOfMemory;
@@ -52,6 +53,7 @@ impl<'a> NameTable<'a> {
     ghost use Rattle.lc_reading.specs.Words.{is};
     ghost use Rattle.lc_reading.specs.Listed.{place_of, declared_by};
     ghost use Rattle.lc_reading.specs.Parts.{tree_of};
+    ghost use Rattle.lc_reading.specs.Rows.{first_name, second_name};
     ghost use Rattle.lc_reading.specs.TableView.{listed};
 
     /// No names.
@@ -88,6 +90,34 @@ impl<'a> NameTable<'a> {
         match part.item() {
             Item::Atom(atom) => self.enter(atom.text()),
             Item::List(_) => Ok(self),
+        }
+    }
+
+    /// The names with the one behind them that a list declares by its first item.
+    pub fn enter_first(self, part: Part<'a>) -> Result<NameTable<'a>, OutOfMemory>
+        ensures { IfOk result (λ names. listed names ≡ listed self.entry ++ first_name (tree_of part.entry)) }
+    {
+        let mut list = match part.item() {
+            Item::Atom(_) => return Ok(self),
+            Item::List(list) => list,
+        };
+        match next_part(&mut list) {
+            Ok(name) => self.enter_part(name),
+            Err(_) => Ok(self),
+        }
+    }
+
+    /// The names with the one behind them that a list declares by the item behind its word.
+    pub fn enter_second(self, part: Part<'a>) -> Result<NameTable<'a>, OutOfMemory>
+        ensures { IfOk result (λ names. listed names ≡ listed self.entry ++ second_name (tree_of part.entry)) }
+    {
+        let list = match part.item() {
+            Item::Atom(_) => return Ok(self),
+            Item::List(list) => list,
+        };
+        match two(list) {
+            Ok((_, name, _)) => self.enter_part(name),
+            Err(_) => Ok(self),
         }
     }
 

@@ -5,3 +5,4 @@ pub mod PrintedTrees
 pub mod Numerals
 pub mod Printed
 pub mod ReadBack
+pub mod ReadHolds

@@ -1,6 +1,8 @@
 -- What parts that are read together stand for.
-use Rattle.std.specs.Prelude.{ℤ, Vec}
+use Rattle.std.specs.Prelude.{ℕ, ℤ, List, Vec}
 use Rattle.std.specs.declared.alloc.Global.{Global}
+use Rattle.lc_base.specs.Name.{bytes_of}
+use Rattle.lc_base.specs.declared.name.Name.{Name}
 use Rattle.lc_term.specs.Syntax as S
 use Rattle.lc_term.specs.View.{term_of, column_of, formula_of, formulas_of}
 use Rattle.lc_term.specs.declared.term.Term.{Term}
@@ -28,3 +30,7 @@ formula_pair p = (formula_of p.0, formula_of p.1)
 -- the formulas of a vector
 abbrev pub row_of : Vec Formula Global → S.Formulas
 row_of fs = S.formulas (formulas_of fs.items)
+
+-- the name and the two numbers of a column that is declared
+abbrev pub column_parts : (Name × ℤ) × ℤ → (List ℕ × ℤ) × ℤ
+column_parts p = ((bytes_of p.0.0, p.0.1), p.1)

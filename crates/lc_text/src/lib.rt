@@ -3,6 +3,7 @@
 #![tactic(auto)]
 
 mod column;
+mod declared_column;
 mod formula;
 mod laws;
 mod made;
@@ -11,6 +12,7 @@ mod term;
 mod words;
 
 pub use column::read_column;
+pub use declared_column::read_declared_column;
 pub use formula::{read_formula, read_formulas};
 pub use laws::{numbered_variables_read_back, printed_terms_read_back};
 pub use printing::{Spelling, write_column, write_formula, write_term};

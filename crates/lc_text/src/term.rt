@@ -193,6 +193,7 @@ fn read_access<S: Scope>(
 }
 
 /// Reads terms, with the names of this scope.
+#[derive(Drop)]
 pub struct Terms<'s, S>(pub &'s S);
 
 impl<S: Scope> Reads for Terms<'_, S> {

@@ -1,0 +1,7 @@
+pub mod Scopes
+pub mod Branches
+pub mod Operations
+pub mod Specifications
+pub mod Seen
+pub mod ScopeView
+pub mod Files

@@ -1,0 +1,15 @@
+//! The text of specifications: how it is read, in one walk, as a value or its first flaw.
+#![tactic(auto)]
+
+mod branch;
+mod column;
+mod file;
+pub mod laws;
+mod operation;
+mod scope;
+mod signature;
+mod specification;
+mod update;
+
+pub use file::spec_of;
+pub use specification::read_specification;

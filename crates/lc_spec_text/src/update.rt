@@ -1,0 +1,109 @@
+ghost use Rattle.std.specs.Prelude.{ℕ};
+ghost use Rattle.lc_sexp.specs.Shown.{rest_of, number_of, owner_of};
+ghost use Rattle.lc_term.specs.Syntax as T;
+ghost use Rattle.lc_reading.specs.Parts.{tree_of, place_of};
+ghost use Rattle.lc_reading.specs.Readings.{Reading, mapped, listed_reading};
+ghost use Rattle.lc_reading.specs.Results.{IsReading};
+ghost use Rattle.lc_seq.specs.SpecView.{update_of};
+ghost use Rattle.lc_spec_text.specs.Branches.{written_reading, the_update, update_parts_reading, update_reading};
+ghost use Rattle.lc_spec_text.specs.ScopeView.{columns_seen};
+ghost use Rattle.lc_spec_text.specs.Seen.{update_parts};
+
+use crate::scope::Columns;
+use lc_base::{ColId, NAME_LIMIT, is_name};
+use lc_reading::{Part, Pass, ReadFault, Reads, both, ended, is_system_column, three, wrong};
+use lc_seq::Update;
+use lc_sexp::{Cursor, Item};
+use lc_term::{Scope, Term};
+use lc_text::read_term;
+use std::alloc::Global;
+
+/// The column of an update.
+fn read_written(columns: Columns<'_, '_>, part: Part<'_>) -> Result<ColId, ReadFault>
+    ensures { IsReading (λ column. column.0) (written_reading (columns_seen columns.entry) (place_of part.entry) (tree_of part.entry)) result }
+{
+    let atom = match part.item() {
+        Item::Atom(atom) => atom,
+        Item::List(list) => return Err(wrong(Pass::Shape, list.owner())),
+    };
+    let name = atom.text();
+    if !is_name(name.as_bytes()) {
+        return Err(wrong(Pass::Shape, atom.number()));
+    }
+    match columns.own.place(name) {
+        Some(_) if name.len() > NAME_LIMIT => Err(wrong(Pass::Bound, atom.number())),
+        Some(place) => Ok(ColId(place)),
+        None if is_system_column(name) || columns.others.contains(name) => {
+            Err(wrong(Pass::Shape, atom.number()))
+        }
+        None => Err(wrong(Pass::Unknown, atom.number())),
+    }
+}
+
+/// A column and two terms, which are all that is left in a list.
+fn read_update_parts<S: Scope>(
+    alloc: Global,
+    columns: Columns<'_, '_>,
+    scope: &S,
+    list: Cursor<'_>,
+) -> Result<((ColId, Term), Term), ReadFault>
+    ensures { IsReading update_parts (update_parts_reading (columns_seen columns.entry) (S.names scope.now) (owner_of list.entry) (number_of list.entry) (rest_of list.entry)) result }
+{
+    let (first, second, third, rest) = three(list)?;
+    let column = read_written(columns, first);
+    let index = read_term(alloc, scope, second);
+    let value = read_term(alloc, scope, third);
+    ended(both(both(column, index), value), rest)
+}
+
+/// The update of a column, an index and a value.
+fn made_update(parts: Result<((ColId, Term), Term), ReadFault>) -> Result<Update, ReadFault>
+    ensures { (r : Reading ((ℕ × T.Term) × T.Term)) → IsReading update_parts r parts → IsReading update_of (mapped the_update r) result }
+{
+    let ((column, index), value) = parts?;
+    Ok(Update {
+        column,
+        index,
+        value,
+    })
+}
+
+fn read_update<S: Scope>(
+    alloc: Global,
+    columns: Columns<'_, '_>,
+    scope: &S,
+    part: Part<'_>,
+) -> Result<Update, ReadFault>
+    ensures { IsReading update_of (update_reading (columns_seen columns.entry) (S.names scope.now) (place_of part.entry) (tree_of part.entry)) result }
+{
+    match part.item() {
+        Item::Atom(atom) => Err(wrong(Pass::Shape, atom.number())),
+        Item::List(list) => made_update(read_update_parts(alloc, columns, scope, list)),
+    }
+}
+
+/// Reads updates.
+#[derive(Drop)]
+pub(crate) struct Updates<'a, 'b, 's, S> {
+    pub(crate) columns: Columns<'a, 'b>,
+    pub(crate) scope: &'s S,
+}
+
+impl<S: Scope> Reads for Updates<'_, '_, '_, S> {
+    ghost use Rattle.lc_seq.specs.SpecView.{update_of};
+    ghost use Rattle.lc_seq.specs.Specification.{Update};
+    ghost use Rattle.lc_spec_text.specs.Branches.{update_reading};
+    ghost use Rattle.lc_spec_text.specs.ScopeView.{columns_seen};
+
+    type Value = Update;
+
+    ghost Meaning = { Update };
+
+    ghost meaning = { update_of };
+
+    ghost reading = { λ reader. update_reading (columns_seen reader.columns) (S.names reader.scope.now) };
+
+    fn read(&self, alloc: Global, part: Part<'_>) -> Result<Update, ReadFault> {
+        read_update(alloc, self.columns, self.scope, part)
+    }
+}
