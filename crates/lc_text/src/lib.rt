@@ -5,7 +5,7 @@
 mod column;
 mod declared_column;
 mod formula;
-mod laws;
+pub mod laws;
 mod made;
 mod printing;
 mod term;
@@ -14,6 +14,5 @@ mod words;
 pub use column::read_column;
 pub use declared_column::read_declared_column;
 pub use formula::{read_formula, read_formulas};
-pub use laws::{numbered_variables_read_back, printed_terms_read_back};
 pub use printing::{Spelling, write_column, write_formula, write_term};
 pub use term::{Terms, read_number, read_term};
