@@ -4,7 +4,8 @@ use lc_object::{edges, object_of};
 use lc_rider::{Duty, Edge, Owing, Path, Rider, When, paths};
 use lc_seq::{Update, spec_of};
 use lc_sexp::read;
-use lc_term::{ColExpr, Formula, Spelling, Term, write_column, write_formula};
+use lc_term::{ColExpr, Formula, Term};
+use lc_text::{Spelling, write_column, write_formula};
 use std::alloc::Global;
 use std::test::Fail;
 
