@@ -1,7 +1,9 @@
 ghost use Rattle.std.specs.Prelude.{zero};
 ghost use Rattle.lc_sexp.specs.Shown.{rest_of, number_of, owner_of};
-ghost use Rattle.lc_kernel.specs.View.{multiple_of, proof_of};
+ghost use Rattle.lc_kernel.specs.Proofs as S;
+ghost use Rattle.lc_kernel.specs.View.{multiple_of, step_of, proof_of};
 ghost use Rattle.lc_reading.specs.Parts.{tree_of, place_of};
+ghost use Rattle.lc_reading.specs.Readings.{Reading, both};
 ghost use Rattle.lc_reading.specs.Results.{IsReading};
 ghost use Rattle.lc_text.specs.Seen.{numbers_of};
 ghost use Rattle.lc_text.specs.Terms.{numbers_reading};
@@ -76,6 +78,18 @@ fn read_sum(alloc: Global, list: Cursor<'_>) -> Result<Proof, ReadFault>
     })
 }
 
+/// A step with its proofs. It stands apart from those who call one another, which keeps what each level of them takes of the
+/// stack small.
+fn made_proof(
+    step: Result<Step, ReadFault>,
+    branches: Result<Vec<Proof>, ReadFault>,
+) -> Result<Proof, ReadFault>
+    ensures { (r : Reading S.Step) (s : Reading S.Proofs) → IsReading step_of r step → IsReading branches_of s branches → IsReading proof_of (both S.proof r s) result }
+{
+    let (step, branches) = both(step, branches)?;
+    Ok(Proof { step, branches })
+}
+
 /// The proof that an item reads as: a step, with its proofs.
 #[cycle(read_proof)]
 pub fn read_proof<S: Scope>(alloc: Global, scope: &S, part: Part<'_>) -> Result<Proof, ReadFault>
@@ -107,8 +121,7 @@ fn read_step<S: Scope>(
 {
     let (step, rest) = read_own(alloc, scope, head, list)?;
     let branches = read_branches(alloc, scope, list.owner(), head.proofs_due(), rest);
-    let (step, branches) = both(step, branches)?;
-    Ok(Proof { step, branches })
+    made_proof(step, branches)
 }
 
 /// The proofs that are due among the items that are left in a list.

@@ -84,22 +84,6 @@ read_proof-returns-in-Some g t c =
     headed_at proof_of (proof_reading names) (with_proofs names c.in-Some.head) _ _ c.in-List.list c.in_ok-word.parts c.in_ok-word.word.now _
     c.in-List.ensures.tree c.in-List.ensures.number c.in-List.ensures.placed c.in_ok-word.ensures (λ n ts. rw (other, sym c.in-Some.ensures) refl) c.read_step.ensures
 
--- a step with its proofs, which stand from k on
-steps_at : (names : Names) (h : Head) (n m k : ℕ) (ts us : Trees) (a : Result Step ReadFault) (b : Result (Vec SeenProof Global) ReadFault) (c : Result (Step × Vec SeenProof Global) ReadFault)
-    → IsReading step_of (step_reading names h n m ts) a → proofs_reading names n (own_parts h) (proofs_due h) m ts ≡ proofs_reading names n zero (proofs_due h) k us
-    → IsReading branches_of (proofs_reading names n zero (proofs_due h) k us) b → c ≡ both_results a b
-    → IsReading (λ (p : Step × Vec SeenProof Global). S.proof (step_of p.0) (branches_of p.1)) (with_proofs names h n m ts) c
-steps_at names h n m k ts us a b c own due proofs together =
-    rw (together, due) (both_read step_of branches_of S.proof (step_reading names h n m ts) (proofs_reading names n zero (proofs_due h) k us) a b own proofs)
-
-steps : (names : Names) (h : Head) (l rest : Cursor) (a : Result Step ReadFault) (b : Result (Vec SeenProof Global) ReadFault) (c : Result (Step × Vec SeenProof Global) ReadFault)
-    → IsReading step_of (step_reading names h (owner_of l) (number_of l) (rest_of l)) a
-    → proofs_reading names (owner_of l) (own_parts h) (proofs_due h) (number_of l) (rest_of l) ≡ proofs_reading names (owner_of l) zero (proofs_due h) (number_of rest) (rest_of rest)
-    → IsReading branches_of (proofs_reading names (owner_of l) zero (proofs_due h) (number_of rest) (rest_of rest)) b → c ≡ both_results a b
-    → IsReading (λ (p : Step × Vec SeenProof Global). S.proof (step_of p.0) (branches_of p.1)) (with_proofs names h (owner_of l) (number_of l) (rest_of l)) c
-steps names h l rest a b c own due proofs together =
-    steps_at names h (owner_of l) (number_of l) (number_of rest) (rest_of l) (rest_of rest) a b c own due proofs together
-
 -- a step that lacks parts
 short_step : (names : Names) (h : Head) (n m : ℕ) (ts : Trees) (misfit : Misfit) (result : Result SeenProof ReadFault)
     → (misfit ≡ Misshapen n) × (step_reading names h n m ts ≡ wrong Shape n) × IsShort (own_parts h) ts → IsErrAnd result (λ fault. fault ≡ Flawed (misfit_flaw misfit))
@@ -111,18 +95,9 @@ pub read_step-returns-in_err-step : goal.read_step-returns-in_err-step
 read_step-returns-in_err-step g t c =
     short_step (g.S.Scope.names c.args.scope.now) c.args.head (owner_of c.args.list) (number_of c.args.list) (rest_of c.args.list) _ c.from_residual.result c.in_err-step.ensures c.from_residual.ensures.1
 
-pub read_step-returns-in_err-step-2 : goal.read_step-returns-in_err-step-2
-read_step-returns-in_err-step-2 g t c =
-    let names = g.S.Scope.names c.args.scope.now in
-    let (own, left) = c.in_ok-step.ensures in
-    let due = left_proofs names (owner_of c.args.list) (own_parts c.args.head) (proofs_due c.args.head) _ _ c.in_ok-step.rest left in
-    err_arm _ proof_of _ _ _ _ (steps names c.args.head c.args.list c.in_ok-step.rest c.in_ok-step.step c.read_branches-branches.result c.both.result own due (rw (c.owner.ensures, c.proofs_due.ensures) at c.read_branches-branches.ensures) c.both.ensures)
-    c.in_err-step-2.was c.from_residual-in_err-step-2.ensures.1
-
 pub read_step-returns : goal.read_step-returns
 read_step-returns g t c =
     let names = g.S.Scope.names c.args.scope.now in
     let (own, left) = c.in_ok-step.ensures in
     let due = left_proofs names (owner_of c.args.list) (own_parts c.args.head) (proofs_due c.args.head) _ _ c.in_ok-step.rest left in
-    let h = ok_arm _ _ _ _ (steps names c.args.head c.args.list c.in_ok-step.rest c.in_ok-step.step c.read_branches-branches.result c.both.result own due (rw (c.owner.ensures, c.proofs_due.ensures) at c.read_branches-branches.ensures) c.both.ensures)
-    c.in_ok-step-2.was in search (rules, the_lemmas, h)
+    rw due (c.made_proof.ensures _ _ own (rw (c.owner.ensures, c.proofs_due.ensures) at c.read_branches-branches.ensures))
