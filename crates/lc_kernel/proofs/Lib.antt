@@ -1,4 +1,5 @@
 pub mod Views
+pub mod Numbered
 pub mod Entries
 pub mod Quotients
 pub mod InUse
@@ -12,12 +13,3 @@ pub mod Grows
 pub mod First
 pub mod Branches
 pub mod Checked
-pub mod ProofWalk
-pub mod ProofParts
-pub mod ProofBranches
-pub mod SoundProofs
-pub mod FormulaSections
-pub mod ReadBelow
-pub mod FormulaWalk
-pub mod FormulaReads
-pub mod FormulaAnswers

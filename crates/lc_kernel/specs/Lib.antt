@@ -4,12 +4,5 @@ pub mod Below
 pub mod Reasons
 pub mod Table
 pub mod Derivation
+pub mod Branches
 pub mod Answers
-pub mod Grammar
-pub mod ProofText
-pub mod ProofReading
-pub mod SeenProofs
-pub mod FormulaNames
-pub mod FormulaText
-pub mod FormulaReading
-pub mod SeenNames
