@@ -1,4 +1,5 @@
 pub mod Bound
+pub mod Computed
 pub mod Copies
 pub mod Counter
 pub mod Equal
@@ -31,6 +32,7 @@ pub mod Syntax
 pub mod Tables
 pub mod SystemColumns
 pub mod Truth
+pub mod UpdateView
 pub mod Updates
 pub mod View
 pub mod Written

@@ -26,6 +26,7 @@ mod substitution;
 mod table;
 mod term;
 mod trees;
+mod update;
 
 pub use evaluation::{eval, eval_term};
 pub use formula::{Formula, copy_formulas};
@@ -39,7 +40,8 @@ pub use reading::{ReadFault, read_column, read_term};
 pub use reserved::is_reserved;
 pub use scope::{ColumnUse, Extra, Scope};
 pub use shifting::{shift, shift_formula};
-pub use state::{CellWrite, Env, EvalFault, State};
+pub use state::{Env, EvalFault, State};
 pub use substitution::{instantiate, substitute};
 pub use table::{Terms, numbers_are_exact};
 pub use term::{ColExpr, Term};
+pub use update::{Update, Write};
