@@ -6,11 +6,11 @@ ghost use Rattle.lc_names.specs.EachRead.{list_from};
 ghost use Rattle.lc_seq.specs.SpecView.{update_of, branch_of};
 
 use crate::spec_columns::{behind_word, items_in};
-use crate::specification::{Branch, Update};
+use crate::specification::Branch;
 use lc_base::ColId;
 use lc_names::{Reads, Terms, only_three, read_each};
 use lc_sexp::Item;
-use lc_term::{ColumnUse, ReadFault, Scope, Term, read_formula, read_term};
+use lc_term::{ColumnUse, ReadFault, Scope, Term, Update, read_formula, read_term};
 use std::alloc::Global;
 
 /// Reads updates.

@@ -20,11 +20,13 @@ mod text_object;
 mod text_state;
 
 pub use fault::SeqFault;
+pub use lc_term::Update;
 pub use object::SeqObject;
+pub use running::{Outcome, call_env, run, values_of, writes_of};
 pub use spec_columns::{Columns, columns_in};
 pub use spec_file::spec_of;
 pub use spec_passes::first_wrong_in_specification;
 pub use spec_reading::{SpecParts, read_specification};
-pub use specification::{Branch, Column, Operation, TextSpec, Update};
+pub use specification::{Branch, Column, Operation, TextSpec};
 pub use text_call::TextCall;
 pub use text_state::TextState;

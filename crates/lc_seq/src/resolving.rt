@@ -7,8 +7,8 @@ ghost use Rattle.lc_term.specs.View.{term_of, column_of, formula_of, formulas_of
 ghost use Rattle.lc_seq.specs.Specification.{update_is_resolved, branch_is_resolved, operation_is_resolved};
 ghost use Rattle.lc_seq.specs.SpecView.{update_of, updates_of, branch_of, branches_of, operation_of, operations_of};
 
-use crate::specification::{Branch, Operation, Update};
-use lc_term::{ColExpr, Formula, Term, is_ground_of_quantifiers};
+use crate::specification::{Branch, Operation};
+use lc_term::{ColExpr, Formula, Term, Update, is_ground_of_quantifiers};
 
 // Whether columns and variables of a term are below these counts, and no bound variable stands in it.
 #[cycle(term_is_known)]

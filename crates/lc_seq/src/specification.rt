@@ -4,8 +4,8 @@ ghost use Rattle.lc_seq.specs.Specification.{operation_is_resolved};
 ghost use Rattle.lc_seq.specs.SpecView.{operations_of};
 
 use crate::resolving::are_resolved;
-use lc_base::{ColId, Name, OpId};
-use lc_term::{Formula, Term};
+use lc_base::{Name, OpId};
+use lc_term::{Formula, Term, Update};
 
 /// A column, which starts with `slope * i + start` in cell i.
 #[derive(Debug, Drop)]
@@ -13,14 +13,6 @@ pub struct Column {
     pub name: Name,
     pub slope: i64,
     pub start: i64,
-}
-
-/// A value that is stored in a column at an index.
-#[derive(Debug, Drop)]
-pub struct Update {
-    pub column: ColId,
-    pub index: Term,
-    pub value: Term,
 }
 
 /// What is stored and replied where a guard holds. Variable 0 is the number of clients, which no specification
