@@ -15,3 +15,4 @@ pub mod JsonWriting
 pub mod JsonNames
 pub mod JsonAnswers
 pub mod JsonOnce
+pub mod OneJudgement
