@@ -9,7 +9,7 @@ use Rattle.lc_object.specs.Syntax.{Array, Operation, Point, Object}
 pub use Rattle.lc_object.proofs.ObjectParts.{operations_pass}
 use Rattle.lc_object.specs.WellFormed.{is_object, is_array, is_point, are_operations, are_distinct}
 use Rattle.lc_machine.specs.World.{initial_numbers}
-use Rattle.lc_machine.specs.Executed.{AreBelow}
+use Rattle.lc_machine.specs.Below.{AreBelow}
 pub use Rattle.lc_term.proofs.Tests.{at_all}
 use Rattle.lc_machine.proofs.Known.{left_true, right_true}
 

@@ -11,7 +11,7 @@ use Rattle.lc_object.specs.WellFormed.{is_object, is_point, is_instruction, is_l
 use Rattle.lc_machine.specs.World.{In, first_variables}
 use Rattle.lc_machine.specs.Placed.{is_placed, is_count}
 use Rattle.lc_object.specs.Edges.{array_columns, columns_in}
-use Rattle.lc_machine.specs.Executed.{AreBelow}
+use Rattle.lc_machine.specs.Below.{AreBelow}
 use Rattle.lc_machine.specs.MayRun.{MayRun, HasRow, variables_at, variables_in}
 use Rattle.lc_machine.proofs.Known.{left_true, right_true}
 use Rattle.lc_machine.proofs.ArrayColumns.{at_all, points_pass, operations_pass, few_columns}

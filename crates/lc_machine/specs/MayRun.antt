@@ -4,7 +4,7 @@ use Rattle.lc_term.specs.Syntax.{Term}
 use Rattle.lc_object.specs.Syntax.{Instr, Load, Store, Cas, Set, If, Return, Point, Object}
 use Rattle.lc_object.specs.WellFormed.{variable_count, is_code_term, are_code_terms, is_code_formula}
 use Rattle.lc_object.specs.Edges.{array_columns}
-use Rattle.lc_machine.specs.Executed.{AreBelow}
+use Rattle.lc_machine.specs.Below.{AreBelow}
 
 abbrev pub variables_in : Object → Option Point → Option ℕ
 variables_in object None = None

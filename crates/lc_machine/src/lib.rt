@@ -3,14 +3,16 @@
 
 mod bare;
 mod client;
+mod effect;
 mod fault;
+mod instruction;
 pub mod laws;
 mod numbers;
-mod place;
 mod rows;
 
 pub use bare::Bare;
 pub use client::Moved;
+pub use effect::{Effect, Fate, Place, commit};
 pub use fault::StepFault;
+pub use instruction::effect;
 pub use numbers::Numbers;
-pub use place::{Place, Ran, execute};

@@ -29,7 +29,7 @@ mod walks;
 
 pub use code_passes::wrong_in_instruction;
 pub use code_scope::{CodeScope, Row};
-pub use edge_table::{Edge, Update, edges};
+pub use edge_table::{Edge, edges};
 pub use instr::{ArrayId, EdgeKind, Instr, LocalId};
 pub use instruction_reading::read_instruction;
 pub use object::Object;

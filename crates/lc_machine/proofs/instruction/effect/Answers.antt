@@ -5,15 +5,15 @@ use Rattle.lc_term.specs.State.{state_of, variable_count}
 use Rattle.lc_object.specs.Objects.{object_shown}
 use Rattle.lc_object.specs.Syntax as S
 use Rattle.lc_object.specs.View.{point_of, parts_of}
-use Rattle.lc_object.specs.WellFormed.{is_object}
+use Rattle.lc_machine.specs.Effects.{IsEffect}
 use Rattle.lc_machine.specs.MayRun.{MayRun, variables_at}
-use Rattle.lc_machine.specs.Ran.{IsExecuted}
+use Rattle.lc_machine.specs.View.{variables_of}
 use Rattle.lc_machine.proofs.ArrayColumns.{viewed_at}
 use Rattle.lc_machine.proofs.Promised.{may_run, placed}
-use Rattle.lc_machine.proofs.place.execute.Goals as goal
+use Rattle.lc_machine.proofs.instruction.effect.Goals as goal
 
-pub run-requires-clause-may_run : goal.run-requires-clause-may_run
-run-requires-clause-may_run c =
+pub effect_of-requires-clause-may_run : goal.effect_of-requires-clause-may_run
+effect_of-requires-clause-may_run c =
     let p = c.args.place.now.point.0 in
     let n = variable_count c.args.place.now.variables in
     let parts = c.parts.result.now in
@@ -23,8 +23,8 @@ run-requires-clause-may_run c =
     let at = viewed_at point_of parts.points.items p point (placed (parts_of parts) p n place) c.index-point.ensures in
     subst (λ o. MayRun o n (point_of point).instruction) shown (may_run (parts_of parts) c.parts.ensures.well_formed p (point_of point) n at place)
 
-pub returns-clause-executed : goal.returns-clause-executed
-returns-clause-executed c =
+pub returns : goal.returns
+returns c =
     let p = c.args.place.now.point.0 in
     let n = variable_count c.args.place.now.variables in
     let parts = c.parts.result.now in
@@ -34,5 +34,5 @@ returns-clause-executed c =
     let at = viewed_at point_of parts.points.items p point (placed (parts_of parts) p n place) c.index-point.ensures in
     λ (other : S.Point) there.
     let same = same_Some (point_of point) other (sym at ∙ ap (λ (o : S.Object). slice_get o.points p) shown ∙ there) in
-    subst (λ (q : S.Point). IsExecuted (object_shown c.args.object.now) q.instruction (state_of c.args.state.now) c.args.place.now (state_of c.run.new.state) c.run.new.place c.run.result)
-    same c.run.ensures.executed
+    subst (λ (q : S.Point). IsEffect (object_shown c.args.object.now) q.instruction (state_of c.args.state.now) (variables_of c.args.place.now) c.effect_of.result)
+    same c.effect_of.ensures

@@ -6,9 +6,9 @@ use Rattle.lc_object.specs.Objects.{object_shown}
 use Rattle.lc_object.specs.Syntax as S
 use Rattle.lc_object.specs.View.{array_of, columns_of, parts_of}
 use Rattle.lc_machine.specs.World.{initial_numbers}
-use Rattle.lc_machine.specs.Executed.{AreBelow}
+use Rattle.lc_machine.specs.Below.{AreBelow}
 use Rattle.lc_machine.proofs.ArrayColumns.{few_columns, concrete_columns, viewed_at}
-use Rattle.lc_machine.proofs.place.row_columns.Goals as goal
+use Rattle.lc_machine.proofs.instruction.row_columns.Goals as goal
 
 pub returns-clause-few : goal.returns-clause-few
 returns-clause-few c =

@@ -21,10 +21,10 @@ pub returns-in-Ok-answer-clause-formula : goal.returns-in-Ok-answer-clause-formu
 returns-in-Ok-answer-clause-formula g c = λ name path w plain.
     ends_told (g.F.Files.bytes_at c.args.files.now) (task_of c.in-Ok.request) (CheckFormula path) c.in-Ok-answer.answer.text.items c.in-Ok-answer.answer.status c.tell.result
     (g.O.Write.contents c.args.out.now) (g.O.Write.contents c.tell.new.out)
-    (request_is (texts_of c.args.words.now) c.in-Ok.request name (CheckFormula path) c.in-Ok.ensures.reads w plain) c.in-Ok-answer.ensures c.tell.ensures
+    (request_is (texts_of c.args.words.now) c.in-Ok.request name (CheckFormula path) c.in-Ok.ensures.reads w plain) c.in-Ok-answer.ensures.answers c.tell.ensures
 
 pub returns-in-Ok-answer-clause-judge : goal.returns-in-Ok-answer-clause-judge
 returns-in-Ok-answer-clause-judge g c = λ name development history w plain plain'.
     ends_told (g.F.Files.bytes_at c.args.files.now) (task_of c.in-Ok.request) (JudgeHistory development history) c.in-Ok-answer.answer.text.items c.in-Ok-answer.answer.status c.tell.result
     (g.O.Write.contents c.args.out.now) (g.O.Write.contents c.tell.new.out)
-    (request_is (texts_of c.args.words.now) c.in-Ok.request name (JudgeHistory development history) c.in-Ok.ensures.reads w (plain, plain')) c.in-Ok-answer.ensures c.tell.ensures
+    (request_is (texts_of c.args.words.now) c.in-Ok.request name (JudgeHistory development history) c.in-Ok.ensures.reads w (plain, plain')) c.in-Ok-answer.ensures.answers c.tell.ensures
