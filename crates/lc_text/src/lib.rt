@@ -8,7 +8,7 @@ mod made;
 mod term;
 mod words;
 
-pub use column::read_column;
+pub use column::{read_column, read_numbers};
 pub use declared_column::read_declared_column;
 pub use formula::{read_formula, read_formulas};
 pub use term::{Terms, read_number, read_term};

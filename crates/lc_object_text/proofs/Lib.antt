@@ -1,0 +1,6 @@
+mod SectionWalk
+mod Placed
+mod PlacedRows
+mod Ends
+mod Behind
+mod PointWalk
