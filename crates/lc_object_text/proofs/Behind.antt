@@ -21,8 +21,7 @@ pub behind_read : {T X : Type 0} (view : T → X) (word : List ℕ) (read : ℕ 
 behind_read view word read part c result h k = subst (λ r. IsReading view r result) (sym (behind_reading-is word read part c h)) k
 
 -- another list
-pub behind_wrong : {T X : Type 0} (view : T → X) (word : List ℕ) (read : ℕ → ℕ → Trees → Reading X) (part : Part) (misfit : Misfit) (fault : ReadFault) (result : Result T ReadFault)
-    → IsBehindWord word part (Err misfit) → fault ≡ Flawed (misfit_flaw misfit) → IsErrAnd result (λ y. y ≡ fault) → IsReading view (behind_reading word read (place_of part) (tree_of part)) result
-behind_wrong view word read part misfit fault (Ok x) h e same = absurd same
-behind_wrong view word read part misfit fault (Err f) (shape, other) e same =
-    rw (same, e, shape) (behind_reading-other word read (place_of part) (tree_of part) other)
+pub behind_wrong : {T X : Type 0} (view : T → X) (word : List ℕ) (read : ℕ → ℕ → Trees → Reading X) (part : Part) (misfit : Misfit) (result : Result T ReadFault)
+    → IsBehindWord word part (Err misfit) → IsErrAnd result (λ y. y ≡ Flawed (misfit_flaw misfit)) → IsReading view (behind_reading word read (place_of part) (tree_of part)) result
+behind_wrong view word read part misfit (Ok x) h same = absurd same
+behind_wrong view word read part misfit (Err f) (shape, other) same = rw (same, shape) (behind_reading-other word read (place_of part) (tree_of part) other)

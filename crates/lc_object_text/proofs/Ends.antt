@@ -1,5 +1,5 @@
 -- Lists that end behind so many parts.
-use Rattle.std.proofs.Common.{◌≡◌, ℕ, zero, suc, ◌+◌, ◌-◌, refl, sym, subst}
+use Rattle.std.proofs.Common.{◌≡◌, ℕ, zero, suc, ◌+◌, ◌-◌, refl, sym, subst, ◌∙◌}
 use Rattle.std.specs.Prelude.{Result, Ok, Err}
 use Rattle.lc_sexp.specs.Trees.{Tree, Trees, none, ◌▸◌, item_count}
 use Rattle.lc_sexp.specs.Shown.{rest_of, number_of, owner_of}
@@ -52,7 +52,7 @@ parts_ended view k m ts rest r a e left h end =
     subst (λ q. IsReading view q e) (sym (left_ended k m ts rest r left)) (subst (IsReading view (ended (number_of rest) (rest_of rest) r)) (sym end) (ended_read view (number_of rest) (rest_of rest) r a h))
 
 -- fewer parts
-pub parts_missing : {T X : Type 0} (view : T → X) (k m n : ℕ) (ts : Trees) (r : Reading X) (misfit : Misfit) (fault : ReadFault) (result : Result T ReadFault) → misfit ≡ Misshapen n
-    → r ≡ wrong Shape n → IsShort k ts → fault ≡ Flawed (misfit_flaw misfit) → IsErrAnd result (λ y. y ≡ fault) → IsReading view (ended_behind k m ts r) result
-parts_missing view k m n ts r misfit fault (Ok x) shape is short e same = absurd same
-parts_missing view k m n ts r misfit fault (Err f) shape is short e same = rw (same, e, shape, short_ended k m ts r short) is
+pub parts_missing : {T X : Type 0} (view : T → X) (k m n : ℕ) (ts : Trees) (r : Reading X) (misfit : Misfit) (result : Result T ReadFault) → misfit ≡ Misshapen n
+    → r ≡ wrong Shape n → IsShort k ts → IsErrAnd result (λ y. y ≡ Flawed (misfit_flaw misfit)) → IsReading view (ended_behind k m ts r) result
+parts_missing view k m n ts r misfit (Ok x) shape is short same = absurd same
+parts_missing view k m n ts r misfit (Err f) shape is short same = rw (same, shape) (short_ended k m ts r short ∙ is)

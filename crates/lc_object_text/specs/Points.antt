@@ -33,7 +33,7 @@ IsShape r (Err fault) = fault ≡ OutOfMemory
 
 -- how a point n reads with what stands beside its code, given its instruction and whether that is shaped, by what the point
 -- itself reads as and by what is left behind its instruction
-Beside : Type 0 → Type 0
+abbrev pub Beside : Type 0 → Type 0
 Beside X = ℕ → Tree → Bool → Reading Point → ℕ → Trees → Reading X
 
 -- a name and an instruction, in the body of this operation
@@ -107,5 +107,5 @@ sides_reading n m none = wrong Shape n
 sides_reading n m (t ▸ ts) = both nothing_of (headed_reading (codes "assert") m t) (each_reading (headed_reading (codes "on")) (m + item_count t) ts)
 
 -- the code alone
-abbrev pub code_alone : Beside Point
+abbrev pub code_alone : ℕ → Tree → Bool → Reading Point → ℕ → Trees → Reading Point
 code_alone n code shaped point m ts = both point_alone point (sides_reading n m ts)

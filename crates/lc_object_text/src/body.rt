@@ -41,7 +41,7 @@ impl<P: Drop> BodyText<P> {
 
     /// The locals, and the points.
     pub fn into_parts(self) -> (Vec<Name>, Vec<P>)
-        ensures { result ≡ (self.entry.locals, self.entry.points) }
+        ensures { result ≡ (self.locals, self.points) }
     {
         let BodyText { locals, points } = self;
         (locals, points)

@@ -7,7 +7,7 @@ ghost use Rattle.lc_object_text.specs.DeclaredView.{call_seen, call_found, body_
 ghost use Rattle.lc_object_text.specs.ObjectNames.{names_of_columns, later, span_of, columns_of_arrays, spans_from, reply_count, call_of, call_named, name_at, body_of, bodies_from, labels_of_bodies, abstracts_in, arrays_in, auxiliaries_in, operations_in, declared_in_sections};
 ghost use Rattle.lc_object_text.specs.ObjectNames as N;
 ghost use Rattle.lc_object_text.specs.Sections.{forms_in, some_forms_in};
-ghost use Rattle.lc_object_text.specs.Seen.{size, AreSmall, sections_seen, forms_left};
+ghost use Rattle.lc_object_text.specs.Seen.{size, sections_seen, forms_left};
 
 use crate::declared::{Body, Call, Declared, Operations, Span};
 use crate::section_finding::{behind_first, first_text, items_in_first, next_form, within_first};

@@ -219,8 +219,8 @@ fn split(
     alloc: Global,
     cells: Vec<(LocalId, Term)>,
 ) -> Result<(Vec<LocalId>, Vec<Term>), OutOfMemory>
-    ensures targets { IfOk result (λ r. locals_of r.0.items ≡ map (λ cell. cell.0) (assignments_seen cells.entry)) }
-    ensures values { IfOk result (λ r. terms_of r.1.items ≡ map (λ cell. cell.1) (assignments_seen cells.entry)) }
+    ensures targets { IfOk result (λ r. locals_of r.0.items ≡ map (λ cell. cell.0) (assignments_seen cells)) }
+    ensures values { IfOk result (λ r. terms_of r.1.items ≡ map (λ cell. cell.1) (assignments_seen cells)) }
 {
     let mut targets = Vec::with_capacity(alloc, cells.len())?;
     let mut values = Vec::with_capacity(alloc, cells.len())?;

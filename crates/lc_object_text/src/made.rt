@@ -37,8 +37,8 @@ fn made_arrays(
     first: u32,
     texts: Vec<ArrayText>,
 ) -> Result<(Vec<Array>, Vec<Column>), OutOfMemory>
-    ensures arrays { IfOk result (λ r. map array_of r.0.items ≡ arrays_from first (map array_shown texts.entry.items)) }
-    ensures columns { IfOk result (λ r. map column_shown r.1.items ≡ concretes_of (map array_shown texts.entry.items)) }
+    ensures arrays { IfOk result (λ r. map array_of r.0.items ≡ arrays_from first (map array_shown texts.items)) }
+    ensures columns { IfOk result (λ r. map column_shown r.1.items ≡ concretes_of (map array_shown texts.items)) }
 {
     let mut arrays = Vec::with_capacity(alloc, texts.len())?;
     let mut concretes = Vec::new(alloc);
@@ -65,8 +65,8 @@ fn made_code(
     signatures: Vec<Signature>,
     bodies: Vec<BodyText<Point>>,
 ) -> Result<(Vec<Operation>, Vec<Point>), OutOfMemory>
-    ensures operations { IfOk result (λ r. map operation_of r.0.items ≡ operations_from 0 (map signature_shown signatures.entry.items) (bodies_shown bodies.entry)) }
-    ensures points { IfOk result (λ r. map point_of r.1.items ≡ points_of (bodies_shown bodies.entry)) }
+    ensures operations { IfOk result (λ r. map operation_of r.0.items ≡ operations_from 0 (map signature_shown signatures.items) (bodies_shown bodies)) }
+    ensures points { IfOk result (λ r. map point_of r.1.items ≡ points_of (bodies_shown bodies)) }
 {
     let mut operations = Vec::with_capacity(alloc, signatures.len())?;
     let mut points = Vec::new(alloc);
@@ -98,7 +98,7 @@ pub(crate) fn made_parts(
     specification: SpecificationText,
     object: (Tables, Vec<BodyText<Point>>),
 ) -> Result<Parts, OutOfMemory>
-    ensures { IfOk result (λ parts. parts_of parts ≡ O.object_of (specification_shown specification.entry) (object_parts object.entry)) }
+    ensures { IfOk result (λ parts. parts_of parts ≡ O.object_of (specification_shown specification) (object_parts object)) }
 {
     let SpecificationText {
         abstracts,

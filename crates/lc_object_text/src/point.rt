@@ -1,4 +1,4 @@
-ghost use Rattle.std.specs.Prelude.{◌≡◌, ℕ, List, map};
+ghost use Rattle.std.specs.Prelude.{◌≡◌, ◌+◌, ℕ, List, map};
 ghost use Rattle.lc_base.specs.Name.{bytes_of};
 ghost use Rattle.lc_sexp.specs.Shown.{rest_of, number_of, owner_of};
 ghost use Rattle.lc_object.specs.Syntax as S;
@@ -97,17 +97,18 @@ pub struct Points<'a, 'b, 's, B> {
     pub beside: &'s B,
 }
 
-/// The name of a point, before which so many stand.
+/// The name of a point, before which so many stand in its body.
 fn read_point_name(
     scope: InBody<'_, '_>,
     number: u64,
-    place: u64,
+    place: u32,
     part: Part<'_>,
 ) -> Result<Name, ReadFault>
-    ensures { IsReading bytes_of (point_name_reading (declared_seen scope.entry.declared.now) place number (place_of part.entry) (tree_of part.entry)) result }
+    ensures { IsReading bytes_of (point_name_reading (declared_seen scope.entry.declared.now) (scope.entry.body.now.first + place) number (place_of part.entry) (tree_of part.entry)) result }
 {
-    let name = read_kth_name(&scope.declared.points, place, part);
-    limited(POINT_LIMIT <= place, number, name)
+    let before = u64::from(scope.body.first) + u64::from(place);
+    let name = read_kth_name(&scope.declared.points, before, part);
+    limited(POINT_LIMIT <= before, number, name)
 }
 
 /// `NAME INSTR ..`
@@ -123,8 +124,7 @@ fn read_point_parts<B: ReadsBeside>(
     let mut rest = list;
     let name = next_part(&mut rest)?;
     let code = next_part(&mut rest)?;
-    let before = u64::from(reader.scope.body.first) + u64::from(place);
-    let name = read_point_name(reader.scope, list.owner(), before, name);
+    let name = read_point_name(reader.scope, list.owner(), place, name);
     let instruction = read_instruction(alloc, &reader.scope, code);
     let is_shaped = is_shaped(&instruction)?;
     let point = made_point(reader.operation, name, instruction);

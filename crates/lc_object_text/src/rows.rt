@@ -48,10 +48,10 @@ pub fn read_placed<R: ReadsPlaced>(
         };
         let value = reader.read(alloc, place, part);
         values = pushed(values, value);
-        let Some(next) = place.checked_add(1) else {
+        if place == u32::MAX {
             return Err(ReadFault::OutOfMemory);
-        };
-        place = next;
+        }
+        place += 1;
     }
 }
 
@@ -76,9 +76,9 @@ pub fn read_lists<R: ReadsPlaced>(
         };
         let value = reader.read(alloc, place, part);
         values = pushed(values, value);
-        let Some(next) = place.checked_add(1) else {
+        if place == u32::MAX {
             return Err(ReadFault::OutOfMemory);
-        };
-        place = next;
+        }
+        place += 1;
     }
 }

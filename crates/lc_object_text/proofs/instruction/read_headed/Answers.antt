@@ -12,4 +12,4 @@ returns g c =
 pub returns-in_err-instruction : goal.returns-in_err-instruction
 returns-in_err-instruction g c =
     let (shape, is, short) = c.in_err-instruction.ensures in
-    parts_missing instruction_of (own_parts c.args.head) (number_of c.args.list) (owner_of c.args.list) (rest_of c.args.list) _ _ _ _ shape is short ? ?
+    parts_missing instruction_of (own_parts c.args.head) (number_of c.args.list) (owner_of c.args.list) (rest_of c.args.list) _ _ _ shape is short c.from_residual.ensures.1

@@ -1,4 +1,4 @@
-use Rattle.std.proofs.Common.{ap}
+use Rattle.std.proofs.Common.{◌+◌, ap, refl}
 use Rattle.lc_sexp.specs.Shown.{number_of}
 use Rattle.lc_reading.proofs.SoFar.{so_far_push, each_end}
 use Rattle.lc_object_text.specs.Rows.{cons, placed_reading}
@@ -12,5 +12,5 @@ returns-in_default g c =
 pub items-preserved : goal.items-preserved
 items-preserved g c =
     let (at, next) = c.in-Ok.ensures in
-    let left = placed_more (g.R.ReadsPlaced.reading c.args.reader.now) c.items.place c.in_some-next.next c.items.rest c.next_part.new.list c.in-Ok.part at next ? in
+    let left = placed_more (g.R.ReadsPlaced.reading c.args.reader.now) c.items.place (c.items.place + 1) c.items.rest c.next_part.new.list c.in-Ok.part at next refl in
     so_far_push g.R.ReadsPlaced.meaning cons _ _ _ c.items.values c.read-value.result c.pushed-values.result (rw left at c.items.invariant) c.read-value.ensures c.pushed-values.ensures
