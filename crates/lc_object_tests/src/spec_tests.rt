@@ -1,5 +1,6 @@
 //! Refusals of specifications are cases of the program `lc_cases`.
-use lc_seq::{SeqObject, TextSpec, spec_of};
+use lc_seq::{SeqObject, TextSpec};
+use lc_spec_text::spec_of;
 use std::alloc::Global;
 use std::test::Fail;
 

@@ -3,5 +3,7 @@ pub mod Order
 pub mod Combined
 pub mod SoFar
 pub mod Sections
+pub mod Listed
+pub mod Holding
 pub mod Places
 pub mod Noted

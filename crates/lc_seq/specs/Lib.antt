@@ -1,15 +1,7 @@
 pub mod Applied
 pub mod Branches
-pub mod Counts
-pub mod Parts
-pub mod Rows
 pub mod Run
 pub mod Sequential
-pub mod SpecNames
-pub mod SpecParts
-pub mod SpecReading
-pub mod SpecSeen
-pub mod SpecText
 pub mod SpecView
 pub mod Specification
 pub mod TextLaws

@@ -1,1 +1,5 @@
+pub mod Counts
+pub mod FileAnswers
+pub mod Parts
 pub mod Places
+pub mod Resolved

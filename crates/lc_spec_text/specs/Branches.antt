@@ -15,7 +15,7 @@ use Rattle.lc_reading.specs.declared.pass.Pass.TheVariants.{Shape, Unknown}
 use Rattle.lc_text.specs.Formulas.{formula_reading}
 use Rattle.lc_text.specs.Terms.{triple, term_reading}
 use Rattle.lc_seq.specs.Specification.{Update, Branch}
-use Rattle.lc_spec_text.specs.Scopes.{Columns, branch_names}
+use Rattle.lc_spec_text.specs.Scopes.{Columns}
 
 -- the place of a column's name, if the specification declares it. A column that is declared elsewhere may not be stored in
 abbrev pub stored : Columns → ℕ → List ℕ → Option ℕ → Reading ℕ
@@ -59,7 +59,6 @@ branch_parts_reading columns names count n m (t ▸ u ▸ v ▸ ts) =
     (replies_reading names count (m + item_count t + item_count u) v)
 branch_parts_reading columns names count n m _ = wrong Shape n
 
--- (branch F (UPDATE*) (T*)), with these variables and so many replies
-abbrev pub branch_reading : Columns → List (List ℕ) → Option ℕ → ℕ → Tree → Reading Branch
-branch_reading columns variables count n t =
-    mapped the_branch (behind_reading (codes "branch") (branch_parts_reading columns (branch_names columns.own variables) count) n t)
+-- (branch F (UPDATE*) (T*)), with so many replies
+abbrev pub branch_reading : Columns → Names → Option ℕ → ℕ → Tree → Reading Branch
+branch_reading columns names count n t = mapped the_branch (behind_reading (codes "branch") (branch_parts_reading columns names count) n t)

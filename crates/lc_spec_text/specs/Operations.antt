@@ -10,7 +10,7 @@ use Rattle.lc_reading.specs.Rows.{each_reading, all_declared, declared_reading}
 use Rattle.lc_reading.specs.declared.pass.Pass.TheVariants.{Shape, Bound}
 use Rattle.lc_text.specs.Terms.{pair, triple}
 use Rattle.lc_seq.specs.Specification.{Branch, Operation}
-use Rattle.lc_spec_text.specs.Scopes.{Columns, client}
+use Rattle.lc_spec_text.specs.Scopes.{Columns, client, branch_names}
 use Rattle.lc_spec_text.specs.Branches.{branch_reading}
 
 -- a number of at least 0
@@ -59,7 +59,7 @@ signature_reading before m t u v =
 abbrev pub operation_parts_reading : Columns → List (List ℕ) → ℕ → ℕ → Trees → Reading (((List ℕ × List (List ℕ)) × ℕ) × List Branch)
 operation_parts_reading columns before n m (t ▸ u ▸ v ▸ b ▸ bs) =
     both pair (signature_reading before m t u v)
-    (each_reading (branch_reading columns (variables_in u) (count_in v)) (m + item_count t + item_count u + item_count v) (b ▸ bs))
+    (each_reading (branch_reading columns (branch_names columns.own (variables_in u)) (count_in v)) (m + item_count t + item_count u + item_count v) (b ▸ bs))
 operation_parts_reading columns before n m _ = wrong Shape n
 
 abbrev pub the_operation : ((List ℕ × List (List ℕ)) × ℕ) × List Branch → Operation

@@ -7,42 +7,43 @@ ghost use Rattle.lc_reading.specs.Results.{IsReading};
 ghost use Rattle.lc_seq.specs.Specification as S;
 ghost use Rattle.lc_seq.specs.SpecView.{branch_of};
 ghost use Rattle.lc_spec_text.specs.Branches.{updates_reading, replies_reading, branch_parts_reading, the_branch, branch_reading};
-ghost use Rattle.lc_spec_text.specs.ScopeView.{columns_seen, variables_seen, names_seen};
+ghost use Rattle.lc_spec_text.specs.ScopeView.{columns_seen};
 ghost use Rattle.lc_spec_text.specs.Seen.{updates_of, terms_of, branch_parts};
 
-use crate::scope::InBranch;
+use crate::scope::Columns;
 use crate::update::Updates;
 use lc_reading::{
     Part, Pass, ReadFault, Reads, behind_word, both, ended, read_counted, read_each, three, wrong,
 };
 use lc_seq::{Branch, Update};
 use lc_sexp::{Cursor, Item};
-use lc_term::{Formula, Term};
+use lc_term::{Formula, Scope, Term};
 use lc_text::{Terms, read_formula};
 use std::alloc::Global;
 
 /// `(UPDATE*)`
-fn read_updates(
+fn read_updates<S: Scope>(
     alloc: Global,
-    scope: &InBranch<'_, '_, '_>,
+    columns: Columns<'_, '_>,
+    scope: &S,
     part: Part<'_>,
 ) -> Result<Vec<Update>, ReadFault>
-    ensures { IsReading updates_of (updates_reading (columns_seen scope.now.columns) (names_seen scope.now) (place_of part.entry) (tree_of part.entry)) result }
+    ensures { IsReading updates_of (updates_reading (columns_seen columns.entry) (S.names scope.now) (place_of part.entry) (tree_of part.entry)) result }
 {
     match part.item() {
         Item::Atom(atom) => Err(wrong(Pass::Shape, atom.number())),
-        Item::List(list) => read_each(alloc, &Updates(scope), list),
+        Item::List(list) => read_each(alloc, &Updates { columns, scope }, list),
     }
 }
 
 /// `(T*)`, with just so many terms. Without a count no list has as many.
-fn read_replies(
+fn read_replies<S: Scope>(
     alloc: Global,
-    scope: &InBranch<'_, '_, '_>,
+    scope: &S,
     count: Option<u64>,
     part: Part<'_>,
 ) -> Result<Vec<Term>, ReadFault>
-    ensures { IsReading terms_of (replies_reading (names_seen scope.now) count (place_of part.entry) (tree_of part.entry)) result }
+    ensures { IsReading terms_of (replies_reading (S.names scope.now) count (place_of part.entry) (tree_of part.entry)) result }
 {
     let Some(count) = count else {
         return Err(wrong(Pass::Shape, part.number()));
@@ -54,17 +55,18 @@ fn read_replies(
 }
 
 /// `F (UPDATE*) (T*)`, which are all that is left in a list.
-fn read_branch_parts(
+fn read_branch_parts<S: Scope>(
     alloc: Global,
-    scope: &InBranch<'_, '_, '_>,
+    columns: Columns<'_, '_>,
+    scope: &S,
     count: Option<u64>,
     list: Cursor<'_>,
 ) -> Result<((Formula, Vec<Update>), Vec<Term>), ReadFault>
-    ensures { IsReading branch_parts (branch_parts_reading (columns_seen scope.now.columns) (names_seen scope.now) count (owner_of list.entry) (number_of list.entry) (rest_of list.entry)) result }
+    ensures { IsReading branch_parts (branch_parts_reading (columns_seen columns.entry) (S.names scope.now) count (owner_of list.entry) (number_of list.entry) (rest_of list.entry)) result }
 {
     let (first, second, third, rest) = three(list)?;
     let guard = read_formula(alloc, scope, first);
-    let updates = read_updates(alloc, scope, second);
+    let updates = read_updates(alloc, columns, scope, second);
     let replies = read_replies(alloc, scope, count, third);
     ended(both(both(guard, updates), replies), rest)
 }
@@ -84,33 +86,32 @@ fn made_branch(
 }
 
 /// `(branch F (UPDATE*) (T*))`
-fn read_branch(
+fn read_branch<S: Scope>(
     alloc: Global,
-    scope: &InBranch<'_, '_, '_>,
+    columns: Columns<'_, '_>,
+    scope: &S,
     count: Option<u64>,
     part: Part<'_>,
 ) -> Result<Branch, ReadFault>
-    ensures { IsReading branch_of (branch_reading (columns_seen scope.now.columns) (variables_seen scope.now) count (place_of part.entry) (tree_of part.entry)) result }
+    ensures { IsReading branch_of (branch_reading (columns_seen columns.entry) (S.names scope.now) count (place_of part.entry) (tree_of part.entry)) result }
 {
-    let parts = match behind_word(part, "branch") {
-        Ok(list) => read_branch_parts(alloc, scope, count, list),
-        Err(misfit) => Err(ReadFault::from(misfit)),
-    };
-    made_branch(parts)
+    let list = behind_word(part, "branch")?;
+    made_branch(read_branch_parts(alloc, columns, scope, count, list))
 }
 
 /// Reads branches, each with so many replies.
 #[derive(Drop)]
-pub(crate) struct Branches<'s, 'a, 'b, 'p> {
-    pub(crate) scope: &'s InBranch<'a, 'b, 'p>,
+pub(crate) struct Branches<'a, 'b, 's, S> {
+    pub(crate) columns: Columns<'a, 'b>,
+    pub(crate) scope: &'s S,
     pub(crate) count: Option<u64>,
 }
 
-impl Reads for Branches<'_, '_, '_, '_> {
+impl<S: Scope> Reads for Branches<'_, '_, '_, S> {
     ghost use Rattle.lc_seq.specs.SpecView.{branch_of};
     ghost use Rattle.lc_seq.specs.Specification.{Branch};
     ghost use Rattle.lc_spec_text.specs.Branches.{branch_reading};
-    ghost use Rattle.lc_spec_text.specs.ScopeView.{columns_seen, variables_seen};
+    ghost use Rattle.lc_spec_text.specs.ScopeView.{columns_seen};
 
     type Value = Branch;
 
@@ -118,9 +119,9 @@ impl Reads for Branches<'_, '_, '_, '_> {
 
     ghost meaning = { branch_of };
 
-    ghost reading = { λ reader. branch_reading (columns_seen reader.scope.now.columns) (variables_seen reader.scope.now) reader.count };
+    ghost reading = { λ reader. branch_reading (columns_seen reader.columns) (S.names reader.scope.now) reader.count };
 
     fn read(&self, alloc: Global, part: Part<'_>) -> Result<Branch, ReadFault> {
-        read_branch(alloc, self.scope, self.count, part)
+        read_branch(alloc, self.columns, self.scope, self.count, part)
     }
 }

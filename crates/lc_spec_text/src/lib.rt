@@ -4,6 +4,7 @@
 mod branch;
 mod column;
 mod file;
+pub mod laws;
 mod operation;
 mod scope;
 mod signature;

@@ -1,7 +1,7 @@
-ghost use Rattle.std.specs.Prelude.{◌≡◌, ℕ, List, IfOk};
+ghost use Rattle.std.specs.Prelude.{◌≡◌, ℕ, List, IfOk, codes};
 ghost use Rattle.lc_sexp.specs.Shown.{rest_of, number_of, owner_of};
 ghost use Rattle.lc_reading.specs.Parts.{tree_of, place_of};
-ghost use Rattle.lc_reading.specs.Readings.{Reading, mapped};
+ghost use Rattle.lc_reading.specs.Readings.{Reading, mapped, behind_reading};
 ghost use Rattle.lc_reading.specs.Results.{IsReading};
 ghost use Rattle.lc_reading.specs.Rows.{each_reading};
 ghost use Rattle.lc_reading.specs.TableView.{listed};
@@ -9,6 +9,7 @@ ghost use Rattle.lc_seq.specs.Specification as S;
 ghost use Rattle.lc_seq.specs.SpecView.{operation_of};
 ghost use Rattle.lc_spec_text.specs.Branches.{branch_reading};
 ghost use Rattle.lc_spec_text.specs.Operations.{operation_parts_reading, the_operation, operation_reading};
+ghost use Rattle.lc_spec_text.specs.Scopes.{branch_names};
 ghost use Rattle.lc_spec_text.specs.ScopeView.{columns_seen};
 ghost use Rattle.lc_spec_text.specs.Seen.{branches_of, operation_parts};
 
@@ -34,10 +35,11 @@ fn read_branches(
     count: Option<u64>,
     list: Cursor<'_>,
 ) -> Result<Vec<Branch>, ReadFault>
-    ensures { IsReading branches_of (each_reading (branch_reading (columns_seen columns.entry) (listed variables.entry) count) (number_of list.entry) (rest_of list.entry)) result }
+    ensures { IsReading branches_of (each_reading (branch_reading (columns_seen columns.entry) (branch_names (columns_seen columns.entry).own (listed variables.entry)) count) (number_of list.entry) (rest_of list.entry)) result }
 {
-    let scope = InBranch::new(columns, variables)?;
+    let scope = InBranch::new(columns.own, variables)?;
     let branches = Branches {
+        columns,
         scope: &scope,
         count,
     };
@@ -81,6 +83,19 @@ fn made_operation(
 }
 
 /// `(op NAME (ARG*) REPLIES BRANCH+)`, behind these operations.
+fn read_form(
+    alloc: Global,
+    columns: Columns<'_, '_>,
+    before: &NameTable<'_>,
+    part: Part<'_>,
+) -> Result<Operation, ReadFault>
+    ensures { IsReading operation_of (mapped the_operation (behind_reading (codes "op") (operation_parts_reading (columns_seen columns.entry) (listed before.now)) (place_of part.entry) (tree_of part.entry))) result }
+{
+    let list = behind_word(part, "op")?;
+    made_operation(read_operation_parts(alloc, columns, before, list))
+}
+
+/// The same, of which there are only so many.
 fn read_operation(
     alloc: Global,
     columns: Columns<'_, '_>,
@@ -89,11 +104,7 @@ fn read_operation(
 ) -> Result<Operation, ReadFault>
     ensures { IsReading operation_of (operation_reading (columns_seen columns.entry) (listed before.now) (place_of part.entry) (tree_of part.entry)) result }
 {
-    let parts = match behind_word(part, "op") {
-        Ok(list) => read_operation_parts(alloc, columns, before, list),
-        Err(misfit) => Err(ReadFault::from(misfit)),
-    };
-    let operation = made_operation(parts);
+    let operation = read_form(alloc, columns, before, part);
     limited(
         is_full(Some(OPERATION_LIMIT), before.len()),
         part.number(),

@@ -14,14 +14,14 @@ pub(crate) struct Columns<'a, 'b> {
 }
 
 /// How names are read in the branches of an operation.
-pub(crate) struct InBranch<'a, 'b, 'p> {
-    pub(crate) columns: Columns<'a, 'b>,
+pub(crate) struct InBranch<'a, 'b> {
+    columns: &'b NameTable<'a>,
     /// The client, and the arguments.
-    variables: NameTable<'p>,
+    variables: NameTable<'a>,
     ghost counted: { length (listed variables) + 1 < 2 ^ 32 },
 }
 
-impl Drop for InBranch<'_, '_, '_> {
+impl Drop for InBranch<'_, '_> {
     fn drop(self) {
         let InBranch {
             columns: _,
@@ -39,16 +39,16 @@ fn column_at(place: Option<u32>) -> ColumnUse
     }
 }
 
-impl<'a, 'b, 'p> InBranch<'a, 'b, 'p> {
+impl<'a, 'b> InBranch<'a, 'b> {
     ghost use Rattle.std.specs.Prelude.{◌≡◌, IfOk};
     ghost use Rattle.lc_reading.specs.TableView.{listed};
 
     /// These columns and variables.
     pub(crate) fn new(
-        columns: Columns<'a, 'b>,
-        variables: NameTable<'p>,
-    ) -> Result<InBranch<'a, 'b, 'p>, OutOfMemory>
-        ensures columns { IfOk result (λ names. names.columns ≡ columns.entry) }
+        columns: &'b NameTable<'a>,
+        variables: NameTable<'a>,
+    ) -> Result<InBranch<'a, 'b>, OutOfMemory>
+        ensures columns { IfOk result (λ names. listed names.columns.now ≡ listed columns.now) }
         ensures variables { IfOk result (λ names. listed names.variables ≡ listed variables.entry) }
     {
         if variables.len() == u32::MAX {
@@ -58,11 +58,11 @@ impl<'a, 'b, 'p> InBranch<'a, 'b, 'p> {
     }
 }
 
-impl Scope for InBranch<'_, '_, '_> {
+impl Scope for InBranch<'_, '_> {
     ghost use Rattle.lc_reading.specs.TableView.{listed};
     ghost use Rattle.lc_spec_text.specs.Scopes.{branch_names};
 
-    ghost names = { λ scope. branch_names (listed scope.columns.own.now) (listed scope.variables) };
+    ghost names = { λ scope. branch_names (listed scope.columns.now) (listed scope.variables) };
 
     #[tactic(auto, using(crate::proofs::Places::next_place))]
     fn variable(&self, name: &str) -> Option<u32> {
@@ -73,7 +73,7 @@ impl Scope for InBranch<'_, '_, '_> {
     }
 
     fn column(&self, name: &str) -> ColumnUse {
-        column_at(self.columns.own.place(name))
+        column_at(self.columns.place(name))
     }
 
     fn allows(&self, _: Extra) -> bool {

@@ -1,13 +1,16 @@
-ghost use Rattle.std.specs.Prelude.{◌≡◌, ◌+◌, ℕ, List, IfOk, None};
+ghost use Rattle.std.specs.Prelude.{◌≡◌, ℕ, List, IfOk, Some, None, if◌then◌else◌};
 ghost use Rattle.lc_sexp.specs.Shown.{text_of, atom_number};
-ghost use Rattle.lc_sexp.specs.Trees.{atom, item_count};
+ghost use Rattle.lc_sexp.specs.Trees.{atom as the_atom};
 ghost use Rattle.lc_reading.specs.Parts.{tree_of, place_of};
 ghost use Rattle.lc_reading.specs.Readings.{Reading, three};
 ghost use Rattle.lc_reading.specs.Naming.{name_reading};
 ghost use Rattle.lc_reading.specs.Results.{IsReading};
 ghost use Rattle.lc_reading.specs.TableView.{listed};
+ghost use Rattle.lc_reading.specs.Flaws.{at};
+ghost use Rattle.lc_reading.specs.declared.flaw.ReadFault.TheVariants.{Flawed};
+ghost use Rattle.lc_reading.specs.declared.pass.Pass.TheVariants.{Shape, Bound};
 ghost use Rattle.lc_text.specs.Terms.{triple};
-ghost use Rattle.lc_spec_text.specs.Operations.{is_negative, count_reading, count_in, arguments_reading, variables_in};
+ghost use Rattle.lc_spec_text.specs.Operations.{natural, few, is_negative, count_reading, count_in, arguments_reading, variables_in};
 ghost use Rattle.lc_spec_text.specs.Seen.{names_of, signature_of};
 
 use lc_base::{Name, OutOfMemory};
@@ -78,18 +81,38 @@ fn is_negative(text: &str) -> bool
     text.as_bytes().first() == Some(&b'-')
 }
 
+/// A count of replies, told at this item.
+fn few(number: i64, item: u64) -> Result<u32, ReadFault>
+    ensures { IsReading (λ k. k) (few item (natural (Some number))) result }
+{
+    if number < 0 {
+        Err(wrong(Pass::Shape, item))
+    } else if number > REPLY_LIMIT {
+        Err(wrong(Pass::Bound, item))
+    } else {
+        Ok(number as u32)
+    }
+}
+
+/// What is wrong with a count of replies that is beyond 64 bits: below 0 it is none.
+fn too_large(atom: &Atom<'_>) -> ReadFault
+    ensures { result ≡ Flawed (at (if is_negative (text_of atom.now) then Shape else Bound) (atom_number atom.now)) }
+{
+    if is_negative(atom.text()) {
+        wrong(Pass::Shape, atom.number())
+    } else {
+        wrong(Pass::Bound, atom.number())
+    }
+}
+
 /// The count of replies.
 fn read_few(atom: &Atom<'_>) -> Result<u32, ReadFault>
-    ensures { IsReading (λ k. k) (count_reading (atom_number atom.now) (atom (text_of atom.now))) result }
+    ensures { IsReading (λ k. k) (count_reading (atom_number atom.now) (the_atom (text_of atom.now))) result }
 {
     match atom.integer() {
-        Ok(number) if number < 0 => Err(wrong(Pass::Shape, atom.number())),
-        Ok(number) if number > REPLY_LIMIT => Err(wrong(Pass::Bound, atom.number())),
-        Ok(number) => Ok(number as u32),
-        Err(Misfit::Bound(_)) if !is_negative(atom.text()) => {
-            Err(wrong(Pass::Bound, atom.number()))
-        }
-        Err(_) => Err(wrong(Pass::Shape, atom.number())),
+        Ok(number) => few(number, atom.number()),
+        Err(Misfit::Shape(_)) => Err(wrong(Pass::Shape, atom.number())),
+        Err(Misfit::Bound(_)) => Err(too_large(atom)),
     }
 }
 
@@ -122,7 +145,7 @@ pub(crate) fn read_signature(
     arguments: Result<Vec<Name>, ReadFault>,
     replies: Part<'_>,
 ) -> Result<((Name, Vec<Name>), u32), ReadFault>
-    ensures { (r : Reading (List (List ℕ))) → IsReading names_of r arguments.entry → IsReading signature_of (three triple (name_reading None (listed before.now) (place_of name.entry) (tree_of name.entry)) r (count_reading (place_of replies.entry) (tree_of replies.entry))) result }
+    ensures { (r : Reading (List (List ℕ))) → IsReading names_of r arguments → IsReading signature_of (three triple (name_reading None (listed before.now) (place_of name.entry) (tree_of name.entry)) r (count_reading (place_of replies.entry) (tree_of replies.entry))) result }
 {
     let name = read_name(None, before, name);
     both(both(name, arguments), read_count(replies))

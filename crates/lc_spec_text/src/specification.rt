@@ -77,9 +77,6 @@ pub fn read_specification<'a>(
 ) -> Result<TextSpec, ReadFault>
     ensures { IsReading specification_of (specification_reading (listed others.now) (place_of part.entry) (tree_of part.entry)) result }
 {
-    let parts = match behind_word(part, "spec") {
-        Ok(list) => read_specification_parts(alloc, others, list),
-        Err(misfit) => Err(ReadFault::from(misfit)),
-    };
-    made_specification(parts)
+    let list = behind_word(part, "spec")?;
+    made_specification(read_specification_parts(alloc, others, list))
 }

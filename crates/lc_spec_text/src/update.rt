@@ -6,15 +6,15 @@ ghost use Rattle.lc_reading.specs.Readings.{Reading, mapped, listed_reading};
 ghost use Rattle.lc_reading.specs.Results.{IsReading};
 ghost use Rattle.lc_seq.specs.SpecView.{update_of};
 ghost use Rattle.lc_spec_text.specs.Branches.{written_reading, the_update, update_parts_reading, update_reading};
-ghost use Rattle.lc_spec_text.specs.ScopeView.{columns_seen, names_seen};
+ghost use Rattle.lc_spec_text.specs.ScopeView.{columns_seen};
 ghost use Rattle.lc_spec_text.specs.Seen.{update_parts};
 
-use crate::scope::{Columns, InBranch};
+use crate::scope::Columns;
 use lc_base::{ColId, NAME_LIMIT, is_name};
 use lc_reading::{Part, Pass, ReadFault, Reads, both, ended, is_system_column, three, wrong};
 use lc_seq::Update;
 use lc_sexp::{Cursor, Item};
-use lc_term::Term;
+use lc_term::{Scope, Term};
 use lc_text::read_term;
 use std::alloc::Global;
 
@@ -41,15 +41,16 @@ fn read_written(columns: Columns<'_, '_>, part: Part<'_>) -> Result<ColId, ReadF
 }
 
 /// A column and two terms, which are all that is left in a list.
-fn read_update_parts(
+fn read_update_parts<S: Scope>(
     alloc: Global,
-    scope: &InBranch<'_, '_, '_>,
+    columns: Columns<'_, '_>,
+    scope: &S,
     list: Cursor<'_>,
 ) -> Result<((ColId, Term), Term), ReadFault>
-    ensures { IsReading update_parts (update_parts_reading (columns_seen scope.now.columns) (names_seen scope.now) (owner_of list.entry) (number_of list.entry) (rest_of list.entry)) result }
+    ensures { IsReading update_parts (update_parts_reading (columns_seen columns.entry) (S.names scope.now) (owner_of list.entry) (number_of list.entry) (rest_of list.entry)) result }
 {
     let (first, second, third, rest) = three(list)?;
-    let column = read_written(scope.columns, first);
+    let column = read_written(columns, first);
     let index = read_term(alloc, scope, second);
     let value = read_term(alloc, scope, third);
     ended(both(both(column, index), value), rest)
@@ -67,29 +68,32 @@ fn made_update(parts: Result<((ColId, Term), Term), ReadFault>) -> Result<Update
     })
 }
 
-fn read_update(
+fn read_update<S: Scope>(
     alloc: Global,
-    scope: &InBranch<'_, '_, '_>,
+    columns: Columns<'_, '_>,
+    scope: &S,
     part: Part<'_>,
 ) -> Result<Update, ReadFault>
-    ensures { IsReading update_of (update_reading (columns_seen scope.now.columns) (names_seen scope.now) (place_of part.entry) (tree_of part.entry)) result }
+    ensures { IsReading update_of (update_reading (columns_seen columns.entry) (S.names scope.now) (place_of part.entry) (tree_of part.entry)) result }
 {
-    let parts = match part.item() {
+    match part.item() {
         Item::Atom(atom) => Err(wrong(Pass::Shape, atom.number())),
-        Item::List(list) => read_update_parts(alloc, scope, list),
-    };
-    made_update(parts)
+        Item::List(list) => made_update(read_update_parts(alloc, columns, scope, list)),
+    }
 }
 
 /// Reads updates.
 #[derive(Drop)]
-pub(crate) struct Updates<'s, 'a, 'b, 'p>(pub(crate) &'s InBranch<'a, 'b, 'p>);
+pub(crate) struct Updates<'a, 'b, 's, S> {
+    pub(crate) columns: Columns<'a, 'b>,
+    pub(crate) scope: &'s S,
+}
 
-impl Reads for Updates<'_, '_, '_, '_> {
+impl<S: Scope> Reads for Updates<'_, '_, '_, S> {
     ghost use Rattle.lc_seq.specs.SpecView.{update_of};
     ghost use Rattle.lc_seq.specs.Specification.{Update};
     ghost use Rattle.lc_spec_text.specs.Branches.{update_reading};
-    ghost use Rattle.lc_spec_text.specs.ScopeView.{columns_seen, names_seen};
+    ghost use Rattle.lc_spec_text.specs.ScopeView.{columns_seen};
 
     type Value = Update;
 
@@ -97,9 +101,9 @@ impl Reads for Updates<'_, '_, '_, '_> {
 
     ghost meaning = { update_of };
 
-    ghost reading = { λ reader. update_reading (columns_seen reader.0.now.columns) (names_seen reader.0.now) };
+    ghost reading = { λ reader. update_reading (columns_seen reader.columns) (S.names reader.scope.now) };
 
     fn read(&self, alloc: Global, part: Part<'_>) -> Result<Update, ReadFault> {
-        read_update(alloc, self.0, part)
+        read_update(alloc, self.columns, self.scope, part)
     }
 }

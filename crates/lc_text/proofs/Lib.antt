@@ -1,2 +1,3 @@
 pub mod Binders
 pub mod Rows
+pub mod ReadHolds

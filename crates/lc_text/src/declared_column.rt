@@ -1,5 +1,6 @@
 ghost use Rattle.lc_sexp.specs.Shown.{rest_of, number_of, owner_of};
 ghost use Rattle.lc_reading.specs.Parts.{tree_of, place_of};
+ghost use Rattle.lc_reading.specs.Readings.{listed_reading};
 ghost use Rattle.lc_reading.specs.Results.{IsReading};
 ghost use Rattle.lc_reading.specs.TableView.{listed};
 ghost use Rattle.lc_text.specs.DeclaredColumn.{column_parts_reading, declared_column_reading};
@@ -26,6 +27,15 @@ fn read_column_parts(
     ended(both(both(name, slope), start), rest)
 }
 
+fn read_column_list(before: &NameTable<'_>, part: Part<'_>) -> Result<((Name, i64), i64), ReadFault>
+    ensures { IsReading column_parts (listed_reading (column_parts_reading (listed before.now)) (place_of part.entry) (tree_of part.entry)) result }
+{
+    match part.item() {
+        Item::Atom(atom) => Err(wrong(Pass::Shape, atom.number())),
+        Item::List(list) => read_column_parts(before, list),
+    }
+}
+
 /// The name, the slope and the start of a column `(NAME a b)`, which starts with `a * i + b` in cell i. It is declared
 /// behind these, up to a limit of all, and one that is beyond the limit is told at its list.
 pub fn read_declared_column(
@@ -35,9 +45,6 @@ pub fn read_declared_column(
 ) -> Result<((Name, i64), i64), ReadFault>
     ensures { IsReading column_parts (declared_column_reading limit (listed before.now) (place_of part.entry) (tree_of part.entry)) result }
 {
-    let column = match part.item() {
-        Item::Atom(atom) => Err(wrong(Pass::Shape, atom.number())),
-        Item::List(list) => read_column_parts(before, list),
-    };
+    let column = read_column_list(before, part);
     limited(is_full(limit, before.len()), part.number(), column)
 }

@@ -12,7 +12,7 @@ use Rattle.lc_hist.specs.Judged.{IsJudged}
 use Rattle.lc_hist.specs.declared.event.Done.{Done}
 use Rattle.lc_hist.specs.declared.judging.JudgeFault as F
 use Rattle.lc_hist.specs.declared.judging.JudgeFault.TheVariants as V
-use Rattle.lc_seq.specs.SpecReading as S
+use Rattle.lc_spec_text.specs.Files as S
 use Rattle.lc_seq.specs.Specification.{Specification}
 use Rattle.lc_seq.specs.TextStep.{text_step, TextFits, start_of}
 use Rattle.lc_seq.specs.declared.text_call.TextCall.{TextCall}
@@ -102,7 +102,7 @@ history_answered spec (Some file) bytes seen judgement text status read same is 
     (judgement, of_whole spec 16777217 file judgement refl (subst (λ b. IsJudgement spec b judgement) (same ∙ read) is), told)
 
 said_of_whole : (file : List ℕ) (spec : Specification) → S.Says (within_limit file) spec → S.Says file spec
-said_of_whole file spec says = (says.0, reading_of_whole 16777217 file says.0 refl says.1, says.2, says.3)
+said_of_whole file spec says = (says.0, reading_of_whole 16777217 file says.0 refl says.1, says.2)
 
 refusal_of_whole : (file : List ℕ) (refusal : Refusal) → S.IsFirstRefusal (within_limit file) refusal → S.IsFirstRefusal file refusal
 refusal_of_whole file (Text offset) first = fault_of_whole 16777217 file offset refl first

@@ -13,7 +13,7 @@ use Rattle.lc_hist.specs.declared.reason.Reason.{Reason}
 use Rattle.lc_hist.specs.declared.judging.JudgeFault as F
 use Rattle.lc_hist.specs.declared.judging.JudgeFault.TheVariants as V
 use Rattle.lc_seq.specs.Sequential.{Call}
-use Rattle.lc_seq.specs.SpecReading.{Says, IsFirstRefusal}
+use Rattle.lc_spec_text.specs.Files.{Says, IsFirstRefusal}
 use Rattle.lc_seq.specs.Specification.{Specification, has_call}
 use Rattle.lc_seq.specs.TextStep.{text_step, TextFits, start_of}
 use Rattle.lincheck.specs.Answers.{ToldFault}

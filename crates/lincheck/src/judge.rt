@@ -8,7 +8,8 @@ use crate::files::Files;
 use crate::reading::read_file;
 use lc_base::{Fault, OutOfMemory, Refusal, write_line};
 use lc_hist::{JudgeFault, history_from_json, judge};
-use lc_seq::{TextSpec, spec_of};
+use lc_seq::TextSpec;
+use lc_spec_text::spec_of;
 use std::alloc::Global;
 
 /// What is said of an order that is not refused.
