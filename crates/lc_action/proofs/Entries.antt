@@ -7,8 +7,8 @@ use Rattle.lc_term.specs.Syntax as S
 use Rattle.lc_term.specs.Said.{put, puts, said}
 use Rattle.lc_term.specs.View.{column_of}
 use Rattle.lc_term.specs.declared.term.ColExpr.{ColExpr}
-use Rattle.lc_seq.specs.SpecView.{update_of, updates_of}
-use Rattle.lc_seq.specs.declared.specification.Update.{Update}
+use Rattle.lc_term.specs.UpdateView.{update_of, updates_of}
+use Rattle.lc_term.specs.declared.update.Update.{Update}
 use Rattle.lc_action.specs.Telling.{column_at, entry_of, columns_in}
 use Rattle.lc_action.proofs.Columns.{IsAbsent, same, found, absent-more, put_in_place, put_behind}
 

@@ -2,7 +2,7 @@
 use Rattle.std.specs.Prelude.{ℕ, map}
 use Rattle.lc_base.specs.Name.{bytes_of}
 use Rattle.lc_term.specs.View.{formula_of}
-use Rattle.lc_seq.specs.SpecView.{updates_of}
+use Rattle.lc_term.specs.UpdateView.{updates_of}
 use Rattle.lc_action.specs.Action as S
 use Rattle.lc_action.specs.declared.action.Action.{Action}
 use Rattle.lc_action.specs.declared.system_columns.SystemColumns.{SystemColumns}

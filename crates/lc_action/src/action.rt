@@ -5,14 +5,13 @@ ghost use Rattle.lc_term.specs.Said.{at_client};
 ghost use Rattle.lc_term.specs.Syntax.{Number, Variable, Read, Base, Eq};
 ghost use Rattle.lc_term.specs.SystemColumns.{pend};
 ghost use Rattle.lc_term.specs.View.{term_of, formula_of};
-ghost use Rattle.lc_seq.specs.SpecView.{updates_of};
+ghost use Rattle.lc_term.specs.UpdateView.{updates_of};
 ghost use Rattle.lc_action.specs.Action.{skip, enter, leave};
 ghost use Rattle.lc_action.specs.ActionView.{action_of, first_of};
 
 use crate::system_columns::SystemColumns;
 use lc_base::{ColId, Name, OutOfMemory};
-use lc_seq::Update;
-use lc_term::{ColExpr, Formula, Term};
+use lc_term::{ColExpr, Formula, Term, Update};
 use std::alloc::Global;
 
 /// What a step may do to the columns: where the guard holds, the updates are taken together and stored in their order.

@@ -2,13 +2,12 @@ ghost use Rattle.std.specs.Prelude.{◌≡◌, IfOk, map};
 ghost use Rattle.lc_term.specs.Syntax.{Read, Store};
 ghost use Rattle.lc_term.specs.Said.{put, puts, said, after};
 ghost use Rattle.lc_term.specs.View.{term_of, column_of};
-ghost use Rattle.lc_seq.specs.SpecView.{updates_of};
+ghost use Rattle.lc_term.specs.UpdateView.{updates_of};
 ghost use Rattle.lc_action.specs.Telling.{columns_in};
 
 use crate::telling::{Before, said};
 use lc_base::{ColId, OutOfMemory};
-use lc_seq::Update;
-use lc_term::{ColExpr, Term};
+use lc_term::{ColExpr, Term, Update};
 use std::alloc::Global;
 use std::mem;
 

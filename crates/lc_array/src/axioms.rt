@@ -1,156 +1,232 @@
 ghost use Rattle.std.specs.Prelude.{◌≡◌, [], ◌∷◌, IfOk};
-ghost use Rattle.lc_array.specs.Axioms.{written, same_index, affine_cell};
+ghost use Rattle.lc_array.specs.Axioms.{written, written_to, same_index, affine_cell};
 ghost use Rattle.lc_term.specs.Syntax as S;
-ghost use Rattle.lc_term.specs.View.{term_of, column_of, formula_of, formulas_of};
+ghost use Rattle.lc_term.specs.Tables.{term_in, column_in, formula_in, IsTerm, IsColumn, IsFormula, HasTerm, HasFormula, Keeps};
 
 use lc_base::OutOfMemory;
-use lc_term::{ColExpr, Formula, Term};
+use lc_term::{ColExprId, FormulaId, TermId, Terms};
 use std::alloc::Global;
 
-fn negated(alloc: Global, formula: Formula) -> Result<Formula, OutOfMemory>
-    ensures { IfOk result (λ f. formula_of f ≡ S.Not (formula_of formula)) }
-{
-    Ok(Formula::Not(Box::new(alloc, formula)?))
-}
-
-fn pair(alloc: Global, first: Formula, second: Formula) -> Result<Vec<Formula>, OutOfMemory>
-    ensures { IfOk result (λ fs. formulas_of fs.items ≡ formula_of first ∷ formula_of second ∷ []) }
+fn pair(alloc: Global, first: FormulaId, second: FormulaId) -> Result<Vec<FormulaId>, OutOfMemory>
+    ensures { IfOk result (λ ks. ks.items ≡ first ∷ second ∷ []) }
 {
     Ok(Vec::from_array(alloc, [first, second])?)
 }
 
-fn read(alloc: Global, column: ColExpr, index: &Term) -> Result<Term, OutOfMemory>
-    ensures { IfOk result (λ t. term_of t ≡ S.Read (column_of column) (term_of index.now)) }
-{
-    Ok(Term::Read(column, Box::new(alloc, index.try_clone(alloc)?)?))
-}
-
-fn equation(alloc: Global, left: &Term, right: &Term) -> Result<Formula, OutOfMemory>
-    ensures { IfOk result (λ f. formula_of f ≡ S.Eq (term_of left.now) (term_of right.now)) }
-{
-    Ok(Formula::Eq(left.try_clone(alloc)?, right.try_clone(alloc)?))
-}
-
-fn unequal(alloc: Global, left: &Term, right: &Term) -> Result<Formula, OutOfMemory>
-    ensures { IfOk result (λ f. formula_of f ≡ S.Not (S.Eq (term_of left.now) (term_of right.now))) }
-{
-    negated(alloc, equation(alloc, left, right)?)
-}
-
-fn stored(
+fn both(
+    terms: &mut Terms,
     alloc: Global,
-    column: &ColExpr,
-    index: &Term,
-    value: &Term,
-) -> Result<ColExpr, OutOfMemory>
-    ensures { IfOk result (λ c. column_of c ≡ S.Store (column_of column.now) (term_of index.now) (term_of value.now)) }
+    first: FormulaId,
+    second: FormulaId,
+) -> Result<FormulaId, OutOfMemory>
+    requires first { IsFormula terms.old first }
+    requires second { IsFormula terms.old second }
+    ensures id { IfOk result (λ k. HasFormula terms.new k (S.And (S.formulas (formula_in terms.old first ∷ formula_in terms.old second ∷ [])))) }
+    ensures kept { Keeps terms.old terms.new }
 {
-    Ok(ColExpr::Store(
-        Box::new(alloc, column.try_clone(alloc)?)?,
-        Box::new(alloc, index.try_clone(alloc)?)?,
-        Box::new(alloc, value.try_clone(alloc)?)?,
-    ))
+    terms.and(pair(alloc, first, second)?)
+}
+
+fn either(
+    terms: &mut Terms,
+    alloc: Global,
+    first: FormulaId,
+    second: FormulaId,
+) -> Result<FormulaId, OutOfMemory>
+    requires first { IsFormula terms.old first }
+    requires second { IsFormula terms.old second }
+    ensures id { IfOk result (λ k. HasFormula terms.new k (S.Or (S.formulas (formula_in terms.old first ∷ formula_in terms.old second ∷ [])))) }
+    ensures kept { Keeps terms.old terms.new }
+{
+    terms.or(pair(alloc, first, second)?)
+}
+
+#[tactic(auto, using(lc_term::proofs::Later::formula_is, lc_term::proofs::Later::is_formula_later, lc_term::proofs::Later::keeps_itself, lc_term::proofs::Later::kept_on))]
+fn unequal(terms: &mut Terms, left: TermId, right: TermId) -> Result<FormulaId, OutOfMemory>
+    requires left { IsTerm terms.old left }
+    requires right { IsTerm terms.old right }
+    ensures id { IfOk result (λ k. HasFormula terms.new k (S.Not (S.Eq (term_in terms.old left) (term_in terms.old right)))) }
+    ensures kept { Keeps terms.old terms.new }
+{
+    let equal = terms.eq(left, right)?;
+    terms.not(equal)
 }
 
 /// `(= (rd C i) v)`.
+#[tactic(auto, using(lc_term::proofs::Later::term_is, lc_term::proofs::Later::is_term_later, lc_term::proofs::Later::term_still, lc_term::proofs::Later::is_term_still, lc_term::proofs::Later::keeps_itself, lc_term::proofs::Later::kept_on))]
 fn has_value(
-    alloc: Global,
-    column: ColExpr,
-    index: &Term,
-    value: &Term,
-) -> Result<Formula, OutOfMemory>
-    ensures { IfOk result (λ f. formula_of f ≡ S.Eq (S.Read (column_of column) (term_of index.now)) (term_of value.now)) }
+    terms: &mut Terms,
+    column: ColExprId,
+    index: TermId,
+    value: TermId,
+) -> Result<FormulaId, OutOfMemory>
+    requires column { IsColumn terms.old column }
+    requires index { IsTerm terms.old index }
+    requires value { IsTerm terms.old value }
+    ensures id { IfOk result (λ k. HasFormula terms.new k (S.Eq (S.Read (column_in terms.old column) (term_in terms.old index)) (term_in terms.old value))) }
+    ensures kept { Keeps terms.old terms.new }
 {
-    let cell = read(alloc, column, index)?;
-    Ok(Formula::Eq(cell, value.try_clone(alloc)?))
+    let cell = terms.read(column, index)?;
+    terms.eq(cell, value)
 }
 
-/// `(= c (rd C i))`, where `c` is a cell.
-fn agrees(alloc: Global, cell: Term, column: &ColExpr, index: &Term) -> Result<Formula, OutOfMemory>
-    ensures { IfOk result (λ f. formula_of f ≡ S.Eq (term_of cell) (S.Read (column_of column.now) (term_of index.now))) }
+/// `(= (rd C i) (rd D j))`.
+#[tactic(auto, using(lc_term::proofs::Later::term_is, lc_term::proofs::Later::term_later, lc_term::proofs::Later::is_term_later, lc_term::proofs::Later::is_term_still, crate::proofs::Still::is_column_still, lc_term::proofs::Later::keeps_itself, lc_term::proofs::Later::kept_on))]
+fn agree(
+    terms: &mut Terms,
+    column: ColExprId,
+    index: TermId,
+    other_column: ColExprId,
+    other_index: TermId,
+) -> Result<FormulaId, OutOfMemory>
+    requires column { IsColumn terms.old column }
+    requires index { IsTerm terms.old index }
+    requires other_column { IsColumn terms.old other_column }
+    requires other_index { IsTerm terms.old other_index }
+    ensures id { IfOk result (λ k. HasFormula terms.new k (S.Eq (S.Read (column_in terms.old column) (term_in terms.old index)) (S.Read (column_in terms.old other_column) (term_in terms.old other_index)))) }
+    ensures kept { Keeps terms.old terms.new }
 {
-    Ok(Formula::Eq(cell, read(alloc, column.try_clone(alloc)?, index)?))
+    let cell = terms.read(column, index)?;
+    let other = terms.read(other_column, other_index)?;
+    terms.eq(cell, other)
 }
 
-/// `(= i j)` and `(= (rd C j) v)`.
+/// `(and (= i j) (= (rd D j) v))`, where `D` is the column afterwards.
+#[tactic(auto, using(lc_term::proofs::Later::is_formula_later, lc_term::proofs::Later::is_term_still, crate::proofs::Still::is_column_still, lc_term::proofs::Later::keeps_itself, lc_term::proofs::Later::kept_on))]
 fn written_there(
+    terms: &mut Terms,
     alloc: Global,
-    after: ColExpr,
-    index: &Term,
-    value: &Term,
-    other: &Term,
-) -> Result<Vec<Formula>, OutOfMemory>
-    ensures { IfOk result (λ fs. formulas_of fs.items ≡ S.Eq (term_of index.now) (term_of other.now) ∷ S.Eq (S.Read (column_of after) (term_of other.now)) (term_of value.now) ∷ []) }
+    after: ColExprId,
+    index: TermId,
+    value: TermId,
+    other: TermId,
+) -> Result<FormulaId, OutOfMemory>
+    requires after { IsColumn terms.old after }
+    requires index { IsTerm terms.old index }
+    requires value { IsTerm terms.old value }
+    requires other { IsTerm terms.old other }
+    ensures id { IfOk result (λ k. HasFormula terms.new k (S.And (S.formulas (S.Eq (term_in terms.old index) (term_in terms.old other) ∷ S.Eq (S.Read (column_in terms.old after) (term_in terms.old other)) (term_in terms.old value) ∷ [])))) }
+    ensures kept { Keeps terms.old terms.new }
 {
-    let changed = has_value(alloc, after, other, value)?;
-    pair(alloc, equation(alloc, index, other)?, changed)
+    let same = terms.eq(index, other)?;
+    let changed = has_value(terms, after, other, value)?;
+    both(terms, alloc, same, changed)
 }
 
-/// `(not (= i j))` and `(= (rd D j) (rd C j))`, where `D` is the column afterwards.
+/// `(and (not (= i j)) (= (rd D j) (rd C j)))`, where `D` is the column afterwards.
+#[tactic(auto, using(lc_term::proofs::Later::is_formula_later, lc_term::proofs::Later::is_term_still, crate::proofs::Still::is_column_still, lc_term::proofs::Later::keeps_itself, lc_term::proofs::Later::kept_on))]
 fn kept_elsewhere(
+    terms: &mut Terms,
     alloc: Global,
-    after: ColExpr,
-    column: &ColExpr,
-    index: &Term,
-    other: &Term,
-) -> Result<Vec<Formula>, OutOfMemory>
-    ensures { IfOk result (λ fs. formulas_of fs.items ≡ S.Not (S.Eq (term_of index.now) (term_of other.now)) ∷ S.Eq (S.Read (column_of after) (term_of other.now)) (S.Read (column_of column.now) (term_of other.now)) ∷ []) }
+    after: ColExprId,
+    column: ColExprId,
+    index: TermId,
+    other: TermId,
+) -> Result<FormulaId, OutOfMemory>
+    requires after { IsColumn terms.old after }
+    requires column { IsColumn terms.old column }
+    requires index { IsTerm terms.old index }
+    requires other { IsTerm terms.old other }
+    ensures id { IfOk result (λ k. HasFormula terms.new k (S.And (S.formulas (S.Not (S.Eq (term_in terms.old index) (term_in terms.old other)) ∷ S.Eq (S.Read (column_in terms.old after) (term_in terms.old other)) (S.Read (column_in terms.old column) (term_in terms.old other)) ∷ [])))) }
+    ensures kept { Keeps terms.old terms.new }
 {
-    let kept = agrees(alloc, read(alloc, after, other)?, column, other)?;
-    pair(alloc, unequal(alloc, index, other)?, kept)
+    let apart = unequal(terms, index, other)?;
+    let kept = agree(terms, after, other, column, other)?;
+    both(terms, alloc, apart, kept)
+}
+
+/// The axiom of a stored value, of the column afterwards.
+#[tactic(auto, using(lc_term::proofs::Later::is_formula_later, lc_term::proofs::Later::is_term_still, crate::proofs::Still::is_column_still, lc_term::proofs::Later::keeps_itself, lc_term::proofs::Later::kept_on))]
+fn after_writing(
+    terms: &mut Terms,
+    alloc: Global,
+    after: ColExprId,
+    column: ColExprId,
+    index: TermId,
+    value: TermId,
+    other: TermId,
+) -> Result<FormulaId, OutOfMemory>
+    requires after { IsColumn terms.old after }
+    requires column { IsColumn terms.old column }
+    requires index { IsTerm terms.old index }
+    requires value { IsTerm terms.old value }
+    requires other { IsTerm terms.old other }
+    ensures id { IfOk result (λ k. HasFormula terms.new k (written_to (column_in terms.old after) (column_in terms.old column) (term_in terms.old index) (term_in terms.old value) (term_in terms.old other))) }
+    ensures kept { Keeps terms.old terms.new }
+{
+    let there = written_there(terms, alloc, after, index, value, other)?;
+    let elsewhere = kept_elsewhere(terms, alloc, after, column, index, other)?;
+    either(terms, alloc, there, elsewhere)
 }
 
 /// `(or (and (= i j) (= (rd (store C i v) j) v)) (and (not (= i j)) (= (rd (store C i v) j) (rd C j))))`, where the
 /// value `v` is stored in column `C` at the index `i`, and `j` is the other index: the cell at `j` has `v` where `i`
 /// and `j` are the same, and else what it had.
+#[tactic(auto, using(lc_term::proofs::Later::is_column_later, lc_term::proofs::Later::is_term_still, crate::proofs::Still::is_column_still, lc_term::proofs::Later::keeps_itself, lc_term::proofs::Later::kept_on))]
 pub fn written_axiom(
+    terms: &mut Terms,
     alloc: Global,
-    column: &ColExpr,
-    index: &Term,
-    value: &Term,
-    other: &Term,
-) -> Result<Formula, OutOfMemory>
-    ensures { IfOk result (λ f. formula_of f ≡ written (column_of column.now) (term_of index.now) (term_of value.now) (term_of other.now)) }
+    column: ColExprId,
+    index: TermId,
+    value: TermId,
+    other: TermId,
+) -> Result<FormulaId, OutOfMemory>
+    requires column { IsColumn terms.old column }
+    requires index { IsTerm terms.old index }
+    requires value { IsTerm terms.old value }
+    requires other { IsTerm terms.old other }
+    ensures id { IfOk result (λ k. HasFormula terms.new k (written (column_in terms.old column) (term_in terms.old index) (term_in terms.old value) (term_in terms.old other))) }
+    ensures kept { Keeps terms.old terms.new }
 {
-    let after = stored(alloc, column, index, value)?;
-    let same = written_there(alloc, after.try_clone(alloc)?, index, value, other)?;
-    let apart = kept_elsewhere(alloc, after, column, index, other)?;
-    Ok(Formula::Or(pair(alloc, Formula::And(same), Formula::And(apart))?))
+    let after = terms.store(column, index, value)?;
+    after_writing(terms, alloc, after, column, index, value, other)
 }
 
 /// `(or (not (= i j)) (= (rd C i) (rd C j)))`: at one index a column has one number.
+#[tactic(auto, using(lc_term::proofs::Later::is_formula_later, lc_term::proofs::Later::is_term_still, crate::proofs::Still::is_column_still, lc_term::proofs::Later::keeps_itself, lc_term::proofs::Later::kept_on))]
 pub fn same_index_axiom(
+    terms: &mut Terms,
     alloc: Global,
-    column: &ColExpr,
-    index: &Term,
-    other: &Term,
-) -> Result<Formula, OutOfMemory>
-    ensures { IfOk result (λ f. formula_of f ≡ same_index (column_of column.now) (term_of index.now) (term_of other.now)) }
+    column: ColExprId,
+    index: TermId,
+    other: TermId,
+) -> Result<FormulaId, OutOfMemory>
+    requires column { IsColumn terms.old column }
+    requires index { IsTerm terms.old index }
+    requires other { IsTerm terms.old other }
+    ensures id { IfOk result (λ k. HasFormula terms.new k (same_index (column_in terms.old column) (term_in terms.old index) (term_in terms.old other))) }
+    ensures kept { Keeps terms.old terms.new }
 {
-    let same = agrees(
-        alloc,
-        read(alloc, column.try_clone(alloc)?, index)?,
-        column,
-        other,
-    )?;
-    let apart = negated(alloc, equation(alloc, index, other)?)?;
-    Ok(Formula::Or(pair(alloc, apart, same)?))
+    let apart = unequal(terms, index, other)?;
+    let same = agree(terms, column, index, column, other)?;
+    either(terms, alloc, apart, same)
+}
+
+/// `(+ (* a i) b)`.
+#[tactic(auto, using(lc_term::proofs::Later::term_is, lc_term::proofs::Later::term_later, lc_term::proofs::Later::is_term_later, lc_term::proofs::Later::kept_on))]
+fn line(terms: &mut Terms, slope: i64, start: i64, index: TermId) -> Result<TermId, OutOfMemory>
+    requires { IsTerm terms.old index }
+    ensures id { IfOk result (λ k. HasTerm terms.new k (S.Add (S.Multiply slope (term_in terms.old index)) (S.Number start))) }
+    ensures kept { Keeps terms.old terms.new }
+{
+    let product = terms.multiply(slope, index)?;
+    let start = terms.number(start)?;
+    terms.add(product, start)
 }
 
 /// `(= (rd (affine a b) i) (+ (* a i) b))`, where `a` is the slope and `b` the start.
+#[tactic(auto, using(lc_term::proofs::Later::is_column_later, lc_term::proofs::Later::is_term_later, lc_term::proofs::Later::is_term_still, lc_term::proofs::Later::keeps_itself, lc_term::proofs::Later::kept_on))]
 pub fn affine_axiom(
-    alloc: Global,
+    terms: &mut Terms,
     slope: i64,
     start: i64,
-    index: &Term,
-) -> Result<Formula, OutOfMemory>
-    ensures { IfOk result (λ f. formula_of f ≡ affine_cell slope start (term_of index.now)) }
+    index: TermId,
+) -> Result<FormulaId, OutOfMemory>
+    requires { IsTerm terms.old index }
+    ensures id { IfOk result (λ k. HasFormula terms.new k (affine_cell slope start (term_in terms.old index))) }
+    ensures kept { Keeps terms.old terms.new }
 {
-    let cell = read(alloc, ColExpr::Affine(slope, start), index)?;
-    let product = Term::Multiply(slope, Box::new(alloc, index.try_clone(alloc)?)?);
-    let sum = Term::Add(
-        Box::new(alloc, product)?,
-        Box::new(alloc, Term::Number(start))?,
-    );
-    Ok(Formula::Eq(cell, sum))
+    let value = line(terms, slope, start, index)?;
+    let column = terms.affine(slope, start)?;
+    has_value(terms, column, index, value)
 }

@@ -6,8 +6,8 @@ use std::io;
 
 /// Whether the proof in a formula file holds, else the first refusal.
 fn check_formula(alloc: Global, text: &[u8]) -> Result<(), Fault> {
-    let (goal, proof) = formula_of(alloc, text)?;
-    match prove(alloc, &goal, &proof) {
+    let mut file = formula_of(alloc, text)?;
+    match prove(&mut file.terms, alloc, &file.goal, &file.proof) {
         Ok(()) => Ok(()),
         Err(ProofFault::Bad { step, reason }) => {
             Err(Fault::Refused(Refusal::Proof(0, u64::from(step), reason.code())))

@@ -1,5 +1,5 @@
 use lc_base::Fault;
-use lc_object::object_at;
+use lc_object_text::object_at;
 use lc_sexp::Forms;
 use std::alloc::Global;
 use std::io;

@@ -1,14 +1,15 @@
 use anyhow::{Context, bail};
 use lc_base::{ColId, OutOfMemory};
-use lc_sexp::{Forms, Item};
-use lc_term::{
-    ColumnUse, Extra, Kind, Pass, ReadFault, Scope, first_wrong, read_column, read_formula,
-    read_term,
+use lc_reading::{NameTable, Part, Pass, ReadFault, next_part, read_name};
+use lc_sexp::Forms;
+use lc_text::{
+    ColumnUse, Extra, Scope, Spelling, read_column, read_formula, read_number, read_term,
+    write_column, write_formula, write_term,
 };
-use lc_text::{Spelling, write_column, write_formula, write_term};
 use std::alloc::Global;
 
-/// A place with the variable `x`, and the columns `c`, `m`, which is misplaced, and `h`, which is hidden.
+/// A place with the variable `x` and one whose name is too long, and the columns `c`, `m`, which is misplaced, and `h`,
+/// which is hidden.
 #[derive(Clone, Copy)]
 pub struct Place {
     /// Whether quantifiers, built columns and variables `?k` stand there.
@@ -17,18 +18,25 @@ pub struct Place {
 
 impl Scope for Place {
     ghost use Rattle.std.specs.Prelude.{codes, Some, None, if◌then◌else◌};
-    ghost use Rattle.lc_term.specs.Grammar.{is};
-    ghost use Rattle.lc_term.specs.declared.scope.ColumnUse.TheVariants.{Usable, Misplaced, Hidden, Undeclared};
+    ghost use Rattle.lc_reading.specs.Words.{is};
+    ghost use Rattle.lc_text.specs.declared.scope.ColumnUse.TheVariants.{Usable, Misplaced, Hidden, Undeclared};
 
     ghost names = { λ place. record {
-      variable = λ w. (if is w (codes "x") then Some 0 else None);
+      variable = λ w. (if is w (codes "x") then Some 0
+          else (if is w (codes "ppppppppppppppppppppppppppppppppppppppppppppppppppppppppppppppppp") then Some 1 else None));
       column = λ w. (if is w (codes "c") then Usable (record { 0 = 0 })
           else (if is w (codes "m") then Misplaced else (if is w (codes "h") then Hidden else Undeclared)));
       allows = λ _. place.everything;
     } };
 
     fn variable(&self, name: &str) -> Option<u32> {
-        if name == "x" { Some(0) } else { None }
+        if name == "x" {
+            Some(0)
+        } else if name == "ppppppppppppppppppppppppppppppppppppppppppppppppppppppppppppppppp" {
+            Some(1)
+        } else {
+            None
+        }
     }
 
     fn column(&self, name: &str) -> ColumnUse {
@@ -73,6 +81,16 @@ impl Spelling for Numbers {
     }
 }
 
+/// What is due where an item stands.
+#[derive(Clone, Copy)]
+enum Kind {
+    Term,
+    Column,
+    Formula,
+    Number,
+    Binder,
+}
+
 fn kind_of(word: &str) -> Option<Kind> {
     match word {
         "term" => Some(Kind::Term),
@@ -96,37 +114,53 @@ fn pass_of(word: &str) -> Option<Pass> {
 }
 
 /// The print of what an item reads as.
-fn reprint(alloc: Global, place: Place, kind: Kind, item: Item<'_>) -> Result<String, ReadFault> {
+fn reprint(alloc: Global, place: Place, kind: Kind, part: Part<'_>) -> Result<String, ReadFault> {
     let mut out = String::new(alloc);
     match kind {
-        Kind::Term => write_term(&mut out, &Numbers, 0, &read_term(alloc, &place, item)?)?,
-        Kind::Column => write_column(&mut out, &Numbers, 0, &read_column(alloc, &place, item)?)?,
-        _ => write_formula(&mut out, &Numbers, 0, &read_formula(alloc, &place, item)?)?,
+        Kind::Term => write_term(&mut out, &Numbers, 0, &read_term(alloc, &place, part)?)?,
+        Kind::Column => {
+            let column = read_column(alloc, &place, part.number(), part)?;
+            write_column(&mut out, &Numbers, 0, &column)?
+        }
+        Kind::Formula => write_formula(&mut out, &Numbers, 0, &read_formula(alloc, &place, part)?)?,
+        Kind::Number => {
+            let number = read_number(part)?;
+            write!(out, "{number}")?
+        }
+        Kind::Binder => {
+            let name = read_name(None, &NameTable::new(alloc), part)?;
+            write!(out, "{name}")?
+        }
     }
     Ok(out)
 }
 
-/// Prints what an item reads as, printed again; or the first item in it that is wrong in a pass.
+/// Prints what an item reads as, printed again; or the first item in it that is wrong, if it is wrong in a pass.
 fn answer_item(
     rt: &HostRuntime,
     place: Place,
     name: &str,
     task: &str,
     kind: Kind,
-    item: Item<'_>,
+    part: Part<'_>,
 ) -> anyhow::Result<()> {
+    let read = reprint(rt.alloc(), place, kind, part);
     if task == "read" {
-        match reprint(rt.alloc(), place, kind, item) {
+        match read {
             Ok(text) => println!(rt; "{name}: {text}")?,
-            Err(ReadFault::NoReading) => println!(rt; "{name}: reads as nothing")?,
+            Err(ReadFault::Flawed(_)) => println!(rt; "{name}: reads as nothing")?,
             Err(ReadFault::OutOfMemory) => bail!("out of memory"),
         }
         return Ok(());
     }
     let pass = pass_of(task).context("a task is `read` or a pass")?;
-    match first_wrong(rt.alloc(), pass, &place, kind, item)? {
-        Some(number) => println!(rt; "{name}: {task} {number}")?,
-        None => println!(rt; "{name}: nothing")?,
+    match read {
+        Err(ReadFault::Flawed(flaw)) if flaw.pass == pass => {
+            let number = flaw.item;
+            println!(rt; "{name}: {task} {number}")?
+        }
+        Err(ReadFault::OutOfMemory) => bail!("out of memory"),
+        _ => println!(rt; "{name}: nothing")?,
     }
     Ok(())
 }
@@ -138,8 +172,8 @@ pub fn answer_term(rt: &HostRuntime, place: Place, name: &str, text: &str) -> an
     let kind = kind_of(word).context("a kind is that of an item")?;
     let forms = Forms::read(rt.alloc(), item.as_bytes())?;
     let mut cursor = forms.cursor();
-    match cursor.item() {
-        Ok(item) => answer_item(rt, place, name, task, kind, item),
+    match next_part(&mut cursor) {
+        Ok(part) => answer_item(rt, place, name, task, kind, part),
         Err(_) => bail!("an item stands third"),
     }
 }

@@ -30,16 +30,9 @@ reply_given events span s place event c reply is there within here what =
     ap (reply_at (events_of events)) is ∙ ap (reply_there (events_of events)) there
     ∙ ap replied_in (event_at events place event (within_returned (length events) span s place is there within) here) ∙ ap (λ e. replied_in (Some e)) what
 
--- the call there is this one where an equal one was made of what stands there
-pub named_where : (HasCall : Call → Type 0) (h : List Event) (span : Option Span) (its x call : Call) (b : Bool) → call_at h span ≡ Some call → HasCall call → its ≡ call
-    → (b ≡ true) ↔ (its ≡ x) → (b ≡ true) ↔ IsNamed HasCall h span x
-named_where HasCall h span its x call b there has same equal = (
-  λ e. let one : call ≡ x = sym same ∙ equal.0 e in (subst HasCall one has, there ∙ ap Some one),
-  λ n. equal.1 (same ∙ cc (sym there ∙ n.1)),
-)
-
-pub none_named : (HasCall : Call → Type 0) (h : List Event) (span : Option Span) (x call : Call) → call_at h span ≡ Some call → (HasCall call → ⊥) → IsNamed HasCall h span x → ⊥
-none_named HasCall h span x call there none n = let one : x ≡ call = cc (there, n.1) in none (subst HasCall one n.0)
+-- the call there is this one
+pub named_where : (h : List Event) (span : Option Span) (its x : Call) (b : Bool) → call_at h span ≡ Some its → (b ≡ true) ↔ (x ≡ its) → (b ≡ true) ↔ IsNamed h span x
+named_where h span its x b there equal = (λ e. there ∙ ap Some (sym (equal.0 e)), λ n. equal.1 (cc (there, n)))
 
 pub replied_where : (h : List Event) (span : Option Span) (reply given : List ℤ) (b : Bool) → reply_at h span ≡ Some given → (b ≡ true) ↔ (reply ≡ given) → (b ≡ true) ↔ IsReplied h span reply
 replied_where h span reply given b there equal =

@@ -13,7 +13,8 @@ use Rattle.lc_hist.specs.JsonHistories.{parts_in, AreNext, AreEntries}
 use Rattle.lc_hist.specs.JsonKept.{AreKept, IsKeptEvent, IsKeptEntry, Each}
 use Rattle.lc_hist.specs.JsonValues.{all_in, numbers_in, client_in, place_of, number_within, operation_of, call_with, call_in, has_replies, entry_with, event_in, entry_in}
 use Rattle.lc_hist.proofs.JsonLists.{both_parts, values_in-items_of}
-use Rattle.lc_hist.specs.JsonWritten.{list_data, number_data, numbers_data, name_of, name_data, event_data, entry_data, history_data, history_text, NamesDiffer, SaysOnly}
+use Rattle.lc_hist.specs.JsonWritten.{list_data, number_data, numbers_data, name_of, name_data, event_data, entry_data, history_data, history_text, SaysOnly}
+use Rattle.lc_hist.proofs.NamesApart.{NamesDiffer}
 
 -- ---- no floats
 
@@ -189,8 +190,8 @@ written_parts operations events order =
     rw (values_in-items_of (map (event_data operations) events), values_in-items_of (map (entry_data operations) order)) refl
 
 pub says_only : (operations : List Operation) (bytes : List ℕ) (events : List Event) (order : List Entry) → read bytes ≡ Some (history_data operations events order)
-    → Each IsKeptEvent events → Each IsKeptEntry order → SaysOnly operations bytes events order
-says_only operations bytes events order reads kept_events kept_order = λ differ said entries says.
+    → NamesDiffer operations → Each IsKeptEvent events → Each IsKeptEntry order → SaysOnly operations bytes events order
+says_only operations bytes events order reads differ kept_events kept_order = λ said entries says.
     let parts : Some (record { events = map (event_data operations) events; order = map (entry_data operations) order }) ≡ Some says.parts =
     sym (written_parts operations events order) ∙ ap (option_and_then parts_in) (sym reads) ∙ says.text.reads in
     let these : map (event_data operations) events ≡ says.parts.events = ap (λ p. p.events) (let e : record { events = map (event_data operations) events; order = map (entry_data operations) order } ≡ says.parts = cc in e) in

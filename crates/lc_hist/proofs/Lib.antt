@@ -11,7 +11,9 @@ pub mod Tables
 pub mod Turns
 pub mod JsonLists
 pub mod JsonEvents
+pub mod NamesApart
 pub mod JsonWriting
 pub mod JsonNames
 pub mod JsonAnswers
 pub mod JsonOnce
+pub mod OneJudgement

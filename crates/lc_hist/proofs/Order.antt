@@ -67,10 +67,10 @@ within (y ∷ xs) zero x at = omega arith
 within (y ∷ xs) (suc i) x at = let h = within xs i x at in omega arith
 
 -- what the tests of a client's entries say of its j-th entry
-call_at : (HasCall : Call → Type 0) (h : List Event) (order : List Entry) (c j : ℕ) (x : Call × List ℤ)
-    → ((p : ℕ) → p < length order → NamesItsCall HasCall h order p) → Source (is_of c) said order j x → slice_get (calls_of c h) j ≡ Some x.0
-call_at HasCall h order c j x names s =
-    let is = picked_call_of h s.element.client (named order s.place s.element) s.element.call (names s.place (within order s.place s.element s.stands) s.element s.stands).1 in
+call_at : (h : List Event) (order : List Entry) (c j : ℕ) (x : Call × List ℤ)
+    → ((p : ℕ) → p < length order → NamesItsCall h order p) → Source (is_of c) said order j x → slice_get (calls_of c h) j ≡ Some x.0
+call_at h order c j x names s =
+    let is = picked_call_of h s.element.client (named order s.place s.element) s.element.call (names s.place (within order s.place s.element s.stands) s.element s.stands) in
     let its : slice_get (calls_of c h) (count (is_of c) (take s.place order)) ≡ Some s.element.call =
     subst (λ z. slice_get (calls_of z h) (count (is_of z) (take s.place order)) ≡ Some s.element.call) (same_client c s.element.client s.passes) is in
     rw s.before at its ∙ ap (λ y. Some y.0) s.value
@@ -85,13 +85,13 @@ reply_at h order c j x r replies s at =
     sym (ap (λ y. y.1) s.value) ∙ replies s.place (within order s.place s.element s.stands) s.element s.stands r is
 
 -- the calls of a client are kept where the tests of its entries are passed
-pub are_calls : (HasCall : Call → Type 0) (h : List Event) (order : List Entry) → IsWellFormed h
-    → ((p : ℕ) → p < length order → NamesItsCall HasCall h order p) → ((p : ℕ) → p < length order → HasItsReply h order p) → IsComplete h order
+pub are_calls : (h : List Event) (order : List Entry) → IsWellFormed h
+    → ((p : ℕ) → p < length order → NamesItsCall h order p) → ((p : ℕ) → p < length order → HasItsReply h order p) → IsComplete h order
     → (c : ℕ) → AreCalls c None h (entries_of c order)
-are_calls HasCall h order w names replies complete c =
+are_calls h order w names replies complete c =
     matching_are_calls c h None (entries_of c order) (turns_of h w c)
     (matches_by_index (entries_of c order) (calls_of c h) (replies_of c h)
-    (λ j x at. call_at HasCall h order c j x names (owner order c j x at))
+    (λ j x at. call_at h order c j x names (owner order c j x at))
     (λ j x r at is. reply_at h order c j x r replies (owner order c j x at) is)
     (let enough = complete c in omega (arith, length-entries c order, length-picked (is_return c) reply_in h)))
 
@@ -150,22 +150,11 @@ front_legal step s order zero l = tt
 front_legal step s [] (suc n) l = tt
 front_legal step s (e ∷ es) (suc n) l = (l.0, l.1, front_legal step l.0 es n l.2)
 
--- an entry of a legal order takes a step
-legal_step : {A : Type 0} (step : Sequential A) (s : A) (order : List Entry) (p : ℕ) (e : Entry) → IsLegal step s order → slice_get order p ≡ Some e
-    → (u t : A) × Step step u e.client e.call t e.reply
-legal_step step s [] p e l at = absurd cc
-legal_step step s (d ∷ es) zero e l at =
-    let same : d ≡ e = cc in (s, l.0, subst (λ z. Step step s z.client z.call l.0 z.reply) same l.1)
-legal_step step s (d ∷ es) (suc p) e l at = legal_step step l.0 es p e l.2 at
-
-abbrev pub OnlyCalls : {A : Type 0} → (Call → Type 0) → Sequential A → Type 0
-OnlyCalls {A} HasCall step = (s : A) (client : ℕ) (call : Call) (t : A) (reply : List ℤ) → Step step s client call t reply → HasCall call
-
-pub linearizes_where_passed : {A : Type 0} (HasCall : Call → Type 0) (step : Sequential A) (start : A) (h : List Event) (order : List Entry) → IsWellFormed h
-    → PassesEach HasCall step start h order → Linearizes step start h order
-linearizes_where_passed HasCall step start h order w passed = record {
+pub linearizes_where_passed : {A : Type 0} (step : Sequential A) (start : A) (h : List Event) (order : List Entry) → IsWellFormed h
+    → PassesEach step start h order → Linearizes step start h order
+linearizes_where_passed step start h order w passed = record {
   legal = whole_legal step start order (passed NoStep);
-  calls = are_calls HasCall h order w (passed OtherCall) (passed OtherReply) (passed MissingCall (length order) refl);
+  calls = are_calls h order w (passed OtherCall) (passed OtherReply) (passed MissingCall (length order) refl);
   precedence = in_order h order w (passed Preceded);
 }
 
@@ -192,14 +181,12 @@ complete_where_kept h order w kept c =
 entry_place : (order : List Entry) (p : ℕ) (e : Entry) → slice_get order p ≡ Some e → IsPlace (is_of e.client) (named order p e) order p
 entry_place order p e at = record { element = e; stands = at; passes = same_self e.client; before = refl }
 
-pub passed_where_linearizes : {A : Type 0} (HasCall : Call → Type 0) (step : Sequential A) (start : A) (h : List Event) (order : List Entry) → OnlyCalls HasCall step → IsWellFormed h
-    → Linearizes step start h order → PassesEach HasCall step start h order
-passed_where_linearizes HasCall step start h order only w l OtherCall p tested = λ e at.
-    let taken = legal_step step start order p e l.legal at in
-    (only taken.0 e.client e.call taken.1 e.reply taken.2, names_of h order w l.calls p e at)
-passed_where_linearizes HasCall step start h order only w l OtherReply p tested = replies_to h order w l.calls p
-passed_where_linearizes HasCall step start h order only w l MissingCall p tested = complete_where_kept h order w l.calls
-passed_where_linearizes HasCall step start h order only w l NoStep p tested = front_legal step start order (suc p) l.legal
-passed_where_linearizes HasCall step start h order only w l Preceded p tested = λ e d q at is lt pr.
+pub passed_where_linearizes : {A : Type 0} (step : Sequential A) (start : A) (h : List Event) (order : List Entry) → IsWellFormed h
+    → Linearizes step start h order → PassesEach step start h order
+passed_where_linearizes step start h order w l OtherCall p tested = λ e at. names_of h order w l.calls p e at
+passed_where_linearizes step start h order w l OtherReply p tested = replies_to h order w l.calls p
+passed_where_linearizes step start h order w l MissingCall p tested = complete_where_kept h order w l.calls
+passed_where_linearizes step start h order w l NoStep p tested = front_legal step start order (suc p) l.legal
+passed_where_linearizes step start h order w l Preceded p tested = λ e d q at is lt pr.
     let before = l.precedence d.client (named order q d) e.client (named order p e) q p pr (entry_place order q d is) (entry_place order p e at) in
     omega arith

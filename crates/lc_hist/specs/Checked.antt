@@ -1,10 +1,10 @@
 -- What is tested of one entry of an order, by where its call stands.
-use Rattle.std.specs.Prelude.{◌≡◌, ◌<◌, ℕ, Bool, true, false, List, ℤ, Option, Some, None, IfSome, Result, Ok, Err, length, slice_get}
+use Rattle.std.specs.Prelude.{◌≡◌, ◌<◌, ℕ, Bool, true, false, List, ℤ, Option, Some, None, IfSome, Result, Ok, Err, length, take, slice_get}
 use Rattle.lc_seq.specs.Sequential.{Call, Sequential, Step}
 use Rattle.lc_seq.specs.declared.fault.SeqFault.{SeqFault}
 use Rattle.lc_seq.specs.declared.fault.SeqFault.TheVariants.{Overflow, OutOfMemory}
 use Rattle.lc_hist.specs.History.{Event, Called, Replied, Entry}
-use Rattle.lc_hist.specs.Judged.{PassesBefore, IsFirstFailure, IsOverflow}
+use Rattle.lc_hist.specs.Judged.{PassesBefore, IsFirstFailure, FitsAlong, applied, IsOverflow}
 use Rattle.lc_hist.specs.Spans.{span_of, is_preceded}
 use Rattle.lc_hist.specs.Tests.{named}
 use Rattle.lc_hist.specs.WellFormed.{IsWellFormed}
@@ -43,31 +43,34 @@ abbrev pub IsWithin : ℕ → Option Span → Type 0
 IsWithin n None = Unit {0}
 IsWithin n (Some span) = (span.called < n) × IfSome span.returned (λ place. place < n)
 
--- the call there is the entry's, and a call of the object
-abbrev pub IsNamed : (Call → Type 0) → List Event → Option Span → Call → Type 0
-IsNamed HasCall h span call = HasCall call × (call_at h span ≡ Some call)
+-- the call there is the entry's
+abbrev pub IsNamed : List Event → Option Span → Call → Type 0
+IsNamed h span call = call_at h span ≡ Some call
 
 -- what it returned there, if it did, is the entry's reply
 abbrev pub IsReplied : List Event → Option Span → List ℤ → Type 0
 IsReplied h span reply = (given : List ℤ) → reply_at h span ≡ Some given → reply ≡ given
 
--- whether a step with this reply is taken
+-- whether a step with this reply is taken, where the numbers that are reached fit
 abbrev pub IsTaken : {A : Type 0} → Sequential A → (A → ℕ → Call → Type 0) → A → A → Entry → Result Bool SeqFault → Type 0
-IsTaken step Fits old new e (Ok true) = Step step old e.client e.call new e.reply
-IsTaken {A} step Fits old new e (Ok false) = (t : A) → Step step old e.client e.call t e.reply → ⊥
+IsTaken step Fits old new e (Ok true) = Fits old e.client e.call × Step step old e.client e.call new e.reply
+IsTaken {A} step Fits old new e (Ok false) = Fits old e.client e.call × ((t : A) → Step step old e.client e.call t e.reply → ⊥)
 IsTaken step Fits old new e (Err Overflow) = Fits old e.client e.call → ⊥
 IsTaken step Fits old new e (Err OutOfMemory) = Unit {0}
 
--- the first test that an entry does not pass, if there is one
-abbrev pub IsChecked : {A : Type 0} → (Call → Type 0) → Sequential A → (A → ℕ → Call → Type 0) → List Event → Option Span → Bool → Entry → A → A → Result (Option Reason) SeqFault → Type 0
-IsChecked HasCall step Fits h span preceded e old new (Ok None) = IsNamed HasCall h span e.call × IsReplied h span e.reply × Step step old e.client e.call new e.reply × (preceded ≡ false)
-IsChecked HasCall step Fits h span preceded e old new (Ok (Some OtherCall)) = IsNamed HasCall h span e.call → ⊥
-IsChecked HasCall step Fits h span preceded e old new (Ok (Some OtherReply)) = IsNamed HasCall h span e.call × (IsReplied h span e.reply → ⊥)
-IsChecked {A} HasCall step Fits h span preceded e old new (Ok (Some NoStep)) = IsNamed HasCall h span e.call × IsReplied h span e.reply × ((t : A) → Step step old e.client e.call t e.reply → ⊥)
-IsChecked HasCall step Fits h span preceded e old new (Ok (Some Preceded)) = IsNamed HasCall h span e.call × IsReplied h span e.reply × Step step old e.client e.call new e.reply × (preceded ≡ true)
-IsChecked HasCall step Fits h span preceded e old new (Ok (Some MissingCall)) = ⊥
-IsChecked HasCall step Fits h span preceded e old new (Err Overflow) = IsNamed HasCall h span e.call × IsReplied h span e.reply × (Fits old e.client e.call → ⊥)
-IsChecked HasCall step Fits h span preceded e old new (Err OutOfMemory) = Unit {0}
+-- the first test that an entry does not pass, if there is one, and that the numbers fit that were reached
+abbrev pub IsChecked : {A : Type 0} → Sequential A → (A → ℕ → Call → Type 0) → List Event → Option Span → Bool → Entry → A → A → Result (Option Reason) SeqFault → Type 0
+IsChecked step Fits h span preceded e old new (Ok None) =
+    IsNamed h span e.call × IsReplied h span e.reply × Fits old e.client e.call × Step step old e.client e.call new e.reply × (preceded ≡ false)
+IsChecked step Fits h span preceded e old new (Ok (Some OtherCall)) = IsNamed h span e.call → ⊥
+IsChecked step Fits h span preceded e old new (Ok (Some OtherReply)) = IsNamed h span e.call × (IsReplied h span e.reply → ⊥)
+IsChecked {A} step Fits h span preceded e old new (Ok (Some NoStep)) =
+    IsNamed h span e.call × IsReplied h span e.reply × Fits old e.client e.call × ((t : A) → Step step old e.client e.call t e.reply → ⊥)
+IsChecked step Fits h span preceded e old new (Ok (Some Preceded)) =
+    IsNamed h span e.call × IsReplied h span e.reply × Fits old e.client e.call × Step step old e.client e.call new e.reply × (preceded ≡ true)
+IsChecked step Fits h span preceded e old new (Ok (Some MissingCall)) = ⊥
+IsChecked step Fits h span preceded e old new (Err Overflow) = IsNamed h span e.call × IsReplied h span e.reply × (Fits old e.client e.call → ⊥)
+IsChecked step Fits h span preceded e old new (Err OutOfMemory) = Unit {0}
 
 -- it is known where the calls stand that the entries name, and which places are preceded
 pub record AreNames (h : List Event) (order : List Entry) (spans : List (Option Span)) (preceded : List Bool) : Type 0 where
@@ -78,8 +81,8 @@ pub record AreNames (h : List Event) (order : List Entry) (spans : List (Option 
   pub flags : length preceded ≡ length spans
 
 -- what is answered of the entries
-abbrev pub IsReplayed : {A : Type 0} → (Call → Type 0) → Sequential A → (A → ℕ → Call → Type 0) → A → List Event → List Entry → Result (Unit {0}) F.JudgeFault → Type 0
-IsReplayed HasCall step Fits start h order (Ok done) = PassesBefore HasCall step start h order (length order)
-IsReplayed HasCall step Fits start h order (Err (V.Order place reason)) = IsFirstFailure HasCall step start h order place reason
-IsReplayed HasCall step Fits start h order (Err V.Overflow) = (place : ℕ) × IsOverflow HasCall step Fits start h order place
-IsReplayed HasCall step Fits start h order (Err V.OutOfMemory) = Unit {0}
+abbrev pub IsReplayed : {A : Type 0} → Sequential A → (A → ℕ → Call → Type 0) → A → List Event → List Entry → Result (Unit {0}) F.JudgeFault → Type 0
+IsReplayed step Fits start h order (Ok done) = PassesBefore step start h order (length order) × FitsAlong step Fits start order
+IsReplayed step Fits start h order (Err (V.Order place reason)) = IsFirstFailure step start h order place reason × FitsAlong step Fits start (take (applied reason place) order)
+IsReplayed step Fits start h order (Err V.Overflow) = (place : ℕ) × IsOverflow step Fits start h order place
+IsReplayed step Fits start h order (Err V.OutOfMemory) = Unit {0}

@@ -87,3 +87,7 @@ pub record Linearizes {A : Type 0} (step : Sequential A) (start : A) (history : 
   pub calls : (c : ℕ) → AreCalls c None history (entries_of c order)
   -- where one call precedes another, it stands earlier
   pub precedence : (c k d m p q : ℕ) → Precedes history c k d m → IsPlace (is_of c) k order p → IsPlace (is_of d) m order q → p < q
+
+-- some order linearizes the history
+abbrev pub IsLinearizable : {A : Type 0} → Sequential A → A → List Event → Type 0
+IsLinearizable step start history = (order : List Entry) × Linearizes step start history order

@@ -47,11 +47,7 @@ history_data operations events order =
 abbrev pub history_text : List Operation → List Event → List Entry → List ℕ
 history_text operations events order = compact_text (history_data operations events order)
 
--- no two operations have one name
-abbrev pub NamesDiffer : List Operation → Type 0
-NamesDiffer operations = (i j : ℕ) (o p : Operation) → slice_get operations i ≡ Some o → slice_get operations j ≡ Some p → o.name ≡ p.name → i ≡ j
-
--- where names differ, the text says nothing but this history and this order
+-- the text says nothing but this history and this order
 abbrev pub SaysOnly : List Operation → List ℕ → List Event → List Entry → Type 0
 SaysOnly operations bytes events order =
-    NamesDiffer operations → (said : List Event) (entries : List Entry) → SaysHistory operations bytes said entries → (said ≡ events) × (entries ≡ order)
+    (said : List Event) (entries : List Entry) → SaysHistory operations bytes said entries → (said ≡ events) × (entries ≡ order)

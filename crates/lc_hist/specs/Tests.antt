@@ -21,9 +21,9 @@ pub record IsReplyOf (history : List Event) (c k : ℕ) (reply : List ℤ) : Typ
 abbrev pub named : List Entry → ℕ → Entry → ℕ
 named order place e = count (is_of e.client) (take place order)
 
--- the entry at this place is its client's call of its number, and a call of the object
-abbrev pub NamesItsCall : (Call → Type 0) → List Event → List Entry → ℕ → Type 0
-NamesItsCall HasCall history order p = (e : Entry) → slice_get order p ≡ Some e → HasCall e.call × IsCallOf history e.client (named order p e) e.call
+-- the entry at this place is its client's call of its number
+abbrev pub NamesItsCall : List Event → List Entry → ℕ → Type 0
+NamesItsCall history order p = (e : Entry) → slice_get order p ≡ Some e → IsCallOf history e.client (named order p e) e.call
 
 -- where that call returned, it returned the entry's reply
 abbrev pub HasItsReply : List Event → List Entry → ℕ → Type 0
@@ -39,12 +39,12 @@ abbrev pub IsComplete : List Event → List Entry → Type 0
 IsComplete history order = (c : ℕ) → count (is_return c) history ≤ count (is_of c) order
 
 -- the test of a reason at a place is passed
-abbrev pub Passes : {A : Type 0} → (Call → Type 0) → Sequential A → A → List Event → List Entry → Reason → ℕ → Type 0
-Passes HasCall step start history order OtherCall p = NamesItsCall HasCall history order p
-Passes HasCall step start history order OtherReply p = HasItsReply history order p
-Passes HasCall step start history order MissingCall p = IsComplete history order
-Passes HasCall step start history order NoStep p = IsLegal step start (take (suc p) order)
-Passes HasCall step start history order Preceded p = IsUnpreceded history order p
+abbrev pub Passes : {A : Type 0} → Sequential A → A → List Event → List Entry → Reason → ℕ → Type 0
+Passes step start history order OtherCall p = NamesItsCall history order p
+Passes step start history order OtherReply p = HasItsReply history order p
+Passes step start history order MissingCall p = IsComplete history order
+Passes step start history order NoStep p = IsLegal step start (take (suc p) order)
+Passes step start history order Preceded p = IsUnpreceded history order p
 
 -- the places at which a reason is tested: each place of the order, and a missing call only behind the last
 abbrev pub IsTested : ℕ → Reason → ℕ → Type 0
@@ -63,6 +63,6 @@ rank Preceded = 4
 rank MissingCall = 5
 
 -- each test is passed, at each place where it is made
-abbrev pub PassesEach : {A : Type 0} → (Call → Type 0) → Sequential A → A → List Event → List Entry → Type 0
-PassesEach HasCall step start history order =
-    (reason : Reason) (p : ℕ) → IsTested (length order) reason p → Passes HasCall step start history order reason p
+abbrev pub PassesEach : {A : Type 0} → Sequential A → A → List Event → List Entry → Type 0
+PassesEach step start history order =
+    (reason : Reason) (p : ℕ) → IsTested (length order) reason p → Passes step start history order reason p

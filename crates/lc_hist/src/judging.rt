@@ -52,18 +52,17 @@ impl From<SeqFault> for JudgeFault {
     }
 }
 
-/// Judges whether an order linearizes a history: it does exactly where `Ok` is answered, and where the object
-/// answers no fault, `Order` is answered exactly where it does not. `Order` tells the first test that is not passed.
-/// At each place from 0 these are, in turn, `OtherCall`, `OtherReply`, `NoStep` and `Preceded`; behind the last
-/// place it is `MissingCall`. `Overflow` is answered only where the object answers it at the first place whose tests
-/// are not passed.
+/// Judges whether an order linearizes a history. `Ok` is answered only where it does, and `Order` only where it does
+/// not: it tells the first test that is not passed. At each place from 0 these are, in turn, `OtherCall`, `OtherReply`,
+/// `NoStep` and `Preceded`; behind the last place it is `MissingCall`. Either is answered only where the numbers fit that
+/// were reached up to there, and `Overflow` only where one does not; so an order has one answer, but for want of memory.
 pub fn judge<S: SeqObject>(
     alloc: Global,
     object: &S,
     history: &History,
     order: &[Done<S::Call, S::Reply>],
 ) -> Result<(), JudgeFault>
-    ensures { IsJudged (S.HasCall object.now) (S.step object.now) (S.Fits object.now) (S.start object.now) (events_in history.now) (entries_in S.call_meant S.numbers order.now) result }
+    ensures { IsJudged (S.step object.now) (S.Fits object.now) (S.start object.now) (events_in history.now) (entries_in S.call_meant S.numbers order.now) result }
 {
     let events = history.events();
     let mut clients = clients_of(alloc, events)?;
@@ -89,7 +88,7 @@ fn replay<S: SeqObject>(
     preceded: &[bool],
 ) -> Result<(), JudgeFault>
     requires { AreNames (events_of events.now) (entries_in S.call_meant S.numbers order.now) spans.now preceded.now }
-    ensures { IsReplayed (S.HasCall object.now) (S.step object.now) (S.Fits object.now) (S.start object.now) (events_of events.now) (entries_in S.call_meant S.numbers order.now) result }
+    ensures { IsReplayed (S.step object.now) (S.Fits object.now) (S.start object.now) (events_of events.now) (entries_in S.call_meant S.numbers order.now) result }
 {
     let mut state = object.initial(alloc)?;
     for (place, done) in order.iter().enumerate() {
@@ -124,10 +123,10 @@ fn failure_of<S: SeqObject>(
 ) -> Result<Option<Reason>, SeqFault>
     requires within { IsWithin (length events.now) span }
     requires state { S.HasState object.now state.old }
-    ensures checked { IsChecked (S.HasCall object.now) (S.step object.now) (S.Fits object.now) (events_of events.now) span is_preceded (entry_of S.call_meant S.numbers done.now) (S.meaning state.old) (S.meaning state.new) result }
+    ensures checked { IsChecked (S.step object.now) (S.Fits object.now) (events_of events.now) span is_preceded (entry_of S.call_meant S.numbers done.now) (S.meaning state.old) (S.meaning state.new) result }
     ensures state { S.HasState object.now state.new }
 {
-    if !is_its_call(alloc, object, events, span, &done.call)? {
+    if !is_its_call(object, events, span, &done.call) {
         return Ok(Some(Reason::OtherCall));
     }
     if !has_its_reply(alloc, object, events, span, &done.reply)? {
@@ -142,25 +141,23 @@ fn failure_of<S: SeqObject>(
     Ok(None)
 }
 
-// Whether the call there is this call of the object.
+// Whether the call there is this call.
 fn is_its_call<S: SeqObject>(
-    alloc: Global,
     object: &S,
     events: &[Event],
     span: Option<Span>,
     call: &S::Call,
-) -> Result<bool, OutOfMemory>
+) -> bool
     requires { IsWithin (length events.now) span }
-    ensures { IfOk result (λ answer. IsTrue answer ↔ IsNamed (S.HasCall object.now) (events_of events.now) span (S.call_meant call.now)) }
+    ensures { IsTrue result ↔ IsNamed (events_of events.now) span (S.call_meant call.now) }
 {
-    let Some(span) = span else { return Ok(false) };
-    let Event::Invoke { op, numbers, .. } = &events[span.called] else {
-        return Ok(false);
+    let Some(span) = span else {
+        return false;
     };
-    match object.call_of(alloc, op.0, numbers)? {
-        Some(its) => Ok(its == *call),
-        None => Ok(false),
-    }
+    let Event::Invoke { op, numbers, .. } = &events[span.called] else {
+        return false;
+    };
+    object.is_call(call, op.0, numbers)
 }
 
 // Whether the call there has not returned, or returned this reply.

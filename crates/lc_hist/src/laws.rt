@@ -1,17 +1,19 @@
 //! Laws of the definitions: functions without effect, whose contracts are the laws.
-ghost use Rattle.std.specs.Prelude.{◌≡◌, ◌↔◌, ℕ, List, length};
+ghost use Rattle.std.specs.Prelude.{◌≡◌, ◌↔◌, ℕ, List, Result, length};
 ghost use Rattle.lc_hist.specs.History.{Event, Entry, Linearizes};
 ghost use Rattle.lc_hist.specs.JsonHistories.{SaysHistory, IsWrongItem};
 ghost use Rattle.lc_seq.specs.Specification.{Operation};
 ghost use Rattle.lc_hist.specs.WellFormed.{IsWellFormed};
+ghost use Rattle.lc_hist.specs.Judged.{IsJudged, IsTold};
 ghost use Rattle.lc_hist.specs.Tests.{PassesEach};
+ghost use Rattle.lc_hist.specs.declared.judging.JudgeFault.{JudgeFault};
 
 use lc_seq::SeqObject;
 
 /// An order linearizes a history exactly where it passes each test.
 pub fn tests_are_exact<S: SeqObject>()
     ensures { (object : S) (history : List Event) (order : List Entry) → IsWellFormed history →
-        Linearizes (S.step object) (S.start object) history order ↔ PassesEach (S.HasCall object) (S.step object) (S.start object) history order }
+        Linearizes (S.step object) (S.start object) history order ↔ PassesEach (S.step object) (S.start object) history order }
 {}
 
 /// A JSON text says one history and one order, or one of its items is the first that is wrong; and never both.
@@ -21,4 +23,11 @@ pub fn a_text_is_read_in_one_way()
     ensures one_item { (operations : List Operation) (bytes : List ℕ) (a b : ℕ) → IsWrongItem operations bytes a → IsWrongItem operations bytes b → a ≡ b }
     ensures not_both { (operations : List Operation) (bytes : List ℕ) (events : List Event) (order : List Entry) (item : ℕ) →
         SaysHistory operations bytes events order → IsWrongItem operations bytes item → ⊥ }
+{}
+
+/// Two answers of the judge to one order are the same, unless one is for want of memory.
+pub fn an_order_has_one_judgement<S: SeqObject>()
+    ensures { (object : S) (history : List Event) (order : List Entry) (answer other : Result (Unit {0}) JudgeFault) →
+        IsJudged (S.step object) (S.Fits object) (S.start object) history order answer → IsTold answer →
+        IsJudged (S.step object) (S.Fits object) (S.start object) history order other → IsTold other → answer ≡ other }
 {}

@@ -1,10 +1,11 @@
 -- What is said of a proof, by what is said of its step and of the proofs of its branches.
-use Rattle.std.specs.Prelude.{◌≡◌, ℕ, suc, ◌+◌, List, [], ◌∷◌, length, Result, Ok, Err, Vec}
+use Rattle.std.specs.Prelude.{◌≡◌, ℕ, suc, ◌+◌, List, [], ◌∷◌, length, Result, Ok, Err}
 use Rattle.std.proofs.Common.{refl, ap, arith, rules}
-use Rattle.std.specs.declared.alloc.Global.{Global}
 use Rattle.lc_term.specs.Syntax as S
-use Rattle.lc_term.specs.declared.formula.Formula.{Formula}
-use Rattle.lc_kernel.specs.Answers.{branches_of, StepMeets, Checks, ChecksEach, fault_at}
+use Rattle.lc_term.specs.NodeTables.{Table}
+use Rattle.lc_term.specs.Tables.{formulas_in}
+use Rattle.lc_term.specs.declared.node.FormulaId.{FormulaId}
+use Rattle.lc_kernel.specs.Answers.{StepMeets, Checks, ChecksEach, fault_at}
 use Rattle.lc_kernel.specs.Derivation.{derives, fails_here, fails_below}
 use Rattle.lc_kernel.specs.Proofs.{Step, Proofs, proof, proofs, proof_count}
 use Rattle.lc_kernel.specs.Table.{opens, Gives}
@@ -19,14 +20,11 @@ use Rattle.lc_kernel.specs.declared.reason.Flaw.TheVariants.{Bad, Large}
 pub proof_of-proof : (p : Proof) → proof_of p ≡ proof (step_of (out-Proof p).step) (proofs (proofs_of (out-Proof p).branches.items))
 proof_of-proof p = search (rules, the_lemmas)
 
-pub root_flawed : (v : ℕ) (H : List S.Formula) (s : Step) (ps : Proofs) (first : ℕ) (fault : StepFault) → StepMeets v H (proof_count ps) s (Err fault) → Checks v H (proof s ps) first (Err (fault_at first fault))
-root_flawed v H s ps first (Flawed (Bad reason)) h = (0, omega arith, fails_here h)
-root_flawed v H s ps first (Flawed Large) h = (0, omega arith, fails_here h)
-root_flawed v H s ps first OutOfMemory h = tt
-
-pub branch_count : (bs : List (Vec Formula Global)) → length (branches_of bs) ≡ length bs
-branch_count [] = refl
-branch_count (b ∷ bs) = ap suc (branch_count bs)
+pub root_flawed : (old new : Table) (v : ℕ) (ks : List FormulaId) (s : Step) (ps : Proofs) (first : ℕ) (fault : StepFault) → StepMeets old new v ks (proof_count ps) s (Err fault) →
+    Checks v (formulas_in old ks) (proof s ps) first (Err (fault_at first fault))
+root_flawed old new v ks s ps first (Flawed (Bad reason)) h = (0, omega arith, fails_here h)
+root_flawed old new v ks s ps first (Flawed Large) h = (0, omega arith, fails_here h)
+root_flawed old new v ks s ps first OutOfMemory h = tt
 
 pub child_count : (ps : List Proof) → proof_count (proofs (proofs_of ps)) ≡ length ps
 child_count [] = refl

@@ -1,4 +1,5 @@
 pub mod Views
+pub mod Numbered
 pub mod Entries
 pub mod Quotients
 pub mod InUse

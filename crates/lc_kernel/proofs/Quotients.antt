@@ -1,60 +1,90 @@
 -- Quotients of comparisons, by the forms that are kept.
-use Rattle.std.specs.Prelude.{◌≡◌, ℕ, ℤ, Option, Some, None, Ok, List, [], ◌∷◌}
-use Rattle.std.proofs.Common.{refl, sym, ap, ◌∙◌}
+use Rattle.std.specs.Prelude.{◌≡◌, ℕ, ℤ, pos, ◌*ℤ◌, Option, Some, None, Ok, Err}
+use Rattle.std.proofs.Common.{refl, sym, subst, arith}
+use Rattle.std.proofs.lemmas.Int.{ints}
+use Rattle.lc_term.specs.NodeTables.{Table}
 use Rattle.lc_term.specs.Syntax.{Term, Formula}
-use Rattle.lc_linear.specs.Divided.{Divides, IsDivided}
-use Rattle.lc_linear.specs.Form.{Form, Place, form_of, HasForm}
-use Rattle.lc_linear.specs.LinForm.{numbers, HasNumbers}
+use Rattle.lc_linear.specs.Divided.{IsRoundedUp, Divides, IsDivided}
+use Rattle.lc_linear.specs.Form as T
+use Rattle.lc_linear.specs.Form.{form_of, HasForm}
+use Rattle.lc_linear.specs.LinForm.{numbers, Reads, IsFormIn}
+use Rattle.lc_linear.specs.Numbered.{Form}
 use Rattle.lc_linear.specs.declared.form.LinForm.{LinForm}
+use Rattle.lc_linear.proofs.InTables.{each_atom_of_trees, each_atom_kept}
 use Rattle.lc_linear.proofs.Refutes.{IsDivided-Divides, IsDivided-unique, IsDivided-same}
-use Rattle.lc_kernel.specs.Answers.{GivesClaim, IsClaimed}
-use Rattle.lc_kernel.specs.Table.{flawed, opens, excess, CanCompare, IsQuotient, QuotientGives}
-use Rattle.lc_kernel.specs.declared.reason.Flaw.TheVariants.{Bad}
+use Rattle.lc_kernel.specs.Answers.{Meets, GivesClaim, IsClaimed, TestsQuotient}
+use Rattle.lc_kernel.specs.Table.{excess, CanCompare, IsQuotient, QuotientGives}
+use Rattle.lc_kernel.specs.declared.fault.StepFault.{StepFault}
+use Rattle.lc_kernel.specs.declared.fault.StepFault.TheVariants.{Flawed, OutOfMemory}
+use Rattle.lc_kernel.specs.declared.reason.Flaw.TheVariants.{Bad, Large}
 use Rattle.lc_kernel.specs.declared.reason.Reason.TheVariants.{NotDivisible, WrongQuotient}
 
-can_compare : (claim : Option Term) (claimed : Option LinForm) → GivesClaim claim (Ok claimed) → CanCompare claim
-can_compare (Some t) (Some c) h = h.0
-can_compare (Some t) None h = absurd h
-can_compare None (Some c) h = tt
-can_compare None None h = tt
+scaled_zero : (k : ℤ) → pos 0 ≡ k *ℤ pos 0
+scaled_zero k = omega (arith, ints)
 
-divides_same : (f g : Form) (k : ℤ) → ((p : Place) → f p ≡ g p) → Divides k g → Divides k f
-divides_same f g k same h = record {
-  positive = h.positive;
-  multiples = λ a. ((h.multiples a).0, same (Some a) ∙ (h.multiples a).1);
-}
+-- what divides the form that is kept divides that of trees, and the other way round
+module _ (ts : Table) (n m : Form) (f g : T.Form) (k : ℤ) (first : Reads ts n f) (second : Reads ts m g) where
+  pub divides_kept : Divides k f → Divides k n
+  divides_kept h = record { positive = h.positive; multiples = each_atom_kept ts n n f f first first (λ a b. (c : ℤ) × (a ≡ k *ℤ c)) (pos 0, scaled_zero k) h.multiples }
 
-pub not_divisible : (v : ℕ) (f : Formula) (t : Term) (k : ℤ) (form : LinForm) (claimed : Option LinForm) → HasForm t → HasNumbers form (form_of t) →
-    GivesClaim (excess f) (Ok claimed) → (Divides k (numbers form) → ⊥) → QuotientGives v f t k (flawed (Bad NotDivisible))
-not_divisible v f t k form claimed fits is claim no' = (fits, can_compare (excess f) claimed claim, λ h. no' (divides_same (numbers form) (form_of t) k is h))
+  pub divides_of_trees : Divides k n → Divides k f
+  divides_of_trees h = record { positive = h.positive; multiples = each_atom_of_trees ts n n f f first first (λ a b. (c : ℤ) × (a ≡ k *ℤ c)) (pos 0, scaled_zero k) h.multiples }
 
--- the claim is the quotient exactly where its form is the form divided
-quotient_claimed : (t : Term) (k : ℤ) (form divided : LinForm) (claim : Option Term) (claimed : Option LinForm) → HasNumbers form (form_of t) →
-    GivesClaim claim (Ok claimed) → IsDivided (numbers form) k (numbers divided) → IsClaimed (numbers divided) claimed → IsQuotient t k claim
-quotient_claimed t k form divided (Some q) (Some c) is claim h same =
-    IsDivided-same (numbers form) (form_of t) k (numbers divided) (form_of q) is (λ p. sym (same p) ∙ claim.1 p) h
-quotient_claimed t k form divided (Some q) None is claim h same = absurd claim
-quotient_claimed t k form divided None (Some c) is claim h same = absurd claim
-quotient_claimed t k form divided None None is claim h same = absurd same
+  pub divided_of_trees : IsDivided n k m → IsDivided f k g
+  divided_of_trees h = record {
+    coefficients = each_atom_of_trees ts n m f g first second (λ a b. a ≡ k *ℤ b) (scaled_zero k) h.coefficients;
+    constant = subst (λ c. IsRoundedUp c k (g None)) first.constant (subst (λ c. IsRoundedUp (n None) k c) second.constant h.constant);
+  }
 
-claimed_quotient : (t : Term) (k : ℤ) (form divided : LinForm) (claim : Option Term) (claimed : Option LinForm) → HasNumbers form (form_of t) →
-    GivesClaim claim (Ok claimed) → IsDivided (numbers form) k (numbers divided) → IsQuotient t k claim → IsClaimed (numbers divided) claimed
-claimed_quotient t k form divided (Some q) (Some c) is claim h quotient =
-    let unique = IsDivided-unique (form_of t) k (numbers divided) (form_of q) (IsDivided-same (numbers form) (form_of t) k (numbers divided) (numbers divided) is (λ p. refl) h) quotient in
-    λ p. claim.1 p ∙ sym (unique p)
-claimed_quotient t k form divided (Some q) None is claim h quotient = absurd claim
-claimed_quotient t k form divided None claimed is claim h quotient = absurd quotient
+  pub divided_kept : IsDivided f k g → IsDivided n k m
+  divided_kept h = record {
+    coefficients = each_atom_kept ts n m f g first second (λ a b. a ≡ k *ℤ b) (scaled_zero k) h.coefficients;
+    constant = subst (λ c. IsRoundedUp c k (m None)) (sym first.constant) (subst (λ c. IsRoundedUp (f None) k c) (sym second.constant) h.constant);
+  }
 
-pub wrong_quotient : (v : ℕ) (f : Formula) (t : Term) (k : ℤ) (form divided : LinForm) (claimed : Option LinForm) → HasForm t → HasNumbers form (form_of t) →
-    GivesClaim (excess f) (Ok claimed) → IsDivided (numbers form) k (numbers divided) → (IsClaimed (numbers divided) claimed → ⊥) → QuotientGives v f t k (flawed (Bad WrongQuotient))
-wrong_quotient v f t k form divided claimed fits is claim h no' = (
-  fits,
-  can_compare (excess f) claimed claim,
-  divides_same (form_of t) (numbers form) k (λ p. sym (is p)) (IsDivided-Divides (numbers form) k (numbers divided) h),
-  λ quotient. no' (claimed_quotient t k form divided (excess f) claimed is claim h quotient),
-)
+can_compare : (ts : Table) (claim : Option Term) (claimed : Option LinForm) → GivesClaim ts claim (Ok claimed) → CanCompare claim
+can_compare ts (Some t) (Some c) h = h.0
+can_compare ts (Some t) None h = absurd h
+can_compare ts None (Some c) h = absurd h
+can_compare ts None None h = tt
 
-pub right_quotient : (v : ℕ) (f : Formula) (t : Term) (k : ℤ) (form divided : LinForm) (claimed : Option LinForm) (bs : List (List Formula)) → HasForm t → HasNumbers form (form_of t) →
-    GivesClaim (excess f) (Ok claimed) → IsDivided (numbers form) k (numbers divided) → IsClaimed (numbers divided) claimed → bs ≡ (f ∷ []) ∷ [] → QuotientGives v f t k (opens v bs)
-right_quotient v f t k form divided claimed bs fits is claim h same appended =
-    (ap (opens v) appended, fits, can_compare (excess f) claimed claim, quotient_claimed t k form divided (excess f) claimed is claim h same)
+module _ (ts : Table) (t : Term) (k : ℤ) (form : LinForm) (is : IsFormIn ts form (form_of t)) where
+  pub not_divisible : (f : Formula) (claimed : Option LinForm) → HasForm t → GivesClaim ts (excess f) (Ok claimed) → (Divides k (numbers form) → ⊥) → TestsQuotient f t k (Err (Flawed (Bad NotDivisible)))
+  not_divisible f claimed fits claim no' = (fits, can_compare ts (excess f) claimed claim, λ h. no' (divides_kept ts (numbers form) (numbers form) (form_of t) (form_of t) k is is h))
+
+  -- the claim is the quotient exactly where its form is the form divided
+  quotient_claimed : (divided : LinForm) (claim : Option Term) (claimed : Option LinForm) → GivesClaim ts claim (Ok claimed) → IsDivided (numbers form) k (numbers divided) →
+      IsClaimed (numbers divided) claimed → IsQuotient t k claim
+  quotient_claimed divided (Some q) (Some c) claim h same =
+      divided_of_trees ts (numbers form) (numbers c) (form_of t) (form_of q) k is claim.1 (IsDivided-same (numbers form) (numbers form) k (numbers divided) (numbers c) (λ p. refl) (λ p. sym (same p)) h)
+  quotient_claimed divided (Some q) None claim h same = absurd claim
+  quotient_claimed divided None (Some c) claim h same = absurd claim
+  quotient_claimed divided None None claim h same = absurd same
+
+  claimed_quotient : (divided : LinForm) (claim : Option Term) (claimed : Option LinForm) → GivesClaim ts claim (Ok claimed) → IsDivided (numbers form) k (numbers divided) →
+      IsQuotient t k claim → IsClaimed (numbers divided) claimed
+  claimed_quotient divided (Some q) (Some c) claim h quotient =
+      IsDivided-unique (numbers form) k (numbers c) (numbers divided) (divided_kept ts (numbers form) (numbers c) (form_of t) (form_of q) k is claim.1 quotient) h
+  claimed_quotient divided (Some q) None claim h quotient = absurd claim
+  claimed_quotient divided None claimed claim h quotient = absurd quotient
+
+  pub wrong_quotient : (f : Formula) (divided : LinForm) (claimed : Option LinForm) → HasForm t → GivesClaim ts (excess f) (Ok claimed) → IsDivided (numbers form) k (numbers divided) →
+      (IsClaimed (numbers divided) claimed → ⊥) → TestsQuotient f t k (Err (Flawed (Bad WrongQuotient)))
+  wrong_quotient f divided claimed fits claim h no' = (
+    fits,
+    can_compare ts (excess f) claimed claim,
+    divides_of_trees ts (numbers form) (numbers form) (form_of t) (form_of t) k is is (IsDivided-Divides (numbers form) k (numbers divided) h),
+    λ quotient. no' (claimed_quotient divided (excess f) claimed claim h quotient),
+  )
+
+  pub right_quotient : (f : Formula) (divided : LinForm) (claimed : Option LinForm) → HasForm t → GivesClaim ts (excess f) (Ok claimed) → IsDivided (numbers form) k (numbers divided) →
+      IsClaimed (numbers divided) claimed → HasForm t × CanCompare (excess f) × IsQuotient t k (excess f)
+  right_quotient f divided claimed fits claim h same = (fits, can_compare ts (excess f) claimed claim, quotient_claimed divided (excess f) claimed claim h same)
+
+-- what is told of a quotient that is refused
+pub refused_meets : (ts : Table) (v : ℕ) (f : Formula) (t : Term) (k : ℤ) (e : StepFault) → TestsQuotient f t k (Err e) → Meets ts (QuotientGives v f t k) (Err e)
+refused_meets ts v f t k (Flawed Large) h = h
+refused_meets ts v f t k (Flawed (Bad NotDivisible)) h = h
+refused_meets ts v f t k (Flawed (Bad WrongQuotient)) h = h
+refused_meets ts v f t k (Flawed (Bad _)) h = absurd h
+refused_meets ts v f t k OutOfMemory h = tt

@@ -1,95 +1,103 @@
--- What the code answers of a step and of a proof.
-use Rattle.std.specs.Prelude.{◌≡◌, ℕ, ◌+◌, ℤ, Bool, true, false, Option, Some, None, Result, Ok, Err, List, map, Vec}
-use Rattle.std.specs.Borrow.{Bor}
+-- What the code answers of a step and of a proof, formulas being read in a table.
+use Rattle.std.specs.Prelude.{◌≡◌, ℕ, ◌+◌, ℤ, pos, negsuc, slice_get, Bool, true, false, Option, Some, None, Result, Ok, Err, List, Vec}
 use Rattle.std.specs.declared.alloc.Global.{Global}
+use Rattle.lc_term.specs.NodeTables.{Table}
 use Rattle.lc_term.specs.Syntax as S
-use Rattle.lc_term.specs.View.{term_of, formula_of, formulas_of}
-use Rattle.lc_term.specs.declared.formula.Formula.{Formula}
-use Rattle.lc_term.specs.declared.term.Term.{Term}
+use Rattle.lc_term.specs.Tables.{term_in, formula_in, formulas_in, IsTerm, IsFormula, AreFormulas}
+use Rattle.lc_term.specs.declared.node.FormulaId.{FormulaId}
+use Rattle.lc_term.specs.declared.node.TermId.{TermId}
+use Rattle.lc_kernel.specs.Branches.{branches_in, AreBranches}
 use Rattle.lc_kernel.specs.Proofs.{Step, Proof, Proofs, size, size_of_all}
-use Rattle.lc_kernel.specs.Table.{Outcome, flawed, opens, Gives}
+use Rattle.lc_kernel.specs.Table.{Outcome, flawed, opens, Gives, excess, CanCompare, IsQuotient}
 use Rattle.lc_kernel.specs.Derivation.{Derives, EachDerives, Fails, SomeFails, DerivesGoal, FailsGoal}
 use Rattle.lc_kernel.specs.declared.reason.Flaw.{Flaw}
 use Rattle.lc_kernel.specs.declared.reason.Flaw.TheVariants.{Bad, Large as LargeFlaw}
 use Rattle.lc_kernel.specs.declared.reason.Reason.{Reason}
+use Rattle.lc_kernel.specs.declared.reason.Reason.TheVariants.{NoHypothesis, NotDivisible, WrongQuotient}
 use Rattle.lc_kernel.specs.declared.fault.StepFault.{StepFault}
 use Rattle.lc_kernel.specs.declared.fault.StepFault.TheVariants.{Flawed, OutOfMemory}
 use Rattle.lc_kernel.specs.declared.fault.ProofFault.{ProofFault}
 use Rattle.lc_kernel.specs.declared.fault.ProofFault.TheVariants.{Bad as NotHolding, Large as TooLarge, OutOfMemory as NoMore}
 use Rattle.lc_kernel.specs.declared.opened.Opened.{Opened}
-use Rattle.lc_kernel.specs.declared.reason.Reason.TheVariants.{NotDivisible}
-use Rattle.lc_linear.specs.Closing.{Entry, entries_of}
+use Rattle.lc_linear.specs.Closing.{Entry, entries_in, AreEntries}
 use Rattle.lc_linear.specs.Divided.{Divides, IsDivided}
-use Rattle.lc_linear.specs.Form.{Form, form_of, HasForm}
-use Rattle.lc_linear.specs.LinForm.{numbers, HasNumbers}
+use Rattle.lc_linear.specs.Form.{form_of, HasForm}
+use Rattle.lc_linear.specs.LinForm.{numbers, HasNumbers, IsFormIn}
+use Rattle.lc_linear.specs.Numbered.{Form}
 use Rattle.lc_linear.specs.declared.fault.LinFault.{LinFault}
 use Rattle.lc_linear.specs.declared.fault.LinFault.TheVariants.{Large as LargeForm, OutOfMemory as NoMemory}
 use Rattle.lc_linear.specs.declared.form.LinForm.{LinForm}
-use Rattle.lc_kernel.specs.Table.{CanCompare}
 
 -- the fault of a step by that of a form
 abbrev pub step_fault : LinFault → StepFault
 step_fault LargeForm = Flawed LargeFlaw
 step_fault NoMemory = OutOfMemory
 
--- the formulas that each branch appends
-abbrev pub branches_of : List (Vec Formula Global) → List (List S.Formula)
-branches_of bs = map (λ b. formulas_of b.items) bs
-
 -- what is opened, or what is wrong; for want of memory nothing
-abbrev pub Meets : (Outcome → Type 0) → Result Opened StepFault → Type 0
-Meets P (Ok opened) = P (opens opened.variables (branches_of opened.branches.items))
-Meets P (Err (Flawed why)) = P (flawed why)
-Meets P (Err OutOfMemory) = Unit {0}
+abbrev pub Meets : Table → (Outcome → Type 0) → Result Opened StepFault → Type 0
+Meets ts P (Ok opened) = AreBranches ts opened.branches × P (opens opened.variables (branches_in ts opened.branches))
+Meets ts P (Err (Flawed why)) = P (flawed why)
+Meets ts P (Err OutOfMemory) = Unit {0}
 
--- what a step comes to, where n proofs stand below it
-abbrev pub StepMeets : ℕ → List S.Formula → ℕ → Step → Result Opened StepFault → Type 0
-StepMeets v H n s result = Meets (Gives v H n s) result
+-- what a step comes to, where n proofs stand below it; its hypotheses stand in the one table, its branches in the other
+abbrev pub StepMeets : Table → Table → ℕ → List FormulaId → ℕ → Step → Result Opened StepFault → Type 0
+StepMeets old new v ks n s result = Meets new (Gives v (formulas_in old ks) n s) result
 
 -- a test that holds, or the reason that is told where it fails
 abbrev pub Tests : Bool → Reason → Result (Unit {0}) Flaw → Type 0
 Tests holds reason (Ok u) = holds ≡ true
 Tests holds reason (Err why) = (holds ≡ false) × (why ≡ Bad reason)
 
--- what there is, or the reason that is told where it is not there
-abbrev pub Finds : {A B : Type 0} → (A → B) → Option B → Reason → Result A Flaw → Type 0
-Finds view found reason (Ok a) = found ≡ Some (view a)
-Finds view found reason (Err why) = (found ≡ None) × (why ≡ Bad reason)
+-- the number of hypothesis h, or that there is none
+abbrev pub hypothesis_of : List FormulaId → ℤ → Option FormulaId
+hypothesis_of ks (pos n) = slice_get ks n
+hypothesis_of ks (negsuc n) = None
 
--- the same, where memory may be wanted
-abbrev pub Makes : {A B : Type 0} → (A → B) → Option B → Reason → Result A StepFault → Type 0
-Makes view made reason (Ok a) = made ≡ Some (view a)
-Makes view made reason (Err (Flawed why)) = (made ≡ None) × (why ≡ Bad reason)
-Makes view made reason (Err OutOfMemory) = Unit {0}
+abbrev pub FindsNumber : List FormulaId → ℤ → Result FormulaId Flaw → Type 0
+FindsNumber ks h (Ok k) = hypothesis_of ks h ≡ Some k
+FindsNumber ks h (Err why) = (hypothesis_of ks h ≡ None) × (why ≡ Bad NoHypothesis)
 
--- a formula that is referred to
-abbrev pub seen : Bor Formula → S.Formula
-seen f = formula_of f.now
+-- the number of the formula that there is, or the reason that is told where there is none
+abbrev pub FindsIn : Table → Option S.Formula → Reason → Result FormulaId Flaw → Type 0
+FindsIn ts found reason (Ok k) = IsFormula ts k × (found ≡ Some (formula_in ts k))
+FindsIn ts found reason (Err why) = (found ≡ None) × (why ≡ Bad reason)
 
--- two terms that are referred to
-abbrev pub seen_terms : Bor Term × Bor Term → S.Term × S.Term
-seen_terms p = (term_of p.0.now, term_of p.1.now)
+-- the same of two terms
+abbrev pub FindsSides : Table → Option (S.Term × S.Term) → Reason → Result (TermId × TermId) Flaw → Type 0
+FindsSides ts found reason (Ok p) = IsTerm ts p.0 × IsTerm ts p.1 × (found ≡ Some (term_in ts p.0, term_in ts p.1))
+FindsSides ts found reason (Err why) = (found ≡ None) × (why ≡ Bad reason)
 
--- the formulas of a vector
-abbrev pub items_of : Vec Formula Global → List S.Formula
-items_of fs = formulas_of fs.items
+-- the same of two terms whose difference it is
+abbrev pub FindsExcess : Table → Option S.Term → Reason → Result (TermId × TermId) Flaw → Type 0
+FindsExcess ts found reason (Ok p) = IsTerm ts p.0 × IsTerm ts p.1 × (found ≡ Some (S.Subtract (term_in ts p.0) (term_in ts p.1)))
+FindsExcess ts found reason (Err why) = (found ≡ None) × (why ≡ Bad reason)
 
--- the entries of a vector
-abbrev pub entry_list : Vec (Bor Formula × ℤ) Global → List Entry
-entry_list es = entries_of es.items
+-- the same of a formula, where memory may be wanted
+abbrev pub MakesIn : Table → Option S.Formula → Reason → Result FormulaId StepFault → Type 0
+MakesIn ts made reason (Ok k) = IsFormula ts k × (made ≡ Some (formula_in ts k))
+MakesIn ts made reason (Err (Flawed why)) = (made ≡ None) × (why ≡ Bad reason)
+MakesIn ts made reason (Err OutOfMemory) = Unit {0}
 
--- the difference of two terms that are referred to
-abbrev pub seen_difference : Bor Term × Bor Term → S.Term
-seen_difference p = S.Subtract (term_of p.0.now) (term_of p.1.now)
+-- the same of formulas
+abbrev pub MakesAllIn : Table → Option (List S.Formula) → Reason → Result (Vec FormulaId Global) StepFault → Type 0
+MakesAllIn ts made reason (Ok ks) = AreFormulas ts ks.items × (made ≡ Some (formulas_in ts ks.items))
+MakesAllIn ts made reason (Err (Flawed why)) = (made ≡ None) × (why ≡ Bad reason)
+MakesAllIn ts made reason (Err OutOfMemory) = Unit {0}
+
+-- the same of the entries of a sum
+abbrev pub MakesEntriesIn : Table → Option (List Entry) → Reason → Result (Vec (FormulaId × ℤ) Global) StepFault → Type 0
+MakesEntriesIn ts made reason (Ok es) = AreEntries ts es.items × (made ≡ Some (entries_in ts es.items))
+MakesEntriesIn ts made reason (Err (Flawed why)) = (made ≡ None) × (why ≡ Bad reason)
+MakesEntriesIn ts made reason (Err OutOfMemory) = Unit {0}
 
 -- the form of what a formula says is at most 0, if it is a `<=`
-abbrev pub GivesClaim : Option S.Term → Result (Option LinForm) LinFault → Type 0
-GivesClaim (Some t) (Ok (Some form)) = HasForm t × HasNumbers form (form_of t)
-GivesClaim (Some t) (Ok None) = ⊥
-GivesClaim None (Ok (Some form)) = ⊥
-GivesClaim None (Ok None) = Unit {0}
-GivesClaim claim (Err LargeForm) = CanCompare claim → ⊥
-GivesClaim claim (Err NoMemory) = Unit {0}
+abbrev pub GivesClaim : Table → Option S.Term → Result (Option LinForm) LinFault → Type 0
+GivesClaim ts (Some t) (Ok (Some form)) = HasForm t × IsFormIn ts form (form_of t)
+GivesClaim ts (Some t) (Ok None) = ⊥
+GivesClaim ts None (Ok (Some form)) = ⊥
+GivesClaim ts None (Ok None) = Unit {0}
+GivesClaim ts claim (Err LargeForm) = CanCompare claim → ⊥
+GivesClaim ts claim (Err NoMemory) = Unit {0}
 
 -- the form divided by k, if k divides it
 abbrev pub DividesAs : Form → ℤ → Result LinForm Flaw → Type 0
@@ -100,6 +108,15 @@ DividesAs f k (Err why) = (why ≡ Bad NotDivisible) × (Divides k f → ⊥)
 abbrev pub IsClaimed : Form → Option LinForm → Type 0
 IsClaimed f (Some claimed) = HasNumbers claimed f
 IsClaimed f None = ⊥
+
+-- the formula f is a `<=` of the form of t, divided by k; or it is told why not
+abbrev pub TestsQuotient : S.Formula → S.Term → ℤ → Result (Unit {0}) StepFault → Type 0
+TestsQuotient f t k (Ok u) = HasForm t × CanCompare (excess f) × IsQuotient t k (excess f)
+TestsQuotient f t k (Err (Flawed LargeFlaw)) = HasForm t × CanCompare (excess f) → ⊥
+TestsQuotient f t k (Err (Flawed (Bad NotDivisible))) = HasForm t × CanCompare (excess f) × (Divides k (form_of t) → ⊥)
+TestsQuotient f t k (Err (Flawed (Bad WrongQuotient))) = HasForm t × CanCompare (excess f) × Divides k (form_of t) × (IsQuotient t k (excess f) → ⊥)
+TestsQuotient f t k (Err (Flawed (Bad _))) = ⊥
+TestsQuotient f t k (Err OutOfMemory) = Unit {0}
 
 -- the proof holds, and its steps are counted from the first; or it is told which is the first that does not
 abbrev pub Checks : ℕ → List S.Formula → Proof → ℕ → Result ℕ ProofFault → Type 0

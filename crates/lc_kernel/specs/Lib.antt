@@ -4,4 +4,5 @@ pub mod Below
 pub mod Reasons
 pub mod Table
 pub mod Derivation
+pub mod Branches
 pub mod Answers

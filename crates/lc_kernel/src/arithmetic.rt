@@ -1,52 +1,60 @@
 //! The rules that compute: sums and quotients of comparisons.
 ghost use Rattle.std.specs.Prelude.{◌≡◌, ◌↔◌, IsTrue, map};
-ghost use Rattle.lc_kernel.specs.Answers.{StepMeets, Meets, Finds, Makes, entry_list, seen_difference, GivesClaim, DividesAs, IsClaimed};
+ghost use Rattle.lc_kernel.specs.Answers.{StepMeets, Meets, MakesEntriesIn, GivesClaim, DividesAs, IsClaimed, TestsQuotient};
 ghost use Rattle.lc_kernel.specs.Proofs as S;
 ghost use Rattle.lc_kernel.specs.Table.{entries, excess, is_comparison, all_comparisons, SumGives, QuotientGives};
 ghost use Rattle.lc_kernel.specs.View.{multiple_of};
-ghost use Rattle.lc_kernel.specs.declared.reason.Reason.TheVariants.{NoHypothesis, WrongForm};
-ghost use Rattle.lc_linear.specs.Closing.{entries_of};
+ghost use Rattle.lc_kernel.specs.declared.reason.Reason.TheVariants.{NoHypothesis};
+ghost use Rattle.lc_linear.specs.Closing.{entries_in, AreEntries};
 ghost use Rattle.lc_linear.specs.LinForm.{numbers};
 ghost use Rattle.lc_term.specs.Syntax as T;
-ghost use Rattle.lc_term.specs.View.{term_of, formula_of, formulas_of};
+ghost use Rattle.lc_term.specs.Tables.{term_in, formula_in, formulas_in, IsTerm, IsFormula, AreFormulas, Keeps};
+ghost use Rattle.lc_term.specs.View.{formula_of};
 
 use crate::below::formula_below;
 use crate::fault::StepFault;
-use crate::forms::find;
-use crate::opened::{Opened, appending, count_branches, no_branch};
+use crate::forms::{find, inequality};
+use crate::opened::{Branches, Opened, appending, count_branches};
 use crate::proof::Multiple;
 use crate::reason::{Flaw, Reason};
 use lc_linear::{LinFault, LinForm, closes, form_of_difference};
-use lc_term::{Formula, Term};
+use lc_term::{Formula, FormulaId, FormulaNode, TermId, Terms};
 use std::alloc::Global;
 
 /// The hypotheses that a sum names, with their multipliers.
-fn find_all<'a>(
+fn find_all(
     alloc: Global,
-    hypotheses: &'a [Formula],
+    terms: &Terms,
+    hypotheses: &[FormulaId],
     multiples: &[Multiple],
-) -> Result<Vec<(&'a Formula, i64)>, StepFault>
-    ensures { Makes entry_list (entries (formulas_of hypotheses.now) (map multiple_of multiples.now)) NoHypothesis result }
+) -> Result<Vec<(FormulaId, i64)>, StepFault>
+    requires { AreFormulas terms.now hypotheses.now }
+    ensures { MakesEntriesIn terms.now (entries (formulas_in terms.now hypotheses.now) (map multiple_of multiples.now)) NoHypothesis result }
 {
     let mut found = Vec::with_capacity(alloc, multiples.len())?;
     for multiple in multiples {
-        let formula = find(hypotheses, multiple.hypothesis)?;
+        let formula = find(terms, hypotheses, multiple.hypothesis)?;
         found.push((formula, multiple.multiplier))?;
     }
     Ok(found)
 }
 
-fn is_comparison(formula: &Formula) -> bool
-    ensures { result ≡ is_comparison (formula_of formula.now) }
+fn is_comparison(terms: &Terms, formula: FormulaId) -> bool
+    requires { IsFormula terms.now formula }
+    ensures { result ≡ is_comparison (formula_in terms.now formula) }
 {
-    matches!(formula, Formula::Le(..) | Formula::Eq(..))
+    match terms.formula_node(formula) {
+        FormulaNode::Le(_, _) | FormulaNode::Eq(_, _) => true,
+        _ => false,
+    }
 }
 
-fn all_comparisons(entries: &[(&Formula, i64)]) -> bool
-    ensures { result ≡ all_comparisons (entries_of entries.now) }
+fn all_comparisons(terms: &Terms, entries: &[(FormulaId, i64)]) -> bool
+    requires { AreEntries terms.now entries.now }
+    ensures { result ≡ all_comparisons (entries_in terms.now entries.now) }
 {
     for (formula, _) in entries {
-        if !is_comparison(formula) {
+        if !is_comparison(terms, *formula) {
             return false;
         }
     }
@@ -54,13 +62,19 @@ fn all_comparisons(entries: &[(&Formula, i64)]) -> bool
 }
 
 /// Whether comparisons, each so many times, contradict each other.
-fn close(alloc: Global, variables: u32, entries: &[(&Formula, i64)]) -> Result<Opened, StepFault>
-    ensures { Meets (SumGives variables (entries_of entries.now)) result }
+fn close(
+    alloc: Global,
+    terms: &Terms,
+    variables: u32,
+    entries: &[(FormulaId, i64)],
+) -> Result<Opened, StepFault>
+    requires { AreEntries terms.now entries.now }
+    ensures { Meets terms.now (SumGives variables (entries_in terms.now entries.now)) result }
 {
-    match closes(alloc, entries) {
+    match closes(terms, alloc, entries) {
         Ok(true) => Ok(Opened {
             variables,
-            branches: no_branch(alloc),
+            branches: Branches::Nothing,
         }),
         Ok(false) => Err(StepFault::Flawed(Flaw::Bad(Reason::DoesNotClose))),
         Err(LinFault::Large) => Err(StepFault::Flawed(Flaw::Large)),
@@ -72,44 +86,43 @@ fn close(alloc: Global, variables: u32, entries: &[(&Formula, i64)]) -> Result<O
 /// forms is a constant above 0.
 pub(crate) fn sum(
     alloc: Global,
-    hypotheses: &[Formula],
+    terms: &Terms,
+    hypotheses: &[FormulaId],
     variables: u32,
     proofs: usize,
     multiples: &[Multiple],
 ) -> Result<Opened, StepFault>
-    ensures { StepMeets variables (formulas_of hypotheses.now) proofs (S.Sum (map multiple_of multiples.now)) result }
+    requires { AreFormulas terms.now hypotheses.now }
+    ensures { StepMeets terms.now terms.now variables hypotheses.now proofs (S.Sum (map multiple_of multiples.now)) result }
 {
-    let entries = find_all(alloc, hypotheses, multiples)?;
-    if !all_comparisons(&entries) {
+    let entries = find_all(alloc, terms, hypotheses, multiples)?;
+    if !all_comparisons(terms, &entries) {
         return Err(StepFault::Flawed(Flaw::Bad(Reason::WrongForm)));
     }
     count_branches(proofs, 0)?;
-    close(alloc, variables, &entries)
-}
-
-/// The sides of `(<= t u)`.
-fn inequality(formula: &Formula) -> Result<(&Term, &Term), Flaw>
-    ensures { Finds seen_difference (excess (formula_of formula.now)) WrongForm result }
-{
-    match formula {
-        Formula::Le(left, right) => Ok((left, right)),
-        _ => Err(Flaw::Bad(Reason::WrongForm)),
-    }
+    close(alloc, terms, variables, &entries)
 }
 
 /// The form of a `<=`; none of another formula, whose form is not made.
-fn claimed_form<'a>(alloc: Global, formula: &'a Formula) -> Result<Option<LinForm<'a>>, LinFault>
-    ensures { GivesClaim (excess (formula_of formula.now)) result }
+fn claimed_form(
+    alloc: Global,
+    terms: &Terms,
+    formula: FormulaId,
+) -> Result<Option<LinForm>, LinFault>
+    requires { IsFormula terms.now formula }
+    ensures { GivesClaim terms.now (excess (formula_in terms.now formula)) result }
 {
-    match formula {
-        Formula::Le(left, right) => Ok(Some(form_of_difference(alloc, left, right)?)),
+    match terms.formula_node(formula) {
+        FormulaNode::Le(left, right) => {
+            Ok(Some(form_of_difference(terms, alloc, *left, *right)?))
+        }
         _ => Ok(None),
     }
 }
 
 /// The form divided by a number.
-fn divided(form: LinForm<'_>, divisor: i64) -> Result<LinForm<'_>, Flaw>
-    ensures { DividesAs (numbers form.entry) divisor result }
+fn divided(form: LinForm, divisor: i64) -> Result<LinForm, Flaw>
+    ensures { DividesAs (numbers form) divisor result }
 {
     match form.divided(divisor) {
         Some(quotient) => Ok(quotient),
@@ -118,7 +131,7 @@ fn divided(form: LinForm<'_>, divisor: i64) -> Result<LinForm<'_>, Flaw>
 }
 
 /// Whether a form is the one that is claimed.
-fn is_claimed(form: &LinForm<'_>, claimed: &Option<LinForm<'_>>) -> bool
+fn is_claimed(form: &LinForm, claimed: &Option<LinForm>) -> bool
     ensures { IsTrue result ↔ IsClaimed (numbers form.now) claimed.now }
 {
     match claimed {
@@ -127,47 +140,71 @@ fn is_claimed(form: &LinForm<'_>, claimed: &Option<LinForm<'_>>) -> bool
     }
 }
 
-/// The branch of a quotient of `left <= right`.
-fn quotient_of(
+/// Tests that a formula is the quotient of `left <= right`.
+fn test_quotient(
     alloc: Global,
-    variables: u32,
-    left: &Term,
-    right: &Term,
+    terms: &Terms,
+    left: TermId,
+    right: TermId,
     divisor: i64,
-    quotient: &Formula,
-) -> Result<Opened, StepFault>
-    ensures { Meets (QuotientGives variables (formula_of quotient.now) (T.Subtract (term_of left.now) (term_of right.now)) divisor) result }
+    quotient: FormulaId,
+) -> Result<(), StepFault>
+    requires left { IsTerm terms.now left }
+    requires right { IsTerm terms.now right }
+    requires quotient { IsFormula terms.now quotient }
+    ensures { TestsQuotient (formula_in terms.now quotient) (T.Subtract (term_in terms.now left) (term_in terms.now right)) divisor result }
 {
-    let form = form_of_difference(alloc, left, right)?;
-    let claimed = claimed_form(alloc, quotient)?;
+    let form = form_of_difference(terms, alloc, left, right)?;
+    let claimed = claimed_form(alloc, terms, quotient)?;
     let rounded = divided(form, divisor)?;
     if !is_claimed(&rounded, &claimed) {
         return Err(StepFault::Flawed(Flaw::Bad(Reason::WrongQuotient)));
     }
-    let branches = appending(alloc, quotient.try_clone(alloc)?)?;
-    Ok(Opened {
-        variables,
-        branches,
-    })
+    Ok(())
+}
+
+/// The branch of a quotient of `left <= right`.
+#[tactic(auto, using(lc_term::proofs::Later::formula_is, lc_term::proofs::Later::is_formula_later, lc_term::proofs::Later::term_still, lc_term::proofs::Later::is_term_still, lc_term::proofs::Later::keeps_itself))]
+fn quotient_of(
+    alloc: Global,
+    terms: &mut Terms,
+    variables: u32,
+    left: TermId,
+    right: TermId,
+    divisor: i64,
+    quotient: &Formula,
+) -> Result<Opened, StepFault>
+    requires left { IsTerm terms.old left }
+    requires right { IsTerm terms.old right }
+    ensures kept { Keeps terms.old terms.new }
+    ensures step { Meets terms.new (QuotientGives variables (formula_of quotient.now) (T.Subtract (term_in terms.old left) (term_in terms.old right)) divisor) result }
+{
+    let entered = terms.enter_formula(alloc, quotient)?;
+    test_quotient(alloc, terms, left, right, divisor, entered)?;
+    Ok(appending(alloc, terms, variables, entered)?)
 }
 
 /// `(divide h k F P)`: of `(<= a b)`, whose form is `k * e + d`, one branch, with F, a `<=` of the form
 /// `e + d / k`, the quotient rounded up.
+#[tactic(auto, using(lc_term::proofs::Later::keeps_itself))]
 pub(crate) fn divide(
     alloc: Global,
-    hypotheses: &[Formula],
+    terms: &mut Terms,
+    hypotheses: &[FormulaId],
     variables: u32,
     proofs: usize,
     hypothesis: i64,
     divisor: i64,
     quotient: &Formula,
 ) -> Result<Opened, StepFault>
-    ensures { StepMeets variables (formulas_of hypotheses.now) proofs (S.Divide hypothesis divisor (formula_of quotient.now)) result }
+    requires { AreFormulas terms.old hypotheses.now }
+    ensures kept { Keeps terms.old terms.new }
+    ensures step { StepMeets terms.old terms.new variables hypotheses.now proofs (S.Divide hypothesis divisor (formula_of quotient.now)) result }
 {
-    let (left, right) = inequality(find(hypotheses, hypothesis)?)?;
+    let (left, right) = inequality(terms, find(terms, hypotheses, hypothesis)?)?;
     count_branches(proofs, 1)?;
     if !formula_below(variables, quotient) {
         return Err(StepFault::Flawed(Flaw::Bad(Reason::VariableNotInUse)));
     }
-    quotient_of(alloc, variables, left, right, divisor, quotient)
+    quotient_of(alloc, terms, variables, left, right, divisor, quotient)
 }

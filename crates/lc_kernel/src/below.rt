@@ -1,5 +1,5 @@
 ghost use Rattle.std.specs.Prelude.{◌≡◌};
-ghost use Rattle.lc_kernel.specs.Below.{below, term_below, column_below, formula_below, all_below};
+ghost use Rattle.lc_kernel.specs.Below.{below, term_below, column_below, formula_below};
 ghost use Rattle.lc_term.specs.Places.{all_pass};
 ghost use Rattle.lc_term.specs.Syntax.{formulas};
 ghost use Rattle.lc_term.specs.View.{term_of, column_of, formula_of, formulas_of};
@@ -57,18 +57,6 @@ fn parts_below(count: u32, parts: &[Formula]) -> bool
 {
     for part in parts {
         if !formula_below(count, part) {
-            return false;
-        }
-    }
-    true
-}
-
-/// The same of each formula of a list.
-pub(crate) fn all_below(count: u32, formulas: &[Formula]) -> bool
-    ensures { result ≡ all_below count (formulas_of formulas.now) }
-{
-    for formula in formulas {
-        if !formula_below(count, formula) {
             return false;
         }
     }

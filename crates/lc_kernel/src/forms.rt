@@ -1,160 +1,286 @@
 //! The forms that steps ask of hypotheses.
 ghost use Rattle.std.specs.Prelude.{◌≡◌, IfOk, [], ◌∷◌};
-ghost use Rattle.lc_kernel.specs.Answers.{Finds, Makes, seen, seen_terms, items_of};
-ghost use Rattle.lc_kernel.specs.Table.{hypothesis, conjuncts, failing, alternatives, negations, less, pushed_inward, pushed, for_all, for_some, sides, apart};
+ghost use Rattle.lc_kernel.specs.Answers.{FindsNumber, FindsIn, FindsSides, FindsExcess, MakesIn, MakesAllIn};
+ghost use Rattle.lc_kernel.specs.Table.{hypothesis, conjuncts, failing, alternatives, negations, less, pushed_inward, pushed, for_all, for_some, sides, apart, excess};
 ghost use Rattle.lc_kernel.specs.declared.reason.Reason.TheVariants.{NoHypothesis, WrongForm};
-ghost use Rattle.lc_term.specs.Syntax as S;
-ghost use Rattle.lc_term.specs.View.{term_of, formula_of, formulas_of};
+ghost use Rattle.lc_term.specs.Syntax as T;
+ghost use Rattle.lc_term.specs.Tables.{term_in, formula_in, formulas_in, IsTerm, IsFormula, AreFormulas, HasFormula, Keeps};
 
 use crate::fault::StepFault;
 use crate::reason::{Flaw, Reason};
 use lc_base::OutOfMemory;
-use lc_term::{Formula, Term, copy_formulas};
+use lc_term::{FormulaId, FormulaNode, TermId, Terms};
 use std::alloc::Global;
 
-/// The hypothesis of a number.
-pub(crate) fn find(hypotheses: &[Formula], number: i64) -> Result<&Formula, Flaw>
-    ensures { Finds seen (hypothesis (formulas_of hypotheses.now) number) NoHypothesis result }
+// Where a hypothesis stands.
+fn place_of(hypotheses: &[FormulaId], number: i64) -> Result<FormulaId, Flaw>
+    ensures { FindsNumber hypotheses.now number result }
 {
     let found = usize::try_from(number)
         .ok()
         .and_then(|index| hypotheses.get(index));
-    found.ok_or(Flaw::Bad(Reason::NoHypothesis))
+    found.copied().ok_or(Flaw::Bad(Reason::NoHypothesis))
 }
 
-/// `(not F)`, in memory of its own.
-pub(crate) fn negated(alloc: Global, formula: &Formula) -> Result<Formula, OutOfMemory>
-    ensures { IfOk result (λ f. formula_of f ≡ S.Not (formula_of formula.now)) }
+/// The hypothesis of a number.
+#[tactic(auto, using(crate::proofs::Numbered::number_found, crate::proofs::Numbered::number_missed))]
+pub(crate) fn find(terms: &Terms, hypotheses: &[FormulaId], number: i64) -> Result<FormulaId, Flaw>
+    requires { AreFormulas terms.now hypotheses.now }
+    ensures { FindsIn terms.now (hypothesis (formulas_in terms.now hypotheses.now) number) NoHypothesis result }
 {
-    Ok(Formula::Not(Box::new(alloc, formula.try_clone(alloc)?)?))
+    let _ = terms;
+    place_of(hypotheses, number)
 }
 
-fn negated_each(alloc: Global, formulas: &[Formula]) -> Result<Vec<Formula>, OutOfMemory>
-    ensures { IfOk result (λ fs. formulas_of fs.items ≡ negations (formulas_of formulas.now)) }
+fn copied(alloc: Global, formulas: &[FormulaId]) -> Result<Vec<FormulaId>, OutOfMemory>
+    ensures { IfOk result (λ copies. copies.items ≡ formulas.now) }
 {
-    let mut negated_all = Vec::with_capacity(alloc, formulas.len())?;
-    for formula in formulas {
-        negated_all.push(negated(alloc, formula)?)?;
-    }
-    Ok(negated_all)
+    Ok(Vec::from_slice(alloc, formulas)?)
 }
 
-fn pair(alloc: Global, first: Formula, second: Formula) -> Result<Vec<Formula>, OutOfMemory>
-    ensures { IfOk result (λ fs. formulas_of fs.items ≡ formula_of first ∷ formula_of second ∷ []) }
+/// Two formulas, one after the other.
+pub(crate) fn pair(
+    alloc: Global,
+    first: FormulaId,
+    second: FormulaId,
+) -> Result<Vec<FormulaId>, OutOfMemory>
+    ensures { IfOk result (λ ks. ks.items ≡ first ∷ second ∷ []) }
 {
     Ok(Vec::from_array(alloc, [first, second])?)
 }
 
-/// `(<= (+ t 1) u)`.
-pub(crate) fn less(alloc: Global, left: &Term, right: &Term) -> Result<Formula, OutOfMemory>
-    ensures { IfOk result (λ f. formula_of f ≡ less (term_of left.now) (term_of right.now)) }
+/// `(not F)` of each formula.
+#[tactic(auto, using(lc_term::proofs::Later::formulas_pushed, lc_term::proofs::Later::are_formulas_pushed, lc_term::proofs::Later::formula_still, lc_term::proofs::Later::is_formula_still, lc_term::proofs::Later::kept_on, lc_term::proofs::Later::keeps_itself))]
+fn negated_each(
+    alloc: Global,
+    terms: &mut Terms,
+    formulas: &[FormulaId],
+) -> Result<Vec<FormulaId>, OutOfMemory>
+    requires { AreFormulas terms.old formulas.now }
+    ensures are { IfOk result (λ ks. AreFormulas terms.new ks.items) }
+    ensures trees { IfOk result (λ ks. formulas_in terms.new ks.items ≡ negations (formulas_in terms.old formulas.now)) }
+    ensures kept { Keeps terms.old terms.new }
 {
-    let next = Term::Add(
-        Box::new(alloc, left.try_clone(alloc)?)?,
-        Box::new(alloc, Term::Number(1))?,
-    );
-    Ok(Formula::Le(next, right.try_clone(alloc)?))
+    let mut negated_all = Vec::with_capacity(alloc, formulas.len())?;
+    for formula in formulas {
+        negated_all.push(terms.not(*formula)?)?;
+    }
+    Ok(negated_all)
+}
+
+/// `(<= (+ t 1) u)`.
+#[tactic(auto, using(lc_term::proofs::Later::term_is, lc_term::proofs::Later::is_term_later, lc_term::proofs::Later::term_still, lc_term::proofs::Later::is_term_still, lc_term::proofs::Later::kept_on, lc_term::proofs::Later::keeps_itself))]
+pub(crate) fn less(terms: &mut Terms, left: TermId, right: TermId) -> Result<FormulaId, OutOfMemory>
+    requires left { IsTerm terms.old left }
+    requires right { IsTerm terms.old right }
+    ensures id { IfOk result (λ k. HasFormula terms.new k (less (term_in terms.old left) (term_in terms.old right))) }
+    ensures kept { Keeps terms.old terms.new }
+{
+    let one = terms.number(1)?;
+    let next = terms.add(left, one)?;
+    terms.le(next, right)
 }
 
 /// The parts of `(and F ..)`.
-pub(crate) fn conjuncts(alloc: Global, formula: &Formula) -> Result<Vec<Formula>, StepFault>
-    ensures { Makes items_of (conjuncts (formula_of formula.now)) WrongForm result }
+pub(crate) fn conjuncts(
+    alloc: Global,
+    terms: &Terms,
+    formula: FormulaId,
+) -> Result<Vec<FormulaId>, StepFault>
+    requires { IsFormula terms.now formula }
+    ensures { MakesAllIn terms.now (conjuncts (formula_in terms.now formula)) WrongForm result }
 {
-    match formula {
-        Formula::And(parts) => Ok(copy_formulas(alloc, parts)?),
+    match terms.formula_node(formula) {
+        FormulaNode::And(parts) => Ok(copied(alloc, parts)?),
         _ => Err(StepFault::Flawed(Flaw::Bad(Reason::WrongForm))),
     }
 }
 
 /// Of `(and F ..)` each `(not F)`.
-fn failing(alloc: Global, formula: &Formula) -> Result<Vec<Formula>, StepFault>
-    ensures { Makes items_of (failing (formula_of formula.now)) WrongForm result }
+#[tactic(auto, using(crate::proofs::Numbered::failing_by, crate::proofs::Numbered::failing_none, lc_term::proofs::Later::keeps_itself))]
+fn failing(
+    alloc: Global,
+    terms: &mut Terms,
+    formula: FormulaId,
+) -> Result<Vec<FormulaId>, StepFault>
+    requires { IsFormula terms.old formula }
+    ensures made { MakesAllIn terms.new (failing (formula_in terms.old formula)) WrongForm result }
+    ensures kept { Keeps terms.old terms.new }
 {
-    match formula {
-        Formula::And(parts) => Ok(negated_each(alloc, parts)?),
-        _ => Err(StepFault::Flawed(Flaw::Bad(Reason::WrongForm))),
-    }
+    let parts = conjuncts(alloc, terms, formula)?;
+    Ok(negated_each(alloc, terms, &parts)?)
 }
 
 /// Of `(or F ..)` the parts, of `(=> A B)` `(not A)` and `B`, of `(not (and F ..))` each `(not F)`.
-pub(crate) fn alternatives(alloc: Global, formula: &Formula) -> Result<Vec<Formula>, StepFault>
-    ensures { Makes items_of (alternatives (formula_of formula.now)) WrongForm result }
+#[tactic(auto, using(lc_term::proofs::Later::formula_is, lc_term::proofs::Later::formula_still, lc_term::proofs::Later::is_formula_later, lc_term::proofs::Later::is_formula_still, lc_term::proofs::Later::keeps_itself))]
+pub(crate) fn alternatives(
+    alloc: Global,
+    terms: &mut Terms,
+    formula: FormulaId,
+) -> Result<Vec<FormulaId>, StepFault>
+    requires { IsFormula terms.old formula }
+    ensures made { MakesAllIn terms.new (alternatives (formula_in terms.old formula)) WrongForm result }
+    ensures kept { Keeps terms.old terms.new }
 {
-    match formula {
-        Formula::Or(parts) => Ok(copy_formulas(alloc, parts)?),
-        Formula::Implies(left, right) => Ok(pair(
-            alloc,
-            negated(alloc, left)?,
-            right.try_clone(alloc)?,
-        )?),
-        Formula::Not(formula) => failing(alloc, formula),
+    match terms.formula_node(formula) {
+        FormulaNode::Or(parts) => Ok(copied(alloc, parts)?),
+        FormulaNode::Implies(left, right) => {
+            let (left, right) = (*left, *right);
+            let negated = terms.not(left)?;
+            Ok(pair(alloc, negated, right)?)
+        }
+        FormulaNode::Not(inner) => {
+            let inner = *inner;
+            failing(alloc, terms, inner)
+        }
         _ => Err(StepFault::Flawed(Flaw::Bad(Reason::WrongForm))),
     }
 }
 
-/// What `(not F)` says, of F, with the negation pushed inward.
-fn pushed_inward(alloc: Global, formula: &Formula) -> Result<Formula, StepFault>
-    ensures { Makes formula_of (pushed_inward (formula_of formula.now)) WrongForm result }
+/// `(and (not F) ..)`.
+#[tactic(auto, using(lc_term::proofs::Later::kept_on))]
+fn none_of(
+    alloc: Global,
+    terms: &mut Terms,
+    formulas: &[FormulaId],
+) -> Result<FormulaId, OutOfMemory>
+    requires { AreFormulas terms.old formulas.now }
+    ensures id { IfOk result (λ k. HasFormula terms.new k (T.And (T.formulas (negations (formulas_in terms.old formulas.now))))) }
+    ensures kept { Keeps terms.old terms.new }
 {
-    match formula {
-        Formula::Not(formula) => Ok(formula.try_clone(alloc)?),
-        Formula::Le(left, right) => Ok(less(alloc, right, left)?),
-        Formula::Or(parts) => Ok(Formula::And(negated_each(alloc, parts)?)),
-        Formula::Implies(left, right) => {
-            let both = pair(alloc, left.try_clone(alloc)?, negated(alloc, right)?)?;
-            Ok(Formula::And(both))
+    let negated = negated_each(alloc, terms, formulas)?;
+    terms.and(negated)
+}
+
+/// `(and A (not B))`.
+#[tactic(auto, using(lc_term::proofs::Later::formula_is, lc_term::proofs::Later::formula_still, lc_term::proofs::Later::is_formula_later, lc_term::proofs::Later::is_formula_still, lc_term::proofs::Later::kept_on, lc_term::proofs::Later::keeps_itself))]
+fn but_not(
+    alloc: Global,
+    terms: &mut Terms,
+    left: FormulaId,
+    right: FormulaId,
+) -> Result<FormulaId, OutOfMemory>
+    requires left { IsFormula terms.old left }
+    requires right { IsFormula terms.old right }
+    ensures id { IfOk result (λ k. HasFormula terms.new k (T.And (T.formulas (formula_in terms.old left ∷ T.Not (formula_in terms.old right) ∷ [])))) }
+    ensures kept { Keeps terms.old terms.new }
+{
+    let negated = terms.not(right)?;
+    let parts = pair(alloc, left, negated)?;
+    terms.and(parts)
+}
+
+/// What `(not F)` says, of F, with the negation pushed inward.
+#[tactic(auto, using(lc_term::proofs::Later::formula_is, lc_term::proofs::Later::is_formula_later, lc_term::proofs::Later::kept_on, lc_term::proofs::Later::keeps_itself))]
+fn pushed_inward(
+    alloc: Global,
+    terms: &mut Terms,
+    formula: FormulaId,
+) -> Result<FormulaId, StepFault>
+    requires { IsFormula terms.old formula }
+    ensures made { MakesIn terms.new (pushed_inward (formula_in terms.old formula)) WrongForm result }
+    ensures kept { Keeps terms.old terms.new }
+{
+    match terms.formula_node(formula) {
+        FormulaNode::Not(inner) => Ok(*inner),
+        FormulaNode::Le(left, right) => {
+            let (left, right) = (*left, *right);
+            Ok(less(terms, right, left)?)
         }
-        Formula::Forall(body) => Ok(Formula::Exists(Box::new(alloc, negated(alloc, body)?)?)),
-        Formula::Exists(body) => Ok(Formula::Forall(Box::new(alloc, negated(alloc, body)?)?)),
-        Formula::Eq(..) | Formula::And(_) => Err(StepFault::Flawed(Flaw::Bad(Reason::WrongForm))),
+        FormulaNode::Or(parts) => {
+            let parts = copied(alloc, parts)?;
+            Ok(none_of(alloc, terms, &parts)?)
+        }
+        FormulaNode::Implies(left, right) => {
+            let (left, right) = (*left, *right);
+            Ok(but_not(alloc, terms, left, right)?)
+        }
+        FormulaNode::Forall(body) => {
+            let body = *body;
+            let negated = terms.not(body)?;
+            Ok(terms.exists(negated)?)
+        }
+        FormulaNode::Exists(body) => {
+            let body = *body;
+            let negated = terms.not(body)?;
+            Ok(terms.forall(negated)?)
+        }
+        FormulaNode::Eq(_, _) | FormulaNode::And(_) => {
+            Err(StepFault::Flawed(Flaw::Bad(Reason::WrongForm)))
+        }
     }
 }
 
 /// `(not F)` with the negation pushed inward.
-pub(crate) fn pushed(alloc: Global, formula: &Formula) -> Result<Formula, StepFault>
-    ensures { Makes formula_of (pushed (formula_of formula.now)) WrongForm result }
+#[tactic(auto, using(lc_term::proofs::Later::keeps_itself))]
+pub(crate) fn pushed(
+    alloc: Global,
+    terms: &mut Terms,
+    formula: FormulaId,
+) -> Result<FormulaId, StepFault>
+    requires { IsFormula terms.old formula }
+    ensures made { MakesIn terms.new (pushed (formula_in terms.old formula)) WrongForm result }
+    ensures kept { Keeps terms.old terms.new }
 {
-    match formula {
-        Formula::Not(formula) => pushed_inward(alloc, formula),
+    match terms.formula_node(formula) {
+        FormulaNode::Not(inner) => {
+            let inner = *inner;
+            pushed_inward(alloc, terms, inner)
+        }
         _ => Err(StepFault::Flawed(Flaw::Bad(Reason::WrongForm))),
     }
 }
 
 /// The body of `(forall x F)`.
-pub(crate) fn for_all(formula: &Formula) -> Result<&Formula, Flaw>
-    ensures { Finds seen (for_all (formula_of formula.now)) WrongForm result }
+pub(crate) fn for_all(terms: &Terms, formula: FormulaId) -> Result<FormulaId, Flaw>
+    requires { IsFormula terms.now formula }
+    ensures { FindsIn terms.now (for_all (formula_in terms.now formula)) WrongForm result }
 {
-    match formula {
-        Formula::Forall(body) => Ok(body),
+    match terms.formula_node(formula) {
+        FormulaNode::Forall(body) => Ok(*body),
         _ => Err(Flaw::Bad(Reason::WrongForm)),
     }
 }
 
 /// The body of `(exists x F)`.
-pub(crate) fn for_some(formula: &Formula) -> Result<&Formula, Flaw>
-    ensures { Finds seen (for_some (formula_of formula.now)) WrongForm result }
+pub(crate) fn for_some(terms: &Terms, formula: FormulaId) -> Result<FormulaId, Flaw>
+    requires { IsFormula terms.now formula }
+    ensures { FindsIn terms.now (for_some (formula_in terms.now formula)) WrongForm result }
 {
-    match formula {
-        Formula::Exists(body) => Ok(body),
+    match terms.formula_node(formula) {
+        FormulaNode::Exists(body) => Ok(*body),
         _ => Err(Flaw::Bad(Reason::WrongForm)),
     }
 }
 
-fn sides(formula: &Formula) -> Result<(&Term, &Term), Flaw>
-    ensures { Finds seen_terms (sides (formula_of formula.now)) WrongForm result }
+fn sides(terms: &Terms, formula: FormulaId) -> Result<(TermId, TermId), Flaw>
+    requires { IsFormula terms.now formula }
+    ensures { FindsSides terms.now (sides (formula_in terms.now formula)) WrongForm result }
 {
-    match formula {
-        Formula::Eq(left, right) => Ok((left, right)),
+    match terms.formula_node(formula) {
+        FormulaNode::Eq(left, right) => Ok((*left, *right)),
         _ => Err(Flaw::Bad(Reason::WrongForm)),
     }
 }
 
 /// The sides of `(not (= t u))`.
-pub(crate) fn apart(formula: &Formula) -> Result<(&Term, &Term), Flaw>
-    ensures { Finds seen_terms (apart (formula_of formula.now)) WrongForm result }
+pub(crate) fn apart(terms: &Terms, formula: FormulaId) -> Result<(TermId, TermId), Flaw>
+    requires { IsFormula terms.now formula }
+    ensures { FindsSides terms.now (apart (formula_in terms.now formula)) WrongForm result }
 {
-    match formula {
-        Formula::Not(formula) => sides(formula),
+    match terms.formula_node(formula) {
+        FormulaNode::Not(inner) => sides(terms, *inner),
+        _ => Err(Flaw::Bad(Reason::WrongForm)),
+    }
+}
+
+/// The sides of `(<= t u)`.
+pub(crate) fn inequality(terms: &Terms, formula: FormulaId) -> Result<(TermId, TermId), Flaw>
+    requires { IsFormula terms.now formula }
+    ensures { FindsExcess terms.now (excess (formula_in terms.now formula)) WrongForm result }
+{
+    match terms.formula_node(formula) {
+        FormulaNode::Le(left, right) => Ok((*left, *right)),
         _ => Err(Flaw::Bad(Reason::WrongForm)),
     }
 }

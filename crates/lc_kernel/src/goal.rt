@@ -1,24 +1,60 @@
-ghost use Rattle.std.specs.Prelude.{◌≡◌, ◌&&◌};
+ghost use Rattle.std.specs.Prelude.{◌≡◌, ◌&&◌, IfOk};
 ghost use Rattle.lc_kernel.specs.Below.{all_below, formula_below};
-ghost use Rattle.lc_term.specs.View.{formula_of, formulas_of};
+ghost use Rattle.lc_term.specs.Tables.{formula_in, formulas_in, IsFormula, AreFormulas};
 
-use crate::below::{all_below, formula_below};
-use lc_term::Formula;
+use crate::below::formula_below;
+use lc_base::OutOfMemory;
+use lc_term::{FormulaId, Terms};
+use std::alloc::Global;
 
-/// What a proof is to show: that a formula follows from hypotheses.
+/// What a proof is to show: that a formula follows from hypotheses, which stand in one table.
 #[derive(Debug, Drop)]
 pub struct Goal {
     /// How many free variables there are: those with numbers below this.
     pub vars: u32,
-    pub hypotheses: Vec<Formula>,
-    pub goal: Formula,
+    pub hypotheses: Vec<FormulaId>,
+    pub goal: FormulaId,
 }
 
 impl Goal {
     /// Whether each free variable of the hypotheses and of the goal is one of those that there are, as `prove` asks.
-    pub fn uses_its_variables(&self) -> bool
-        ensures { result ≡ (all_below self.now.vars (formulas_of self.now.hypotheses.items) && formula_below self.now.vars (formula_of self.now.goal)) }
+    pub fn uses_its_variables(&self, alloc: Global, terms: &Terms) -> Result<bool, OutOfMemory>
+        requires hypotheses { AreFormulas terms.now self.now.hypotheses.items }
+        requires goal { IsFormula terms.now self.now.goal }
+        ensures { IfOk result (λ yes'. yes' ≡ (all_below self.now.vars (formulas_in terms.now self.now.hypotheses.items) && formula_below self.now.vars (formula_in terms.now self.now.goal))) }
     {
-        all_below(self.vars, &self.hypotheses) && formula_below(self.vars, &self.goal)
+        if !are_below(alloc, terms, self.vars, &self.hypotheses)? {
+            return Ok(false);
+        }
+        is_below(alloc, terms, self.vars, self.goal)
     }
+}
+
+fn is_below(
+    alloc: Global,
+    terms: &Terms,
+    count: u32,
+    formula: FormulaId,
+) -> Result<bool, OutOfMemory>
+    requires { IsFormula terms.now formula }
+    ensures { IfOk result (λ yes'. yes' ≡ formula_below count (formula_in terms.now formula)) }
+{
+    Ok(formula_below(count, &terms.formula(alloc, formula)?))
+}
+
+fn are_below(
+    alloc: Global,
+    terms: &Terms,
+    count: u32,
+    formulas: &[FormulaId],
+) -> Result<bool, OutOfMemory>
+    requires { AreFormulas terms.now formulas.now }
+    ensures { IfOk result (λ yes'. yes' ≡ all_below count (formulas_in terms.now formulas.now)) }
+{
+    for formula in formulas {
+        if !is_below(alloc, terms, count, *formula)? {
+            return Ok(false);
+        }
+    }
+    Ok(true)
 }

@@ -1,21 +1,32 @@
-ghost use Rattle.std.specs.Prelude.{◌≡◌, ◌==◌, [], ◌∷◌, IfOk};
-ghost use Rattle.lc_kernel.specs.Answers.{Tests, branches_of};
-ghost use Rattle.lc_kernel.specs.Table.{each};
+ghost use Rattle.std.specs.Prelude.{◌≡◌, ◌==◌, ◌<◌, ◌++◌, OnOk, IfOk};
+ghost use Rattle.lc_kernel.specs.Answers.{Tests};
+ghost use Rattle.lc_kernel.specs.Branches.{branches_in, AreBranches, branch_count, branch_at};
+ghost use Rattle.lc_kernel.specs.Table.{opens, Appends};
+ghost use Rattle.lc_term.specs.Tables.{formula_in, IsFormula};
 ghost use Rattle.lc_kernel.specs.declared.reason.Reason.TheVariants.{WrongForm};
-ghost use Rattle.lc_term.specs.View.{formula_of, formulas_of};
 
 use crate::reason::{Flaw, Reason};
 use lc_base::OutOfMemory;
-use lc_term::Formula;
+use lc_term::{FormulaId, Terms};
 use std::alloc::Global;
+
+/// The branches that a step opens, by the formulas that are appended to the hypotheses in each.
+#[derive(Debug, Drop)]
+pub(crate) enum Branches {
+    /// No branch.
+    Nothing,
+    /// One branch, with all these formulas.
+    One(Vec<FormulaId>),
+    /// A branch for each formula.
+    Each(Vec<FormulaId>),
+}
 
 /// What a step opens.
 #[derive(Debug, Drop)]
 pub(crate) struct Opened {
     /// How many variables are in use in the branches.
     pub(crate) variables: u32,
-    /// For each branch the formulas that are appended to the hypotheses.
-    pub(crate) branches: Vec<Vec<Formula>>,
+    pub(crate) branches: Branches,
 }
 
 /// Tests that there are as many proofs below a step as it opens branches.
@@ -29,51 +40,37 @@ pub(crate) fn count_branches(proofs: usize, branches: usize) -> Result<(), Flaw>
     }
 }
 
-/// No branch.
-pub(crate) fn no_branch(alloc: Global) -> Vec<Vec<Formula>>
-    ensures { branches_of result.items ≡ [] }
+/// Appends the formulas of a branch.
+pub(crate) fn append_branch(
+    hypotheses: &mut Vec<FormulaId>,
+    branches: &Branches,
+    index: usize,
+) -> Result<(), OutOfMemory>
+    requires { index < branch_count branches.now }
+    ensures { OnOk result (hypotheses.new.items ≡ hypotheses.old.items ++ branch_at branches.now index) }
 {
-    Vec::new(alloc)
-}
-
-/// One branch, with all these formulas.
-pub(crate) fn one_branch(
-    alloc: Global,
-    formulas: Vec<Formula>,
-) -> Result<Vec<Vec<Formula>>, OutOfMemory>
-    ensures { IfOk result (λ bs. branches_of bs.items ≡ formulas_of formulas.items ∷ []) }
-{
-    Ok(Vec::from_array(alloc, [formulas])?)
+    match branches {
+        Branches::Nothing => {}
+        Branches::One(formulas) => hypotheses.extend_from_slice(formulas)?,
+        Branches::Each(formulas) => hypotheses.push(formulas[index])?,
+    }
+    Ok(())
 }
 
 /// One branch, with one formula.
-pub(crate) fn appending(alloc: Global, formula: Formula) -> Result<Vec<Vec<Formula>>, OutOfMemory>
-    ensures { IfOk result (λ bs. branches_of bs.items ≡ (formula_of formula ∷ []) ∷ []) }
-{
-    one_branch(alloc, Vec::from_array(alloc, [formula])?)
-}
-
-/// A branch for each formula.
-pub(crate) fn each_branch(
+pub(crate) fn appending(
     alloc: Global,
-    formulas: Vec<Formula>,
-) -> Result<Vec<Vec<Formula>>, OutOfMemory>
-    ensures { IfOk result (λ bs. branches_of bs.items ≡ each (formulas_of formulas.items)) }
+    terms: &Terms,
+    variables: u32,
+    formula: FormulaId,
+) -> Result<Opened, OutOfMemory>
+    requires { IsFormula terms.now formula }
+    ensures are { IfOk result (λ opened. AreBranches terms.now opened.branches) }
+    ensures appends { IfOk result (λ opened. Appends variables (formula_in terms.now formula) (opens opened.variables (branches_in terms.now opened.branches))) }
 {
-    let mut branches = Vec::with_capacity(alloc, formulas.len())?;
-    for formula in formulas {
-        branches.push(Vec::from_array(alloc, [formula])?)?;
-    }
-    Ok(branches)
-}
-
-/// A branch for each of two formulas.
-pub(crate) fn two_branches(
-    alloc: Global,
-    first: Formula,
-    second: Formula,
-) -> Result<Vec<Vec<Formula>>, OutOfMemory>
-    ensures { IfOk result (λ bs. branches_of bs.items ≡ each (formula_of first ∷ formula_of second ∷ [])) }
-{
-    each_branch(alloc, Vec::from_array(alloc, [first, second])?)
+    let _ = terms;
+    Ok(Opened {
+        variables,
+        branches: Branches::One(Vec::from_array(alloc, [formula])?),
+    })
 }

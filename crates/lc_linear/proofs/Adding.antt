@@ -3,21 +3,19 @@ use Rattle.std.proofs.Common.{◌≡◌, List, [], ◌∷◌, ◌++◌, Bool, tr
 use Rattle.std.specs.Prelude.{ℤ, pos, negsuc, ◌+ℤ◌, ◌-ℤ◌, ◌*ℤ◌, FitsSigned, if◌then◌else◌}
 use Rattle.std.specs.Int.{w128}
 use Rattle.std.proofs.lemmas.Int.{ints}
-use Rattle.lc_term.specs.Syntax.{Term}
-use Rattle.lc_term.specs.Equal.{term_eq}
-use Rattle.lc_term.specs.EqualLaws.{Decides-term_eq}
+use Rattle.lc_term.specs.declared.node.TermId.{TermId}
+use Rattle.lc_linear.proofs.Ids.{Decides-is_same}
 use Rattle.lc_linear.proofs.Products.{mul-add, mul-neg, mul_assoc, mul-one}
 use Rattle.lc_linear.proofs.Distinct.{Absent, coefficient_in-absent, coefficient_in-middle, listed-snoc}
 use Rattle.lc_linear.specs.Arithmetic.{CanAdd, CanAddScaled, CanSubtract, added_scaled, subtracted}
-use Rattle.lc_linear.specs.Form.{Place, Form, number_form, atom_form}
-use Rattle.lc_linear.specs.Listed.{coefficient_in, listed}
+use Rattle.lc_linear.specs.Numbered.{Place, Form, is_same, number_form, atom_form, coefficient_in, listed}
 
 -- a form that was `start`, with k times the entries es added
-pub record Summed (start now : Form) (k : ℤ) (es : List (Term × ℤ)) : Type 0 where
+pub record Summed (start now : Form) (k : ℤ) (es : List (TermId × ℤ)) : Type 0 where
   pub sums : (p : Place) → now p ≡ start p +ℤ k *ℤ listed (pos 0) es p
 
 -- k times each of them fits
-pub record ProductsFit (k : ℤ) (es : List (Term × ℤ)) : Type 0 where
+pub record ProductsFit (k : ℤ) (es : List (TermId × ℤ)) : Type 0 where
   pub products : (p : Place) → FitsSigned w128 (k *ℤ listed (pos 0) es p)
 
 mul-zero : (k : ℤ) → k *ℤ pos 0 ≡ pos 0
@@ -36,10 +34,10 @@ nothing_summed start k = record { sums = λ p. rw (listed-none p) (omega (arith,
 pub no_products : (k : ℤ) → ProductsFit k []
 no_products k = record { products = λ p. rw (listed-none p) (zero_fits k) }
 
-module _ (k m : ℤ) (es : List (Term × ℤ)) (x : Term) (n : ℤ) (fresh : Absent x es) (is_m : m ≡ k *ℤ n) where
-  product_here : ProductsFit k es → FitsSigned w128 m → (a : Term) (here : Bool) → term_eq a x ≡ here → FitsSigned w128 (k *ℤ (coefficient_in es a +ℤ n *ℤ (if here then pos 1 else pos 0)))
+module _ (k m : ℤ) (es : List (TermId × ℤ)) (x : TermId) (n : ℤ) (fresh : Absent x es) (is_m : m ≡ k *ℤ n) where
+  product_here : ProductsFit k es → FitsSigned w128 m → (a : TermId) (here : Bool) → is_same a x ≡ here → FitsSigned w128 (k *ℤ (coefficient_in es a +ℤ n *ℤ (if here then pos 1 else pos 0)))
   product_here so_far fits a true is =
-      let none : coefficient_in es a ≡ pos 0 = ap (coefficient_in es) ((Decides-term_eq a x).0 is) ∙ coefficient_in-absent x es fresh in
+      let none : coefficient_in es a ≡ pos 0 = ap (coefficient_in es) ((Decides-is_same a x).0 is) ∙ coefficient_in-absent x es fresh in
       let one : coefficient_in es a +ℤ n *ℤ pos 1 ≡ n = omega (arith, ints) in
       subst (FitsSigned w128) (is_m ∙ ap (λ z. k *ℤ z) (sym one)) fits
   product_here so_far fits a false is =
@@ -51,7 +49,7 @@ module _ (k m : ℤ) (es : List (Term × ℤ)) (x : Term) (n : ℤ) (fresh : Abs
   one_more_product so_far fits = record {
     products = elim [
       | None ↦ zero_fits k
-      | Some a ↦ rw (listed-snoc es x n fresh (Some a)) (product_here so_far fits a (term_eq a x) refl)
+      | Some a ↦ rw (listed-snoc es x n fresh (Some a)) (product_here so_far fits a (is_same a x) refl)
     ];
   }
 
@@ -72,7 +70,7 @@ module _ (k m : ℤ) (es : List (Term × ℤ)) (x : Term) (n : ℤ) (fresh : Abs
     }
 
 -- what can be added, or subtracted, at the next atom
-module _ (f : Form) (c : ℤ) (all es : List (Term × ℤ)) (x : Term) (n : ℤ) (rest : List (Term × ℤ)) (whole : all ≡ es ++ (x, n) ∷ rest) (fresh : Absent x es) where
+module _ (f : Form) (c : ℤ) (all es : List (TermId × ℤ)) (x : TermId) (n : ℤ) (rest : List (TermId × ℤ)) (whole : all ≡ es ++ (x, n) ∷ rest) (fresh : Absent x es) where
   there : coefficient_in all x ≡ n
   there = ap (λ l. coefficient_in l x) whole ∙ coefficient_in-middle es x n rest fresh
 
@@ -83,7 +81,7 @@ module _ (f : Form) (c : ℤ) (all es : List (Term × ℤ)) (x : Term) (n : ℤ)
   next_difference_fits can = subst (λ z. FitsSigned w128 (f (Some x) -ℤ z)) there (can (Some x))
 
 -- the whole of a form added: its constant first, then each entry
-module _ (f start now : Form) (k m c : ℤ) (all : List (Term × ℤ)) (is_m : m ≡ k *ℤ c) (first : (p : Place) → start p ≡ f p +ℤ number_form m p) (added : Summed start now k all) where
+module _ (f start now : Form) (k m c : ℤ) (all : List (TermId × ℤ)) (is_m : m ≡ k *ℤ c) (first : (p : Place) → start p ≡ f p +ℤ number_form m p) (added : Summed start now k all) where
   pub all_added : (p : Place) → now p ≡ added_scaled f k (listed c all) p
   all_added None =
       let a = added.sums None in
@@ -95,7 +93,7 @@ module _ (f start now : Form) (k m c : ℤ) (all : List (Term × ℤ)) (is_m : m
       let b = first (Some a) in
       omega (arith, ints)
 
-  pub all_fit : ProductsFit k all → FitsSigned w128 m → FitsSigned w128 (f None +ℤ m) → ((a : Term) → FitsSigned w128 (now (Some a))) → CanAddScaled f k (listed c all)
+  pub all_fit : ProductsFit k all → FitsSigned w128 m → FitsSigned w128 (f None +ℤ m) → ((a : TermId) → FitsSigned w128 (now (Some a))) → CanAddScaled f k (listed c all)
   all_fit fit fits constant coefficients None = (subst (FitsSigned w128) is_m fits, subst (λ z. FitsSigned w128 (f None +ℤ z)) is_m constant)
   all_fit fit fits constant coefficients (Some a) = (fit.products (Some a), subst (FitsSigned w128) (all_added (Some a)) (coefficients a))
 
@@ -112,13 +110,13 @@ minus-number : (n : ℤ) (p : Place) → (a : ℤ) → a -ℤ number_form n p �
 minus-number n None a = omega (arith, ints)
 minus-number n (Some x) a = omega (arith, ints)
 
-pub all_subtracted : (f start now : Form) (c : ℤ) (all : List (Term × ℤ)) → ((p : Place) → start p ≡ f p -ℤ number_form c p) → Summed start now (negsuc 0) all →
+pub all_subtracted : (f start now : Form) (c : ℤ) (all : List (TermId × ℤ)) → ((p : Place) → start p ≡ f p -ℤ number_form c p) → Summed start now (negsuc 0) all →
     (p : Place) → now p ≡ subtracted f (listed c all) p
 all_subtracted f start now c all first added p =
     all_added f start now (negsuc 0) (negsuc 0 *ℤ c) c all refl (λ q. first q ∙ minus-number c q (f q)) added p ∙ omega (arith, ints)
 
 -- what fits at each place
-pub fits_at : (f : Form) → FitsSigned w128 (f None) → ((a : Term) → FitsSigned w128 (f (Some a))) → (p : Place) → FitsSigned w128 (f p)
+pub fits_at : (f : Form) → FitsSigned w128 (f None) → ((a : TermId) → FitsSigned w128 (f (Some a))) → (p : Place) → FitsSigned w128 (f p)
 fits_at f constant coefficients None = constant
 fits_at f constant coefficients (Some a) = coefficients a
 

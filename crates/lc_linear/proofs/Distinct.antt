@@ -10,34 +10,29 @@ use Rattle.std.proofs.lemmas.List.{map-append}
 use Rattle.std.proofs.lemmas.Map.Iter.{rest_so_far, rest_more, iter_end}
 use Rattle.std.proofs.lemmas.Map.Keys.{IsDistinct-head, IsDistinct-tail}
 use Rattle.std.proofs.lemmas.Int.{ints}
-use Rattle.lc_term.specs.Syntax as S
-use Rattle.lc_term.specs.Equal.{term_eq}
-use Rattle.lc_term.specs.EqualLaws.{Decides-term_eq, term_eq_equiv}
-use Rattle.lc_term.specs.View.{term_of}
-use Rattle.lc_term.specs.declared.term.Term.{Term}
-use Rattle.lc_linear.proofs.Entries.{same}
+use Rattle.lc_linear.proofs.Ids.{Decides-is_same, is_same-congr, is_same-symm}
+use Rattle.lc_term.specs.declared.node.TermId.{TermId}
 use Rattle.lc_linear.proofs.Products.{zero-mul}
-use Rattle.lc_linear.specs.Form.{Place, atom_form}
-use Rattle.lc_linear.specs.Listed.{coefficient_in, listed, seen}
+use Rattle.lc_linear.specs.Numbered.{Place, is_same, atom_form, coefficient_in, listed}
 
 -- no entry is one of the atom
-pub record Absent (x : S.Term) (es : List (S.Term × ℤ)) : Type 0 where
-  pub apart : AllByRecursion (λ e. term_eq x e.0 ≡ false) es
+pub record Absent (x : TermId) (es : List (TermId × ℤ)) : Type 0 where
+  pub apart : AllByRecursion (λ e. is_same x e.0 ≡ false) es
 
-pub coefficient_in-absent : (x : S.Term) (es : List (S.Term × ℤ)) → Absent x es → coefficient_in es x ≡ pos 0
+pub coefficient_in-absent : (x : TermId) (es : List (TermId × ℤ)) → Absent x es → coefficient_in es x ≡ pos 0
 coefficient_in-absent x [] h = refl
 coefficient_in-absent x (e ∷ es) h = rw h.apart.0 (coefficient_in-absent x es (record { apart = h.apart.1 }))
 
 -- an entry behind those of other atoms is found
-pub coefficient_in-middle : (es : List (S.Term × ℤ)) (x : S.Term) (n : ℤ) (rest : List (S.Term × ℤ)) → Absent x es → coefficient_in (es ++ (x, n) ∷ rest) x ≡ n
-coefficient_in-middle [] x n rest h = rw ((Decides-term_eq x x).1 refl) refl
+pub coefficient_in-middle : (es : List (TermId × ℤ)) (x : TermId) (n : ℤ) (rest : List (TermId × ℤ)) → Absent x es → coefficient_in (es ++ (x, n) ∷ rest) x ≡ n
+coefficient_in-middle [] x n rest h = rw ((Decides-is_same x x).1 refl) refl
 coefficient_in-middle (e ∷ es) x n rest h = rw h.apart.0 (coefficient_in-middle es x n rest (record { apart = h.apart.1 }))
 
 -- one more entry, of another atom than those before it, adds that many times its atom
-more_here : (a x y : S.Term) (n m rest all : ℤ) (here : Bool) → term_eq a y ≡ here → term_eq x y ≡ false → all ≡ rest +ℤ n *ℤ (if term_eq a x then pos 1 else pos 0) →
-    (if here then m else all) ≡ (if here then m else rest) +ℤ n *ℤ (if term_eq a x then pos 1 else pos 0)
+more_here : (a x y : TermId) (n m rest all : ℤ) (here : Bool) → is_same a y ≡ here → is_same x y ≡ false → all ≡ rest +ℤ n *ℤ (if is_same a x then pos 1 else pos 0) →
+    (if here then m else all) ≡ (if here then m else rest) +ℤ n *ℤ (if is_same a x then pos 1 else pos 0)
 more_here a x y n m rest all true h apart ih =
-    let other : term_eq a x ≡ false = term_eq_equiv.congr a y x h ∙ term_eq_equiv.symm y x ∙ apart in
+    let other : is_same a x ≡ false = is_same-congr a y x h ∙ is_same-symm y x ∙ apart in
     rw other (omega (arith, ints))
 more_here a x y n m rest all false h apart ih = ih
 
@@ -45,14 +40,14 @@ last_here : (n : ℤ) (here : Bool) → (if here then n else pos 0) ≡ pos 0 +�
 last_here n true = omega (arith, ints)
 last_here n false = omega (arith, ints)
 
-coefficient_in-snoc : (es : List (S.Term × ℤ)) (x : S.Term) (n : ℤ) → Absent x es → (a : S.Term) →
-    coefficient_in (es ++ (x, n) ∷ []) a ≡ coefficient_in es a +ℤ n *ℤ (if term_eq a x then pos 1 else pos 0)
-coefficient_in-snoc [] x n h a = last_here n (term_eq a x)
+coefficient_in-snoc : (es : List (TermId × ℤ)) (x : TermId) (n : ℤ) → Absent x es → (a : TermId) →
+    coefficient_in (es ++ (x, n) ∷ []) a ≡ coefficient_in es a +ℤ n *ℤ (if is_same a x then pos 1 else pos 0)
+coefficient_in-snoc [] x n h a = last_here n (is_same a x)
 coefficient_in-snoc (e ∷ es) x n h a =
-    more_here a x e.0 n e.1 (coefficient_in es a) (coefficient_in (es ++ (x, n) ∷ []) a) (term_eq a e.0) refl h.apart.0
+    more_here a x e.0 n e.1 (coefficient_in es a) (coefficient_in (es ++ (x, n) ∷ []) a) (is_same a e.0) refl h.apart.0
     (coefficient_in-snoc es x n (record { apart = h.apart.1 }) a)
 
-pub listed-snoc : (es : List (S.Term × ℤ)) (x : S.Term) (n : ℤ) → Absent x es → (p : Place) →
+pub listed-snoc : (es : List (TermId × ℤ)) (x : TermId) (n : ℤ) → Absent x es → (p : Place) →
     listed (pos 0) (es ++ (x, n) ∷ []) p ≡ listed (pos 0) es p +ℤ n *ℤ atom_form x p
 listed-snoc es x n h None = omega (arith, ints)
 listed-snoc es x n h (Some a) = coefficient_in-snoc es x n h a
@@ -62,51 +57,51 @@ holds_at : {K V : Type 0} (P : K → Type 0) (es : List (K × V)) (e : K × V) (
 holds_at P [] e rest h = h.0
 holds_at P (d ∷ es) e rest h = holds_at P es e rest h.1
 
-pub absent_before : (es : List (Bor Term × ℤ)) (e : Bor Term × ℤ) (rest : List (Bor Term × ℤ)) → IsDistinct same (keys_of (es ++ e ∷ rest)) → Absent (term_of e.0.now) (seen es)
+pub absent_before : (es : List (TermId × ℤ)) (e : TermId × ℤ) (rest : List (TermId × ℤ)) → IsDistinct is_same (keys_of (es ++ e ∷ rest)) → Absent e.0 es
 absent_before [] e rest h = record { apart = tt }
 absent_before (d ∷ es) e rest h =
-    let first = holds_at (λ k. same d.0 k ≡ false) es e rest (IsDistinct-head same d.0 (keys_of (es ++ e ∷ rest)) h) in
-    let others = absent_before es e rest (IsDistinct-tail same d.0 (keys_of (es ++ e ∷ rest)) h) in
-    record { apart = (term_eq_equiv.symm (term_of e.0.now) (term_of d.0.now) ∙ first, others.apart) }
+    let first = holds_at (λ k. is_same d.0 k ≡ false) es e rest (IsDistinct-head is_same d.0 (keys_of (es ++ e ∷ rest)) h) in
+    let others = absent_before es e rest (IsDistinct-tail is_same d.0 (keys_of (es ++ e ∷ rest)) h) in
+    record { apart = (is_same-symm e.0 d.0 ∙ first, others.apart) }
 
 -- a loop over the entries of a map: those so far, this one and the rest
-pub record Turn (all so_far : List (Bor Term × ℤ)) (e : Bor Term × ℤ) : Type 0 where
-  pub rest : List (S.Term × ℤ)
-  pub whole : seen all ≡ seen so_far ++ (term_of e.0.now, e.1) ∷ rest
-  pub fresh : Absent (term_of e.0.now) (seen so_far)
+pub record Turn (all so_far : List (TermId × ℤ)) (e : TermId × ℤ) : Type 0 where
+  pub rest : List (TermId × ℤ)
+  pub whole : all ≡ so_far ++ (e.0, e.1) ∷ rest
+  pub fresh : Absent e.0 so_far
 
-module _ (all s t u : List (Bor Term × ℤ)) (ys : List (Bor (Bor Term) × Bor ℤ)) (r : Option (Bor (Bor Term) × Bor ℤ)) (start : s ≡ all) (yielded : Yields (TakesFirst deref_pair) s ys t)
+module _ (all s t u : List (TermId × ℤ)) (ys : List (Bor TermId × Bor ℤ)) (r : Option (Bor TermId × Bor ℤ)) (start : s ≡ all) (yielded : Yields (TakesFirst deref_pair) s ys t)
     (step : TakesFirst deref_pair t r u) where
-  pub turn : (x : Bor (Bor Term) × Bor ℤ) → r ≡ Some x → IsDistinct same (keys_of all) → Turn all (map deref_pair ys) (deref_pair x)
+  pub turn : (x : Bor TermId × Bor ℤ) → r ≡ Some x → IsDistinct is_same (keys_of all) → Turn all (map deref_pair ys) (deref_pair x)
   turn x is distinct =
       let all_is : all ≡ map deref_pair ys ++ deref_pair x ∷ u =
       sym start ∙ rest_so_far deref_pair ys s t yielded ∙ ap (λ l. map deref_pair ys ++ l) (rest_more deref_pair t u r x is step) in
       record {
-        rest = seen u;
-        whole = ap seen all_is ∙ map-append (λ (e : Bor Term × ℤ). (term_of e.0.now, e.1)) (map deref_pair ys) (deref_pair x ∷ u);
-        fresh = absent_before (map deref_pair ys) (deref_pair x) u (subst (λ l. IsDistinct same (keys_of l)) all_is distinct);
+        rest = u;
+        whole = all_is;
+        fresh = absent_before (map deref_pair ys) (deref_pair x) u (subst (λ l. IsDistinct is_same (keys_of l)) all_is distinct);
       }
 
   pub turned : r ≡ None → map deref_pair ys ≡ all
   turned is = (iter_end deref_pair all ys s t u r start yielded is step).0
 
 -- the entries so far and this one
-pub seen-snoc : (ys : List (Bor (Bor Term) × Bor ℤ)) (x : Bor (Bor Term) × Bor ℤ) →
-    seen (map deref_pair (ys ++ x ∷ [])) ≡ seen (map deref_pair ys) ++ (term_of x.0.now.now, x.1.now) ∷ []
-seen-snoc ys x = ap seen (map-append (deref_pair {K = Bor Term} {X = ℤ}) ys (x ∷ [])) ∙ map-append (λ (e : Bor Term × ℤ). (term_of e.0.now, e.1)) (map deref_pair ys) (deref_pair x ∷ [])
+pub one_more_entry : (ys : List (Bor TermId × Bor ℤ)) (x : Bor TermId × Bor ℤ) →
+    (map deref_pair (ys ++ x ∷ [])) ≡ (map deref_pair ys) ++ (x.0.now, x.1.now) ∷ []
+one_more_entry ys x = map-append (deref_pair {K = TermId} {X = ℤ}) ys (x ∷ [])
 
 -- the coefficient of an entry is the one that is found
-pub entry_found : (all so_far : List (Bor Term × ℤ)) (e : Bor Term × ℤ) → Turn all so_far e → coefficient_in (seen all) (term_of e.0.now) ≡ e.1
-entry_found all so_far e here = ap (λ l. coefficient_in l (term_of e.0.now)) here.whole ∙ coefficient_in-middle (seen so_far) (term_of e.0.now) e.1 here.rest here.fresh
+pub entry_found : (all so_far : List (TermId × ℤ)) (e : TermId × ℤ) → Turn all so_far e → coefficient_in all e.0 ≡ e.1
+entry_found all so_far e here = ap (λ l. coefficient_in l e.0) here.whole ∙ coefficient_in-middle so_far e.0 e.1 here.rest here.fresh
 
 -- each coefficient is 0
-pub record Vanishes (es : List (S.Term × ℤ)) : Type 0 where
-  pub zero : (a : S.Term) → coefficient_in es a ≡ pos 0
+pub record Vanishes (es : List (TermId × ℤ)) : Type 0 where
+  pub zero : (a : TermId) → coefficient_in es a ≡ pos 0
 
 pub nothing_there : Vanishes []
 nothing_there = record { zero = λ a. refl }
 
-pub one_more_zero : (es : List (S.Term × ℤ)) (x : S.Term) (n : ℤ) → Absent x es → n ≡ pos 0 → Vanishes es → Vanishes (es ++ (x, n) ∷ [])
+pub one_more_zero : (es : List (TermId × ℤ)) (x : TermId) (n : ℤ) → Absent x es → n ≡ pos 0 → Vanishes es → Vanishes (es ++ (x, n) ∷ [])
 one_more_zero es x n fresh is so_far = record {
   zero = λ a.
       let before = so_far.zero a in

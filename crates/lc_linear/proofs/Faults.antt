@@ -3,10 +3,10 @@ use Rattle.std.proofs.Common.{◌≡◌, sym, ◌∙◌}
 use Rattle.std.specs.Prelude.{ℤ, FitsSigned, Result, Ok, Err, IsErrAnd}
 use Rattle.std.specs.Int.{w128}
 use Rattle.lc_linear.specs.Arithmetic.{GivesNumber}
-use Rattle.lc_linear.specs.Form.{Place, Form}
+use Rattle.lc_linear.specs.Numbered.{Place, Form}
 use Rattle.lc_linear.specs.declared.fault.LinFault.{LinFault}
 use Rattle.lc_linear.specs.declared.fault.LinFault.TheVariants.{Large, OutOfMemory}
-use Rattle.lc_linear.specs.LinForm.{GivesForm}
+use Rattle.lc_linear.specs.LinForm.{Gives, GivesForm}
 use Rattle.lc_linear.specs.declared.form.LinForm.{LinForm}
 
 -- arithmetic that answers Large has no number that fits
@@ -14,15 +14,15 @@ pub too_large : (f : LinFault) (n : ℤ) → GivesNumber (Err f) n → f ≡ Lar
 too_large Large n h is = h
 too_large OutOfMemory n h is = elim h [ ]
 
-pub large_form : (P : Type 0) (f : Form) (e : LinFault) → GivesForm (Err e) P f → e ≡ Large → P → ⊥
-large_form P f Large h is = h
-large_form P f OutOfMemory h is = cc
+pub large_form : (P : Type 0) (Q : LinForm → Type 0) (e : LinFault) → Gives (Err e) P Q → e ≡ Large → P → ⊥
+large_form P Q Large h is = h
+large_form P Q OutOfMemory h is = cc
 
 -- a fault that `?` returns
-pub passed_on : (P : Type 0) (f : Form) (r : Result LinForm LinFault) (met : LinFault) → IsErrAnd r (λ e. e ≡ met) → (met ≡ Large → P → ⊥) → GivesForm r P f
-passed_on P f (Ok form) met h large = elim h [ ]
-passed_on P f (Err Large) met h large = large (sym h)
-passed_on P f (Err OutOfMemory) met h large = tt
+pub passed_on : (P : Type 0) (Q : LinForm → Type 0) (r : Result LinForm LinFault) (met : LinFault) → IsErrAnd r (λ e. e ≡ met) → (met ≡ Large → P → ⊥) → Gives r P Q
+passed_on P Q (Ok form) met h large = elim h [ ]
+passed_on P Q (Err Large) met h large = large (sym h)
+passed_on P Q (Err OutOfMemory) met h large = tt
 
 -- the same answer, said of another fact and of numbers that are the same
 pub GivesForm-map : (P Q : Type 0) (f g : Form) (r : Result LinForm LinFault) → (P → Q) → (Q → P) → ((p : Place) → f p ≡ g p) → GivesForm r P f → GivesForm r Q g

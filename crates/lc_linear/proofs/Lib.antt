@@ -2,6 +2,7 @@ pub mod Numbers
 pub mod Faults
 pub mod Products
 pub mod Weights
+pub mod Ids
 pub mod Entries
 pub mod Multiples
 pub mod Distinct
@@ -13,3 +14,5 @@ pub mod Quotients
 pub mod Meaning
 pub mod Refutes
 pub mod Sameness
+pub mod InTables
+pub mod Made

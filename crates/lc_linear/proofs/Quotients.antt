@@ -1,20 +1,15 @@
 -- Coefficients divided one after another, where they stand.
 use Rattle.std.proofs.Common.{◌≡◌, ℕ, zero, suc, ◌+◌, ◌<◌, ◌≤◌, ◌⊎◌, inl, inr, Bool, true, false, List, [], ◌∷◌, ◌++◌, length, Some, refl, sym, ap, ap₂, subst, ◌∙◌, append_assoc, append-nil, arith}
 use Rattle.std.specs.Prelude.{ℤ, ◌*ℤ◌, FitsSigned, if◌then◌else◌, slice_get}
-use Rattle.std.specs.Borrow.{Bor}
 use Rattle.std.specs.Int.{w128}
 use Rattle.std.specs.List.{IsDistinct}
 use Rattle.std.specs.Map.{keys_of, values_of}
 use Rattle.std.proofs.lemmas.Int.{ints}
-use Rattle.std.proofs.lemmas.List.{length-append, map-append}
+use Rattle.std.proofs.lemmas.List.{length-append}
 use Rattle.indexmap.specs.Layout.{set_value_at}
-use Rattle.lc_term.specs.Syntax as S
-use Rattle.lc_term.specs.Equal.{term_eq}
-use Rattle.lc_term.specs.View.{term_of}
-use Rattle.lc_term.specs.declared.term.Term.{Term}
+use Rattle.lc_term.specs.declared.node.TermId.{TermId}
 use Rattle.lc_linear.proofs.Distinct.{absent_before, coefficient_in-middle}
-use Rattle.lc_linear.proofs.Entries.{same}
-use Rattle.lc_linear.specs.Listed.{coefficient_in, seen, AllFit}
+use Rattle.lc_linear.specs.Numbered.{is_same, coefficient_in, AllFit}
 use Rattle.lc_linear.specs.Quotient.{DividesAt, IsNoMultipleAt}
 
 -- after a write an atom has the number written, or the one that it had
@@ -30,74 +25,74 @@ either_old : (here : Bool) (n k m : ℤ) → ((if here then n else m) ≡ n) ⊎
 either_old true n k m = inl refl
 either_old false n k m = inr refl
 
-coefficient_in-set_value_at : (es : List (Bor Term × ℤ)) (i : ℕ) (n : ℤ) (a : S.Term) →
-    (coefficient_in (seen (set_value_at es i n)) a ≡ n) ⊎ (coefficient_in (seen (set_value_at es i n)) a ≡ coefficient_in (seen es) a)
+coefficient_in-set_value_at : (es : List (TermId × ℤ)) (i : ℕ) (n : ℤ) (a : TermId) →
+    (coefficient_in (set_value_at es i n) a ≡ n) ⊎ (coefficient_in (set_value_at es i n) a ≡ coefficient_in es a)
 coefficient_in-set_value_at [] i n a = inr refl
-coefficient_in-set_value_at (e ∷ es) zero n a = either_old (term_eq a (term_of e.0.now)) n e.1 (coefficient_in (seen es) a)
-coefficient_in-set_value_at (e ∷ es) (suc i) n a = behind (term_eq a (term_of e.0.now)) n _ e.1 (coefficient_in (seen es) a) (coefficient_in-set_value_at es i n a)
+coefficient_in-set_value_at (e ∷ es) zero n a = either_old (is_same a e.0) n e.1 (coefficient_in es a)
+coefficient_in-set_value_at (e ∷ es) (suc i) n a = behind (is_same a e.0) n _ e.1 (coefficient_in es a) (coefficient_in-set_value_at es i n a)
 
-pub AllFit-set_value_at : (es : List (Bor Term × ℤ)) (i : ℕ) (n : ℤ) → FitsSigned w128 n → AllFit es → AllFit (set_value_at es i n)
+pub AllFit-set_value_at : (es : List (TermId × ℤ)) (i : ℕ) (n : ℤ) → FitsSigned w128 n → AllFit es → AllFit (set_value_at es i n)
 AllFit-set_value_at es i n f fits a = elim (coefficient_in-set_value_at es i n a) [
   | inl is ↦ subst (FitsSigned w128) (sym is) f
   | inr is ↦ subst (FitsSigned w128) (sym is) (fits a)
 ]
 
-pub length-set_value_at : (es : List (Bor Term × ℤ)) (i : ℕ) (n : ℤ) → length (set_value_at es i n) ≡ length es
+pub length-set_value_at : (es : List (TermId × ℤ)) (i : ℕ) (n : ℤ) → length (set_value_at es i n) ≡ length es
 length-set_value_at [] i n = refl
 length-set_value_at (e ∷ es) zero n = refl
 length-set_value_at (e ∷ es) (suc i) n = ap suc (length-set_value_at es i n)
 
 -- the same atoms, with coefficients k times as small
-abbrev pub AreQuotients : ℤ → List (Bor Term × ℤ) → List (Bor Term × ℤ) → Type 0
+abbrev pub AreQuotients : ℤ → List (TermId × ℤ) → List (TermId × ℤ) → Type 0
 AreQuotients k [] [] = Unit {0}
 AreQuotients k (e ∷ es) (d ∷ ds) = (d.0 ≡ e.0) × (e.1 ≡ k *ℤ d.1) × AreQuotients k es ds
 AreQuotients k _ _ = ⊥
 
 -- of the coefficients `old` those of the first i entries have been divided
-pub record DividedSoFar (k : ℤ) (old now : List (Bor Term × ℤ)) (i : ℕ) : Type 0 where
-  pub before : List (Bor Term × ℤ)
-  pub front : List (Bor Term × ℤ)
-  pub rest : List (Bor Term × ℤ)
+pub record DividedSoFar (k : ℤ) (old now : List (TermId × ℤ)) (i : ℕ) : Type 0 where
+  pub before : List (TermId × ℤ)
+  pub front : List (TermId × ℤ)
+  pub rest : List (TermId × ℤ)
   pub old_is : old ≡ before ++ rest
   pub now_is : now ≡ front ++ rest
   pub quotients : AreQuotients k before front
   pub count : length front ≡ i
 
-pub nothing_divided : (k : ℤ) (es : List (Bor Term × ℤ)) → DividedSoFar k es es 0
+pub nothing_divided : (k : ℤ) (es : List (TermId × ℤ)) → DividedSoFar k es es 0
 nothing_divided k es = record { before = []; front = []; rest = es; old_is = refl; now_is = refl; quotients = tt; count = refl }
 
 scaled_if : (here : Bool) (k m n p q : ℤ) → m ≡ k *ℤ n → p ≡ k *ℤ q → (if here then m else p) ≡ k *ℤ (if here then n else q)
 scaled_if true k m n p q first second = first
 scaled_if false k m n p q first second = second
 
-pub coefficient_in-quotients : (k : ℤ) (es ds : List (Bor Term × ℤ)) → AreQuotients k es ds → (a : S.Term) → coefficient_in (seen es) a ≡ k *ℤ coefficient_in (seen ds) a
+pub coefficient_in-quotients : (k : ℤ) (es ds : List (TermId × ℤ)) → AreQuotients k es ds → (a : TermId) → coefficient_in es a ≡ k *ℤ coefficient_in ds a
 coefficient_in-quotients k [] [] h a = omega (arith, ints)
 coefficient_in-quotients k [] (d ∷ ds) h a = absurd h
 coefficient_in-quotients k (e ∷ es) [] h a = absurd h
 coefficient_in-quotients k (e ∷ es) (d ∷ ds) h a =
-    scaled_if (term_eq a (term_of e.0.now)) k e.1 d.1 _ (coefficient_in (seen ds) a) h.1 (coefficient_in-quotients k es ds h.2 a) ∙
-    ap (λ x. k *ℤ (if term_eq a (term_of x.now) then d.1 else coefficient_in (seen ds) a)) (sym h.0)
+    scaled_if (is_same a e.0) k e.1 d.1 _ (coefficient_in ds a) h.1 (coefficient_in-quotients k es ds h.2 a) ∙
+    ap (λ x. k *ℤ (if is_same a x then d.1 else coefficient_in ds a)) (sym h.0)
 
-AreQuotients-snoc : (k : ℤ) (es ds : List (Bor Term × ℤ)) (x : Bor Term) (c n : ℤ) → AreQuotients k es ds → c ≡ k *ℤ n → AreQuotients k (es ++ (x, c) ∷ []) (ds ++ (x, n) ∷ [])
+AreQuotients-snoc : (k : ℤ) (es ds : List (TermId × ℤ)) (x : TermId) (c n : ℤ) → AreQuotients k es ds → c ≡ k *ℤ n → AreQuotients k (es ++ (x, c) ∷ []) (ds ++ (x, n) ∷ [])
 AreQuotients-snoc k [] [] x c n h is = (refl, is, tt)
 AreQuotients-snoc k [] (d ∷ ds) x c n h is = absurd h
 AreQuotients-snoc k (e ∷ es) [] x c n h is = absurd h
 AreQuotients-snoc k (e ∷ es) (d ∷ ds) x c n h is = (h.0, h.1, AreQuotients-snoc k es ds x c n h.2 is)
 
-set_value_at-middle : (ds rest : List (Bor Term × ℤ)) (x : Bor Term) (c n : ℤ) → set_value_at (ds ++ (x, c) ∷ rest) (length ds) n ≡ ds ++ (x, n) ∷ rest
+set_value_at-middle : (ds rest : List (TermId × ℤ)) (x : TermId) (c n : ℤ) → set_value_at (ds ++ (x, c) ∷ rest) (length ds) n ≡ ds ++ (x, n) ∷ rest
 set_value_at-middle [] rest x c n = refl
 set_value_at-middle (d ∷ ds) rest x c n = ap (λ l. d ∷ l) (set_value_at-middle ds rest x c n)
 
-value-middle : (ds rest : List (Bor Term × ℤ)) (x : Bor Term) (c : ℤ) → slice_get (values_of (ds ++ (x, c) ∷ rest)) (length ds) ≡ Some c
+value-middle : (ds rest : List (TermId × ℤ)) (x : TermId) (c : ℤ) → slice_get (values_of (ds ++ (x, c) ∷ rest)) (length ds) ≡ Some c
 value-middle [] rest x c = refl
 value-middle (d ∷ ds) rest x c = value-middle ds rest x c
 
 -- the next entry, and those behind it
-pub record NextEntry (k : ℤ) (old now : List (Bor Term × ℤ)) (i : ℕ) (coefficient : ℤ) : Type 0 where
-  pub before : List (Bor Term × ℤ)
-  pub front : List (Bor Term × ℤ)
-  pub atom : Bor Term
-  pub rest : List (Bor Term × ℤ)
+pub record NextEntry (k : ℤ) (old now : List (TermId × ℤ)) (i : ℕ) (coefficient : ℤ) : Type 0 where
+  pub before : List (TermId × ℤ)
+  pub front : List (TermId × ℤ)
+  pub atom : TermId
+  pub rest : List (TermId × ℤ)
   pub old_is : old ≡ before ++ (atom, coefficient) ∷ rest
   pub now_is : now ≡ front ++ (atom, coefficient) ∷ rest
   pub quotients : AreQuotients k before front
@@ -106,7 +101,7 @@ pub record NextEntry (k : ℤ) (old now : List (Bor Term × ℤ)) (i : ℕ) (coe
 inside : (a b : ℤ) → Some a ≡ Some b → a ≡ b
 inside a b is = cc
 
-next_of : (k : ℤ) (old now before front rest : List (Bor Term × ℤ)) (i : ℕ) (c : ℤ) → old ≡ before ++ rest → now ≡ front ++ rest → AreQuotients k before front → length front ≡ i →
+next_of : (k : ℤ) (old now before front rest : List (TermId × ℤ)) (i : ℕ) (c : ℤ) → old ≡ before ++ rest → now ≡ front ++ rest → AreQuotients k before front → length front ≡ i →
     i < length now → slice_get (values_of now) i ≡ Some c → NextEntry k old now i c
 next_of k old now before front [] i c old_is now_is quotients count within stands =
     let size = ap length now_is ∙ length-append front [] in
@@ -124,12 +119,12 @@ next_of k old now before front (e ∷ rest) i c old_is now_is quotients count wi
       count = count;
     }
 
-next : (k : ℤ) (old now : List (Bor Term × ℤ)) (i : ℕ) (c : ℤ) → DividedSoFar k old now i → i < length now → slice_get (values_of now) i ≡ Some c → NextEntry k old now i c
+next : (k : ℤ) (old now : List (TermId × ℤ)) (i : ℕ) (c : ℤ) → DividedSoFar k old now i → i < length now → slice_get (values_of now) i ≡ Some c → NextEntry k old now i c
 next k old now i c so_far within stands =
     next_of k old now so_far.before so_far.front so_far.rest i c so_far.old_is so_far.now_is so_far.quotients so_far.count within stands
 
 -- the next entry divided
-pub one_more_divided : (k : ℤ) (old now new : List (Bor Term × ℤ)) (i : ℕ) → DividedSoFar k old now i → i < length now → DividesAt k i now new → DividedSoFar k old new (i + 1)
+pub one_more_divided : (k : ℤ) (old now new : List (TermId × ℤ)) (i : ℕ) → DividedSoFar k old now i → i < length now → DividesAt k i now new → DividedSoFar k old new (i + 1)
 one_more_divided k old now new i so_far within here =
     let e = next k old now i here.coefficient so_far within here.stands in
     record {
@@ -144,25 +139,25 @@ one_more_divided k old now new i so_far within here =
     }
 
 -- the next entry refused: the form has a coefficient that is no multiple
-pub refused_here : (k : ℤ) (old now : List (Bor Term × ℤ)) (i : ℕ) → DividedSoFar k old now i → i < length now → IsDistinct same (keys_of old) → IsNoMultipleAt k i now →
-    (a : S.Term) × ((n : ℤ) → coefficient_in (seen old) a ≡ k *ℤ n → ⊥)
+pub refused_here : (k : ℤ) (old now : List (TermId × ℤ)) (i : ℕ) → DividedSoFar k old now i → i < length now → IsDistinct is_same (keys_of old) → IsNoMultipleAt k i now →
+    (a : TermId) × ((n : ℤ) → coefficient_in old a ≡ k *ℤ n → ⊥)
 refused_here k old now i so_far within distinct here =
     let e = next k old now i here.coefficient so_far within here.stands in
-    let x = term_of e.atom.now in
-    let fresh = absent_before e.before (e.atom, here.coefficient) e.rest (subst (λ l. IsDistinct same (keys_of l)) e.old_is distinct) in
-    let found : coefficient_in (seen old) x ≡ here.coefficient =
-    ap (λ l. coefficient_in l x) (ap seen e.old_is ∙ map-append (λ (d : Bor Term × ℤ). (term_of d.0.now, d.1)) e.before ((e.atom, here.coefficient) ∷ e.rest)) ∙
-    coefficient_in-middle (seen e.before) x here.coefficient (seen e.rest) fresh in
+    let x = e.atom in
+    let fresh = absent_before e.before (e.atom, here.coefficient) e.rest (subst (λ l. IsDistinct is_same (keys_of l)) e.old_is distinct) in
+    let found : coefficient_in old x ≡ here.coefficient =
+    ap (λ l. coefficient_in l x) e.old_is ∙
+    coefficient_in-middle e.before x here.coefficient e.rest fresh in
     (x, λ n is. here.none n (sym found ∙ is))
 
-no_rest : (rest : List (Bor Term × ℤ)) (n m : ℕ) → n ≡ m + length rest → n ≤ m → rest ≡ []
+no_rest : (rest : List (TermId × ℤ)) (n m : ℕ) → n ≡ m + length rest → n ≤ m → rest ≡ []
 no_rest [] n m is past = refl
 no_rest (e ∷ rest) n m is past = absurd (omega arith)
 
-pub all_divided : (k : ℤ) (old now : List (Bor Term × ℤ)) (i : ℕ) → DividedSoFar k old now i → length now ≤ i → (a : S.Term) → coefficient_in (seen old) a ≡ k *ℤ coefficient_in (seen now) a
+pub all_divided : (k : ℤ) (old now : List (TermId × ℤ)) (i : ℕ) → DividedSoFar k old now i → length now ≤ i → (a : TermId) → coefficient_in old a ≡ k *ℤ coefficient_in now a
 all_divided k old now i so_far past a =
     let none = no_rest so_far.rest (length now) i (ap length so_far.now_is ∙ length-append so_far.front so_far.rest ∙ ap (λ n. n + length so_far.rest) so_far.count) past in
     let old_is = so_far.old_is ∙ ap (λ l. so_far.before ++ l) none ∙ append-nil so_far.before in
     let now_is = so_far.now_is ∙ ap (λ l. so_far.front ++ l) none ∙ append-nil so_far.front in
-    ap (λ l. coefficient_in (seen l) a) old_is ∙ coefficient_in-quotients k so_far.before so_far.front so_far.quotients a ∙
-    ap (λ l. k *ℤ coefficient_in (seen l) a) (sym now_is)
+    ap (λ l. coefficient_in l a) old_is ∙ coefficient_in-quotients k so_far.before so_far.front so_far.quotients a ∙
+    ap (λ l. k *ℤ coefficient_in l a) (sym now_is)

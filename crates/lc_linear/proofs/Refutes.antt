@@ -1,5 +1,5 @@
 -- Lists that close cannot hold, and what follows from an inequality holds with it.
-use Rattle.std.proofs.Common.{◌≡◌, true, Some, None, List, [], ◌∷◌, sym, ap, subst, ◌∙◌, arith}
+use Rattle.std.proofs.Common.{◌≡◌, true, Option, Some, None, List, [], ◌∷◌, sym, ap, subst, ◌∙◌, arith}
 use Rattle.std.specs.Prelude.{ℤ, pos, ◌+ℤ◌, ◌-ℤ◌, ◌*ℤ◌, ◌≤ℤ◌, ◌<ℤ◌}
 use Rattle.std.specs.List.{AllByRecursion}
 use Rattle.std.proofs.lemmas.Bool.{false≢true, and_parts}
@@ -19,11 +19,11 @@ IsRoundedUp-positive d k n h =
     let least = h.least in
     omega (arith, ints)
 
-IsDivided-positive : (f : Form) (k : ℤ) (g : Form) → IsDivided f k g → pos 1 ≤ℤ k
+IsDivided-positive : {Atom : Type 0} (f : Option Atom → ℤ) (k : ℤ) (g : Option Atom → ℤ) → IsDivided f k g → pos 1 ≤ℤ k
 IsDivided-positive f k g d = IsRoundedUp-positive (f None) k (g None) d.constant
 
 -- a form that has a quotient by k can be divided by k
-pub IsDivided-Divides : (f : Form) (k : ℤ) (g : Form) → IsDivided f k g → Divides k f
+pub IsDivided-Divides : {Atom : Type 0} (f : Option Atom → ℤ) (k : ℤ) (g : Option Atom → ℤ) → IsDivided f k g → Divides k f
 IsDivided-Divides f k g d = record { positive = IsDivided-positive f k g d; multiples = λ a. (g (Some a), d.coefficients a) }
 
 -- equal products by the same number above 0 have equal factors
@@ -36,7 +36,7 @@ same_factor k a b positive low high =
     omega (arith, ints)
 
 -- and then it is the only one
-pub IsDivided-unique : (f : Form) (k : ℤ) (g h : Form) → IsDivided f k g → IsDivided f k h → (p : Place) → g p ≡ h p
+pub IsDivided-unique : {Atom : Type 0} (f : Option Atom → ℤ) (k : ℤ) (g h : Option Atom → ℤ) → IsDivided f k g → IsDivided f k h → (p : Option Atom) → g p ≡ h p
 IsDivided-unique f k g h d d' None =
     let low = d.constant.reaches in
     let high = d.constant.least in
@@ -50,7 +50,7 @@ IsDivided-unique f k g h d d' (Some a) =
     same_factor k (g (Some a)) (h (Some a)) positive (omega (arith, ints)) (omega (arith, ints))
 
 -- forms with the same numbers
-pub IsDivided-same : (f f' : Form) (k : ℤ) (g g' : Form) → ((p : Place) → f p ≡ f' p) → ((p : Place) → g p ≡ g' p) → IsDivided f k g → IsDivided f' k g'
+pub IsDivided-same : {Atom : Type 0} (f f' : Option Atom → ℤ) (k : ℤ) (g g' : Option Atom → ℤ) → ((p : Option Atom) → f p ≡ f' p) → ((p : Option Atom) → g p ≡ g' p) → IsDivided f k g → IsDivided f' k g'
 IsDivided-same f f' k g g' is is' d = record {
   coefficients = λ a. sym (is (Some a)) ∙ d.coefficients a ∙ ap (λ n. k *ℤ n) (is' (Some a));
   constant = subst (λ n. IsRoundedUp n k (g' None)) (is None) (subst (IsRoundedUp (f None) k) (is' None) d.constant);

@@ -1,7 +1,6 @@
 -- Sums of entries, one entry after another.
-use Rattle.std.proofs.Common.{◌≡◌, ℕ, ◌+◌, ◌<◌, ◌⊎◌, inl, inr, List, [], ◌∷◌, ◌++◌, length, take, drop, get_or, refl, sym, ap, ap₂, subst, ◌∙◌, rules, Bool, false, Some, None, arith}
+use Rattle.std.proofs.Common.{◌≡◌, ℕ, zero, suc, ◌+◌, ◌<◌, List, [], ◌∷◌, ◌++◌, length, take, drop, get_or, refl, sym, ap, ap₂, subst, ◌∙◌, rules, Bool, false, Some, None, arith}
 use Rattle.std.specs.Prelude.{ℤ, pos, ◌+ℤ◌, ◌*ℤ◌, ◌<ℤ◌, FitsSigned, IsTrue, ◌↔◌}
-use Rattle.std.specs.Borrow.{Bor}
 use Rattle.std.specs.Int.{w128}
 use Rattle.std.proofs.lemmas.Bool.{false≢true}
 use Rattle.std.proofs.lemmas.Int.{ints}
@@ -9,47 +8,35 @@ use lib.Signed.{lt_z}
 use Rattle.std.proofs.lemmas.List.{map_more, map-append, take-append-drop}
 use Rattle.lc_term.specs.Syntax as S
 use Rattle.lc_term.specs.Syntax.{Add, Subtract, Multiply}
-use Rattle.lc_term.specs.View.{term_of, formula_of}
-use Rattle.lc_term.specs.declared.formula.Formula.{Formula}
-use Rattle.lc_term.specs.declared.formula.Formula.{Le, Eq, the_lemmas}
-use Rattle.lc_term.specs.declared.term.Term.{Term}
+use Rattle.lc_term.specs.NodeTables.{Table}
+use Rattle.lc_term.specs.Tables.{formula_in, IsFormula}
+use Rattle.lc_term.specs.declared.node.FormulaId.{FormulaId}
 use Rattle.lc_linear.specs.Arithmetic.{CanAddScaled, added_scaled}
-use Rattle.lc_linear.specs.Closing.{Entry, gap, combined_from, combined, entries_of, are_allowed, Closes}
+use Rattle.lc_linear.specs.Closing.{Entry, gap, combined_from, combined, entries_in, AreEntries, are_allowed, Closes}
 use Rattle.lc_linear.specs.Form.{Place, Form, form_of, HasForm}
-
-formula_of-Le : (l r : Term) → formula_of (Le l r) ≡ S.Le (term_of l) (term_of r)
-formula_of-Le l r = search (rules, the_lemmas)
-
-formula_of-Eq : (l r : Term) → formula_of (Eq l r) ≡ S.Eq (term_of l) (term_of r)
-formula_of-Eq l r = search (rules, the_lemmas)
-
--- the gap of a comparison
-pub gap-comparison : (f : Formula) (l r : Term) → (f ≡ Le l r) ⊎ (f ≡ Eq l r) → gap (formula_of f) ≡ Subtract (term_of l) (term_of r)
-gap-comparison f l r (inl is) = ap (λ g. gap (formula_of g)) is ∙ ap gap (formula_of-Le l r)
-gap-comparison f l r (inr is) = ap (λ g. gap (formula_of g)) is ∙ ap gap (formula_of-Eq l r)
 
 combined_from-append : (t : S.Term) (xs ys : List Entry) → combined_from t (xs ++ ys) ≡ combined_from (combined_from t xs) ys
 combined_from-append t [] ys = refl
 combined_from-append t (x ∷ xs) ys = combined_from-append (Add t (Multiply x.1 (gap x.0))) xs ys
 
 -- one more entry
-pub combined-more : (es : List (Bor Formula × ℤ)) (i : ℕ) (e : Bor Formula × ℤ) → i < length es → e ≡ get_or es i e →
-    combined (entries_of (take (i + 1) es)) ≡ Add (combined (entries_of (take i es))) (Multiply e.1 (gap (formula_of e.0.now)))
-combined-more es i e h is =
-    ap combined (map_more (λ (x : Bor Formula × ℤ). (formula_of x.0.now, x.1)) es i e h) ∙
-    combined_from-append _ (entries_of (take i es)) ((formula_of (get_or es i e).0.now, (get_or es i e).1) ∷ []) ∙
-    ap (λ (x : Bor Formula × ℤ). Add (combined (entries_of (take i es))) (Multiply x.1 (gap (formula_of x.0.now)))) (sym is)
+pub combined-more : (ts : Table) (es : List (FormulaId × ℤ)) (i : ℕ) (e : FormulaId × ℤ) → i < length es → e ≡ get_or es i e →
+    combined (entries_in ts (take (i + 1) es)) ≡ Add (combined (entries_in ts (take i es))) (Multiply e.1 (gap (formula_in ts e.0)))
+combined-more ts es i e h is =
+    ap combined (map_more (λ (x : FormulaId × ℤ). (formula_in ts x.0, x.1)) es i e h) ∙
+    combined_from-append _ (entries_in ts (take i es)) ((formula_in ts (get_or es i e).0, (get_or es i e).1) ∷ []) ∙
+    ap (λ (x : FormulaId × ℤ). Add (combined (entries_in ts (take i es))) (Multiply x.1 (gap (formula_in ts x.0)))) (sym is)
 
 -- where the form of a whole sum can be made, so can that of each sum on the way
 HasForm-start : (t : S.Term) (es : List Entry) → HasForm (combined_from t es) → HasForm t
 HasForm-start t [] h = h
 HasForm-start t (e ∷ es) h = (HasForm-start (Add t (Multiply e.1 (gap e.0))) es h).0
 
-pub HasForm-prefix : (es : List (Bor Formula × ℤ)) (i : ℕ) → HasForm (combined (entries_of es)) → HasForm (combined (entries_of (take i es)))
-HasForm-prefix es i h =
-    let parts : entries_of es ≡ entries_of (take i es) ++ entries_of (drop i es) =
-    ap entries_of (sym (take-append-drop i es)) ∙ map-append (λ (x : Bor Formula × ℤ). (formula_of x.0.now, x.1)) (take i es) (drop i es) in
-    HasForm-start _ (entries_of (drop i es)) (subst HasForm (ap combined parts ∙ combined_from-append _ (entries_of (take i es)) (entries_of (drop i es))) h)
+pub HasForm-prefix : (ts : Table) (es : List (FormulaId × ℤ)) (i : ℕ) → HasForm (combined (entries_in ts es)) → HasForm (combined (entries_in ts (take i es)))
+HasForm-prefix ts es i h =
+    let parts : entries_in ts es ≡ entries_in ts (take i es) ++ entries_in ts (drop i es) =
+    ap (entries_in ts) (sym (take-append-drop i es)) ∙ map-append (λ (x : FormulaId × ℤ). (formula_in ts x.0, x.1)) (take i es) (drop i es) in
+    HasForm-start _ (entries_in ts (drop i es)) (subst HasForm (ap combined parts ∙ combined_from-append _ (entries_in ts (take i es)) (entries_in ts (drop i es))) h)
 
 -- one turn of a loop over the entries: `whole` is the sum with this entry, `so_far` that without it
 module _ (whole so_far g : S.Term) (k k' : ℤ) (is : whole ≡ Add so_far (Multiply k g)) (is_k : k' ≡ k) (f h : Form) (sum : (p : Place) → f p ≡ form_of so_far p) (form : (p : Place) → h p ≡ form_of g p) where
@@ -88,3 +75,15 @@ module _ (es : List Entry) (sum : Form) (is : (p : Place) → sum p ≡ form_of 
 
   pub open_answer : closed ≡ false → (((a : S.Term) → sum (Some a) ≡ pos 0) → ⊥) → IsTrue closed ↔ Closes es
   open_answer shut some = (λ h. absurd (false≢true (sym shut ∙ h)), λ h. absurd (some (λ a. is (Some a) ∙ h.vanishes a)))
+
+-- each entry is one of a formula
+pub entry_there : (ts : Table) (es : List (FormulaId × ℤ)) (i : ℕ) (e : FormulaId × ℤ) → AreEntries ts es → i < length es → e ≡ get_or es i e → IsFormula ts e.0
+entry_there ts [] i e are h is = absurd (omega arith)
+entry_there ts (x ∷ es) zero e are h is = subst (λ y. IsFormula ts y.0) (sym is) are.0
+entry_there ts (x ∷ es) (suc i) e are h is = entry_there ts es i e are.1 (omega arith) is
+
+-- an item that is there, whatever else would be answered
+pub get_or-any : {T : Type 0} (es : List T) (i : ℕ) (d e : T) → i < length es → get_or es i d ≡ get_or es i e
+get_or-any [] i d e h = absurd (omega arith)
+get_or-any (x ∷ es) zero d e h = refl
+get_or-any (x ∷ es) (suc i) d e h = get_or-any es i d e (omega arith)

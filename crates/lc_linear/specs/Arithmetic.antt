@@ -1,7 +1,6 @@
 -- Arithmetic in 128 bits, of numbers and of forms, number by number.
 use Rattle.std.specs.Prelude.{◌≡◌, ℤ, ◌+ℤ◌, ◌-ℤ◌, ◌*ℤ◌, FitsSigned, Result, Ok, Err}
 use Rattle.std.specs.Int.{w128}
-use Rattle.lc_linear.specs.Form.{Place, Form}
 use Rattle.lc_linear.specs.declared.fault.LinFault.{LinFault}
 use Rattle.lc_linear.specs.declared.fault.LinFault.TheVariants.{Large, OutOfMemory}
 
@@ -12,25 +11,25 @@ GivesNumber (Err Large) n = FitsSigned w128 n → ⊥
 GivesNumber (Err OutOfMemory) n = ⊥
 
 -- the sum of two forms
-abbrev pub added : Form → Form → Form
+abbrev pub added : {Place : Type 0} → (Place → ℤ) → (Place → ℤ) → Place → ℤ
 added f g p = f p +ℤ g p
 
 -- each sum fits 128 bits
-abbrev pub CanAdd : Form → Form → Type 0
-CanAdd f g = (p : Place) → FitsSigned w128 (f p +ℤ g p)
+abbrev pub CanAdd : {Place : Type 0} → (Place → ℤ) → (Place → ℤ) → Type 0
+CanAdd {Place} f g = (p : Place) → FitsSigned w128 (f p +ℤ g p)
 
 -- a form with k times another one added
-abbrev pub added_scaled : Form → ℤ → Form → Form
+abbrev pub added_scaled : {Place : Type 0} → (Place → ℤ) → ℤ → (Place → ℤ) → Place → ℤ
 added_scaled f k g p = f p +ℤ k *ℤ g p
 
 -- each product and each sum fits 128 bits
-abbrev pub CanAddScaled : Form → ℤ → Form → Type 0
-CanAddScaled f k g = (p : Place) → FitsSigned w128 (k *ℤ g p) × FitsSigned w128 (f p +ℤ k *ℤ g p)
+abbrev pub CanAddScaled : {Place : Type 0} → (Place → ℤ) → ℤ → (Place → ℤ) → Type 0
+CanAddScaled {Place} f k g = (p : Place) → FitsSigned w128 (k *ℤ g p) × FitsSigned w128 (f p +ℤ k *ℤ g p)
 
 -- the difference of two forms
-abbrev pub subtracted : Form → Form → Form
+abbrev pub subtracted : {Place : Type 0} → (Place → ℤ) → (Place → ℤ) → Place → ℤ
 subtracted f g p = f p -ℤ g p
 
 -- each difference fits 128 bits
-abbrev pub CanSubtract : Form → Form → Type 0
-CanSubtract f g = (p : Place) → FitsSigned w128 (f p -ℤ g p)
+abbrev pub CanSubtract : {Place : Type 0} → (Place → ℤ) → (Place → ℤ) → Type 0
+CanSubtract {Place} f g = (p : Place) → FitsSigned w128 (f p -ℤ g p)

@@ -1,20 +1,23 @@
 -- Lists of comparisons that contradict each other.
 use Rattle.std.specs.Prelude.{◌≡◌, Bool, true, false, IsTrue, Some, None, ℤ, pos, ◌<ℤ◌, int_le, List, [], ◌∷◌, map}
-use Rattle.std.specs.Borrow.{Bor}
-use Rattle.std.specs.List.{list_all}
+use Rattle.std.specs.List.{list_all, AllByRecursion}
+use Rattle.lc_term.specs.NodeTables.{Table}
 use Rattle.lc_term.specs.Syntax as S
 use Rattle.lc_term.specs.Syntax.{Term, Number, Add, Subtract, Multiply, Le, Eq}
-use Rattle.lc_term.specs.View.{formula_of}
-use Rattle.lc_term.specs.declared.formula.Formula.{Formula}
+use Rattle.lc_term.specs.Tables.{formula_in, IsFormula}
+use Rattle.lc_term.specs.declared.node.FormulaId.{FormulaId}
 use Rattle.lc_linear.specs.Form.{form_of, HasForm}
 
 -- a formula with its multiplier
 abbrev pub Entry : Type 0
 Entry = S.Formula × ℤ
 
--- the entries of the code
-abbrev pub entries_of : List (Bor Formula × ℤ) → List Entry
-entries_of es = map (λ e. (formula_of e.0.now, e.1)) es
+-- the entries of the code, formulas being read in a table, where all of them are
+abbrev pub entries_in : Table → List (FormulaId × ℤ) → List Entry
+entries_in ts es = map (λ e. (formula_in ts e.0, e.1)) es
+
+abbrev pub AreEntries : Table → List (FormulaId × ℤ) → Type 0
+AreEntries ts es = AllByRecursion (λ e. IsFormula ts e.0) es
 
 -- the first side of a comparison less the second; nothing for other formulas
 abbrev pub gap : S.Formula → Term

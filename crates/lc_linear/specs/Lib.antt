@@ -1,5 +1,6 @@
 pub mod Form
 pub mod Listed
+pub mod Numbered
 pub mod LinForm
 pub mod Arithmetic
 pub mod Divided

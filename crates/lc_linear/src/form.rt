@@ -1,24 +1,24 @@
-ghost use Rattle.lc_linear.specs.Listed.{AllFit};
+ghost use Rattle.lc_linear.specs.Numbered.{AllFit};
 
 mod arithmetic;
 mod comparison;
 mod quotient;
 
 use indexmap::IndexMap;
-use lc_term::Term;
+use lc_term::TermId;
 use std::alloc::Global;
 
-/// A linear form: a constant, and a coefficient for each of its atoms. The atoms are variables and reads that stand
-/// in the terms that the form was made of.
+/// A linear form: a constant, and a coefficient for each of its atoms. The atoms are numbers of terms in a table, of
+/// variables and reads that stand in the terms that the form was made of.
 #[derive(Debug)]
-pub struct LinForm<'a> {
+pub struct LinForm {
     constant: i128,
-    coefficients: IndexMap<&'a Term, i128>,
+    coefficients: IndexMap<TermId, i128>,
     ghost fits: { AllFit coefficients.entries },
 }
 
 // Written out and not derived, so that a place where a form is let go has one call.
-impl Drop for LinForm<'_> {
+impl Drop for LinForm {
     fn drop(self) {
         let LinForm {
             constant: _,
@@ -27,15 +27,14 @@ impl Drop for LinForm<'_> {
     }
 }
 
-impl<'a> LinForm<'a> {
+impl LinForm {
     ghost use Rattle.std.specs.Prelude.{◌≡◌, Some, None, pos, IsTrue, ◌↔◌};
-    ghost use Rattle.lc_term.specs.Syntax as S;
-    ghost use Rattle.lc_term.specs.View.{term_of};
-    ghost use Rattle.lc_linear.specs.Form.{number_form};
+    ghost use Rattle.lc_term.specs.declared.node.TermId.{TermId};
+    ghost use Rattle.lc_linear.specs.Numbered.{number_form};
     ghost use Rattle.lc_linear.specs.LinForm.{numbers, HasNumbers};
 
     /// The form that is 0.
-    pub fn zero(alloc: Global) -> LinForm<'a>
+    pub fn zero(alloc: Global) -> LinForm
         ensures { HasNumbers result (number_form (pos 0)) }
     {
         LinForm {
@@ -52,15 +51,15 @@ impl<'a> LinForm<'a> {
     }
 
     /// Its coefficient of an atom, 0 where there is none.
-    pub fn coefficient(&self, atom: &Term) -> i128
-        ensures { result ≡ numbers self.now (Some (term_of atom.now)) }
+    pub fn coefficient(&self, atom: TermId) -> i128
+        ensures { result ≡ numbers self.now (Some atom) }
     {
         self.coefficients.get(&atom).copied().unwrap_or(0)
     }
 
     /// Whether all its coefficients are 0.
     pub fn is_constant(&self) -> bool
-        ensures { IsTrue result ↔ ((a : S.Term) → numbers self.now (Some a) ≡ pos 0) }
+        ensures { IsTrue result ↔ ((a : TermId) → numbers self.now (Some a) ≡ pos 0) }
     {
         for (_, coefficient) in self.coefficients.iter() {
             if *coefficient != 0 {

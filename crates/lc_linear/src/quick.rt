@@ -5,39 +5,43 @@
 //! to one form, as often as the factors around it say. Where it does not, as in a number of 64 bits multiplied by two
 //! others, the form is made part by part (`exact`), which alone finds out whether a number leaves 128 bits, in time up
 //! to the size of the term times its depth.
-ghost use Rattle.std.specs.Prelude.{◌≡◌, ◌+ℤ◌, ◌*ℤ◌, ◌^◌, ◌<◌, IsTrue, IfSome, IsSomeAnd, IfOk, OnOk};
+ghost use Rattle.std.specs.Prelude.{◌≡◌, ◌*ℤ◌, ◌^◌, ◌<◌, IsTrue, IfSome, IsSomeAnd, IfOk, OnOk};
 ghost use Rattle.lc_term.specs.Syntax as S;
-ghost use Rattle.lc_term.specs.View.{term_of};
+ghost use Rattle.lc_term.specs.Tables.{term_in, IsTerm};
 ghost use Rattle.lc_linear.specs.Form.{form_of};
-ghost use Rattle.lc_linear.specs.LinForm.{numbers, HasNumbers};
+ghost use Rattle.lc_linear.specs.LinForm.{IsFormIn, AddsIn};
 ghost use Rattle.lc_linear.specs.Weight.{weight};
 
 use crate::number::{difference, product};
 use crate::{LinFault, LinForm};
-use lc_term::Term;
+use lc_term::{TermId, TermNode, Terms, numbers_are_exact};
 use std::alloc::Global;
 
 // A bound of all numbers of the form and of the forms of its parts; none where the bound leaves 128 bits.
-pub(crate) fn weight(term: &Term) -> Option<u128>
-    ensures { IfSome result (λ w. w ≡ weight (term_of term.now)) }
+pub(crate) fn weight(terms: &Terms, term: TermId) -> Option<u128>
+    requires { IsTerm terms.now term }
+    ensures { IfSome result (λ w. w ≡ weight (term_in terms.now term)) }
 {
-    match term {
-        Term::Number(number) => Some(u128::from(number.unsigned_abs())),
-        Term::Variable(_) | Term::Bound(_) | Term::Read(_, _) => Some(1),
-        Term::Add(left, right) | Term::Subtract(left, right) => {
-            weight(left)?.checked_add(weight(right)?)
+    match terms.term_node(term) {
+        TermNode::Number(number) => Some(u128::from(number.unsigned_abs())),
+        TermNode::Variable(_) | TermNode::Bound(_) | TermNode::Read(_, _) => Some(1),
+        TermNode::Add(left, right) | TermNode::Subtract(left, right) => {
+            weight(terms, left)?.checked_add(weight(terms, right)?)
         }
-        Term::Multiply(factor, term) => {
-            u128::from(factor.unsigned_abs().max(1)).checked_mul(weight(term)?)
+        TermNode::Multiply(factor, term) => {
+            u128::from(factor.unsigned_abs().max(1)).checked_mul(weight(terms, term)?)
         }
+        TermNode::Base(_) | TermNode::Store(_, _, _) | TermNode::Affine(_, _) => unreachable!(),
     }
 }
 
 // A bound of all numbers of the form of a difference, likewise.
-pub(crate) fn difference_weight(left: &Term, right: &Term) -> Option<u128>
-    ensures { IfSome result (λ w. w ≡ weight (S.Subtract (term_of left.now) (term_of right.now))) }
+pub(crate) fn difference_weight(terms: &Terms, left: TermId, right: TermId) -> Option<u128>
+    requires left { IsTerm terms.now left }
+    requires right { IsTerm terms.now right }
+    ensures { IfSome result (λ w. w ≡ weight (S.Subtract (term_in terms.now left) (term_in terms.now right))) }
 {
-    weight(left)?.checked_add(weight(right)?)
+    weight(terms, left)?.checked_add(weight(terms, right)?)
 }
 
 // The bound shows that no number leaves 128 bits.
@@ -48,72 +52,83 @@ pub(crate) fn is_light(weight: Option<u128>) -> bool
 }
 
 // Adds so many times the form of a term. Where it answers `Large`, that says nothing of the term.
-pub(crate) fn add_term<'a>(
-    form: &mut LinForm<'a>,
-    term: &'a Term,
+pub(crate) fn add_term(
+    form: &mut LinForm,
+    terms: &Terms,
+    term: TermId,
     count: i128,
 ) -> Result<(), LinFault>
-    ensures { OnOk result (HasNumbers form.new (λ p. numbers form.old p +ℤ count *ℤ form_of (term_of term.now) p)) }
+    requires { IsTerm terms.now term }
+    ensures { OnOk result (AddsIn terms.now form.old form.new (λ p. count *ℤ form_of (term_in terms.now term) p)) }
 {
-    match term {
-        Term::Number(number) => {
-            form.add_number(product(count, i128::from(*number))?)?;
+    match terms.term_node(term) {
+        TermNode::Number(number) => {
+            form.add_number(product(count, i128::from(number))?)?;
             Ok(())
         }
-        Term::Variable(_) | Term::Bound(_) | Term::Read(_, _) => {
+        TermNode::Variable(_) | TermNode::Bound(_) | TermNode::Read(_, _) => {
+            numbers_are_exact(terms);
             form.add_atom(term, count)?;
             Ok(())
         }
-        Term::Add(left, right) => {
-            add_term(form, left, count)?;
-            add_term(form, right, count)?;
+        TermNode::Add(left, right) => {
+            add_term(form, terms, left, count)?;
+            add_term(form, terms, right, count)?;
             Ok(())
         }
-        Term::Subtract(left, right) => {
-            add_term(form, left, count)?;
-            add_term(form, right, difference(0, count)?)?;
+        TermNode::Subtract(left, right) => {
+            add_term(form, terms, left, count)?;
+            add_term(form, terms, right, difference(0, count)?)?;
             Ok(())
         }
-        Term::Multiply(factor, term) => {
-            add_term(form, term, product(count, i128::from(*factor))?)?;
+        TermNode::Multiply(factor, term) => {
+            add_term(form, terms, term, product(count, i128::from(factor))?)?;
             Ok(())
         }
+        TermNode::Base(_) | TermNode::Store(_, _, _) | TermNode::Affine(_, _) => unreachable!(),
     }
 }
 
 // Adds so many times the form of a difference, likewise.
-pub(crate) fn add_difference<'a>(
-    form: &mut LinForm<'a>,
-    left: &'a Term,
-    right: &'a Term,
+pub(crate) fn add_difference(
+    form: &mut LinForm,
+    terms: &Terms,
+    left: TermId,
+    right: TermId,
     count: i128,
 ) -> Result<(), LinFault>
-    ensures { let t = S.Subtract (term_of left.now) (term_of right.now) in
-        OnOk result (HasNumbers form.new (λ p. numbers form.old p +ℤ count *ℤ form_of t p)) }
+    requires left { IsTerm terms.now left }
+    requires right { IsTerm terms.now right }
+    ensures { let t = S.Subtract (term_in terms.now left) (term_in terms.now right) in
+        OnOk result (AddsIn terms.now form.old form.new (λ p. count *ℤ form_of t p)) }
 {
-    add_term(form, left, count)?;
-    add_term(form, right, difference(0, count)?)?;
+    add_term(form, terms, left, count)?;
+    add_term(form, terms, right, difference(0, count)?)?;
     Ok(())
 }
 
 // The form of a term, likewise.
-pub(crate) fn quick_form<'a>(alloc: Global, term: &'a Term) -> Result<LinForm<'a>, LinFault>
-    ensures { IfOk result (λ form. HasNumbers form (form_of (term_of term.now))) }
+pub(crate) fn quick_form(terms: &Terms, alloc: Global, term: TermId) -> Result<LinForm, LinFault>
+    requires { IsTerm terms.now term }
+    ensures { IfOk result (λ form. IsFormIn terms.now form (form_of (term_in terms.now term))) }
 {
     let mut form = LinForm::zero(alloc);
-    add_term(&mut form, term, 1)?;
+    add_term(&mut form, terms, term, 1)?;
     Ok(form)
 }
 
 // The form of a difference, likewise.
-pub(crate) fn quick_difference<'a>(
+pub(crate) fn quick_difference(
+    terms: &Terms,
     alloc: Global,
-    left: &'a Term,
-    right: &'a Term,
-) -> Result<LinForm<'a>, LinFault>
-    ensures { IfOk result (λ form. HasNumbers form (form_of (S.Subtract (term_of left.now) (term_of right.now)))) }
+    left: TermId,
+    right: TermId,
+) -> Result<LinForm, LinFault>
+    requires left { IsTerm terms.now left }
+    requires right { IsTerm terms.now right }
+    ensures { IfOk result (λ form. IsFormIn terms.now form (form_of (S.Subtract (term_in terms.now left) (term_in terms.now right)))) }
 {
     let mut form = LinForm::zero(alloc);
-    add_difference(&mut form, left, right, 1)?;
+    add_difference(&mut form, terms, left, right, 1)?;
     Ok(form)
 }

@@ -1,15 +1,15 @@
 -- The columns of an object's arrays.
-use Rattle.std.proofs.Common.{◌≡◌, ℕ, ◌<◌, ◌≤◌, ◌+◌, ◌-◌, ◌&&◌, Bool, true, List, [], ◌∷◌, length, map, refl, ap, ap₂, ◌∙◌, sym, arith, Some, None, zero, suc, ◌++◌, rules, get_or, replicate}
-use Rattle.std.specs.Prelude.{pos, option_map, nat_lt, nat_le, slice_get, ◌==◌}
+use Rattle.std.proofs.Common.{◌≡◌, ℕ, ◌<◌, ◌≤◌, ◌+◌, ◌-◌, ◌&&◌, true, List, [], ◌∷◌, length, map, refl, ap, ap₂, ◌∙◌, arith, Some, get_or, replicate}
+use Rattle.std.specs.Prelude.{pos, option_map, nat_lt, nat_le, slice_get}
 use Rattle.std.specs.List.{list_all}
 use Rattle.std.proofs.lemmas.Bool.Decides.{nat_tests}
 use Rattle.std.proofs.lemmas.List.{length-append, length-map, length-replicate}
-use Rattle.std.proofs.lemmas.Option.{same_Some, slice_get-map, slice_get_read}
-use Rattle.lc_object.specs.Syntax.{Array, Operation, Point, Object}
+use Rattle.std.proofs.lemmas.Option.{slice_get-map, slice_get_read}
+use Rattle.lc_object.specs.Syntax.{Array, Object}
 pub use Rattle.lc_object.proofs.ObjectParts.{operations_pass}
-use Rattle.lc_object.specs.WellFormed.{is_object, is_array, is_point, are_operations, are_distinct}
+use Rattle.lc_object.specs.WellFormed.{is_object, is_array, is_point}
 use Rattle.lc_machine.specs.World.{initial_numbers}
-use Rattle.lc_machine.specs.Executed.{AreBelow}
+use Rattle.lc_machine.specs.Below.{AreBelow}
 pub use Rattle.lc_term.proofs.Tests.{at_all}
 use Rattle.lc_machine.proofs.Known.{left_true, right_true}
 
@@ -20,7 +20,7 @@ initial_count object =
 
 -- the parts of the test of an object
 pub operations_few : (object : Object) → is_object object ≡ true → nat_le (length object.operations) 16 ≡ true
-operations_few object e = left_true _ _ (left_true _ _ (left_true _ _ (left_true _ _ e)))
+operations_few object e = right_true _ _ (left_true _ _ (left_true _ _ (left_true _ _ (left_true _ _ e))))
 
 pub arrays_pass : (object : Object) → is_object object ≡ true → list_all (is_array object) object.arrays ≡ true
 arrays_pass object e = right_true _ _ (left_true _ _ (left_true _ _ e))
@@ -40,7 +40,7 @@ concrete_below first count (c ∷ cs) e =
 pub few_columns : (object : Object) (k : ℕ) (a : Array) → is_object object ≡ true → slice_get object.arrays k ≡ Some a → length a.columns ≤ 4
 few_columns object k a e f =
     let array = at_all (is_array object) object.arrays k a (arrays_pass object e) f in
-    let few : nat_le (length a.columns) 4 ≡ true = left_true _ _ (left_true _ _ array) in
+    let few : nat_le (length a.columns) 4 ≡ true = right_true _ _ (left_true _ _ (left_true _ _ array)) in
     grind (arith, nat_tests)
 
 -- its columns are below the count of those up to the concrete ones

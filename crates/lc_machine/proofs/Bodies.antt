@@ -10,14 +10,14 @@ use Rattle.lc_term.specs.Meaning.{State}
 use Rattle.lc_term.specs.State.{with_cell}
 use Rattle.lc_object.specs.Syntax.{Instr, Load, Store, Cas, Set, If, Return, Array, Operation, Point, Object}
 use Rattle.lc_object.specs.Edges.{array_columns, columns_in}
-use Rattle.lc_object.specs.WellFormed.{is_object, is_array, is_point, is_instruction, is_label, are_operations, has_limits, passes_at}
+use Rattle.lc_object.specs.WellFormed.{is_object, is_array, is_point, is_instruction, is_label, is_first, are_operations, has_limits, passes_at}
 use Rattle.lc_object.specs.declared.instr.EdgeKind.{EdgeKind}
 use Rattle.lc_object.specs.declared.instr.EdgeKind.TheVariants.{Next}
 use Rattle.lc_machine.specs.Step.{with_row, number, numbers, Does, Goes, Answers}
 use Rattle.lc_machine.proofs.ArrayColumns.{arrays_pass, points_pass}
 use Rattle.lc_term.specs.Lists.{Every}
 use Rattle.lc_term.proofs.Tests.{left_true, right_true, at_all}
-use Rattle.lc_object.proofs.ObjectParts.{operations_pass}
+use Rattle.lc_object.proofs.ObjectParts.{operations_pass, first_stands}
 use Rattle.lc_object.specs.Places.{operation_in, operation_at}
 use Rattle.lc_term.proofs.Stores.{cell_other}
 
@@ -33,10 +33,10 @@ label_is object op l h = label_in op (slice_get object.points l) h
 entry_from : (object : Object) (n : ℕ) (os : List Operation) (k : ℕ) (o : Operation) → are_operations object n os ≡ true → slice_get os k ≡ Some o → operation_at object o.entry ≡ n + k
 entry_from object n [] k o h e = absurd cc
 entry_from object n (x ∷ os) zero o h e =
-    let mine = right_true (has_limits x) (is_label object n x.entry) (left_true (has_limits x && is_label object n x.entry) (are_operations object (suc n) os) h) in
+    let mine = first_stands object.points n x.entry (right_true (has_limits x) (is_first object.points n x.entry) (left_true (has_limits x && is_first object.points n x.entry) (are_operations object (suc n) os) h)) in
     ap (λ (y : Operation). operation_at object y.entry) (sym (same_Some x o e)) ∙ (label_is object n x.entry mine ∙ sym (add-zero n))
 entry_from object n (x ∷ os) (suc k) o h e =
-    entry_from object (suc n) os k o (right_true (has_limits x && is_label object n x.entry) (are_operations object (suc n) os) h) e ∙ omega arith
+    entry_from object (suc n) os k o (right_true (has_limits x && is_first object.points n x.entry) (are_operations object (suc n) os) h) e ∙ omega arith
 
 pub entry_is : (object : Object) → is_object object ≡ true → (k : ℕ) (o : Operation) → slice_get object.operations k ≡ Some o → operation_at object o.entry ≡ k
 entry_is object well k o e = entry_from object 0 object.operations k o (operations_pass object well) e ∙ omega arith

@@ -1,20 +1,19 @@
 -- The table of edges gives the steps.
-use Rattle.std.proofs.Common.{◌≡◌, ℕ, ℤ, ◌+◌, ◌≤◌, ◌<◌, ◌⊎◌, ◌↔◌, true, List, [], ◌∷◌, ◌++◌, length, map, Some, None, Option, zero, suc, refl, sym, ap, ap₂, ◌∙◌, subst, inl, inr, arith, add-zero}
+use Rattle.std.proofs.Common.{◌≡◌, ℕ, ℤ, ◌+◌, ◌≤◌, ◌⊎◌, true, List, [], ◌∷◌, ◌++◌, length, Some, zero, suc, refl, sym, ap, ap₂, ◌∙◌, subst, inl, inr, arith, add-zero}
 use Rattle.std.specs.Prelude.{slice_get}
 use Rattle.std.proofs.lemmas.Option.{same_Some}
-use Rattle.lc_term.specs.Syntax.{Term, Formula, Read, Base, Eq, Not, And, formulas}
-use Rattle.lc_term.specs.Meaning.{State, outside, Holds, AllHold, EachHolds}
+use Rattle.lc_term.specs.Syntax.{Term, Formula, Not, And, formulas}
+use Rattle.lc_term.specs.Meaning.{State, outside, AllHold, EachHolds}
 use Rattle.lc_term.specs.State.{with_cell}
 use Rattle.lc_object.specs.Syntax.{Instr, Load, Store, Cas, Set, If, Return, Point, Object}
 use Rattle.lc_object.specs.WellFormed.{is_object}
-use Rattle.lc_object.specs.Edges.{Update, Edge, array_columns, reads, row_updates, row_facts, edges_at, edges_from, edges}
+use Rattle.lc_object.specs.Edges.{Edge, array_columns, reads, row_updates, row_facts, edges_at, edges_from}
 use Rattle.lc_object.specs.declared.instr.EdgeKind.{EdgeKind}
-use Rattle.lc_object.specs.declared.instr.EdgeKind.TheVariants.{Next, Then, Else}
+use Rattle.lc_object.specs.declared.instr.EdgeKind.TheVariants.{Then, Else}
 use Rattle.lc_machine.specs.World.{variable}
-use Rattle.lc_machine.specs.Step.{number, numbers, row, with_row, assigned, Does, Outcome, Goes, Answers}
-use Rattle.lc_machine.specs.EdgeSteps.{updated, GoesBy, IsIn, IsEdge, GoesBySome}
-use Rattle.lc_machine.specs.MayRun.{MayRun, variables_at}
-use Rattle.lc_machine.proofs.ArrayColumns.{at_all, points_pass}
+use Rattle.lc_machine.specs.Step.{number, numbers, row, with_row, assigned, Does, Outcome, Goes}
+use Rattle.lc_machine.specs.EdgeSteps.{updated, GoesBy, IsIn, GoesBySome}
+use Rattle.lc_machine.specs.MayRun.{MayRun}
 use Rattle.lc_machine.proofs.Promised.{may_run_with}
 
 -- ---- rows

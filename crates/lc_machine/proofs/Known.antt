@@ -1,15 +1,15 @@
 -- The terms and formulas of instructions: what may be computed, and the numbers of terms one after another.
-use Rattle.std.proofs.Common.{◌≡◌, ℕ, ◌+◌, ◌<◌, ◌&&◌, Bool, true, false, List, [], ◌∷◌, ◌++◌, length, drop, map, get_or, refl, sym, ap, ◌∙◌, subst}
-use Rattle.std.specs.Prelude.{ℤ, IsTrue, nat_lt, not}
+use Rattle.std.proofs.Common.{◌≡◌, ℕ, true, List, [], ◌∷◌, ◌++◌, refl, sym, ap, ◌∙◌}
+use Rattle.std.specs.Prelude.{ℤ, nat_lt}
 use Rattle.std.proofs.Common.{append_assoc}
 use Rattle.lc_term.specs.Meaning.{State}
 use Rattle.lc_machine.specs.Step.{number, numbers}
 use Rattle.lc_term.specs.Syntax.{Term, Number, Variable, Bound, Add, Subtract, Multiply, Read}
 use Rattle.lc_term.specs.Syntax.{Formula, Le, Eq, Not, And, Or, Implies, Forall, Exists, Formulas, none, more}
-use Rattle.lc_term.specs.Places.{known, term_passes, passes, all_pass, is_known, are_known}
+use Rattle.lc_term.specs.Places.{known, term_passes, passes, all_pass}
 use Rattle.lc_term.specs.Truth.{is_ground, are_ground}
 pub use Rattle.lc_term.proofs.Tests.{left_true, right_true, both_true}
-use Rattle.lc_object.specs.WellFormed.{is_code_term, are_code_terms, is_code_formula, are_code_formulas}
+use Rattle.lc_object.specs.WellFormed.{is_code_term, is_code_formula, are_code_formulas}
 
 -- a term of an instruction can be computed over any columns
 pub known_term : (columns count : ℕ) (t : Term) → is_code_term count t ≡ true → term_passes (known columns count) t ≡ true

@@ -1,8 +1,8 @@
 -- How many there are.
-use Rattle.std.proofs.Common.{◌≡◌, ℕ, ℤ, ◌<◌, ◌≤◌, List, [], ◌∷◌, length, set, refl, ◌∙◌, arith}
+use Rattle.std.proofs.Common.{◌≡◌, ℕ, ℤ, ◌≤◌, List, [], ◌∷◌, length, set, refl, ◌∙◌, arith}
 use Rattle.std.proofs.lemmas.List.{length-set}
 use Rattle.lc_machine.specs.Step.{assigned}
-use Rattle.lc_machine.specs.Executed.{AreBelow}
+use Rattle.lc_machine.specs.Below.{AreBelow}
 
 pub below_more : (n m : ℕ) (ns : List ℕ) → AreBelow n ns → n ≤ m → AreBelow m ns
 below_more n m [] h k = tt

@@ -2,7 +2,8 @@ pub mod Known
 pub mod RowWrites
 pub mod Lengths
 pub mod ArrayColumns
-pub mod Executing
+pub mod Going
+pub mod Instructions
 pub mod Promised
 pub mod Stepping
 pub mod Worlds

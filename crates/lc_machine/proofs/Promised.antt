@@ -1,5 +1,5 @@
 -- What a well-formed object promises of its instructions.
-use Rattle.std.proofs.Common.{◌≡◌, ℕ, ◌<◌, ◌≤◌, ◌+◌, ◌&&◌, Bool, true, false, List, [], ◌∷◌, length, Some, None, Option, refl, sym, ap, ap₂, ◌∙◌, subst, arith, zero, suc, replicate, ℤ, pos, add-zero, eq-eqb}
+use Rattle.std.proofs.Common.{◌≡◌, ℕ, ◌<◌, ◌≤◌, ◌+◌, ◌&&◌, true, List, [], ◌∷◌, length, Some, None, Option, refl, sym, ap, ap₂, ◌∙◌, subst, arith, zero, suc, replicate, ℤ, pos, add-zero, eq-eqb}
 use Rattle.std.specs.Prelude.{slice_get, option_map, nat_le, nat_lt, ◌==◌}
 use Rattle.std.specs.List.{list_all}
 use Rattle.std.proofs.lemmas.Bool.Decides.{nat_tests}
@@ -7,11 +7,12 @@ use Rattle.std.proofs.lemmas.List.{length-append, length-replicate}
 use Rattle.std.proofs.lemmas.Bool.{eqb-true}
 use Rattle.std.proofs.lemmas.Option.{same_Some, slice_get_within}
 use Rattle.lc_object.specs.Syntax.{Instr, Load, Store, Cas, Set, If, Return, Array, Operation, Point, Object}
-use Rattle.lc_object.specs.WellFormed.{is_object, is_point, is_instruction, is_label, has_width, has_limits, are_targets, are_operations, passes_at, variable_count}
+use Rattle.lc_object.proofs.ObjectParts.{first_stands}
+use Rattle.lc_object.specs.WellFormed.{is_object, is_point, is_instruction, is_label, is_first, has_width, has_limits, are_targets, are_operations, passes_at, variable_count}
 use Rattle.lc_machine.specs.World.{In, first_variables}
 use Rattle.lc_machine.specs.Placed.{is_placed, is_count}
-use Rattle.lc_object.specs.Edges.{array_columns, columns_in}
-use Rattle.lc_machine.specs.Executed.{AreBelow}
+use Rattle.lc_object.specs.Edges.{columns_in}
+use Rattle.lc_machine.specs.Below.{AreBelow}
 use Rattle.lc_machine.specs.MayRun.{MayRun, HasRow, variables_at, variables_in}
 use Rattle.lc_machine.proofs.Known.{left_true, right_true}
 use Rattle.lc_machine.proofs.ArrayColumns.{at_all, points_pass, operations_pass, few_columns}
@@ -113,10 +114,10 @@ entry_at : (object : Object) (n : ℕ) (os : List Operation) (k m : ℕ) (o : Op
 entry_at object n [] k m o e h f = cc
 entry_at object n (x ∷ os) zero m o e h f =
     let same : m ≡ n = e ∙ add-zero n in
-    let here = right_true (has_limits x) (is_label object n x.entry) (left_true _ (are_operations object (suc n) os) h) in
+    let here = first_stands object.points n x.entry (right_true (has_limits x) (is_first object.points n x.entry) (left_true _ (are_operations object (suc n) os) h)) in
     ap (λ j. is_label object j o.entry) same ∙ ap (λ (y : Operation). is_label object n y.entry) (sym (same_Some x o f)) ∙ here
 entry_at object n (x ∷ os) (suc k) m o e h f =
-    entry_at object (suc n) os k m o (e ∙ omega arith) (right_true (has_limits x && is_label object n x.entry) (are_operations object (suc n) os) h) f
+    entry_at object (suc n) os k m o (e ∙ omega arith) (right_true (has_limits x && is_first object.points n x.entry) (are_operations object (suc n) os) h) f
 
 -- the first point of an operation's body has the variables of the operation
 pub entry_variables : (object : Object) → is_object object ≡ true → (op : ℕ) (o : Operation) → slice_get object.operations op ≡ Some o → variables_at object o.entry ≡ Some (variable_count o)

@@ -1,26 +1,25 @@
 -- Worlds: their clients, and what a client's step makes of them.
-use Rattle.std.proofs.Common.{◌≡◌, ℕ, ℤ, ◌<◌, ◌≤◌, Bool, true, List, [], ◌∷◌, length, map, set, get_or, replicate, zero, suc, Some, None, Option, refl, sym, ap, ap₂, ◌∙◌, subst, arith}
-use Rattle.std.specs.Prelude.{slice_get, ◌&&◌, Result, Ok, Err, MatchOption}
+use Rattle.std.proofs.Common.{◌≡◌, ℕ, ℤ, ◌<◌, Bool, true, List, [], ◌∷◌, length, set, get_or, replicate, zero, suc, Some, refl, sym, ap, ap₂, ◌∙◌}
+use Rattle.std.specs.Prelude.{slice_get, Result, Ok, Err}
 use Rattle.std.specs.List.{list_all}
 use Rattle.std.proofs.lemmas.List.{length-map, map-set, length-replicate}
 use Rattle.std.proofs.lemmas.Option.{same_Some}
 use Rattle.lc_term.specs.Meaning.{State}
-use Rattle.lc_object.specs.Syntax.{Instr, Operation, Point, Object}
+use Rattle.lc_object.specs.Syntax.{Instr, Object}
 use Rattle.lc_machine.specs.World as W
 use Rattle.lc_machine.specs.World.{In, World, first_variables}
-use Rattle.lc_machine.specs.Step as S
-use Rattle.lc_machine.specs.Step.{Steps, IsClient, IsRunning, after}
+use Rattle.lc_machine.specs.Step.{IsClient, IsRunning, after}
 use Rattle.lc_machine.specs.Placed.{is_placed, are_placed}
 use Rattle.lc_machine.specs.View.{client_of, clients_of}
 use Rattle.lc_machine.specs.Moved.{IsAt, IsStepped}
-use Rattle.lc_machine.specs.Answered.{IsAdvanced, StepFits}
+use Rattle.lc_machine.specs.Answered.{IsAdvanced}
 use Rattle.lc_machine.specs.declared.client.Client.{Client}
 use Rattle.lc_machine.specs.declared.client.Moved.{Moved}
 use Rattle.lc_machine.specs.declared.client.Moved.TheVariants.{Went, Returned}
 use Rattle.lc_machine.specs.declared.fault.StepFault.{StepFault}
 use Rattle.lc_machine.specs.declared.fault.StepFault.TheVariants.{NoClient, Busy, Idle, NoOp, Arity, Overflow, OutOfMemory}
 use Rattle.lc_machine.proofs.Known.{left_true, right_true, both_true}
-use Rattle.lc_machine.proofs.ArrayColumns.{at_all, viewed_at}
+use Rattle.lc_machine.proofs.ArrayColumns.{viewed_at}
 
 -- ---- lists
 

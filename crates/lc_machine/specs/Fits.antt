@@ -2,18 +2,12 @@
 -- of them fits 64 bits.
 use Rattle.std.specs.Prelude.{◌≡◌, ℕ, ℤ, List, [], ◌∷◌, FitsSigned}
 use Rattle.std.specs.Int.{w64}
-use Rattle.lc_term.specs.Syntax.{Term}
 use Rattle.lc_term.specs.Meaning.{State}
-use Rattle.lc_term.specs.Reached.{TermFits, FormulaFits}
+use Rattle.lc_term.specs.Reached.{TermFits, TermsFit, FormulaFits}
 use Rattle.lc_object.specs.Syntax.{Instr, Load, Store, Cas, Set, If, Return, Object}
 use Rattle.lc_machine.specs.World.{variable}
 use Rattle.lc_machine.specs.Step.{number, numbers, row}
 use Rattle.lc_object.specs.Edges.{array_columns}
-
--- terms, from the left
-abbrev pub TermsFit : State → List ℤ → List Term → Type 0
-TermsFit s variables [] = Unit {0}
-TermsFit s variables (t ∷ ts) = TermFits s (variable variables) t × TermsFit s variables ts
 
 -- cell i of each column
 abbrev pub RowFits : State → List ℕ → ℤ → Type 0
@@ -30,11 +24,11 @@ ComparisonFits s (c ∷ cs) i (n ∷ ns) = FitsSigned w64 (s c i) × (s c i ≡ 
 abbrev pub InstructionFits : Object → State → List ℤ → Instr → Type 0
 InstructionFits object s variables (Load a t rs l) =
     TermFits s (variable variables) t × RowFits s (array_columns object a) (number s variables t)
-InstructionFits object s variables (Store a t vs l) = TermFits s (variable variables) t × TermsFit s variables vs
+InstructionFits object s variables (Store a t vs l) = TermFits s (variable variables) t × TermsFit s (variable variables) vs
 InstructionFits object s variables (Cas a t old new l m) =
-    TermFits s (variable variables) t × TermsFit s variables old
+    TermFits s (variable variables) t × TermsFit s (variable variables) old
     × ComparisonFits s (array_columns object a) (number s variables t) (numbers s variables old)
-    × (row s (array_columns object a) (number s variables t) ≡ numbers s variables old → TermsFit s variables new)
-InstructionFits object s variables (Set rs vs l) = TermsFit s variables vs
+    × (row s (array_columns object a) (number s variables t) ≡ numbers s variables old → TermsFit s (variable variables) new)
+InstructionFits object s variables (Set rs vs l) = TermsFit s (variable variables) vs
 InstructionFits object s variables (If f l m) = FormulaFits s (variable variables) f
-InstructionFits object s variables (Return vs) = TermsFit s variables vs
+InstructionFits object s variables (Return vs) = TermsFit s (variable variables) vs

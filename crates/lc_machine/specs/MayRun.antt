@@ -1,10 +1,9 @@
 -- What an instruction needs of the object and of the variables.
-use Rattle.std.specs.Prelude.{◌≡◌, ℕ, ◌<◌, ◌≤◌, true, List, length, slice_get, Option, Some, None, option_map}
-use Rattle.lc_term.specs.Syntax.{Term}
+use Rattle.std.specs.Prelude.{◌≡◌, ℕ, ◌<◌, ◌≤◌, true, length, slice_get, Option, Some, None, option_map}
 use Rattle.lc_object.specs.Syntax.{Instr, Load, Store, Cas, Set, If, Return, Point, Object}
 use Rattle.lc_object.specs.WellFormed.{variable_count, is_code_term, are_code_terms, is_code_formula}
 use Rattle.lc_object.specs.Edges.{array_columns}
-use Rattle.lc_machine.specs.Executed.{AreBelow}
+use Rattle.lc_machine.specs.Below.{AreBelow}
 
 abbrev pub variables_in : Object → Option Point → Option ℕ
 variables_in object None = None

@@ -1,13 +1,11 @@
 -- What is answered where a client takes a step, or is to begin a call.
-use Rattle.std.specs.Prelude.{◌≡◌, ℕ, ℤ, ◌≤◌, List, length, slice_get, Some, Result, Ok, Err}
-use Rattle.lc_base.specs.declared.ids.PointId.{PointId}
+use Rattle.std.specs.Prelude.{◌≡◌, ℕ, ℤ, List, slice_get, Some, Result, Ok, Err}
 use Rattle.lc_term.specs.Meaning.{State}
-use Rattle.lc_object.specs.Syntax.{Instr, Operation, Point, Object}
+use Rattle.lc_object.specs.Syntax.{Instr, Point, Object}
 use Rattle.lc_object.specs.declared.instr.EdgeKind.{EdgeKind}
 use Rattle.lc_machine.specs.World as W
 use Rattle.lc_machine.specs.World.{Client, In, World}
-use Rattle.lc_machine.specs.Step as S
-use Rattle.lc_machine.specs.Step.{Does, Goes, Answers, Steps, IsClient, IsRunning}
+use Rattle.lc_machine.specs.Step.{Does, Goes, Answers}
 use Rattle.lc_machine.specs.Fits.{InstructionFits}
 use Rattle.lc_machine.specs.declared.client.Moved.{Moved}
 use Rattle.lc_machine.specs.declared.client.Moved.TheVariants.{Went, Returned}

@@ -1,6 +1,6 @@
 -- What the values of the machine stand for.
-use Rattle.std.specs.Prelude.{ℕ, ℤ, List, map}
-use Rattle.lc_machine.specs.declared.place.Place.{Place}
+use Rattle.std.specs.Prelude.{ℤ, List, map}
+use Rattle.lc_machine.specs.declared.effects.Place.{Place}
 use Rattle.lc_machine.specs.declared.client.Client.{Client}
 use Rattle.lc_machine.specs.declared.client.Client.TheVariants.{Idle, In}
 use Rattle.lc_machine.specs.World as W

@@ -1,4 +1,4 @@
-ghost use Rattle.std.specs.Prelude.{◌≡◌, ◌≤◌, length, true, IfOk};
+ghost use Rattle.std.specs.Prelude.{◌≡◌, ◌≤◌, length, true};
 ghost use Rattle.lc_term.specs.State.{state_of, column_count};
 ghost use Rattle.lc_object.specs.Objects.{object_shown};
 ghost use Rattle.lc_machine.specs.World.{initial_numbers};
@@ -6,10 +6,10 @@ ghost use Rattle.lc_machine.specs.Placed.{is_placed};
 ghost use Rattle.lc_machine.specs.View.{client_of};
 ghost use Rattle.lc_machine.specs.Moved.{IsStepped};
 
+use crate::effects::{Fate, Place, commit};
 use crate::fault::StepFault;
-use crate::numbers::Numbers;
-use crate::place::{Place, Ran, execute};
-use lc_base::{OutOfMemory, PointId};
+use crate::instruction::effect;
+use lc_base::PointId;
 use lc_object::{EdgeKind, Object};
 use lc_term::State;
 use std::alloc::Global;
@@ -32,15 +32,6 @@ pub enum Moved {
     Returned(Vec<i64>),
 }
 
-// The numbers, in memory of their own.
-fn kept(alloc: Global, numbers: &Numbers) -> Result<Vec<i64>, OutOfMemory>
-    ensures { IfOk result (λ kept. kept.items ≡ numbers.now.items) }
-{
-    let mut kept = Vec::with_capacity(alloc, numbers.len())?;
-    kept.extend_from_slice(numbers)?;
-    Ok(kept)
-}
-
 // One step of a client's call.
 pub(crate) fn step(
     alloc: Global,
@@ -57,13 +48,15 @@ pub(crate) fn step(
     let Client::In(place) = client else {
         return Err(StepFault::Idle);
     };
-    match execute(object, state, place)? {
-        Ran::Went(edge) => Ok(Moved::Went {
-            point: place.point,
-            edge,
-        }),
-        Ran::Returned(numbers) => {
-            let reply = kept(alloc, &numbers)?;
+    let effect = effect(alloc, object, state, place)?;
+    let edge = effect.edge;
+    match commit(alloc, state, effect)? {
+        Fate::Goes(place) => {
+            let point = place.point;
+            *client = Client::In(place);
+            Ok(Moved::Went { point, edge })
+        }
+        Fate::Answers(reply) => {
             *client = Client::Idle;
             Ok(Moved::Returned(reply))
         }

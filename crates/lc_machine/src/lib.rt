@@ -3,14 +3,16 @@
 
 mod bare;
 mod client;
+mod effects;
 mod fault;
+mod instruction;
 pub mod laws;
 mod numbers;
-mod place;
 mod rows;
 
 pub use bare::Bare;
 pub use client::Moved;
+pub use effects::{Effect, Fate, Place, commit};
 pub use fault::StepFault;
+pub use instruction::effect;
 pub use numbers::Numbers;
-pub use place::{Place, Ran, execute};

@@ -3,8 +3,10 @@ ghost use Rattle.lc_object.specs.View.{terms_of, locals_of};
 ghost use Rattle.lc_object.specs.WellFormed.{are_code_terms};
 ghost use Rattle.lc_term.specs.State.{state_of, variable_count};
 ghost use Rattle.lc_machine.specs.Step.{numbers, assigned};
-ghost use Rattle.lc_machine.specs.Fits.{TermsFit};
-ghost use Rattle.lc_machine.specs.Executed.{IsComputed, AreBelow};
+ghost use Rattle.lc_term.specs.Computed.{IsComputed, overflow_says};
+ghost use Rattle.lc_term.specs.Reached.{TermsFit};
+ghost use Rattle.lc_machine.specs.World.{variable};
+ghost use Rattle.lc_machine.specs.Below.{AreBelow};
 
 use arrayvec::ArrayVec;
 use lc_object::{LOCAL_LIMIT, LocalId};
@@ -20,7 +22,7 @@ pub(crate) fn compute(terms: &[Term], state: &State, variables: &Env) -> Result<
     ensures { let s = state_of state.now in
         let vs = variables.now.values.items in
         let ts = terms_of terms.now in
-        IsComputed (TermsFit s vs ts) (numbers s vs ts) result }
+        IsComputed overflow_says (λ numbers. numbers.items) (TermsFit s (variable vs) ts) (numbers s vs ts) result }
 {
     let mut numbers = ArrayVec::new();
     for term in terms {

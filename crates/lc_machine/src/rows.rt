@@ -1,17 +1,20 @@
-ghost use Rattle.std.specs.Prelude.{◌≡◌, ◌≤◌, length, OkIff, OnOk, OnErr};
+ghost use Rattle.std.specs.Prelude.{◌≡◌, ◌≤◌, length, OkIff};
 ghost use Rattle.std.specs.Ordering.{int_eq};
 ghost use Rattle.std.specs.Cmp.Lexicographic.{pointwise};
 ghost use Rattle.lc_object.specs.View.{columns_of};
 ghost use Rattle.lc_term.specs.State.{state_of, column_count};
-ghost use Rattle.lc_machine.specs.Step.{row, with_row};
+ghost use Rattle.lc_term.specs.Computed.{IsComputed, overflow_says};
+ghost use Rattle.lc_term.specs.Updates.{cell_writes};
+ghost use Rattle.lc_term.specs.UpdateView.{writes_shown};
+ghost use Rattle.lc_machine.specs.Step.{row};
 ghost use Rattle.lc_machine.specs.Fits.{RowFits, ComparisonFits};
-ghost use Rattle.lc_machine.specs.Executed.{IsComputed, AreBelow, row_writes};
+ghost use Rattle.lc_machine.specs.Below.{AreBelow};
 
 use crate::numbers::Numbers;
 use arrayvec::ArrayVec;
-use lc_base::{ColId, OutOfMemory};
+use lc_base::ColId;
 use lc_object::WIDTH_LIMIT;
-use lc_term::{CellWrite, EvalFault, State};
+use lc_term::{EvalFault, State, Write};
 
 /// The numbers in a row: of each column what stands in this cell.
 pub(crate) fn read_row(state: &State, columns: &[ColId], index: i64) -> Result<Numbers, EvalFault>
@@ -19,7 +22,7 @@ pub(crate) fn read_row(state: &State, columns: &[ColId], index: i64) -> Result<N
     requires there { AreBelow (column_count state.now) (columns_of columns.now) }
     ensures { let s = state_of state.now in
         let cs = columns_of columns.now in
-        IsComputed (RowFits s cs index) (row s cs index) result }
+        IsComputed overflow_says (λ numbers. numbers.items) (RowFits s cs index) (row s cs index) result }
 {
     let mut numbers = ArrayVec::new();
     for column in columns {
@@ -49,35 +52,23 @@ pub(crate) fn is_row(
     Ok(true)
 }
 
-fn writes(columns: &[ColId], index: i64, numbers: &[i64]) -> ArrayVec<CellWrite, WIDTH_LIMIT>
-    requires few { length columns.now ≤ 4 }
-    requires each { length columns.now ≡ length numbers.now }
-    ensures { result.items ≡ row_writes columns.now index numbers.now }
-{
-    let mut writes = ArrayVec::new();
-    for (i, column) in columns.iter().enumerate() {
-        writes.push(CellWrite {
-            column: *column,
-            index,
-            number: numbers[i],
-        });
-    }
-    writes
-}
-
-/// Writes numbers to a row. Where memory is refused the state stays as it was.
-pub(crate) fn write_row(
-    state: &mut State,
+/// The writes of numbers to a row.
+pub(crate) fn row_writes(
     columns: &[ColId],
     index: i64,
     numbers: &[i64],
-) -> Result<(), OutOfMemory>
+) -> ArrayVec<Write, WIDTH_LIMIT>
     requires few { length columns.now ≤ 4 }
     requires each { length columns.now ≡ length numbers.now }
-    requires there { AreBelow (column_count state.old) (columns_of columns.now) }
-    ensures ok { OnOk result (state_of state.new ≡ with_row (state_of state.old) (columns_of columns.now) index numbers.now) }
-    ensures err { OnErr result (state_of state.new ≡ state_of state.old) }
-    ensures columns { column_count state.new ≡ column_count state.old }
+    ensures { writes_shown result.items ≡ cell_writes (columns_of columns.now) index numbers.now }
 {
-    state.write_all(&writes(columns, index, numbers))
+    let mut writes = ArrayVec::new();
+    for (i, column) in columns.iter().enumerate() {
+        writes.push(Write {
+            column: *column,
+            index,
+            value: numbers[i],
+        });
+    }
+    writes
 }

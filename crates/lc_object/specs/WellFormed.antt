@@ -90,17 +90,36 @@ abbrev pub numbers_from : ℕ → ℕ → List ℕ
 numbers_from n zero = []
 numbers_from n (suc k) = n ∷ numbers_from (suc n) k
 
--- operations from the number n on have limits, and their first points stand in their bodies
+-- of the points of an operation's body the first stands at this place
+abbrev pub is_first : List Point → ℕ → ℕ → Bool
+is_first [] op l = false
+is_first (p ∷ ps) op zero = p.operation == op
+is_first (p ∷ ps) op (suc l) = not (p.operation == op) && is_first ps op l
+
+-- operations from the number n on have limits, and the first points of their bodies
 abbrev pub are_operations : Object → ℕ → List Operation → Bool
 are_operations object n [] = true
-are_operations object n (o ∷ os) = has_limits o && is_label object n o.entry && are_operations object (suc n) os
+are_operations object n (o ∷ os) = has_limits o && is_first object.points n o.entry && are_operations object (suc n) os
 
--- an array has at most four columns, each of them concrete, and none twice
+-- one to four columns
+abbrev pub is_width : ℕ → Bool
+is_width n = nat_lt 0 n && nat_le n 4
+
+-- an array has one to four columns, each of them concrete, and none twice
 abbrev pub is_array : Object → Array → Bool
 is_array object a =
-    nat_le (length a.columns) 4 && are_distinct a.columns
+    is_width (length a.columns) && are_distinct a.columns
     && list_all (λ c. nat_le (length object.abstracts) c && nat_lt (c - length object.abstracts) (length object.concretes)) a.columns
+
+-- a column of this number stands in one of these arrays
+abbrev pub stands_in : List Array → ℕ → Bool
+stands_in arrays c = list_any (λ a. list_any (λ d. d == c) a.columns) arrays
+
+-- no two arrays share a column
+abbrev pub are_apart : List Array → Bool
+are_apart [] = true
+are_apart (a ∷ others) = not (list_any (stands_in others) a.columns) && are_apart others
 
 -- arrays, operations and points name what is there
 abbrev pub is_object : Object → Bool
-is_object object = nat_le (length object.operations) 16 && nat_le (length object.points) 256 && list_all (is_array object) object.arrays && are_operations object 0 object.operations && list_all (is_point object) object.points
+is_object object = are_apart object.arrays && nat_le (length object.operations) 16 && nat_le (length object.points) 256 && list_all (is_array object) object.arrays && are_operations object 0 object.operations && list_all (is_point object) object.points

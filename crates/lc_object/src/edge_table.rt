@@ -9,16 +9,8 @@ ghost use Rattle.lc_object.specs.View.{columns_of, terms_of, instruction_of};
 use crate::instr::{ArrayId, EdgeKind, Instr, LocalId};
 use crate::object::Object;
 use lc_base::{ColId, OutOfMemory, PointId};
-use lc_term::{ColExpr, Formula, Term};
+use lc_term::{ColExpr, Formula, Term, Update};
 use std::alloc::Global;
-
-/// A number that is stored in a cell of a column. Index and value are taken in the state before.
-#[derive(Debug, Drop)]
-pub struct Update {
-    pub column: ColId,
-    pub index: Term,
-    pub value: Term,
-}
 
 /// An edge of the instruction at a point: what holds where it is gone, what it does, and what comes next.
 #[derive(Debug, Drop)]
@@ -30,6 +22,7 @@ pub struct Edge {
     /// The locals that are written at once, and the values of each.
     pub targets: Vec<LocalId>,
     pub values: Vec<Term>,
+    /// What is stored. Indexes and values are taken in the state before.
     pub updates: Vec<Update>,
     /// The point that is reached; none where the call returns.
     pub next: Option<PointId>,

@@ -30,6 +30,14 @@ impl Object {
         }
     }
 
+    /// The object of these parts, which are well-formed.
+    pub fn of_parts(parts: Parts) -> Object
+        requires { is_object (parts_of parts) ≡ true }
+        ensures { object_shown result ≡ parts_of parts }
+    {
+        Object { parts }
+    }
+
     /// Its parts.
     pub fn parts(&self) -> &Parts
         ensures shown { parts_of result.now ≡ object_shown self.now }

@@ -1,9 +1,9 @@
-ghost use Rattle.std.specs.Prelude.{◌≡◌, ◌<◌, ◌+◌, ◌^◌, ◌-◌, ◌==◌, ◌&&◌, nat_le, nat_lt, true, length, map};
+ghost use Rattle.std.specs.Prelude.{◌≡◌, ◌<◌, ◌+◌, ◌^◌, ◌-◌, ◌==◌, ◌&&◌, not, nat_le, nat_lt, true, length, map};
 ghost use Rattle.std.specs.List.{list_all, list_any};
 ghost use Rattle.lc_term.specs.Syntax.{formulas};
 ghost use Rattle.lc_term.specs.View.{term_of, formula_of, formulas_of};
 ghost use Rattle.lc_object.specs.View.{locals_of, columns_of, terms_of, instruction_of, array_of, operation_of, point_of, parts_of};
-ghost use Rattle.lc_object.specs.WellFormed.{variable_count, has_limits, is_code_term, are_code_terms, is_code_formula, are_code_formulas, are_distinct, are_targets, has_width, is_label, is_instruction, is_point, are_operations, is_array, is_object};
+ghost use Rattle.lc_object.specs.WellFormed.{variable_count, has_limits, is_code_term, are_code_terms, is_code_formula, are_code_formulas, are_distinct, are_targets, has_width, is_label, is_instruction, is_point, is_first, are_operations, is_array, stands_in, are_apart, is_object};
 
 use crate::instr::{ArrayId, Instr, LocalId};
 use crate::parts::{Array, Operation, Parts, Point};
@@ -255,9 +255,41 @@ fn are_concrete(columns: &[ColId], first: usize, count: usize) -> bool
 fn is_array(parts: &Parts, array: &Array) -> bool
     ensures { result ≡ is_array (parts_of parts.now) (array_of array.now) }
 {
-    array.columns.len() <= WIDTH_LIMIT
+    !array.columns.is_empty()
+        && array.columns.len() <= WIDTH_LIMIT
         && are_distinct_columns(&array.columns)
         && are_concrete(&array.columns, parts.abstracts.len(), parts.concretes.len())
+}
+
+// Whether a column of this number stands in one of these arrays.
+fn stands_in(arrays: &[Array], column: ColId) -> bool
+    ensures { result ≡ stands_in (map array_of arrays.now) column.0 }
+{
+    match arrays.split_first() {
+        None => false,
+        Some((array, others)) => {
+            is_column_among(&array.columns, column) || stands_in(others, column)
+        }
+    }
+}
+
+fn any_stands_in(arrays: &[Array], columns: &[ColId]) -> bool
+    ensures { result ≡ list_any (stands_in (map array_of arrays.now)) (columns_of columns.now) }
+{
+    match columns.split_first() {
+        None => false,
+        Some((column, others)) => stands_in(arrays, *column) || any_stands_in(arrays, others),
+    }
+}
+
+// Whether no two arrays share a column.
+fn are_apart(arrays: &[Array]) -> bool
+    ensures { result ≡ are_apart (map array_of arrays.now) }
+{
+    match arrays.split_first() {
+        None => true,
+        Some((array, others)) => !any_stands_in(others, &array.columns) && are_apart(others),
+    }
 }
 
 fn all_are_arrays(parts: &Parts) -> bool
@@ -286,7 +318,20 @@ fn are_points(parts: &Parts) -> bool
     all_are_points(parts)
 }
 
-// Whether operations from this number on have limits, and their first points stand in their bodies.
+// Whether of the points of the operation's body the first stands at this place.
+fn is_first(points: &[Point], operation: OpId, place: usize) -> bool
+    ensures { result ≡ is_first (map point_of points.now) operation.0 place }
+{
+    match points.split_first() {
+        None => false,
+        Some((point, _)) if place == 0 => point.operation == operation,
+        Some((point, others)) => {
+            point.operation != operation && is_first(others, operation, place - 1)
+        }
+    }
+}
+
+// Whether operations from this number on have limits, and the first points of their bodies.
 fn are_operations(parts: &Parts, first: u32, operations: &[Operation]) -> bool
     requires { first + length operations.now < 2 ^ 32 }
     ensures { result ≡ are_operations (parts_of parts.now) first (map operation_of operations.now) }
@@ -295,7 +340,7 @@ fn are_operations(parts: &Parts, first: u32, operations: &[Operation]) -> bool
         None => true,
         Some((operation, others)) => {
             has_limits(operation)
-                && is_label(parts, OpId(first), operation.entry)
+                && is_first(&parts.points, OpId(first), operation.entry.0 as usize)
                 && are_operations(parts, first + 1, others)
         }
     }
@@ -305,7 +350,8 @@ fn are_operations(parts: &Parts, first: u32, operations: &[Operation]) -> bool
 pub(crate) fn is_object(parts: &Parts) -> bool
     ensures { result ≡ is_object (parts_of parts.now) }
 {
-    parts.operations.len() <= OPERATION_LIMIT
+    are_apart(&parts.arrays)
+        && parts.operations.len() <= OPERATION_LIMIT
         && parts.points.len() <= POINT_LIMIT
         && are_arrays(parts)
         && are_operations(parts, 0, &parts.operations)

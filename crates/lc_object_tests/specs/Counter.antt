@@ -1,7 +1,9 @@
 -- A counter, as an example of a sequential object: operation 0 adds one and gives the number before, operation 1 gives the number.
-use Rattle.std.specs.Prelude.{◌≡◌, ℕ, zero, suc, ◌⊎◌, List, [], ◌∷◌, ℤ, pos, ◌+ℤ◌, Option, Some, None, FitsSigned, refl}
+use Rattle.std.specs.Prelude.{◌≡◌, ℕ, zero, suc, ◌⊎◌, List, [], ◌∷◌, ℤ, pos, ◌+ℤ◌, Option, Some, None, FitsSigned, refl, ◌↔◌, true}
 use Rattle.std.proofs.Common.{inl, inr, ap, arith}
 use Rattle.std.specs.Int.{w64}
+use Rattle.std.specs.Ordering.{int_eq}
+use Rattle.std.proofs.lemmas.Bool.Decides.{Decides-int_eq}
 use Rattle.lc_seq.specs.Sequential.{Call}
 
 abbrev pub increment : Call
@@ -25,6 +27,10 @@ fits_by_code n (suc op) = Unit {0}
 abbrev pub CounterFits : ℤ → Call → Type 0
 CounterFits n call = fits_by_code n call.op
 
+-- the numbers of a reply
+abbrev pub the_number : ℤ → List ℤ
+the_number n = n ∷ []
+
 abbrev pub IsCounterCall : Call → Type 0
 IsCounterCall call = (call ≡ increment) ⊎ (call ≡ get)
 
@@ -40,3 +46,7 @@ counter_steps_by_calls n call m reply e = is_by_code n call.op call.numbers (m, 
 
 pub calls_differ : increment ≡ get → ⊥
 calls_differ e = omega (arith, ap (λ call. call.op) e)
+
+-- replies are equal where their numbers are
+pub replies_are_equal : (a b : ℤ) → (int_eq a b ≡ true) ↔ (the_number a ≡ the_number b)
+replies_are_equal a b = (λ e. ap the_number ((Decides-int_eq a b).0 e), λ e. (Decides-int_eq a b).1 (cc e))

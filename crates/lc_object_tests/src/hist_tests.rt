@@ -19,7 +19,7 @@ enum CounterCall {
 impl SeqObject for Counter {
     ghost use Rattle.std.specs.Prelude.{ℤ, [], ◌∷◌, refl};
     ghost use Rattle.std.proofs.Common.{sym};
-    ghost use Rattle.lc_object_tests.specs.Counter.{increment, get, counter_step, CounterFits, IsCounterCall, counter_steps_by_calls, calls_differ};
+    ghost use Rattle.lc_object_tests.specs.Counter.{increment, get, counter_step, CounterFits, IsCounterCall, counter_steps_by_calls, replies_are_equal, calls_differ};
     ghost use Rattle.lc_object_tests.specs.declared.hist_tests.CounterCall.TheVariants.{Increment, Get};
 
     type State = i64;
@@ -50,6 +50,8 @@ impl SeqObject for Counter {
       | Increment ↦ elim [ Increment ↦ (λ _. refl, λ _. refl) | Get ↦ (λ e. absurd (Prim.cc e), λ e. absurd (calls_differ e)) ]
       | Get ↦ elim [ Increment ↦ (λ e. absurd (Prim.cc e), λ e. absurd (calls_differ (sym e))) | Get ↦ (λ _. refl, λ _. refl) ]
     ] };
+
+    ghost equal_replies = { λ a b. replies_are_equal a b };
 
     ghost steps_by_calls = { λ _ number client call next reply. counter_steps_by_calls number call next reply };
 
@@ -91,6 +93,14 @@ impl SeqObject for Counter {
             1 => Ok(Some(CounterCall::Get)),
             _ => Ok(None),
         }
+    }
+
+    fn is_call(&self, call: &CounterCall, code: u32, given: &[i64]) -> bool {
+        let its = match call {
+            CounterCall::Increment => 0,
+            CounterCall::Get => 1,
+        };
+        its == code && given.is_empty()
     }
 
     fn numbers_of(&self, alloc: Global, reply: &i64) -> Result<Vec<i64>, OutOfMemory> {

@@ -1,6 +1,7 @@
 use lc_base::{ColId, OpId, PointId};
 use lc_machine::{Bare, Moved, StepFault, laws};
-use lc_object::{EdgeKind, Object, object_of, sound_objects_read};
+use lc_object::{EdgeKind, Object};
+use lc_object_text::{object_of, objects_are_read_or_refused, objects_read_are_sound};
 use lc_sexp::read;
 use lc_term::EvalFault;
 use std::alloc::Global;
@@ -168,5 +169,6 @@ fn locals_are_set_at_once(rt: HostRuntime) -> Result<(), Fail> {
 #[test]
 fn laws_have_no_effect() {
     laws::edges_give_the_steps();
-    sound_objects_read();
+    objects_are_read_or_refused();
+    objects_read_are_sound();
 }

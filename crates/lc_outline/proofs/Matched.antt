@@ -11,7 +11,7 @@ use Rattle.lc_seq.specs.Specification.{Branch, Operation, branch_is_resolved, op
 use Rattle.lc_seq.specs.Specification as Q
 use Rattle.lc_seq.specs.TextStep.{run, call_env, text_step, outcome}
 use Rattle.lc_object.specs.Syntax as O
-use Rattle.lc_object.specs.WellFormed.{is_label, are_operations, has_limits}
+use Rattle.lc_object.specs.WellFormed.{is_first, are_operations, has_limits}
 use Rattle.lc_term.proofs.Tests.{left_true, right_true, at_all}
 use Rattle.lc_object.proofs.ObjectParts.{operations_pass}
 use Rattle.lc_seq.specs.Branches.{op_branches, branches_in, arity, arity_in, op_replies, replies_in}
@@ -63,14 +63,14 @@ few_at : (object : O.Object) (n : ℕ) (os : List O.Operation) (qs : List Operat
 few_at object n os [] k h m = (omega arith, omega arith)
 few_at object n [] (q ∷ qs) k h m = absurd m
 few_at object n (x ∷ os) (q ∷ qs) zero h m =
-    let limits = left_true (has_limits x) (is_label object n x.entry) (left_true (has_limits x && is_label object n x.entry) (are_operations object (suc n) os) h) in
+    let limits = left_true (has_limits x) (is_first object.points n x.entry) (left_true (has_limits x && is_first object.points n x.entry) (are_operations object (suc n) os) h) in
     let two = left_true (nat_le (length x.arguments) 3 && nat_le x.replies 3) (nat_le (length x.locals) 16) limits in
     let a = left_true (nat_le (length x.arguments) 3) (nat_le x.replies 3) two in
     let b = right_true (nat_le (length x.arguments) 3) (nat_le x.replies 3) two in
     let a' : length x.arguments ≤ 3 = grind (arith, nat_tests) in
     let b' : x.replies ≤ 3 = grind (arith, nat_tests) in
     (subst (λ j. j ≤ 3) m.0 a', subst (λ j. j ≤ 3) m.1 b')
-few_at object n (x ∷ os) (q ∷ qs) (suc k) h m = few_at object (suc n) os qs k (right_true (has_limits x && is_label object n x.entry) (are_operations object (suc n) os) h) m.3
+few_at object n (x ∷ os) (q ∷ qs) (suc k) h m = few_at object (suc n) os qs k (right_true (has_limits x && is_first object.points n x.entry) (are_operations object (suc n) os) h) m.3
 
 pub few : (D : Development) → IsResolved D → (o : ℕ) → (arity D.specification.operations o ≤ 3) × (op_replies D.specification.operations o ≤ 3)
 few D R o = few_at D.object 0 D.object.operations D.specification.operations o (operations_pass D.object R.object) R.operations

@@ -1,3 +1,5 @@
 pub mod Development
+pub mod PartsView
+pub mod DevelopmentView
 pub mod Resolved
 pub mod Agreement

@@ -1,5 +1,5 @@
 -- What a development's type keeps: names are resolved, and who may write what.
-use Rattle.std.specs.Prelude.{◌≡◌, ℕ, ◌+◌, ◌<◌, ◌≤◌, true, nat_lt, List, [], ◌∷◌, Option, Some, None, length, slice_get}
+use Rattle.std.specs.Prelude.{◌≡◌, ℕ, zero, suc, ◌+◌, ◌<◌, ◌≤◌, Bool, true, false, ◌&&◌, ◌==◌, nat_le, nat_lt, List, [], ◌∷◌, Option, Some, None, length, slice_get}
 use Rattle.std.specs.List.{list_all}
 use Rattle.lc_term.specs.Updates.{Update}
 use Rattle.lc_term.specs.Syntax.{Formula}
@@ -73,3 +73,81 @@ pub record IsResolved (D : Development) : Type 0 where
   pub actions : Every (λ (a : Action). Every (λ (u : Update). u.column < column_count (first_system D)) a.updates) D.actions
   pub asserts : (p : ℕ) (point : O.Point) (o : O.Operation) → slice_get D.object.points p ≡ Some point → slice_get D.object.operations point.operation ≡ Some o → Every (IsBelow (variable_count o)) (asserts_at D p)
   pub ons : (e : Edge) → IsIn e (edges D.object) → IsOnResolved D (operation_at D.object e.point) e (on_at D e.point e.kind)
+
+-- ---- the same as a test
+
+abbrev pub is_below : ℕ → Formula → Bool
+is_below n f = passes (λ k. variables_below n) 0 f
+
+abbrev pub is_empty : {A : Type 0} → List A → Bool
+is_empty [] = true
+is_empty (x ∷ xs) = false
+
+abbrev pub has_some : {A : Type 0} → List A → Bool
+has_some [] = false
+has_some (x ∷ xs) = true
+
+-- an operation takes and gives the same, and has a branch
+abbrev pub is_matched : O.Operation → Q.Operation → Bool
+is_matched o q = length o.arguments == length q.arguments && (o.replies == q.replies && has_some q.branches)
+
+abbrev pub are_matched : List O.Operation → List Q.Operation → Bool
+are_matched [] [] = true
+are_matched (o ∷ os) (q ∷ qs) = is_matched o q && are_matched os qs
+are_matched _ _ = false
+
+abbrev pub is_auxiliary : Development → ℕ → Bool
+is_auxiliary D c = nat_le (length D.specification.columns + length D.object.concretes) c && nat_lt c (first_system D)
+
+abbrev pub deed_is_resolved : Development → ℕ → Deed → Bool
+deed_is_resolved D o (Assign u) = is_auxiliary D u.column
+deed_is_resolved D o (Marks k) = has_some (op_branches D.specification.operations (marked_op o k))
+
+abbrev pub condition_is_resolved : Option Formula → Bool
+condition_is_resolved None = true
+condition_is_resolved (Some f) = is_ground f
+
+abbrev pub rider_is_resolved : Development → ℕ → Rider → Bool
+rider_is_resolved D o r = condition_is_resolved r.condition && deed_is_resolved D o r.deed
+
+-- there is an action, and it has so many parameters
+abbrev pub takes : Option Action → ℕ → Bool
+takes None n = false
+takes (Some a) n = n == length a.parameters
+
+abbrev pub on_is_resolved : Development → ℕ → Edge → Option On → Bool
+on_is_resolved D o e None = is_empty e.updates
+on_is_resolved D o e (Some x) = takes (slice_get D.actions x.action) (length x.arguments) && list_all (rider_is_resolved D o) x.riders
+
+-- the actions store in columns that there are
+abbrev pub action_is_resolved : Development → Action → Bool
+action_is_resolved D a = list_all (λ (u : Update). nat_lt u.column (column_count (first_system D))) a.updates
+
+abbrev pub edge_is_resolved : Development → Edge → Bool
+edge_is_resolved D e = on_is_resolved D (operation_at D.object e.point) e (on_at D e.point e.kind)
+
+-- the assertions at the points from the number p on speak of the variables that there are
+abbrev pub asserts_are_resolved : Development → ℕ → List O.Point → Bool
+asserts_are_resolved D p [] = true
+asserts_are_resolved D p (point ∷ points) =
+    list_all (is_below (variables_at D.object (slice_get D.object.operations point.operation))) (asserts_at D p) && asserts_are_resolved D (suc p) points
+
+-- specification and object agree
+abbrev pub code_is_resolved : Development → Bool
+code_is_resolved D =
+    is_object D.object && list_all (operation_is_resolved (length D.specification.columns)) D.specification.operations
+    && length D.object.abstracts == length D.specification.columns && are_matched D.object.operations D.specification.operations
+
+-- what holds speaks of the variables that there are
+abbrev pub formulas_are_resolved : Development → Bool
+formulas_are_resolved D =
+    list_all (is_below 1) (invariant_of D) && list_all (is_below 2) D.idle && asserts_are_resolved D 0 D.object.points
+
+-- All names are resolved, and only what may be is written
+abbrev pub is_resolved : Development → Bool
+is_resolved D =
+    code_is_resolved D && formulas_are_resolved D && list_all (action_is_resolved D) D.actions && list_all (edge_is_resolved D) (edges D.object)
+
+-- what passes is resolved
+abbrev pub WhatPassesIsResolved : Type 0
+WhatPassesIsResolved = (D : Development) → is_resolved D ≡ true → IsResolved D

@@ -1,9 +1,15 @@
 //! Laws of the definitions: functions without effect, whose contracts are the laws.
 ghost use Rattle.lc_outline.specs.Agreement.{OperationsAgree, CallsAreSmall};
+ghost use Rattle.lc_outline.specs.Resolved.{WhatPassesIsResolved};
 
 /// In a development whose names are resolved each operation of the object takes as many arguments, and gives as many replies,
 /// as the operation of that number of the specification; and each takes and gives at most three.
 pub fn operations_agree()
     ensures agree { OperationsAgree }
     ensures small { CallsAreSmall }
+{}
+
+/// A development that passes the test of its type is resolved.
+pub fn developments_are_resolved()
+    ensures { WhatPassesIsResolved }
 {}

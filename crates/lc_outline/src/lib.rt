@@ -1,5 +1,10 @@
-//! Developments: a specification, an object, and why the object meets the specification. Their definitions; what is read
-//! and printed of them is to come.
+//! Developments: a specification, an object, and why the object meets the specification.
 #![tactic(auto)]
 
+mod construction;
+mod development;
 pub mod laws;
+mod parts;
+
+pub use development::Development;
+pub use parts::{ActionId, On, Outline, Parts};

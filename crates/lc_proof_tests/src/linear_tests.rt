@@ -1,6 +1,6 @@
 use lc_base::ColId;
 use lc_linear::{LinFault, LinForm, closes, form_of, form_of_difference, laws};
-use lc_term::{ColExpr, Formula, Term};
+use lc_term::{ColExpr, Formula, Term, Terms};
 use std::alloc::Global;
 use std::test::Fail;
 
@@ -27,9 +27,33 @@ fn greatest(alloc: Global) -> Result<Term, Fail> {
     subtract(alloc, Term::Number(-1), least(alloc)?)
 }
 
+// The form of a term, which is entered in a table.
+fn entered_form(alloc: Global, terms: &mut Terms, term: &Term) -> Result<LinForm, LinFault> {
+    let term = terms.enter_term(term)?;
+    form_of(terms, alloc, term)
+}
+
+// The form of a difference, likewise.
+#[tactic(auto, using(lc_term::proofs::Later::is_term_later))]
+fn entered_gap(
+    alloc: Global,
+    terms: &mut Terms,
+    left: &Term,
+    right: &Term,
+) -> Result<LinForm, LinFault> {
+    let left = terms.enter_term(left)?;
+    let right = terms.enter_term(right)?;
+    form_of_difference(terms, alloc, left, right)
+}
+
 // The constant of a term's form.
 fn constant(alloc: Global, term: &Term) -> Result<i128, LinFault> {
-    Ok(form_of(alloc, term)?.constant())
+    Ok(entered_form(alloc, &mut Terms::new(alloc), term)?.constant())
+}
+
+// The constant of the form of a difference.
+fn gap(alloc: Global, left: &Term, right: &Term) -> Result<i128, LinFault> {
+    Ok(entered_gap(alloc, &mut Terms::new(alloc), left, right)?.constant())
 }
 
 // Whether a term has no form, since a number on the way does not fit.
@@ -44,8 +68,8 @@ fn a_difference_is_taken_directly(rt: HostRuntime) -> Result<(), Fail> {
     let least_fits = constant(alloc, &low) == Ok(i128::MIN);
     let greatest_fits = constant(alloc, &greatest(alloc)?) == Ok(i128::MAX);
     let (one_less, zero) = (Term::Number(-1), Term::Number(0));
-    let gap_fits = form_of_difference(alloc, &one_less, &low)?.constant() == i128::MAX;
-    let gap_is_large = form_of_difference(alloc, &zero, &low).is_err();
+    let gap_fits = gap(alloc, &one_less, &low) == Ok(i128::MAX);
+    let gap_is_large = gap(alloc, &zero, &low) == Err(LinFault::Large);
     assert!(rt; least_fits & greatest_fits & gap_fits & gap_is_large);
     let taken_from_0 = subtract(alloc, Term::Number(0), least(alloc)?)?;
     let multiplied = multiply(alloc, -1, least(alloc)?)?;
@@ -77,27 +101,53 @@ fn each_part_has_its_form_first(rt: HostRuntime) -> Result<(), Fail> {
 }
 
 #[test]
+#[tactic(auto, using(lc_term::proofs::Later::is_formula_later))]
 fn sums_are_added_from_the_left(rt: HostRuntime) -> Result<(), Fail> {
     let alloc = rt.alloc();
     let most = i64::MAX;
+    let mut terms = Terms::new(alloc);
     let below = Formula::Le(Term::Number(most), Term::Variable(0));
+    let below = terms.enter_formula(alloc, &below)?;
     let above = Formula::Eq(Term::Variable(0), Term::Number(most));
-    let below = (&below, most);
-    let two_fit = closes(alloc, &[below, below]) == Ok(false);
-    let three_are_large = closes(alloc, &[below, below, below]) == Err(LinFault::Large);
-    let turned_fit = closes(alloc, &[below, below, (&above, most), below]) == Ok(false);
+    let above = terms.enter_formula(alloc, &above)?;
+    let (below, above) = ((below, most), (above, most));
+    let two_fit = closes(&terms, alloc, &[below, below]) == Ok(false);
+    let three_are_large = closes(&terms, alloc, &[below, below, below]) == Err(LinFault::Large);
+    let turned_fit = closes(&terms, alloc, &[below, below, above, below]) == Ok(false);
     assert!(rt; two_fit & three_are_large & turned_fit);
     Ok(())
+}
+
+// Whether a formula alone, so many times, closes.
+fn alone(alloc: Global, formula: &Formula, multiplier: i64) -> Result<bool, LinFault> {
+    let mut terms = Terms::new(alloc);
+    let formula = terms.enter_formula(alloc, formula)?;
+    closes(&terms, alloc, &[(formula, multiplier)])
+}
+
+// Whether two formulas together, each so many times, close.
+#[tactic(auto, using(lc_term::proofs::Later::is_formula_later))]
+fn together(
+    alloc: Global,
+    first: &Formula,
+    multiplier: i64,
+    second: &Formula,
+    other: i64,
+) -> Result<bool, LinFault> {
+    let mut terms = Terms::new(alloc);
+    let first = terms.enter_formula(alloc, first)?;
+    let second = terms.enter_formula(alloc, second)?;
+    closes(&terms, alloc, &[(first, multiplier), (second, other)])
 }
 
 // Whether `left <= right` alone, so many times, closes.
 fn closes_alone(alloc: Global, left: i64, right: i64, multiplier: i64) -> bool {
     let formula = Formula::Le(Term::Number(left), Term::Number(right));
-    closes(alloc, &[(&formula, multiplier)]) == Ok(true)
+    alone(alloc, &formula, multiplier) == Ok(true)
 }
 
 fn none_of_these_closes(alloc: Global) -> bool {
-    let empty = closes(alloc, &[]) == Ok(true);
+    let empty = closes(&Terms::new(alloc), alloc, &[]) == Ok(true);
     let at_0 = closes_alone(alloc, 0, 0, 1) | closes_alone(alloc, 1, 0, 0);
     let below_0 = closes_alone(alloc, 0, 1, 1) | closes_alone(alloc, 0, 1, -1);
     !(empty | at_0 | below_0)
@@ -106,8 +156,8 @@ fn none_of_these_closes(alloc: Global) -> bool {
 // `0 = 1` closes turned round alone.
 fn equations_are_turned(alloc: Global) -> bool {
     let equation = Formula::Eq(Term::Number(0), Term::Number(1));
-    let turned = closes(alloc, &[(&equation, -1)]) == Ok(true);
-    turned & (closes(alloc, &[(&equation, 1)]) == Ok(false))
+    let turned = alone(alloc, &equation, -1) == Ok(true);
+    turned & (alone(alloc, &equation, 1) == Ok(false))
 }
 
 // `x <= y` and `y + 1 <= x` close together.
@@ -115,9 +165,9 @@ fn atoms_are_cancelled(alloc: Global) -> Result<bool, Fail> {
     let next = add(alloc, Term::Variable(1), Term::Number(1))?;
     let first = Formula::Le(Term::Variable(0), Term::Variable(1));
     let second = Formula::Le(next, Term::Variable(0));
-    let both = closes(alloc, &[(&first, 1), (&second, 1)]) == Ok(true);
-    let uneven = closes(alloc, &[(&first, 1), (&second, 2)]) == Ok(false);
-    let one = closes(alloc, &[(&second, 1)]) == Ok(false);
+    let both = together(alloc, &first, 1, &second, 1) == Ok(true);
+    let uneven = together(alloc, &first, 1, &second, 2) == Ok(false);
+    let one = alone(alloc, &second, 1) == Ok(false);
     Ok(both & uneven & one)
 }
 
@@ -134,11 +184,11 @@ fn a_multiplier_is_looked_at_before_the_numbers(rt: HostRuntime) -> Result<(), F
     let alloc = rt.alloc();
     let large = Formula::Le(multiply(alloc, -1, least(alloc)?)?, Term::Number(0));
     let yes = Formula::And(Vec::new(alloc));
-    let once = closes(alloc, &[(&large, 1)]) == Err(LinFault::Large);
-    let never = closes(alloc, &[(&large, 0)]) == Err(LinFault::Large);
-    let negative = closes(alloc, &[(&large, -1)]) == Ok(false);
-    let no_comparison = closes(alloc, &[(&yes, 1)]) == Ok(false);
-    let no_comparison_behind = closes(alloc, &[(&large, 1), (&yes, 1)]) == Ok(false);
+    let once = alone(alloc, &large, 1) == Err(LinFault::Large);
+    let never = alone(alloc, &large, 0) == Err(LinFault::Large);
+    let negative = alone(alloc, &large, -1) == Ok(false);
+    let no_comparison = alone(alloc, &yes, 1) == Ok(false);
+    let no_comparison_behind = together(alloc, &large, 1, &yes, 1) == Ok(false);
     assert!(rt; once & never & negative & no_comparison & no_comparison_behind);
     Ok(())
 }
@@ -150,8 +200,8 @@ fn is_quotient(
     divisor: i64,
     quotient: Option<i128>,
 ) -> Result<bool, Fail> {
-    let term = Term::Number(number);
-    let divided = form_of(alloc, &term)?.divided(divisor);
+    let form = entered_form(alloc, &mut Terms::new(alloc), &Term::Number(number))?;
+    let divided = form.divided(divisor);
     Ok(divided.map(|form| form.constant()) == quotient)
 }
 
@@ -179,12 +229,13 @@ fn a_quotient_is_rounded_up(rt: HostRuntime) -> Result<(), Fail> {
 
 // The form of 2x - (2y + 1) divided by a number, if it is that of x - y.
 fn divided_gap(alloc: Global, divisor: i64) -> Result<Option<bool>, Fail> {
+    let mut terms = Terms::new(alloc);
     let left = multiply(alloc, 2, Term::Variable(0))?;
     let even = multiply(alloc, 2, Term::Variable(1))?;
     let right = add(alloc, even, Term::Number(1))?;
-    let quotient = form_of_difference(alloc, &left, &right)?.divided(divisor);
+    let quotient = entered_gap(alloc, &mut terms, &left, &right)?.divided(divisor);
     let (x, y) = (Term::Variable(0), Term::Variable(1));
-    let gap = form_of_difference(alloc, &x, &y)?;
+    let gap = entered_gap(alloc, &mut terms, &x, &y)?;
     Ok(quotient.map(|form| form.is_same_as(&gap)))
 }
 
@@ -197,21 +248,36 @@ fn an_odd_inequality_is_halved(rt: HostRuntime) -> Result<(), Fail> {
     Ok(())
 }
 
+// What a column has at an index.
+fn cell(alloc: Global, index: Term) -> Result<Term, Fail> {
+    Ok(Term::Read(ColExpr::Base(ColId(0)), Box::new(alloc, index)?))
+}
+
 #[test]
-fn atoms_are_variables_and_whole_reads(rt: HostRuntime) -> Result<(), Fail> {
+fn atoms_are_whole_reads(rt: HostRuntime) -> Result<(), Fail> {
     let alloc = rt.alloc();
-    let first = Term::Read(ColExpr::Base(ColId(0)), Box::new(alloc, Term::Number(1))?);
-    let same = first.try_clone(alloc)?;
-    let index = add(alloc, Term::Number(1), Term::Number(0))?;
-    let other = Term::Read(ColExpr::Base(ColId(0)), Box::new(alloc, index)?);
-    let nothing = form_of_difference(alloc, &first, &same)?;
-    let apart = form_of_difference(alloc, &first, &other)?;
-    let differ = (apart.coefficient(&same) == 1) & (apart.coefficient(&other) == -1);
+    let mut terms = Terms::new(alloc);
+    let first = cell(alloc, Term::Number(1))?;
+    let other = cell(alloc, add(alloc, Term::Number(1), Term::Number(0))?)?;
+    let nothing = entered_gap(alloc, &mut terms, &first, &first)?;
+    let apart = entered_gap(alloc, &mut terms, &first, &other)?;
+    let first = terms.enter_term(&first)?;
+    let other = terms.enter_term(&other)?;
+    let differ = (apart.coefficient(first) == 1) & (apart.coefficient(other) == -1);
     assert!(rt; nothing.is_constant() & !apart.is_constant() & differ);
-    let (left, right) = (Term::Bound(0), Term::Variable(0));
-    let bound = form_of_difference(alloc, &left, &right)?;
-    let has_bound = (bound.coefficient(&Term::Bound(0)) == 1) & (bound.constant() == 0);
-    assert!(rt; has_bound & (bound.coefficient(&first) == 0));
+    Ok(())
+}
+
+#[test]
+fn atoms_are_variables(rt: HostRuntime) -> Result<(), Fail> {
+    let alloc = rt.alloc();
+    let mut terms = Terms::new(alloc);
+    let gap = entered_gap(alloc, &mut terms, &Term::Bound(0), &Term::Variable(0))?;
+    let bound = terms.bound(0)?;
+    let free = terms.variable(0)?;
+    let other = terms.variable(1)?;
+    let has_both = (gap.coefficient(bound) == 1) & (gap.coefficient(free) == -1);
+    assert!(rt; has_both & (gap.constant() == 0) & (gap.coefficient(other) == 0));
     Ok(())
 }
 
@@ -232,11 +298,10 @@ fn long_sum(alloc: Global, from_left: bool) -> Result<Term, Fail> {
 #[test]
 fn forms_of_many_atoms_do_not_depend_on_their_order(rt: HostRuntime) -> Result<(), Fail> {
     let alloc = rt.alloc();
-    let left = long_sum(alloc, true)?;
-    let right = long_sum(alloc, false)?;
-    let form = form_of(alloc, &left)?;
-    let other = form_of(alloc, &right)?;
-    let last = form.coefficient(&Term::Variable(99)) == 99;
+    let mut terms = Terms::new(alloc);
+    let form = entered_form(alloc, &mut terms, &long_sum(alloc, true)?)?;
+    let other = entered_form(alloc, &mut terms, &long_sum(alloc, false)?)?;
+    let last = form.coefficient(terms.variable(99)?) == 99;
     assert!(rt; form.is_same_as(&other) & (form.constant() == -3) & last);
     Ok(())
 }
@@ -244,8 +309,8 @@ fn forms_of_many_atoms_do_not_depend_on_their_order(rt: HostRuntime) -> Result<(
 #[test]
 fn a_multiple_is_added_and_taken_away(rt: HostRuntime) -> Result<(), Fail> {
     let alloc = rt.alloc();
-    let term = long_sum(alloc, true)?;
-    let form = form_of(alloc, &term)?;
+    let mut terms = Terms::new(alloc);
+    let form = entered_form(alloc, &mut terms, &long_sum(alloc, true)?)?;
     let twice = LinForm::zero(alloc).add_scaled(2, &form)?;
     let nothing = twice.add_scaled(-2, &form)?;
     assert!(rt; nothing.is_constant() & (nothing.constant() == 0));

@@ -10,7 +10,7 @@ use Rattle.lc_reading.specs.Listed.{names_among, declared_by as declared_at, pla
 use Rattle.lc_reading.specs.Readings.{Reading, fine, wrong, both, ended, behind_reading}
 use Rattle.lc_reading.specs.Words.{is}
 use Rattle.lc_reading.specs.declared.pass.Pass.TheVariants.{Shape}
-use Rattle.lc_term.specs.Names.{Names}
+use Rattle.lc_text.specs.Names.{Names}
 use Rattle.lc_term.specs.Syntax.{Formula, Formulas, formulas, parts, none as no_formulas, more as more_formulas}
 use Rattle.lc_text.specs.Formulas.{formula_reading, formulas_reading}
 use Rattle.lc_text.specs.Terms.{pair}

@@ -1,11 +1,11 @@
 -- The names that a formula file declares, and how they are read in it.
 use Rattle.std.specs.Prelude.{ℕ, Bool, true, false, List, [], Option, Some, None, if◌then◌else◌, codes}
 use Rattle.lc_sexp.specs.Trees.{Tree, Trees, atom, list, ◌▸◌}
-use Rattle.lc_term.specs.Names.{Names}
-use Rattle.lc_term.specs.declared.scope.ColumnUse.{ColumnUse}
-use Rattle.lc_term.specs.declared.scope.ColumnUse.TheVariants.{Usable, Undeclared}
-use Rattle.lc_term.specs.declared.scope.Extra.{Extra}
-use Rattle.lc_term.specs.declared.scope.Extra.TheVariants.{NumberedVariables}
+use Rattle.lc_text.specs.Names.{Names}
+use Rattle.lc_text.specs.declared.scope.ColumnUse.{ColumnUse}
+use Rattle.lc_text.specs.declared.scope.ColumnUse.TheVariants.{Usable, Undeclared}
+use Rattle.lc_text.specs.declared.scope.Extra.{Extra}
+use Rattle.lc_text.specs.declared.scope.Extra.TheVariants.{NumberedVariables}
 use Rattle.lc_reading.specs.Listed.{names_among, place_of}
 use Rattle.lc_reading.specs.TableView.{listed}
 use Rattle.lc_reading.specs.Words.{is}

@@ -3,12 +3,11 @@ use Rattle.std.specs.Prelude.{ℕ, ◌+◌, List, [], length, codes, Option, Som
 use Rattle.std.specs.declared.alloc.Global.{Global}
 use Rattle.lc_sexp.specs.Trees.{Tree, Trees, none, ◌▸◌, item_count, item_count_of_all}
 use Rattle.lc_term.specs.Syntax.{Formula, Formulas, formulas}
+use Rattle.lc_term.specs.Tables.{formula_in, formulas_in, IsFormula, AreFormulas}
 use Rattle.lc_term.specs.View.{formula_of, formulas_of}
 use Rattle.lc_term.specs.declared.formula.Formula.{Formula as SeenFormula}
 use Rattle.lc_kernel.specs.Proofs as S
 use Rattle.lc_kernel.specs.View.{proof_of}
-use Rattle.lc_kernel.specs.declared.goal.Goal.{Goal}
-use Rattle.lc_kernel.specs.declared.proof.Proof.{Proof}
 use Rattle.lc_reading.specs.Naming.{names_reading}
 use Rattle.lc_reading.specs.Readings.{Reading, wrong, both, ended, behind_reading}
 use Rattle.lc_reading.specs.declared.pass.Pass.TheVariants.{Shape}
@@ -17,6 +16,8 @@ use Rattle.lc_text.specs.Seen.{row_of}
 use Rattle.lc_text.specs.Terms.{pair}
 use Rattle.lc_proof_text.specs.FileNames.{Declared, declared_by, claim_names, proof_names}
 use Rattle.lc_proof_text.specs.Proofs.{proof_reading}
+use Rattle.lc_proof_text.specs.declared.claim.ClaimTrees.{ClaimTrees}
+use Rattle.lc_proof_text.specs.declared.claim.FormulaFile.{FormulaFile}
 
 -- How many variables there are, the hypotheses, the goal, and its proof
 pub record Claim : Type 0 where
@@ -25,10 +26,23 @@ pub record Claim : Type 0 where
   pub goal : Formula
   pub proof : S.Proof
 
--- a goal and a proof, as they are seen
-abbrev pub seen_claim : Goal × Proof → Claim
-seen_claim answer =
-    record { variables = answer.0.vars; hypotheses = formulas (formulas_of answer.0.hypotheses.items); goal = formula_of answer.0.goal; proof = proof_of answer.1 }
+-- a claim in trees, as it is seen
+abbrev pub seen_claim : ClaimTrees → Claim
+seen_claim c = record { variables = c.variables; hypotheses = formulas (formulas_of c.hypotheses.items); goal = formula_of c.goal; proof = proof_of c.proof }
+
+-- a goal and a proof, as they are seen: its formulas are those that their numbers have in the table
+abbrev pub claim_in : FormulaFile → Claim
+claim_in file =
+    record {
+      variables = file.goal.vars;
+      hypotheses = formulas (formulas_in file.terms file.goal.hypotheses.items);
+      goal = formula_in file.terms file.goal.goal;
+      proof = proof_of file.proof;
+    }
+
+-- the table has a formula for each number in the goal
+abbrev pub AreEntered : FormulaFile → Type 0
+AreEntered file = AreFormulas file.terms file.goal.hypotheses.items × IsFormula file.terms file.goal.goal
 
 -- hypotheses and a goal, as they are seen
 abbrev pub seen_statement : Vec SeenFormula Global × SeenFormula → Formulas × Formula

@@ -1,7 +1,7 @@
 -- What a text reads as where a proof is due.
 use Rattle.std.specs.Prelude.{ℕ, zero, suc, ◌+◌, codes, if◌then◌else◌, Option, Some, None}
 use Rattle.lc_sexp.specs.Trees.{Tree, Trees, atom, list, none, ◌▸◌, item_count}
-use Rattle.lc_term.specs.Names.{Names}
+use Rattle.lc_text.specs.Names.{Names}
 use Rattle.lc_kernel.specs.Proofs as S
 use Rattle.lc_kernel.specs.Proofs.{Proof, Proofs, proof, more}
 use Rattle.lc_reading.specs.Readings.{Reading, fine, wrong, mapped, both}

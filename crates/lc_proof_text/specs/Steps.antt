@@ -2,7 +2,7 @@
 use Rattle.std.specs.Prelude.{ℕ, ℤ, ◌+◌, List, []}
 use Rattle.lc_sexp.specs.Trees.{Tree, Trees, list, none, ◌▸◌, item_count}
 use Rattle.lc_term.specs.Syntax.{Term, Column}
-use Rattle.lc_term.specs.Names.{Names}
+use Rattle.lc_text.specs.Names.{Names}
 use Rattle.lc_kernel.specs.Proofs as S
 use Rattle.lc_kernel.specs.Proofs.{Step}
 use Rattle.lc_reading.specs.Readings.{Reading, fine, wrong, mapped, both}

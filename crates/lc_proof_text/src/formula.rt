@@ -1,6 +1,7 @@
 ghost use Rattle.std.specs.Prelude.{◌≡◌, ◌+◌, ◌<◌, ◌^◌, IfOk, IsTrue, []};
 ghost use Rattle.lc_sexp.specs.Shown.{rest_of, number_of, owner_of};
-ghost use Rattle.lc_term.specs.View.{formula_of, formulas_of};
+ghost use Rattle.lc_term.specs.Tables.{formula_in, formulas_in};
+ghost use Rattle.lc_term.specs.View.{formula_of};
 ghost use Rattle.lc_kernel.specs.Below.{all_below, formula_below};
 ghost use Rattle.lc_kernel.specs.Proofs.{size};
 ghost use Rattle.lc_kernel.specs.View.{proof_of};
@@ -10,13 +11,14 @@ ghost use Rattle.lc_reading.specs.Results.{IsReading};
 ghost use Rattle.lc_text.specs.Seen.{row_of};
 ghost use Rattle.lc_text.specs.Formulas.{formula_reading};
 ghost use Rattle.lc_proof_text.specs.FileNames.{declared_of, claim_names, proof_names};
-ghost use Rattle.lc_proof_text.specs.Files.{seen_claim, seen_statement, hypotheses_reading, goal_reading, shown_reading, statement_reading, claim_reading, sections_reading, form_reading, file_reading, only};
+ghost use Rattle.lc_proof_text.specs.Files.{seen_claim, claim_in, AreEntered, seen_statement, hypotheses_reading, goal_reading, shown_reading, statement_reading, claim_reading, sections_reading, form_reading, file_reading, only};
 ghost use Rattle.lc_proof_text.specs.Proofs.{proof_reading};
 
+use crate::claim::{ClaimTrees, FormulaFile, entered};
 use crate::names::{Declared, InClaim, InProof, read_declarations};
 use crate::proof::read_proof;
 use lc_base::Fault;
-use lc_kernel::{Goal, Proof};
+use lc_kernel::Proof;
 use lc_reading::{Part, ReadFault, behind_word, both, ended, next_part, one};
 use lc_sexp::{Cursor, Forms};
 use lc_term::Formula;
@@ -96,25 +98,23 @@ fn read_claim(
     hypotheses: Part<'_>,
     goal: Part<'_>,
     proof: Part<'_>,
-) -> Result<(Goal, Proof), ReadFault>
+) -> Result<ClaimTrees, ReadFault>
     ensures { IsReading seen_claim (claim_reading (declared_of declared.now) (place_of hypotheses.entry) (tree_of hypotheses.entry) (place_of goal.entry) (tree_of goal.entry) (place_of proof.entry) (tree_of proof.entry)) result }
 {
     let statement = read_statement(alloc, declared, hypotheses, goal);
     let proof = read_shown(alloc, declared, proof);
     let ((hypotheses, goal), proof) = both(statement, proof)?;
-    let vars = declared.variables.len();
-    Ok((
-        Goal {
-            vars,
-            hypotheses,
-            goal,
-        },
+    let variables = declared.variables.len();
+    Ok(ClaimTrees {
+        variables,
+        hypotheses,
+        goal,
         proof,
-    ))
+    })
 }
 
 /// The five sections, which are all that is left in a list.
-fn read_sections(alloc: Global, list: Cursor<'_>) -> Result<(Goal, Proof), ReadFault>
+fn read_sections(alloc: Global, list: Cursor<'_>) -> Result<ClaimTrees, ReadFault>
     ensures { IsReading seen_claim (sections_reading (owner_of list.entry) (number_of list.entry) (rest_of list.entry)) result }
 {
     let mut rest = list;
@@ -130,7 +130,7 @@ fn read_sections(alloc: Global, list: Cursor<'_>) -> Result<(Goal, Proof), ReadF
 }
 
 /// The form of a formula file.
-fn read_form(alloc: Global, part: Part<'_>) -> Result<(Goal, Proof), ReadFault>
+fn read_form(alloc: Global, part: Part<'_>) -> Result<ClaimTrees, ReadFault>
     ensures { IsReading seen_claim (form_reading (place_of part.entry) (tree_of part.entry)) result }
 {
     let list = behind_word(part, "formula")?;
@@ -138,25 +138,27 @@ fn read_form(alloc: Global, part: Part<'_>) -> Result<(Goal, Proof), ReadFault>
 }
 
 /// The form of a formula file, which is all that is left in a list.
-fn read_file(alloc: Global, forms: Cursor<'_>) -> Result<(Goal, Proof), ReadFault>
+fn read_file(alloc: Global, forms: Cursor<'_>) -> Result<ClaimTrees, ReadFault>
     ensures { IsReading seen_claim (only form_reading (owner_of forms.entry) (number_of forms.entry) (rest_of forms.entry)) result }
 {
     let (form, rest) = one(forms)?;
     ended(read_form(alloc, form), rest)
 }
 
-/// The goal and the proof of a formula file:
+/// The goal and the proof of a formula file, with a table in which the goal's formulas stand:
 /// `(formula (vars NAME*) (cols NAME*) (hyps F*) (goal F) (proof P))`.
 ///
 /// Where the file is none, `Refused` has its first refusal: `Text` with the offset of its first text fault; else of
 /// `Shape`, `Unknown`, `Repeated` and `Bound`, in this order, the first for which an item is wrong, with the least such
 /// item. `OutOfMemory` says nothing of the file. `prove` may be called with what is read.
-pub fn formula_of(alloc: Global, bytes: &[u8]) -> Result<(Goal, Proof), Fault>
-    ensures answer { IsAnswerTo seen_claim file_reading bytes.now result }
-    ensures hypotheses { IfOk result (λ answer. IsTrue (all_below answer.0.vars (formulas_of answer.0.hypotheses.items))) }
-    ensures goal { IfOk result (λ answer. IsTrue (formula_below answer.0.vars (formula_of answer.0.goal))) }
-    ensures steps { IfOk result (λ answer. answer.0.vars + size (proof_of answer.1) < 2 ^ 32) }
+pub fn formula_of(alloc: Global, bytes: &[u8]) -> Result<FormulaFile, Fault>
+    ensures answer { IsAnswerTo claim_in file_reading bytes.now result }
+    ensures numbers { IfOk result AreEntered }
+    ensures hypotheses { IfOk result (λ file. IsTrue (all_below file.goal.vars (formulas_in file.terms file.goal.hypotheses.items))) }
+    ensures goal { IfOk result (λ file. IsTrue (formula_below file.goal.vars (formula_in file.terms file.goal.goal))) }
+    ensures steps { IfOk result (λ file. file.goal.vars + size (proof_of file.proof) < 2 ^ 32) }
 {
     let forms = Forms::read(alloc, bytes)?;
-    Ok(read_file(alloc, forms.cursor())?)
+    let claim = read_file(alloc, forms.cursor())?;
+    Ok(entered(alloc, claim)?)
 }

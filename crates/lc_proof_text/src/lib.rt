@@ -1,12 +1,17 @@
 //! The text of proofs and of formula files: how it is read, in one walk, as a value or its first flaw.
 #![tactic(auto)]
 
+mod claim;
 mod formula;
 mod head;
 pub mod laws;
 mod names;
+mod printing;
 mod proof;
+pub mod read_back;
 mod step;
 
+pub use claim::FormulaFile;
 pub use formula::formula_of;
+pub use printing::write_proof;
 pub use proof::read_proof;

@@ -7,7 +7,7 @@ ghost use Rattle.lc_proof_text.specs.Files.{section_reading, declarations_readin
 
 use lc_base::{ColId, OutOfMemory};
 use lc_reading::{NameTable, Part, ReadFault, also, behind_word, read_names};
-use lc_term::{ColumnUse, Extra, Scope};
+use lc_text::{ColumnUse, Extra, Scope};
 use std::alloc::Global;
 
 /// The most columns that a formula file declares.

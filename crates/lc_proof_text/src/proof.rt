@@ -19,8 +19,7 @@ use lc_reading::{
     two, wrong,
 };
 use lc_sexp::{Cursor, Item};
-use lc_term::Scope;
-use lc_text::read_number;
+use lc_text::{Scope, read_number};
 use std::alloc::Global;
 
 /// Two numbers, which are all that is left in a list.

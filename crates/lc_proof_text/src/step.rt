@@ -11,8 +11,8 @@ use crate::head::Head;
 use lc_kernel::Step;
 use lc_reading::{Part, ReadFault, both, next_part, one, two};
 use lc_sexp::{Cursor, Misfit};
-use lc_term::{ColExpr, Scope, Term};
-use lc_text::{read_column, read_formula, read_number, read_term};
+use lc_term::{ColExpr, Term};
+use lc_text::{Scope, read_column, read_formula, read_number, read_term};
 use std::alloc::Global;
 
 /// The step that so many parts of a list read as, or what is wrong in them, and what is left behind them.

@@ -7,9 +7,9 @@ use Rattle.lc_term.specs.Syntax as S
 use Rattle.lc_term.specs.Updates.{assigned}
 use Rattle.lc_term.specs.View.{term_of}
 use Rattle.lc_term.specs.declared.term.Term.{Term}
-use Rattle.lc_object.specs.EdgeView.{update_of}
+use Rattle.lc_term.specs.UpdateView.{update_of}
 use Rattle.lc_object.specs.View.{locals_of, terms_of}
-use Rattle.lc_object.specs.declared.edge_table.Update.{Update}
+use Rattle.lc_term.specs.declared.update.Update.{Update}
 use Rattle.lc_object.specs.declared.instr.LocalId.{LocalId}
 
 -- no value is left

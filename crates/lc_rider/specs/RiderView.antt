@@ -2,7 +2,7 @@
 use Rattle.std.specs.Prelude.{List, Option, option_map, map}
 use Rattle.lc_term.specs.Syntax as T
 use Rattle.lc_term.specs.View.{term_of, formula_of}
-use Rattle.lc_seq.specs.SpecView.{update_of}
+use Rattle.lc_term.specs.UpdateView.{update_of}
 use Rattle.lc_rider.specs.Rider as S
 use Rattle.lc_rider.specs.declared.rider.When.{When}
 use Rattle.lc_rider.specs.declared.rider.Rider.{Rider}

@@ -70,7 +70,7 @@ fn assigned(
 }
 
 /// The variables behind the instruction, as terms over those before it.
-pub(crate) fn edge_variables(
+pub fn edge_variables(
     alloc: Global,
     count: u32,
     code: &lc_object::Edge,

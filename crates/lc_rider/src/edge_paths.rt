@@ -4,7 +4,7 @@ ghost use Rattle.lc_term.specs.Replacement.{replacing, replace_term};
 ghost use Rattle.lc_term.specs.Said.{put, said, term_at};
 ghost use Rattle.lc_term.specs.View.{term_of};
 ghost use Rattle.lc_seq.specs.Branches.{op_branches};
-ghost use Rattle.lc_seq.specs.SpecView.{update_of};
+ghost use Rattle.lc_term.specs.UpdateView.{update_of};
 ghost use Rattle.lc_seq.specs.TextView.{specification_of};
 ghost use Rattle.lc_object.specs.EdgeView.{edge_of};
 ghost use Rattle.lc_action.specs.ActionView.{first_of};
@@ -20,8 +20,8 @@ use crate::path::Path;
 use crate::rider::Rider;
 use lc_action::SystemColumns;
 use lc_base::{OpId, OutOfMemory};
-use lc_seq::{TextSpec, Update};
-use lc_term::Term;
+use lc_seq::TextSpec;
+use lc_term::{Term, Update};
 use std::alloc::Global;
 
 // What riders of an edge share: the specification, the operation whose code it is, and the variables behind the

@@ -12,7 +12,7 @@ mod path;
 mod rider;
 
 pub use duty::{Duty, Owing};
-pub use edge::Edge;
+pub use edge::{Edge, edge_variables};
 pub use edge_paths::paths;
 pub use path::Path;
 pub use rider::{Rider, When};

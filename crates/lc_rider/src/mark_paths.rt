@@ -1,7 +1,8 @@
 ghost use Rattle.std.specs.Prelude.{◌≡◌, ◌++◌, IfOk, OnOk, map};
 ghost use Rattle.lc_term.specs.View.{term_of, formula_of};
 ghost use Rattle.lc_seq.specs.Branches.{op_branches};
-ghost use Rattle.lc_seq.specs.SpecView.{updates_of, branch_of, branches_of};
+ghost use Rattle.lc_term.specs.UpdateView.{updates_of};
+ghost use Rattle.lc_seq.specs.SpecView.{branch_of, branches_of};
 ghost use Rattle.lc_seq.specs.TextView.{specification_of};
 ghost use Rattle.lc_action.specs.ActionView.{first_of};
 ghost use Rattle.lc_rider.specs.MarkView.{marking_of, with_duties, branch_path};
@@ -16,8 +17,8 @@ use crate::marking::{
 };
 use crate::path::Path;
 use lc_base::OutOfMemory;
-use lc_seq::{Branch, Update};
-use lc_term::{Formula, Term};
+use lc_seq::Branch;
+use lc_term::{Formula, Term, Update};
 use std::alloc::Global;
 
 // What a mark of the call of an operation that it names asks for besides.

@@ -3,8 +3,7 @@ ghost use Rattle.lc_term.specs.Truth.{is_ground};
 ghost use Rattle.lc_term.specs.View.{formula_of};
 
 use lc_base::OpId;
-use lc_seq::Update;
-use lc_term::{Formula, Term, is_ground_of_quantifiers};
+use lc_term::{Formula, Term, Update, is_ground_of_quantifiers};
 
 /// A formula without quantifiers, under which a rider acts.
 pub struct When {

@@ -1,11 +1,11 @@
 use lc_action::{SystemColumns, column_after};
 use lc_base::{ColId, OpId, OutOfMemory};
-use lc_object::{edges, object_of};
+use lc_object::edges;
+use lc_object_text::object_of;
 use lc_rider::{Duty, Edge, Owing, Path, Rider, When, paths};
-use lc_seq::Update;
 use lc_sexp::read;
 use lc_spec_text::spec_of;
-use lc_term::{ColExpr, Formula, Term};
+use lc_term::{ColExpr, Formula, Term, Update};
 use lc_text::{Spelling, write_column, write_formula};
 use std::alloc::Global;
 use std::test::Fail;

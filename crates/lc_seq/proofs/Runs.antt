@@ -2,27 +2,27 @@
 use Rattle.std.proofs.Common.{◌≡◌, ℕ, zero, suc, ◌+◌, ◌<◌, ◌≤◌, arith, Bool, true, false, ◌&&◌, List, [], ◌∷◌, ◌++◌, ℤ, Option, Some, None, Result, Ok, Err, IsErrAnd, map, reverse, drop, get_or, slice_get, option_map, option_to_list, IsSome, ◌-◌, length, length-append, refl, ap, sym, subst, ◌∙◌, append_assoc, inl, inr}
 use Rattle.std.proofs.lemmas.List.{drop_more, map-append, reverse-append}
 use Rattle.lc_term.proofs.Truth.{Decides-truth}
-use Rattle.std.proofs.lemmas.Bool.Decides.{eqb_tells}
-use Rattle.std.specs.Prelude.{◌==◌}
+use Rattle.std.proofs.lemmas.Bool.Decides.{eqb_tells, nat_tests}
+use Rattle.std.specs.Prelude.{◌==◌, nat_lt}
 use Rattle.std.specs.List.{list_all}
 use Rattle.std.specs.Prelude.{◌↔◌, MatchBool, if◌then◌else◌}
 use Rattle.lc_term.specs.Meaning.{State, Env, outside, value, Holds}
-use Rattle.lc_term.specs.Places.{known, term_passes}
+use Rattle.lc_term.specs.Places.{known, term_passes, is_known}
 use Rattle.lc_term.specs.Reached.{TermFits, FormulaFits}
-use Rattle.lc_term.specs.State.{with_cell}
+use Rattle.lc_term.specs.Computed.{IsComputed}
+use Rattle.lc_term.specs.Updates.{Update, Write, AreWithin}
+use Rattle.lc_term.specs.UpdateView.{writes_shown}
 use Rattle.lc_term.specs.Syntax.{Term, Formula}
 use Rattle.lc_term.specs.Truth.{is_ground, truth}
 use Rattle.std.specs.Prelude.{Vec}
 use Rattle.std.specs.declared.alloc.Global.{Global}
 use Rattle.lc_seq.specs.Applied.{IsApplied}
-use Rattle.lc_seq.specs.Run.{IsComputed, outcome_of, outcome_in}
-use Rattle.lc_seq.specs.Specification.{Branch, Operation, branch_is_resolved, operation_is_resolved, variables_of, branches_in}
-use Rattle.lc_seq.specs.SpecView.{waiting_of, write_of}
+use Rattle.lc_seq.specs.Run.{seq_says, outcome_of, outcome_in}
+use Rattle.lc_seq.specs.Specification.{Branch, Operation, update_is_resolved, branch_is_resolved, operation_is_resolved, variables_of, branches_in}
 use Rattle.lc_seq.specs.TextStep.{stored_all, outcome, TermsFit, UpdatesFit, RunFits, values_of, writes_of, run}
 use Rattle.lc_seq.specs.declared.fault.SeqFault.{SeqFault}
 use Rattle.lc_seq.specs.declared.fault.SeqFault.TheVariants.{Overflow, OutOfMemory}
 use Rattle.lc_seq.specs.declared.running.Outcome.{Outcome}
-use Rattle.lc_seq.specs.declared.text_state.Write.{Write}
 
 pub dropped : {A : Type 0} (xs : List A) (i : ℕ) (x : A) → i < length xs → x ≡ get_or xs i x → drop i xs ≡ x ∷ drop (i + 1) xs
 dropped xs i x lt is = drop_more xs i x lt ∙ ap (λ y. y ∷ drop (i + 1) xs) (sym is)
@@ -35,13 +35,13 @@ pub and_right : (a b : Bool) → (a && b) ≡ true → b ≡ true
 and_right true b e = e
 and_right false b e = absurd cc
 
-pub handed_on : {X Y : Type 0} (view : X → Y) (fits : Type 0) (wanted : Y) (r : Result X SeqFault) (fault : SeqFault) → IsErrAnd r (λ y. y ≡ fault) → IsComputed view fits wanted (Err fault) → IsComputed view fits wanted r
+pub handed_on : {X Y : Type 0} (view : X → Y) (fits : Type 0) (wanted : Y) (r : Result X SeqFault) (fault : SeqFault) → IsErrAnd r (λ y. y ≡ fault) → IsComputed seq_says view fits wanted (Err fault) → IsComputed seq_says view fits wanted r
 handed_on view fits wanted (Ok x) fault e known = absurd e
-handed_on view fits wanted (Err y) fault e known = subst (λ z. IsComputed view fits wanted (Err z)) (sym e) known
+handed_on view fits wanted (Err y) fault e known = subst (λ z. IsComputed seq_says view fits wanted (Err z)) (sym e) known
 
 -- the same of another thing that is computed, which fits where this one does
 pub handed_up : {X Y Z W : Type 0} (view : X → Y) (fits : Type 0) (wanted : Y) (up : Z → W) (all : Type 0) (whole : W) (r : Result Z SeqFault) (fault : SeqFault)
-    → IsErrAnd r (λ y. y ≡ fault) → (all → fits) → IsComputed view fits wanted (Err fault) → IsComputed up all whole r
+    → IsErrAnd r (λ y. y ≡ fault) → (all → fits) → IsComputed seq_says view fits wanted (Err fault) → IsComputed seq_says up all whole r
 handed_up view fits wanted up all whole r Overflow e part known = handed_on up all whole r Overflow e (λ f. known (part f))
 handed_up view fits wanted up all whole r OutOfMemory e part known = handed_on up all whole r OutOfMemory e tt
 
@@ -61,14 +61,33 @@ valued_next s e columns variables whole t rest values more v are fit made is = r
   made = ap (λ ys. ys ++ values_of s e rest) made ∙ append_assoc values (v ∷ []) (values_of s e rest) ∙ ap (λ z. values ++ z ∷ values_of s e rest) is ∙ are.made;
 }
 
--- what waits, where the last is taken away
-pub waiting-last : (ws : List Write) (w : Write) → waiting_of (ws ++ w ∷ []) ≡ write_of w ∷ waiting_of ws
-waiting-last ws w = ap reverse (map-append write_of ws (w ∷ [])) ∙ reverse-append (map write_of ws) (write_of w ∷ [])
+-- what updates of so many columns store belongs to these
+pub writes-within : (s : State) (e : Env) (columns variables : ℕ) (us : List Update) → list_all (update_is_resolved columns variables) us ≡ true → AreWithin columns (writes_of s e us)
+writes-within s e columns variables [] all = tt
+writes-within s e columns variables (u ∷ us) all =
+    let parts = term_passes (known columns variables) u.index && term_passes (known columns variables) u.value in
+    let below = and_left (nat_lt u.column columns) parts (and_left (update_is_resolved columns variables u) (list_all (update_is_resolved columns variables) us) all) in (
+      grind (arith, nat_tests),
+      writes-within s e columns variables us (and_right (update_is_resolved columns variables u) (list_all (update_is_resolved columns variables) us) all),
+    )
 
--- what waits, turned back
-pub waiting-reverse : (ws : List Write) → waiting_of (reverse ws) ≡ map write_of ws
-waiting-reverse [] = refl
-waiting-reverse (w ∷ ws) = ap waiting_of (reverse-append (w ∷ []) ws) ∙ waiting-last (reverse ws) w ∙ ap (λ ys. write_of w ∷ ys) (waiting-reverse ws)
+abbrev writes_in : Option (List Write × List ℤ) → List Write
+writes_in None = []
+writes_in (Some r) = r.0
+
+-- and what branches store
+pub run-within : (s : State) (e : Env) (columns variables : ℕ) (bs : List Branch) (r : List Write × List ℤ) → list_all (branch_is_resolved columns variables) bs ≡ true → Some r ≡ run s e bs → AreWithin columns r.0
+run-within s e columns variables [] r all is = absurd cc
+run-within s e columns variables (b ∷ bs) r all is =
+    let first = and_left (branch_is_resolved columns variables b) (list_all (branch_is_resolved columns variables) bs) all in
+    let updates = and_left (list_all (update_is_resolved columns variables) b.updates) (list_all (term_passes (known columns variables)) b.replies)
+    (and_right (is_ground b.guard && is_known columns variables b.guard) _ first) in
+    by_guard (truth s e outside b.guard) updates (run-within s e columns variables bs r (and_right (branch_is_resolved columns variables b) (list_all (branch_is_resolved columns variables) bs) all)) is
+  where
+    by_guard : (t : Bool) → list_all (update_is_resolved columns variables) b.updates ≡ true → (Some r ≡ run s e bs → AreWithin columns r.0)
+        → Some r ≡ (if t then Some (writes_of s e b.updates, values_of s e b.replies) else run s e bs) → AreWithin columns r.0
+    by_guard true updates rest is = subst (AreWithin columns) (sym (ap writes_in is)) (writes-within s e columns variables b.updates updates)
+    by_guard false updates rest is = rest is
 
 -- a guard whose answer is given
 pub decided : (s : State) (e : Env) (f : Formula) (answer : Bool) → is_ground f ≡ true → (answer ≡ true) ↔ Holds s e outside f → answer ≡ truth s e outside f
@@ -113,31 +132,11 @@ taken_gives s e columns variables whole b rest o are fit is known = (
   ap Some known.1 ∙ ap (λ t. if t then Some (writes_of s e b.updates, values_of s e b.replies) else run s e rest) (sym is) ∙ are.runs,
 )
 
--- one more of what waits is stored
-pub stored_next : (ws vs : List Write) (w : Write) (s t : State) → vs ≡ ws ++ w ∷ [] → t ≡ with_cell s w.column.0 w.index w.value → stored_all t (waiting_of ws) ≡ stored_all s (waiting_of vs)
-stored_next ws vs w s t made is = ap (λ z. stored_all z (waiting_of ws)) is ∙ sym (ap (stored_all s) (ap waiting_of made ∙ waiting-last ws w))
-
 pub dropped_all : {A : Type 0} (xs : List A) (i : ℕ) → length xs ≤ i → drop i xs ≡ []
 dropped_all [] zero le = refl
 dropped_all [] (suc i) le = refl
 dropped_all (x ∷ xs) zero le = absurd (omega arith)
 dropped_all (x ∷ xs) (suc i) le = dropped_all xs i (omega arith)
-
-last-there : {A : Type 0} (ws : List A) (x : A) → slice_get (ws ++ x ∷ []) (length ws) ≡ Some x
-last-there [] x = refl
-last-there (w ∷ ws) x = last-there ws x
-
-within : {A : Type 0} (xs : List A) (i : ℕ) (x : A) → slice_get xs i ≡ Some x → 0 < length xs
-within [] i x at = absurd cc
-within (y ∷ xs) i x at = omega arith
-
--- what is popped is what stood last
-pub popped : {A : Type 0} (vs ws : List A) (r : Option A) (w : A) → vs ≡ ws ++ option_to_list r → slice_get vs (length vs - 1) ≡ Some w → (0 < length vs → IsSome r) → vs ≡ ws ++ w ∷ []
-popped vs ws None w made at some = absurd (cc (some (within vs (length vs - 1) w at)))
-popped vs ws (Some x) w made at some =
-    let n : length vs - 1 ≡ length ws = omega (arith, ap length made, length-append ws (x ∷ [])) in
-    let same : x ≡ w = cc (last-there ws x, at) in
-    made ∙ ap (λ z. ws ++ z ∷ []) same
 
 each : {A : Type 0} (p : A → Bool) (xs : List A) (i : ℕ) (x : A) → list_all p xs ≡ true → slice_get xs i ≡ Some x → p x ≡ true
 each p [] i x all at = absurd cc
@@ -160,24 +159,24 @@ resolved_in columns operations i n all = by_operation (slice_get operations i) r
 
 -- what is computed of a call's branches is what is answered to the call
 pub computed_at : (s t : State) (e f : Env) (bs cs : List Branch) (r : Result (Option Outcome) SeqFault) → s ≡ t → e ≡ f → bs ≡ cs
-    → IsComputed outcome_in (RunFits s e bs) (run s e bs) r → IsComputed outcome_in (RunFits t f cs) (run t f cs) r
+    → IsComputed seq_says outcome_in (RunFits s e bs) (run s e bs) r → IsComputed seq_says outcome_in (RunFits t f cs) (run t f cs) r
 computed_at s t e f bs cs r same env branches known =
-    subst (λ z. IsComputed outcome_in (RunFits t f z) (run t f z) r) branches
-    (subst (λ z. IsComputed outcome_in (RunFits t z bs) (run t z bs) r) env
-    (subst (λ z. IsComputed outcome_in (RunFits z e bs) (run z e bs) r) same known))
+    subst (λ z. IsComputed seq_says outcome_in (RunFits t f z) (run t f z) r) branches
+    (subst (λ z. IsComputed seq_says outcome_in (RunFits t z bs) (run t z bs) r) env
+    (subst (λ z. IsComputed seq_says outcome_in (RunFits z e bs) (run z e bs) r) same known))
 
-pub none_applied : (t : State) (f : Env) (cs : List Branch) → IsComputed outcome_in (RunFits t f cs) (run t f cs) (Ok None) → RunFits t f cs × (option_map (outcome t) (run t f cs) ≡ None)
+pub none_applied : (t : State) (f : Env) (cs : List Branch) → IsComputed seq_says outcome_in (RunFits t f cs) (run t f cs) (Ok None) → RunFits t f cs × (option_map (outcome t) (run t f cs) ≡ None)
 none_applied t f cs known = (known.0, ap (option_map (outcome t)) (sym known.1))
 
-pub some_applied : (t : State) (f : Env) (cs : List Branch) (o : Outcome) → IsComputed outcome_in (RunFits t f cs) (run t f cs) (Ok (Some o))
-    → RunFits t f cs × (option_map (outcome t) (run t f cs) ≡ Some (stored_all t (waiting_of o.writes.items), o.replies.items))
+pub some_applied : (t : State) (f : Env) (cs : List Branch) (o : Outcome) → IsComputed seq_says outcome_in (RunFits t f cs) (run t f cs) (Ok (Some o))
+    → RunFits t f cs × (option_map (outcome t) (run t f cs) ≡ Some (stored_all t (writes_shown o.writes.items), o.replies.items))
 some_applied t f cs o known = (known.0, ap (option_map (outcome t)) (sym known.1))
 
 pub fault_applied : (t : State) (f : Env) (cs : List Branch) (new : State) (r : Result (Option (Vec ℤ Global)) SeqFault) (fault : SeqFault) → new ≡ t → IsErrAnd r (λ y. y ≡ fault)
-    → IsComputed outcome_in (RunFits t f cs) (run t f cs) (Err fault) → IsApplied {R = Vec ℤ Global} (λ reply. reply.items) (option_map (outcome t) (run t f cs)) (RunFits t f cs) t new r
+    → IsComputed seq_says outcome_in (RunFits t f cs) (run t f cs) (Err fault) → IsApplied {R = Vec ℤ Global} (λ reply. reply.items) (option_map (outcome t) (run t f cs)) (RunFits t f cs) t new r
 fault_applied t f cs new (Ok x) fault same e known = absurd e
 fault_applied t f cs new (Err y) fault same e known = subst (λ z. IsApplied {R = Vec ℤ Global} (λ reply. reply.items) (option_map (outcome t) (run t f cs)) (RunFits t f cs) t new (Err z)) (sym e) (by_fault fault known)
   where
-    by_fault : (fault : SeqFault) → IsComputed outcome_in (RunFits t f cs) (run t f cs) (Err fault) → IsApplied {R = Vec ℤ Global} (λ reply. reply.items) (option_map (outcome t) (run t f cs)) (RunFits t f cs) t new (Err fault)
+    by_fault : (fault : SeqFault) → IsComputed seq_says outcome_in (RunFits t f cs) (run t f cs) (Err fault) → IsApplied {R = Vec ℤ Global} (λ reply. reply.items) (option_map (outcome t) (run t f cs)) (RunFits t f cs) t new (Err fault)
     by_fault Overflow known = (known, same)
     by_fault OutOfMemory known = same

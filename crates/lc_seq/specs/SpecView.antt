@@ -1,22 +1,17 @@
 -- What the parts of a specification stand for.
-use Rattle.std.specs.Prelude.{List, map, reverse}
+use Rattle.std.specs.Prelude.{List, map}
 use Rattle.lc_base.specs.Name.{bytes_of}
 use Rattle.lc_term.specs.View.{term_of, formula_of}
+pub use Rattle.lc_term.specs.UpdateView.{update_of, updates_of}
 use Rattle.lc_seq.specs.Sequential.{Call}
 use Rattle.lc_seq.specs.Specification as S
-use Rattle.lc_seq.specs.TextStep as T
 use Rattle.lc_seq.specs.declared.specification.Column.{Column}
-use Rattle.lc_seq.specs.declared.specification.Update.{Update}
 use Rattle.lc_seq.specs.declared.specification.Branch.{Branch}
 use Rattle.lc_seq.specs.declared.specification.Operation.{Operation}
-use Rattle.lc_seq.specs.declared.text_state.Write.{Write}
 use Rattle.lc_seq.specs.declared.text_call.TextCall.{TextCall}
 
 abbrev pub column_of : Column → S.Column
 column_of c = record { name = bytes_of c.name; slope = c.slope; start = c.start }
-
-abbrev pub update_of : Update → S.Update
-update_of u = record { column = u.column.0; index = term_of u.index; value = term_of u.value }
 
 abbrev pub branch_of : Branch → S.Branch
 branch_of b = record { guard = formula_of b.guard; updates = map update_of b.updates.items; replies = map term_of b.replies.items }
@@ -27,21 +22,11 @@ operation_of o = record { name = bytes_of o.name; arguments = map bytes_of o.arg
 abbrev pub columns_of : List Column → List S.Column
 columns_of cs = map column_of cs
 
-abbrev pub updates_of : List Update → List S.Update
-updates_of us = map update_of us
-
 abbrev pub branches_of : List Branch → List S.Branch
 branches_of bs = map branch_of bs
 
 abbrev pub operations_of : List Operation → List S.Operation
 operations_of os = map operation_of os
-
-abbrev pub write_of : Write → T.Write
-write_of w = record { column = w.column.0; index = w.index; value = w.value }
-
--- what is still to be stored, the first last
-abbrev pub waiting_of : List Write → List T.Write
-waiting_of ws = reverse (map write_of ws)
 
 abbrev pub text_call_of : TextCall → Call
 text_call_of call = record { op = call.op.0; numbers = call.numbers.items }

@@ -48,3 +48,15 @@ calls_are_equal o p xs ys =
       λ e. λ i. the_call (eqb-true o p (left (nat_eq o p) (pointwise int_eq xs ys) e) i) (decides.0 (right (nat_eq o p) (pointwise int_eq xs ys) e) i),
       λ same. both (nat_eq o p) (pointwise int_eq xs ys) (eq-eqb o p (ap (λ c. c.op) same)) (decides.1 (ap (λ c. c.numbers) same)),
     )
+
+-- replies are equal where their numbers are
+pub replies_are_equal : (xs ys : List ℤ) → (pointwise int_eq xs ys ≡ true) ↔ (xs ≡ ys)
+replies_are_equal xs ys = slice_eq-Decides Decides-int_eq xs ys (pointwise int_eq xs ys) refl
+
+-- a call of another operation is another call
+pub calls_differ : (o p : ℕ) (xs ys : List ℤ) → (o ≡ p → ⊥) → (false ≡ true) ↔ (the_call o xs ≡ the_call p ys)
+calls_differ o p xs ys differ = (λ e. absurd cc, λ same. absurd (differ (ap (λ (c : Call). c.op) same)))
+
+-- a call of the same operation is the same call where its numbers are
+pub calls_agree : (o p : ℕ) (xs ys : List ℤ) (b : Bool) → o ≡ p → (b ≡ true) ↔ (xs ≡ ys) → (b ≡ true) ↔ (the_call o xs ≡ the_call p ys)
+calls_agree o p xs ys b op equal = (λ e. λ i. the_call (op i) (equal.0 e i), λ same. equal.1 (ap (λ (c : Call). c.numbers) same))

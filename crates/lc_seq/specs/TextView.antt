@@ -1,11 +1,10 @@
 -- What a specification and its states stand for.
-use Rattle.std.specs.Prelude.{◌≡◌, ◌<◌, ℕ, All}
+use Rattle.std.specs.Prelude.{◌≡◌, ℕ}
 use Rattle.lc_base.specs.Name.{bytes_of}
 use Rattle.lc_term.specs.Meaning as M
 use Rattle.lc_term.specs.State.{state_of, column_count}
 use Rattle.lc_seq.specs.Specification.{Specification}
-use Rattle.lc_seq.specs.SpecView.{columns_of, operations_of, waiting_of}
-use Rattle.lc_seq.specs.TextStep.{stored_all}
+use Rattle.lc_seq.specs.SpecView.{columns_of, operations_of}
 use Rattle.lc_seq.specs.declared.specification.TextSpec.{TextSpec}
 use Rattle.lc_seq.specs.declared.text_state.TextState.{TextState}
 
@@ -14,9 +13,8 @@ specification_of spec = record { name = bytes_of spec.name; columns = columns_of
 
 -- the number in each cell of each column
 abbrev pub text_state_of : TextState → M.State
-text_state_of state = stored_all (state_of state.cells) (waiting_of state.writes.items)
+text_state_of state = state_of state.cells
 
--- the state has so many columns, and what is still to be stored belongs to these
-pub record IsStateOf (columns : ℕ) (state : TextState) : Type 0 where
-  pub count : column_count state.cells ≡ columns
-  pub writes : All (λ w. w.column.0 < columns) state.writes.items
+-- the state has so many columns
+abbrev pub IsStateOf : ℕ → TextState → Type 0
+IsStateOf columns state = column_count state.cells ≡ columns

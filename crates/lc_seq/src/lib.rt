@@ -11,7 +11,9 @@ mod text_object;
 mod text_state;
 
 pub use fault::SeqFault;
+pub use lc_term::Update;
 pub use object::SeqObject;
-pub use specification::{Branch, Column, Operation, TextSpec, Update};
+pub use running::{Outcome, call_env, run, values_of, writes_of};
+pub use specification::{Branch, Column, Operation, TextSpec};
 pub use text_call::TextCall;
 pub use text_state::TextState;

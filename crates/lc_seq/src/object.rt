@@ -5,7 +5,7 @@ use std::alloc::Global;
 /// An object that is called by one client at a time. A call has a code, which is the number of its operation, and
 /// numbers; a reply is known by its numbers, so two replies with equal numbers are equal.
 pub trait SeqObject {
-    ghost use Rattle.std.specs.Prelude.{◌≡◌, ◌↔◌, ℕ, List, ℤ, Option, true, IfOk, MatchOption};
+    ghost use Rattle.std.specs.Prelude.{◌≡◌, ◌↔◌, ℕ, List, ℤ, Option, true, IsTrue, IfOk, MatchOption};
     ghost use Rattle.lc_seq.specs.Sequential.{Call, Sequential, Step};
     ghost use Rattle.lc_seq.specs.Applied.{IsApplied};
 
@@ -14,7 +14,7 @@ pub trait SeqObject {
     /// An operation with the numbers that it is given.
     type Call: Eq + Drop;
     /// What a call answers.
-    type Reply: Drop;
+    type Reply: Eq + Drop;
 
     /// What a state stands for.
     ghost Meaning: { Type 0 };
@@ -70,12 +70,19 @@ pub trait SeqObject {
         ensures { let call : Call = record { op = code; numbers = given.now } in
             IfOk result (λ found. MatchOption found (HasCall self.now call → ⊥) (λ its. HasCall self.now call × (call_meant its ≡ call))) };
 
+    /// Whether a call is the one of this code and these numbers, be there such a call or not.
+    fn is_call(&self, call: &Self::Call, code: u32, given: &[i64]) -> bool
+        ensures { let its : Call = record { op = code; numbers = given.now } in IsTrue result ↔ (call_meant call.now ≡ its) };
+
     /// The numbers of a reply.
     fn numbers_of(&self, alloc: Global, reply: &Self::Reply) -> Result<Vec<i64>, OutOfMemory>
         ensures { IfOk result (λ given. given.items ≡ numbers reply.now) };
 
     /// Calls are equal where they stand for the same.
     ghost equal_calls: { (a b : Self.Call) → (Self.Call.eq a b ≡ true) ↔ (call_meant a ≡ call_meant b) };
+
+    /// Replies are equal where their numbers are.
+    ghost equal_replies: { (a b : Self.Reply) → (Self.Reply.eq a b ≡ true) ↔ (numbers a ≡ numbers b) };
 
     /// Only a call that the object has takes a step.
     ghost steps_by_calls: { (object : Self) (s : Meaning) (client : ℕ) (call : Call) (t : Meaning) (reply : List ℤ) → Step (step object) s client call t reply → HasCall object call };

@@ -1,14 +1,16 @@
-ghost use Rattle.std.specs.Prelude.{◌≡◌, ◌+◌, ◌&&◌, ◌==◌, true, length, map};
-ghost use Rattle.std.specs.List.{list_all};
+ghost use Rattle.std.specs.Prelude.{◌≡◌, ◌+◌, ◌&&◌, ◌==◌, bytes_eq, not, true, length, map};
+ghost use Rattle.std.specs.List.{list_all, list_any};
+ghost use Rattle.lc_base.specs.Name.{bytes_of};
 ghost use Rattle.lc_term.specs.Places.{known, term_passes, column_passes, is_known, are_known};
 ghost use Rattle.lc_term.specs.Syntax.{formulas};
 ghost use Rattle.lc_term.specs.Truth.{is_ground, are_ground};
 ghost use Rattle.lc_term.specs.View.{term_of, column_of, formula_of, formulas_of};
-ghost use Rattle.lc_seq.specs.Specification.{update_is_resolved, branch_is_resolved, operation_is_resolved};
+ghost use Rattle.lc_seq.specs.Specification.{update_is_resolved, branch_is_resolved, operation_is_resolved, names_differ, are_resolved};
 ghost use Rattle.lc_seq.specs.SpecView.{update_of, updates_of, branch_of, branches_of, operation_of, operations_of};
 
-use crate::specification::{Branch, Operation, Update};
-use lc_term::{ColExpr, Formula, Term, is_ground_of_quantifiers};
+use crate::specification::{Branch, Operation};
+use lc_base::Name;
+use lc_term::{ColExpr, Formula, Term, Update, is_ground_of_quantifiers};
 
 // Whether columns and variables of a term are below these counts, and no bound variable stands in it.
 #[cycle(term_is_known)]
@@ -145,9 +147,27 @@ fn operation_is_resolved(operation: &Operation, columns: usize) -> bool
         && have_replies(&operation.branches, operation.replies as usize)
 }
 
-// Whether columns and variables of operations are declared, guards have no quantifiers, and each branch has its
-// operation's count of replies.
-pub(crate) fn are_resolved(operations: &[Operation], columns: usize) -> bool
+fn is_named_among(name: Name, operations: &[Operation]) -> bool
+    ensures { result ≡ list_any (λ p. bytes_eq (bytes_of name) p.name) (operations_of operations.now) }
+{
+    match operations.split_first() {
+        None => false,
+        Some((operation, others)) => name == operation.name || is_named_among(name, others),
+    }
+}
+
+fn names_differ(operations: &[Operation]) -> bool
+    ensures { result ≡ names_differ (operations_of operations.now) }
+{
+    match operations.split_first() {
+        None => true,
+        Some((operation, others)) => {
+            !is_named_among(operation.name, others) && names_differ(others)
+        }
+    }
+}
+
+fn operations_are_resolved(operations: &[Operation], columns: usize) -> bool
     ensures { result ≡ list_all (operation_is_resolved columns) (operations_of operations.now) }
 {
     for operation in operations {
@@ -156,4 +176,12 @@ pub(crate) fn are_resolved(operations: &[Operation], columns: usize) -> bool
         }
     }
     true
+}
+
+// Whether columns and variables of operations are declared, guards have no quantifiers, and each branch has its
+// operation's count of replies, and names of operations differ.
+pub(crate) fn are_resolved(operations: &[Operation], columns: usize) -> bool
+    ensures { result ≡ are_resolved columns (operations_of operations.now) }
+{
+    operations_are_resolved(operations, columns) && names_differ(operations)
 }

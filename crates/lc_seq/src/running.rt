@@ -1,29 +1,32 @@
-ghost use Rattle.std.specs.Prelude.{◌≡◌, ◌<◌, ◌+◌, true, All, IfOk, IfSome, length, map};
+ghost use Rattle.std.specs.Prelude.{◌≡◌, ◌+◌, true, IfOk, IfSome, length, map};
 ghost use Rattle.std.specs.List.{list_all};
 ghost use Rattle.lc_term.specs.Places.{known, term_passes};
 ghost use Rattle.lc_term.specs.State.{state_of, env_of, column_count, variable_count};
 ghost use Rattle.lc_term.specs.View.{term_of};
-ghost use Rattle.lc_seq.specs.Run.{IsComputed, outcome_of, outcome_in};
+ghost use Rattle.lc_term.specs.Computed.{IsComputed};
+ghost use Rattle.lc_term.specs.Reached.{TermsFit};
+ghost use Rattle.lc_term.specs.Updates.{UpdatesFit, AreWithin, writes_of, values_of};
+ghost use Rattle.lc_term.specs.UpdateView.{updates_of, writes_shown};
+ghost use Rattle.lc_seq.specs.Run.{seq_says, outcome_of, outcome_in};
 ghost use Rattle.lc_seq.specs.Specification.{update_is_resolved, branch_is_resolved};
-ghost use Rattle.lc_seq.specs.SpecView.{updates_of, branch_of, branches_of, waiting_of};
-ghost use Rattle.lc_seq.specs.TextStep.{run, RunFits, UpdatesFit, TermsFit, writes_of, values_of, call_env};
+ghost use Rattle.lc_seq.specs.SpecView.{branch_of, branches_of};
+ghost use Rattle.lc_seq.specs.TextStep.{run, RunFits, call_env};
 
 use crate::fault::SeqFault;
-use crate::specification::{Branch, Update};
-use crate::text_state::Write;
+use crate::specification::Branch;
 use lc_base::OutOfMemory;
-use lc_term::{Env, EvalFault, State, Term, eval, eval_term};
+use lc_term::{Env, EvalFault, State, Term, Update, Write, eval, eval_term};
 use std::alloc::Global;
 
-// What a call stores and replies. The first that is stored is the last.
+/// What a branch stores, in order, and what it replies.
 #[derive(Debug, Drop)]
-pub(crate) struct Outcome {
-    pub(crate) writes: Vec<Write>,
-    pub(crate) replies: Vec<i64>,
+pub struct Outcome {
+    pub writes: Vec<Write>,
+    pub replies: Vec<i64>,
 }
 
-// The variables of a branch at a client's call.
-pub(crate) fn call_env(alloc: Global, client: u32, numbers: &[i64]) -> Result<Env, OutOfMemory>
+/// The variables of a branch at a client's call.
+pub fn call_env(alloc: Global, client: u32, numbers: &[i64]) -> Result<Env, OutOfMemory>
     ensures env { IfOk result (λ env. env_of env ≡ call_env client numbers.now) }
     ensures count { IfOk result (λ env. variable_count env ≡ 2 + length numbers.now) }
 {
@@ -34,10 +37,15 @@ pub(crate) fn call_env(alloc: Global, client: u32, numbers: &[i64]) -> Result<En
     Ok(Env { values })
 }
 
-// The numbers of terms.
-fn values_of(alloc: Global, terms: &[Term], state: &State, env: &Env) -> Result<Vec<i64>, SeqFault>
+/// The numbers of terms. `Overflow` is answered exactly where a number that is reached does not fit.
+pub fn values_of(
+    alloc: Global,
+    terms: &[Term],
+    state: &State,
+    env: &Env,
+) -> Result<Vec<i64>, SeqFault>
     requires { list_all (term_passes (known (column_count state.now) (variable_count env.now))) (map term_of terms.now) ≡ true }
-    ensures { IsComputed (λ numbers. numbers.items) (TermsFit (state_of state.now) (env_of env.now) (map term_of terms.now)) (values_of (state_of state.now) (env_of env.now) (map term_of terms.now)) result }
+    ensures { IsComputed seq_says (λ numbers. numbers.items) (TermsFit (state_of state.now) (env_of env.now) (map term_of terms.now)) (values_of (state_of state.now) (env_of env.now) (map term_of terms.now)) result }
 {
     let mut values = Vec::new(alloc);
     for term in terms {
@@ -47,16 +55,17 @@ fn values_of(alloc: Global, terms: &[Term], state: &State, env: &Env) -> Result<
     Ok(values)
 }
 
-// What updates store. The first that is stored is the last.
-fn writes_of(
+/// What updates store, in order: indexes and values are those of the state before any of them. `Overflow` is answered
+/// exactly where a number that is reached does not fit.
+pub fn writes_of(
     alloc: Global,
     updates: &[Update],
     state: &State,
     env: &Env,
 ) -> Result<Vec<Write>, SeqFault>
     requires { list_all (update_is_resolved (column_count state.now) (variable_count env.now)) (updates_of updates.now) ≡ true }
-    ensures computed { IsComputed (λ writes. waiting_of writes.items) (UpdatesFit (state_of state.now) (env_of env.now) (updates_of updates.now)) (writes_of (state_of state.now) (env_of env.now) (updates_of updates.now)) result }
-    ensures columns { IfOk result (λ writes. All (λ write. write.column.0 < column_count state.now) writes.items) }
+    ensures computed { IsComputed seq_says (λ writes. writes_shown writes.items) (UpdatesFit (state_of state.now) (env_of env.now) (updates_of updates.now)) (writes_of (state_of state.now) (env_of env.now) (updates_of updates.now)) result }
+    ensures columns { IfOk result (λ writes. AreWithin (column_count state.now) (writes_shown writes.items)) }
 {
     let mut writes = Vec::new(alloc);
     for update in updates {
@@ -68,33 +77,32 @@ fn writes_of(
             value,
         })?;
     }
-    writes.reverse();
     Ok(writes)
 }
 
 fn run_branch(alloc: Global, branch: &Branch, state: &State, env: &Env) -> Result<Outcome, SeqFault>
     requires { branch_is_resolved (column_count state.now) (variable_count env.now) (branch_of branch.now) ≡ true }
-    ensures computed { let b = branch_of branch.now in
+    ensures { let b = branch_of branch.now in
         let s = state_of state.now in
         let e = env_of env.now in
-        IsComputed outcome_of (UpdatesFit s e b.updates × TermsFit s e b.replies) (writes_of s e b.updates, values_of s e b.replies) result }
-    ensures columns { IfOk result (λ outcome. All (λ write. write.column.0 < column_count state.now) outcome.writes.items) }
+        IsComputed seq_says outcome_of (UpdatesFit s e b.updates × TermsFit s e b.replies) (writes_of s e b.updates, values_of s e b.replies) result }
 {
     let writes = writes_of(alloc, &branch.updates, state, env)?;
     let replies = values_of(alloc, &branch.replies, state, env)?;
     Ok(Outcome { writes, replies })
 }
 
-// What the first branch stores and replies whose guard holds.
-pub(crate) fn run(
+/// What the first branch stores and replies whose guard holds, if there is one. Nothing is stored. `Overflow` is answered
+/// exactly where a number that is reached does not fit: guards up to that one, then its updates, then its replies.
+pub fn run(
     alloc: Global,
     branches: &[Branch],
     state: &State,
     env: &Env,
 ) -> Result<Option<Outcome>, SeqFault>
     requires { list_all (branch_is_resolved (column_count state.now) (variable_count env.now)) (branches_of branches.now) ≡ true }
-    ensures computed { IsComputed outcome_in (RunFits (state_of state.now) (env_of env.now) (branches_of branches.now)) (run (state_of state.now) (env_of env.now) (branches_of branches.now)) result }
-    ensures columns { IfOk result (λ found. IfSome found (λ outcome. All (λ write. write.column.0 < column_count state.now) outcome.writes.items)) }
+    ensures computed { IsComputed seq_says outcome_in (RunFits (state_of state.now) (env_of env.now) (branches_of branches.now)) (run (state_of state.now) (env_of env.now) (branches_of branches.now)) result }
+    ensures columns { IfOk result (λ found. IfSome found (λ outcome. AreWithin (column_count state.now) (writes_shown outcome.writes.items))) }
 {
     for branch in branches {
         if eval(&branch.guard, state, env)? {

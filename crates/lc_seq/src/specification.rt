@@ -1,11 +1,10 @@
 ghost use Rattle.std.specs.Prelude.{◌≡◌, true, length};
-ghost use Rattle.std.specs.List.{list_all};
-ghost use Rattle.lc_seq.specs.Specification.{operation_is_resolved};
+ghost use Rattle.lc_seq.specs.Specification.{are_resolved};
 ghost use Rattle.lc_seq.specs.SpecView.{operations_of};
 
 use crate::resolving::are_resolved;
-use lc_base::{ColId, Name, OpId};
-use lc_term::{Formula, Term};
+use lc_base::{Name, OpId};
+use lc_term::{Formula, Term, Update};
 
 /// A column, which starts with `slope * i + start` in cell i.
 #[derive(Debug, Drop)]
@@ -13,14 +12,6 @@ pub struct Column {
     pub name: Name,
     pub slope: i64,
     pub start: i64,
-}
-
-/// A value that is stored in a column at an index.
-#[derive(Debug, Drop)]
-pub struct Update {
-    pub column: ColId,
-    pub index: Term,
-    pub value: Term,
 }
 
 /// What is stored and replied where a guard holds. Variable 0 is the number of clients, which no specification
@@ -64,22 +55,21 @@ pub struct TextSpec {
     pub(crate) name: Name,
     pub(crate) columns: Vec<Column>,
     pub(crate) operations: Vec<Operation>,
-    ghost is_resolved: { list_all (operation_is_resolved (length columns.items)) (operations_of operations.items) ≡ true },
+    ghost is_resolved: { are_resolved (length columns.items) (operations_of operations.items) ≡ true },
 }
 
 impl TextSpec {
     ghost use Rattle.std.specs.Prelude.{◌≡◌, ◌↔◌, IsSome, IfSome, slice_get, length, true};
-    ghost use Rattle.std.specs.List.{list_all};
-    ghost use Rattle.lc_seq.specs.Specification.{operation_is_resolved};
+    ghost use Rattle.lc_seq.specs.Specification.{are_resolved};
     ghost use Rattle.lc_base.specs.Name.{bytes_of};
     ghost use Rattle.lc_seq.specs.Specification.{branches_in};
     ghost use Rattle.lc_seq.specs.SpecView.{columns_of, operations_of, branches_of};
     ghost use Rattle.lc_seq.specs.TextView.{specification_of};
 
     /// The specification of these columns and operations, if each column and variable in an operation is declared,
-    /// guards have no quantifiers, and each branch has as many replies as its operation.
+    /// guards have no quantifiers, each branch has as many replies as its operation, and names of operations differ.
     pub fn new(name: Name, columns: Vec<Column>, operations: Vec<Operation>) -> Option<TextSpec>
-        ensures resolved { IsSome result ↔ (list_all (operation_is_resolved (length columns.items)) (operations_of operations.items) ≡ true) }
+        ensures resolved { IsSome result ↔ (are_resolved (length columns.items) (operations_of operations.items) ≡ true) }
         ensures value { IfSome result (λ spec. specification_of spec ≡ record { name = bytes_of name; columns = columns_of columns.items; operations = operations_of operations.items }) }
     {
         if are_resolved(&operations, columns.len()) {
@@ -90,6 +80,18 @@ impl TextSpec {
             })
         } else {
             None
+        }
+    }
+
+    /// The specification of these columns and operations, of which this is known.
+    pub fn of_parts(name: Name, columns: Vec<Column>, operations: Vec<Operation>) -> TextSpec
+        requires { are_resolved (length columns.items) (operations_of operations.items) ≡ true }
+        ensures { specification_of result ≡ record { name = bytes_of name; columns = columns_of columns.items; operations = operations_of operations.items } }
+    {
+        TextSpec {
+            name,
+            columns,
+            operations,
         }
     }
 

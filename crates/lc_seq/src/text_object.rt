@@ -1,3 +1,5 @@
+ghost use Rattle.std.specs.Prelude.{◌≡◌, ◌↔◌, IsTrue};
+
 use crate::fault::SeqFault;
 use crate::object::SeqObject;
 use crate::running::{call_env, run};
@@ -8,6 +10,13 @@ use lc_base::{OpId, OutOfMemory};
 use lc_term::State;
 use std::alloc::Global;
 
+// Whether these are the same numbers.
+fn are_equal(a: &[i64], b: &[i64]) -> bool
+    ensures { IsTrue result ↔ (a.now ≡ b.now) }
+{
+    a == b
+}
+
 impl SeqObject for TextSpec {
     ghost use Rattle.std.specs.Prelude.{◌≡◌, true, length};
     ghost use Rattle.lc_term.specs.Meaning.{State};
@@ -15,7 +24,7 @@ impl SeqObject for TextSpec {
     ghost use Rattle.lc_seq.specs.SpecView.{operations_of, columns_of, text_call_of};
     ghost use Rattle.lc_seq.specs.TextStep.{text_step, TextFits, start_of};
     ghost use Rattle.lc_seq.specs.TextView.{text_state_of, IsStateOf};
-    ghost use Rattle.lc_seq.specs.TextLaws.{calls_are_equal, text_steps_by_calls};
+    ghost use Rattle.lc_seq.specs.TextLaws.{calls_are_equal, replies_are_equal, text_steps_by_calls};
 
     type State = TextState;
 
@@ -43,6 +52,8 @@ impl SeqObject for TextSpec {
 
     ghost equal_calls = { λ a b. calls_are_equal a.op.0 b.op.0 a.numbers.items b.numbers.items };
 
+    ghost equal_replies = { λ a b. replies_are_equal a.items b.items };
+
     ghost steps_by_calls = { λ spec. text_steps_by_calls (operations_of spec.operations.items) };
 
     fn initial(&self, alloc: Global) -> Result<TextState, OutOfMemory> {
@@ -52,7 +63,6 @@ impl SeqObject for TextSpec {
         }
         Ok(TextState {
             cells: State::new(alloc, &initial)?,
-            writes: Vec::new(alloc),
         })
     }
 
@@ -63,12 +73,11 @@ impl SeqObject for TextSpec {
         client: u32,
         call: &TextCall,
     ) -> Result<Option<Vec<i64>>, SeqFault> {
-        state.store(self.columns.len())?;
         let branches = self.branches_for(call.op, call.numbers.len());
         let env = call_env(alloc, client, &call.numbers)?;
         match run(alloc, branches, &state.cells, &env)? {
             Some(outcome) => {
-                state.writes = outcome.writes;
+                state.cells.write_all(alloc, &outcome.writes)?;
                 Ok(Some(outcome.replies))
             }
             None => Ok(None),
@@ -88,6 +97,13 @@ impl SeqObject for TextSpec {
             })),
             _ => Ok(None),
         }
+    }
+
+    fn is_call(&self, call: &TextCall, code: u32, given: &[i64]) -> bool {
+        if call.op.0 != code {
+            return false;
+        }
+        are_equal(&call.numbers, given)
     }
 
     fn numbers_of(&self, alloc: Global, reply: &Vec<i64>) -> Result<Vec<i64>, OutOfMemory> {

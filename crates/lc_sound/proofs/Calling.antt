@@ -16,13 +16,13 @@ use Rattle.lc_term.specs.State.{initial_state}
 use Rattle.lc_term.proofs.Substituted.{Holds-replacing}
 use Rattle.lc_hist.proofs.Tables.{slice_get-set, slice_get-set_other}
 use Rattle.lc_object.specs.Syntax.{Operation, Object}
-use Rattle.lc_object.specs.WellFormed.{is_object, is_label, are_operations, has_limits}
+use Rattle.lc_object.specs.WellFormed.{is_object, is_label, is_first, are_operations, has_limits}
 use Rattle.lc_machine.specs.World.{Client, Idle, In, World, first_variables}
 use Rattle.lc_machine.specs.Step.{IsClient}
 use Rattle.lc_machine.proofs.Promised.{first_count}
 use Rattle.lc_term.specs.Lists.{concat_places, Every}
 use Rattle.lc_term.proofs.Tests.{left_true, right_true}
-use Rattle.lc_object.proofs.ObjectParts.{operations_pass}
+use Rattle.lc_object.proofs.ObjectParts.{operations_pass, first_stands}
 use Rattle.lc_term.specs.Said.{told, variables_from}
 use Rattle.lc_term.specs.SystemColumns.{pend, op_column, arg_columns, noted}
 use Rattle.lc_rider.specs.Rider.{argument, invocation_writes}
@@ -62,7 +62,7 @@ start_said D s e [] h = tt
 start_said D s e (f ∷ fs) h =
     (subst (λ X. X) (Holds-replacing s e outside (start_column (start_numbers D)) Variable f ∙ (λ i. Rattle.lc_term.specs.Meaning.Holds (fun_ext (start_column_is s e (start_numbers D)) i) e outside f)) h.0, start_said D s e fs h.1)
 
-idle_in : (n r : ℕ) (x : Client) → slice_get (replicate n Idle) r ≡ Some x → x ≡ Idle
+pub idle_in : (n r : ℕ) (x : Client) → slice_get (replicate n Idle) r ≡ Some x → x ≡ Idle
 idle_in zero r x h = absurd cc
 idle_in (suc n) zero x h = sym (same_Some Idle x h)
 idle_in (suc n) (suc r) x h = idle_in n r x h
@@ -97,10 +97,10 @@ start_good D X n = record {
 entry_at : (object : Object) (n : ℕ) (os : List Operation) (k : ℕ) (o : Operation) → are_operations object n os ≡ true → slice_get os k ≡ Some o → Led object (n + k) o.entry
 entry_at object n [] k o h e = absurd cc
 entry_at object n (x ∷ os) zero o h e =
-    let mine = right_true (has_limits x) (is_label object n x.entry) (left_true (has_limits x && is_label object n x.entry) (are_operations object (suc n) os) h) in
+    let mine = first_stands object.points n x.entry (right_true (has_limits x) (is_first object.points n x.entry) (left_true (has_limits x && is_first object.points n x.entry) (are_operations object (suc n) os) h)) in
     subst (λ j. Led object j o.entry) (omega arith) (subst (λ (y : Operation). Led object n y.entry) (same_Some x o e) (label_point object n x.entry (slice_get object.points x.entry) refl mine))
 entry_at object n (x ∷ os) (suc k) o h e =
-    subst (λ j. Led object j o.entry) (omega arith) (entry_at object (suc n) os k o (right_true (has_limits x && is_label object n x.entry) (are_operations object (suc n) os) h) e)
+    subst (λ j. Led object j o.entry) (omega arith) (entry_at object (suc n) os k o (right_true (has_limits x && is_first object.points n x.entry) (are_operations object (suc n) os) h) e)
 
 pub entry_point : (object : Object) → is_object object ≡ true → (k : ℕ) (o : Operation) → slice_get object.operations k ≡ Some o → Led object k o.entry
 entry_point object well k o e = subst (λ j. Led object j o.entry) (omega arith) (entry_at object 0 object.operations k o (operations_pass object well) e)

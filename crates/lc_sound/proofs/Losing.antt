@@ -10,7 +10,7 @@ use Rattle.lc_term.specs.State.{with_cell}
 use Rattle.lc_seq.specs.Sequential.{Call}
 use Rattle.lc_seq.specs.Specification.{Specification}
 use Rattle.lc_seq.specs.TextStep.{text_step, start_of}
-use Rattle.lc_hist.specs.History.{Event, Entry, IsLegal, AreCalls, entries_of, Linearizes}
+use Rattle.lc_hist.specs.History.{Event, Entry, IsLegal, AreCalls, entries_of, Linearizes, IsLinearizable}
 use Rattle.lc_object.specs.Syntax as O
 use Rattle.lc_object.specs.Syntax.{Load, Store, Cas, Return}
 use Rattle.lc_object.specs.declared.instr.EdgeKind.TheVariants.{Next}
@@ -18,7 +18,7 @@ use Rattle.lc_machine.specs.World.{World, Idle, In, initial_world}
 use Rattle.lc_machine.specs.Step.{Invoked, Moved, Returned, Steps, after, with_row}
 use Rattle.lc_machine.specs.Runs.{IsBareRun}
 use Rattle.lc_cond.specs.Counter.{counter_specification, racy_object}
-use Rattle.lc_sound.specs.Instrumented.{bare_history, IsLinearizable}
+use Rattle.lc_sound.specs.Instrumented.{bare_history}
 use Rattle.lc_sound.specs.Examples.{lost_labels, LostUpdateIsNeverProven}
 use Rattle.lc_term.proofs.Stores.{same_self}
 use Rattle.lc_sound.proofs.Lifted.{proved}

@@ -27,7 +27,7 @@ extended D n ls w v c what ms run step = one_more D (start_world D n) ls w v c w
 
 -- ---- an instruction
 
-does_once : (object : Object) (s : State) (vs : List ℤ) (i : Instr) (k l : EdgeKind) (a b : State) (x y : Outcome) → Does object s vs i k a x → Does object s vs i l b y → (k ≡ l) × (a ≡ b) × (x ≡ y)
+pub does_once : (object : Object) (s : State) (vs : List ℤ) (i : Instr) (k l : EdgeKind) (a b : State) (x y : Outcome) → Does object s vs i k a x → Does object s vs i l b y → (k ≡ l) × (a ≡ b) × (x ≡ y)
 does_once object s vs (Load a t rs m) k l x y o p (d, e, f) (g, h, j) = (d ∙ sym g, e ∙ sym h, f ∙ sym j)
 does_once object s vs (Store a t us m) k l x y o p (d, e, f) (g, h, j) = (d ∙ sym g, e ∙ sym h, f ∙ sym j)
 does_once object s vs (Cas a t old new m q) k l x y o p (inl (is, d, e, f)) (inl (is', g, h, j)) = (d ∙ sym g, e ∙ sym h, f ∙ sym j)

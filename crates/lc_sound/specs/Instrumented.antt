@@ -2,10 +2,9 @@
 use Rattle.std.specs.Prelude.{◌≡◌, ℕ, ◌+◌, ◌<◌, ◌≤◌, List, [], ◌∷◌, ◌++◌, ℤ, map, length, replicate}
 use Rattle.lc_term.specs.Updates.{stored_all, variable}
 use Rattle.lc_term.specs.Meaning.{State}
-use Rattle.lc_seq.specs.Sequential.{Sequential}
 use Rattle.lc_seq.specs.TextStep.{text_step, start_of}
 use Rattle.lc_hist.specs.History as H
-use Rattle.lc_hist.specs.History.{Called, Replied, Entry, Linearizes}
+use Rattle.lc_hist.specs.History.{Called, Replied, IsLinearizable}
 use Rattle.lc_object.specs.declared.instr.EdgeKind.TheVariants.{Next}
 use Rattle.lc_machine.specs.Runs.{BareLabel, IsBareRun}
 use Rattle.lc_machine.specs.World.{World, Idle, In}
@@ -82,10 +81,6 @@ unmarked l = record { client = l.client; what = l.what }
 
 abbrev pub history : List Label → List H.Event
 history ls = bare_history (map unmarked ls)
-
--- some order linearizes the history
-abbrev pub IsLinearizable : {A : Type 0} → Sequential A → A → List H.Event → Type 0
-IsLinearizable step first events = (order : List Entry) × Linearizes step first events order
 
 -- every history of the object, for any number of clients, is linearizable
 abbrev pub IsLinearizableObject : Development → Type 0

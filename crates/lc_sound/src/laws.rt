@@ -2,6 +2,7 @@
 ghost use Rattle.std.specs.Prelude.{List};
 ghost use Rattle.lc_hist.specs.History.{Linearizes};
 ghost use Rattle.lc_sound.specs.Claims.{OutlinesHold, BareStepsLift, StepsAreActions, RunsAreSimulated, OrdersLinearize, RunsStandOver, RunsExtend, StepsAreDetermined, Headline};
+ghost use Rattle.lc_sound.specs.EdgePaths.{EdgePathsExclude, StepsArePaths, RunsAreOrdinary};
 ghost use Rattle.lc_sound.specs.Happening.{Happening, events, counted};
 ghost use Rattle.lc_sound.specs.Lawful.{Free, IsLawful};
 
@@ -36,6 +37,16 @@ pub fn runs_stand_over()
     ensures over { RunsStandOver }
     ensures extends { RunsExtend }
     ensures determined { StepsAreDetermined }
+{}
+
+/// The paths of an edge are its instrumented steps. In every state the facts of at most one path hold. Where a client's bare
+/// step goes by the edge, its instrumented step leads to columns exactly where a path leads to them whose facts hold, whose
+/// marks are lawful, and whose replies, on a return, stand as they are asked for. This asks that none but clients are in
+/// calls, and that each knows its own number, as it is in each world of a run; and for no condition.
+pub fn edges_go_by_paths()
+    ensures apart { EdgePathsExclude }
+    ensures steps { StepsArePaths }
+    ensures ordinary { RunsAreOrdinary }
 {}
 
 /// Where all conditions of a development are valid, for every number of clients and every list of single-access steps of its

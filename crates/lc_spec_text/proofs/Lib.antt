@@ -2,4 +2,5 @@ pub mod Counts
 pub mod FileAnswers
 pub mod Parts
 pub mod Places
+pub mod Named
 pub mod Resolved

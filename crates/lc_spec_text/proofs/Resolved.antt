@@ -27,11 +27,12 @@ use Rattle.lc_text.specs.DeclaredColumn.{column_parts_reading}
 use Rattle.lc_text.specs.Formulas.{formula_reading}
 use Rattle.lc_text.specs.Terms.{pair, triple, number_reading, term_reading}
 use Rattle.lc_seq.specs.Specification as S
-use Rattle.lc_seq.specs.Specification.{Update, Branch, Operation, Specification, update_is_resolved, branch_is_resolved, operation_is_resolved, variables_of}
+use Rattle.lc_seq.specs.Specification.{Branch, Operation, Specification, update_is_resolved, branch_is_resolved, operation_is_resolved, names_differ, are_resolved, variables_of}
 use Rattle.lc_seq.specs.SpecView.{column_of}
 use Rattle.lc_seq.specs.declared.specification.Column.{Column as ColumnValue}
 use Rattle.lc_seq.specs.declared.specification.Operation.{Operation as OperationValue}
 use Rattle.lc_spec_text.specs.Seen.{operations_of, specification_parts}
+use Rattle.lc_spec_text.proofs.Named.{operations_differ}
 use Rattle.lc_spec_text.proofs.Places.{placed_below}
 use Rattle.lc_spec_text.specs.Scopes.{Columns, client, column_at, branch_names}
 use Rattle.lc_spec_text.specs.Branches.{stored, written_reading, the_update, update_parts_reading, update_reading, updates_reading, replies_reading, the_branch, branch_parts_reading, branch_reading}
@@ -305,9 +306,14 @@ columns_hold n (list none) = tt
 columns_hold n (list (list us ▸ ts)) = tt
 columns_hold n (list (atom w ▸ ts)) = columns_counted n w ts (is w (codes "abstract")) refl
 
+-- two facts of what is read
+both_hold : {X : Type 0} (P Q R : X → Type 0) (r : Reading X) → Holds P r → Holds Q r → ((x : X) → P x → Q x → R x) → Holds R r
+both_hold P Q R (fine x) h g k = k x h g
+both_hold P Q R (flawed f) h g k = tt
+
 -- the whole
 abbrev pub IsResolved : (List ℕ × List S.Column) × List Operation → Type 0
-IsResolved p = list_all (operation_is_resolved (length p.0.1)) p.1 ≡ true
+IsResolved p = are_resolved (length p.0.1) p.1 ≡ true
 
 parts_hold : (others : List (List ℕ)) (n m : ℕ) (ts : Trees) → Holds IsResolved (specification_parts_reading others n m ts)
 parts_hold others n m none = tt
@@ -316,15 +322,17 @@ parts_hold others n m (t ▸ u ▸ none) = tt
 parts_hold others n m (t ▸ u ▸ o ▸ os) =
     let columns : Columns = record { own = columns_in u; others = others } in
     let test = operation_is_resolved (length (columns_in u)) in
-    three_holds (λ (w : List ℕ). Unit {0}) (λ ds. length ds ≡ length (columns_in u)) (λ os. list_all test os ≡ true) IsResolved triple _ _ _
+    three_holds (λ (w : List ℕ). Unit {0}) (λ ds. length ds ≡ length (columns_in u)) (λ os. are_resolved (length (columns_in u)) os ≡ true) IsResolved triple _ _ _
     (anything (name_reading None [] m t)) (columns_hold (m + item_count t) u)
+    (both_hold (λ os. list_all test os ≡ true) (λ os. names_differ os ≡ true) (λ os. are_resolved (length (columns_in u)) os ≡ true) _
     (declared_holds test (operation_reading columns) second_name (operation_holds columns) [] (m + item_count t + item_count u) (o ▸ os))
-    (λ w ds os u e g. subst (λ n. list_all (operation_is_resolved n) os ≡ true) (sym e) g)
+    (operations_differ columns (m + item_count t + item_count u) (o ▸ os)) (λ os h g. and_true (list_all test os) (names_differ os) h g))
+    (λ w ds os u e g. subst (λ n. are_resolved n os ≡ true) (sym e) g)
 
 -- what is read of the parts is resolved
 pub parts_resolved : (others : List (List ℕ)) (n m : ℕ) (ts : Trees) (a : Result ((Name × Vec ColumnValue Global) × Vec OperationValue Global) ReadFault) → IsReading specification_parts (specification_parts_reading others n m ts) a
-    → IfOk a (λ p. list_all (operation_is_resolved (length p.0.1.items)) (operations_of p.1) ≡ true)
+    → IfOk a (λ p. are_resolved (length p.0.1.items) (operations_of p.1) ≡ true)
 parts_resolved others n m ts (Err f) h = tt
 parts_resolved others n m ts (Ok p) h =
     let resolved : IsResolved (specification_parts p) = held IsResolved (specification_parts_reading others n m ts) (specification_parts p) (parts_hold others n m ts) h in
-    subst (λ n. list_all (operation_is_resolved n) (operations_of p.1) ≡ true) (length-map p.0.1.items column_of) resolved
+    subst (λ n. are_resolved n (operations_of p.1) ≡ true) (length-map p.0.1.items column_of) resolved

@@ -3,7 +3,7 @@ use Rattle.std.specs.Prelude.{ℕ, ◌+◌, ◌||◌, codes, if◌then◌else◌
 use Rattle.std.specs.List.{list_any}
 use Rattle.lc_base.specs.NameText.{is_name}
 use Rattle.lc_sexp.specs.Trees.{Tree, Trees, atom, list, ◌▸◌, item_count}
-use Rattle.lc_term.specs.Names.{Names}
+use Rattle.lc_text.specs.Names.{Names}
 use Rattle.lc_term.specs.Syntax.{Term, Formula}
 use Rattle.lc_reading.specs.Listed.{place_of}
 use Rattle.lc_reading.specs.Naming.{within}
@@ -14,7 +14,8 @@ use Rattle.lc_reading.specs.Words.{is}
 use Rattle.lc_reading.specs.declared.pass.Pass.TheVariants.{Shape, Unknown}
 use Rattle.lc_text.specs.Formulas.{formula_reading}
 use Rattle.lc_text.specs.Terms.{triple, term_reading}
-use Rattle.lc_seq.specs.Specification.{Update, Branch}
+use Rattle.lc_term.specs.Updates.{Update}
+use Rattle.lc_seq.specs.Specification.{Branch}
 use Rattle.lc_spec_text.specs.Scopes.{Columns}
 
 -- the place of a column's name, if the specification declares it. A column that is declared elsewhere may not be stored in

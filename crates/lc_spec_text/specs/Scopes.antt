@@ -1,8 +1,8 @@
 -- How names are read in a specification.
 use Rattle.std.specs.Prelude.{ℕ, suc, false, codes, List, [], ◌∷◌, Option, Some, None, option_map}
-use Rattle.lc_term.specs.Names.{Names}
-use Rattle.lc_term.specs.declared.scope.ColumnUse.{ColumnUse}
-use Rattle.lc_term.specs.declared.scope.ColumnUse.TheVariants.{Usable, Undeclared}
+use Rattle.lc_text.specs.Names.{Names}
+use Rattle.lc_text.specs.declared.scope.ColumnUse.{ColumnUse}
+use Rattle.lc_text.specs.declared.scope.ColumnUse.TheVariants.{Usable, Undeclared}
 use Rattle.lc_reading.specs.Listed.{place_of}
 
 -- the names of columns: those of the specification, and others that the rest of its file declares

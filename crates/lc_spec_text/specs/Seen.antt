@@ -9,9 +9,10 @@ use Rattle.lc_term.specs.View.{term_of, formula_of}
 use Rattle.lc_term.specs.declared.term.Term.{Term}
 use Rattle.lc_term.specs.declared.formula.Formula.{Formula}
 use Rattle.lc_seq.specs.Specification as S
-use Rattle.lc_seq.specs.SpecView.{column_of, update_of, branch_of, operation_of}
+use Rattle.lc_term.specs.UpdateView.{update_of}
+use Rattle.lc_seq.specs.SpecView.{column_of, branch_of, operation_of}
 use Rattle.lc_seq.specs.declared.specification.Column.{Column}
-use Rattle.lc_seq.specs.declared.specification.Update.{Update}
+use Rattle.lc_term.specs.declared.update.Update.{Update}
 use Rattle.lc_seq.specs.declared.specification.Branch.{Branch}
 use Rattle.lc_seq.specs.declared.specification.Operation.{Operation}
 

@@ -15,10 +15,10 @@ use crate::update::Updates;
 use lc_reading::{
     Part, Pass, ReadFault, Reads, behind_word, both, ended, read_counted, read_each, three, wrong,
 };
-use lc_seq::{Branch, Update};
+use lc_seq::Branch;
 use lc_sexp::{Cursor, Item};
-use lc_term::{Formula, Scope, Term};
-use lc_text::{Terms, read_formula};
+use lc_term::{Formula, Term, Update};
+use lc_text::{Scope, Terms, read_formula};
 use std::alloc::Global;
 
 /// `(UPDATE*)`

@@ -4,7 +4,7 @@ ghost use Rattle.lc_spec_text.specs.Scopes.{column_at};
 
 use lc_base::{ColId, OutOfMemory};
 use lc_reading::NameTable;
-use lc_term::{ColumnUse, Extra, Scope};
+use lc_text::{ColumnUse, Extra, Scope};
 
 /// The names of columns that a file declares: those of the specification, and those of the rest of the file.
 #[derive(Clone, Copy)]

@@ -1,12 +1,11 @@
 ghost use Rattle.std.specs.Prelude.{◌≡◌, ℕ, List, true, length, IfOk};
-ghost use Rattle.std.specs.List.{list_all};
 ghost use Rattle.lc_sexp.specs.Shown.{rest_of, number_of, owner_of};
 ghost use Rattle.lc_reading.specs.Parts.{tree_of, place_of};
 ghost use Rattle.lc_reading.specs.Readings.{Reading, mapped};
 ghost use Rattle.lc_reading.specs.Results.{IsReading};
 ghost use Rattle.lc_reading.specs.TableView.{listed};
 ghost use Rattle.lc_seq.specs.Specification as S;
-ghost use Rattle.lc_seq.specs.Specification.{operation_is_resolved};
+ghost use Rattle.lc_seq.specs.Specification.{are_resolved};
 ghost use Rattle.lc_seq.specs.TextView.{specification_of};
 ghost use Rattle.lc_spec_text.specs.Specifications.{operations_reading, specification_parts_reading, the_specification, specification_reading};
 ghost use Rattle.lc_spec_text.specs.ScopeView.{columns_seen};
@@ -54,18 +53,15 @@ fn read_specification_parts<'a>(
     both(both(name, columns), operations)
 }
 
-/// The specification of these parts, in which all names are declared.
+/// The specification of these parts, in which all names are declared, and no two operations have one name.
 fn made_specification(
     parts: Result<((Name, Vec<Column>), Vec<Operation>), ReadFault>,
 ) -> Result<TextSpec, ReadFault>
-    requires { IfOk parts (λ p. list_all (operation_is_resolved (length p.0.1.items)) (operations_of p.1) ≡ true) }
+    requires { IfOk parts (λ p. are_resolved (length p.0.1.items) (operations_of p.1) ≡ true) }
     ensures { (r : Reading ((List ℕ × List S.Column) × List S.Operation)) → IsReading specification_parts r parts → IsReading specification_of (mapped the_specification r) result }
 {
     let ((name, columns), operations) = parts?;
-    match TextSpec::new(name, columns, operations) {
-        Some(spec) => Ok(spec),
-        None => unreachable!(),
-    }
+    Ok(TextSpec::of_parts(name, columns, operations))
 }
 
 /// The specification that an item reads as, where the rest of its file declares these columns:

@@ -4,7 +4,7 @@ ghost use Rattle.lc_term.specs.Syntax as T;
 ghost use Rattle.lc_reading.specs.Parts.{tree_of, place_of};
 ghost use Rattle.lc_reading.specs.Readings.{Reading, mapped, listed_reading};
 ghost use Rattle.lc_reading.specs.Results.{IsReading};
-ghost use Rattle.lc_seq.specs.SpecView.{update_of};
+ghost use Rattle.lc_term.specs.UpdateView.{update_of};
 ghost use Rattle.lc_spec_text.specs.Branches.{written_reading, the_update, update_parts_reading, update_reading};
 ghost use Rattle.lc_spec_text.specs.ScopeView.{columns_seen};
 ghost use Rattle.lc_spec_text.specs.Seen.{update_parts};
@@ -12,10 +12,9 @@ ghost use Rattle.lc_spec_text.specs.Seen.{update_parts};
 use crate::scope::Columns;
 use lc_base::{ColId, NAME_LIMIT, is_name};
 use lc_reading::{Part, Pass, ReadFault, Reads, both, ended, is_system_column, three, wrong};
-use lc_seq::Update;
 use lc_sexp::{Cursor, Item};
-use lc_term::{Scope, Term};
-use lc_text::read_term;
+use lc_term::{Term, Update};
+use lc_text::{Scope, read_term};
 use std::alloc::Global;
 
 /// The column of an update.
@@ -90,8 +89,8 @@ pub(crate) struct Updates<'a, 'b, 's, S> {
 }
 
 impl<S: Scope> Reads for Updates<'_, '_, '_, S> {
-    ghost use Rattle.lc_seq.specs.SpecView.{update_of};
-    ghost use Rattle.lc_seq.specs.Specification.{Update};
+    ghost use Rattle.lc_term.specs.UpdateView.{update_of};
+    ghost use Rattle.lc_term.specs.Updates.{Update};
     ghost use Rattle.lc_spec_text.specs.Branches.{update_reading};
     ghost use Rattle.lc_spec_text.specs.ScopeView.{columns_seen};
 

@@ -1,9 +1,8 @@
 -- What is copied from one table stands in the other, also later.
-use Rattle.std.proofs.Common.{◌≡◌, ℕ, Bool, true, false, List, [], ◌∷◌, ◌++◌, slice_get, Option, Some, None, is_some, cond, refl, sym, ap, ◌∙◌, subst, eqb}
+use Rattle.std.proofs.Common.{◌≡◌, ℕ, Bool, true, false, List, [], slice_get, Some, None, is_some, cond, refl, sym, ap, ◌∙◌, subst}
 use Rattle.std.specs.Prelude.{nat_eq}
 use Rattle.std.specs.Map.{lookup}
 use borrow.Author.Tests.{eqb-true}
-use Rattle.lc_term.specs.Syntax as S
 use Rattle.lc_term.specs.declared.node.TermId.{TermId}
 use Rattle.lc_term.specs.declared.node.ColExprId.{ColExprId}
 use Rattle.lc_term.specs.declared.node.FormulaId.{FormulaId}

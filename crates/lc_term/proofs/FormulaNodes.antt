@@ -1,5 +1,5 @@
 -- What a node of a formula stands for.
-use Rattle.std.proofs.Common.{◌≡◌, rules, tests, eqb, Bool, true, false, ℕ, List, [], ◌∷◌, ◌++◌, slice_get, Option, Some, None, is_some, length, ◌<◌, refl, sym, ap, ap₂, ◌∙◌, subst}
+use Rattle.std.proofs.Common.{◌≡◌, rules, tests, eqb, Bool, true, ℕ, List, [], ◌∷◌, ◌++◌, slice_get, Option, Some, None, is_some, length, ◌<◌, refl, sym, ap, ap₂, ◌∙◌, subst}
 use Rattle.std.specs.Cmp.Lexicographic.{pointwise}
 use Rattle.std.proofs.lemmas.Bool.Decides.{Decides-eqb}
 use Rattle.std.proofs.lemmas.Slice.Eq.{slice_eq-Decides}
@@ -7,14 +7,13 @@ use Rattle.std.specs.Bool.{Decides}
 use Rattle.lc_term.specs.Syntax as S
 use Rattle.lc_term.specs.declared.node.FormulaNode.{FormulaNode}
 use Rattle.lc_term.specs.declared.node.FormulaNode.TheVariants.{Le, Eq, Not, And, Or, Implies, Forall, Exists}
-use Rattle.lc_term.specs.declared.node.TermId.{TermId}
 use Rattle.lc_term.specs.declared.node.FormulaId.{FormulaId}
 use Rattle.lc_term.specs.contracts.node.FormulaNodePartialEq.TheImpl.{eq-value}
 use Rattle.lc_term.specs.Rows.{AreDistinct}
-use Rattle.lc_term.specs.Nodes.{Part, tree_of, TreeFits, term_in, formula_in, formulas_in, as_formula, IsTerm, IsFormula, AreFormulas, AllBelow, PartsBelow}
+use Rattle.lc_term.specs.Nodes.{Part, tree_of, TreeFits, term_in, formula_in, formulas_in, as_formula, IsFormula, AreFormulas, AllBelow, PartsBelow}
 use Rattle.std.proofs.lemmas.Option.{slice_get_within}
 use Rattle.lc_term.proofs.Rows.{kept_left}
-use Rattle.lc_term.proofs.TermNodes.{same_term, term-kept}
+use Rattle.lc_term.proofs.TermNodes.{same_term}
 
 abbrev pub formula_node_eq : FormulaNode → FormulaNode → Bool
 formula_node_eq = eq-value.it

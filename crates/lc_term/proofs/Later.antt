@@ -1,5 +1,5 @@
 -- Numbers in later tables.
-use Rattle.std.proofs.Common.{◌≡◌, ◌++◌, List, [], ◌∷◌, true, subst, slice_get, Some, is_some, refl, sym, ap, ◌∙◌, append_assoc, append-nil}
+use Rattle.std.proofs.Common.{◌≡◌, ◌++◌, List, [], ◌∷◌, subst, slice_get, is_some, sym, ap, ◌∙◌, append_assoc, append-nil}
 use Rattle.std.proofs.lemmas.List.{map-append}
 use Rattle.lc_term.specs.Syntax as S
 use Rattle.lc_term.specs.declared.node.TermId.{TermId}

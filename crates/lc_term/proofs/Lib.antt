@@ -8,16 +8,10 @@ pub mod Views
 pub mod Replaced
 pub mod Under
 pub mod Numbers
-pub mod Binders
 pub mod Cells
 pub mod Evaluated
 pub mod Closed
 pub mod Agree
-pub mod Walk
-pub mod Heads
-pub mod Fronts
-pub mod SoundAtoms
-pub mod SoundTexts
 pub mod Written
 pub mod Rows
 pub mod TermNodes

@@ -1,20 +1,18 @@
 -- What is replaced in a table stays replaced, and a node is replaced with its parts.
-use Rattle.std.proofs.Common.{◌≡◌, ℕ, Bool, true, false, List, [], ◌∷◌, ◌++◌, slice_get, Option, Some, None, is_some, cond, refl, sym, ap, ap₂, ◌∙◌, subst, eqb}
-use Rattle.std.specs.Prelude.{nat_eq, ℤ}
+use Rattle.std.proofs.Common.{◌≡◌, ℕ, Bool, true, false, List, [], slice_get, Option, Some, None, is_some, cond, refl, sym, ap, ap₂, ◌∙◌, subst}
+use Rattle.std.specs.Prelude.{nat_eq}
 use Rattle.std.specs.Map.{lookup}
 use borrow.Author.Tests.{eqb-true}
-use Rattle.lc_term.specs.Syntax as S
 use Rattle.lc_term.specs.declared.node.TermId.{TermId}
 use Rattle.lc_term.specs.declared.node.ColExprId.{ColExprId}
 use Rattle.lc_term.specs.Nodes.{Part, term, column}
 use Rattle.lc_term.specs.NodeTables.{Table}
-use Rattle.lc_term.specs.Rows.{Extends}
 use Rattle.lc_term.specs.Replacement.{Replacement, replace_term, replace_column}
 use Rattle.lc_term.specs.Tables.{parts, term_in, column_in, HasTerm, HasColumn, IsTerm, IsColumn, Keeps}
 use Rattle.lc_term.specs.NodeReplacement.{as_part, part_in, replaced_part, AreReplaced}
 use Rattle.lc_term.proofs.Rows.{kept_left}
 use Rattle.lc_term.proofs.TermNodes.{term-there, column-there}
-use Rattle.lc_term.proofs.Later.{term_later, column_later, term_is, column_is, term_still, same_store}
+use Rattle.lc_term.proofs.Later.{term_later, column_later, term_is, column_is, term_still}
 
 some_same : {T : Type 0} (x y : T) → Some x ≡ Some y → x ≡ y
 some_same x y e = cc

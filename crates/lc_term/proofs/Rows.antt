@@ -1,5 +1,5 @@
 -- One node more in a table of nodes, whatever the nodes are.
-use Rattle.std.proofs.Common.{true≢false, ◌||◌, if◌then◌else◌, ◌≡◌, rules, ◌⊎◌, inl, inr, eqb, Bool, true, false, ℕ, zero, suc, ◌+◌, ◌<◌, ◌≤◌, List, [], ◌∷◌, ◌++◌, length, get_or, slice_get, Option, Some, None, refl, sym, ap, ◌∙◌, subst, arith, length-append, append_assoc, append-nil}
+use Rattle.std.proofs.Common.{true≢false, ◌||◌, if◌then◌else◌, ◌≡◌, ◌⊎◌, inl, inr, eqb, Bool, true, false, ℕ, zero, suc, ◌+◌, ◌<◌, ◌≤◌, List, [], ◌∷◌, ◌++◌, length, slice_get, Some, refl, sym, ap, ◌∙◌, subst, arith, length-append, append_assoc, append-nil}
 use Rattle.std.proofs.lemmas.Option.{slice_get_within, get_or_from_slice_get, slice_get-get_or}
 use Rattle.std.proofs.lemmas.List.{get_or_append_left}
 use Rattle.std.proofs.Math.Seq.{get_or-append_seam}

@@ -1,11 +1,11 @@
 -- One node more in a table of terms.
-use Rattle.std.proofs.Common.{◌≡◌, ℕ, Bool, true, false, List, [], ◌∷◌, ◌++◌, slice_get, Option, Some, None, refl, sym, ap, ap₂, ◌∙◌, subst, append-nil, is_some, length, ◌+◌, ◌<◌, arith}
+use Rattle.std.proofs.Common.{◌≡◌, ℕ, true, List, [], ◌∷◌, ◌++◌, slice_get, Option, Some, None, refl, sym, ap, ap₂, ◌∙◌, subst, append-nil, is_some, length, ◌+◌, ◌<◌, arith}
 use Rattle.indexmap.specs.IndexSet.{insert_key}
 use Rattle.lc_term.specs.Syntax as S
 use Rattle.lc_term.specs.declared.node.TermNode.{TermNode}
 use Rattle.lc_term.specs.declared.node.FormulaNode.{FormulaNode}
 use Rattle.lc_term.specs.declared.node.FormulaNode.TheVariants.{Le, Eq, Not, And, Or, Implies, Forall, Exists}
-use Rattle.lc_term.specs.Rows.{grow, trees, Built, AreDistinct, IsTable, Extends}
+use Rattle.lc_term.specs.Rows.{grow, trees, Built, AreDistinct, Extends}
 use Rattle.lc_term.specs.Nodes.{Part, part_of, PartFits, PartBelow, tree_of, TreeFits, as_formula, PartsBelow}
 use Rattle.lc_term.specs.NodeTables.{Table, parts_of, formulas_of, IsPartTable, IsFormulaTable, IsNodeTable}
 use Rattle.lc_term.specs.Tables.{parts, formulas, formula_in, IsFormula, Keeps}

@@ -1,8 +1,5 @@
 -- What a node of a term stands for.
-use Rattle.std.proofs.Common.{◌≡◌, rules, tests, eqb, Bool, true, false, ℕ, List, [], ◌∷◌, ◌++◌, slice_get, Option, Some, None, is_some, length, ◌<◌, refl, sym, ap, ◌∙◌, subst}
-use Rattle.std.specs.Bool.{Decides}
-use Rattle.std.proofs.lemmas.Bool.Decides.{Decides-eqb}
-use Rattle.lc_term.specs.Syntax as S
+use Rattle.std.proofs.Common.{◌≡◌, rules, tests, Bool, true, ℕ, List, ◌++◌, slice_get, Option, Some, None, is_some, length, ◌<◌, refl, sym, ap, ◌∙◌, subst}
 use Rattle.lc_term.specs.declared.node.TermNode.{TermNode}
 use Rattle.lc_term.specs.declared.node.TermNode.TheVariants.{Number, Variable, Bound, Add, Subtract, Multiply, Read, Base, Store, Affine}
 use Rattle.lc_term.specs.declared.node.TermId.{TermId}

@@ -1,8 +1,6 @@
 -- Numbers of one table, each with the number of the same tree in another.
 use Rattle.std.specs.Prelude.{◌≡◌, ℕ, List, Some, slice_get, nat_eq}
 use Rattle.std.specs.Map.{lookup}
-use Rattle.lc_term.specs.Syntax as S
-use Rattle.lc_term.specs.Nodes.{Part}
 use Rattle.lc_term.specs.NodeTables.{Table}
 use Rattle.lc_term.specs.Tables.{parts, formulas}
 use Rattle.lc_term.specs.declared.copying.Copied.{Copied}

@@ -1,5 +1,5 @@
 -- The trees of lists of nodes.
-use Rattle.std.specs.Prelude.{◌≡◌, List}
+use Rattle.std.specs.Prelude.{List}
 use Rattle.lc_term.specs.Syntax as S
 use Rattle.lc_term.specs.declared.node.TermNode.{TermNode}
 use Rattle.lc_term.specs.declared.node.FormulaNode.{FormulaNode}

@@ -1,6 +1,6 @@
 -- The numbers that are reached where a term or a formula without quantifiers is computed, parts from the left.
 -- Each definition says that each number that is reached fits 64 bits.
-use Rattle.std.specs.Prelude.{ℤ, ◌+ℤ◌, ◌-ℤ◌, ◌*ℤ◌, FitsSigned, IsTrue, IsFalse, MatchBool}
+use Rattle.std.specs.Prelude.{ℤ, ◌+ℤ◌, ◌-ℤ◌, ◌*ℤ◌, FitsSigned, IsTrue, IsFalse, MatchBool, List, [], ◌∷◌}
 use Rattle.std.specs.Int.{w64}
 use Rattle.std.specs.Ordering.{int_eq}
 use Rattle.lc_term.specs.Syntax.{Term, Number, Variable, Bound, Add, Subtract, Multiply, Read, Column, Base, Store, Affine}
@@ -25,6 +25,11 @@ abbrev mutual
   CellFits s e (Base c) j = FitsSigned w64 (s c j)
   CellFits s e (Store c i v) j = TermFits s e i × MatchBool (int_eq (value s e outside i) j) (TermFits s e v) (CellFits s e c j)
   CellFits s e (Affine m n) j = FitsSigned w64 (affine m n j)
+
+-- in terms, from the left
+abbrev pub TermsFit : State → Env → List Term → Type 0
+TermsFit s e [] = Unit {0}
+TermsFit s e (t ∷ ts) = TermFits s e t × TermsFit s e ts
 
 abbrev mutual
   -- in a formula: its parts from the left, until the answer is decided

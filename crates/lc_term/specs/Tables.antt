@@ -1,12 +1,9 @@
 -- The trees of a table of terms.
-use Rattle.std.specs.Prelude.{◌≡◌, List, Result, Ok, Err, map, Some, slice_get}
-use Rattle.lc_base.specs.declared.memory.OutOfMemory.{OutOfMemory}
+use Rattle.std.specs.Prelude.{◌≡◌, List, Some, slice_get}
 use Rattle.lc_term.specs.Syntax as S
-use Rattle.lc_term.specs.declared.node.TermNode.{TermNode}
 use Rattle.lc_term.specs.declared.node.TermId.{TermId}
 use Rattle.lc_term.specs.declared.node.ColExprId.{ColExprId}
 use Rattle.lc_term.specs.declared.node.FormulaId.{FormulaId}
-use Rattle.lc_term.specs.declared.node.FormulaNode.{FormulaNode}
 use Rattle.lc_term.specs.Nodes as N
 use Rattle.lc_term.specs.Nodes.{Part, term, column}
 use Rattle.lc_term.specs.NodeTables.{Table, parts_of, formulas_of}

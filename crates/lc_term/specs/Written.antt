@@ -1,12 +1,11 @@
 -- What is written to the cells of a state.
-use Rattle.std.specs.Prelude.{ℕ, ℤ, ◌<◌, List, [], ◌∷◌, map, Option, Some, None, pos, slice_set, slice_index_or, if◌then◌else◌}
+use Rattle.std.specs.Prelude.{ℕ, ℤ, ◌<◌, List, [], ◌∷◌, length, map, Option, Some, None, IsSome, OnSome, pos, slice_set, slice_index_or, if◌then◌else◌}
 use Rattle.std.specs.Ordering.{int_cmp, int_eq}
 use Rattle.std.specs.BTreeMap.{get}
-use Rattle.lc_term.specs.Meaning as M
-use Rattle.lc_term.specs.State.{with_cell}
+use Rattle.lc_term.specs.Updates.{Write}
 use Rattle.lc_term.specs.declared.state.Cells.{Cells}
 use Rattle.lc_term.specs.declared.state.State.{State}
-use Rattle.lc_term.specs.declared.state.CellWrite.{CellWrite}
+use Rattle.lc_term.specs.declared.state.Undo.{Undo}
 
 -- what is written in a cell, if anything is
 abbrev pub written_in : Cells → ℤ → Option ℤ
@@ -38,16 +37,21 @@ abbrev pub with_kept : List Kept → ℕ → ℤ → Option ℤ → List Kept
 with_kept ks c i what = slice_set ks c (with_written (slice_index_or ks c no_column) i what)
 
 -- what is kept after writes, in order
-abbrev pub after_writes : List Kept → List CellWrite → List Kept
+abbrev pub after_writes : List Kept → List Write → List Kept
 after_writes ks [] = ks
-after_writes ks (w ∷ ws) = after_writes (with_kept ks w.column.0 w.index (Some w.number)) ws
+after_writes ks (w ∷ ws) = after_writes (with_kept ks w.column w.index (Some w.value)) ws
 
--- each write is to one of so many columns
-abbrev pub AreWithin : ℕ → List CellWrite → Type 0
-AreWithin count [] = Unit {0}
-AreWithin count (w ∷ ws) = (w.column.0 < count) × AreWithin count ws
+-- what is kept where cells have again what was written there before; the last is taken back first
+abbrev pub taken_back : List Kept → List Undo → List Kept
+taken_back ks [] = ks
+taken_back ks (u ∷ us) = with_kept (taken_back ks us) u.column.0 u.index u.before
 
--- the state after writes, in order
-abbrev pub with_cells : M.State → List CellWrite → M.State
-with_cells s [] = s
-with_cells s (w ∷ ws) = with_cells (with_cell s w.column.0 w.index w.number) ws
+-- what is written in a cell of a column
+abbrev pub written_at : List Kept → ℕ → ℤ → Option ℤ
+written_at ks c i = (slice_index_or ks c no_column).written i
+
+-- a cell can have again what was written there before without more memory: it is written
+abbrev pub CanTakeBack : List Kept → List Undo → Type 0
+CanTakeBack ks [] = Unit {0}
+CanTakeBack ks (u ∷ us) =
+    (u.column.0 < length (taken_back ks us)) × OnSome u.before (IsSome (written_at (taken_back ks us) u.column.0 u.index)) × CanTakeBack ks us

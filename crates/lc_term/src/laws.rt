@@ -1,18 +1,13 @@
 //! What holds of the definitions. Each function is a law: it does nothing, and its contract is the law.
 ghost use Rattle.std.specs.Prelude.{◌≡◌, ◌≤◌, ◌^◌, ◌↔◌, ℕ, ℤ, List, [], length, IsTrue};
 ghost use Rattle.std.specs.Option.{IsSome};
-ghost use Rattle.lc_sexp.specs.Trees.{Tree, item_count};
 ghost use Rattle.lc_term.specs.Equal.{term_eq, column_eq, formula_eq};
 ghost use Rattle.lc_term.specs.Meaning.{State, Env, push, value, column, Holds};
-ghost use Rattle.lc_term.specs.Names.{Names};
 ghost use Rattle.lc_term.specs.Places.{Test, passes, term_passes, is_closed, shift_fits, put_fits, open_fits};
-ghost use Rattle.lc_term.specs.ReadAs.{term_from, column_from, formula_from};
 ghost use Rattle.lc_term.specs.Replacement.{Replacement, replace_term, replace, replacing, columns_by, variables_by, bounds_by};
-ghost use Rattle.lc_term.specs.Sound.{IsSound, AreFree, AreFreeWhereBuilt};
 ghost use Rattle.lc_term.specs.Substitution.{substituted, with_value, instantiated, shifted_term, shifted, push_all};
 ghost use Rattle.lc_term.specs.Syntax.{Term, Column, Formula};
 ghost use Rattle.lc_term.specs.Truth.{is_ground, truth};
-ghost use Rattle.lc_term.specs.declared.grammar.Kind.TheVariants.{Term as TermKind, Column as ColumnKind, Formula as FormulaKind};
 
 /// The test of two terms, of two columns and of two formulas is true exactly where they are the same tree.
 pub fn equality_is_exact()
@@ -82,16 +77,4 @@ pub fn closed_terms_move_freely()
     ensures shift { (added cutoff n : ℕ) (t : Term) → IsTrue (is_closed t) → IsTrue (term_passes (shift_fits added cutoff n) t) }
     ensures substitute { (v : ℕ) (u : Term) → IsTrue (is_closed u) → (f : Formula) → IsTrue (passes (put_fits v u) 0 f) }
     ensures instantiate { (u : Term) → IsTrue (is_closed u) → (f : Formula) → IsTrue (passes (open_fits u) 0 f) }
-{}
-
-/// A text in which no pass finds anything wrong reads as a value of its kind. Where `store` stands, and for a column
-/// expression that is read by itself, each column that is declared has to be usable: the passes tell of another
-/// column only at the `rd` that reads it.
-pub fn sound_texts_read()
-    ensures terms { (names : Names) (n : ℕ) (t : Tree) → AreFreeWhereBuilt names → item_count t ≤ 2 ^ 32 →
-        IsSound names [] TermKind n t → IsSome (term_from names [] t) }
-    ensures columns { (names : Names) (n : ℕ) (t : Tree) → AreFree names → item_count t ≤ 2 ^ 32 →
-        IsSound names [] ColumnKind n t → IsSome (column_from names [] t) }
-    ensures formulas { (names : Names) (n : ℕ) (t : Tree) → AreFreeWhereBuilt names → item_count t ≤ 2 ^ 32 →
-        IsSound names [] FormulaKind n t → IsSome (formula_from names [] t) }
 {}

@@ -1,9 +1,12 @@
-ghost use Rattle.std.specs.Prelude.{◌≡◌, ◌<◌, length, FitsSigned, OkIff, IfOk, OnOk, OnErr, IsSome};
+ghost use Rattle.std.specs.Prelude.{◌≡◌, ◌<◌, length, FitsSigned, OkIff, IfOk, OnOk, OnErr, OnSome, Some, IsSome};
 ghost use Rattle.std.specs.Int.{w64};
 ghost use Rattle.lc_term.specs.Meaning.{affine};
 ghost use Rattle.lc_term.specs.State.{cells_of, state_of, column_count, initial_state, with_cell};
-ghost use Rattle.lc_term.specs.Written.{written_in, kept_in, with_written, kept_of, after_writes, AreWithin, with_cells};
+ghost use Rattle.lc_term.specs.Updates.{stored_all, AreWithin};
+ghost use Rattle.lc_term.specs.UpdateView.{writes_shown};
+ghost use Rattle.lc_term.specs.Written.{written_in, kept_in, with_written, with_kept, kept_of, after_writes, taken_back, CanTakeBack};
 
+use crate::update::Write;
 use lc_base::{ColId, OutOfMemory};
 use std::alloc::Global;
 use std::collections::BTreeMap;
@@ -32,23 +35,12 @@ struct Cells {
     written: BTreeMap<i64, i64>,
 }
 
-/// A number that is to be written to a cell.
-#[derive(Clone, Copy, Debug, PartialEq, Eq)]
-pub struct CellWrite {
-    pub column: ColId,
-    pub index: i64,
-    pub number: i64,
-}
-
-/// 0 in the first cell of the first column, which stands for a write that is yet to be said.
-impl Default for CellWrite {
-    fn default() -> CellWrite {
-        CellWrite {
-            column: ColId(0),
-            index: 0,
-            number: 0,
-        }
-    }
+// A cell, and what was written there before.
+#[derive(Clone, Copy, Debug)]
+struct Undo {
+    column: ColId,
+    index: i64,
+    before: Option<i64>,
 }
 
 /// The numbers of the variables, by their numbers.
@@ -75,18 +67,25 @@ impl Cells {
         }
     }
 
-    // Writes a cell, and answers what was written there before.
-    fn replace(&mut self, index: i64, number: i64) -> Result<Option<i64>, OutOfMemory>
-        ensures before { IfOk result (λ before. before ≡ written_in self.old index) }
+    // What is written in a cell, if anything is.
+    fn written(&self, index: i64) -> Option<i64>
+        ensures { result ≡ written_in self.now index }
+    {
+        self.written.get(&index).copied()
+    }
+
+    // Writes a cell.
+    fn write(&mut self, index: i64, number: i64) -> Result<(), OutOfMemory>
         ensures ok { OnOk result (kept_in self.new ≡ with_written (kept_in self.old) index (Some number)) }
         ensures err { OnErr result (kept_in self.new ≡ kept_in self.old) }
     {
-        Ok(self.written.insert(index, number)?)
+        self.written.insert(index, number)?;
+        Ok(())
     }
 
     // Takes a write back: the cell has again what was written there before it.
     fn restore(&mut self, index: i64, before: Option<i64>)
-        requires { IsSome (written_in self.old index) }
+        requires { OnSome before (IsSome (written_in self.old index)) }
         ensures { kept_in self.new ≡ with_written (kept_in self.old) index before }
     {
         match before {
@@ -148,28 +147,59 @@ impl State {
 
     /// Writes cells in order, so of two writes to one cell the later counts. Where memory is refused the state stays
     /// as it was.
-    pub fn write_all(&mut self, writes: &[CellWrite]) -> Result<(), OutOfMemory>
-        requires { AreWithin (column_count self.old) writes.now }
-        ensures ok { OnOk result (state_of self.new ≡ with_cells (state_of self.old) writes.now) }
+    pub fn write_all(&mut self, alloc: Global, writes: &[Write]) -> Result<(), OutOfMemory>
+        requires { AreWithin (column_count self.old) (writes_shown writes.now) }
+        ensures ok { OnOk result (state_of self.new ≡ stored_all (state_of self.old) (writes_shown writes.now)) }
         ensures err { OnErr result (state_of self.new ≡ state_of self.old) }
         ensures columns { column_count self.new ≡ column_count self.old }
     {
-        self.write_each(writes)
+        self.write_each(alloc, writes)
     }
 
-    fn write_each(&mut self, writes: &[CellWrite]) -> Result<(), OutOfMemory>
-        requires { AreWithin (length self.old.columns.items) writes.now }
-        ensures ok { OnOk result (kept_of self.new ≡ after_writes (kept_of self.old) writes.now) }
+    fn write_each(&mut self, alloc: Global, writes: &[Write]) -> Result<(), OutOfMemory>
+        requires { AreWithin (length self.old.columns.items) (writes_shown writes.now) }
+        ensures ok { OnOk result (kept_of self.new ≡ after_writes (kept_of self.old) (writes_shown writes.now)) }
         ensures err { OnErr result (kept_of self.new ≡ kept_of self.old) }
     {
-        let Some((write, others)) = writes.split_first() else {
-            return Ok(());
-        };
-        let before = self.columns[write.column.0 as usize].replace(write.index, write.number)?;
-        if let Err(fault) = self.write_each(others) {
-            self.columns[write.column.0 as usize].restore(write.index, before);
-            return Err(fault);
+        let mut done = Vec::new(alloc);
+        for write in writes {
+            if let Err(fault) = self.write_noted(*write, &mut done) {
+                self.take_back(done);
+                return Err(fault);
+            }
         }
         Ok(())
+    }
+
+    // Writes a cell, and notes what was written there before; then what is done can still be taken back.
+    fn write_noted(&mut self, write: Write, done: &mut Vec<Undo>) -> Result<(), OutOfMemory>
+        requires there { write.column.0 < length self.old.columns.items }
+        requires can { CanTakeBack (kept_of self.old) done.old.items }
+        ensures ok { OnOk result (kept_of self.new ≡ with_kept (kept_of self.old) write.column.0 write.index (Some write.value)) }
+        ensures back { taken_back (kept_of self.new) done.new.items ≡ taken_back (kept_of self.old) done.old.items }
+        ensures can { CanTakeBack (kept_of self.new) done.new.items }
+        ensures columns { length self.new.columns.items ≡ length self.old.columns.items }
+    {
+        let cells = &mut self.columns[write.column.0 as usize];
+        done.push(Undo {
+            column: write.column,
+            index: write.index,
+            before: cells.written(write.index),
+        })?;
+        cells.write(write.index, write.value)
+    }
+
+    // Takes back what is done.
+    fn take_back(&mut self, done: Vec<Undo>)
+        requires { CanTakeBack (kept_of self.old) done.items }
+        ensures { kept_of self.new ≡ taken_back (kept_of self.old) done.items }
+    {
+        let mut done = done;
+        'undo: loop {
+            let Some(undo) = done.pop() else {
+                return;
+            };
+            self.columns[undo.column.0 as usize].restore(undo.index, undo.before);
+        }
     }
 }

@@ -8,8 +8,8 @@ use Rattle.lc_sexp.specs.Parts.{fits_i64, variable_within}
 use Rattle.lc_term.specs.Syntax as S
 use Rattle.lc_term.specs.Syntax.{Term, Number, Variable, Bound, Add, Subtract, Multiply, Read, Column, Base, Store, Affine}
 use Rattle.lc_term.specs.Syntax.{Formula, Le, Eq, Not, And, Or, Implies, Forall, Exists, Formulas, more}
-use Rattle.lc_term.specs.Names.{Names}
-use Rattle.lc_term.specs.declared.scope.Extra.TheVariants.{Quantifiers, BuiltColumns, NumberedVariables}
+use Rattle.lc_text.specs.Names.{Names}
+use Rattle.lc_text.specs.declared.scope.Extra.TheVariants.{Quantifiers, BuiltColumns, NumberedVariables}
 use Rattle.lc_reading.specs.Naming.{within}
 use Rattle.lc_reading.specs.Readings.{Reading, fine, mapped, both, three}
 use Rattle.lc_text.proofs.Numerals.{natural_of-decimal, integer_fit-signed}

@@ -4,13 +4,13 @@ use Rattle.std.specs.Prelude.{ℤ, not}
 use Rattle.lc_base.specs.NameText.{is_name}
 use Rattle.lc_sexp.specs.Trees.{Tree, Trees, atom, list, none, ◌▸◌, item_count}
 use Rattle.lc_sexp.specs.Parts.{Fit, fits, misshapen, beyond, integer_fit}
-use Rattle.lc_term.specs.Names.{Names}
+use Rattle.lc_text.specs.Names.{Names}
 use Rattle.lc_term.specs.Syntax as T
 use Rattle.lc_term.specs.Syntax.{Term, Column, Formula, Formulas}
-use Rattle.lc_term.specs.declared.scope.ColumnUse.{ColumnUse}
-use Rattle.lc_term.specs.declared.scope.ColumnUse.TheVariants.{Usable, Misplaced, Hidden, Undeclared}
-use Rattle.lc_term.specs.declared.scope.Extra.{Extra}
-use Rattle.lc_term.specs.declared.scope.Extra.TheVariants.{Quantifiers, BuiltColumns, NumberedVariables}
+use Rattle.lc_text.specs.declared.scope.ColumnUse.{ColumnUse}
+use Rattle.lc_text.specs.declared.scope.ColumnUse.TheVariants.{Usable, Misplaced, Hidden, Undeclared}
+use Rattle.lc_text.specs.declared.scope.Extra.{Extra}
+use Rattle.lc_text.specs.declared.scope.Extra.TheVariants.{Quantifiers, BuiltColumns, NumberedVariables}
 use Rattle.lc_reading.proofs.Holding.{Holds, anything, mapped_holds, both_holds, ended_holds, if_holds}
 use Rattle.lc_reading.specs.Naming.{within}
 use Rattle.lc_reading.specs.Readings.{Reading, wrong, both}

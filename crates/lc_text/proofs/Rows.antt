@@ -5,7 +5,7 @@ use Rattle.std.specs.declared.alloc.Global.{Global}
 use Rattle.lc_sexp.specs.Trees.{Tree, item_count}
 use Rattle.lc_sexp.specs.Shown.{rest_of, number_of}
 use Rattle.lc_sexp.specs.declared.cursor.Cursor.{Cursor}
-use Rattle.lc_term.specs.Names.{Names}
+use Rattle.lc_text.specs.Names.{Names}
 use Rattle.lc_term.specs.Syntax.{Formula, Formulas, none, more, formulas}
 use Rattle.lc_term.specs.View.{formula_of, formulas_of}
 use Rattle.lc_term.specs.declared.formula.Formula.{Formula as SeenFormula}

@@ -9,13 +9,13 @@ use Rattle.lc_reading.specs.Naming.{within}
 use Rattle.lc_reading.specs.Readings.{Reading, fine, wrong, mapped}
 use Rattle.lc_reading.specs.Words.{is_long}
 use Rattle.lc_reading.specs.declared.pass.Pass.TheVariants.{Bound}
-use Rattle.lc_term.specs.Names.{Names}
+use Rattle.lc_text.specs.Names.{Names}
 use Rattle.lc_term.specs.Places.{Test, term_passes, column_passes, passes, all_pass}
 use Rattle.lc_term.specs.Syntax as T
 use Rattle.lc_term.specs.Syntax.{Term, Column, Formula, Formulas, formulas, more}
-use Rattle.lc_term.specs.declared.scope.ColumnUse.{ColumnUse}
-use Rattle.lc_term.specs.declared.scope.ColumnUse.TheVariants.{Usable, Misplaced, Hidden, Undeclared}
-use Rattle.lc_term.specs.declared.scope.Extra.TheVariants.{NumberedVariables}
+use Rattle.lc_text.specs.declared.scope.ColumnUse.{ColumnUse}
+use Rattle.lc_text.specs.declared.scope.ColumnUse.TheVariants.{Usable, Misplaced, Hidden, Undeclared}
+use Rattle.lc_text.specs.declared.scope.Extra.TheVariants.{NumberedVariables}
 use Rattle.lc_text.specs.Formulas.{binder_reading, bound_inside, body_of, comparison_of, joined_by, implication_of, quantified_by, connective_reading, formula_reading, only_reading, both_reading, body_reading, formulas_reading}
 use Rattle.lc_text.specs.Heads.{operation_of, built_due, connective_due}
 use Rattle.lc_text.specs.Terms.{pair, triple, bound_index, bound_or_free, variable_reading, number_reading, numbered_reading, word_reading, number_or, atom_reading, used, sum_of, product_of, access_of, affine_of, store_of, operation_reading, built_reading, numbers_reading, term_reading, terms_reading, product_reading, access_reading, column_reading, store_reading}

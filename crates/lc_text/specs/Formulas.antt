@@ -4,7 +4,7 @@ use Rattle.lc_base.specs.NameText.{is_name}
 use Rattle.lc_sexp.specs.Trees.{Tree, Trees, atom, list, none, ◌▸◌, item_count}
 use Rattle.lc_term.specs.Syntax as S
 use Rattle.lc_term.specs.Syntax.{Term, Formula, Formulas}
-use Rattle.lc_term.specs.Names.{Names}
+use Rattle.lc_text.specs.Names.{Names}
 use Rattle.lc_reading.specs.Naming.{within}
 use Rattle.lc_reading.specs.Readings.{Reading, fine, wrong, mapped, both, two_of, ended}
 use Rattle.lc_reading.specs.Reserved.{is_reserved}

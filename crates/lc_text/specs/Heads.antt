@@ -1,8 +1,8 @@
 -- What the first words of terms, column expressions and formulas say.
 use Rattle.std.specs.Prelude.{ℕ, Bool, true, false, not, ◌&&◌, if◌then◌else◌, codes, List, Option, Some, None}
 use Rattle.lc_reading.specs.Words.{is}
-use Rattle.lc_term.specs.Names.{Names}
-use Rattle.lc_term.specs.declared.scope.Extra.TheVariants.{Quantifiers, BuiltColumns}
+use Rattle.lc_text.specs.Names.{Names}
+use Rattle.lc_text.specs.declared.scope.Extra.TheVariants.{Quantifiers, BuiltColumns}
 use Rattle.lc_text.specs.declared.words.Operation.{Operation}
 use Rattle.lc_text.specs.declared.words.Operation.TheVariants.{Add, Subtract, Multiply, Read}
 use Rattle.lc_text.specs.declared.words.Built.{Built}

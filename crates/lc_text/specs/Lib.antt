@@ -1,3 +1,4 @@
+pub mod Names
 pub mod Heads
 pub mod Terms
 pub mod Formulas

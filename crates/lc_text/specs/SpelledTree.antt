@@ -6,11 +6,11 @@ use Rattle.lc_sexp.specs.Parts.{fits_i64}
 use Rattle.lc_term.specs.Syntax as S
 use Rattle.lc_term.specs.Syntax.{Term, Number, Variable, Bound, Add, Subtract, Multiply, Read, Column, Base, Store, Affine}
 use Rattle.lc_term.specs.Syntax.{Formula, Le, Eq, Not, And, Or, Implies, Forall, Exists, Formulas, more}
-use Rattle.lc_term.specs.Names.{Names}
+use Rattle.lc_text.specs.Names.{Names}
 use Rattle.lc_text.specs.Spelling.{Spelled}
 use Rattle.lc_text.specs.Spelled.{binder, one_deeper}
 use Rattle.lc_reading.specs.Readings.{fine}
-use Rattle.lc_term.specs.declared.scope.Extra.TheVariants.{Quantifiers, BuiltColumns}
+use Rattle.lc_text.specs.declared.scope.Extra.TheVariants.{Quantifiers, BuiltColumns}
 use Rattle.lc_text.specs.Terms.{atom_reading, base_reading}
 
 -- a list of a word and two parts

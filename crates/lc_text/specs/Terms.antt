@@ -6,10 +6,10 @@ use Rattle.lc_sexp.specs.Trees.{Tree, Trees, atom, list, ◌▸◌, item_count}
 use Rattle.lc_sexp.specs.Parts.{Fit, fits, misshapen, beyond, integer_fit, variable_fit}
 use Rattle.lc_term.specs.Syntax as S
 use Rattle.lc_term.specs.Syntax.{Term, Column}
-use Rattle.lc_term.specs.Names.{Names}
-use Rattle.lc_term.specs.declared.scope.ColumnUse.{ColumnUse}
-use Rattle.lc_term.specs.declared.scope.ColumnUse.TheVariants.{Usable, Misplaced, Hidden, Undeclared}
-use Rattle.lc_term.specs.declared.scope.Extra.TheVariants.{NumberedVariables}
+use Rattle.lc_text.specs.Names.{Names}
+use Rattle.lc_text.specs.declared.scope.ColumnUse.{ColumnUse}
+use Rattle.lc_text.specs.declared.scope.ColumnUse.TheVariants.{Usable, Misplaced, Hidden, Undeclared}
+use Rattle.lc_text.specs.declared.scope.Extra.TheVariants.{NumberedVariables}
 use Rattle.lc_reading.specs.Naming.{within}
 use Rattle.lc_reading.specs.Readings.{Reading, fine, wrong, mapped, two_of, three_of}
 use Rattle.lc_reading.specs.Words.{is}

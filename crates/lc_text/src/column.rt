@@ -13,7 +13,8 @@ use crate::words::{Built, built_due};
 use lc_base::{NAME_LIMIT, is_name};
 use lc_reading::{Part, Pass, ReadFault, both, ended, headed, three, two, wrong};
 use lc_sexp::{Atom, Cursor, Item};
-use lc_term::{ColExpr, ColumnUse, Scope, Term};
+use crate::scope::{ColumnUse, Scope};
+use lc_term::{ColExpr, Term};
 use std::alloc::Global;
 
 /// The column of a name. One that may not be read so is told at the reader.

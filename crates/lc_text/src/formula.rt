@@ -15,7 +15,8 @@ use lc_reading::{
     Part, Pass, ReadFault, both, ended, headed, is_reserved, next_part, one, pushed, two, wrong,
 };
 use lc_sexp::{Cursor, Item};
-use lc_term::{Formula, Scope};
+use crate::scope::Scope;
+use lc_term::Formula;
 use std::alloc::Global;
 
 /// The formula that an item reads as.

@@ -3,9 +3,9 @@ ghost use Rattle.std.specs.Prelude.{◌≡◌, ◌<◌, ◌≤◌, ◌^◌, ℕ,
 ghost use Rattle.std.specs.Fmt.{decimal};
 ghost use Rattle.lc_reading.specs.Readings.{fine};
 ghost use Rattle.lc_sexp.specs.Printed.{printed_tree};
-ghost use Rattle.lc_term.specs.Names.{Names};
+ghost use Rattle.lc_text.specs.Names.{Names};
 ghost use Rattle.lc_term.specs.Syntax.{Term, Variable, Column, Formula};
-ghost use Rattle.lc_term.specs.declared.scope.Extra.TheVariants.{NumberedVariables};
+ghost use Rattle.lc_text.specs.declared.scope.Extra.TheVariants.{NumberedVariables};
 ghost use Rattle.lc_text.specs.Formulas.{formula_reading};
 ghost use Rattle.lc_text.specs.Spelled.{spelled_term, spelled_column, spelled_formula};
 ghost use Rattle.lc_text.specs.SpelledTree.{term_tree, column_tree, formula_tree, binders, TermReadsBack, ColumnReadsBack, FormulaReadsBack};

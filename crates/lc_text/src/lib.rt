@@ -8,6 +8,7 @@ mod formula;
 pub mod laws;
 mod made;
 mod printing;
+mod scope;
 mod term;
 mod words;
 
@@ -15,4 +16,5 @@ pub use column::read_column;
 pub use declared_column::read_declared_column;
 pub use formula::{read_formula, read_formulas};
 pub use printing::{Spelling, write_column, write_formula, write_term};
+pub use scope::{ColumnUse, Extra, Scope};
 pub use term::{Terms, read_number, read_term};

@@ -13,7 +13,8 @@ use crate::words::{Operation, operation_of};
 use lc_base::{NAME_LIMIT, is_name};
 use lc_reading::{Part, Pass, ReadFault, Reads, both, ended, headed, two, wrong};
 use lc_sexp::{Atom, Cursor, Item, Misfit};
-use lc_term::{ColExpr, Extra, Scope, Term};
+use crate::scope::{Extra, Scope};
+use lc_term::{ColExpr, Term};
 use std::alloc::Global;
 
 /// How many quantifiers stand between a place and the innermost one that binds a name.

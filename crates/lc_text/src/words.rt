@@ -1,7 +1,7 @@
 ghost use Rattle.std.specs.Prelude.{◌≡◌};
 ghost use Rattle.lc_text.specs.Heads.{operation_of, built_of, built_due, connective_of, is_quantifier, connective_due};
 
-use lc_term::{Extra, Scope};
+use crate::scope::{Extra, Scope};
 
 /// What the first word of a term that is a list says.
 #[derive(Clone, Copy)]

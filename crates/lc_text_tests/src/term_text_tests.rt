@@ -1,8 +1,11 @@
-//! The passes, and what texts read as, are cases of the program `lc_cases`.
+//! What texts read as, and their flaws, are cases of the program `lc_cases`.
 use lc_base::{ColId, OutOfMemory};
+use lc_reading::{Flaw, Pass, ReadFault, next_part};
 use lc_sexp::{Forms, Item};
-use lc_term::{ColExpr, ColumnUse, Extra, Formula, ReadFault, Scope, Term, read_formulas};
-use lc_text::{Spelling, write_column, write_formula, write_term};
+use lc_term::{ColExpr, Formula, Term};
+use lc_text::{
+    ColumnUse, Extra, Scope, Spelling, read_formulas, write_column, write_formula, write_term,
+};
 use std::alloc::Global;
 use std::test::Fail;
 
@@ -12,8 +15,8 @@ struct Place;
 
 impl Scope for Place {
     ghost use Rattle.std.specs.Prelude.{codes, Some, None, false, if◌then◌else◌};
-    ghost use Rattle.lc_term.specs.Grammar.{is};
-    ghost use Rattle.lc_term.specs.declared.scope.ColumnUse.TheVariants.{Undeclared};
+    ghost use Rattle.lc_reading.specs.Words.{is};
+    ghost use Rattle.lc_text.specs.declared.scope.ColumnUse.TheVariants.{Undeclared};
 
     ghost names = { λ _. record {
       variable = λ w. (if is w (codes "x") then Some 0 else None);
@@ -92,11 +95,8 @@ fn formula_count(alloc: Global, text: &str) -> Result<usize, ReadFault> {
     let Ok(forms) = Forms::read(alloc, text.as_bytes()) else {
         return Err(ReadFault::OutOfMemory);
     };
-    if forms.cursor().len() != 1 {
+    let Item::List(list) = next_part(&mut forms.cursor())?.item() else {
         return Err(ReadFault::OutOfMemory);
-    }
-    let Item::List(list) = forms.cursor().item()? else {
-        return Err(ReadFault::NoReading);
     };
     Ok(read_formulas(alloc, &Place, list)?.len())
 }
@@ -105,9 +105,14 @@ fn formula_count(alloc: Global, text: &str) -> Result<usize, ReadFault> {
 fn reads_formulas_in_a_row(rt: HostRuntime) -> Result<(), Fail> {
     assert_eq!(rt; formula_count(rt.alloc(), "()")?, 0);
     assert_eq!(rt; formula_count(rt.alloc(), "((<= x 0) (and) (or))")?, 3);
+    let flaw = Flaw {
+        pass: Pass::Shape,
+        item: 3,
+        least: 3,
+    };
     assert_eq!(rt;
         formula_count(rt.alloc(), "((and) x)").err(),
-        Some(ReadFault::NoReading)
+        Some(ReadFault::Flawed(flaw))
     );
     Ok(())
 }

@@ -1,5 +1,6 @@
 -- A judgement from the answers to the history's text and to its order, and from the beginning of a file.
 use Rattle.std.proofs.Common.{◌≡◌, ℕ, ◌≤◌, length, take, List, Option, Some, None, IfSome, IfOk, Result, Ok, Err, refl, subst, ◌∙◌, inl, inr, arith, Vec, ℤ}
+use Rattle.std.specs.Prelude.{IsErr}
 use Rattle.std.specs.declared.alloc.Global.{Global}
 use Rattle.std.proofs.lemmas.List.{take_all, length-take}
 use Rattle.lc_base.specs.declared.refusal.Fault.{Fault}
@@ -17,7 +18,10 @@ use Rattle.lc_seq.specs.Specification.{Specification}
 use Rattle.lc_seq.specs.TextStep.{text_step, TextFits, start_of}
 use Rattle.lc_seq.specs.declared.text_call.TextCall.{TextCall}
 use Rattle.lincheck.specs.Answers.{ToldFault}
-use Rattle.lincheck.specs.Judge.{HasCall, IsLinearization, FailsFirst, Overflows, SaysSuch, IsJudgement, judgement_of, AnswersHistory, AnswersJudge, ToldJudgement}
+use Rattle.lincheck.specs.Judge.{IsLinearization, FailsFirst, Overflows, SaysSuch, IsJudgement, judgement_of, AnswersHistory, AnswersJudge, ToldJudgement}
+use Rattle.lc_spec_text.proofs.FileAnswers.{said_not_refused}
+use Rattle.lincheck.specs.CommandLine.{JudgeHistory}
+use Rattle.lincheck.specs.Execution.{IsUnread}
 use Rattle.lincheck.specs.Reading.{within_limit}
 use Rattle.lincheck.specs.declared.answer.Answer.{Answer}
 use Rattle.lincheck.specs.declared.answer.Failure.{Failure}
@@ -27,7 +31,7 @@ use Rattle.lincheck.proofs.Truncated.{fault_of_whole, reading_of_whole, either}
 
 -- what is answered of the order that the text says makes the judgement
 judged : (spec : Specification) (bytes : List ℕ) (history : List Event) (order : List Entry) (result : Result (Unit {0}) F.JudgeFault) → SaysHistory spec.operations bytes history order
-    → IsJudged (HasCall spec) (text_step spec.operations) (TextFits spec.operations) (start_of spec.columns) history order result → IsJudgement spec bytes (judgement_of result)
+    → IsJudged (text_step spec.operations) (TextFits spec.operations) (start_of spec.columns) history order result → IsJudgement spec bytes (judgement_of result)
 judged spec bytes history order (Ok done) says is = (history, order, says, is)
 judged spec bytes history order (Err (V.Order place reason)) says is = (reason, refl, (history, order, says, is))
 judged spec bytes history order (Err V.Overflow) says is = (history, order, says, is)
@@ -35,10 +39,10 @@ judged spec bytes history order (Err V.OutOfMemory) says is = tt
 
 pub order_judged : (spec : Specification) (bytes : List ℕ) (history : List Event) (order seen : List (Done TextCall (Vec ℤ Global))) (result : Result (Unit {0}) F.JudgeFault)
     → SaysHistory spec.operations bytes history (entries_seen order) → seen ≡ order
-    → IsJudged (HasCall spec) (text_step spec.operations) (TextFits spec.operations) (start_of spec.columns) history (entries_seen seen) result → IsJudgement spec bytes (judgement_of result)
+    → IsJudged (text_step spec.operations) (TextFits spec.operations) (start_of spec.columns) history (entries_seen seen) result → IsJudgement spec bytes (judgement_of result)
 order_judged spec bytes history order seen result says same is =
     judged spec bytes history (entries_seen order) result says
-    (subst (λ (l : List (Done TextCall (Vec ℤ Global))). IsJudged (HasCall spec) (text_step spec.operations) (TextFits spec.operations) (start_of spec.columns) history (entries_seen l) result) same is)
+    (subst (λ (l : List (Done TextCall (Vec ℤ Global))). IsJudged (text_step spec.operations) (TextFits spec.operations) (start_of spec.columns) history (entries_seen l) result) same is)
 
 -- a fault of the text is its judgement
 pub unread : (spec : Specification) (bytes : List ℕ) (fault : Fault) → IsRefusedAt (IsWrongItem spec.operations bytes) fault → IsJudgement spec bytes (Err fault)
@@ -145,3 +149,19 @@ refused_answered None history bytes seen fault text status read same is told = t
 refused_answered (Some file) history bytes seen (Refused refusal) text status read same is told =
     inl (refusal, refusal_of_whole file refusal (subst (λ b. S.IsFirstRefusal b refusal) (same ∙ read) is), told)
 refused_answered (Some file) history bytes seen OutOfMemory text status read same is told = absurd told
+
+-- where a file that is needed cannot be opened, and the development is read, there is no answer
+pub read_unread : {T E : Type 0} (CannotOpen : List ℕ → Type 0) (bytes_at : List ℕ → Option (List ℕ)) (development history : List ℕ) (result : Result T E)
+    → (CannotOpen development → ⊥) → (CannotOpen history → IsErr result) → IsUnread CannotOpen bytes_at (JudgeHistory development history) → IsErr result
+read_unread CannotOpen bytes_at development history result opened none (inl closed) = absurd (opened closed)
+read_unread CannotOpen bytes_at development history result opened none (inr (file, spec, known, says, closed)) = none closed
+
+-- a development that is refused is read, and says nothing
+pub refused_unread : {T E : Type 0} (CannotOpen : List ℕ → Type 0) (bytes_at : List ℕ → Option (List ℕ)) (development history : List ℕ) (result : Result T E) (bytes seen : List ℕ) (fault : Fault)
+    (text : List ℕ) (status : ℕ) → (CannotOpen development → ⊥) → IfSome (bytes_at development) (λ file. bytes ≡ within_limit file) → seen ≡ bytes → S.IsAnswerTo seen (Err fault) → ToldFault fault text status
+    → IsUnread CannotOpen bytes_at (JudgeHistory development history) → IsErr result
+refused_unread CannotOpen bytes_at development history result bytes seen fault text status opened read same is told (inl closed) = absurd (opened closed)
+refused_unread CannotOpen bytes_at development history result bytes seen (Refused refusal) text status opened read same is told (inr (file, spec, known, says, closed)) =
+    let whole : bytes ≡ within_limit file = subst (λ o. IfSome o (λ f. bytes ≡ within_limit f)) known read in
+    absurd (said_not_refused file spec refusal says (refusal_of_whole file refusal (subst (λ b. S.IsFirstRefusal b refusal) (same ∙ whole) is)))
+refused_unread CannotOpen bytes_at development history result bytes seen OutOfMemory text status opened read same is told (inr unread) = absurd told

@@ -5,3 +5,4 @@ pub mod OneAnswer
 pub mod Taken
 pub mod Words
 pub mod Endings
+pub mod OneHistory

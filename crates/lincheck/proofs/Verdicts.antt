@@ -9,41 +9,40 @@ use Rattle.lc_kernel.specs.Derivation.{DerivesGoal, FailsGoal}
 use Rattle.lc_kernel.specs.View.{proof_of}
 use Rattle.lc_kernel.specs.declared.fault.ProofFault.{ProofFault}
 use Rattle.lc_kernel.specs.declared.fault.ProofFault.TheVariants.{Bad, Large as TooLarge, OutOfMemory as NoMore}
-use Rattle.lc_kernel.specs.declared.goal.Goal.{Goal}
-use Rattle.lc_kernel.specs.declared.proof.Proof.{Proof as SeenProof}
 use Rattle.lc_kernel.specs.declared.reason.Flaw.TheVariants.{Bad as BadFlaw, Large as LargeFlaw}
-use Rattle.lc_proof_text.specs.Files.{Claim, seen_claim, file_reading}
+use Rattle.lc_proof_text.specs.Files.{Claim, claim_in, file_reading}
+use Rattle.lc_proof_text.specs.declared.claim.FormulaFile.{FormulaFile}
 use Rattle.lc_reading.specs.Files.{Says, IsFirstRefusal, IsAnswerTo}
 use Rattle.lc_term.specs.Syntax as T
-use Rattle.lc_term.specs.View.{formula_of, formulas_of}
+use Rattle.lc_term.specs.Tables.{formula_in, formulas_in}
 use Rattle.lincheck.specs.Answers.{Told}
 use Rattle.lincheck.specs.Formula.{AnswersFormula, IsVerdict, fault_of}
 use Rattle.lincheck.specs.Reading.{within_limit}
 use Rattle.lincheck.proofs.Truncated.{fault_of_whole, reading_of_whole}
 
 -- what the kernel answers of a goal and a proof
-abbrev Answered : Goal × SeenProof → Result (Unit {0}) ProofFault → Type 0
-Answered a result = Proves a.0.vars (formulas_of a.0.hypotheses.items) (formula_of a.0.goal) (proof_of a.1) result
+abbrev Answered : FormulaFile → Result (Unit {0}) ProofFault → Type 0
+Answered a result = Proves a.goal.vars (formulas_in a.terms a.goal.hypotheses.items) (formula_in a.terms a.goal.goal) (proof_of a.proof) result
 
 listed : (P : List T.Formula → Type 0) (fs : List T.Formula) → P fs → P (T.parts (T.formulas fs))
 listed P fs h = subst P (sym (parts_formulas fs)) h
 
 -- a proof that derives its goal makes the verdict
-pub proved : (bytes : List ℕ) (a : Goal × SeenProof) (u : Unit {0}) → Says file_reading bytes (seen_claim a) → Answered a (Ok u) → IsVerdict bytes (Ok u)
+pub proved : (bytes : List ℕ) (a : FormulaFile) (u : Unit {0}) → Says file_reading bytes (claim_in a) → Answered a (Ok u) → IsVerdict bytes (Ok u)
 proved bytes a u says derives =
-    (seen_claim a, says, listed (λ H. DerivesGoal a.0.vars H (formula_of a.0.goal) (proof_of a.1)) (formulas_of a.0.hypotheses.items) derives)
+    (claim_in a, says, listed (λ H. DerivesGoal a.goal.vars H (formula_in a.terms a.goal.goal) (proof_of a.proof)) (formulas_in a.terms a.goal.hypotheses.items) derives)
 
 -- a proof that was not found to hold makes the verdict a refusal
-pub not_proved : (bytes : List ℕ) (a : Goal × SeenProof) (fault : ProofFault) → Says file_reading bytes (seen_claim a) → Answered a (Err fault)
+pub not_proved : (bytes : List ℕ) (a : FormulaFile) (fault : ProofFault) → Says file_reading bytes (claim_in a) → Answered a (Err fault)
     → IsVerdict bytes (Err (fault_of fault))
 not_proved bytes a (Bad step reason) says fails =
-    inr (seen_claim a, step, BadFlaw reason, says, listed (λ H. FailsGoal a.0.vars H (formula_of a.0.goal) (proof_of a.1) step (BadFlaw reason)) (formulas_of a.0.hypotheses.items) fails, refl)
+    inr (claim_in a, step, BadFlaw reason, says, listed (λ H. FailsGoal a.goal.vars H (formula_in a.terms a.goal.goal) (proof_of a.proof) step (BadFlaw reason)) (formulas_in a.terms a.goal.hypotheses.items) fails, refl)
 not_proved bytes a (TooLarge step) says fails =
-    inr (seen_claim a, step, LargeFlaw, says, listed (λ H. FailsGoal a.0.vars H (formula_of a.0.goal) (proof_of a.1) step LargeFlaw) (formulas_of a.0.hypotheses.items) fails, refl)
+    inr (claim_in a, step, LargeFlaw, says, listed (λ H. FailsGoal a.goal.vars H (formula_in a.terms a.goal.goal) (proof_of a.proof) step LargeFlaw) (formulas_in a.terms a.goal.hypotheses.items) fails, refl)
 not_proved bytes a NoMore says fails = tt
 
 -- a fault of the file is its verdict
-pub not_read : (bytes : List ℕ) (fault : Fault) → IsAnswerTo seen_claim file_reading bytes (Err fault) → IsVerdict bytes (Err fault)
+pub not_read : (bytes : List ℕ) (fault : Fault) → IsAnswerTo claim_in file_reading bytes (Err fault) → IsVerdict bytes (Err fault)
 not_read bytes (Refused refusal) first = inl first
 not_read bytes OutOfMemory h = tt
 

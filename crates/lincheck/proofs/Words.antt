@@ -1,5 +1,5 @@
 -- What clap reads in plain words.
-use Rattle.std.proofs.Common.{◌≡◌, ℕ, ◌==◌, inl, inr, Bool, true, false, not, true≢false, codes, List, [], ◌∷◌, Option, Some, None, refl, sym, ◌∙◌, ap, ap₂, subst}
+use Rattle.std.proofs.Common.{◌≡◌, ℕ, ◌==◌, ◌⊎◌, inl, inr, Bool, true, false, not, true≢false, codes, List, [], ◌∷◌, Option, Some, None, refl, sym, ◌∙◌, ap, ap₂, subst}
 use Rattle.std.specs.Prelude.{Result, Ok, Err, IfErr, option_map, option_and_then, if◌then◌else◌}
 use Rattle.std.specs.Box.{box_value}
 use Rattle.std.specs.Str.{bytes_eq}
@@ -12,7 +12,7 @@ use Rattle.clap.specs.declared.parser.matches.Found.{Found}
 use Rattle.clap.proofs.WalkLemmas.{first_value-rows}
 use Rattle.lincheck.specs.declared.command_line.Request.{Request}
 use Rattle.clap.proofs.OnLiterals.{clap_on_literals}
-use Rattle.lincheck.specs.CommandLine.{AreWrong, AsksForText, HasPlainPaths, Reads, Task, CheckFormula, JudgeHistory, formula_task, judge_task, task_in_command, program_app, task_in, task_of, words_for}
+use Rattle.lincheck.specs.CommandLine.{AreWrong, AskForHelp, AsksForText, HasPlainPaths, Reads, Task, CheckFormula, JudgeHistory, formula_task, judge_task, task_in_command, program_app, task_in, task_of, words_for}
 
 is_other : (b : ℕ) → not (b == 45) ≡ true → (b == 45) ≡ false
 is_other b plain = by (b == 45) refl plain
@@ -73,6 +73,18 @@ plain_fault a words e is passes name task w plain = passes (ap (λ x. takes x wo
 pub wrong_fault : (a : App) (words : List Text) (e : Error) → a ≡ program_app → (is_simple_and_free a ≡ true → HasKind (fault_of a words) e)
     → AreWrong words → AsksForText (kind_of e) → ⊥
 wrong_fault a words e is kinds wrong = no_text words e wrong (subst (λ (x : App). HasKind (fault_of x words) e) is (kinds (ap is_simple_and_free is ∙ program_is_free)))
+
+-- where the words ask for help, an error of clap asks for a text, or is want of memory
+pub help_asked : (a : App) (words : List Text) (e : Error) → a ≡ program_app → (is_simple_and_free a ≡ true → HasKind (fault_of a words) e)
+    → AskForHelp words → (kind_of e ≡ OutOfMemory) ⊎ AsksForText (kind_of e)
+help_asked a words e is kinds help = elim (subst (λ (x : App). HasKind (fault_of x words) e) is (kinds (ap is_simple_and_free is ∙ program_is_free))) [
+  | inl memory ↦ inl memory
+  | inr among ↦ inr (help.1 (kind_of e) among)
+]
+
+-- words at which clap answers matches ask for no help
+pub no_help : (a : App) (words : List Text) → a ≡ program_app → (is_simple_and_free a ≡ true → fault_of a words ≡ []) → AskForHelp words → ⊥
+no_help a words is kinds help = help.0 (subst (λ (x : App). fault_of x words ≡ []) is (kinds (ap is_simple_and_free is ∙ program_is_free)))
 
 -- words at which clap answers matches are not wrong
 pub not_wrong : (a : App) (words : List Text) → a ≡ program_app → (is_simple_and_free a ≡ true → fault_of a words ≡ []) → AreWrong words → ⊥

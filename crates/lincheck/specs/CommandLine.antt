@@ -71,6 +71,10 @@ AsksForText kind = (kind ≡ DisplayHelp) ⊎ (kind ≡ DisplayVersion)
 abbrev pub AreWrong : List Text → Type 0
 AreWrong words = (fault_of program_app words ≡ [] → ⊥) × ((kind : ErrorKind) → IsAmong kind (fault_of program_app words) → AsksForText kind → ⊥)
 
+-- the words ask for a text to be shown, and clap finds no other fault in them
+abbrev pub AskForHelp : List Text → Type 0
+AskForHelp words = (fault_of program_app words ≡ [] → ⊥) × ((kind : ErrorKind) → IsAmong kind (fault_of program_app words) → AsksForText kind)
+
 -- the texts of the words
 abbrev pub texts_of : List (String Global) → List Text
 texts_of words = map string_bytes words

@@ -1,42 +1,43 @@
 -- The judgement of a history by a specification, and the answer to a development's file and a history's.
-use Rattle.std.specs.Prelude.{◌≡◌, ℕ, ◌⊎◌, true, List, [], codes, Option, IfSome, Result, Ok, Err}
+use Rattle.std.specs.Prelude.{◌≡◌, ℕ, ◌⊎◌, List, [], codes, Option, IfSome, Result, Ok, Err}
 use Rattle.lc_base.specs.Line.{line_of}
 use Rattle.lc_base.specs.declared.refusal.Fault.{Fault}
 use Rattle.lc_base.specs.declared.refusal.Fault.TheVariants.{Refused, OutOfMemory}
 use Rattle.lc_base.specs.declared.refusal.Refusal.{Refusal}
 use Rattle.lc_base.specs.declared.refusal.Refusal.TheVariants.{HistoryShape, Order}
-use Rattle.lc_hist.specs.History.{Event, Entry, Linearizes}
+use Rattle.lc_hist.specs.History.{Event, Entry, IsLinearizable}
 use Rattle.lc_hist.specs.JsonHistories.{SaysHistory, IsWrongItem}
-use Rattle.lc_hist.specs.Judged.{IsFirstFailure, IsOverflow}
+use Rattle.lc_hist.specs.Judged.{IsJudged}
 use Rattle.lc_hist.specs.Reason.{code_of}
 use Rattle.lc_hist.specs.declared.reason.Reason.{Reason}
 use Rattle.lc_hist.specs.declared.judging.JudgeFault as F
 use Rattle.lc_hist.specs.declared.judging.JudgeFault.TheVariants as V
-use Rattle.lc_seq.specs.Sequential.{Call}
 use Rattle.lc_spec_text.specs.Files.{Says, IsFirstRefusal}
-use Rattle.lc_seq.specs.Specification.{Specification, has_call}
+use Rattle.lc_seq.specs.Specification.{Specification}
 use Rattle.lc_seq.specs.TextStep.{text_step, TextFits, start_of}
 use Rattle.lincheck.specs.Answers.{ToldFault}
 use Rattle.lincheck.specs.declared.judge.Judgement.{Judgement}
 use Rattle.lincheck.specs.declared.judge.Judgement.TheVariants.{Linearizable, Overflow}
 
--- the specification has this call
-abbrev pub HasCall : Specification → Call → Type 0
-HasCall spec call = has_call spec.operations call ≡ true
+-- some order linearizes the history by the steps of the specification, from its start
+abbrev pub IsSpecified : Specification → List Event → Type 0
+IsSpecified spec history = IsLinearizable (text_step spec.operations) (start_of spec.columns) history
 
--- the order linearizes the history by the steps of the specification, from its start
+-- this is what the judge of an order answers by the specification
+abbrev pub IsJudgedSo : Result (Unit {0}) F.JudgeFault → Specification → List Event → List Entry → Type 0
+IsJudgedSo answer spec history order = IsJudged (text_step spec.operations) (TextFits spec.operations) (start_of spec.columns) history order answer
+
+-- the order linearizes the history, and each number that the specification reaches has 64 bits
 abbrev pub IsLinearization : Specification → List Event → List Entry → Type 0
-IsLinearization spec history order = Linearizes (text_step spec.operations) (start_of spec.columns) history order
+IsLinearization = IsJudgedSo (Ok tt)
 
--- the order does not linearize the history, and this is the first test that it does not pass
+-- the order does not linearize the history, this is the first test that it does not pass, and each number that is reached has 64 bits
 abbrev pub FailsFirst : ℕ → Reason → Specification → List Event → List Entry → Type 0
-FailsFirst place reason spec history order =
-    IsFirstFailure (HasCall spec) (text_step spec.operations) (start_of spec.columns) history order place reason × (IsLinearization spec history order → ⊥)
+FailsFirst place reason = IsJudgedSo (Err (V.Order place reason))
 
 -- at the first place whose tests are not passed, a number that the specification reaches leaves 64 bits
 abbrev pub Overflows : Specification → List Event → List Entry → Type 0
-Overflows spec history order =
-    (place : ℕ) × IsOverflow (HasCall spec) (text_step spec.operations) (TextFits spec.operations) (start_of spec.columns) history order place
+Overflows = IsJudgedSo (Err V.Overflow)
 
 -- the text says a history and an order of which this holds
 abbrev pub SaysSuch : (Specification → List Event → List Entry → Type 0) → Specification → List ℕ → Type 0

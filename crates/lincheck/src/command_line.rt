@@ -1,9 +1,9 @@
 //! The command line: its commands, and what each says of itself when it is asked for help.
-ghost use Rattle.std.specs.Prelude.{◌≡◌, ℕ, List, IfOk, IfErr, IsErrAnd, true, false, option_map};
+ghost use Rattle.std.specs.Prelude.{◌≡◌, ◌⊎◌, ℕ, List, IfOk, IfErr, IsErrAnd, true, false, option_map};
 ghost use Rattle.clap.specs.Words.{app_of, found_of, kind_of, rows_of, rule_of, subcommand_rows_of};
 ghost use Rattle.clap.specs.declared.builder.command.Command.TheViews.{out-Command};
 ghost use Rattle.clap.specs.declared.error.kind.ErrorKind.TheVariants.{OutOfMemory};
-ghost use Rattle.lincheck.specs.CommandLine.{AreWrong, AsksForText, HasPlainPaths, Reads, Task, file_rule, formula_app, formula_task, judge_app, judge_task, program_app, task_in, task_of, texts_of, words_for};
+ghost use Rattle.lincheck.specs.CommandLine.{AreWrong, AskForHelp, AsksForText, HasPlainPaths, Reads, Task, file_rule, formula_app, formula_task, judge_app, judge_task, program_app, task_in, task_of, texts_of, words_for};
 
 use clap::error::ErrorKind;
 use clap::{Arg, ArgAction, ArgMatches, Command, Error};
@@ -168,6 +168,7 @@ pub fn read_words<'a>(alloc: Global, words: &'a [String]) -> Result<Request<'a>,
     ensures plain { IfErr result (λ error. (name : List ℕ) (task : Task) → texts_of words.entry.now ≡ words_for name task → HasPlainPaths task
         → kind_of error ≡ OutOfMemory) }
     ensures wrong { AreWrong (texts_of words.entry.now) → IsErrAnd result (λ error. AsksForText (kind_of error) → ⊥) }
+    ensures help { AskForHelp (texts_of words.entry.now) → IsErrAnd result (λ error. (kind_of error ≡ OutOfMemory) ⊎ AsksForText (kind_of error)) }
 {
     let matches = program(alloc)?.try_get_matches_from(words)?;
     match request_of(&matches) {

@@ -1,5 +1,5 @@
 //! The command `formula`.
-ghost use Rattle.std.specs.Prelude.{◌≡◌, IfOk, IfSome};
+ghost use Rattle.std.specs.Prelude.{◌≡◌, IfOk, IfSome, IsErr};
 ghost use Rattle.lincheck.specs.Formula.{IsVerdict, AnswersFormula, fault_of};
 
 use crate::answer::{Answer, Failure, told};
@@ -33,8 +33,8 @@ fn fault_of(fault: ProofFault) -> Fault
 pub fn check_formula(alloc: Global, bytes: &[u8]) -> Result<(), Fault>
     ensures { IsVerdict bytes.now result }
 {
-    let (goal, proof) = formula_of(alloc, bytes)?;
-    match prove(alloc, &goal, &proof) {
+    let mut file = formula_of(alloc, bytes)?;
+    match prove(&mut file.terms, alloc, &file.goal, &file.proof) {
         Ok(()) => Ok(()),
         Err(fault) => Err(fault_of(fault)),
     }
@@ -46,7 +46,8 @@ pub fn answer_formula<'a, F: Files>(
     files: &mut F,
     path: &'a str,
 ) -> Result<Answer, Failure<'a>>
-    ensures { IfOk result (λ answer. IfSome (F.bytes_at files.old path.now) (λ file. AnswersFormula file answer.text.items answer.status)) }
+    ensures unread { F.CannotOpen files.old path.now → IsErr result }
+    ensures answers { IfOk result (λ answer. IfSome (F.bytes_at files.old path.now) (λ file. AnswersFormula file answer.text.items answer.status)) }
 {
     let bytes = read_file(alloc, files, path)?;
     let verdict = check_formula(alloc, &bytes);

@@ -1,6 +1,8 @@
 //! The command `judge`.
-ghost use Rattle.std.specs.Prelude.{◌≡◌, IfOk, IfSome};
+ghost use Rattle.std.specs.Prelude.{◌≡◌, IfOk, IfSome, IsErr};
 ghost use Rattle.lc_seq.specs.TextView.{specification_of};
+ghost use Rattle.lincheck.specs.CommandLine.{JudgeHistory};
+ghost use Rattle.lincheck.specs.Execution.{IsUnread};
 ghost use Rattle.lincheck.specs.Judge.{AnswersHistory, AnswersJudge, IsJudgement, ToldJudgement, judgement_of};
 
 use crate::answer::{Answer, Failure, REFUSED, told, told_fault};
@@ -66,7 +68,8 @@ fn answer_history<'a, F: Files>(
     spec: &TextSpec,
     path: &'a str,
 ) -> Result<Answer, Failure<'a>>
-    ensures { IfOk result (λ answer. IfSome (F.bytes_at files.old path.now) (λ file. AnswersHistory (specification_of spec.now) file answer.text.items answer.status)) }
+    ensures unread { F.CannotOpen files.old path.now → IsErr result }
+    ensures answers { IfOk result (λ answer. IfSome (F.bytes_at files.old path.now) (λ file. AnswersHistory (specification_of spec.now) file answer.text.items answer.status)) }
 {
     let bytes = read_file(alloc, files, path)?;
     let judgement = judge_history(alloc, spec, &bytes);
@@ -81,7 +84,8 @@ pub fn answer_judge<'a, F: Files>(
     development: &'a str,
     history: &'a str,
 ) -> Result<Answer, Failure<'a>>
-    ensures { IfOk result (λ answer. IfSome (F.bytes_at files.old development.now) (λ file. AnswersJudge file (F.bytes_at files.old history.now) answer.text.items answer.status)) }
+    ensures unread { IsUnread (F.CannotOpen files.old) (F.bytes_at files.old) (JudgeHistory development.now history.now) → IsErr result }
+    ensures answers { IfOk result (λ answer. IfSome (F.bytes_at files.old development.now) (λ file. AnswersJudge file (F.bytes_at files.old history.now) answer.text.items answer.status)) }
 {
     let bytes = read_file(alloc, files, development)?;
     match spec_of(alloc, &bytes) {

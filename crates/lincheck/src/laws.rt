@@ -1,8 +1,13 @@
 //! What holds of answers. Each function is a law: it does nothing, and its contract is the law.
-ghost use Rattle.std.specs.Prelude.{◌≡◌, ℕ, List};
+ghost use Rattle.std.specs.Prelude.{◌≡◌, ℕ, List, Some};
 ghost use Rattle.lc_proof_text.specs.Files.{Claim, file_reading};
 ghost use Rattle.lc_reading.specs.Files.{Says};
+ghost use Rattle.lc_hist.specs.History.{Event, Entry};
+ghost use Rattle.lc_hist.specs.JsonHistories.{SaysHistory};
+ghost use Rattle.lc_spec_text.specs.Files as S;
+ghost use Rattle.lc_seq.specs.Specification.{Specification};
 ghost use Rattle.lincheck.specs.Formula.{AnswersFormula, IsTrueClaim};
+ghost use Rattle.lincheck.specs.Judge.{AnswersJudge, IsSpecified};
 
 /// A formula file has one answer at most: what is printed and the status are determined by its bytes.
 pub fn a_file_has_one_answer()
@@ -13,4 +18,18 @@ pub fn a_file_has_one_answer()
 /// Where the answer to a formula file has the status 0, what the file claims is true.
 pub fn what_is_accepted_is_true()
     ensures { (file text : List ℕ) → AnswersFormula file text 0 → (claim : Claim) × Says file_reading file claim × IsTrueClaim claim }
+{}
+
+/// A development's file and a history's have one answer at most: what is printed and the status are determined by their
+/// bytes.
+pub fn a_history_has_one_answer()
+    ensures { (development history text text' : List ℕ) (status status' : ℕ) →
+        AnswersJudge development (Some history) text status → AnswersJudge development (Some history) text' status' → (text ≡ text') × (status ≡ status') }
+{}
+
+/// Where the answer to a development's file and a history's has the status 0, the history is linearizable: some order
+/// linearizes it by the steps of the specification.
+pub fn what_is_accepted_is_linearizable()
+    ensures { (development history text : List ℕ) → AnswersJudge development (Some history) text 0 →
+        (spec : Specification) (events : List Event) (order : List Entry) → S.Says development spec → SaysHistory spec.operations history events order → IsSpecified spec events }
 {}

@@ -1,8 +1,8 @@
-ghost use Rattle.std.specs.Prelude.{◌≡◌, ◌⊎◌, ℕ, List, true, IfOk, IfSome, OnOk};
+ghost use Rattle.std.specs.Prelude.{◌≡◌, ◌⊎◌, ℕ, List, true, IfOk, IfSome, IsErr, OnOk};
 ghost use Rattle.std.specs.Io.KnownBytes.{Appends};
 ghost use Rattle.clap.specs.Words.{kind_of};
-ghost use Rattle.lincheck.specs.CommandLine.{AreWrong, AsksForText, formula_words, is_plain, judge_words, task_of, texts_of};
-ghost use Rattle.lincheck.specs.Execution.{AnswersTask, Ends};
+ghost use Rattle.lincheck.specs.CommandLine.{AreWrong, AskForHelp, AsksForText, HasPlainPaths, Task, formula_words, is_plain, judge_words, task_of, texts_of, words_for};
+ghost use Rattle.lincheck.specs.Execution.{AnswersTask, Ends, IsUnread};
 ghost use Rattle.lincheck.specs.Formula.{AnswersFormula};
 ghost use Rattle.lincheck.specs.Judge.{AnswersJudge};
 ghost use Rattle.lincheck.specs.Status.{status_of};
@@ -23,7 +23,8 @@ fn answer<'a, F: Files>(
     request: Request<'a>,
     files: &mut F,
 ) -> Result<Answer, Failure<'a>>
-    ensures { IfOk result (λ answer. AnswersTask (F.bytes_at files.old) (task_of request.entry) answer.text.items answer.status) }
+    ensures unread { IsUnread (F.CannotOpen files.old) (F.bytes_at files.old) (task_of request.entry) → IsErr result }
+    ensures answers { IfOk result (λ answer. AnswersTask (F.bytes_at files.old) (task_of request.entry) answer.text.items answer.status) }
 {
     match request {
         Request::Formula(path) => answer_formula(alloc, files, path),
@@ -67,6 +68,7 @@ fn tell<O: Write, E: Write>(answer: &Answer, out: &mut O, err: &mut E) -> u8
 /// Shows what `clap` has to say: help on standard output, faults on standard error.
 fn tell_usage<O: Write, E: Write>(error: &clap::Error, out: &mut O, err: &mut E) -> u8
     ensures memory { kind_of error.now ≡ ErrorKind.OutOfMemory → (result ≡ 4) × (out.new ≡ out.old) }
+    ensures help { AsksForText (kind_of error.now) → (result ≡ 0) ⊎ (result ≡ 3) }
     ensures fault { (AsksForText (kind_of error.now) → ⊥) → ((result ≡ 2) ⊎ (result ≡ 4)) × (out.new ≡ out.old) }
 {
     if error.kind() == ErrorKind::OutOfMemory {
@@ -96,6 +98,9 @@ pub fn execute<F: Files, O: Write, E: Write>(
         → Ends (λ text status. IfSome (F.bytes_at files.old path) (λ file. AnswersFormula file text status)) (O.contents out.old) (O.contents out.new) result }
     ensures judge { (name development history : List ℕ) → texts_of words.now ≡ judge_words name development history → is_plain development ≡ true → is_plain history ≡ true
         → Ends (λ text status. IfSome (F.bytes_at files.old development) (λ file. AnswersJudge file (F.bytes_at files.old history) text status)) (O.contents out.old) (O.contents out.new) result }
+    ensures unread { (name : List ℕ) (task : Task) → texts_of words.now ≡ words_for name task → HasPlainPaths task → IsUnread (F.CannotOpen files.old) (F.bytes_at files.old) task
+        → ((result ≡ 3) ⊎ (result ≡ 4)) × (out.new ≡ out.old) }
+    ensures help { AskForHelp (texts_of words.now) → ((result ≡ 0) ⊎ ((result ≡ 3) ⊎ (result ≡ 4))) × (files.new ≡ files.old) }
     ensures wrong { AreWrong (texts_of words.now) → ((result ≡ 2) ⊎ (result ≡ 4)) × (out.new ≡ out.old) × (files.new ≡ files.old) }
 {
     match read_words(alloc, words) {

@@ -1,4 +1,4 @@
-ghost use Rattle.std.specs.Prelude.{◌≡◌, ◌+◌, ◌≤◌, ℕ, List, vec_len, IfOk, IfSome};
+ghost use Rattle.std.specs.Prelude.{◌≡◌, ◌+◌, ◌≤◌, ℕ, List, vec_len, IfOk, IfSome, IsErr};
 ghost use Rattle.std.specs.Io.KnownBytes.{Consumes, IsAtEnd};
 ghost use Rattle.lincheck.specs.Reading.{within_limit};
 
@@ -63,6 +63,8 @@ pub fn read_file<'a, F: Files>(
     path: &'a str,
 ) -> Result<Vec<u8>, Failure<'a>>
     ensures keeps { (other : List ℕ) → F.bytes_at files.new other ≡ F.bytes_at files.old other }
+    ensures closed { (other : List ℕ) → F.CannotOpen files.old other → F.CannotOpen files.new other }
+    ensures unread { F.CannotOpen files.old path.now → IsErr result }
     ensures bytes { IfOk result (λ bytes. IfSome (F.bytes_at files.old path.now) (λ file. bytes.items ≡ within_limit file)) }
 {
     let Ok(mut reader) = files.open(path) else {

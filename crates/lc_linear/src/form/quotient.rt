@@ -7,12 +7,12 @@ ghost use Rattle.lc_linear.specs.Quotient.{DividesAt, IsNoMultipleAt};
 use super::LinForm;
 use crate::number::{exact_quotient, rounded_up};
 
-impl<'a> LinForm<'a> {
+impl LinForm {
     /// The form with each coefficient divided by a number, and the constant divided and rounded up. There is none
     /// where the number is below 1 or does not divide a coefficient.
-    pub fn divided(self, divisor: i64) -> Option<LinForm<'a>>
-        ensures found { IsSome result ↔ Divides divisor (numbers self.entry) }
-        ensures value { IfSome result (λ quotient. IsDivided (numbers self.entry) divisor (numbers quotient)) }
+    pub fn divided(self, divisor: i64) -> Option<LinForm>
+        ensures found { IsSome result ↔ Divides divisor (numbers self) }
+        ensures value { IfSome result (λ quotient. IsDivided (numbers self) divisor (numbers quotient)) }
     {
         if divisor < 1 {
             return None;

@@ -2,7 +2,7 @@ use Rattle.std.proofs.Common.{◌≤◌, length, map, arith}
 use Rattle.std.proofs.lemmas.Bool.Decides.{nat_tests}
 use Rattle.lc_term.specs.Said.{at_client}
 use Rattle.lc_term.specs.View.{term_of}
-use Rattle.lc_seq.specs.SpecView.{updates_of}
+use Rattle.lc_term.specs.UpdateView.{updates_of}
 use Rattle.lc_action.proofs.OwnUpdates.{numbers_of, updates_end}
 use Rattle.lc_action.proofs.action.at_client.Goals as goal
 

@@ -1,7 +1,7 @@
 use Rattle.std.proofs.Common.{◌≡◌, drop, map, ◌++◌}
 use Rattle.lc_term.specs.Said.{at_client}
 use Rattle.lc_term.specs.View.{term_of}
-use Rattle.lc_seq.specs.SpecView.{updates_of}
+use Rattle.lc_term.specs.UpdateView.{updates_of}
 use Rattle.lc_action.proofs.OwnUpdates.{numbers_of}
 use Rattle.lc_action.proofs.action.at_client.Given as goal
 

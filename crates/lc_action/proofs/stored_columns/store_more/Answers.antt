@@ -1,7 +1,7 @@
 use Rattle.std.proofs.Common.{◌+◌, ◌∙◌, sym, ap, map, drop}
 use Rattle.lc_term.specs.Said.{put, puts, said}
 use Rattle.lc_term.specs.View.{term_of}
-use Rattle.lc_seq.specs.SpecView.{updates_of}
+use Rattle.lc_term.specs.UpdateView.{updates_of}
 use Rattle.lc_action.specs.Telling.{columns_in}
 use Rattle.lc_action.proofs.Entries.{puts_more}
 use Rattle.lc_action.proofs.stored_columns.store_more.Goals as goal

@@ -2,7 +2,7 @@ use Rattle.std.proofs.Common.{◌≡◌, ℕ, IfOk, map, subst}
 use Rattle.lc_term.specs.Syntax.{Column}
 use Rattle.lc_term.specs.Said.{puts, said}
 use Rattle.lc_term.specs.View.{term_of}
-use Rattle.lc_seq.specs.SpecView.{updates_of}
+use Rattle.lc_term.specs.UpdateView.{updates_of}
 use Rattle.lc_action.specs.Telling.{columns_in}
 use Rattle.lc_action.proofs.stored_columns.store_together.Goals as goal
 

@@ -1,5 +1,7 @@
 use Rattle.std.proofs.Common.{◌≡◌, subst, ◌∙◌}
 use Rattle.serde_json.specs.View.{view}
+use Rattle.lc_term.proofs.Tests.{right_true}
+use Rattle.lc_seq.specs.Specification.{names_differ}
 use Rattle.lc_seq.specs.SpecView.{operations_of}
 use Rattle.lc_seq.specs.TextView.{specification_of}
 use Rattle.lc_hist.specs.Histories.{events_in}
@@ -8,6 +10,7 @@ use Rattle.lc_hist.specs.JsonKept.{Each, IsKeptEvent}
 use Rattle.lc_hist.specs.JsonWritten.{history_data}
 use Rattle.lc_hist.specs.View.{events_of}
 use Rattle.lc_hist.proofs.JsonWriting.{history_seen, history_written, history_reads, says_only}
+use Rattle.lc_hist.proofs.NamesApart.{names_apart}
 use Rattle.lc_hist.proofs.json_writing.history_to_json.Goals as goal
 
 pub returns-clause-text : goal.returns-clause-text
@@ -27,4 +30,5 @@ returns-clause-reads_back c =
     let same : view c.in_ok-value.value ≡ history_data operations events order = c.in_ok-value.ensures
     ∙ history_seen _ _ (operations_of c.operations-operations.result.now) operations (events_of c.events.result.now) events order c.in_ok-events.ensures.value c.in_ok-order.ensures.value c.operations-operations.ensures c.events.ensures in
     let reads = history_reads c.in_ok-to_vec.field-0.items (view c.in_ok-value.value) operations events order same c.in_ok-to_vec.ensures.reads_back in
-    says_only operations c.in_ok-to_vec.field-0.items events order reads (subst (Each IsKeptEvent) c.events.ensures c.in_ok-events.ensures.kept) c.in_ok-order.ensures.kept
+    says_only operations c.in_ok-to_vec.field-0.items events order reads
+    (names_apart operations (right_true _ (names_differ operations) c.args.spec.now.is_resolved)) (subst (Each IsKeptEvent) c.events.ensures c.in_ok-events.ensures.kept) c.in_ok-order.ensures.kept

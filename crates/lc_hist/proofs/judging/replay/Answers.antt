@@ -7,7 +7,7 @@ use Rattle.lc_hist.specs.Spans.{span_of}
 use Rattle.lc_hist.specs.Tests.{named}
 use Rattle.lc_hist.specs.View.{event_of, events_of, entry_of, entries_in}
 use Rattle.lc_hist.proofs.Tables.{entry_at}
-use Rattle.lc_hist.proofs.Replays.{passing, failing, faulting, handed_on, within_history}
+use Rattle.lc_hist.proofs.Replays.{passing, failing, failing_fits, faulting, handed_on, within_history}
 use Rattle.lc_hist.proofs.judging.replay.Goals as goal
 
 pub failure_of-requires-clause-within : goal.failure_of-requires-clause-within
@@ -36,9 +36,9 @@ returns-in_err-failure g c =
     let is = slice_get-get_or c.args.spans.now p None within in
     let told = slice_get-get_or c.args.preceded.now p false (omega (arith, within, c.requires.flags)) in
     let cause = c.in_err-failure.field-0.0 in
-    handed_on (o.HasCall x) (o.step x) (o.Fits x) (o.start x) h order c.from_residual-in_err-failure.result (judge_fault cause) c.from_residual-in_err-failure.ensures.1
-    (faulting (o.HasCall x) (o.step x) (o.Fits x) (o.start x) h order c.args.spans.now c.args.preceded.now p e (get_or c.args.spans.now p None) (get_or c.args.preceded.now p false)
-    (o.meaning c.loop-place.state) (o.meaning c.failure_of.new.state) cause c.requires c.loop-place.invariant.passed c.loop-place.invariant.leads at is told c.in_err-failure.ensures.checked)
+    handed_on (o.step x) (o.Fits x) (o.start x) h order c.from_residual-in_err-failure.result (judge_fault cause) c.from_residual-in_err-failure.ensures.1
+    (faulting (o.step x) (o.Fits x) (o.start x) h order c.args.spans.now c.args.preceded.now p e (get_or c.args.spans.now p None) (get_or c.args.preceded.now p false)
+    (o.meaning c.loop-place.state) (o.meaning c.failure_of.new.state) cause c.requires c.loop-place.invariant.passed c.loop-place.invariant.leads c.loop-place.invariant.fits at is told c.in_err-failure.ensures.checked)
 
 pub returns-in-Some : goal.returns-in-Some
 returns-in-Some g c =
@@ -52,10 +52,13 @@ returns-in-Some g c =
     let within : p < length c.args.spans.now = omega (arith, c.requires.places, length-map c.args.order.now (entry_of o.call_meant o.numbers)) in
     let is = slice_get-get_or c.args.spans.now p None within in
     let told = slice_get-get_or c.args.preceded.now p false (omega (arith, within, c.requires.flags)) in
-    failing (o.HasCall x) (o.step x) (o.Fits x) (o.start x) h order c.args.spans.now c.args.preceded.now p e (get_or c.args.spans.now p None) (get_or c.args.preceded.now p false)
-    (o.meaning c.loop-place.state) (o.meaning c.failure_of.new.state) c.in-Some.reason c.requires c.loop-place.invariant.passed c.loop-place.invariant.leads at is told
-    (subst (λ f. IsChecked (o.HasCall x) (o.step x) (o.Fits x) h (get_or c.args.spans.now p None) (get_or c.args.preceded.now p false) e (o.meaning c.loop-place.state) (o.meaning c.failure_of.new.state) (Ok f))
-    c.in-Some.is c.in_ok-failure.ensures.checked)
+    let checked = subst (λ f. IsChecked (o.step x) (o.Fits x) h (get_or c.args.spans.now p None) (get_or c.args.preceded.now p false) e (o.meaning c.loop-place.state) (o.meaning c.failure_of.new.state) (Ok f))
+    c.in-Some.is c.in_ok-failure.ensures.checked in (
+      failing (o.step x) (o.Fits x) (o.start x) h order c.args.spans.now c.args.preceded.now p e (get_or c.args.spans.now p None) (get_or c.args.preceded.now p false)
+          (o.meaning c.loop-place.state) (o.meaning c.failure_of.new.state) c.in-Some.reason c.requires c.loop-place.invariant.passed c.loop-place.invariant.leads at is told checked,
+      failing_fits (o.step x) (o.Fits x) (o.start x) h order p e (get_or c.args.spans.now p None) (get_or c.args.preceded.now p false)
+          (o.meaning c.loop-place.state) (o.meaning c.failure_of.new.state) c.in-Some.reason c.loop-place.invariant.leads c.loop-place.invariant.fits at checked,
+    )
 
 pub loop-place-preserved : goal.loop-place-preserved
 loop-place-preserved g c =
@@ -69,8 +72,8 @@ loop-place-preserved g c =
     let within : p < length c.args.spans.now = omega (arith, c.requires.places, length-map c.args.order.now (entry_of o.call_meant o.numbers)) in
     let is = slice_get-get_or c.args.spans.now p None within in
     let told = slice_get-get_or c.args.preceded.now p false (omega (arith, within, c.requires.flags)) in
-    let next = passing (o.HasCall x) (o.step x) (o.Fits x) (o.start x) h order c.args.spans.now c.args.preceded.now p e (get_or c.args.spans.now p None) (get_or c.args.preceded.now p false)
-    (o.meaning c.loop-place.state) (o.meaning c.failure_of.new.state) c.requires c.loop-place.invariant.passed c.loop-place.invariant.leads at is told
-    (subst (λ f. IsChecked (o.HasCall x) (o.step x) (o.Fits x) h (get_or c.args.spans.now p None) (get_or c.args.preceded.now p false) e (o.meaning c.loop-place.state) (o.meaning c.failure_of.new.state) (Ok f))
+    let next = passing (o.step x) (o.Fits x) (o.start x) h order c.args.spans.now c.args.preceded.now p e (get_or c.args.spans.now p None) (get_or c.args.preceded.now p false)
+    (o.meaning c.loop-place.state) (o.meaning c.failure_of.new.state) c.requires c.loop-place.invariant.passed c.loop-place.invariant.leads c.loop-place.invariant.fits at is told
+    (subst (λ f. IsChecked (o.step x) (o.Fits x) h (get_or c.args.spans.now p None) (get_or c.args.preceded.now p false) e (o.meaning c.loop-place.state) (o.meaning c.failure_of.new.state) (Ok f))
     c.in_default.is c.in_ok-failure.ensures.checked) in
-    record { state = c.in_ok-failure.ensures.state; leads = next.1; passed = next.0 }
+    record { state = c.in_ok-failure.ensures.state; leads = next.1; fits = next.2; passed = next.0 }

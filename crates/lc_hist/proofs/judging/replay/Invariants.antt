@@ -1,5 +1,5 @@
 use Rattle.std.proofs.Common.{take}
-use Rattle.lc_hist.specs.Judged.{PassesBefore, Leads}
+use Rattle.lc_hist.specs.Judged.{PassesBefore, FitsAlong, Leads}
 use Rattle.lc_hist.specs.View.{events_of, entries_in}
 use Rattle.lc_hist.proofs.judging.replay.Given as goal
 
@@ -10,5 +10,6 @@ invariant-loop-place g l =
     record {
       state : o.HasState l.object l.state;
       leads : Leads (o.step l.object) (o.start l.object) (take l.place order) (o.meaning l.state);
-      passed : PassesBefore (o.HasCall l.object) (o.step l.object) (o.start l.object) (events_of l.events) order l.place;
+      fits : FitsAlong (o.step l.object) (o.Fits l.object) (o.start l.object) (take l.place order);
+      passed : PassesBefore (o.step l.object) (o.start l.object) (events_of l.events) order l.place;
     }

@@ -3,6 +3,6 @@ use Rattle.lc_hist.proofs.laws.tests_are_exact.Goals as goal
 
 pub returns : goal.returns
 returns g c = λ object history order w. let o = g.S.SeqObject in (
-  passed_where_linearizes (o.HasCall object) (o.step object) (o.start object) history order (g.met.S.SeqObject.steps_by_calls object) w,
-  linearizes_where_passed (o.HasCall object) (o.step object) (o.start object) history order w,
+  passed_where_linearizes (o.step object) (o.start object) history order w,
+  linearizes_where_passed (o.step object) (o.start object) history order w,
 )

@@ -1,6 +1,6 @@
 use Rattle.std.proofs.Common.{◌≡◌, drop, map}
-use Rattle.lc_linear.specs.Closing.{entries_of}
-use Rattle.lc_term.specs.View.{formulas_of}
+use Rattle.lc_linear.specs.Closing.{entries_in, AreEntries}
+use Rattle.lc_term.specs.Tables.{formulas_in}
 use Rattle.lc_kernel.specs.Table.{entries}
 use Rattle.lc_kernel.specs.View.{multiple_of}
 use Rattle.lc_kernel.proofs.Entries.{behind}
@@ -9,4 +9,5 @@ use Rattle.lc_kernel.proofs.arithmetic.find_all.Given as goal
 -- those that are found, and those that are left
 abbrev pub invariant-loop-multiple : goal.invariant-loop-multiple
 invariant-loop-multiple l =
-    entries (formulas_of l.hypotheses) (map multiple_of l.multiples) ≡ behind (entries_of l.found.items) (entries (formulas_of l.hypotheses) (map multiple_of (drop l.multiple-index l.multiples)))
+    AreEntries l.terms l.found.items ×
+    (entries (formulas_in l.terms l.hypotheses) (map multiple_of l.multiples) ≡ behind (entries_in l.terms l.found.items) (entries (formulas_in l.terms l.hypotheses) (map multiple_of (drop l.multiple-index l.multiples))))

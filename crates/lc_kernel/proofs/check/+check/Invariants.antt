@@ -1,6 +1,6 @@
-use Rattle.std.proofs.Common.{◌≡◌, ◌+◌, ◌*◌, length, drop}
-use Rattle.lc_term.specs.View.{formulas_of}
-use Rattle.lc_kernel.specs.Answers.{branches_of}
+use Rattle.std.proofs.Common.{◌≡◌, ◌+◌, ◌*◌, drop}
+use Rattle.lc_term.specs.Tables.{formulas_in, Keeps}
+use Rattle.lc_kernel.specs.Branches.{branches_in}
 use Rattle.lc_kernel.specs.Proofs.{proofs, size, size_of_all}
 use Rattle.lc_kernel.specs.View.{proof_of, proofs_of}
 use Rattle.lc_kernel.proofs.Branches.{Left}
@@ -12,8 +12,9 @@ decreases-check l = 2 * size (proof_of l.proof.now)
 abbrev pub decreases-check_each : goal.decreases-check_each
 decreases-check_each l = 2 * size_of_all (proofs (proofs_of l.children.now)) + 1
 
--- what is left decides of all, and the hypotheses are those at the start
+-- what is left decides of all, the hypotheses are those at the start, and each number keeps its tree
 abbrev pub invariant-check_each-loop-i : goal.invariant-check_each-loop-i
 invariant-check_each-loop-i l =
-    Left l.variables (formulas_of l.fn.hypotheses.items) (branches_of l.fn.branches.items) (proofs (proofs_of l.children)) l.first l.next (branches_of (drop l.i l.appended.items)) (proofs (proofs_of (drop l.i l.children)))
-    × (l.hypotheses.items ≡ l.fn.hypotheses.items) × (length l.appended.items ≡ length l.children)
+    Left l.variables (formulas_in l.fn.terms l.fn.hypotheses.items) (branches_in l.fn.terms l.branches) (proofs (proofs_of l.children)) l.first l.next
+    (drop l.i (branches_in l.fn.terms l.branches)) (proofs (proofs_of (drop l.i l.children)))
+    × (l.hypotheses.items ≡ l.fn.hypotheses.items) × Keeps l.fn.terms l.terms

@@ -1,5 +1,7 @@
-use Rattle.lc_kernel.proofs.Views.{conjuncts_And}
+use Rattle.std.proofs.Common.{◌∙◌}
+use Rattle.lc_kernel.proofs.Numbered.{and_opened}
 use Rattle.lc_kernel.proofs.forms.conjuncts.Goals as goal
 
-pub returns-in_ok-copy_formulas-in-And : goal.returns-in_ok-copy_formulas-in-And
-returns-in_ok-copy_formulas-in-And c = conjuncts_And c.args.formula.now c.in-And.parts c.deref.result.now c.in_ok-copy_formulas-in-And.field-0 c.in-And.is c.deref.ensures.value c.in_ok-copy_formulas-in-And.ensures
+pub returns-in_ok-copied-in-And : goal.returns-in_ok-copied-in-And
+returns-in_ok-copied-in-And c =
+    and_opened c.args.terms.now c.args.formula c.formula_node.result.now c.in-And.parts c.in_ok-copied-in-And.field-0.items c.formula_node.ensures.tree c.formula_node.ensures.fits c.in-And.is (c.in_ok-copied-in-And.ensures ∙ c.deref.ensures.value)

@@ -2,7 +2,7 @@ use Rattle.std.proofs.Common.{◌≡◌, drop}
 use Rattle.lc_object.specs.View.{locals_of}
 use Rattle.lc_term.specs.State.{variable_count}
 use Rattle.lc_machine.specs.Step.{assigned}
-use Rattle.lc_machine.specs.Executed.{AreBelow}
+use Rattle.lc_machine.specs.Below.{AreBelow}
 use Rattle.lc_machine.proofs.numbers.assign.Given as goal
 
 -- what is left to be put makes the same of the variables

@@ -1,4 +1,4 @@
-use Rattle.std.proofs.Common.{◌≡◌, ℤ, w64, ◌+◌, true, length, drop, ◌∷◌, ◌++◌, [], subst, rules, sym, ap, ◌∙◌, arith}
+use Rattle.std.proofs.Common.{◌≡◌, w64, ◌+◌, true, length, drop, ◌∷◌, ◌++◌, [], subst, rules, sym, ap, ◌∙◌}
 use Rattle.std.specs.Prelude.{FitsSigned}
 use Rattle.std.proofs.lemmas.Int.{to_z-of_z}
 use Rattle.std.proofs.lemmas.List.{length-append, drop_more}
@@ -6,7 +6,8 @@ use Rattle.lc_object.specs.View.{terms_of}
 use Rattle.lc_object.specs.WellFormed.{are_code_terms, is_code_term}
 use Rattle.lc_term.specs.View.{term_of}
 use Rattle.lc_term.specs.State.{state_of, variable_count, column_count}
-use Rattle.lc_machine.specs.Fits.{TermsFit}
+use Rattle.lc_term.specs.Reached.{TermsFit}
+use Rattle.lc_machine.specs.World.{variable}
 use Rattle.lc_machine.proofs.Known.{known_term, left_true, right_true, one_more}
 use Rattle.lc_machine.proofs.numbers.compute.Goals as goal
 
@@ -36,8 +37,8 @@ loop-term-preserved c =
     let pushed : c.push.new.self.items ≡ c.loop-term.numbers.items ++ number ∷ [] = simp to_z-of_z at c.push.ensures.items in
     record {
       code = right_true (is_code_term n (term_of t)) (are_code_terms n (terms_of (drop (i + 1) ts))) code;
-      rest_fits = λ h. (subst (λ l. TermsFit s vs (terms_of l)) split (before.rest_fits h)).1;
-      all_fit = λ h. before.all_fit (subst (λ l. TermsFit s vs (terms_of l)) (sym split) (c.in_ok-eval_term.ensures.0, h));
+      rest_fits = λ h. (subst (λ l. TermsFit s (variable vs) (terms_of l)) split (before.rest_fits h)).1;
+      all_fit = λ h. before.all_fit (subst (λ l. TermsFit s (variable vs) (terms_of l)) (sym split) (c.in_ok-eval_term.ensures.0, h));
       count = ap length pushed ∙ length-append c.loop-term.numbers.items (number ∷ []) ∙ ap (λ k. k + 1) before.count;
       same = one_more s vs c.loop-term.numbers.items c.push.new.self.items number (term_of t) (terms_of (drop (i + 1) ts)) (terms_of (drop i ts)) (terms_of ts) (ap terms_of split) pushed c.in_ok-eval_term.ensures.1 before.same;
     }

@@ -5,7 +5,7 @@ use Rattle.lc_object.specs.View.{columns_of}
 use Rattle.lc_term.specs.State.{state_of, column_count}
 use Rattle.lc_machine.specs.Step.{row}
 use Rattle.lc_machine.specs.Fits.{ComparisonFits}
-use Rattle.lc_machine.specs.Executed.{AreBelow}
+use Rattle.lc_machine.specs.Below.{AreBelow}
 use Rattle.lc_machine.proofs.rows.is_row.Given as goal
 
 -- what is left to be compared decides the answer, and is reached

@@ -3,7 +3,7 @@ use Rattle.lc_object.specs.View.{columns_of}
 use Rattle.lc_term.specs.State.{state_of, column_count}
 use Rattle.lc_machine.specs.Step.{row}
 use Rattle.lc_machine.specs.Fits.{RowFits}
-use Rattle.lc_machine.specs.Executed.{AreBelow}
+use Rattle.lc_machine.specs.Below.{AreBelow}
 use Rattle.lc_machine.proofs.rows.read_row.Given as goal
 
 -- the numbers so far, with those of the columns that are left, are the row

@@ -18,4 +18,4 @@ returns c =
     let h = ok_arm _ _ _ _
     (both_told seen_statement proof_of (claim_of (length (listed c.args.declared.now.variables))) _ _ c.read_statement-statement.result c.read_shown-proof.result c.both.result
     c.both.ensures c.read_statement-statement.ensures c.read_shown-proof.ensures)
-    c.in_ok-hypotheses.was in rw c.len-vars.ensures h
+    c.in_ok-hypotheses.was in rw c.len-variables.ensures h

@@ -7,7 +7,7 @@ use Rattle.lc_sexp.specs.Shown.{rest_of, number_of, owner_of}
 use Rattle.lc_sexp.specs.declared.cursor.Cursor.{Cursor}
 use Rattle.lc_sexp.specs.declared.misfit.Misfit.{Misfit}
 use Rattle.lc_sexp.specs.declared.misfit.Misfit.TheVariants.{Shape as Misshapen}
-use Rattle.lc_term.specs.Names.{Names}
+use Rattle.lc_text.specs.Names.{Names}
 use Rattle.lc_kernel.specs.Proofs as S
 use Rattle.lc_kernel.specs.Proofs.{more}
 use Rattle.lc_proof_text.specs.Own.{branches_of, IsShort}

@@ -1,6 +1,6 @@
 use Rattle.std.proofs.Common.{◌+◌, map, drop, sym, ap, ◌∙◌}
 use Rattle.lc_term.specs.Said.{put, puts}
-use Rattle.lc_object.specs.EdgeView.{update_of}
+use Rattle.lc_term.specs.UpdateView.{update_of}
 use Rattle.lc_action.specs.Telling.{columns_in}
 use Rattle.lc_rider.proofs.Assigned.{stored_more}
 use Rattle.lc_rider.proofs.edge.edge_columns.Goals as goal

@@ -1,6 +1,7 @@
 use Rattle.std.proofs.Common.{◌≡◌, map, drop}
 use Rattle.lc_term.specs.Said.{puts}
-use Rattle.lc_object.specs.EdgeView.{update_of, edge_of}
+use Rattle.lc_term.specs.UpdateView.{update_of}
+use Rattle.lc_object.specs.EdgeView.{edge_of}
 use Rattle.lc_action.specs.Telling.{columns_in}
 use Rattle.lc_rider.specs.Paths.{edge_columns}
 use Rattle.lc_rider.proofs.edge.edge_columns.Given as goal

@@ -4,8 +4,8 @@ use Rattle.lc_term.specs.Said.{puts, said, after, at_client}
 use Rattle.lc_term.specs.SystemColumns.{pend, rep_columns}
 use Rattle.lc_term.specs.View.{term_of}
 use Rattle.lc_term.specs.declared.term.Term.{Term}
-use Rattle.lc_seq.specs.SpecView.{updates_of}
-use Rattle.lc_seq.specs.declared.specification.Update.{Update}
+use Rattle.lc_term.specs.UpdateView.{updates_of}
+use Rattle.lc_term.specs.declared.update.Update.{Update}
 use Rattle.lc_action.specs.ActionView.{first_of}
 use Rattle.lc_action.specs.Telling.{columns_in}
 use Rattle.lc_rider.proofs.PathSteps.{stored_thrice}

@@ -5,7 +5,7 @@ use Rattle.lc_term.specs.Truth.{truth}
 use Rattle.lc_seq.specs.Run.{outcome_of, outcome_in}
 use Rattle.lc_seq.specs.SpecView.{branch_of, branches_of}
 use Rattle.lc_seq.specs.TextStep.{run, RunFits, UpdatesFit, TermsFit, writes_of, values_of}
-use Rattle.lc_seq.proofs.Runs.{AreRun, dropped, and_left, decided, run_next, taken_fits, taken_gives, handed_up}
+use Rattle.lc_seq.proofs.Runs.{run-within, AreRun, dropped, and_left, decided, run_next, taken_fits, taken_gives, handed_up}
 use Rattle.lc_seq.proofs.running.run.Goals as goal
 
 pub returns-in_err-outcome-clause-computed : goal.returns-in_err-outcome-clause-computed
@@ -21,7 +21,7 @@ returns-in_err-outcome-clause-computed c =
     let are = subst (AreRun s e n v whole) front c.loop-branch.invariant in
     let is : truth s e outside b.guard ≡ true = sym (decided s e b.guard c.in_ok-eval.field-0 (and_left _ _ (and_left _ _ (and_left _ _ are.resolved))) c.in_ok-eval.ensures.meaning) ∙ c.if-branch.true in
     handed_up outcome_of (UpdatesFit s e b.updates × TermsFit s e b.replies) (writes_of s e b.updates, values_of s e b.replies) outcome_in (RunFits s e whole) (run s e whole)
-    c.from_residual-in_err-outcome.result c.in_err-outcome.field-0.0 c.from_residual-in_err-outcome.ensures.1 (taken_fits s e n v whole b rest are is) c.in_err-outcome.ensures.computed
+    c.from_residual-in_err-outcome.result c.in_err-outcome.field-0.0 c.from_residual-in_err-outcome.ensures.1 (taken_fits s e n v whole b rest are is) c.in_err-outcome.ensures
 
 pub returns-then-branch-clause-computed : goal.returns-then-branch-clause-computed
 returns-then-branch-clause-computed c =
@@ -35,7 +35,22 @@ returns-then-branch-clause-computed c =
     let front = ap branches_of (dropped c.args.branches.now c.loop-branch.branch-index c.branch-item.result (omega arith) c.branch-item.is) in
     let are = subst (AreRun s e n v whole) front c.loop-branch.invariant in
     let is : truth s e outside b.guard ≡ true = sym (decided s e b.guard c.in_ok-eval.field-0 (and_left _ _ (and_left _ _ (and_left _ _ are.resolved))) c.in_ok-eval.ensures.meaning) ∙ c.if-branch.true in
-    taken_gives s e n v whole b rest c.in_ok-outcome.outcome are (c.in_ok-eval.ensures.overflow.0 refl) is c.in_ok-outcome.ensures.computed
+    taken_gives s e n v whole b rest c.in_ok-outcome.outcome are (c.in_ok-eval.ensures.overflow.0 refl) is c.in_ok-outcome.ensures
+
+pub returns-then-branch-clause-columns : goal.returns-then-branch-clause-columns
+returns-then-branch-clause-columns c =
+    let s = state_of c.args.state.now in
+    let e = env_of c.args.env.now in
+    let n = column_count c.args.state.now in
+    let v = variable_count c.args.env.now in
+    let whole = branches_of c.args.branches.now in
+    let b = branch_of c.branch-item.result in
+    let rest = branches_of (drop (c.loop-branch.branch-index + 1) c.args.branches.now) in
+    let front = ap branches_of (dropped c.args.branches.now c.loop-branch.branch-index c.branch-item.result (omega arith) c.branch-item.is) in
+    let are = subst (AreRun s e n v whole) front c.loop-branch.invariant in
+    let is : truth s e outside b.guard ≡ true = sym (decided s e b.guard c.in_ok-eval.field-0 (and_left _ _ (and_left _ _ (and_left _ _ are.resolved))) c.in_ok-eval.ensures.meaning) ∙ c.if-branch.true in
+    let gives = taken_gives s e n v whole b rest c.in_ok-outcome.outcome are (c.in_ok-eval.ensures.overflow.0 refl) is c.in_ok-outcome.ensures in
+    run-within s e n v whole (outcome_of c.in_ok-outcome.outcome) c.requires gives.1
 
 pub loop-branch-preserved : goal.loop-branch-preserved
 loop-branch-preserved c =

@@ -1,8 +1,9 @@
 use Rattle.std.proofs.Common.{◌≡◌, ◌<◌, ◌++◌, true, map, drop}
-use Rattle.std.specs.List.{list_all, All}
+use Rattle.std.specs.List.{list_all}
 use Rattle.lc_term.specs.State.{state_of, env_of, column_count, variable_count}
 use Rattle.lc_seq.specs.Specification.{update_is_resolved}
-use Rattle.lc_seq.specs.SpecView.{updates_of, write_of}
+use Rattle.lc_term.specs.Updates.{AreWithin}
+use Rattle.lc_term.specs.UpdateView.{updates_of, writes_shown}
 use Rattle.lc_seq.specs.TextStep.{UpdatesFit, writes_of}
 use Rattle.lc_seq.proofs.running.writes_of.Given as goal
 
@@ -15,6 +16,5 @@ invariant-loop-update l =
       resolved : list_all (update_is_resolved (column_count l.state) (variable_count l.env)) rest ≡ true;
       rest_fits : UpdatesFit s e (updates_of l.updates) → UpdatesFit s e rest;
       whole_fits : UpdatesFit s e rest → UpdatesFit s e (updates_of l.updates);
-      writes : map write_of l.writes.items ++ writes_of s e rest ≡ writes_of s e (updates_of l.updates);
-      columns : All (λ write. write.column.0 < column_count l.state) l.writes.items;
+      writes : writes_shown l.writes.items ++ writes_of s e rest ≡ writes_of s e (updates_of l.updates);
     }

@@ -4,7 +4,7 @@ use Rattle.lc_reading.proofs.Listed.{listed_reading-is}
 use Rattle.lc_reading.specs.Parts.{tree_of, place_of}
 use Rattle.lc_reading.specs.Readings.{mapped}
 use Rattle.lc_reading.specs.Results.{IsReading}
-use Rattle.lc_seq.specs.SpecView.{update_of}
+use Rattle.lc_term.specs.UpdateView.{update_of}
 use Rattle.lc_spec_text.specs.Branches.{the_update, update_parts_reading}
 use Rattle.lc_spec_text.specs.ScopeView.{columns_seen}
 use Rattle.lc_spec_text.proofs.update.read_update.Goals as goal

@@ -1,7 +1,7 @@
 use Rattle.std.proofs.lemmas.Result.{err_from_is_err_and}
 use Rattle.clap.specs.Words.{app_of}
 use Rattle.lincheck.specs.CommandLine.{texts_of}
-use Rattle.lincheck.proofs.Words.{plain_fault, wrong_fault, not_wrong, nothing_plain, plain_err}
+use Rattle.lincheck.proofs.Words.{plain_fault, wrong_fault, help_asked, no_help, not_wrong, nothing_plain, plain_err}
 use Rattle.lincheck.proofs.command_line.read_words.Goals as goal
 
 pub returns-in_err-matches-clause-plain : goal.returns-in_err-matches-clause-plain
@@ -25,3 +25,17 @@ returns-in_err-error-in-None-clause-plain c =
 pub returns-clause-plain : goal.returns-clause-plain
 returns-clause-plain c = λ name task w plain.
     absurd (nothing_plain (app_of c.in_ok-program.field-0) (texts_of c.args.words.now) c.in_ok-matches.matches c.in_ok-program.ensures c.in_ok-matches.ensures.matches c.in-None.ensures name task w plain)
+
+pub returns-in_err-matches-clause-help : goal.returns-in_err-matches-clause-help
+returns-in_err-matches-clause-help c =
+    let p = err_from_is_err_and c.from_residual-in_err-matches.result c.from_residual-in_err-matches.ensures.1 in
+    rw (p.1, p.2) (help_asked (app_of c.in_ok-program.field-0) (texts_of c.args.words.now) c.in_err-matches.field-0.0 c.in_ok-program.ensures c.in_err-matches.ensures.kinds)
+
+pub returns-in-Some-clause-help : goal.returns-in-Some-clause-help
+returns-in-Some-clause-help c = no_help (app_of c.in_ok-program.field-0) (texts_of c.args.words.now) c.in_ok-program.ensures c.in_ok-matches.ensures.kinds
+
+pub returns-in_err-error-in-None-clause-help : goal.returns-in_err-error-in-None-clause-help
+returns-in_err-error-in-None-clause-help c = λ help. absurd (no_help (app_of c.in_ok-program.field-0) (texts_of c.args.words.now) c.in_ok-program.ensures c.in_ok-matches.ensures.kinds help)
+
+pub returns-clause-help : goal.returns-clause-help
+returns-clause-help c = λ help. absurd (no_help (app_of c.in_ok-program.field-0) (texts_of c.args.words.now) c.in_ok-program.ensures c.in_ok-matches.ensures.kinds help)

@@ -1,8 +1,8 @@
-use Rattle.std.proofs.Common.{ap}
+use Rattle.std.proofs.Common.{◌≡◌, true, false, ap, refl, sym, subst}
 use Rattle.lincheck.proofs.Endings.{ends_unread, ends_told}
 use Rattle.lincheck.proofs.Words.{request_is}
-use Rattle.lincheck.specs.CommandLine.{CheckFormula, JudgeHistory, task_of, texts_of}
-use Rattle.lincheck.specs.Execution.{AnswersTask}
+use Rattle.lincheck.specs.CommandLine.{Task, CheckFormula, JudgeHistory, task_of, texts_of}
+use Rattle.lincheck.specs.Execution.{AnswersTask, IsUnread}
 use Rattle.lincheck.proofs.program.execute.Goals as goal
 
 pub returns-in-Err-clause-formula : goal.returns-in-Err-clause-formula
@@ -21,10 +21,20 @@ pub returns-in-Ok-answer-clause-formula : goal.returns-in-Ok-answer-clause-formu
 returns-in-Ok-answer-clause-formula g c = λ name path w plain.
     ends_told (g.F.Files.bytes_at c.args.files.now) (task_of c.in-Ok.request) (CheckFormula path) c.in-Ok-answer.answer.text.items c.in-Ok-answer.answer.status c.tell.result
     (g.O.Write.contents c.args.out.now) (g.O.Write.contents c.tell.new.out)
-    (request_is (texts_of c.args.words.now) c.in-Ok.request name (CheckFormula path) c.in-Ok.ensures.reads w plain) c.in-Ok-answer.ensures c.tell.ensures
+    (request_is (texts_of c.args.words.now) c.in-Ok.request name (CheckFormula path) c.in-Ok.ensures.reads w plain) c.in-Ok-answer.ensures.answers c.tell.ensures
 
 pub returns-in-Ok-answer-clause-judge : goal.returns-in-Ok-answer-clause-judge
 returns-in-Ok-answer-clause-judge g c = λ name development history w plain plain'.
     ends_told (g.F.Files.bytes_at c.args.files.now) (task_of c.in-Ok.request) (JudgeHistory development history) c.in-Ok-answer.answer.text.items c.in-Ok-answer.answer.status c.tell.result
     (g.O.Write.contents c.args.out.now) (g.O.Write.contents c.tell.new.out)
-    (request_is (texts_of c.args.words.now) c.in-Ok.request name (JudgeHistory development history) c.in-Ok.ensures.reads w (plain, plain')) c.in-Ok-answer.ensures c.tell.ensures
+    (request_is (texts_of c.args.words.now) c.in-Ok.request name (JudgeHistory development history) c.in-Ok.ensures.reads w (plain, plain')) c.in-Ok-answer.ensures.answers c.tell.ensures
+
+pub returns-in-Err-clause-wrong : goal.returns-in-Err-clause-wrong
+returns-in-Err-clause-wrong g c = λ wrong.
+    let told = c.tell_usage.ensures.fault (c.in-Err.ensures.wrong wrong) in
+    (told.0, told.1, refl)
+
+pub returns-in-Ok-answer-clause-unread : goal.returns-in-Ok-answer-clause-unread
+returns-in-Ok-answer-clause-unread g c = λ name task w plain unread.
+    let same : task_of c.in-Ok.request ≡ task = request_is (texts_of c.args.words.now) c.in-Ok.request name task c.in-Ok.ensures.reads w plain in
+    let no : false ≡ true = c.in-Ok-answer.ensures.unread (subst (λ (t : Task). IsUnread (g.F.Files.CannotOpen c.args.files.now) (g.F.Files.bytes_at c.args.files.now) t) (sym same) unread) in cc

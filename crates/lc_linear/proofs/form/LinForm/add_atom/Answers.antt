@@ -2,8 +2,7 @@ use Rattle.std.proofs.Common.{◌≡◌, ◌∙◌, ap, sym, subst, to_z, of_z, 
 use Rattle.std.specs.Prelude.{pos, ◌+ℤ◌, FitsSigned, unwrap_or}
 use Rattle.std.specs.Int.{w128}
 use Rattle.std.proofs.lemmas.Int.{ints}
-use Rattle.lc_term.specs.View.{term_of}
-use Rattle.lc_linear.specs.Listed.{coefficient_in, seen}
+use Rattle.lc_linear.specs.Numbered.{coefficient_in}
 use Rattle.lc_linear.proofs.Entries.{AllFit-insert_entry, coefficient_in-found, found_sum, changed, added_new, added_old}
 use Rattle.lc_linear.proofs.Numbers.{kept, kept_fits}
 use Rattle.lc_linear.proofs.form.LinForm.add_atom.Goals as goal
@@ -46,7 +45,7 @@ returns-clause-ok c =
 pub returns-in_default-clause-fits : goal.returns-in_default-clause-fits
 returns-in_default-clause-fits c =
     let none = coefficient_in-found c.args.self.now.coefficients.entries c.args.atom c.in_ok-index.before c.in_ok-index.ensures.old ∙ ap (λ o. unwrap_or o (pos 0)) c.in_default.is in
-    let e : c.args.count ≡ coefficient_in (seen c.args.self.now.coefficients.entries) (term_of c.args.atom.now) +ℤ c.args.count = omega (arith, ints) in
+    let e : c.args.count ≡ coefficient_in c.args.self.now.coefficients.entries c.args.atom +ℤ c.args.count = omega (arith, ints) in
     subst (FitsSigned w128) e c.ranges.count
 
 pub returns-clause-fits : goal.returns-clause-fits

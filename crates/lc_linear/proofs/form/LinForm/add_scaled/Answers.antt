@@ -2,12 +2,10 @@ use Rattle.std.proofs.Common.{rules, ◌≡◌, ◌∙◌, ap, ap₂, sym, subst
 use Rattle.std.specs.Prelude.{Err, ◌+ℤ◌, ◌*ℤ◌, FitsSigned}
 use Rattle.std.specs.Int.{w128}
 use Rattle.std.specs.Map.Iter.{deref_pair}
-use Rattle.lc_term.specs.View.{term_of}
 use Rattle.lc_linear.specs.Arithmetic.{CanAddScaled, added_scaled}
-use Rattle.lc_linear.specs.Listed.{seen}
 use Rattle.lc_linear.specs.LinForm.{numbers}
 use Rattle.lc_linear.proofs.Adding.{Summed, ProductsFit, nothing_summed, no_products, one_more_summed, one_more_product, next_sum, next_fits, all_added, all_fit}
-use Rattle.lc_linear.proofs.Distinct.{Turn, turn, turned, entry_found, seen-snoc}
+use Rattle.lc_linear.proofs.Distinct.{Turn, turn, turned, entry_found, one_more_entry}
 use Rattle.lc_linear.proofs.Faults.{passed_on, too_large}
 use Rattle.lc_linear.proofs.Numbers.{kept, product_bits, product_kept, +ℤ-zero}
 use Rattle.lc_linear.proofs.form.LinForm.add_scaled.Goals as goal
@@ -35,11 +33,11 @@ this c =
 
 -- its coefficient
 coefficient : (c : In-Some) → FitsSigned w128 c.in-Some.coefficient.now
-coefficient c = subst (FitsSigned w128) (entry_found _ _ _ (this c)) (c.args.other.now.fits (term_of c.in-Some.atom.now.now))
+coefficient c = subst (FitsSigned w128) (entry_found _ _ _ (this c)) (c.args.other.now.fits c.in-Some.atom.now)
 
 -- where the multiple can be added, its product and sum fit
 fits : (c : In-Some) → CanAddScaled (numbers c.args.self) c.args.multiplier (numbers c.args.other.now) →
-    FitsSigned w128 (c.args.multiplier *ℤ c.in-Some.coefficient.now) × FitsSigned w128 (numbers c.args.self (Some (term_of c.in-Some.atom.now.now)) +ℤ c.args.multiplier *ℤ c.in-Some.coefficient.now)
+    FitsSigned w128 (c.args.multiplier *ℤ c.in-Some.coefficient.now) × FitsSigned w128 (numbers c.args.self (Some c.in-Some.atom.now) +ℤ c.args.multiplier *ℤ c.in-Some.coefficient.now)
 fits c can = next_fits (numbers c.args.self) c.args.other.now.constant _ _ _ _ _ (this c).whole (this c).fresh c.args.multiplier can
 
 -- what was added before the loop
@@ -57,11 +55,11 @@ pub loop-atom-preserved : goal.loop-atom-preserved
 loop-atom-preserved c =
     let at = (goal.at.loop-atom-preserved c).In-Some in
     let k = to_z w128 (of_z w128 c.args.multiplier) in
-    let es = seen (map deref_pair c.loop-atom.yielded) in
+    let es = (map deref_pair c.loop-atom.yielded) in
     let m = product_kept c.in_ok-product-2.field-0 _ c.in_ok-product-2.ensures ∙ ap (λ n. k *ℤ n) (kept _ (coefficient at)) in
     let fit = subst (FitsSigned w128) (sym (product_kept c.in_ok-product-2.field-0 _ c.in_ok-product-2.ensures)) c.in_ok-product-2.ensures.0 in
     let ys = c.loop-atom.yielded in
-    let snoc = sym (seen-snoc ys (c.in-Some.atom, c.in-Some.coefficient)) in
+    let snoc = sym (one_more_entry ys (c.in-Some.atom, c.in-Some.coefficient)) in
     record {
       summed = subst (Summed (numbers c.add_number.new.self) (numbers c.add_atom.new.self) k) snoc
           (one_more_summed k _ es _ c.in-Some.coefficient.now (this at).fresh m _ _ c.loop-atom.invariant.summed (numbers c.add_atom.new.self) c.in_ok-add_atom.ensures.ok);
@@ -73,9 +71,9 @@ returns-in_err-add_atom c = passed_on _ _ c.from_residual-in_err-add_atom.result
     let at = (goal.at.returns-in_err-add_atom c).In-Some in
     let k = to_z w128 (of_z w128 c.args.multiplier) in
     let n = c.in-Some.coefficient.now in
-    let x = term_of c.in-Some.atom.now.now in
+    let x = c.in-Some.atom.now in
     let m = product_kept c.in_ok-product-2.field-0 _ c.in_ok-product-2.ensures ∙ ap (λ n. k *ℤ n) (kept _ (coefficient at)) in
-    let sum = next_sum k _ (seen (map deref_pair c.loop-atom.yielded)) x n (this at).fresh m (numbers c.add_number.new.self) (numbers c.loop-atom.sum) c.loop-atom.invariant.summed in
+    let sum = next_sum k _ (map deref_pair c.loop-atom.yielded) x n (this at).fresh m (numbers c.add_number.new.self) (numbers c.loop-atom.sum) c.loop-atom.invariant.summed in
     let start : numbers c.add_number.new.self (Some x) ≡ numbers c.args.self (Some x) = c.in_ok-add_number.ensures.ok (Some x) ∙ +ℤ-zero (numbers c.args.self (Some x)) in
     let whole = ap₂ ◌+ℤ◌ (sum ∙ start) (m ∙ ap (λ b. b *ℤ n) (kept _ c.ranges.multiplier)) in
     c.in_err-add_atom.ensures.large (ap Err met) (subst (FitsSigned w128) (sym whole) (fits at can).1))
@@ -86,8 +84,8 @@ all c =
     turned c.args.other.now.coefficients.entries c.into_iter-atom-iterator.result c.loop-atom.atom-iterator c.next.new.self c.loop-atom.yielded c.next.result
     (c.into_iter-atom-iterator.ensures.into_iter_gives ∙ c.iter-atom-items.ensures.rest) c.loop-atom.yielded_by c.next.ensures.steps c.in-None.is
 
-whole : (c : In-None) → Summed (numbers c.add_number.new.self) (numbers c.loop-atom.sum) (to_z w128 (of_z w128 c.args.multiplier)) (seen c.args.other.now.coefficients.entries)
-whole c = subst (λ l. Summed (numbers c.add_number.new.self) (numbers c.loop-atom.sum) (to_z w128 (of_z w128 c.args.multiplier)) (seen l)) (all c) c.loop-atom.invariant.summed
+whole : (c : In-None) → Summed (numbers c.add_number.new.self) (numbers c.loop-atom.sum) (to_z w128 (of_z w128 c.args.multiplier)) c.args.other.now.coefficients.entries
+whole c = subst (λ l. Summed (numbers c.add_number.new.self) (numbers c.loop-atom.sum) (to_z w128 (of_z w128 c.args.multiplier)) l) (all c) c.loop-atom.invariant.summed
 
 first_fits : (c : In_ok-add_number) → FitsSigned w128 (to_z w128 (of_z w128 c.in_ok-product.field-0))
 first_fits c = subst (FitsSigned w128) (sym (product_kept c.in_ok-product.field-0 _ c.in_ok-product.ensures)) c.in_ok-product.ensures.0
@@ -98,7 +96,7 @@ returns c =
     let f = numbers c.args.self in
     let g = numbers c.args.other.now in
     let multiplier = kept _ c.ranges.multiplier in
-    let products = subst (λ l. ProductsFit (to_z w128 (of_z w128 c.args.multiplier)) (seen l)) (all c) c.loop-atom.invariant.products in
+    let products = subst (λ l. ProductsFit (to_z w128 (of_z w128 c.args.multiplier)) l) (all c) c.loop-atom.invariant.products in
     let can = all_fit f _ _ _ _ c.args.other.now.constant _ (first_product at) c.in_ok-add_number.ensures.ok (whole c) products (first_fits at) c.in_ok-add_number.ensures.fits c.loop-atom.sum.fits in (
       subst (λ k. CanAddScaled f k g) multiplier can,
       λ p. all_added f _ _ _ _ c.args.other.now.constant _ (first_product at) c.in_ok-add_number.ensures.ok (whole c) p ∙ ap (λ k. added_scaled f k g p) multiplier,

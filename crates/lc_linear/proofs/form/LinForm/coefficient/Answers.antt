@@ -2,7 +2,6 @@ use Rattle.std.proofs.Common.{◌∙◌, ap}
 use Rattle.std.specs.Prelude.{pos, unwrap_or}
 use Rattle.std.specs.Int.{w128}
 use Rattle.std.proofs.lemmas.Int.{to_z-of_z}
-use Rattle.lc_term.specs.View.{term_of}
 use Rattle.lc_linear.proofs.Entries.{coefficient_in-lookup}
 use Rattle.lc_linear.proofs.form.LinForm.coefficient.Goals as goal
 
@@ -10,4 +9,4 @@ pub returns : goal.returns
 returns c =
     to_z-of_z w128 c.unwrap_or.result (record { sfits = c.unwrap_or.type_inv }) ∙ c.unwrap_or.ensures ∙
     ap (λ o. unwrap_or o (pos 0)) (c.copied.ensures ∙ c.get.ensures.value) ∙
-    coefficient_in-lookup (term_of c.args.atom.now) c.args.self.now.coefficients.entries
+    coefficient_in-lookup c.args.atom c.args.self.now.coefficients.entries

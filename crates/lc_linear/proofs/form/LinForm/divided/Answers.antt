@@ -3,8 +3,8 @@ use Rattle.std.specs.Prelude.{◌*ℤ◌, FitsSigned}
 use Rattle.std.specs.Int.{w128}
 use Rattle.std.proofs.lemmas.Bool.{false≢true}
 use Rattle.std.proofs.lemmas.Int.{ints}
-use Rattle.lc_term.specs.Syntax as S
-use Rattle.lc_linear.specs.Listed.{coefficient_in, seen}
+use Rattle.lc_term.specs.declared.node.TermId.{TermId}
+use Rattle.lc_linear.specs.Numbered.{coefficient_in}
 use Rattle.lc_linear.proofs.Division.{IsRoundedUp-same}
 use Rattle.lc_linear.proofs.Numbers.{kept, widened}
 use Rattle.lc_linear.proofs.Quotients.{nothing_divided, one_more_divided, refused_here, all_divided, length-set_value_at}
@@ -36,10 +36,10 @@ loop-index-preserved c =
     )
 
 -- the coefficients after the loop
-quotients : (c : After-loop-index) → (a : S.Term) → coefficient_in (seen c.args.self.coefficients.entries) a ≡ c.args.divisor *ℤ coefficient_in (seen c.loop-index.quotient.coefficients.entries) a
+quotients : (c : After-loop-index) → (a : TermId) → coefficient_in c.args.self.coefficients.entries a ≡ c.args.divisor *ℤ coefficient_in c.loop-index.quotient.coefficients.entries a
 quotients c a =
     all_divided _ c.args.self.coefficients.entries c.loop-index.quotient.coefficients.entries c.loop-index.index c.loop-index.invariant.0 (omega (arith, c.loop-index.invariant.1, c.loop-index-test.false)) a ∙
-    ap (λ n. n *ℤ coefficient_in (seen c.loop-index.quotient.coefficients.entries) a) (widened c.args.divisor c.from-divisor.result c.ranges.divisor c.from-divisor.ensures)
+    ap (λ n. n *ℤ coefficient_in c.loop-index.quotient.coefficients.entries a) (widened c.args.divisor c.from-divisor.result c.ranges.divisor c.from-divisor.ensures)
 
 pub returns-clause-found : goal.returns-clause-found
 returns-clause-found c = (λ h. record { positive = grind (arith, ints); multiples = λ a. (_, quotients (goal.at.returns-clause-found c).After-loop-index a) }, λ h. refl)

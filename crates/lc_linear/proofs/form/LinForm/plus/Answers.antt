@@ -15,8 +15,8 @@ returns-then-len c =
     GivesForm-map _ _ _ _ c.add_scaled.result (λ can. add-comm g f (added_once g f can)) (λ can. add_once g f (fits_at f constant c.args.self.fits) (add-comm f g can))
     (λ p. ap (λ n. g p +ℤ n) (mul-one (f p)) ∙ +ℤ-comm (g p) (f p)) c.add_scaled.ensures
 
-pub returns : goal.returns
-returns c =
+pub returns-else-len : goal.returns-else-len
+returns-else-len c =
     let f = numbers c.args.self in
     let g = numbers c.args.other in
     let constant : FitsSigned w128 c.args.other.constant = search rules in

@@ -1,10 +1,10 @@
-use Rattle.std.proofs.Common.{rules, arith, ◌≡◌, ℕ, ◌+◌, ◌*◌, ◌<◌, ◌≤◌, ◌++◌, ◌∷◌, [], length, slice_index_or, subst, sym, ap, ◌∙◌, get_or}
+use Rattle.std.proofs.Common.{rules, arith, ◌≡◌, ◌<◌, ◌++◌, ◌∷◌, [], length, subst, sym, ap, ◌∙◌, get_or}
 use Rattle.std.proofs.lemmas.Result.{IfOk-weaker}
 use Rattle.lc_term.specs.Nodes.{AllBelow}
-use Rattle.lc_term.specs.Tables.{formula_in, formulas_in, IsFormula, AreFormulas}
+use Rattle.lc_term.specs.Tables.{formula_in, formulas_in, AreFormulas}
 use Rattle.lc_term.proofs.Copied.{copies_kept}
 use Rattle.lc_term.proofs.Later.{kept_on, are_formulas_pushed, formulas_pushed}
-use Rattle.lc_term.proofs.Listed.{beyond, beyond-le, get-beyond, are_formulas-get, formulas_in-more}
+use Rattle.lc_term.proofs.Listed.{beyond-le, get-beyond, are_formulas-get, formulas_in-more}
 use Rattle.lc_term.proofs.table.Terms.+copied_formula.Goals as goal
 
 pub copied_formula_node-copied_formulas-requires : goal.copied_formula_node-copied_formulas-requires

@@ -1,5 +1,4 @@
 use Rattle.std.proofs.Common.{◌≡◌, ap, sym, ◌∙◌, ap₂, Some, rules, slice_get}
-use Rattle.std.proofs.lemmas.Result.{IfOk-weaker}
 use Rattle.lc_term.specs.Syntax as S
 use Rattle.lc_term.specs.Nodes.{term as term_part, column as column_part}
 use Rattle.lc_term.specs.Tables.{parts, term_in, column_in}

@@ -1,4 +1,4 @@
-use Rattle.std.proofs.Common.{ℕ, ◌+◌, ◌*◌}
+use Rattle.std.proofs.Common.{◌+◌, ◌*◌}
 use Rattle.lc_term.proofs.table.Terms.+copied_part.Given as goal
 
 abbrev pub decreases-copied_column : goal.decreases-copied_column

@@ -1,10 +1,9 @@
-use Rattle.std.proofs.Common.{◌≡◌, ap, sym, ◌∙◌}
+use Rattle.std.proofs.Common.{◌≡◌, ap, ◌∙◌}
 use Rattle.std.proofs.lemmas.Result.{IfOk-weaker}
 use Rattle.std.proofs.Common.{Some, rules}
 use Rattle.lc_term.specs.Syntax as S
 use Rattle.lc_term.specs.View.{term_of, column_of}
 use Rattle.lc_term.specs.Nodes.{column as column_part}
-use Rattle.lc_term.specs.Tables.{HasColumn}
 use Rattle.lc_term.proofs.Later.{term_later, column_later, term_is, column_is, kept_on, same_store}
 use Rattle.lc_term.proofs.table.Terms.+enter_term.Goals as goal
 

@@ -1,7 +1,7 @@
-use Rattle.std.proofs.Common.{rules, arith, ◌≡◌, ℕ, ◌+◌, ◌*◌, ◌<◌, ◌≤◌, length, slice_index_or}
+use Rattle.std.proofs.Common.{rules, arith, ◌<◌, length}
 use Rattle.lc_term.specs.Nodes.{AllBelow}
-use Rattle.lc_term.specs.Tables.{IsFormula, AreFormulas}
-use Rattle.lc_term.proofs.Listed.{beyond, beyond-le, get-beyond, are_formulas-get}
+use Rattle.lc_term.specs.Tables.{AreFormulas}
+use Rattle.lc_term.proofs.Listed.{beyond-le, get-beyond, are_formulas-get}
 use Rattle.lc_term.proofs.table.Terms.+formula.Goals as goal
 
 pub formula-formulas-requires : goal.formula-formulas-requires

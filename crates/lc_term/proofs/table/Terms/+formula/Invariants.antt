@@ -1,4 +1,4 @@
-use Rattle.std.proofs.Common.{◌≡◌, ℕ, ◌+◌, ◌*◌, take}
+use Rattle.std.proofs.Common.{◌≡◌, ◌+◌, ◌*◌, take}
 use Rattle.lc_term.specs.View.{formulas_of}
 use Rattle.lc_term.specs.Tables.{formulas_in}
 use Rattle.lc_term.proofs.Listed.{beyond}

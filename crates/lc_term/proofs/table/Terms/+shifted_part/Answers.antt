@@ -1,7 +1,7 @@
 use Rattle.std.proofs.Common.{◌≡◌, ap, ap₂, sym, ◌∙◌, Some, rules, refl, slice_get}
 use Rattle.lc_term.specs.Syntax as S
 use Rattle.lc_term.specs.Nodes.{term as term_part, column as column_part}
-use Rattle.lc_term.specs.Tables.{parts, term_in, column_in, IsTerm, IsColumn}
+use Rattle.lc_term.specs.Tables.{parts, term_in, column_in, IsTerm}
 use Rattle.lc_term.specs.NodeReplacement.{part_in, replaced_part}
 use Rattle.lc_term.proofs.Later.{kept_on, same_store, is_column_later}
 use Rattle.lc_term.proofs.NodeReplacement.{one_term, first_term, second_term, later_term, first_column}

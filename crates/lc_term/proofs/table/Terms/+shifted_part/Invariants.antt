@@ -1,4 +1,4 @@
-use Rattle.std.proofs.Common.{ℕ, ◌+◌, ◌*◌}
+use Rattle.std.proofs.Common.{◌+◌, ◌*◌}
 use Rattle.lc_term.proofs.table.Terms.+shifted_part.Given as goal
 
 abbrev pub decreases-shifted_column : goal.decreases-shifted_column

@@ -1,4 +1,4 @@
-use Rattle.std.proofs.Common.{◌≡◌, ap, sym, ◌∙◌, slice_get}
+use Rattle.std.proofs.Common.{ap, ◌∙◌, slice_get}
 use Rattle.std.proofs.lemmas.Result.{IfOk-weaker}
 use Rattle.lc_term.proofs.Tables.{formula_added}
 use Rattle.lc_term.proofs.table.Terms.enter_node.Goals as goal

@@ -1,4 +1,4 @@
-use Rattle.std.proofs.Common.{◌≡◌, ap, sym, ◌∙◌, subst, Some, None}
+use Rattle.std.proofs.Common.{ap, sym, ◌∙◌, subst}
 use Rattle.std.specs.Option.{option_copied}
 use Rattle.lc_term.proofs.Tables.{NodeAt, formula_node_at}
 use Rattle.lc_term.proofs.table.Terms.formula_node.Goals as goal

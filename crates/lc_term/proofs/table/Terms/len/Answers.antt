@@ -1,5 +1,4 @@
-use Rattle.std.proofs.Common.{◌≡◌, ap, min, ◌∙◌, rules}
-use Rattle.std.specs.Prelude.{◌+◌, ◌-◌, ◌^◌}
+use Rattle.std.proofs.Common.{rules}
 use Rattle.lc_term.proofs.Tables.{entry_count}
 use Rattle.lc_term.proofs.table.Terms.len.Goals as goal
 

@@ -1,4 +1,4 @@
-use Rattle.std.proofs.Common.{◌≡◌, ap, sym, ◌∙◌, subst, Some, None}
+use Rattle.std.proofs.Common.{ap, sym, ◌∙◌, subst}
 use Rattle.std.specs.Option.{option_copied}
 use Rattle.lc_term.proofs.Tables.{PartAt, part_node_at}
 use Rattle.lc_term.proofs.table.Terms.part_node.Goals as goal

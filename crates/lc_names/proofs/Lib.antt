@@ -1,4 +1,0 @@
-pub mod Places
-pub mod ReadHolds
-pub mod ReadRows
-pub mod Sound

@@ -1,9 +1,0 @@
-use Rattle.std.proofs.Common.{sym, ap, length, length-append, arith}
-use Rattle.lc_names.specs.TableView.{listed}
-use Rattle.lc_object.proofs.Placed.{place_below}
-use Rattle.lc_object.proofs.body_scope.InBodyCodeScope.target.Goals as goal
-
-pub overflow_add-result-2 : goal.overflow_add-result-2
-overflow_add-result-2 c =
-    let b = c.args.self.now.body.now in
-    omega (arith, place_below (listed b.locals) c.args.name.now c.in_ok-place.place (sym c.in_ok-place.ensures), ap length b.together, length-append (listed b.arguments) (listed b.locals), b.few_variables)

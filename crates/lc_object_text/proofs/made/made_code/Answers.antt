@@ -1,0 +1,15 @@
+use Rattle.std.proofs.Common.{arith, ◌≡◌, [], map, length, ap}
+use Rattle.lc_object.specs.View.{operation_of, point_of}
+use Rattle.lc_object_text.specs.Objects.{operations_from}
+use Rattle.lc_object_text.specs.Texts.{signature_shown, body_shown, bodies_shown}
+use Rattle.lc_object_text.proofs.MadeParts.{operations_done, no_items}
+use Rattle.lc_object_text.proofs.made.made_code.Goals as goal
+
+pub returns-clause-operations : goal.returns-clause-operations
+returns-clause-operations c =
+    let l = c.loop-body in
+    let kept = l.body-iterator.rest.ok in
+    let ended = c.in-None.ensures.steps in
+    let none_left : l.body-iterator.rest.items ≡ [] = no_items l.body-iterator.rest.items (omega arith) in
+    operations_done (map operation_of l.operations.items) (operations_from 0 (map signature_shown c.args.signatures.items) (bodies_shown c.args.bodies)) (length l.points.items) (map signature_shown l.signatures.rest.items)
+    (map (body_shown point_of) l.body-iterator.rest.items) (ap (map (body_shown point_of)) none_left) l.invariant.operations

@@ -1,0 +1,13 @@
+use Rattle.lc_sexp.specs.Trees.{item_count_of_all}
+use Rattle.lc_sexp.specs.Shown.{rest_of, number_of}
+use Rattle.lc_reading.proofs.SoFar.{IsSoFar}
+use Rattle.lc_object_text.specs.Rows.{cons, lists_reading}
+use Rattle.lc_object_text.proofs.rows.read_lists.Given as goal
+
+abbrev pub decreases-lists : goal.decreases-lists
+decreases-lists g l = item_count_of_all (rest_of l.rest)
+
+abbrev pub invariant-lists : goal.invariant-lists
+invariant-lists g l =
+    let read = g.R.ReadsPlaced.reading l.reader in
+    IsSoFar g.R.ReadsPlaced.meaning cons (lists_reading l.word read 0 (number_of l.fn.list) (rest_of l.fn.list)) (lists_reading l.word read l.place (number_of l.rest) (rest_of l.rest)) l.values

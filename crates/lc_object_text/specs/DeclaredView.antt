@@ -1,0 +1,51 @@
+-- What clauses see of the names that a development file declares.
+use Rattle.std.specs.Prelude.{List, map, Option, Some, None}
+use Rattle.std.specs.Borrow.{Bor}
+use Rattle.lc_reading.specs.TableView.{listed}
+use Rattle.lc_object_text.specs.ObjectNames as N
+use Rattle.lc_object_text.specs.declared.declared.Span.{Span}
+use Rattle.lc_object_text.specs.declared.declared.Call.{Call}
+use Rattle.lc_object_text.specs.declared.declared.Body.{Body}
+use Rattle.lc_object_text.specs.declared.declared.Declared.{Declared}
+
+abbrev pub span_seen : Span → N.Span
+span_seen span = record { first = span.first; width = span.width }
+
+abbrev pub call_seen : Call → N.Call
+call_seen call = record { arguments = listed call.arguments; replies = call.replies }
+
+-- a call that is referred to, or none
+abbrev pub call_found : Option (Bor Call) → N.Call
+call_found (Some call) = call_seen call.now
+call_found None = N.no_call
+
+abbrev pub body_seen : Body → N.Body
+body_seen b = record {
+  operation = b.operation.now;
+  first = b.first;
+  call = record { arguments = listed b.arguments; replies = b.replies };
+  locals = listed b.locals;
+  labels = listed b.labels;
+}
+
+abbrev pub spans_seen : List Span → List N.Span
+spans_seen spans = map span_seen spans
+
+abbrev pub calls_seen : List Call → List N.Call
+calls_seen calls = map call_seen calls
+
+abbrev pub bodies_seen : List Body → List N.Body
+bodies_seen bodies = map body_seen bodies
+
+abbrev pub declared_seen : Declared → N.Declared
+declared_seen d = record {
+  columns = listed d.columns;
+  abstracts = d.abstracts;
+  auxiliaries = d.auxiliaries;
+  arrays = listed d.arrays;
+  spans = spans_seen d.spans.items;
+  operations = listed d.operations;
+  calls = calls_seen d.calls.items;
+  points = listed d.points;
+  bodies = bodies_seen d.bodies.items;
+}

@@ -1,0 +1,17 @@
+pub mod Sections
+pub mod CodeNames
+pub mod ObjectNames
+pub mod Seen
+pub mod DeclaredView
+pub mod Rows
+pub mod Counts
+pub mod Cells
+pub mod Heads
+pub mod Instructions
+pub mod Own
+pub mod Declaring
+pub mod Headed
+pub mod Points
+pub mod Objects
+pub mod Texts
+pub mod Answers

@@ -1,0 +1,95 @@
+ghost use Rattle.std.specs.Prelude.{◌≡◌, option_map};
+ghost use Rattle.lc_object_text.specs.DeclaredView.{spans_seen};
+ghost use Rattle.lc_object_text.specs.ObjectNames.{column_use, row_at};
+
+use crate::code_scope::{CodeScope, Row};
+use crate::declared::{Body, Declared, Span};
+use lc_base::PointId;
+use lc_object::{ArrayId, LocalId};
+use lc_reading::is_system_column;
+use lc_text::{ColumnUse, Extra, Scope};
+
+/// How names are read in the instructions of a body.
+#[derive(Clone, Copy)]
+pub struct InBody<'a, 'b> {
+    pub declared: &'b Declared<'a>,
+    pub body: &'b Body<'a>,
+}
+
+/// What the column at this place is to code, or of no place, where concrete ones stand between these places.
+fn column_use(first: u32, end: u32, is_system: bool, place: Option<u32>) -> ColumnUse
+    ensures { result ≡ column_use first end is_system place }
+{
+    match place {
+        Some(place) if first <= place && place < end => ColumnUse::Misplaced,
+        Some(_) => ColumnUse::Hidden,
+        None if is_system => ColumnUse::Hidden,
+        None => ColumnUse::Undeclared,
+    }
+}
+
+fn row_at(spans: &[Span], place: Option<u32>) -> Option<Row>
+    ensures { option_map (λ row. (row.array.0, row.width)) result ≡ row_at (spans_seen spans.now) place }
+{
+    let place = place?;
+    let span = spans.get(place as usize)?;
+    Some(Row {
+        array: ArrayId(place),
+        width: span.width,
+    })
+}
+
+impl Scope for InBody<'_, '_> {
+    ghost use Rattle.lc_object_text.specs.DeclaredView.{declared_seen, body_seen};
+    ghost use Rattle.lc_object_text.specs.ObjectNames.{code_names};
+
+    ghost names = { λ scope. code_names (declared_seen scope.declared.now) (body_seen scope.body.now) };
+
+    fn variable(&self, name: &str) -> Option<u32> {
+        if name == "self" {
+            return Some(1);
+        }
+        let place = self.body.variables.place(name)?;
+        Some(2 + place)
+    }
+
+    fn column(&self, name: &str) -> ColumnUse {
+        let declared = self.declared;
+        let place = declared.columns.place(name);
+        column_use(
+            declared.abstracts,
+            declared.auxiliaries,
+            is_system_column(name),
+            place,
+        )
+    }
+
+    fn allows(&self, _: Extra) -> bool {
+        false
+    }
+}
+
+impl CodeScope for InBody<'_, '_> {
+    ghost use Rattle.lc_object_text.specs.DeclaredView.{declared_seen, body_seen};
+    ghost use Rattle.lc_object_text.specs.ObjectNames.{body_names};
+
+    ghost code = { λ scope. body_names (declared_seen scope.declared.now) (body_seen scope.body.now) };
+
+    fn array(&self, name: &str) -> Option<Row> {
+        row_at(&self.declared.spans, self.declared.arrays.place(name))
+    }
+
+    fn target(&self, name: &str) -> Option<LocalId> {
+        let place = self.body.locals.place(name)?;
+        Some(LocalId(2 + self.body.arguments.len() + place))
+    }
+
+    fn label(&self, name: &str) -> Option<PointId> {
+        let place = self.body.labels.place(name)?;
+        Some(PointId(self.body.first + place))
+    }
+
+    fn replies(&self) -> Option<u64> {
+        self.body.replies
+    }
+}

@@ -1,0 +1,74 @@
+ghost use Rattle.std.specs.Prelude.{◌≡◌, ◌+◌, ◌<◌, ◌^◌, ◌++◌, length};
+ghost use Rattle.lc_sexp.specs.Shown.{rest_of};
+ghost use Rattle.lc_reading.specs.Words.{names_in};
+ghost use Rattle.lc_reading.specs.Listed.{names_among};
+ghost use Rattle.lc_reading.specs.TableView.{listed};
+
+use lc_reading::NameTable;
+use lc_sexp::Cursor;
+
+/// The columns of an array.
+#[derive(Clone, Copy)]
+pub struct Span {
+    /// The place of the first among all columns.
+    pub first: u32,
+    /// How many there are.
+    pub width: u64,
+}
+
+/// How an operation is called.
+#[derive(Drop)]
+pub struct Call<'a> {
+    /// The items of its list of arguments.
+    pub items: Cursor<'a>,
+    pub arguments: NameTable<'a>,
+    /// How many numbers it returns, if that is said.
+    pub replies: Option<u64>,
+    ghost named: { listed arguments ≡ names_among (rest_of items) },
+}
+
+/// The operations that a specification declares.
+#[derive(Drop)]
+pub struct Operations<'a> {
+    pub names: NameTable<'a>,
+    /// The same, by their numbers.
+    pub texts: Vec<&'a str>,
+    pub calls: Vec<Call<'a>>,
+    ghost same: { names_in texts.items ≡ listed names },
+}
+
+/// What a body declares and is given.
+#[derive(Drop)]
+pub struct Body<'a> {
+    /// The name of the operation that is due.
+    pub operation: &'a str,
+    /// The number of its first point.
+    pub first: u32,
+    /// Those of its operation.
+    pub arguments: NameTable<'a>,
+    pub replies: Option<u64>,
+    pub locals: NameTable<'a>,
+    /// The arguments, and then the locals.
+    pub variables: NameTable<'a>,
+    pub labels: NameTable<'a>,
+    ghost together: { listed variables ≡ listed arguments ++ listed locals },
+    ghost few_variables: { 2 + length (listed variables) < 2 ^ 32 },
+    ghost few_points: { first + length (listed labels) < 2 ^ 32 },
+}
+
+/// The names that a development file declares.
+#[derive(Drop)]
+pub struct Declared<'a> {
+    /// Abstract, then concrete, then auxiliary.
+    pub columns: NameTable<'a>,
+    /// How many columns are abstract.
+    pub abstracts: u32,
+    /// The place of the first column that is auxiliary.
+    pub auxiliaries: u32,
+    pub arrays: NameTable<'a>,
+    pub spans: Vec<Span>,
+    pub operations: NameTable<'a>,
+    pub calls: Vec<Call<'a>>,
+    pub points: NameTable<'a>,
+    pub bodies: Vec<Body<'a>>,
+}

@@ -1,0 +1,139 @@
+ghost use Rattle.std.specs.Prelude.{◌≡◌, take};
+ghost use Rattle.std.specs.List.{list_any};
+ghost use Rattle.lc_base.specs.Name.{bytes_of};
+ghost use Rattle.lc_object.specs.View.{names_of};
+ghost use Rattle.lc_reading.specs.Parts.{tree_of, place_of};
+ghost use Rattle.lc_reading.specs.Results.{IsReading};
+ghost use Rattle.lc_reading.specs.TableView.{listed};
+ghost use Rattle.lc_reading.specs.Words.{is};
+ghost use Rattle.lc_object_text.specs.Declaring.{kth_name_reading, listed_name_reading, names_reading, column_name_reading, section_reading};
+
+use crate::rows::{ReadsPlaced, read_placed};
+use lc_base::{Name, is_name};
+use lc_reading::{
+    NameTable, Part, Pass, ReadFault, behind_word, is_reserved, limited, next_part, wrong,
+};
+use lc_sexp::{Cursor, Item};
+use std::alloc::Global;
+
+/// The most columns of an object.
+pub(crate) const COLUMN_LIMIT: u64 = 64;
+
+/// Whether a name stands among the first of these.
+fn stands_before(names: &NameTable<'_>, count: u64, text: &str) -> bool
+    ensures { result ≡ list_any (is text.now) (take count (listed names.now)) }
+{
+    match names.place(text) {
+        None => false,
+        Some(first) => u64::from(first) < count,
+    }
+}
+
+/// The name that an item declares, which is one of these, behind so many of them.
+pub fn read_kth_name(names: &NameTable<'_>, place: u64, part: Part<'_>) -> Result<Name, ReadFault>
+    ensures { IsReading bytes_of (kth_name_reading (listed names.now) place (place_of part.entry) (tree_of part.entry)) result }
+{
+    let atom = match part.item() {
+        Item::Atom(atom) => atom,
+        Item::List(list) => return Err(wrong(Pass::Shape, list.owner())),
+    };
+    if !is_name(atom.text().as_bytes()) {
+        return Err(wrong(Pass::Shape, atom.number()));
+    }
+    if is_reserved(atom.text()) || stands_before(names, place, atom.text()) {
+        return Err(wrong(Pass::Repeated, atom.number()));
+    }
+    match Name::new(atom.text()) {
+        Some(name) => Ok(name),
+        None => Err(wrong(Pass::Bound, atom.number())),
+    }
+}
+
+/// Names in a list, of which so many may stand there, behind as many others of these.
+#[derive(Clone, Copy)]
+pub struct Names<'a, 'b> {
+    pub limit: u64,
+    pub names: &'b NameTable<'a>,
+    pub base: u32,
+}
+
+impl ReadsPlaced for Names<'_, '_> {
+    ghost use Rattle.std.specs.Prelude.{ℕ, List};
+    ghost use Rattle.lc_base.specs.Name.{bytes_of};
+    ghost use Rattle.lc_reading.specs.TableView.{listed};
+    ghost use Rattle.lc_object_text.specs.Declaring.{listed_name_reading};
+
+    type Value = Name;
+
+    ghost Meaning = { List ℕ };
+
+    ghost meaning = { bytes_of };
+
+    ghost reading = { λ reader. listed_name_reading reader.limit (listed reader.names.now) reader.base };
+
+    fn read(&self, _: Global, place: u32, part: Part<'_>) -> Result<Name, ReadFault> {
+        let before = u64::from(self.base) + u64::from(place);
+        let name = read_kth_name(self.names, before, part);
+        limited(self.limit <= u64::from(place), part.number(), name)
+    }
+}
+
+/// The names in an item, where a list of these is due.
+pub fn read_names(
+    alloc: Global,
+    reader: &Names<'_, '_>,
+    part: Part<'_>,
+) -> Result<Vec<Name>, ReadFault>
+    ensures { IsReading (λ names. names_of names.items) (names_reading reader.now.limit (listed reader.now.names.now) reader.now.base (place_of part.entry) (tree_of part.entry)) result }
+{
+    match part.item() {
+        Item::Atom(atom) => Err(wrong(Pass::Shape, atom.number())),
+        Item::List(list) => read_placed(alloc, reader, list),
+    }
+}
+
+/// Lists whose first items name columns, behind as many others.
+#[derive(Clone, Copy)]
+pub(crate) struct ColumnNames<'a, 'b> {
+    pub(crate) names: &'b NameTable<'a>,
+    pub(crate) base: u32,
+}
+
+impl ReadsPlaced for ColumnNames<'_, '_> {
+    ghost use Rattle.std.specs.Prelude.{ℕ, List};
+    ghost use Rattle.lc_base.specs.Name.{bytes_of};
+    ghost use Rattle.lc_reading.specs.TableView.{listed};
+    ghost use Rattle.lc_object_text.specs.Declaring.{column_name_reading};
+
+    type Value = Name;
+
+    ghost Meaning = { List ℕ };
+
+    ghost meaning = { bytes_of };
+
+    ghost reading = { λ reader. column_name_reading (listed reader.names.now) reader.base };
+
+    fn read(&self, _: Global, place: u32, part: Part<'_>) -> Result<Name, ReadFault> {
+        let mut list = match part.item() {
+            Item::Atom(atom) => return Err(wrong(Pass::Shape, atom.number())),
+            Item::List(list) => list,
+        };
+        let name = next_part(&mut list)?;
+        let before = u64::from(self.base) + u64::from(place);
+        let name = read_kth_name(self.names, before, name);
+        limited(COLUMN_LIMIT <= before, list.owner(), name)
+    }
+}
+
+/// `(WORD (NAME ..) ..)`: the names of columns.
+pub(crate) fn read_section(
+    alloc: Global,
+    reader: &ColumnNames<'_, '_>,
+    word: &str,
+    part: Part<'_>,
+) -> Result<Vec<Name>, ReadFault>
+    ensures { IsReading (λ names. names_of names.items) (section_reading word.now (listed reader.now.names.now) reader.now.base (place_of part.entry) (tree_of part.entry)) result }
+{
+    let parts = behind_word(part, word)?;
+    read_placed(alloc, reader, parts)
+}

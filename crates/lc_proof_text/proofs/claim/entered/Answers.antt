@@ -1,0 +1,23 @@
+use Rattle.std.proofs.Common.{◌≡◌, ℕ, List, ap, ◌∙◌}
+use Rattle.lc_kernel.specs.Proofs as S
+use Rattle.lc_proof_text.specs.Files.{Claim}
+use Rattle.lc_term.proofs.Later.{formula_is, formulas_still}
+use Rattle.lc_term.specs.NodeTables.{Table}
+use Rattle.lc_term.specs.Syntax.{Formula, formulas}
+use Rattle.lc_term.specs.Tables.{formula_in, formulas_in, AreFormulas, HasFormula, Keeps}
+use Rattle.lc_term.specs.View.{formulas_of}
+use Rattle.lc_term.specs.declared.node.FormulaId.{FormulaId}
+use Rattle.lc_proof_text.proofs.claim.entered.Goals as goal
+
+-- a claim, of the formulas that numbers have in a table
+abbrev claim_with : ℕ → List Formula → Formula → S.Proof → Claim
+claim_with n hypotheses goal proof = record { variables = n; hypotheses = formulas hypotheses; goal = goal; proof = proof }
+
+same_claim : (first last : Table) (ks : List FormulaId) (k : FormulaId) (n : ℕ) (hs : List Formula) (g : Formula) (p : S.Proof) → AreFormulas first ks → formulas_in first ks ≡ hs → Keeps first last → HasFormula last k g
+    → claim_with n (formulas_in last ks) (formula_in last k) p ≡ claim_with n hs g p
+same_claim first last ks k n hs g p are trees kept at = λ i. claim_with n ((formulas_still first last ks are kept ∙ trees) i) (formula_is last k g at i) p
+
+pub returns-clause-same : goal.returns-clause-same
+returns-clause-same c =
+    same_claim c.enter_formulas.new.self c.enter_formula.new.self c.in_ok-hypotheses.hypotheses.items c.in_ok-goal.goal _ _ _ _
+    c.in_ok-hypotheses.ensures.are (c.in_ok-hypotheses.ensures.trees ∙ ap formulas_of c.deref.ensures.value) c.in_ok-goal.ensures.kept c.in_ok-goal.ensures.id
