@@ -42,7 +42,7 @@ module _ (ts : Table) (f g : N.Form) (l r t : Term) (first : Reads ts f (form_of
       (λ can. subst HasForm (sym is) (fits_l, fits_r, each_of_trees ts f g (form_of l) (form_of r) first second (λ m n. FitsSigned w128 (m +ℤ n)) zero_fits can))
       (λ fits. each_kept ts f g (form_of l) (form_of r) first second (λ m n. FitsSigned w128 (m +ℤ n)) zero_fits (subst HasForm is fits).2)
       (λ form can has. Reads-same ts (added f g) (numbers form) (added (form_of l) (form_of r)) (form_of t) has (λ p. sym (ap (λ u. form_of u p) is))
-          (read_by ts (λ m n. m +ℤ n) refl f g (form_of l) (form_of r) first second))
+      (read_by ts (λ m n. m +ℤ n) refl f g (form_of l) (form_of r) first second))
       h
 
   pub difference_given : t ≡ Subtract l r → Gives res (CanSubtract f g) (λ form. HasNumbers form (subtracted f g)) → Gives res (HasForm t) (λ form. IsFormIn ts form (form_of t))
@@ -51,7 +51,7 @@ module _ (ts : Table) (f g : N.Form) (l r t : Term) (first : Reads ts f (form_of
       (λ can. subst HasForm (sym is) (fits_l, fits_r, each_of_trees ts f g (form_of l) (form_of r) first second (λ m n. FitsSigned w128 (m -ℤ n)) zero_fits can))
       (λ fits. each_kept ts f g (form_of l) (form_of r) first second (λ m n. FitsSigned w128 (m -ℤ n)) zero_fits (subst HasForm is fits).2)
       (λ form can has. Reads-same ts (subtracted f g) (numbers form) (subtracted (form_of l) (form_of r)) (form_of t) has (λ p. sym (ap (λ u. form_of u p) is))
-          (read_by ts (λ m n. m -ℤ n) refl f g (form_of l) (form_of r) first second))
+      (read_by ts (λ m n. m -ℤ n) refl f g (form_of l) (form_of r) first second))
       h
 
 -- so many times a form added to another one
@@ -75,7 +75,7 @@ product_given ts z f n k l t res is is_k zero second fits_l h =
     (λ can. HasForm-product zt (form_of l) n k l t is is_k (λ p. refl) (λ p. refl) fits_l (can_of_trees ts z f zt (form_of l) k first second can))
     (λ fits. can_kept ts z f zt (form_of l) k first second (product-HasForm zt (form_of l) n k l t is is_k (λ p. refl) (λ p. refl) fits))
     (λ form can has. Reads-same ts (added_scaled z k f) (numbers form) (added_scaled zt k (form_of l)) (form_of t) has (multiplied zt (form_of l) n k l t is is_k (λ p. refl) (λ p. refl))
-        (scaled_read ts z f zt (form_of l) k first second))
+    (scaled_read ts z f zt (form_of l) k first second))
     h
 
 -- one turn of a loop over entries
@@ -101,6 +101,7 @@ number_given ts n m t form z is is_n zero has =
     at : (p : N.Place) → N.number_form (pos 0) p +ℤ N.number_form m p ≡ N.number_form n p
     at None = omega (arith, ints)
     at (Some a) = refl
+
     alone : (p : N.Place) → numbers form p ≡ N.number_form n p
     alone p = has p ∙ ap (λ x. x +ℤ N.number_form m p) (zero p) ∙ at p
 

@@ -8,12 +8,12 @@ ghost use Rattle.lc_text.specs.Seen.{numbers_of, store_parts};
 ghost use Rattle.lc_text.specs.Terms.{base_reading, column_reading, numbers_reading, store_reading, built_with};
 
 use crate::made::{made_affine, made_store};
+use crate::scope::{ColumnUse, Scope};
 use crate::term::{read_bound_term, read_number};
 use crate::words::{Built, built_due};
 use lc_base::{NAME_LIMIT, is_name};
 use lc_reading::{Part, Pass, ReadFault, both, ended, headed, three, two, wrong};
 use lc_sexp::{Atom, Cursor, Item};
-use crate::scope::{ColumnUse, Scope};
 use lc_term::{ColExpr, Term};
 use std::alloc::Global;
 

@@ -8,6 +8,7 @@ ghost use Rattle.lc_text.specs.Formulas.{binder_reading, bound_inside, formula_r
 ghost use Rattle.lc_text.specs.Seen.{formula_pair, row_of};
 
 use crate::made::{made_comparison, made_implication, made_negation, made_quantifier, made_row};
+use crate::scope::Scope;
 use crate::term::read_terms;
 use crate::words::{Connective, connective_due};
 use lc_base::{NAME_LIMIT, is_name};
@@ -15,7 +16,6 @@ use lc_reading::{
     Part, Pass, ReadFault, both, ended, headed, is_reserved, next_part, one, pushed, two, wrong,
 };
 use lc_sexp::{Cursor, Item};
-use crate::scope::Scope;
 use lc_term::Formula;
 use std::alloc::Global;
 

@@ -9,11 +9,11 @@ ghost use Rattle.lc_text.specs.Terms.{bound_index, variable_reading, number_read
 
 use crate::column::read_bound_column;
 use crate::made::{made_access, made_product, made_sum};
+use crate::scope::{Extra, Scope};
 use crate::words::{Operation, operation_of};
 use lc_base::{NAME_LIMIT, is_name};
 use lc_reading::{Part, Pass, ReadFault, Reads, both, ended, headed, two, wrong};
 use lc_sexp::{Atom, Cursor, Item, Misfit};
-use crate::scope::{Extra, Scope};
 use lc_term::{ColExpr, Term};
 use std::alloc::Global;
 

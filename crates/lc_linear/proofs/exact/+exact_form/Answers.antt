@@ -47,8 +47,7 @@ returns-in_err-add_atom-in-Variable t c = passed_on _ _ c.from_residual-in_err-a
 
 pub returns-in_ok-add_atom-in-Variable : goal.returns-in_ok-add_atom-in-Variable
 returns-in_ok-add_atom-in-Variable t c =
-    let at = atom t (goal.at.returns-in_ok-add_atom-in-Variable t c).In-Variable in
-    (
+    let at = atom t (goal.at.returns-in_ok-add_atom-in-Variable t c).In-Variable in (
       at.fits,
       atom_given c.args.terms.now c.numbers_are_exact.ensures.terms c.args.term c.requires at c.add_atom.new.self (numbers c.zero-form-in-Variable.result) c.zero-form-in-Variable.ensures c.in_ok-add_atom-in-Variable.ensures.ok,
     )
