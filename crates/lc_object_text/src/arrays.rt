@@ -5,8 +5,6 @@ ghost use Rattle.lc_object.specs.View.{column_shown};
 ghost use Rattle.lc_reading.specs.Parts.{tree_of, place_of};
 ghost use Rattle.lc_reading.specs.Results.{IsReading};
 ghost use Rattle.lc_reading.specs.TableView.{listed};
-ghost use Rattle.lc_text.specs.Seen.{numbers_of};
-ghost use Rattle.lc_text.specs.Terms.{numbers_reading};
 ghost use Rattle.lc_object_text.specs.DeclaredView.{declared_seen, spans_seen};
 ghost use Rattle.lc_object_text.specs.Objects.{first_column, own_name_reading, column_parts, column_reading, columns_reading, array_parts, array_reading};
 ghost use Rattle.lc_object_text.specs.Texts.{array_shown};
@@ -16,11 +14,9 @@ use crate::declaring::{COLUMN_LIMIT, read_kth_name};
 use crate::rows::{ReadsPlaced, read_placed};
 use lc_base::Name;
 use lc_object::{Column, WIDTH_LIMIT};
-use lc_reading::{
-    NameTable, Part, Pass, ReadFault, behind_word, both, ended, limited, next_part, two, wrong,
-};
+use lc_reading::{NameTable, Part, Pass, ReadFault, behind_word, both, limited, next_part, wrong};
 use lc_sexp::{Cursor, Item};
-use lc_text::read_number;
+use lc_text::read_numbers;
 use std::alloc::Global;
 
 /// An array: its name, and its columns.
@@ -50,14 +46,6 @@ fn read_own_name(
     let name = read_kth_name(reader.names, before, part);
     let name = limited(COLUMN_LIMIT <= before, number, name);
     limited(WIDTH_LIMIT as u64 <= u64::from(place), number, name)
-}
-
-/// Two numbers, which are all that is left in a list.
-pub fn read_numbers(list: Cursor<'_>) -> Result<(i64, i64), ReadFault>
-    ensures { IsReading numbers_of (numbers_reading (owner_of list.entry) (number_of list.entry) (rest_of list.entry)) result }
-{
-    let (first, second, rest) = two(list)?;
-    ended(both(read_number(first), read_number(second)), rest)
 }
 
 /// `NAME a b`

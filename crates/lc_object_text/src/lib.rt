@@ -24,7 +24,7 @@ mod signatures;
 mod tables;
 mod words;
 
-pub use arrays::{ArrayText, Arrays, read_numbers};
+pub use arrays::{ArrayText, Arrays};
 pub use body::{Bodies, BodyText, read_bodies, read_body};
 pub use body_scope::InBody;
 pub use code_scope::{CodeScope, Row};

@@ -1,9 +1,7 @@
 -- The names that a formula file declares, and how they are read in it.
-use Rattle.std.specs.Prelude.{ℕ, Bool, true, false, List, [], Option, Some, None, if◌then◌else◌, codes}
+use Rattle.std.specs.Prelude.{ℕ, Bool, true, false, List, [], None, if◌then◌else◌, codes}
 use Rattle.lc_sexp.specs.Trees.{Tree, Trees, atom, list, ◌▸◌}
-use Rattle.lc_text.specs.Names.{Names}
-use Rattle.lc_text.specs.declared.scope.ColumnUse.{ColumnUse}
-use Rattle.lc_text.specs.declared.scope.ColumnUse.TheVariants.{Usable, Undeclared}
+use Rattle.lc_text.specs.Names.{Names, column_at}
 use Rattle.lc_text.specs.declared.scope.Extra.{Extra}
 use Rattle.lc_text.specs.declared.scope.Extra.TheVariants.{NumberedVariables}
 use Rattle.lc_reading.specs.Listed.{names_among, place_of}
@@ -27,11 +25,6 @@ names_behind word _ = []
 -- the names that these two sections declare
 abbrev pub declared_by : Tree → Tree → Declared
 declared_by v c = record { variables = names_behind (codes "vars") v; columns = names_behind (codes "cols") c }
-
--- the column at this place
-abbrev pub column_at : Option ℕ → ColumnUse
-column_at (Some k) = Usable (record { 0 = k })
-column_at None = Undeclared
 
 abbrev pub is_numbered : Extra → Bool
 is_numbered NumberedVariables = true

@@ -2,12 +2,12 @@ ghost use Rattle.std.specs.Prelude.{◌≡◌, Some, None, IfOk, codes, []};
 ghost use Rattle.lc_reading.specs.Parts.{tree_of, place_of};
 ghost use Rattle.lc_reading.specs.Results.{IsReading};
 ghost use Rattle.lc_reading.specs.TableView.{listed};
-ghost use Rattle.lc_proof_text.specs.FileNames.{column_at, names_behind, declared_by, declared_of};
+ghost use Rattle.lc_proof_text.specs.FileNames.{names_behind, declared_by, declared_of};
 ghost use Rattle.lc_proof_text.specs.Files.{section_reading, declarations_reading};
 
-use lc_base::{ColId, OutOfMemory};
+use lc_base::OutOfMemory;
 use lc_reading::{NameTable, Part, ReadFault, also, behind_word, read_names};
-use lc_text::{ColumnUse, Extra, Scope};
+use lc_text::{ColumnUse, Extra, Scope, column_at};
 use std::alloc::Global;
 
 /// The most columns that a formula file declares.
@@ -36,15 +36,6 @@ pub(crate) struct InClaim<'a, 'b>(pub(crate) &'b Declared<'a>);
 /// How names are read in the proof.
 #[derive(Clone, Copy)]
 pub(crate) struct InProof<'a, 'b>(pub(crate) &'b Declared<'a>);
-
-fn column_at(place: Option<u32>) -> ColumnUse
-    ensures { result ≡ column_at place }
-{
-    match place {
-        Some(place) => ColumnUse::Usable(ColId(place)),
-        None => ColumnUse::Undeclared,
-    }
-}
 
 impl Scope for InClaim<'_, '_> {
     ghost use Rattle.lc_proof_text.specs.FileNames.{claim_names, declared_of};

@@ -5,8 +5,6 @@ ghost use Rattle.lc_kernel.specs.View.{multiple_of, step_of, proof_of};
 ghost use Rattle.lc_reading.specs.Parts.{tree_of, place_of};
 ghost use Rattle.lc_reading.specs.Readings.{Reading, both};
 ghost use Rattle.lc_reading.specs.Results.{IsReading};
-ghost use Rattle.lc_text.specs.Seen.{numbers_of};
-ghost use Rattle.lc_text.specs.Terms.{numbers_reading};
 ghost use Rattle.lc_proof_text.specs.Own.{branches_of};
 ghost use Rattle.lc_proof_text.specs.Proofs.{sum_reading, proof_reading, proofs_reading, with_proofs};
 ghost use Rattle.lc_proof_text.specs.Steps.{multiple_reading};
@@ -15,20 +13,11 @@ use crate::head::{Due, Head, head_of};
 use crate::step::read_own;
 use lc_kernel::{Multiple, Proof, Step};
 use lc_reading::{
-    Part, Pass, ReadFault, Reads, both, ended, headed, misshapen_too, next_part, pushed, read_each,
-    two, wrong,
+    Part, Pass, ReadFault, Reads, both, headed, misshapen_too, next_part, pushed, read_each, wrong,
 };
 use lc_sexp::{Cursor, Item};
-use lc_text::{Scope, read_number};
+use lc_text::{Scope, read_numbers};
 use std::alloc::Global;
-
-/// Two numbers, which are all that is left in a list.
-fn read_pair(list: Cursor<'_>) -> Result<(i64, i64), ReadFault>
-    ensures { IsReading numbers_of (numbers_reading (owner_of list.entry) (number_of list.entry) (rest_of list.entry)) result }
-{
-    let (first, second, rest) = two(list)?;
-    ended(both(read_number(first), read_number(second)), rest)
-}
 
 /// `(h k)`
 fn read_multiple(part: Part<'_>) -> Result<Multiple, ReadFault>
@@ -38,7 +27,7 @@ fn read_multiple(part: Part<'_>) -> Result<Multiple, ReadFault>
         Item::Atom(atom) => return Err(wrong(Pass::Shape, atom.number())),
         Item::List(list) => list,
     };
-    let (hypothesis, multiplier) = read_pair(list)?;
+    let (hypothesis, multiplier) = read_numbers(list)?;
     Ok(Multiple {
         hypothesis,
         multiplier,

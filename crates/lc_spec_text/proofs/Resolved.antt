@@ -22,6 +22,7 @@ use Rattle.lc_reading.specs.Words.{is}
 use Rattle.lc_reading.specs.declared.flaw.ReadFault.{ReadFault}
 use Rattle.lc_reading.specs.declared.pass.Pass.TheVariants.{Shape, Bound}
 use Rattle.lc_base.specs.declared.name.Name.{Name}
+use Rattle.lc_text.specs.Names.{column_at}
 use Rattle.lc_text.proofs.ReadHolds.{Kept, OfUsable, term_holds, formula_holds}
 use Rattle.lc_text.specs.DeclaredColumn.{column_parts_reading}
 use Rattle.lc_text.specs.Formulas.{formula_reading}
@@ -34,7 +35,7 @@ use Rattle.lc_seq.specs.declared.specification.Operation.{Operation as Operation
 use Rattle.lc_spec_text.specs.Seen.{operations_of, specification_parts}
 use Rattle.lc_spec_text.proofs.Named.{operations_differ}
 use Rattle.lc_spec_text.proofs.Places.{placed_below}
-use Rattle.lc_spec_text.specs.Scopes.{Columns, client, column_at, branch_names}
+use Rattle.lc_spec_text.specs.Scopes.{Columns, client, branch_names}
 use Rattle.lc_spec_text.specs.Branches.{stored, written_reading, the_update, update_parts_reading, update_reading, updates_reading, replies_reading, the_branch, branch_parts_reading, branch_reading}
 use Rattle.lc_spec_text.specs.Operations.{natural, few, count_reading, count_in, fitting_natural, arguments_reading, variables_in, operation_parts_reading, the_operation, operation_reading}
 use Rattle.lc_spec_text.specs.Specifications.{the_column, column_reading, columns_reading, columns_in, specification_parts_reading}

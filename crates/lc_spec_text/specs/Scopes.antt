@@ -1,8 +1,6 @@
 -- How names are read in a specification.
-use Rattle.std.specs.Prelude.{ℕ, suc, false, codes, List, [], ◌∷◌, Option, Some, None, option_map}
-use Rattle.lc_text.specs.Names.{Names}
-use Rattle.lc_text.specs.declared.scope.ColumnUse.{ColumnUse}
-use Rattle.lc_text.specs.declared.scope.ColumnUse.TheVariants.{Usable, Undeclared}
+use Rattle.std.specs.Prelude.{ℕ, suc, false, codes, List, [], ◌∷◌, option_map}
+use Rattle.lc_text.specs.Names.{Names, column_at}
 use Rattle.lc_reading.specs.Listed.{place_of}
 
 -- the names of columns: those of the specification, and others that the rest of its file declares
@@ -13,11 +11,6 @@ pub record Columns : Type 0 where
 -- the client, which is the first variable of a branch; the arguments follow
 abbrev pub client : List (List ℕ)
 client = codes "self" ∷ []
-
--- the column at this place
-abbrev pub column_at : Option ℕ → ColumnUse
-column_at (Some k) = Usable (record { 0 = k })
-column_at None = Undeclared
 
 -- Branches: variables are counted from 1, since 0 is the number of clients, which has no name here. There are neither
 -- quantifiers nor built columns nor variables `?k`.

@@ -1,10 +1,9 @@
 ghost use Rattle.std.specs.Prelude.{◌≡◌, ◌+◌, ◌<◌, ◌^◌, length};
 ghost use Rattle.lc_reading.specs.TableView.{listed};
-ghost use Rattle.lc_spec_text.specs.Scopes.{column_at};
 
-use lc_base::{ColId, OutOfMemory};
+use lc_base::OutOfMemory;
 use lc_reading::NameTable;
-use lc_text::{ColumnUse, Extra, Scope};
+use lc_text::{ColumnUse, Extra, Scope, column_at};
 
 /// The names of columns that a file declares: those of the specification, and those of the rest of the file.
 #[derive(Clone, Copy)]
@@ -27,15 +26,6 @@ impl Drop for InBranch<'_, '_> {
             columns: _,
             variables: _,
         } = self;
-    }
-}
-
-fn column_at(place: Option<u32>) -> ColumnUse
-    ensures { result ≡ column_at place }
-{
-    match place {
-        Some(place) => ColumnUse::Usable(ColId(place)),
-        None => ColumnUse::Undeclared,
     }
 }
 

@@ -86,7 +86,7 @@ fn read_built<S: Scope>(
 }
 
 /// Two numbers, which are all that is left in a list.
-fn read_numbers(list: Cursor<'_>) -> Result<(i64, i64), ReadFault>
+pub fn read_numbers(list: Cursor<'_>) -> Result<(i64, i64), ReadFault>
     ensures { IsReading numbers_of (numbers_reading (owner_of list.entry) (number_of list.entry) (rest_of list.entry)) result }
 {
     let (first, second, rest) = two(list)?;
