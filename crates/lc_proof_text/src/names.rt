@@ -1,4 +1,5 @@
-ghost use Rattle.std.specs.Prelude.{◌≡◌, Some, None, IfOk, codes, []};
+ghost use Rattle.std.specs.Prelude.{◌≡◌, ◌<◌, ◌^◌, Some, None, IfOk, IfSome, codes, [], length};
+ghost use Rattle.lc_sexp.specs.Trees.{item_count};
 ghost use Rattle.lc_reading.specs.Parts.{tree_of, place_of};
 ghost use Rattle.lc_reading.specs.Results.{IsReading};
 ghost use Rattle.lc_reading.specs.TableView.{listed};
@@ -17,6 +18,8 @@ const COLUMN_LIMIT: u64 = 64;
 pub(crate) struct Declared<'a> {
     pub(crate) variables: NameTable<'a>,
     pub(crate) columns: NameTable<'a>,
+    ghost few_variables: { length (listed variables) < 2 ^ 32 },
+    ghost few_columns: { length (listed columns) < 2 ^ 32 },
 }
 
 // Written out and not derived, so that a place where it is let go has one call.
@@ -37,11 +40,12 @@ pub(crate) struct InClaim<'a, 'b>(pub(crate) &'b Declared<'a>);
 #[derive(Clone, Copy)]
 pub(crate) struct InProof<'a, 'b>(pub(crate) &'b Declared<'a>);
 
-fn column_at(place: Option<u32>) -> ColumnUse
+fn column_at(place: Option<usize>) -> ColumnUse
+    requires { IfSome place (λ k. k < 2 ^ 32) }
     ensures { result ≡ column_at place }
 {
     match place {
-        Some(place) => ColumnUse::Usable(ColId(place)),
+        Some(place) => ColumnUse::Usable(ColId(place as u32)),
         None => ColumnUse::Undeclared,
     }
 }
@@ -52,7 +56,8 @@ impl Scope for InClaim<'_, '_> {
     ghost names = { λ scope. claim_names (declared_of scope.0.now) };
 
     fn variable(&self, name: &str) -> Option<u32> {
-        self.0.variables.place(name)
+        let place = self.0.variables.place(name)?;
+        Some(place as u32)
     }
 
     fn column(&self, name: &str) -> ColumnUse {
@@ -105,6 +110,8 @@ pub(crate) fn read_declarations<'a>(
     variables: Part<'a>,
     columns: Part<'a>,
 ) -> Result<(Declared<'a>, Result<(), ReadFault>), OutOfMemory>
+    requires variables { item_count (tree_of variables) < 2 ^ 32 }
+    requires columns { item_count (tree_of columns) < 2 ^ 32 }
     ensures names { IfOk result (λ r. declared_of r.0 ≡ declared_by (tree_of variables.entry) (tree_of columns.entry)) }
     ensures wrong { IfOk result (λ r. IsReading (λ u. u) (declarations_reading (place_of variables.entry) (tree_of variables.entry) (place_of columns.entry) (tree_of columns.entry)) r.1) }
 {

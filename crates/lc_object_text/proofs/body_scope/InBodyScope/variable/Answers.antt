@@ -1,6 +1,6 @@
 use Rattle.std.proofs.Common.{sym, arith}
 use Rattle.lc_reading.specs.TableView.{listed}
-use Rattle.lc_object_text.proofs.Placed.{place_below}
+use Rattle.lc_reading.proofs.Places.{place_below}
 use Rattle.lc_object_text.proofs.body_scope.InBodyScope.variable.Goals as goal
 
 pub overflow_add-result : goal.overflow_add-result
