@@ -81,7 +81,7 @@ impl<'a, 'b> InBranch<'a, 'b> {
         columns: Columns<'a, 'b>,
         variables: NameTable<'a>,
     ) -> Result<InBranch<'a, 'b>, OutOfMemory>
-        ensures columns { IfOk result (λ names. columns_seen names.columns ≡ columns_seen columns.entry) }
+        ensures columns { IfOk result (λ names. (columns_seen names.columns).own ≡ (columns_seen columns.entry).own) }
         ensures variables { IfOk result (λ names. listed names.variables ≡ listed variables.entry) }
     {
         if variables.len() >= u32::MAX as usize {
