@@ -1,5 +1,5 @@
 -- A row has no fewer items than names.
-use Rattle.std.proofs.Common.{◌≡◌, ℕ, ◌+◌, ◌<◌, ◌≤◌, ◌^◌, Bool, true, false, cond, List, [], ◌++◌, length, length-append, Ok, Some, None, Option, IfSome, refl, ap, arith}
+use Rattle.std.proofs.Common.{◌≡◌, ℕ, ◌+◌, ◌<◌, ◌≤◌, ◌^◌, Bool, true, false, cond, List, [], length, length-append, Ok, Some, None, Option, IfSome, refl, ap, arith}
 use Rattle.lc_sexp.specs.Shown.{rest_of}
 use Rattle.lc_sexp.specs.Trees.{Tree, Trees, atom, list, none, ◌▸◌, item_count, item_count_of_all}
 use Rattle.lc_sexp.specs.declared.cursor.Cursor.{Cursor}

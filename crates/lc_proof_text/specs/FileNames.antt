@@ -1,6 +1,6 @@
 -- The names that a formula file declares, and how they are read in it.
 use Rattle.std.specs.Prelude.{ℕ, Bool, true, false, List, [], Option, Some, None, if◌then◌else◌, codes}
-use Rattle.lc_sexp.specs.Trees.{Tree, Trees, atom, list, ◌▸◌}
+use Rattle.lc_sexp.specs.Trees.{Tree, atom, list, ◌▸◌}
 use Rattle.lc_text.specs.Names.{Names}
 use Rattle.lc_text.specs.declared.scope.ColumnUse.{ColumnUse}
 use Rattle.lc_text.specs.declared.scope.ColumnUse.TheVariants.{Usable, Undeclared}
@@ -9,7 +9,7 @@ use Rattle.lc_text.specs.declared.scope.Extra.TheVariants.{NumberedVariables}
 use Rattle.lc_reading.specs.Listed.{names_among, place_of}
 use Rattle.lc_reading.specs.TableView.{listed}
 use Rattle.lc_reading.specs.Words.{is}
-use Rattle.lc_proof_text.specs.declared.names.Declared.{Declared as SeenDeclared}
+use Rattle.lc_proof_text.specs.declared.declared.Declared.{Declared as SeenDeclared}
 
 -- the names of variables and of columns, as listed
 pub record Declared : Type 0 where

@@ -16,7 +16,8 @@ ghost use Rattle.lc_proof_text.specs.Files.{seen_claim, claim_in, AreEntered, se
 ghost use Rattle.lc_proof_text.specs.Proofs.{proof_reading};
 
 use crate::claim::{ClaimTrees, FormulaFile, entered};
-use crate::names::{Declared, InClaim, InProof, read_declarations};
+use crate::declared::Declared;
+use crate::names::{InClaim, InProof, read_declarations};
 use crate::proof::read_proof;
 use lc_base::Fault;
 use lc_kernel::Proof;

@@ -1,4 +1,4 @@
-ghost use Rattle.std.specs.Prelude.{◌≡◌, ◌<◌, ◌^◌, Some, None, IfOk, IfSome, codes, [], length};
+ghost use Rattle.std.specs.Prelude.{◌≡◌, ◌<◌, ◌^◌, Some, None, IfOk, IfSome, codes, []};
 ghost use Rattle.lc_sexp.specs.Trees.{item_count};
 ghost use Rattle.lc_reading.specs.Parts.{tree_of, place_of};
 ghost use Rattle.lc_reading.specs.Results.{IsReading};
@@ -6,6 +6,7 @@ ghost use Rattle.lc_reading.specs.TableView.{listed};
 ghost use Rattle.lc_proof_text.specs.FileNames.{column_at, names_behind, declared_by, declared_of};
 ghost use Rattle.lc_proof_text.specs.Files.{section_reading, declarations_reading};
 
+use crate::declared::Declared;
 use lc_base::{ColId, OutOfMemory};
 use lc_reading::{NameTable, Part, ReadFault, also, behind_word, read_names};
 use lc_text::{ColumnUse, Extra, Scope};
@@ -13,24 +14,6 @@ use std::alloc::Global;
 
 /// The most columns that a formula file declares.
 const COLUMN_LIMIT: u64 = 64;
-
-/// The names that a formula file declares.
-pub(crate) struct Declared<'a> {
-    pub(crate) variables: NameTable<'a>,
-    pub(crate) columns: NameTable<'a>,
-    ghost few_variables: { length (listed variables) < 2 ^ 32 },
-    ghost few_columns: { length (listed columns) < 2 ^ 32 },
-}
-
-// Written out and not derived, so that a place where it is let go has one call.
-impl Drop for Declared<'_> {
-    fn drop(self) {
-        let Declared {
-            variables: _,
-            columns: _,
-        } = self;
-    }
-}
 
 /// How names are read in the hypotheses and the goal.
 #[derive(Clone, Copy)]
