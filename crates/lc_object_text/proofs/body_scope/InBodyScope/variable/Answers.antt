@@ -7,3 +7,8 @@ pub overflow_add-result : goal.overflow_add-result
 overflow_add-result c =
     let b = c.args.self.now.body.now in
     omega (arith, place_below (listed b.variables) c.args.name.now c.in_ok-place.place (sym c.in_ok-place.ensures), b.few_variables)
+
+pub overflow_cast-result : goal.overflow_cast-result
+overflow_cast-result c =
+    let b = c.args.self.now.body.now in
+    omega (arith, place_below (listed b.variables) c.args.name.now c.in_ok-place.place (sym c.in_ok-place.ensures), b.few_variables)
