@@ -5,13 +5,13 @@ use Rattle.lc_sexp.specs.Parts.{fits, misshapen}
 use Rattle.lc_sexp.specs.TreeCode.{tree_count}
 use Rattle.lc_sexp.specs.Trees.{Tree, Trees, atom, list, none, ◌▸◌, item_count}
 use Rattle.lc_text.specs.Terms.{numbers_reading}
-use Rattle.lc_reading.proofs.Holding.{Holds, both_holds, anything}
+use Rattle.lc_reading.proofs.Holding.{Holds, both_holds, anything, weaker}
 use Rattle.lc_reading.specs.Readings.{fine, wrong, limited, both}
 use Rattle.lc_reading.specs.Words.{is}
 use Rattle.lc_reading.specs.declared.pass.Pass.TheVariants.{Shape}
 use Rattle.lc_object.specs.Syntax.{Column, Array}
 use Rattle.lc_object.specs.WellFormed.{numbers_from}
-use Rattle.lc_object_text.proofs.Holding.{weaker, limited_below, Each, placed_holds, each_counted, each_few}
+use Rattle.lc_object_text.proofs.Holding.{limited_below, Each, placed_holds, each_counted, each_few}
 use Rattle.lc_object_text.specs.Declaring.{kth_name_reading}
 use Rattle.lc_object_text.specs.ObjectNames.{Span, Declared, later, spans_from}
 use Rattle.lc_object_text.specs.Objects.{own_name_reading, column_of, column_reading, ArrayText, array_of, first_column, columns_reading, array_parts, array_reading, concretes_of, arrays_from}

@@ -1,13 +1,14 @@
 -- What is read of the bodies of an object: the operations that they are of, and their points.
 use Rattle.std.proofs.Common.{◌≡◌, ℕ, zero, suc, ◌+◌, ◌≤◌, ◌<◌, Bool, true, false, cond, List, [], ◌∷◌, ◌++◌, take, length, length-append, append_assoc, map, Option, Some, None, refl, sym, ap, ◌∙◌, subst, arith}
 use Rattle.std.proofs.Math.Seq.{take-append_seam}
+use Rattle.std.proofs.lemmas.Bool.{or_parts}
 use Rattle.std.proofs.lemmas.Bool.Decides.{nat_tests}
 use Rattle.std.proofs.lemmas.List.{length-map}
 use Rattle.std.specs.Prelude.{codes, option_map, slice_get, ◌&&◌, nat_le, nat_lt}
 use Rattle.std.specs.List.{list_any}
 use Rattle.lc_sexp.specs.TreeCode.{tree_count}
 use Rattle.lc_sexp.specs.Trees.{Tree, Trees, none, ◌▸◌}
-use Rattle.lc_reading.proofs.Holding.{Holds}
+use Rattle.lc_reading.proofs.Holding.{Holds, weaker}
 use Rattle.lc_reading.specs.Listed.{place_of, names_among}
 use Rattle.lc_reading.specs.Readings.{wrong}
 use Rattle.lc_reading.specs.Words.{is}
@@ -16,8 +17,7 @@ use Rattle.lc_object.specs.Syntax.{Operation, Point}
 use Rattle.lc_object.specs.WellFormed.{has_limits}
 use Rattle.lc_object_text.proofs.BodyHolds.{IsPointOf, IsPoint, IsBody, IsBodyAt, body_holds}
 use Rattle.lc_object_text.proofs.CodeHolds.{same_name}
-use Rattle.lc_object_text.proofs.Distinct.{neither_holds}
-use Rattle.lc_object_text.proofs.Holding.{weaker, Each, placed_holds, each_counted, each_form, AllForms, parts_of_all, some_forms, parts_counted}
+use Rattle.lc_object_text.proofs.Holding.{Each, placed_holds, each_counted, each_form, AllForms, parts_of_all, some_forms, parts_counted}
 use Rattle.lc_object_text.proofs.SignatureHolds.{IsSignature, IsOperation}
 use Rattle.lc_object_text.specs.ObjectNames.{Call, Declared, Body, first_text, within_first, later, call_of, call_or, call_at, name_or, points_in, body_of, bodies_from, bodies_due}
 use Rattle.lc_object_text.specs.Objects.{Signature, due_body_reading, ith_body_reading, bodies_reading, operations_from, points_of}
@@ -61,8 +61,8 @@ past_end (y ∷ before) = past_end before
 placed_at_seam : (before behind : List (List ℕ)) (w : List ℕ) → list_any (is w) before ≡ false → place_of (before ++ w ∷ behind) w ≡ Some (length before)
 placed_at_seam [] behind w new = ap (λ b. cond b (Some 0) (option_map suc (place_of behind w))) (same_name w)
 placed_at_seam (v ∷ before) behind w new =
-    ap (λ b. cond b (Some 0) (option_map suc (place_of (before ++ w ∷ behind) w))) (neither_holds (is w v) (list_any (is w) before) new).0
-    ∙ ap (option_map suc) (placed_at_seam before behind w (neither_holds (is w v) (list_any (is w) before) new).1)
+    ap (λ b. cond b (Some 0) (option_map suc (place_of (before ++ w ∷ behind) w))) (or_parts (is w v) (list_any (is w) before) new).0
+    ∙ ap (option_map suc) (placed_at_seam before behind w (or_parts (is w v) (list_any (is w) before) new).1)
 
 -- the operation of a body
 pub record IsOperationOf (b : Body) (o : Operation) : Type 0 where

@@ -8,7 +8,7 @@ use Rattle.lc_sexp.specs.Parts.{fits, form_fit}
 use Rattle.lc_sexp.specs.TreeCode.{tree_count}
 use Rattle.lc_sexp.specs.Trees.{Tree, Trees, atom, list, none, ◌▸◌, item_count}
 use Rattle.lc_text.proofs.ReadHolds.{Kept, OfUsable}
-use Rattle.lc_reading.proofs.Holding.{Holds, both_holds, if_holds, anything, and_true}
+use Rattle.lc_reading.proofs.Holding.{Holds, both_holds, if_holds, anything, and_true, weaker}
 use Rattle.lc_reading.proofs.Words.{is-true}
 use Rattle.lc_reading.specs.Listed.{place_of, names_among}
 use Rattle.lc_reading.specs.Naming.{use_reading, known}
@@ -20,8 +20,8 @@ use Rattle.lc_text.specs.declared.scope.ColumnUse.TheVariants.{Misplaced, Hidden
 use Rattle.lc_object.specs.Syntax.{Point}
 use Rattle.lc_object.specs.WellFormed.{is_code_variable, is_code_term, is_code_formula, are_code_formulas}
 use Rattle.lc_object_text.proofs.CodeHolds.{IsTerm, NoColumn, IsFormula, AreFormulas, Scope, Fits, instruction_holds}
-use Rattle.lc_object_text.proofs.Holding.{weaker, limited_below, Each, placed_holds, form_holds, names_hold}
-use Rattle.lc_object_text.proofs.Placed.{place_below}
+use Rattle.lc_object_text.proofs.Holding.{limited_below, Each, placed_holds, form_holds, names_hold}
+use Rattle.lc_reading.proofs.Places.{place_below}
 use Rattle.lc_object_text.specs.Declaring.{kth_name_reading, names_reading}
 use Rattle.lc_object_text.specs.Instructions.{instruction_reading}
 use Rattle.lc_object_text.specs.ObjectNames.{Declared, Body, text_in, first_text, items_within, within_first, later, column_use, variable_of, code_names, body_names}

@@ -1,6 +1,6 @@
 -- What an instruction that is read names is declared.
 use Rattle.std.proofs.Common.{◌≡◌, ℕ, suc, ◌+◌, ◌≤◌, ◌<◌, Bool, true, false, ◌||◌, List, [], ◌∷◌, ◌++◌, length, map, Option, Some, None, refl, sym, ap, ◌∙◌, subst, arith}
-use Rattle.std.proofs.lemmas.Bool.{true≢false}
+use Rattle.std.proofs.lemmas.Bool.{true≢false, or_parts}
 use Rattle.std.proofs.lemmas.Bool.Decides.{nat_tests}
 use Rattle.std.proofs.lemmas.List.Folds.{list_any-append}
 use Rattle.std.specs.Prelude.{nat_lt, nat_le, not, ◌==◌, codes, option_map}
@@ -13,7 +13,7 @@ use Rattle.lc_text.proofs.ReadHolds.{Kept, term_holds, formula_holds}
 use Rattle.lc_text.specs.Formulas.{formula_reading}
 use Rattle.lc_text.specs.Names.{Names}
 use Rattle.lc_text.specs.Terms.{pair, term_reading}
-use Rattle.lc_reading.proofs.Holding.{Holds, both_holds, ended_holds, if_holds, and_true}
+use Rattle.lc_reading.proofs.Holding.{Holds, weaker, and_holds, both_holds, ended_holds, if_holds, and_true}
 use Rattle.lc_reading.specs.Listed.{declared_by}
 use Rattle.lc_reading.specs.Readings.{Reading, fine, wrong}
 use Rattle.lc_reading.specs.Rows.{each_reading, declared_reading, first_name}
@@ -21,8 +21,8 @@ use Rattle.lc_reading.specs.Words.{is, is_long}
 use Rattle.lc_reading.specs.declared.pass.Pass.TheVariants.{Shape, Bound}
 use Rattle.lc_object.specs.Syntax.{Instr, Load, Store, Cas, Set, If, Return}
 use Rattle.lc_object.specs.WellFormed.{is_code_term, are_code_terms, is_code_formula, are_code_formulas, are_distinct}
-use Rattle.lc_object_text.proofs.Distinct.{is_between, neither_holds}
-use Rattle.lc_object_text.proofs.Holding.{Counted, weaker, and_holds, counted_holds, row_holds, behind_holds}
+use Rattle.lc_object_text.proofs.Distinct.{is_between}
+use Rattle.lc_object_text.proofs.Holding.{Counted, counted_holds, row_holds, behind_holds}
 use Rattle.lc_object_text.specs.Cells.{found, array_reading, label_reading, row_width, written, target_reading, targets_reading, values_reading, assignment_reading, assignments_reading}
 use Rattle.lc_object_text.specs.CodeNames.{CodeNames}
 use Rattle.lc_object_text.specs.Counts.{count_reading}
@@ -165,7 +165,7 @@ listed_last before w =
     list_any-append (is w) before (w ∷ []) ∙ or_second (list_any (is w) before) (list_any (is w) (w ∷ [])) (ap (λ b. b || false) (same_name w))
 
 not_before : (before : List (List ℕ)) (v w : List ℕ) → list_any (is v) (before ++ w ∷ []) ≡ false → list_any (is v) before ≡ false
-not_before before v w h = (neither_holds (list_any (is v) before) (list_any (is v) (w ∷ [])) (sym (list_any-append (is v) before (w ∷ [])) ∙ h)).0
+not_before before v w h = (or_parts (list_any (is v) before) (list_any (is v) (w ∷ [])) (sym (list_any-append (is v) before (w ∷ [])) ∙ h)).0
 
 is_same : (m r : ℕ) → (m == r) ≡ true → m ≡ r
 is_same m r h = grind (arith, nat_tests)

@@ -1,6 +1,6 @@
 -- Numbers in a row that are distinct.
 use Rattle.std.proofs.Common.{◌≡◌, ℕ, zero, suc, ◌+◌, ◌≤◌, ◌<◌, Bool, true, false, ◌||◌, cond, List, [], ◌∷◌, length, refl, sym, ap, ◌∙◌, arith}
-use Rattle.std.proofs.lemmas.Bool.{and_parts}
+use Rattle.std.proofs.lemmas.Bool.{and_parts, or_parts}
 use Rattle.std.proofs.lemmas.Bool.Decides.{nat_tests}
 use Rattle.std.specs.Prelude.{not, ◌==◌, ◌&&◌, nat_le, nat_lt}
 use Rattle.std.specs.List.{list_all, list_any}
@@ -10,10 +10,6 @@ use Rattle.lc_object.specs.WellFormed.{are_distinct, numbers_from}
 -- numbers from `low` on, below the count
 abbrev pub is_between : ℕ → ℕ → ℕ → Bool
 is_between low count r = nat_le low r && nat_lt r count
-
-pub neither_holds : (a b : Bool) → (a || b) ≡ false → (a ≡ false) × (b ≡ false)
-neither_holds true b h = cc
-neither_holds false b h = (refl, h)
 
 -- a row without the first of its numbers that is this one
 abbrev without : ℕ → List ℕ → List ℕ
@@ -39,7 +35,7 @@ all_without p x (r ∷ rs) h = by_test (r == x) (and_parts (p r) (list_all p rs)
 
 any_without : (p : ℕ → Bool) (x : ℕ) (rs : List ℕ) → list_any p rs ≡ false → list_any p (without x rs) ≡ false
 any_without p x [] h = refl
-any_without p x (r ∷ rs) h = by_test (r == x) (neither_holds (p r) (list_any p rs) h) (λ g. any_without p x rs g) where
+any_without p x (r ∷ rs) h = by_test (r == x) (or_parts (p r) (list_any p rs) h) (λ g. any_without p x rs g) where
   by_test : (b : Bool) → (p r ≡ false) × (list_any p rs ≡ false) → (list_any p rs ≡ false → list_any p (without x rs) ≡ false) → list_any p (cond b rs (r ∷ without x rs)) ≡ false
   by_test true h f = h.1
   by_test false h f = ap (λ b. b || list_any p (without x rs)) h.0 ∙ f h.1
@@ -79,7 +75,7 @@ narrower : (low n : ℕ) (rs : List ℕ) → list_all (is_between low (low + suc
 narrower low n [] h g = refl
 narrower low n (r ∷ rs) h g =
     let a = and_parts (is_between low (low + suc n) r) (list_all (is_between low (low + suc n)) rs) h in
-    let b = neither_holds (r == low + n) (stands_in (low + n) rs) g in
+    let b = or_parts (r == low + n) (stands_in (low + n) rs) g in
     and_true (is_between low (low + n) r) (list_all (is_between low (low + n)) rs) (closer low n r a.0 b.0) (narrower low n rs a.1 b.1)
 
 -- there are no more distinct numbers than places for them

@@ -7,7 +7,7 @@ use Rattle.lc_base.specs.NameText.{is_name}
 use Rattle.lc_sexp.specs.Parts.{fits, misshapen, form_fit}
 use Rattle.lc_sexp.specs.TreeCode.{tree_count}
 use Rattle.lc_sexp.specs.Trees.{Tree, Trees, atom, list, none, ◌▸◌, item_count}
-use Rattle.lc_reading.proofs.Holding.{Holds, both_holds, ended_holds}
+use Rattle.lc_reading.proofs.Holding.{Holds, weaker, and_holds, both_holds, ended_holds}
 use Rattle.lc_reading.specs.Listed.{declared_by, names_among}
 use Rattle.lc_reading.specs.Naming.{name_reading}
 use Rattle.lc_reading.specs.Readings.{Reading, fine, flawed, wrong, mapped, limited, behind_reading}
@@ -19,14 +19,6 @@ use Rattle.lc_object_text.specs.Declaring.{kth_name_reading, listed_name_reading
 use Rattle.lc_object_text.specs.ObjectNames.{items_within, text_in}
 use Rattle.lc_object_text.specs.Rows.{cons, placed_reading}
 use Rattle.lc_object_text.specs.Sections.{before_others, parts_of_fit, parts_in, forms_in, some_forms_in}
-
-pub weaker : {X : Type 0} (P Q : X → Type 0) (r : Reading X) → ((x : X) → P x → Q x) → Holds P r → Holds Q r
-weaker P Q (fine x) f h = f x h
-weaker P Q (flawed e) f h = tt
-
-pub and_holds : {X : Type 0} (P Q : X → Type 0) (r : Reading X) → Holds P r → Holds Q r → Holds (λ x. P x × Q x) r
-and_holds P Q (fine x) h g = (h, g)
-and_holds P Q (flawed e) h g = tt
 
 -- what is below its limit
 below_of : (k limit : ℕ) → nat_le limit k ≡ false → k < limit

@@ -15,7 +15,7 @@ use Rattle.lc_object_text.proofs.BodyHolds.{first_local, variables_in, shifted}
 use Rattle.lc_object_text.proofs.CodeHolds.{AreTargets, Fits, IsLabel, IsRow}
 use Rattle.lc_object_text.proofs.Holding.{Counted}
 use Rattle.lc_object_text.proofs.Distinct.{is_between, few_between, not_false, as_many, not_among, one_after_other}
-use Rattle.lc_object_text.proofs.Placed.{place_below}
+use Rattle.lc_reading.proofs.Places.{place_below}
 use Rattle.lc_object_text.specs.CodeNames.{CodeNames}
 use Rattle.lc_object_text.specs.ObjectNames.{Span, Declared, Body, later, spans_from, row_at, body_names}
 use Rattle.lc_object.specs.Syntax.{Instr, Load, Store, Cas, Set, If, Return, Array, Operation, Point, Object}

@@ -7,14 +7,14 @@ use Rattle.lc_sexp.specs.Parts.{fits, form_fit}
 use Rattle.lc_sexp.specs.TreeCode.{tree_count}
 use Rattle.lc_sexp.specs.Trees.{Tree, Trees, none, ◌▸◌, item_count}
 use Rattle.lc_text.specs.Terms.{pair}
-use Rattle.lc_reading.proofs.Holding.{Holds, held, both_holds, ended_holds, anything}
+use Rattle.lc_reading.proofs.Holding.{Holds, held, both_holds, ended_holds, anything, weaker}
 use Rattle.lc_reading.specs.Naming.{name_reading}
 use Rattle.lc_reading.specs.Readings.{fine}
 use Rattle.lc_object.specs.Syntax.{Operation, Point, Object}
 use Rattle.lc_object.specs.WellFormed.{is_array, is_point, are_operations, are_apart, is_object}
 use Rattle.lc_object_text.proofs.ArrayHolds.{AreArrays, arrays_hold, concretes_counted, HaveSpans, spans_have}
 use Rattle.lc_object_text.proofs.BodiesHold.{AreBodies, bodies_hold, AreOperationsOf, ArePoints, bodies_fit}
-use Rattle.lc_object_text.proofs.Holding.{weaker, each_counted, each_few, each_form, parts_of_all, some_forms, parts_counted}
+use Rattle.lc_object_text.proofs.Holding.{each_counted, each_few, each_form, parts_of_all, some_forms, parts_counted}
 use Rattle.lc_object_text.proofs.ObjectChecks.{BodiesAre, is_at_most, arrays_are, apart, bodies_are}
 use Rattle.lc_object_text.proofs.SignatureHolds.{IsOperation, AreOperations, columns_behind, IsSpecification, specification_holds}
 use Rattle.lc_object_text.specs.ObjectNames.{Declared, Body, Call, first_text, later, call_of, names_of_columns, parts_in_first, points_in, bodies_due, bodies_from, abstracts_in, arrays_in, operations_in, spans_from, declared_in, declared_in_sections}

@@ -1,5 +1,5 @@
 -- Names that stand before a place.
-use Rattle.std.proofs.Common.{◌≡◌, ℕ, suc, zero, ◌<◌, Bool, true, false, List, [], ◌∷◌, Option, Some, None, take, length, refl, sym, ap, ◌∙◌, cond, arith}
+use Rattle.std.proofs.Common.{◌≡◌, ℕ, suc, zero, Bool, true, false, List, [], ◌∷◌, Option, Some, None, take, refl, sym, ap, ◌∙◌, cond, arith}
 use Rattle.std.specs.Prelude.{option_map, ◌||◌, nat_lt}
 use Rattle.std.specs.List.{list_any}
 use Rattle.std.proofs.lemmas.Bool.Decides.{nat_tests}
@@ -38,13 +38,3 @@ not_placed vs w k e = sym (stands_before vs w k ∙ ap (is_before k) e)
 
 pub placed : (vs : List (List ℕ)) (w : List ℕ) (k p : ℕ) → place_of vs w ≡ Some p → nat_lt p k ≡ list_any (is w) (take k vs)
 placed vs w k p e = sym (stands_before vs w k ∙ ap (is_before k) e)
-
--- a name has a place below the number of names
-below : (here : Bool) (o : Option ℕ) (n p : ℕ) → ((q : ℕ) → o ≡ Some q → q < n) → cond here (Some 0) (option_map suc o) ≡ Some p → p < suc n
-below true o n p later_below e = let zero_is : 0 ≡ p = cc in omega arith
-below false None n p later_below e = cc
-below false (Some q) n p later_below e = let next : suc q ≡ p = cc in omega (arith, later_below q refl)
-
-pub place_below : (vs : List (List ℕ)) (w : List ℕ) (p : ℕ) → place_of vs w ≡ Some p → p < length vs
-place_below [] w p e = cc
-place_below (v ∷ vs) w p e = below (is w v) (place_of vs w) (length vs) p (λ q h. place_below vs w q h) e

@@ -7,13 +7,13 @@ use Rattle.lc_sexp.specs.Parts.{Fit, fits, misshapen, beyond, form_fit, integer_
 use Rattle.lc_sexp.specs.TreeCode.{tree_count}
 use Rattle.lc_sexp.specs.Trees.{Tree, Trees, atom, list, none, ◌▸◌, item_count}
 use Rattle.lc_text.specs.Terms.{pair}
-use Rattle.lc_reading.proofs.Holding.{Holds, both_holds, if_holds, anything}
+use Rattle.lc_reading.proofs.Holding.{Holds, both_holds, if_holds, anything, weaker, and_holds}
 use Rattle.lc_reading.specs.Listed.{names_among}
 use Rattle.lc_reading.specs.Naming.{name_reading}
 use Rattle.lc_reading.specs.Readings.{Reading, fine, flawed, wrong, limited}
 use Rattle.lc_reading.specs.Words.{is}
 use Rattle.lc_reading.specs.declared.pass.Pass.TheVariants.{Shape, Bound}
-use Rattle.lc_object_text.proofs.Holding.{weaker, and_holds, limited_below, Each, placed_holds, form_holds, IsName, text_of, kth_name_holds, names_hold, section_holds}
+use Rattle.lc_object_text.proofs.Holding.{limited_below, Each, placed_holds, form_holds, IsName, text_of, kth_name_holds, names_hold, section_holds}
 use Rattle.lc_object_text.specs.Declaring.{kth_name_reading, names_reading, section_reading}
 use Rattle.lc_object_text.specs.ObjectNames.{Declared, text_in, first_text, items_within, later, count_of_fit, call_of, call_or}
 use Rattle.lc_object_text.specs.Objects.{Signature, signature_of, has_minus, few_replies, replies_reading, call_reading, operation_name_reading, signature_parts, signature_reading, SpecificationText, specification_of, behind_own_name, abstracts_reading, signatures_reading, specification_parts, specification_reading}

@@ -62,7 +62,7 @@ fn read_locals(
     let names = Names {
         limit: LOCAL_LIMIT as u64,
         names: &scope.body.variables,
-        base: scope.body.arguments.len(),
+        base: scope.body.arguments.len() as u32,
     };
     match both(operation, read_names(alloc, &names, second)) {
         Ok((_, locals)) => Ok(locals),
@@ -168,7 +168,7 @@ pub fn read_bodies<B: ReadsBeside>(
     ensures { IsReading (λ bodies. map (body_shown B.meaning) bodies.items) (bodies_reading (declared_seen reader.now.declared.now) (B.reading reader.now.beside.now)
         object (number_of list.entry) (rest_of list.entry)) result }
 {
-    if list.len() < bodies_due(reader.declared.operations.len()) as usize {
+    if list.len() < bodies_due(reader.declared.operations.len()) {
         return Err(wrong(Pass::Shape, object));
     }
     read_placed(alloc, reader, list)

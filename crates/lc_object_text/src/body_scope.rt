@@ -1,4 +1,4 @@
-ghost use Rattle.std.specs.Prelude.{◌≡◌, option_map};
+ghost use Rattle.std.specs.Prelude.{◌≡◌, ◌<◌, ◌^◌, length, option_map};
 ghost use Rattle.lc_object_text.specs.DeclaredView.{spans_seen};
 ghost use Rattle.lc_object_text.specs.ObjectNames.{column_use, row_at};
 
@@ -17,24 +17,25 @@ pub struct InBody<'a, 'b> {
 }
 
 /// What the column at this place is to code, or of no place, where concrete ones stand between these places.
-fn column_use(first: u32, end: u32, is_system: bool, place: Option<u32>) -> ColumnUse
+fn column_use(first: u32, end: u32, is_system: bool, place: Option<usize>) -> ColumnUse
     ensures { result ≡ column_use first end is_system place }
 {
     match place {
-        Some(place) if first <= place && place < end => ColumnUse::Misplaced,
+        Some(place) if first as usize <= place && place < end as usize => ColumnUse::Misplaced,
         Some(_) => ColumnUse::Hidden,
         None if is_system => ColumnUse::Hidden,
         None => ColumnUse::Undeclared,
     }
 }
 
-fn row_at(spans: &[Span], place: Option<u32>) -> Option<Row>
+fn row_at(spans: &[Span], place: Option<usize>) -> Option<Row>
+    requires { length spans.now < 2 ^ 32 }
     ensures { option_map (λ row. (row.array.0, row.width)) result ≡ row_at (spans_seen spans.now) place }
 {
     let place = place?;
-    let span = spans.get(place as usize)?;
+    let span = spans.get(place)?;
     Some(Row {
-        array: ArrayId(place),
+        array: ArrayId(place as u32),
         width: span.width,
     })
 }
@@ -50,7 +51,7 @@ impl Scope for InBody<'_, '_> {
             return Some(1);
         }
         let place = self.body.variables.place(name)?;
-        Some(2 + place)
+        Some(2 + place as u32)
     }
 
     fn column(&self, name: &str) -> ColumnUse {
@@ -81,12 +82,13 @@ impl CodeScope for InBody<'_, '_> {
 
     fn target(&self, name: &str) -> Option<LocalId> {
         let place = self.body.locals.place(name)?;
-        Some(LocalId(2 + self.body.arguments.len() + place))
+        let variable = 2 + self.body.arguments.len() + place;
+        Some(LocalId(variable as u32))
     }
 
     fn label(&self, name: &str) -> Option<PointId> {
         let place = self.body.labels.place(name)?;
-        Some(PointId(self.body.first + place))
+        Some(PointId(self.body.first + place as u32))
     }
 
     fn replies(&self) -> Option<u64> {

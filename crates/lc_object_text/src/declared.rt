@@ -71,4 +71,5 @@ pub struct Declared<'a> {
     pub calls: Vec<Call<'a>>,
     pub points: NameTable<'a>,
     pub bodies: Vec<Body<'a>>,
+    ghost few_arrays: { length spans.items < 2 ^ 32 },
 }

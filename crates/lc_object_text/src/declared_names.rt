@@ -17,7 +17,17 @@ use lc_sexp::{Cursor, Misfit};
 use std::alloc::Global;
 
 /// So many variables an operation may have, the number of clients and the client not counted.
-const VARIABLE_LIMIT: u32 = 4_294_967_293;
+const VARIABLE_LIMIT: usize = 4_294_967_293;
+
+/// A count of names, whose places have 32 bits. More than that stand in no file, and are answered by `OutOfMemory`.
+fn short(count: usize) -> Result<u32, OutOfMemory>
+    ensures { IfOk result (λ n. n ≡ count) }
+{
+    match u32::try_from(count) {
+        Ok(count) => Ok(count),
+        Err(_) => Err(OutOfMemory),
+    }
+}
 
 /// The names with those that items declare.
 fn enter_names<'a>(names: NameTable<'a>, list: Cursor<'a>) -> Result<NameTable<'a>, OutOfMemory>
@@ -71,7 +81,7 @@ fn enter_array<'a>(arrays: Arrays<'a>, parts: Cursor<'a>) -> Result<Arrays<'a>, 
     } = arrays;
     let own = behind_first(parts);
     spans.push(Span {
-        first: columns.len(),
+        first: short(columns.len())?,
         width: own.len() as u64,
     })?;
     let names = names.enter(first_text(&parts))?;
@@ -179,14 +189,14 @@ fn find_call<'a, 'b>(operations: &'b Operations<'a>, name: &str) -> Option<&'b C
     ensures { call_found result ≡ call_named (listed operations.now.names) (calls_seen operations.now.calls.items) name.now }
 {
     let place = operations.names.place(name)?;
-    operations.calls.get(place as usize)
+    operations.calls.get(place)
 }
 
 /// The name of the operation of this number, if there is one; else no text.
-fn operation_name<'a>(operations: &Operations<'a>, number: u32) -> &'a str
+fn operation_name<'a>(operations: &Operations<'a>, number: usize) -> &'a str
     ensures { result.now ≡ name_at (listed operations.now.names) number }
 {
-    match operations.texts.get(number as usize) {
+    match operations.texts.get(number) {
         Some(name) => *name,
         None => "",
     }
@@ -222,7 +232,8 @@ fn body<'a>(
       labels = listed labels.entry;
     }) }
 {
-    if variables.len() >= VARIABLE_LIMIT || first.checked_add(labels.len()).is_none() {
+    let points = short(labels.len())?;
+    if variables.len() >= VARIABLE_LIMIT || first.checked_add(points).is_none() {
         return Err(OutOfMemory);
     }
     Ok(Body {
@@ -240,7 +251,7 @@ fn body<'a>(
 fn read_body<'a>(
     alloc: Global,
     operations: &Operations<'a>,
-    number: u32,
+    number: usize,
     first: u32,
     parts: Cursor<'a>,
 ) -> Result<Body<'a>, OutOfMemory>
@@ -271,7 +282,7 @@ struct Bodies<'a> {
 fn read_bodies<'a>(
     alloc: Global,
     operations: &Operations<'a>,
-    due: u32,
+    due: usize,
     mut list: Cursor<'a>,
 ) -> Result<Bodies<'a>, OutOfMemory>
     ensures bodies { IfOk result (λ b. bodies_seen b.bodies.items ≡ bodies_from (listed operations.now.names) (calls_seen operations.now.calls.items) 0 0 due (rest_of list.entry)) }
@@ -284,7 +295,7 @@ fn read_bodies<'a>(
         let Ok(_) = list.item() else {
             return Ok(Bodies { points, bodies });
         };
-        let first = points.len();
+        let first = short(points.len())?;
         let body = read_body(alloc, operations, number, first, parts)?;
         let behind_name = behind_first(parts);
         let point_items = behind_first(behind_name);
@@ -296,7 +307,7 @@ fn read_bodies<'a>(
 }
 
 /// How many bodies are due for so many operations.
-pub fn bodies_due(operations: u32) -> u32
+pub fn bodies_due(operations: usize) -> usize
     ensures { result ≡ N.bodies_due operations }
 {
     if operations == 0 { 1 } else { operations }
@@ -312,19 +323,19 @@ pub fn read_declarations<'a>(
     let nothing = NameTable::new(alloc);
     let abstract_items = items_in_first(sections.abstracts, "abstract");
     let first = enter_columns(nothing, abstract_items)?;
-    let abstracts = first.len();
+    let abstracts = short(first.len())?;
     let arrays = read_arrays(alloc, first, sections.arrays)?;
-    let auxiliaries = arrays.columns.len();
+    let auxiliaries = short(arrays.columns.len())?;
     let auxiliary_items = items_in_first(sections.auxiliaries, "aux");
     let Arrays {
         columns,
         names,
         spans,
     } = arrays;
+    short(spans.len())?;
     let all = enter_columns(columns, auxiliary_items)?;
     let operations = read_operations(alloc, sections.operations)?;
-    let count = operations.names.len();
-    let due = bodies_due(count);
+    let due = bodies_due(operations.names.len());
     let bodies = read_bodies(alloc, &operations, due, sections.bodies)?;
     Ok(Declared {
         columns: all,

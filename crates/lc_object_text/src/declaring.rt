@@ -25,7 +25,7 @@ fn stands_before(names: &NameTable<'_>, count: u64, text: &str) -> bool
 {
     match names.place(text) {
         None => false,
-        Some(first) => u64::from(first) < count,
+        Some(first) => (first as u64) < count,
     }
 }
 

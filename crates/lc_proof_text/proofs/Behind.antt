@@ -1,14 +1,14 @@
 -- What stands in a list behind its word, and one part alone.
-use Rattle.std.proofs.Common.{◌≡◌, ℕ, ◌+◌, List, [], Ok, Err, true, false, refl, sym, ap, ◌∙◌, subst}
+use Rattle.std.proofs.Common.{◌≡◌, ℕ, List, [], Ok, Err, true, false, refl, sym, subst}
 use Rattle.std.specs.Prelude.{Result}
 use Rattle.std.specs.Result.{IsErrAnd}
 use Rattle.lc_sexp.specs.Shown.{rest_of, number_of, owner_of}
-use Rattle.lc_sexp.specs.Trees.{Tree, Trees, atom, list, none, ◌▸◌, item_count, item_count_of_all}
+use Rattle.lc_sexp.specs.Trees.{Tree, Trees, atom, list, none, ◌▸◌}
 use Rattle.lc_sexp.specs.declared.cursor.Cursor.{Cursor}
 use Rattle.lc_sexp.specs.declared.misfit.Misfit.{Misfit}
 use Rattle.lc_sexp.specs.declared.misfit.Misfit.TheVariants.{Shape as Misshapen}
 use Rattle.lc_reading.proofs.Sections.{behind_reading-other, behind_reading-is}
-use Rattle.lc_reading.specs.Flaws.{at, misfit_flaw}
+use Rattle.lc_reading.specs.Flaws.{misfit_flaw}
 use Rattle.lc_reading.specs.Listed.{names_among}
 use Rattle.lc_reading.specs.Parts.{IsBehindWord, begins, tree_of, place_of}
 use Rattle.lc_reading.specs.Readings.{Reading, wrong, behind_reading}

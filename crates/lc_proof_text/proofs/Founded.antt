@@ -1,13 +1,13 @@
 -- What a formula file says is of the variables that it declares, and it has no more of them, with the steps of its proof, than items.
-use Rattle.std.proofs.Common.{◌≡◌, ℕ, zero, suc, ◌+◌, ◌≤◌, ◌<◌, Bool, true, false, cond, List, [], ◌∷◌, ◌++◌, length, Option, Some, None, refl, sym, ap, subst, arith, IfSome, length-append}
+use Rattle.std.proofs.Common.{◌≡◌, ℕ, zero, suc, ◌+◌, ◌≤◌, Bool, true, false, cond, List, [], ◌∷◌, length, Option, Some, None, refl, sym, ap, subst, arith, IfSome, length-append}
 use Rattle.std.proofs.lemmas.Bool.Decides.{nat_tests}
-use Rattle.std.specs.Prelude.{option_map, codes, nat_lt, IsTrue, Ok, Err, IfOk}
+use Rattle.std.specs.Prelude.{option_map, codes, nat_lt}
 use Rattle.lc_sexp.specs.Trees.{Tree, Trees, atom, list, none, ◌▸◌, item_count, item_count_of_all}
 use Rattle.lc_kernel.specs.Below.{all_below}
 use Rattle.lc_kernel.specs.Proofs as S
 use Rattle.lc_kernel.specs.Proofs.{size, size_of_all, proof, more}
 use Rattle.lc_reading.specs.Listed.{names_among, declared_by as declared_at, place_of}
-use Rattle.lc_reading.specs.Readings.{Reading, fine, wrong, both, ended, behind_reading}
+use Rattle.lc_reading.specs.Readings.{Reading, fine, wrong, both}
 use Rattle.lc_reading.specs.Words.{is}
 use Rattle.lc_reading.specs.declared.pass.Pass.TheVariants.{Shape}
 use Rattle.lc_text.specs.Names.{Names}
@@ -19,7 +19,7 @@ use Rattle.lc_text.proofs.Variables.{NamesIn, FormulaIn, FormulasIn, formula_in,
 use Rattle.lc_proof_text.specs.FileNames.{Declared, names_behind, declared_by, claim_names, proof_names}
 use Rattle.lc_proof_text.specs.Files.{Claim, claim_of, only, declarations_reading, hypotheses_reading, goal_reading, shown_reading, statement_reading, claim_reading, sections_reading, form_reading, file_reading}
 use Rattle.lc_proof_text.specs.Heads.{head_of, own_parts, proofs_due, later, is_met, is_full}
-use Rattle.lc_proof_text.specs.Proofs.{sum_reading, headed_reading, proof_reading, proofs_reading}
+use Rattle.lc_proof_text.specs.Proofs.{headed_reading, proof_reading, proofs_reading}
 use Rattle.lc_proof_text.specs.Steps.{multiples_reading, step_reading}
 use Rattle.lc_proof_text.specs.declared.head.Due.{Due}
 use Rattle.lc_proof_text.specs.declared.head.Head.{Head}

@@ -1,11 +1,11 @@
 -- What is left behind a step's own parts.
-use Rattle.std.proofs.Common.{◌≡◌, ℕ, ◌+◌, ◌≤◌, zero, suc, refl, sym, ap, ◌∙◌, arith}
-use Rattle.lc_sexp.specs.Trees.{Tree, Trees, none, ◌▸◌, item_count, item_count_of_all}
+use Rattle.std.proofs.Common.{◌≡◌, ℕ, ◌+◌, ◌≤◌, zero, suc, refl, ap, arith}
+use Rattle.lc_sexp.specs.Trees.{Trees, none, ◌▸◌, item_count, item_count_of_all}
 use Rattle.lc_sexp.specs.Shown.{rest_of, number_of}
 use Rattle.lc_sexp.specs.declared.cursor.Cursor.{Cursor}
 use Rattle.lc_text.specs.Names.{Names}
 use Rattle.lc_kernel.specs.Proofs as S
-use Rattle.lc_reading.specs.Readings.{Reading, fine}
+use Rattle.lc_reading.specs.Readings.{fine}
 use Rattle.lc_proof_text.specs.Own.{IsLeft, IsShort}
 use Rattle.lc_proof_text.specs.Proofs.{proofs_reading}
 use Rattle.lc_proof_text.specs.declared.head.Due.{Due}

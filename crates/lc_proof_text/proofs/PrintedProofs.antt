@@ -2,7 +2,7 @@
 use Rattle.std.proofs.Common.{◌≡◌, ℕ, ℤ, List, [], ◌∷◌, ◌++◌, refl, sym, ap, ap₂, ◌∙◌, append_assoc, append-nil}
 use Rattle.std.specs.Prelude.{codes}
 use Rattle.std.specs.Fmt.{signed_decimal}
-use Rattle.lc_sexp.specs.Trees.{Trees, none, ◌▸◌}
+use Rattle.lc_sexp.specs.Trees.{Trees}
 use Rattle.lc_sexp.specs.Printed.{printed_tree, printed_items, printed_others}
 use Rattle.lc_text.specs.Spelling.{Spelled}
 use Rattle.lc_text.proofs.PrintedTrees.{term_text, column_text, formula_text}

@@ -1,10 +1,8 @@
 -- What is printed of a proof reads back.
-use Rattle.std.proofs.Common.{◌≡◌, ℕ, ℤ, suc, ◌+◌, ◌≤◌, true, false, true≢false, List, [], ◌∷◌, refl, sym, ap, ap₂, ◌∙◌, arith}
+use Rattle.std.proofs.Common.{◌≡◌, ℕ, ℤ, true, true≢false, List, [], ◌∷◌, refl, ap, ap₂, ◌∙◌, arith}
 use Rattle.std.proofs.lemmas.Bool.{cond-true, cond-false}
-use Rattle.std.specs.Prelude.{codes}
-use Rattle.std.specs.Fmt.{signed_decimal}
 use Rattle.lc_sexp.specs.Parts.{fits_i64}
-use Rattle.lc_sexp.specs.Trees.{Tree, Trees, atom, list, none, ◌▸◌, item_count}
+use Rattle.lc_sexp.specs.Trees.{none}
 use Rattle.lc_reading.specs.Readings.{Reading, fine, mapped, both}
 use Rattle.lc_term.specs.Lists.{Every}
 use Rattle.lc_term.specs.Syntax.{Term, Column, Formula}
@@ -19,12 +17,11 @@ use Rattle.lc_kernel.specs.Proofs as S
 use Rattle.lc_kernel.specs.Proofs.{Step, Split, Cases, Push, Instantiate, Fresh, Cut, Written, Same, Affine, Trichotomy, Divide, Sum, Opposite, Open}
 use Rattle.lc_kernel.specs.Proofs.{Proof, Proofs, proof, more}
 use Rattle.lc_proof_text.specs.Heads.{later, is_met, is_full}
-use Rattle.lc_proof_text.specs.ProofTrees.{number_tree, multiple_trees, step_trees, proof_tree, proof_trees, due_behind, AreDue, StepReadsBack, ProofReadsBack, ProofsReadBack}
+use Rattle.lc_proof_text.specs.ProofTrees.{number_tree, multiple_trees, proof_tree, proof_trees, AreDue, ProofReadsBack, ProofsReadBack}
 use Rattle.lc_proof_text.specs.Proofs.{proof_reading, proofs_reading}
 use Rattle.lc_proof_text.specs.Steps as R
 use Rattle.lc_proof_text.specs.Steps.{multiples_reading}
 use Rattle.lc_proof_text.specs.declared.head.Due.{Due}
-use Rattle.lc_proof_text.specs.declared.head.Due.TheVariants.{Nothing}
 use Rattle.lc_proof_text.specs.declared.head.Head.TheVariants as H
 
 two_back : {X Y Z : Type 0} (f : X → Y → Z) (r : Reading X) (s : Reading Y) (x : X) (y : Y) → r ≡ fine x → s ≡ fine y → both f r s ≡ fine (f x y)

@@ -1,12 +1,12 @@
 -- The sections of a formula file together.
-use Rattle.std.proofs.Common.{◌≡◌, ℕ, ◌+◌, Ok, Err, refl, sym, ap, ◌∙◌, subst}
+use Rattle.std.proofs.Common.{◌≡◌, ℕ, ◌+◌, Ok, Err, refl}
 use Rattle.std.specs.Prelude.{Result}
 use Rattle.lc_sexp.specs.Shown.{rest_of, number_of, owner_of}
-use Rattle.lc_sexp.specs.Trees.{Tree, Trees, none, ◌▸◌, item_count, item_count_of_all}
+use Rattle.lc_sexp.specs.Trees.{Tree, Trees, ◌▸◌, item_count, item_count_of_all}
 use Rattle.lc_sexp.specs.declared.cursor.Cursor.{Cursor}
 use Rattle.lc_reading.proofs.Combined.{both_read, ended_read}
 use Rattle.lc_reading.specs.Parts.{IsBehind, tree_of, place_of}
-use Rattle.lc_reading.specs.Readings.{Reading, fine, flawed, both}
+use Rattle.lc_reading.specs.Readings.{Reading, both}
 use Rattle.lc_reading.specs.Results.{IsReading, both_results, also_results, ended_result}
 use Rattle.lc_reading.specs.declared.flaw.ReadFault.{ReadFault}
 use Rattle.lc_reading.specs.declared.flaw.ReadFault.TheVariants.{Flawed, OutOfMemory}

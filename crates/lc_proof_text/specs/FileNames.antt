@@ -1,13 +1,13 @@
 -- The names that a formula file declares, and how they are read in it.
 use Rattle.std.specs.Prelude.{ℕ, Bool, true, false, List, [], None, if◌then◌else◌, codes}
-use Rattle.lc_sexp.specs.Trees.{Tree, Trees, atom, list, ◌▸◌}
+use Rattle.lc_sexp.specs.Trees.{Tree, atom, list, ◌▸◌}
 use Rattle.lc_text.specs.Names.{Names, column_at}
 use Rattle.lc_text.specs.declared.scope.Extra.{Extra}
 use Rattle.lc_text.specs.declared.scope.Extra.TheVariants.{NumberedVariables}
 use Rattle.lc_reading.specs.Listed.{names_among, place_of}
 use Rattle.lc_reading.specs.TableView.{listed}
 use Rattle.lc_reading.specs.Words.{is}
-use Rattle.lc_proof_text.specs.declared.names.Declared.{Declared as SeenDeclared}
+use Rattle.lc_proof_text.specs.declared.declared.Declared.{Declared as SeenDeclared}
 
 -- the names of variables and of columns, as listed
 pub record Declared : Type 0 where

@@ -1,5 +1,5 @@
 -- The s-expression that is printed of a proof, and which proofs read back.
-use Rattle.std.specs.Prelude.{◌≡◌, ℕ, ℤ, true, false, codes, List, [], ◌∷◌}
+use Rattle.std.specs.Prelude.{◌≡◌, ℤ, true, false, codes, List, [], ◌∷◌}
 use Rattle.std.specs.Fmt.{signed_decimal}
 use Rattle.lc_sexp.specs.Trees.{Tree, Trees, atom, list, none, ◌▸◌}
 use Rattle.lc_sexp.specs.Parts.{fits_i64}

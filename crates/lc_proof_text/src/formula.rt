@@ -1,5 +1,6 @@
 ghost use Rattle.std.specs.Prelude.{◌≡◌, ◌+◌, ◌<◌, ◌^◌, IfOk, IsTrue, []};
 ghost use Rattle.lc_sexp.specs.Shown.{rest_of, number_of, owner_of};
+ghost use Rattle.lc_sexp.specs.Trees.{item_count, item_count_of_all};
 ghost use Rattle.lc_term.specs.Tables.{formula_in, formulas_in};
 ghost use Rattle.lc_term.specs.View.{formula_of};
 ghost use Rattle.lc_kernel.specs.Below.{all_below, formula_below};
@@ -15,7 +16,8 @@ ghost use Rattle.lc_proof_text.specs.Files.{seen_claim, claim_in, AreEntered, se
 ghost use Rattle.lc_proof_text.specs.Proofs.{proof_reading};
 
 use crate::claim::{ClaimTrees, FormulaFile, entered};
-use crate::names::{Declared, InClaim, InProof, read_declarations};
+use crate::declared::Declared;
+use crate::names::{InClaim, InProof, read_declarations};
 use crate::proof::read_proof;
 use lc_base::Fault;
 use lc_kernel::Proof;
@@ -104,7 +106,7 @@ fn read_claim(
     let statement = read_statement(alloc, declared, hypotheses, goal);
     let proof = read_shown(alloc, declared, proof);
     let ((hypotheses, goal), proof) = both(statement, proof)?;
-    let variables = declared.variables.len();
+    let variables = declared.variables.len() as u32;
     Ok(ClaimTrees {
         variables,
         hypotheses,
@@ -115,6 +117,7 @@ fn read_claim(
 
 /// The five sections, which are all that is left in a list.
 fn read_sections(alloc: Global, list: Cursor<'_>) -> Result<ClaimTrees, ReadFault>
+    requires { item_count_of_all (rest_of list) < 2 ^ 32 }
     ensures { IsReading seen_claim (sections_reading (owner_of list.entry) (number_of list.entry) (rest_of list.entry)) result }
 {
     let mut rest = list;
@@ -131,6 +134,7 @@ fn read_sections(alloc: Global, list: Cursor<'_>) -> Result<ClaimTrees, ReadFaul
 
 /// The form of a formula file.
 fn read_form(alloc: Global, part: Part<'_>) -> Result<ClaimTrees, ReadFault>
+    requires { item_count (tree_of part) < 2 ^ 32 }
     ensures { IsReading seen_claim (form_reading (place_of part.entry) (tree_of part.entry)) result }
 {
     let list = behind_word(part, "formula")?;
@@ -139,6 +143,7 @@ fn read_form(alloc: Global, part: Part<'_>) -> Result<ClaimTrees, ReadFault>
 
 /// The form of a formula file, which is all that is left in a list.
 fn read_file(alloc: Global, forms: Cursor<'_>) -> Result<ClaimTrees, ReadFault>
+    requires { item_count_of_all (rest_of forms) < 2 ^ 32 }
     ensures { IsReading seen_claim (only form_reading (owner_of forms.entry) (number_of forms.entry) (rest_of forms.entry)) result }
 {
     let (form, rest) = one(forms)?;

@@ -2,6 +2,7 @@
 #![tactic(auto)]
 
 mod claim;
+mod declared;
 mod formula;
 mod head;
 pub mod laws;

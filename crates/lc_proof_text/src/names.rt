@@ -1,33 +1,20 @@
-ghost use Rattle.std.specs.Prelude.{◌≡◌, Some, None, IfOk, codes, []};
+ghost use Rattle.std.specs.Prelude.{◌≡◌, ◌<◌, ◌^◌, Some, None, IfOk, IfSome, codes, []};
+ghost use Rattle.lc_sexp.specs.Trees.{item_count};
 ghost use Rattle.lc_reading.specs.Parts.{tree_of, place_of};
 ghost use Rattle.lc_reading.specs.Results.{IsReading};
 ghost use Rattle.lc_reading.specs.TableView.{listed};
+ghost use Rattle.lc_text.specs.Names.{column_at};
 ghost use Rattle.lc_proof_text.specs.FileNames.{names_behind, declared_by, declared_of};
 ghost use Rattle.lc_proof_text.specs.Files.{section_reading, declarations_reading};
 
-use lc_base::OutOfMemory;
+use crate::declared::Declared;
+use lc_base::{ColId, OutOfMemory};
 use lc_reading::{NameTable, Part, ReadFault, also, behind_word, read_names};
-use lc_text::{ColumnUse, Extra, Scope, column_at};
+use lc_text::{ColumnUse, Extra, Scope};
 use std::alloc::Global;
 
 /// The most columns that a formula file declares.
 const COLUMN_LIMIT: u64 = 64;
-
-/// The names that a formula file declares.
-pub(crate) struct Declared<'a> {
-    pub(crate) variables: NameTable<'a>,
-    pub(crate) columns: NameTable<'a>,
-}
-
-// Written out and not derived, so that a place where it is let go has one call.
-impl Drop for Declared<'_> {
-    fn drop(self) {
-        let Declared {
-            variables: _,
-            columns: _,
-        } = self;
-    }
-}
 
 /// How names are read in the hypotheses and the goal.
 #[derive(Clone, Copy)]
@@ -37,13 +24,24 @@ pub(crate) struct InClaim<'a, 'b>(pub(crate) &'b Declared<'a>);
 #[derive(Clone, Copy)]
 pub(crate) struct InProof<'a, 'b>(pub(crate) &'b Declared<'a>);
 
+fn column_at(place: Option<usize>) -> ColumnUse
+    requires { IfSome place (λ k. k < 2 ^ 32) }
+    ensures { result ≡ column_at place }
+{
+    match place {
+        Some(place) => ColumnUse::Usable(ColId(place as u32)),
+        None => ColumnUse::Undeclared,
+    }
+}
+
 impl Scope for InClaim<'_, '_> {
     ghost use Rattle.lc_proof_text.specs.FileNames.{claim_names, declared_of};
 
     ghost names = { λ scope. claim_names (declared_of scope.0.now) };
 
     fn variable(&self, name: &str) -> Option<u32> {
-        self.0.variables.place(name)
+        let place = self.0.variables.place(name)?;
+        Some(place as u32)
     }
 
     fn column(&self, name: &str) -> ColumnUse {
@@ -96,6 +94,8 @@ pub(crate) fn read_declarations<'a>(
     variables: Part<'a>,
     columns: Part<'a>,
 ) -> Result<(Declared<'a>, Result<(), ReadFault>), OutOfMemory>
+    requires variables { item_count (tree_of variables) < 2 ^ 32 }
+    requires columns { item_count (tree_of columns) < 2 ^ 32 }
     ensures names { IfOk result (λ r. declared_of r.0 ≡ declared_by (tree_of variables.entry) (tree_of columns.entry)) }
     ensures wrong { IfOk result (λ r. IsReading (λ u. u) (declarations_reading (place_of variables.entry) (tree_of variables.entry) (place_of columns.entry) (tree_of columns.entry)) r.1) }
 {

@@ -20,6 +20,14 @@ pub anything : {X : Type 0} (r : Reading X) → Holds (λ x. Unit {0}) r
 anything (fine x) = tt
 anything (flawed f) = tt
 
+pub weaker : {X : Type 0} (P Q : X → Type 0) (r : Reading X) → ((x : X) → P x → Q x) → Holds P r → Holds Q r
+weaker P Q (fine x) f h = f x h
+weaker P Q (flawed e) f h = tt
+
+pub and_holds : {X : Type 0} (P Q : X → Type 0) (r : Reading X) → Holds P r → Holds Q r → Holds (λ x. P x × Q x) r
+and_holds P Q (fine x) h g = (h, g)
+and_holds P Q (flawed e) h g = tt
+
 pub mapped_holds : {X Y : Type 0} (P : X → Type 0) (Q : Y → Type 0) (f : X → Y) (r : Reading X) → Holds P r → ((x : X) → P x → Q (f x)) → Holds Q (mapped f r)
 mapped_holds P Q f (fine x) h g = g x h
 mapped_holds P Q f (flawed e) h g = tt

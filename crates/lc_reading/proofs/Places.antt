@@ -1,5 +1,5 @@
 -- Names that are listed, and the places at which they stand first.
-use Rattle.std.proofs.Common.{◌≡◌, ℕ, suc, Bool, true, false, List, [], ◌∷◌, ◌++◌, Option, Some, None, refl, sym, ap, ◌∙◌, cond}
+use Rattle.std.proofs.Common.{◌≡◌, ℕ, suc, ◌<◌, Bool, true, false, List, [], ◌∷◌, ◌++◌, Option, Some, None, refl, sym, ap, ◌∙◌, cond, arith}
 use Rattle.std.specs.Borrow.{Bor}
 use Rattle.std.proofs.lemmas.List.{map-append, length-map}
 use Rattle.lc_reading.specs.Words.{names_in}
@@ -50,3 +50,13 @@ entered ns n w =
     ap (λ k. option_or (place_of (names_in ns) w) (cond (is w n.now) (Some k) None)) (sym (length-map ns (λ (m : Bor (List ℕ)). m.now)))
     ∙ sym (place_of_last (names_in ns) n.now w)
     ∙ ap (λ vs. place_of vs w) (sym (map-append (λ (m : Bor (List ℕ)). m.now) ns (n ∷ [])))
+
+below : (here : Bool) (o : Option ℕ) (n p : ℕ) → ((q : ℕ) → o ≡ Some q → q < n) → cond here (Some 0) (option_map suc o) ≡ Some p → p < suc n
+below true o n p later_below e = let zero_is : 0 ≡ p = cc in omega arith
+below false None n p later_below e = cc
+below false (Some q) n p later_below e = let next : suc q ≡ p = cc in omega (arith, later_below q refl)
+
+-- a place is below the count of names
+pub place_below : (vs : List (List ℕ)) (w : List ℕ) (p : ℕ) → place_of vs w ≡ Some p → p < length vs
+place_below [] w p e = cc
+place_below (v ∷ vs) w p e = below (is w v) (place_of vs w) (length vs) p (λ q h. place_below vs w q h) e

@@ -17,7 +17,7 @@ use lc_base::{NAME_LIMIT, Name, OutOfMemory, is_name};
 use lc_sexp::{Cursor, Item};
 
 /// The place of the name that an item is, among these.
-pub fn read_use(names: &NameTable<'_>, part: Part<'_>) -> Result<u32, ReadFault>
+pub fn read_use(names: &NameTable<'_>, part: Part<'_>) -> Result<usize, ReadFault>
     ensures { IsReading (λ k. k) (use_reading (listed names.now) (place_of part.entry) (tree_of part.entry)) result }
 {
     let atom = match part.item() {
@@ -35,10 +35,10 @@ pub fn read_use(names: &NameTable<'_>, part: Part<'_>) -> Result<u32, ReadFault>
 }
 
 /// Whether there are as many as there may be, if there is a limit.
-pub fn is_full(limit: Option<u64>, count: u32) -> bool
+pub fn is_full(limit: Option<u64>, count: usize) -> bool
     ensures { result ≡ is_full limit count }
 {
-    limit.is_some_and(|limit| limit <= u64::from(count))
+    limit.is_some_and(|limit| limit <= count as u64)
 }
 
 /// What is wrong in an item where a name is declared behind these, up to a limit of all.

@@ -12,14 +12,10 @@ use lc_base::OutOfMemory;
 use lc_sexp::Item;
 use std::alloc::Global;
 
-/// So many names a table takes, more than a file may have.
-const TABLE_LIMIT: usize = 4_294_967_295;
-
-/// Names in a row, and for each the place at which it stands first. There are fewer than 2^32 of them.
+/// Names in a row, and for each the place at which it stands first.
 pub struct NameTable<'a> {
     names: Vec<&'a str>,
-    places: IndexMap<&'a str, u32>,
-    ghost counted: { length names.items < 2 ^ 32 },
+    places: IndexMap<&'a str, usize>,
     ghost placed: { (w : List ℕ) → lookup (λ name. is w name.now) places.entries ≡ place_of (names_in names.items) w },
 }
 
@@ -34,9 +30,9 @@ impl Drop for NameTable<'_> {
 
 /// Notes the place of a name, unless it stands at one already.
 fn note_place<'a>(
-    places: &mut IndexMap<&'a str, u32>,
+    places: &mut IndexMap<&'a str, usize>,
     name: &'a str,
-    place: u32,
+    place: usize,
 ) -> Result<(), OutOfMemory>
     ensures { OnOk result ((w : List ℕ) →
         lookup (λ n. is w n.now) places.new.entries ≡ option_or (lookup (λ n. is w n.now) places.old.entries) (if is w name.now then Some place else None)) }
@@ -66,7 +62,7 @@ impl<'a> NameTable<'a> {
         }
     }
 
-    /// The names with one more behind them. `OutOfMemory` is answered also where the table has as many as it takes.
+    /// The names with one more behind them.
     pub fn enter(self, name: &'a str) -> Result<NameTable<'a>, OutOfMemory>
         ensures { IfOk result (λ names. listed names ≡ listed self.entry ++ name.now ∷ []) }
     {
@@ -74,11 +70,7 @@ impl<'a> NameTable<'a> {
             mut names,
             mut places,
         } = self;
-        let count = names.len();
-        if count >= TABLE_LIMIT {
-            return Err(OutOfMemory);
-        }
-        note_place(&mut places, name, count as u32)?;
+        note_place(&mut places, name, names.len())?;
         names.push(name)?;
         Ok(NameTable { names, places })
     }
@@ -122,14 +114,14 @@ impl<'a> NameTable<'a> {
     }
 
     /// How many names there are, each time that one stands there.
-    pub fn len(&self) -> u32
+    pub fn len(&self) -> usize
         ensures { result ≡ length (listed self.now) }
     {
-        self.names.len() as u32
+        self.names.len()
     }
 
     /// The place at which a name stands first.
-    pub fn place(&self, name: &str) -> Option<u32>
+    pub fn place(&self, name: &str) -> Option<usize>
         ensures { result ≡ place_of (listed self.now) name.now }
     {
         self.places.get(name).copied()

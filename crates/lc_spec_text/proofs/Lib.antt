@@ -1,5 +1,4 @@
 pub mod Counts
-pub mod FileAnswers
 pub mod Parts
 pub mod Places
 pub mod Named

@@ -2,11 +2,12 @@
 use Rattle.std.proofs.Common.{◌≡◌, inl, inr, ℕ, ◌+◌, Bool, true, false, ◌||◌, ◌&&◌, not, cond, List, [], ◌∷◌, ◌++◌, refl, sym, ◌∙◌, subst}
 use Rattle.std.specs.Prelude.{codes, bytes_eq, length, Some, None}
 use Rattle.std.specs.List.{list_any}
+use Rattle.std.proofs.lemmas.Bool.{or_parts}
 use Rattle.std.proofs.lemmas.Slice.Eq.{bytes_eq-Decides}
 use Rattle.lc_base.specs.NameText.{is_name}
 use Rattle.lc_sexp.specs.Trees.{Tree, Trees, atom, list, none, ◌▸◌, item_count}
 use Rattle.lc_term.specs.Lists.{IsIn}
-use Rattle.lc_reading.proofs.Holding.{Holds, anything, mapped_holds, both_holds, three_holds, limited_holds}
+use Rattle.lc_reading.proofs.Holding.{Holds, anything, weaker, mapped_holds, both_holds, three_holds, limited_holds}
 use Rattle.lc_reading.specs.Listed.{declared_by}
 use Rattle.lc_reading.specs.Naming.{is_full, within, name_reading}
 use Rattle.lc_reading.specs.Readings.{Reading, fine, flawed, wrong, mapped, behind_reading}
@@ -28,10 +29,6 @@ abbrev AreNew : List (List ℕ) → List Operation → Type 0
 AreNew before [] = Unit {0}
 AreNew before (o ∷ os) = IsNew before o.name × AreNew (before ++ o.name ∷ []) os
 
-not_or : (a b : Bool) → (a || b) ≡ false → (a ≡ false) × (b ≡ false)
-not_or true b e = absurd (cc)
-not_or false b e = (refl, e)
-
 both_false : (a b : Bool) → a ≡ false → b ≡ false → (a || b) ≡ false
 both_false true b e f = absurd (cc)
 both_false false b e f = f
@@ -51,7 +48,7 @@ module _ (before : List (List ℕ)) (n : ℕ) (w : List ℕ) where
 
   other : (taken : Bool) → (is_reserved w || list_any (is w) before) ≡ taken → Holds Declares (mapped (λ (u : Unit {0}). w) (cond taken (wrong Repeated n) (cond (is_full None (length before)) (wrong Bound n) (within n w tt))))
   other true e = tt
-  other false e = fitting (is_full None (length before)) (not_or (is_reserved w) (list_any (is w) before) e).1
+  other false e = fitting (is_full None (length before)) (or_parts (is_reserved w) (list_any (is w) before) e).1
 
   named : (name : Bool) → Holds Declares (mapped (λ (u : Unit {0}). w) (cond name
       (cond (is_reserved w || list_any (is w) before) (wrong Repeated n) (cond (is_full None (length before)) (wrong Bound n) (within n w tt))) (wrong Shape n)))
@@ -108,9 +105,9 @@ among : (v w : List ℕ) (before : List (List ℕ)) → IsIn v before → IsNew 
 among v w [] at new same = at
 among v w (x ∷ xs) (inl e) new same =
     let one : w ≡ x = sym ((bytes_eq-Decides v w).0 same) ∙ e in
-    let here : is w x ≡ false = (not_or (is w x) (list_any (is w) xs) new).0 in
+    let here : is w x ≡ false = (or_parts (is w x) (list_any (is w) xs) new).0 in
     let there : bytes_eq w x ≡ true = (bytes_eq-Decides w x).1 one in absurd (let no : true ≡ false = sym there ∙ here in cc)
-among v w (x ∷ xs) (inr at) new same = among v w xs at (not_or (is w x) (list_any (is w) xs) new).1 same
+among v w (x ∷ xs) (inr at) new same = among v w xs at (or_parts (is w x) (list_any (is w) xs) new).1 same
 
 in_front : {A : Type 0} (x : A) (xs ys : List A) → IsIn x xs → IsIn x (xs ++ ys)
 in_front x [] ys at = absurd at
@@ -141,10 +138,6 @@ differ before (o ∷ os) new =
     not_false (list_any (λ (p : Operation). bytes_eq o.name p.name) os) (names_differ os)
     (none_named o.name (before ++ o.name ∷ []) os (at_end o.name before) new.1) (differ (before ++ o.name ∷ []) os new.1)
 
-weaker : (r : Reading (List Operation)) → Holds (AreNew []) r → Holds (λ os. names_differ os ≡ true) r
-weaker (fine os) h = differ [] os h
-weaker (flawed f) h = tt
-
 -- names of operations that are read differ
 pub operations_differ : (columns : Columns) (m : ℕ) (ts : Trees) → Holds (λ os. names_differ os ≡ true) (declared_reading (operation_reading columns) second_name [] m ts)
-operations_differ columns m ts = weaker _ (operations_new columns [] m ts)
+operations_differ columns m ts = weaker (AreNew []) (λ os. names_differ os ≡ true) _ (λ os h. differ [] os h) (operations_new columns [] m ts)

@@ -12,7 +12,7 @@ use Rattle.lc_sexp.specs.Trees.{Tree, Trees, atom, list, none, ◌▸◌, item_c
 use Rattle.lc_term.specs.Places.{known, term_passes, column_passes, is_known, are_known}
 use Rattle.lc_term.specs.Syntax.{Term, Column, Formula, Formulas}
 use Rattle.lc_term.specs.Truth.{is_ground, are_ground}
-use Rattle.lc_reading.proofs.Holding.{Holds, held, anything, mapped_holds, both_holds, three_holds, ended_holds, limited_holds, if_holds, listed_holds, behind_holds, and_true, each_holds, counted_holds, declared_holds, declared_counts}
+use Rattle.lc_reading.proofs.Holding.{Holds, held, anything, weaker, and_holds, mapped_holds, both_holds, three_holds, ended_holds, limited_holds, if_holds, listed_holds, behind_holds, and_true, each_holds, counted_holds, declared_holds, declared_counts}
 use Rattle.lc_reading.specs.Listed.{place_of, declared_by}
 use Rattle.lc_reading.specs.Naming.{is_full, name_reading}
 use Rattle.lc_reading.specs.Readings.{Reading, fine, flawed, wrong, listed_reading}
@@ -307,11 +307,6 @@ columns_hold n (list none) = tt
 columns_hold n (list (list us ▸ ts)) = tt
 columns_hold n (list (atom w ▸ ts)) = columns_counted n w ts (is w (codes "abstract")) refl
 
--- two facts of what is read
-both_hold : {X : Type 0} (P Q R : X → Type 0) (r : Reading X) → Holds P r → Holds Q r → ((x : X) → P x → Q x → R x) → Holds R r
-both_hold P Q R (fine x) h g k = k x h g
-both_hold P Q R (flawed f) h g k = tt
-
 -- the whole
 abbrev pub IsResolved : (List ℕ × List S.Column) × List Operation → Type 0
 IsResolved p = are_resolved (length p.0.1) p.1 ≡ true
@@ -325,9 +320,10 @@ parts_hold others n m (t ▸ u ▸ o ▸ os) =
     let test = operation_is_resolved (length (columns_in u)) in
     three_holds (λ (w : List ℕ). Unit {0}) (λ ds. length ds ≡ length (columns_in u)) (λ os. are_resolved (length (columns_in u)) os ≡ true) IsResolved triple _ _ _
     (anything (name_reading None [] m t)) (columns_hold (m + item_count t) u)
-    (both_hold (λ os. list_all test os ≡ true) (λ os. names_differ os ≡ true) (λ os. are_resolved (length (columns_in u)) os ≡ true) _
+    (weaker (λ os. (list_all test os ≡ true) × (names_differ os ≡ true)) (λ os. are_resolved (length (columns_in u)) os ≡ true) _ (λ os h. and_true (list_all test os) (names_differ os) h.0 h.1)
+    (and_holds (λ os. list_all test os ≡ true) (λ os. names_differ os ≡ true) _
     (declared_holds test (operation_reading columns) second_name (operation_holds columns) [] (m + item_count t + item_count u) (o ▸ os))
-    (operations_differ columns (m + item_count t + item_count u) (o ▸ os)) (λ os h g. and_true (list_all test os) (names_differ os) h g))
+    (operations_differ columns (m + item_count t + item_count u) (o ▸ os))))
     (λ w ds os u e g. subst (λ n. are_resolved n os ≡ true) (sym e) g)
 
 -- what is read of the parts is resolved

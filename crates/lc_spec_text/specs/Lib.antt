@@ -4,4 +4,3 @@ pub mod Operations
 pub mod Specifications
 pub mod Seen
 pub mod ScopeView
-pub mod Files

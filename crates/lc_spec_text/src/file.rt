@@ -1,24 +1,27 @@
 ghost use Rattle.std.specs.Prelude.{◌≡◌};
 ghost use Rattle.lc_sexp.specs.Shown.{rest_of, number_of};
-ghost use Rattle.lc_spec_text.specs.Files.{IsAnswerOf, IsAnswerTo};
+ghost use Rattle.lc_reading.specs.Files.{IsAnswerTo};
+ghost use Rattle.lc_reading.specs.Results.{IsReading};
+ghost use Rattle.lc_seq.specs.TextView.{specification_of};
+ghost use Rattle.lc_spec_text.specs.Specifications.{first_reading};
 
 use crate::specification::read_specification;
-use lc_base::{Fault, Refusal};
-use lc_reading::{NameTable, next_part};
+use lc_base::Fault;
+use lc_reading::{NameTable, Pass, ReadFault, next_part, wrong};
 use lc_seq::TextSpec;
 use lc_sexp::{Cursor, Forms};
 use std::alloc::Global;
 
-/// What the first of these forms says, else the first refusal of the file.
-fn read_forms(alloc: Global, forms: Cursor<'_>) -> Result<TextSpec, Fault>
+/// What the first of the forms of a file says.
+fn read_forms(alloc: Global, forms: Cursor<'_>) -> Result<TextSpec, ReadFault>
     requires { number_of forms ≡ 0 }
-    ensures { IsAnswerOf (rest_of forms.entry) result }
+    ensures { IsReading specification_of (first_reading (rest_of forms.entry)) result }
 {
     let mut rest = forms;
     let Ok(form) = next_part(&mut rest) else {
-        return Err(Fault::Refused(Refusal::Shape(0)));
+        return Err(wrong(Pass::Shape, 0));
     };
-    Ok(read_specification(alloc, &NameTable::new(alloc), form)?)
+    read_specification(alloc, &NameTable::new(alloc), form)
 }
 
 /// The specification that the first form of a file is:
@@ -28,8 +31,9 @@ fn read_forms(alloc: Global, forms: Cursor<'_>) -> Result<TextSpec, Fault>
 /// file; else of `Shape`, `Unknown`, `Repeated` and `Bound`, in this order, the first for which an item is wrong, with
 /// the least such item. `OutOfMemory` says nothing of the file.
 pub fn spec_of(alloc: Global, bytes: &[u8]) -> Result<TextSpec, Fault>
-    ensures { IsAnswerTo bytes.now result }
+    ensures { IsAnswerTo specification_of first_reading bytes.now result }
 {
     let forms = Forms::read(alloc, bytes)?;
-    read_forms(alloc, forms.cursor())
+    let spec = read_forms(alloc, forms.cursor())?;
+    Ok(spec)
 }

@@ -37,7 +37,7 @@ fn read_branches(
 ) -> Result<Vec<Branch>, ReadFault>
     ensures { IsReading branches_of (each_reading (branch_reading (columns_seen columns.entry) (branch_names (columns_seen columns.entry).own (listed variables.entry)) count) (number_of list.entry) (rest_of list.entry)) result }
 {
-    let scope = InBranch::new(columns.own, variables)?;
+    let scope = InBranch::new(columns, variables)?;
     let branches = Branches {
         columns,
         scope: &scope,

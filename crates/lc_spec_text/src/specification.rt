@@ -49,7 +49,8 @@ fn read_specification_parts<'a>(
     next_part(&mut ahead)?;
     let name = read_name(None, &NameTable::new(alloc), name);
     let (own, columns) = read_columns(alloc, section)?;
-    let operations = read_operations(alloc, Columns { own: &own, others }, rest);
+    let declared = Columns::new(&own, others)?;
+    let operations = read_operations(alloc, declared, rest);
     both(both(name, columns), operations)
 }
 

@@ -29,7 +29,7 @@ fn read_written(columns: Columns<'_, '_>, part: Part<'_>) -> Result<ColId, ReadF
     if !is_name(name.as_bytes()) {
         return Err(wrong(Pass::Shape, atom.number()));
     }
-    match columns.own.place(name) {
+    match columns.place(name) {
         Some(_) if name.len() > NAME_LIMIT => Err(wrong(Pass::Bound, atom.number())),
         Some(place) => Ok(ColId(place)),
         None if is_system_column(name) || columns.others.contains(name) => {

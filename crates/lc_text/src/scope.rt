@@ -1,5 +1,4 @@
 ghost use Rattle.std.specs.Prelude.{◌≡◌};
-ghost use Rattle.lc_text.specs.Names.{column_at};
 
 use lc_base::ColId;
 
@@ -14,16 +13,6 @@ pub enum ColumnUse {
     Hidden,
     /// No column has this name. It is told as `Unknown` at the name.
     Undeclared,
-}
-
-/// The use of the column at this place of those that are declared.
-pub fn column_at(place: Option<u32>) -> ColumnUse
-    ensures { result ≡ column_at place }
-{
-    match place {
-        Some(place) => ColumnUse::Usable(ColId(place)),
-        None => ColumnUse::Undeclared,
-    }
 }
 
 /// What stands only at some places of files.

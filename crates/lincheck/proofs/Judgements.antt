@@ -13,13 +13,15 @@ use Rattle.lc_hist.specs.Judged.{IsJudged}
 use Rattle.lc_hist.specs.declared.event.Done.{Done}
 use Rattle.lc_hist.specs.declared.judging.JudgeFault as F
 use Rattle.lc_hist.specs.declared.judging.JudgeFault.TheVariants as V
-use Rattle.lc_spec_text.specs.Files as S
+use Rattle.lc_reading.specs.Files.{Says, IsFirstRefusal, IsAnswerTo}
 use Rattle.lc_seq.specs.Specification.{Specification}
 use Rattle.lc_seq.specs.TextStep.{text_step, TextFits, start_of}
 use Rattle.lc_seq.specs.declared.text_call.TextCall.{TextCall}
 use Rattle.lincheck.specs.Answers.{ToldFault}
 use Rattle.lincheck.specs.Judge.{IsLinearization, FailsFirst, Overflows, SaysSuch, IsJudgement, judgement_of, AnswersHistory, AnswersJudge, ToldJudgement}
-use Rattle.lc_spec_text.proofs.FileAnswers.{said_not_refused}
+use Rattle.lc_reading.proofs.Files.{says_not_refused}
+use Rattle.lc_seq.specs.TextView.{specification_of}
+use Rattle.lc_spec_text.specs.Specifications.{first_reading}
 use Rattle.lincheck.specs.CommandLine.{JudgeHistory}
 use Rattle.lincheck.specs.Execution.{IsUnread}
 use Rattle.lincheck.specs.Reading.{within_limit}
@@ -27,7 +29,7 @@ use Rattle.lincheck.specs.declared.answer.Answer.{Answer}
 use Rattle.lincheck.specs.declared.answer.Failure.{Failure}
 use Rattle.lincheck.specs.declared.judge.Judgement.{Judgement}
 use Rattle.lincheck.specs.declared.judge.Judgement.TheVariants.{Linearizable, Overflow}
-use Rattle.lincheck.proofs.Truncated.{fault_of_whole, reading_of_whole, either}
+use Rattle.lincheck.proofs.Truncated.{either, said_of_whole, refusal_of_whole}
 
 -- what is answered of the order that the text says makes the judgement
 judged : (spec : Specification) (bytes : List ℕ) (history : List Event) (order : List Entry) (result : Result (Unit {0}) F.JudgeFault) → SaysHistory spec.operations bytes history order
@@ -105,36 +107,17 @@ history_answered spec None bytes seen judgement text status read same is told = 
 history_answered spec (Some file) bytes seen judgement text status read same is told =
     (judgement, of_whole spec 16777217 file judgement refl (subst (λ b. IsJudgement spec b judgement) (same ∙ read) is), told)
 
-said_of_whole : (file : List ℕ) (spec : Specification) → S.Says (within_limit file) spec → S.Says file spec
-said_of_whole file spec says = (says.0, reading_of_whole 16777217 file says.0 refl says.1, says.2)
-
-refusal_of_whole : (file : List ℕ) (refusal : Refusal) → S.IsFirstRefusal (within_limit file) refusal → S.IsFirstRefusal file refusal
-refusal_of_whole file (Text offset) first = fault_of_whole 16777217 file offset refl first
-refusal_of_whole file (Shape n) first = (first.0, reading_of_whole 16777217 file first.0 refl first.1, first.2)
-refusal_of_whole file (Unknown n) first = (first.0, reading_of_whole 16777217 file first.0 refl first.1, first.2)
-refusal_of_whole file (Repeated n) first = (first.0, reading_of_whole 16777217 file first.0 refl first.1, first.2)
-refusal_of_whole file (Auxiliary n) first = (first.0, reading_of_whole 16777217 file first.0 refl first.1, first.2)
-refusal_of_whole file (Bound n) first = (first.0, reading_of_whole 16777217 file first.0 refl first.1, first.2)
-refusal_of_whole file (CertText n) first = (first.0, reading_of_whole 16777217 file first.0 refl first.1, first.2)
-refusal_of_whole file (CertShape n) first = (first.0, reading_of_whole 16777217 file first.0 refl first.1, first.2)
-refusal_of_whole file (Missing n) first = (first.0, reading_of_whole 16777217 file first.0 refl first.1, first.2)
-refusal_of_whole file (Extra n) first = (first.0, reading_of_whole 16777217 file first.0 refl first.1, first.2)
-refusal_of_whole file (Proof k n r) first = (first.0, reading_of_whole 16777217 file first.0 refl first.1, first.2)
-refusal_of_whole file (Large k n) first = (first.0, reading_of_whole 16777217 file first.0 refl first.1, first.2)
-refusal_of_whole file (HistoryShape n) first = (first.0, reading_of_whole 16777217 file first.0 refl first.1, first.2)
-refusal_of_whole file (Order k r) first = (first.0, reading_of_whole 16777217 file first.0 refl first.1, first.2)
-
 -- what is told of the history answers both files, where the development is read
 pub read_answered : (known history history' : Option (List ℕ)) (bytes seen : List ℕ) (spec : Specification) (text : List ℕ) (status : ℕ)
-    → IfSome known (λ file. bytes ≡ within_limit file) → seen ≡ bytes → S.Says seen spec → history' ≡ history → IfSome history' (λ file. AnswersHistory spec file text status)
+    → IfSome known (λ file. bytes ≡ within_limit file) → seen ≡ bytes → Says first_reading seen spec → history' ≡ history → IfSome history' (λ file. AnswersHistory spec file text status)
     → IfSome known (λ file. AnswersJudge file history text status)
 read_answered None history history' bytes seen spec text status read same says keeps answers = tt
 read_answered (Some file) history history' bytes seen spec text status read same says keeps answers =
-    inr (spec, said_of_whole file spec (subst (λ b. S.Says b spec) (same ∙ read) says), subst (λ h. IfSome h (λ f. AnswersHistory spec f text status)) keeps answers)
+    inr (spec, said_of_whole first_reading file spec (subst (λ b. Says first_reading b spec) (same ∙ read) says), subst (λ h. IfSome h (λ f. AnswersHistory spec f text status)) keeps answers)
 
 -- likewise where it may not be told
 pub read_answered_if : (known history history' : Option (List ℕ)) (bytes seen : List ℕ) (spec : Specification) (result : Result Answer Failure)
-    → IfSome known (λ file. bytes ≡ within_limit file) → seen ≡ bytes → S.Says seen spec → history' ≡ history
+    → IfSome known (λ file. bytes ≡ within_limit file) → seen ≡ bytes → Says first_reading seen spec → history' ≡ history
     → IfOk result (λ answer. IfSome history' (λ file. AnswersHistory spec file answer.text.items answer.status))
     → IfOk result (λ answer. IfSome known (λ file. AnswersJudge file history answer.text.items answer.status))
 read_answered_if known history history' bytes seen spec (Ok answer) read same says keeps answers =
@@ -143,11 +126,11 @@ read_answered_if known history history' bytes seen spec (Err failure) read same 
 
 -- what is told of the refusal of the development answers both files
 pub refused_answered : (known history : Option (List ℕ)) (bytes seen : List ℕ) (fault : Fault) (text : List ℕ) (status : ℕ)
-    → IfSome known (λ file. bytes ≡ within_limit file) → seen ≡ bytes → S.IsAnswerTo seen (Err fault) → ToldFault fault text status
+    → IfSome known (λ file. bytes ≡ within_limit file) → seen ≡ bytes → IsAnswerTo specification_of first_reading seen (Err fault) → ToldFault fault text status
     → IfSome known (λ file. AnswersJudge file history text status)
 refused_answered None history bytes seen fault text status read same is told = tt
 refused_answered (Some file) history bytes seen (Refused refusal) text status read same is told =
-    inl (refusal, refusal_of_whole file refusal (subst (λ b. S.IsFirstRefusal b refusal) (same ∙ read) is), told)
+    inl (refusal, refusal_of_whole first_reading file refusal (subst (λ b. IsFirstRefusal first_reading b refusal) (same ∙ read) is), told)
 refused_answered (Some file) history bytes seen OutOfMemory text status read same is told = absurd told
 
 -- where a file that is needed cannot be opened, and the development is read, there is no answer
@@ -158,10 +141,10 @@ read_unread CannotOpen bytes_at development history result opened none (inr (fil
 
 -- a development that is refused is read, and says nothing
 pub refused_unread : {T E : Type 0} (CannotOpen : List ℕ → Type 0) (bytes_at : List ℕ → Option (List ℕ)) (development history : List ℕ) (result : Result T E) (bytes seen : List ℕ) (fault : Fault)
-    (text : List ℕ) (status : ℕ) → (CannotOpen development → ⊥) → IfSome (bytes_at development) (λ file. bytes ≡ within_limit file) → seen ≡ bytes → S.IsAnswerTo seen (Err fault) → ToldFault fault text status
+    (text : List ℕ) (status : ℕ) → (CannotOpen development → ⊥) → IfSome (bytes_at development) (λ file. bytes ≡ within_limit file) → seen ≡ bytes → IsAnswerTo specification_of first_reading seen (Err fault) → ToldFault fault text status
     → IsUnread CannotOpen bytes_at (JudgeHistory development history) → IsErr result
 refused_unread CannotOpen bytes_at development history result bytes seen fault text status opened read same is told (inl closed) = absurd (opened closed)
 refused_unread CannotOpen bytes_at development history result bytes seen (Refused refusal) text status opened read same is told (inr (file, spec, known, says, closed)) =
     let whole : bytes ≡ within_limit file = subst (λ o. IfSome o (λ f. bytes ≡ within_limit f)) known read in
-    absurd (said_not_refused file spec refusal says (refusal_of_whole file refusal (subst (λ b. S.IsFirstRefusal b refusal) (same ∙ whole) is)))
+    absurd (says_not_refused first_reading file spec refusal says (refusal_of_whole first_reading file refusal (subst (λ b. IsFirstRefusal first_reading b refusal) (same ∙ whole) is)))
 refused_unread CannotOpen bytes_at development history result bytes seen OutOfMemory text status opened read same is told (inr unread) = absurd told

@@ -10,8 +10,9 @@ use Rattle.lc_hist.specs.JsonHistories.{SaysHistory, IsWrongItem}
 use Rattle.lc_hist.specs.Judged.{IsTold}
 use Rattle.lc_hist.specs.declared.judging.JudgeFault as F
 use Rattle.lc_hist.specs.declared.judging.JudgeFault.TheVariants as V
-use Rattle.lc_spec_text.proofs.FileAnswers.{said_not_refused, one_spec, one_refusal}
-use Rattle.lc_spec_text.specs.Files as S
+use Rattle.lc_reading.proofs.Files.{says_not_refused, says_one, refused_once}
+use Rattle.lc_reading.specs.Files.{Says}
+use Rattle.lc_spec_text.specs.Specifications.{first_reading}
 use Rattle.lc_seq.specs.Specification.{Specification}
 use Rattle.lc_seq.specs.TextStep.{text_step, TextFits, start_of}
 use Rattle.lincheck.specs.Answers.{ToldFault}
@@ -74,11 +75,11 @@ answered_once spec file text text' status status' (j, is, told) (k, is', told') 
 pub one_history_answer : (development history text text' : List ℕ) (status status' : ℕ) → AnswersJudge development (Some history) text status → AnswersJudge development (Some history) text' status'
     → (text ≡ text') × (status ≡ status')
 one_history_answer development history text text' status status' (inl (r, first, told)) (inl (s, first', told')) =
-    told_fault_once (Refused r) text text' status status' told (subst (λ t. ToldFault (Refused t) text' status') (sym (one_refusal development r s first first')) told')
-one_history_answer development history text text' status status' (inl (r, first, told)) (inr (spec, says, answers)) = absurd (said_not_refused development spec r says first)
-one_history_answer development history text text' status status' (inr (spec, says, answers)) (inl (r, first, told)) = absurd (said_not_refused development spec r says first)
+    told_fault_once (Refused r) text text' status status' told (subst (λ t. ToldFault (Refused t) text' status') (sym (refused_once first_reading development r s first first')) told')
+one_history_answer development history text text' status status' (inl (r, first, told)) (inr (spec, says, answers)) = absurd (says_not_refused first_reading development spec r says first)
+one_history_answer development history text text' status status' (inr (spec, says, answers)) (inl (r, first, told)) = absurd (says_not_refused first_reading development spec r says first)
 one_history_answer development history text text' status status' (inr (spec, says, answers)) (inr (spec', says', answers')) =
-    let same = one_spec development spec spec' says says' in
+    let same = says_one first_reading development spec spec' says says' in
     answered_once spec history text text' status status' answers (subst (λ z. AnswersHistory z history text' status') (sym same) answers')
 
 accepted_by : (spec : Specification) (file text : List ℕ) (events : List Event) (order : List Entry) → AnswersHistory spec file text 0 → SaysHistory spec.operations file events order → IsSpecified spec events
@@ -90,8 +91,8 @@ accepted_by spec file text events order (Err (Refused r), is, told) says = absur
 accepted_by spec file text events order (Err OutOfMemory, is, told) says = absurd told
 
 pub accepted_is_linearizable : (development history text : List ℕ) → AnswersJudge development (Some history) text 0 →
-    (spec : Specification) (events : List Event) (order : List Entry) → S.Says development spec → SaysHistory spec.operations history events order → IsSpecified spec events
+    (spec : Specification) (events : List Event) (order : List Entry) → Says first_reading development spec → SaysHistory spec.operations history events order → IsSpecified spec events
 accepted_is_linearizable development history text (inl (r, first, told)) spec events order says said = absurd (let e : 0 ≡ 1 = told.1 in cc)
 accepted_is_linearizable development history text (inr (spec', says', answers)) spec events order says said =
-    let same = one_spec development spec' spec says' says in
+    let same = says_one first_reading development spec' spec says' says in
     accepted_by spec history text events order (subst (λ z. AnswersHistory z history text 0) same answers) said

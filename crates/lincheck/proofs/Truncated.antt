@@ -4,6 +4,10 @@ use Rattle.std.proofs.lemmas.List.{take_all, length-take}
 use Rattle.lc_sexp.specs.Reads.{ReadsAs, IsFirstFault, text_of, is_wrong_at, is_wrong, open_count}
 use Rattle.lc_sexp.specs.Text.{uncommented}
 use Rattle.lc_sexp.specs.Trees.{Trees}
+use Rattle.lc_base.specs.declared.refusal.Refusal.{Refusal}
+use Rattle.lc_reading.specs.Files.{Says, IsFirstRefusal}
+use Rattle.lc_reading.specs.Readings.{Reading}
+use Rattle.lincheck.specs.Reading.{within_limit}
 
 take-take : (k n : ℕ) (l : List ℕ) → k ≤ n → take k (take n l) ≡ take k l
 take-take zero n l h = refl
@@ -79,7 +83,7 @@ within bytes offset long fault = elim (either 16777216 offset) [
 ]
 
 -- the first fault of the beginning is that of the file
-pub fault_of_whole : (n : ℕ) (bytes : List ℕ) (offset : ℕ) → n ≡ 16777217 → IsFirstFault (take n bytes) offset → IsFirstFault bytes offset
+fault_of_whole : (n : ℕ) (bytes : List ℕ) (offset : ℕ) → n ≡ 16777217 → IsFirstFault (take n bytes) offset → IsFirstFault bytes offset
 fault_of_whole n bytes offset e fault = elim (either (length bytes) n) [
   | inl h ↦ subst (λ l. IsFirstFault l offset) (take_all n bytes (omega arith)) fault
   | inr h ↦
@@ -93,7 +97,15 @@ fault_of_whole n bytes offset e fault = elim (either (length bytes) n) [
 ]
 
 -- what the beginning reads as is what the file reads as
-pub reading_of_whole : (n : ℕ) (bytes : List ℕ) (trees : Trees) → n ≡ 16777217 → ReadsAs (take n bytes) trees → ReadsAs bytes trees
+reading_of_whole : (n : ℕ) (bytes : List ℕ) (trees : Trees) → n ≡ 16777217 → ReadsAs (take n bytes) trees → ReadsAs bytes trees
 reading_of_whole n bytes trees e reads =
     let short : length bytes ≤ n = omega (arith, length-take n bytes, reads.size) in
     subst (λ l. ReadsAs l trees) (take_all n bytes short) reads
+
+-- the file says what its beginning says, and has its first refusal
+pub said_of_whole : {X : Type 0} (read : Trees → Reading X) (file : List ℕ) (x : X) → Says read (within_limit file) x → Says read file x
+said_of_whole read file x (ts, reads, says) = (ts, reading_of_whole 16777217 file ts refl reads, says)
+
+pub refusal_of_whole : {X : Type 0} (read : Trees → Reading X) (file : List ℕ) (refusal : Refusal) → IsFirstRefusal read (within_limit file) refusal → IsFirstRefusal read file refusal
+refusal_of_whole read file refusal (inl (offset, is, fault)) = inl (offset, is, fault_of_whole 16777217 file offset refl fault)
+refusal_of_whole read file refusal (inr (ts, flaw, reads, refused, is)) = inr (ts, flaw, reading_of_whole 16777217 file ts refl reads, refused, is)

@@ -18,7 +18,7 @@ use Rattle.lc_term.specs.Tables.{formula_in, formulas_in}
 use Rattle.lincheck.specs.Answers.{Told}
 use Rattle.lincheck.specs.Formula.{AnswersFormula, IsVerdict, fault_of}
 use Rattle.lincheck.specs.Reading.{within_limit}
-use Rattle.lincheck.proofs.Truncated.{fault_of_whole, reading_of_whole}
+use Rattle.lincheck.proofs.Truncated.{said_of_whole, refusal_of_whole}
 
 -- what the kernel answers of a goal and a proof
 abbrev Answered : FormulaFile → Result (Unit {0}) ProofFault → Type 0
@@ -46,18 +46,11 @@ pub not_read : (bytes : List ℕ) (fault : Fault) → IsAnswerTo claim_in file_r
 not_read bytes (Refused refusal) first = inl first
 not_read bytes OutOfMemory h = tt
 
-said_of_whole : (file : List ℕ) (claim : Claim) → Says file_reading (within_limit file) claim → Says file_reading file claim
-said_of_whole file claim says = (says.0, reading_of_whole 16777217 file says.0 refl says.1, says.2)
-
-refusal_of_whole : (file : List ℕ) (refusal : Refusal) → IsFirstRefusal file_reading (within_limit file) refusal → IsFirstRefusal file_reading file refusal
-refusal_of_whole file refusal (inl (offset, is, fault)) = inl (offset, is, fault_of_whole 16777217 file offset refl fault)
-refusal_of_whole file refusal (inr (ts, flaw, reads, refused, is)) = inr (ts, flaw, reading_of_whole 16777217 file ts refl reads, refused, is)
-
 -- the verdict on what is read of a file is the verdict on the file
 pub verdict_of_whole : (file : List ℕ) (verdict : Result (Unit {0}) Fault) → IsVerdict (within_limit file) verdict → IsVerdict file verdict
-verdict_of_whole file (Ok u) (claim, says, proves) = (claim, said_of_whole file claim says, proves)
-verdict_of_whole file (Err (Refused refusal)) (inl first) = inl (refusal_of_whole file refusal first)
-verdict_of_whole file (Err (Refused refusal)) (inr (claim, step, flaw, says, fails, is)) = inr (claim, step, flaw, said_of_whole file claim says, fails, is)
+verdict_of_whole file (Ok u) (claim, says, proves) = (claim, said_of_whole file_reading file claim says, proves)
+verdict_of_whole file (Err (Refused refusal)) (inl first) = inl (refusal_of_whole file_reading file refusal first)
+verdict_of_whole file (Err (Refused refusal)) (inr (claim, step, flaw, says, fails, is)) = inr (claim, step, flaw, said_of_whole file_reading file claim says, fails, is)
 verdict_of_whole file (Err OutOfMemory) h = tt
 
 -- what is told of the verdict on what is read answers the file

@@ -1,7 +1,8 @@
 -- What the program leaves on standard output, and its exit status.
 use Rattle.std.specs.Prelude.{◌≡◌, ℕ, ◌⊎◌, List, Option, Some, IfSome}
 use Rattle.std.specs.Io.KnownBytes.{Keeps, Appends}
-use Rattle.lc_spec_text.specs.Files.{Says}
+use Rattle.lc_reading.specs.Files.{Says}
+use Rattle.lc_spec_text.specs.Specifications.{first_reading}
 use Rattle.lc_seq.specs.Specification.{Specification}
 use Rattle.lincheck.specs.CommandLine.{Task, CheckFormula, JudgeHistory}
 use Rattle.lincheck.specs.Formula.{AnswersFormula}
@@ -18,7 +19,7 @@ abbrev pub IsUnread : (List ℕ → Type 0) → (List ℕ → Option (List ℕ))
 IsUnread CannotOpen bytes_at (CheckFormula path) = CannotOpen path
 IsUnread CannotOpen bytes_at (JudgeHistory development history) =
     CannotOpen development
-    ⊎ ((file : List ℕ) × (spec : Specification) × (bytes_at development ≡ Some file) × Says file spec × CannotOpen history)
+    ⊎ ((file : List ℕ) × (spec : Specification) × (bytes_at development ≡ Some file) × Says first_reading file spec × CannotOpen history)
 
 -- The program ends: with a fault of reading, or for want of memory, and nothing is printed; or with an answer of which
 -- this holds, which is printed behind what stood on standard output, unless there is a fault of writing

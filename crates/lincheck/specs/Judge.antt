@@ -12,7 +12,8 @@ use Rattle.lc_hist.specs.Reason.{code_of}
 use Rattle.lc_hist.specs.declared.reason.Reason.{Reason}
 use Rattle.lc_hist.specs.declared.judging.JudgeFault as F
 use Rattle.lc_hist.specs.declared.judging.JudgeFault.TheVariants as V
-use Rattle.lc_spec_text.specs.Files.{Says, IsFirstRefusal}
+use Rattle.lc_reading.specs.Files.{Says, IsFirstRefusal}
+use Rattle.lc_spec_text.specs.Specifications.{first_reading}
 use Rattle.lc_seq.specs.Specification.{Specification}
 use Rattle.lc_seq.specs.TextStep.{text_step, TextFits, start_of}
 use Rattle.lincheck.specs.Answers.{ToldFault}
@@ -79,12 +80,12 @@ AnswersHistory spec file text status = (judgement : Result Judgement Fault) × I
 
 -- the development's file has a first refusal, and that is told
 abbrev pub AnswersRefused : List ℕ → List ℕ → ℕ → Type 0
-AnswersRefused development text status = (refusal : Refusal) × IsFirstRefusal development refusal × ToldFault (Refused refusal) text status
+AnswersRefused development text status = (refusal : Refusal) × IsFirstRefusal first_reading development refusal × ToldFault (Refused refusal) text status
 
 -- the first form of the development's file is a specification, by which the history's file is answered, where this is known
 abbrev pub AnswersRead : List ℕ → Option (List ℕ) → List ℕ → ℕ → Type 0
 AnswersRead development history text status =
-    (spec : Specification) × Says development spec × IfSome history (λ file. AnswersHistory spec file text status)
+    (spec : Specification) × Says first_reading development spec × IfSome history (λ file. AnswersHistory spec file text status)
 
 -- The answer to a development's file and a history's: a refusal of the development decides, whatever the other file has
 abbrev pub AnswersJudge : List ℕ → Option (List ℕ) → List ℕ → ℕ → Type 0

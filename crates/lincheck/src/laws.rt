@@ -4,7 +4,7 @@ ghost use Rattle.lc_proof_text.specs.Files.{Claim, file_reading};
 ghost use Rattle.lc_reading.specs.Files.{Says};
 ghost use Rattle.lc_hist.specs.History.{Event, Entry};
 ghost use Rattle.lc_hist.specs.JsonHistories.{SaysHistory};
-ghost use Rattle.lc_spec_text.specs.Files as S;
+ghost use Rattle.lc_spec_text.specs.Specifications.{first_reading};
 ghost use Rattle.lc_seq.specs.Specification.{Specification};
 ghost use Rattle.lincheck.specs.Formula.{AnswersFormula, IsTrueClaim};
 ghost use Rattle.lincheck.specs.Judge.{AnswersJudge, IsSpecified};
@@ -31,5 +31,5 @@ pub fn a_history_has_one_answer()
 /// linearizes it by the steps of the specification.
 pub fn what_is_accepted_is_linearizable()
     ensures { (development history text : List ℕ) → AnswersJudge development (Some history) text 0 →
-        (spec : Specification) (events : List Event) (order : List Entry) → S.Says development spec → SaysHistory spec.operations history events order → IsSpecified spec events }
+        (spec : Specification) (events : List Event) (order : List Entry) → Says first_reading development spec → SaysHistory spec.operations history events order → IsSpecified spec events }
 {}

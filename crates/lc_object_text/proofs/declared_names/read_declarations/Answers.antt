@@ -14,8 +14,8 @@ returns c =
     let all = c.in_ok-all.ensures.names ∙ ap₂ (λ xs ts. xs ++ names_of_columns ts) b c.items_in_first-auxiliary_items.ensures.rest in
     let names = c.in_ok-operations.ensures.names in
     let calls = c.in_ok-operations.ensures.calls in
-    let due = c.bodies_due-due.ensures ∙ ap bodies_due (c.len-count.ensures ∙ ap length names ∙ mapped_length first_text ops) in
+    let due = c.bodies_due-due.ensures ∙ ap bodies_due (c.len-4.ensures ∙ ap length names ∙ mapped_length first_text ops) in
     let rest = rest_of c.args.sections.now.bodies in
     let whole = ap₂ (λ ns cs. bodies_from ns cs 0 0 c.bodies_due-due.result rest) names calls ∙ ap (λ n. bodies_from (map first_text ops) (map call_of ops) 0 0 n rest) due in
-    same_declared all (c.len-abstracts.ensures ∙ ap length a) (c.len-auxiliaries.ensures ∙ ap length b) c.in_ok-arrays.ensures.names
+    same_declared all (c.in_ok-abstracts.ensures ∙ c.len.ensures ∙ ap length a) (c.in_ok-auxiliaries.ensures ∙ c.len-2.ensures ∙ ap length b) c.in_ok-arrays.ensures.names
     (c.in_ok-arrays.ensures.spans ∙ ap (λ k. spans_from k (arrays_in s)) (ap length a)) names calls (c.in_ok-bodies.ensures.points ∙ ap labels_of_bodies whole) (c.in_ok-bodies.ensures.bodies ∙ whole)

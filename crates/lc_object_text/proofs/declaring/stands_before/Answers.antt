@@ -1,5 +1,4 @@
 use Rattle.std.proofs.Common.{ap, sym, ◌∙◌}
-use Rattle.std.specs.Prelude.{nat_lt}
 use Rattle.lc_reading.specs.TableView.{listed}
 use Rattle.lc_object_text.proofs.Placed.{not_placed, placed}
 use Rattle.lc_object_text.proofs.declaring.stands_before.Goals as goal
@@ -8,5 +7,4 @@ pub returns-in-None : goal.returns-in-None
 returns-in-None c = not_placed (listed c.args.names.now) c.args.text.now c.args.count (sym c.place.ensures ∙ c.in-None.is)
 
 pub returns-in-Some : goal.returns-in-Some
-returns-in-Some c =
-    ap (λ p. nat_lt p c.args.count) c.from.ensures ∙ placed (listed c.args.names.now) c.args.text.now c.args.count c.in-Some.first (sym c.place.ensures ∙ c.in-Some.is)
+returns-in-Some c = placed (listed c.args.names.now) c.args.text.now c.args.count c.in-Some.first (sym c.place.ensures ∙ c.in-Some.is)

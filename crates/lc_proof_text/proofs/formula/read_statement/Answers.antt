@@ -3,7 +3,6 @@ use Rattle.lc_text.specs.Seen.{row_of}
 use Rattle.lc_text.specs.Terms.{pair}
 use Rattle.lc_reading.proofs.Combined.{both_read}
 use Rattle.lc_proof_text.proofs.formula.read_statement.Goals as goal
-use Rattle.std.proofs.Common.{sym, subst}
 
 pub returns : goal.returns
 returns c =

@@ -1,7 +1,6 @@
-use Rattle.std.proofs.Common.{◌≡◌, ℕ, ◌+◌, zero, false, refl, rules, sym, ap, ap₂, ◌∙◌, arith}
-use Rattle.std.specs.Prelude.{Result, Vec}
+use Rattle.std.proofs.Common.{◌≡◌, ℕ, ◌+◌, zero, false, refl, sym, ap, ap₂, ◌∙◌, arith}
+use Rattle.std.specs.Prelude.{Result}
 use Rattle.std.specs.Result.{IsErrAnd}
-use Rattle.std.specs.declared.alloc.Global.{Global}
 use Rattle.lc_sexp.specs.Trees.{Tree, Trees, ◌▸◌, item_count, item_count_of_all}
 use Rattle.lc_sexp.specs.Shown.{rest_of, number_of, owner_of}
 use Rattle.lc_sexp.specs.declared.cursor.Cursor.{Cursor}
@@ -10,11 +9,10 @@ use Rattle.lc_sexp.specs.declared.misfit.Misfit.TheVariants.{Shape as Misshapen}
 use Rattle.lc_text.specs.Names.{Names}
 use Rattle.lc_kernel.specs.Proofs as S
 use Rattle.lc_kernel.specs.Proofs.{more}
-use Rattle.lc_proof_text.specs.Own.{branches_of, IsShort}
-use Rattle.lc_kernel.specs.View.{step_of, proof_of}
-use Rattle.lc_kernel.specs.declared.proof.Step.{Step}
-use Rattle.lc_kernel.specs.declared.proof.Proof.{Proof as SeenProof, the_lemmas}
-use Rattle.lc_reading.specs.Results.{IsReading, both_results}
+use Rattle.lc_proof_text.specs.Own.{IsShort}
+use Rattle.lc_kernel.specs.View.{proof_of}
+use Rattle.lc_kernel.specs.declared.proof.Proof.{Proof as SeenProof}
+use Rattle.lc_reading.specs.Results.{IsReading}
 use Rattle.lc_reading.specs.declared.flaw.ReadFault.{ReadFault}
 use Rattle.lc_proof_text.specs.declared.head.Head.{Head}
 use Rattle.lc_reading.specs.declared.part.Part.{Part}
@@ -23,7 +21,7 @@ use Rattle.lc_reading.specs.Flaws.{misfit_flaw}
 use Rattle.lc_reading.specs.Readings.{both, wrong}
 use Rattle.lc_reading.specs.declared.flaw.ReadFault.TheVariants.{Flawed}
 use Rattle.lc_reading.specs.declared.pass.Pass.TheVariants.{Shape}
-use Rattle.lc_reading.proofs.Combined.{both_read, ok_arm, err_arm, headed_at}
+use Rattle.lc_reading.proofs.Combined.{headed_at}
 use Rattle.lc_reading.proofs.SoFar.{so_far_push}
 use Rattle.lc_proof_text.specs.Heads.{later, is_full, own_parts, proofs_due}
 use Rattle.lc_proof_text.specs.Proofs.{proof_reading, proofs_reading, with_proofs}

@@ -1,4 +1,4 @@
-use Rattle.std.proofs.Common.{◌≡◌, ◌+◌, ◌*◌, ◌≤◌, zero}
+use Rattle.std.proofs.Common.{◌+◌, ◌*◌, ◌≤◌, zero}
 use Rattle.lc_sexp.specs.Trees.{item_count, item_count_of_all}
 use Rattle.lc_sexp.specs.Shown.{rest_of, number_of}
 use Rattle.lc_kernel.specs.Proofs.{more}

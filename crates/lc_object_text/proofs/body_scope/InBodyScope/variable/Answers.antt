@@ -1,9 +1,14 @@
 use Rattle.std.proofs.Common.{sym, arith}
 use Rattle.lc_reading.specs.TableView.{listed}
-use Rattle.lc_object_text.proofs.Placed.{place_below}
+use Rattle.lc_reading.proofs.Places.{place_below}
 use Rattle.lc_object_text.proofs.body_scope.InBodyScope.variable.Goals as goal
 
 pub overflow_add-result : goal.overflow_add-result
 overflow_add-result c =
+    let b = c.args.self.now.body.now in
+    omega (arith, place_below (listed b.variables) c.args.name.now c.in_ok-place.place (sym c.in_ok-place.ensures), b.few_variables)
+
+pub overflow_cast-result : goal.overflow_cast-result
+overflow_cast-result c =
     let b = c.args.self.now.body.now in
     omega (arith, place_below (listed b.variables) c.args.name.now c.in_ok-place.place (sym c.in_ok-place.ensures), b.few_variables)
