@@ -156,6 +156,7 @@ impl Terms {
     }
 
     #[cycle(replaced_part)]
+    #[tactic(auto, using(crate::proofs::NodeReplacement::term_at, crate::proofs::Copied::term_stands))]
     fn replaced_term(
         &mut self,
         alloc: Global,
@@ -183,6 +184,7 @@ impl Terms {
     }
 
     #[cycle(replaced_part)]
+    #[tactic(auto, using(crate::proofs::NodeReplacement::column_at, crate::proofs::Copied::column_stands))]
     fn replaced_column(
         &mut self,
         alloc: Global,
@@ -211,6 +213,7 @@ impl Terms {
 
     // What stands at a number, replaced, which is not replaced yet.
     #[cycle(replaced_part)]
+    #[tactic(auto, using(crate::proofs::Later::kept_on, crate::proofs::Later::keeps_itself, crate::proofs::Later::is_term_later, crate::proofs::Later::is_column_later, crate::proofs::Later::is_term_still, crate::proofs::NodeReplacement::part_there))]
     fn replaced_part(
         &mut self,
         alloc: Global,
@@ -228,7 +231,8 @@ impl Terms {
         match self.part_node(part) {
             TermNode::Variable(number) => Ok(self.variable_below(alloc, put, number, depth)?.0),
             TermNode::Base(column) => Ok(self.column_below(alloc, put, column, depth)?.0),
-            TermNode::Number(_) | TermNode::Bound(_) | TermNode::Affine(_, _) => Ok(part),
+            TermNode::Bound(_) => Ok(part),
+            TermNode::Number(_) | TermNode::Affine(_, _) => Ok(part),
             TermNode::Add(left, right) => {
                 let left = self.replaced_term(alloc, put, done, left, depth)?;
                 let right = self.replaced_term(alloc, put, done, right, depth)?;
@@ -258,6 +262,7 @@ impl Terms {
     }
 
     #[cycle(replaced_formula)]
+    #[tactic(auto, using(crate::proofs::Remembered::formula_remembered, crate::proofs::Remembered::formula_kept_in_mind))]
     fn replaced_formula(
         &mut self,
         alloc: Global,
@@ -286,6 +291,7 @@ impl Terms {
 
     // A formula, replaced, which is not replaced yet.
     #[cycle(replaced_formula)]
+    #[tactic(auto, using(crate::proofs::Later::kept_on, crate::proofs::Later::keeps_itself, crate::proofs::Later::is_term_later, crate::proofs::Later::is_term_still, crate::proofs::Later::is_formula_later, crate::proofs::Later::is_formula_still))]
     fn replaced_formula_node(
         &mut self,
         alloc: Global,
@@ -348,6 +354,7 @@ impl Terms {
     }
 
     #[cycle(replaced_formula)]
+    #[tactic(auto, using(crate::proofs::Later::kept_on, crate::proofs::Later::keeps_itself))]
     fn replaced_formulas(
         &mut self,
         alloc: Global,
