@@ -1,5 +1,5 @@
 -- What is remembered of a replacement stays so in later tables, and is added to.
-use Rattle.std.proofs.Common.{◌≡◌, ℕ, ◌+◌, ◌<◌, Bool, true, false, ◌==◌, ◌&&◌, List, [], ◌∷◌, ◌++◌, length, map, take, get_or, slice_get, Some, cond, refl, sym, ap, ◌∙◌, subst}
+use Rattle.std.proofs.Common.{◌≡◌, ℕ, ◌+◌, ◌<◌, Bool, true, false, ◌==◌, List, [], ◌∷◌, ◌++◌, length, map, take, get_or, slice_get, Some, cond, refl, sym, ap, ◌∙◌, subst}
 use Rattle.std.proofs.lemmas.List.{map-append}
 use Rattle.std.specs.Map.{lookup}
 use Rattle.std.proofs.lemmas.Bool.{and_parts}
@@ -9,7 +9,7 @@ use Rattle.lc_term.specs.declared.node.ColExprId.{ColExprId}
 use Rattle.lc_term.specs.declared.node.FormulaId.{FormulaId}
 use Rattle.lc_term.specs.declared.put.Occurrence.{Occurrence}
 use Rattle.lc_term.specs.declared.put.ReplacedNodes.{ReplacedNodes}
-use Rattle.lc_term.specs.Nodes.{Part, term, column}
+use Rattle.lc_term.specs.Nodes.{term, column}
 use Rattle.lc_term.specs.NodeTables.{Table}
 use Rattle.lc_term.specs.NodeReplacement.{as_part, part_in, replaced_part}
 use Rattle.lc_term.specs.Put.{occurrence_eq, AreRemembered, Remembers}
@@ -89,33 +89,33 @@ noted {T} f ts es fs k v t h there here now q w found = by (occurrence_eq k q) r
         (t, there, ap (slice_get ts) same ∙ here)
     by false e = h q w (sym (ap (λ b. cond b (Some v) (lookup (occurrence_eq q) es)) e) ∙ sym (now q) ∙ found)
 
-pub term_kept_in_mind : (r : Replacement) (t0 ts : Table) (old new : ReplacedNodes) (k : TermId) (d v : ℕ) → IsTerm t0 k → Keeps t0 ts → Remembers r ts old
+pub term_noted : (r : Replacement) (t0 ts : Table) (old new : ReplacedNodes) (k : TermId) (d v : ℕ) → IsTerm t0 k → Keeps t0 ts → Remembers r ts old
     → slice_get (parts ts) v ≡ Some (replaced_part (under_many d r) (part_in t0 k.0))
     → ((q : Occurrence) → lookup (occurrence_eq q) new.parts.entries ≡ cond (occurrence_eq (record { number = k.0; depth = d }) q) (Some v) (lookup (occurrence_eq q) old.parts.entries))
     → new.formulas ≡ old.formulas → Remembers r ts new
-term_kept_in_mind r t0 ts old new k d v is kept h at now rest = record {
+term_noted r t0 ts old new k d v is kept h at now rest = record {
   parts_done =
       noted (λ n. replaced_part (under_many n r)) (parts ts) old.parts.entries new.parts.entries (record { number = k.0; depth = d }) v (term (term_in t0 k)) h.parts_done
       (term_later t0 ts k _ (term-there (parts t0) k is) kept) (at ∙ ap (λ o. Some (replaced_part (under_many d r) (as_part o))) (term-there (parts t0) k is)) now;
   formulas_done = subst (λ m. AreRemembered (λ n. replace (under_many n r)) (formulas ts) m.entries) (sym rest) h.formulas_done;
 }
 
-pub column_kept_in_mind : (r : Replacement) (t0 ts : Table) (old new : ReplacedNodes) (k : ColExprId) (d v : ℕ) → IsColumn t0 k → Keeps t0 ts → Remembers r ts old
+pub column_noted : (r : Replacement) (t0 ts : Table) (old new : ReplacedNodes) (k : ColExprId) (d v : ℕ) → IsColumn t0 k → Keeps t0 ts → Remembers r ts old
     → slice_get (parts ts) v ≡ Some (replaced_part (under_many d r) (part_in t0 k.0))
     → ((q : Occurrence) → lookup (occurrence_eq q) new.parts.entries ≡ cond (occurrence_eq (record { number = k.0; depth = d }) q) (Some v) (lookup (occurrence_eq q) old.parts.entries))
     → new.formulas ≡ old.formulas → Remembers r ts new
-column_kept_in_mind r t0 ts old new k d v is kept h at now rest = record {
+column_noted r t0 ts old new k d v is kept h at now rest = record {
   parts_done =
       noted (λ n. replaced_part (under_many n r)) (parts ts) old.parts.entries new.parts.entries (record { number = k.0; depth = d }) v (column (column_in t0 k)) h.parts_done
       (column_later t0 ts k _ (column-there (parts t0) k is) kept) (at ∙ ap (λ o. Some (replaced_part (under_many d r) (as_part o))) (column-there (parts t0) k is)) now;
   formulas_done = subst (λ m. AreRemembered (λ n. replace (under_many n r)) (formulas ts) m.entries) (sym rest) h.formulas_done;
 }
 
-pub formula_kept_in_mind : (r : Replacement) (t0 ts : Table) (old new : ReplacedNodes) (k v : FormulaId) (d : ℕ) → IsFormula t0 k → Keeps t0 ts → Remembers r ts old
+pub formula_noted : (r : Replacement) (t0 ts : Table) (old new : ReplacedNodes) (k v : FormulaId) (d : ℕ) → IsFormula t0 k → Keeps t0 ts → Remembers r ts old
     → HasFormula ts v (replace (under_many d r) (formula_in t0 k))
     → ((q : Occurrence) → lookup (occurrence_eq q) new.formulas.entries ≡ cond (occurrence_eq (record { number = k.0; depth = d }) q) (Some v.0) (lookup (occurrence_eq q) old.formulas.entries))
     → new.parts ≡ old.parts → Remembers r ts new
-formula_kept_in_mind r t0 ts old new k v d is kept h at now rest = record {
+formula_noted r t0 ts old new k v d is kept h at now rest = record {
   parts_done = subst (λ m. AreRemembered (λ n. replaced_part (under_many n r)) (parts ts) m.entries) (sym rest) h.parts_done;
   formulas_done =
       noted (λ n. replace (under_many n r)) (formulas ts) old.formulas.entries new.formulas.entries (record { number = k.0; depth = d }) v.0 (formula_in t0 k) h.formulas_done

@@ -7,7 +7,6 @@ use Rattle.lc_term.specs.View.{term_of, column_of}
 use Rattle.lc_term.specs.declared.term.ColExpr.{ColExpr}
 use Rattle.lc_term.specs.Said.{term_at}
 use Rattle.lc_term.specs.Replacement.{Replacement, replacing, replace, under_many}
-use Rattle.lc_term.specs.Nodes.{Part}
 use Rattle.lc_term.specs.NodeReplacement.{replaced_part}
 use Rattle.lc_term.specs.NodeTables.{Table}
 use Rattle.lc_term.specs.Tables.{parts, formulas}

@@ -1,5 +1,4 @@
 //! What is put in for columns and variables at once, and what of a table is known to have it in.
-ghost use Rattle.std.specs.Prelude.{◌≡◌, IfOk};
 ghost use Rattle.lc_term.specs.NodeTables.{Table};
 ghost use Rattle.lc_term.specs.Put.{Remembers};
 ghost use Rattle.lc_term.specs.Replacement.{Replacement};
@@ -43,7 +42,7 @@ pub(crate) struct Occurrence {
 }
 
 /// What of a table is replaced already: it serves one `Put` and one table, which may grow, so that what formulas share is
-/// replaced once.
+/// replaced once. After an error it is to be let go.
 pub struct ReplacedNodes {
     pub(crate) parts: IndexMap<Occurrence, u32>,
     pub(crate) formulas: IndexMap<Occurrence, u32>,

@@ -262,7 +262,6 @@ impl Terms {
     }
 
     #[cycle(replaced_formula)]
-    #[tactic(auto, using(crate::proofs::Remembered::formula_remembered, crate::proofs::Remembered::formula_kept_in_mind))]
     fn replaced_formula(
         &mut self,
         alloc: Global,

@@ -1,4 +1,4 @@
-use Rattle.std.proofs.Common.{rules, arith, ◌≡◌, ◌<◌, ◌++◌, ◌∷◌, [], length, map, subst, sym, refl, ap, ap₂, ◌∙◌, get_or, Some}
+use Rattle.std.proofs.Common.{rules, arith, ◌≡◌, ◌<◌, ◌++◌, ◌∷◌, [], length, subst, sym, refl, ap, ap₂, ◌∙◌, get_or, Some}
 use Rattle.std.proofs.lemmas.Result.{IfOk-weaker}
 use Rattle.std.specs.Prelude.{option_copied}
 use Rattle.lc_term.specs.Syntax as S
@@ -6,10 +6,10 @@ use Rattle.lc_term.specs.Nodes.{AllBelow}
 use Rattle.lc_term.specs.Put.{replacement_of}
 use Rattle.lc_term.specs.Replacement.{under_many, replace, replace_all}
 use Rattle.lc_term.specs.Tables.{term_in, formula_in, formulas_in, IsTerm, IsFormula, AreFormulas}
-use Rattle.lc_term.proofs.Later.{kept_on, are_formulas_pushed, formulas_pushed, formula_is, is_formula_still, formula_still}
-use Rattle.lc_term.proofs.Listed.{beyond-le, get-beyond, are_formulas-get, formulas_in-more}
+use Rattle.lc_term.proofs.Later.{kept_on, are_formulas_pushed, formulas_pushed, is_formula_still, formula_still}
+use Rattle.lc_term.proofs.Listed.{beyond-le, get-beyond, are_formulas-get}
 use Rattle.lc_term.proofs.NodeReplacement.{first_term, second_term}
-use Rattle.lc_term.proofs.Remembered.{remembers_later, formula_remembered, formula_kept_in_mind, first_formula, second_formula, replaced_parts, replaced_more}
+use Rattle.lc_term.proofs.Remembered.{remembers_later, formula_remembered, formula_noted, first_formula, second_formula, replaced_parts, replaced_more}
 use Rattle.lc_term.proofs.table.Terms.+replaced_formula.Goals as goal
 
 pub replaced_formula-returns-in-Some-clause-id : goal.replaced_formula-returns-in-Some-clause-id
@@ -18,7 +18,7 @@ replaced_formula-returns-in-Some-clause-id t c =
 
 pub replaced_formula-returns-clause-done : goal.replaced_formula-returns-clause-done
 replaced_formula-returns-clause-done t c =
-    formula_kept_in_mind (replacement_of c.args.put.now) c.args.self.now c.replaced_formula_node.new.self c.replaced_formula_node.new.done (record { parts = c.replaced_formula_node.new.done.parts; formulas = c.insert.new.self }) c.args.formula c.in_ok-number.number c.args.depth c.requires.there c.in_ok-number.ensures.kept c.in_ok-number.ensures.done
+    formula_noted (replacement_of c.args.put.now) c.args.self.now c.replaced_formula_node.new.self c.replaced_formula_node.new.done (record { parts = c.replaced_formula_node.new.done.parts; formulas = c.insert.new.self }) c.args.formula c.in_ok-number.number c.args.depth c.requires.there c.in_ok-number.ensures.kept c.in_ok-number.ensures.done
     c.in_ok-number.ensures.id c.in_ok-insert.ensures.updates.0 refl
 
 pub replaced_formula_node-replaced_formulas-requires : goal.replaced_formula_node-replaced_formulas-requires

@@ -7,7 +7,7 @@ use Rattle.lc_term.proofs.Later.{kept_on, same_store, is_column_later}
 use Rattle.lc_term.proofs.NodeReplacement.{one_term, first_term, second_term, later_term, first_column}
 use Rattle.lc_term.specs.Put.{replacement_of}
 use Rattle.lc_term.specs.Replacement.{under_many}
-use Rattle.lc_term.proofs.Remembered.{remembers_later, bound_stays, term_remembered, column_remembered, term_kept_in_mind, column_kept_in_mind}
+use Rattle.lc_term.proofs.Remembered.{remembers_later, bound_stays, term_remembered, column_remembered, term_noted, column_noted}
 use Rattle.std.specs.Prelude.{option_copied}
 use Rattle.lc_term.proofs.table.Terms.+replaced_part.Goals as goal
 
@@ -120,7 +120,7 @@ replaced_term-returns-in-Some-clause-id t c =
 
 pub replaced_term-returns-clause-done : goal.replaced_term-returns-clause-done
 replaced_term-returns-clause-done t c =
-    term_kept_in_mind (replacement_of c.args.put.now) c.args.self.now c.replaced_part.new.self c.replaced_part.new.done (record { parts = c.insert.new.self; formulas = c.replaced_part.new.done.formulas }) c.args.term c.args.depth _ c.requires.there c.in_ok-number.ensures.kept c.in_ok-number.ensures.done
+    term_noted (replacement_of c.args.put.now) c.args.self.now c.replaced_part.new.self c.replaced_part.new.done (record { parts = c.insert.new.self; formulas = c.replaced_part.new.done.formulas }) c.args.term c.args.depth _ c.requires.there c.in_ok-number.ensures.kept c.in_ok-number.ensures.done
     c.in_ok-number.ensures.id c.in_ok-insert.ensures.updates.0 refl
 
 pub replaced_column-returns-in-Some-clause-id : goal.replaced_column-returns-in-Some-clause-id
@@ -129,5 +129,5 @@ replaced_column-returns-in-Some-clause-id t c =
 
 pub replaced_column-returns-clause-done : goal.replaced_column-returns-clause-done
 replaced_column-returns-clause-done t c =
-    column_kept_in_mind (replacement_of c.args.put.now) c.args.self.now c.replaced_part.new.self c.replaced_part.new.done (record { parts = c.insert.new.self; formulas = c.replaced_part.new.done.formulas }) c.args.column c.args.depth _ c.requires.there c.in_ok-number.ensures.kept c.in_ok-number.ensures.done
+    column_noted (replacement_of c.args.put.now) c.args.self.now c.replaced_part.new.self c.replaced_part.new.done (record { parts = c.insert.new.self; formulas = c.replaced_part.new.done.formulas }) c.args.column c.args.depth _ c.requires.there c.in_ok-number.ensures.kept c.in_ok-number.ensures.done
     c.in_ok-number.ensures.id c.in_ok-insert.ensures.updates.0 refl

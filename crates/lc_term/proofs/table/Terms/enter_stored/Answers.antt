@@ -1,4 +1,4 @@
-use Rattle.std.proofs.Common.{ap, subst, sym, ◌∙◌, map, Some, slice_get}
+use Rattle.std.proofs.Common.{ap, subst, sym, ◌∙◌, map, Some}
 use Rattle.std.proofs.lemmas.List.{take_all}
 use Rattle.std.proofs.lemmas.Result.{IfOk-weaker}
 use Rattle.lc_term.specs.Nodes.{column as column_part}
