@@ -1,6 +1,7 @@
 pub mod Answered
 pub mod Atoms
 pub mod Builds
+pub mod Classes
 pub mod Cuts
 pub mod Exists
 pub mod Faults
