@@ -14,6 +14,7 @@ pub mod Nodes
 pub mod PrintedLemmas
 pub mod Prints
 pub mod Rows
+pub mod Runs
 pub mod Splits
 pub mod Takings
 pub mod Tokens

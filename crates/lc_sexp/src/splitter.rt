@@ -1,6 +1,7 @@
-ghost use Rattle.std.specs.Prelude.{◌≡◌, ◌+◌, ◌<◌, ◌++◌, ℕ, List, [], ◌∷◌, length, take, Some, None, false, true, if◌then◌else◌, OnOk, IfOk, IfErr, vec_len};
+ghost use Rattle.std.specs.Prelude.{◌≡◌, ◌+◌, ◌≤◌, ◌<◌, ◌++◌, ℕ, List, [], ◌∷◌, length, take, Some, None, false, true, if◌then◌else◌, OnOk, IfOk, IfErr, vec_len};
 ghost use Rattle.lc_sexp.specs.Trees.{Trees, Token, item_count, tokens_of_all};
 ghost use Rattle.lc_sexp.specs.Text.{class_of, is_misplaced, begins_word, uncommented, lexed};
+ghost use Rattle.lc_sexp.specs.Runs.{AreSeen};
 ghost use Rattle.lc_sexp.specs.Progress.{depth_behind, fault_from};
 ghost use Rattle.lc_sexp.specs.Splitting.{Splits, depth_of};
 ghost use Rattle.lc_sexp.specs.Reading.{tokens_behind};
@@ -10,10 +11,10 @@ ghost use Rattle.lc_sexp.specs.declared.part.Part.{Part};
 ghost use Rattle.lc_sexp.specs.declared.class.Class.TheVariants.{Open as OpenClass, Close as CloseClass};
 
 use crate::builder::Builder;
-use crate::class::{Class, blanked, classify, commented, misplaced_within};
+use crate::class::{Class, misplaced_within};
 use crate::filling::fill;
 use crate::forms::Forms;
-use crate::machine::{FILE_LIMIT, Machine};
+use crate::machine::Machine;
 use crate::part::Part;
 use crate::sexp::Sexp;
 use lc_base::{Fault, OutOfMemory, Refusal};
@@ -167,20 +168,22 @@ impl Splitter {
         Ok(())
     }
 
-    /// Takes a byte that is not misplaced.
-    fn take_byte(&mut self, class: Class, byte: u8) -> Result<(), OutOfMemory>
-        requires class { class ≡ class_of byte }
+    /// Takes a run that is not misplaced.
+    fn take_run(&mut self, class: Class, bytes: &[u8]) -> Result<(), OutOfMemory>
+        requires some { 0 < length bytes.now }
+        requires seen { (seen : List ℕ) × AreSeen class bytes.now seen }
         requires placed { is_misplaced (depth_of self.old) class ≡ false }
-        requires room { vec_len self.old.machine.nodes + vec_len self.old.machine.text < self.old.machine.offset + self.old.machine.start }
-        requires short { vec_len self.old.machine.text < self.old.machine.offset }
-        ensures splits { OnOk result ((whole : List ℕ → List Token) → (rest : List ℕ → List ℕ) → (taken : List Part) →
-            Splits whole (λ x. byte ∷ rest x) taken self.old → Splits whole rest taken self.new) }
+        requires room { vec_len self.old.machine.nodes + vec_len self.old.machine.text + length bytes.now ≤ self.old.machine.offset + self.old.machine.start }
+        requires short { vec_len self.old.machine.text + length bytes.now ≤ self.old.machine.offset }
+        ensures splits { OnOk result ((whole : List ℕ → List Token) → (rest : List ℕ → List ℕ) → (taken : List Part) → (seen : List ℕ) →
+            AreSeen class bytes.now seen →
+            Splits whole (λ x. seen ++ rest x) taken self.old → Splits whole rest taken self.new) }
         ensures depth { OnOk result (depth_of self.new ≡ depth_behind (depth_of self.old) class) }
         ensures offset { self.new.machine.offset ≡ self.old.machine.offset }
         ensures comment { self.new.machine.in_comment ≡ self.old.machine.in_comment }
     {
         match class {
-            Class::Letter => self.machine.push_letter(byte)?,
+            Class::Letter => self.machine.push_letters(bytes)?,
             Class::White => self.end_word()?,
             Class::Open => {
                 self.end_word()?;
@@ -195,30 +198,31 @@ impl Splitter {
         Ok(())
     }
 
-    /// Takes a byte of the file. Where it is misplaced nothing changes, and the offset is that of the first fault.
-    pub(crate) fn push_byte(&mut self, byte: u8) -> Result<bool, OutOfMemory>
-        ensures splits { IfOk result (λ went. went ≡ true → (whole : List ℕ → List Token) → (taken : List Part) →
+    /// Takes the run at the front of these bytes of the file, and answers how many they are. Where it is misplaced
+    /// nothing changes, and the offset is that of the first fault.
+    pub(crate) fn push_run(&mut self, bytes: &[u8]) -> Result<usize, OutOfMemory>
+        requires { 0 < length bytes.now }
+        ensures within { IfOk result (λ count. count ≤ length bytes.now) }
+        ensures splits { IfOk result (λ count. 0 < count → (whole : List ℕ → List Token) → (taken : List Part) →
             Splits whole (uncommented self.old.machine.in_comment) taken self.old →
-            Splits (λ x. whole (byte ∷ x)) (uncommented self.new.machine.in_comment) taken self.new) }
-        ensures fault { IfOk result (λ went. went ≡ true → (rest : List ℕ) →
+            Splits (λ x. whole (take count bytes.now ++ x)) (uncommented self.new.machine.in_comment) taken self.new) }
+        ensures fault { IfOk result (λ count. 0 < count → (rest : List ℕ) →
             fault_from self.new.machine.offset (depth_of self.new) (uncommented self.new.machine.in_comment rest)
-            ≡ fault_from self.old.machine.offset (depth_of self.old) (uncommented self.old.machine.in_comment (byte ∷ rest))) }
-        ensures wrong { IfOk result (λ went. went ≡ false → (rest : List ℕ) →
-            fault_from self.old.machine.offset (depth_of self.old) (uncommented self.old.machine.in_comment (byte ∷ rest)) ≡ Some self.old.machine.offset) }
-        ensures offset { IfOk result (λ went. went ≡ true → self.new.machine.offset ≡ self.old.machine.offset + 1) }
-        ensures same { IfOk result (λ went. went ≡ false → self.new ≡ self.old) }
+            ≡ fault_from self.old.machine.offset (depth_of self.old) (uncommented self.old.machine.in_comment (take count bytes.now ++ rest))) }
+        ensures wrong { IfOk result (λ count. count ≡ 0 → (rest : List ℕ) →
+            fault_from self.old.machine.offset (depth_of self.old) (uncommented self.old.machine.in_comment (bytes.now ++ rest)) ≡ Some self.old.machine.offset) }
+        ensures offset { IfOk result (λ count. self.new.machine.offset ≡ self.old.machine.offset + count) }
+        ensures same { IfOk result (λ count. count ≡ 0 → self.new ≡ self.old) }
     {
-        let in_comment = commented(self.machine.in_comment(), byte);
-        let seen = blanked(in_comment, byte);
-        let class = classify(seen);
-        if self.machine.offset() == FILE_LIMIT
-            || misplaced_within(self.machine.depth(), self.in_list, class)
-        {
-            return Ok(false);
+        let Some(run) = self.machine.next_run(bytes) else {
+            return Ok(0);
+        };
+        if misplaced_within(self.machine.depth(), self.in_list, run.class) {
+            return Ok(0);
         }
-        self.machine.advance(in_comment);
-        self.take_byte(class, seen)?;
-        Ok(true)
+        self.machine.advance(run.length, run.in_comment);
+        self.take_run(run.class, &bytes[..run.length])?;
+        Ok(run.length)
     }
 
     /// The forms of the text, which ends here, without the parts that were taken.
