@@ -26,7 +26,7 @@ use Rattle.lc_sexp.specs.declared.reader.Reader.{Reader}
 use Rattle.lc_sexp.proofs.Faults.{found_fault, found_trees}
 use Rattle.lc_sexp.proofs.Nodes.{letters_drop, none_listed}
 use Rattle.lc_sexp.proofs.Cuts.{told_none, rooted_none}
-use Rattle.lc_sexp.proofs.Runs.{taken_on, tail_of}
+use Rattle.lc_sexp.proofs.Runs.{taken_on, parted}
 use Rattle.lc_sexp.proofs.Takings.{same_rest, at_rests, same_parts}
 use Rattle.lc_sexp.proofs.Answered.{IsTextFault-weaker}
 
@@ -182,12 +182,16 @@ after_next fed piece i n taken r h =
     ap (λ x. take i piece ++ x) (sym (append-nil front)) ∙ taken_on i n piece [] ∙ append-nil (take (i + n) piece) in
     subst (λ x. IsAfterTaking x taken r) (append_assoc fed (take i piece) front ∙ ap (λ x. fed ++ x) same) h
 
--- the rest of a piece
-pub after_last : (fed piece : List ℕ) (i : ℕ) (taken : List Part) (r : Reader) → IsAfterTaking ((fed ++ take i piece) ++ take (length piece - i) (drop i piece)) taken r → IsAfterTaking (fed ++ piece) taken r
-after_last fed piece i taken r h =
-    let last : List ℕ = take (length piece - i) (drop i piece) in
-    let same : take i piece ++ last ≡ piece = ap (λ x. take i piece ++ x) (tail_of i piece) ∙ take-append-drop i piece in
-    subst (λ x. IsAfterTaking x taken r) (append_assoc fed (take i piece) last ∙ ap (λ x. fed ++ x) same) h
+-- the rest of a piece, of which some may stand behind the file limit
+pub after_last : (fed piece within last : List ℕ) (i : ℕ) (taken : List Part) (r : Reader) → piece ≡ within ++ last
+    → IsAfterTaking ((fed ++ take i within) ++ (take (length within - i) (drop i within) ++ last)) taken r → IsAfterTaking (fed ++ piece) taken r
+after_last fed piece within last i taken r e h =
+    let tail : List ℕ = take (length within - i) (drop i within) in
+    let same : take i within ++ (tail ++ last) ≡ piece = sym (parted i within last) ∙ sym e in
+    subst (λ x. IsAfterTaking x taken r) (append_assoc fed (take i within) (tail ++ last) ∙ ap (λ x. fed ++ x) same) h
+
+pub fault_before : (tail last rest : List ℕ) (s : Splitter) → ((rest : List ℕ) → fault_with None s (tail ++ rest) ≡ Some s.machine.offset) → fault_with None s ((tail ++ last) ++ rest) ≡ Some s.machine.offset
+fault_before tail last rest s wrong = ap (fault_with None s) (append_assoc tail last rest) ∙ wrong (last ++ rest)
 
 -- the first part that is ready was taken
 pub after_part : (fed : List ℕ) (taken : List Part) (r : Reader) (q : VecDeque Part Global) (p : Part) → r.splitter.ready.items ≡ p ∷ q.items → IsAfterTaking fed taken r

@@ -211,6 +211,13 @@ byte_alone bytes d k some other e =
       uncomments = λ rest. ap (λ x. uncommented false (x ++ rest)) same ∙ plain b rest other;
     }
 
+abbrev pub is_Other : Class → Bool
+is_Other Other = true
+is_Other White = false
+is_Other Open = false
+is_Other Close = false
+is_Other Letter = false
+
 letter_plain : (b : ℕ) → is_Letter (class_of b) ≡ true → b ≢ 59
 unfolding class_of
 letter_plain b h = λ e. let f : is_Letter (class_of 59) ≡ true = ap (λ x. is_Letter (class_of x)) (sym e) ∙ h in absurd (cc)
@@ -279,13 +286,18 @@ begins_by : (bytes : List ℕ) → 0 < length bytes → Letter ≡ class_of (get
 begins_by [] some e = absurd (omega (arith, some))
 begins_by (b ∷ s) some e = ap is_Letter (sym e)
 
-pub letters_first : (c : Bool) (bytes : List ℕ) (k : Class) (n : ℕ) → c ≡ false → k ≡ Letter → Letter ≡ class_of (get_or bytes 0 0) → 0 < length bytes
-    → n ≤ length bytes → are_letters (take n bytes) ≡ true → (begins_word bytes ≡ true → 0 < n) → IsRun c bytes (record { class = k; length = n; in_comment = false })
-letters_first c bytes k n outside e f more le h some = rw (outside, e) (letters_together bytes n le (some (begins_by bytes more f)) h)
+pub letters_first : (c : Bool) (bytes : List ℕ) (n : ℕ) → c ≡ false → Letter ≡ class_of (get_or bytes 0 0) → 0 < length bytes
+    → n ≤ length bytes → are_letters (take n bytes) ≡ true → (begins_word bytes ≡ true → 0 < n) → IsRun c bytes (record { class = Letter; length = n; in_comment = false })
+letters_first c bytes n outside f more le h some = rw outside (letters_together bytes n le (some (begins_by bytes more f)) h)
 
-pub alone_first : (c : Bool) (bytes : List ℕ) (k : Class) → c ≡ false → 0 < length bytes → get_or bytes 0 0 ≢ 59 → k ≡ class_of (get_or bytes 0 0)
-    → IsRun c bytes (record { class = k; length = 1; in_comment = false })
-alone_first c bytes k outside some other e = rw outside (byte_alone bytes 0 k some other (sym e))
+pub alone_first : (c : Bool) (bytes : List ℕ) (k : Class) (run : Run) → c ≡ false → 0 < length bytes → get_or bytes 0 0 ≢ 59 → k ≡ class_of (get_or bytes 0 0)
+    → run ≡ record { class = k; length = 1; in_comment = false } → IsRun c bytes run
+alone_first c bytes k run outside some other e is = rw (outside, is) (byte_alone bytes 0 k some other (sym e))
+
+-- a byte of a class that begins a list, ends one or is white begins no comment
+pub no_comment : (b : ℕ) (k : Class) → k ≡ class_of b → is_Other k ≡ false → b ≢ 59
+unfolding class_of
+no_comment b k e f = λ is. let g : is_Other (class_of 59) ≡ false = ap (λ x. is_Other (class_of x)) (sym is) ∙ ap is_Other (sym e) ∙ f in absurd (cc)
 
 -- what is known of a run by its class
 pub seen_of : (class k : Class) (bytes seen : List ℕ) → class ≡ k → AreSeen class bytes seen → AreOf k seen
@@ -343,3 +355,23 @@ pub parted : (i : ℕ) (bytes rest : List ℕ) → bytes ++ rest ≡ take i byte
 parted i bytes rest =
     ap (λ x. x ++ rest) (sym (take-append-drop i bytes)) ∙ append_assoc (take i bytes) (drop i bytes) rest
     ∙ ap (λ x. take i bytes ++ (x ++ rest)) (sym (tail_of i bytes))
+
+pub one_listed : (xs : List ℕ) (d : ℕ) → length xs ≡ 1 → xs ≡ get_or xs 0 d ∷ []
+one_listed [] d e = absurd (omega (arith, e))
+one_listed (x ∷ []) d e = refl
+one_listed (x ∷ y ∷ xs) d e = absurd (omega (arith, e))
+
+pub parted_last : (bytes within last rest : List ℕ) → bytes ≡ within ++ last → bytes ++ rest ≡ within ++ (last ++ rest)
+parted_last bytes within last rest e = ap (λ x. x ++ rest) e ∙ append_assoc within last rest
+
+pub all_taken : (i : ℕ) (bytes : List ℕ) → length bytes ≤ i → take i bytes ≡ bytes
+all_taken i bytes le = take_all i bytes le
+
+-- bytes of which some stand behind the file limit
+pub cut_short : (bytes within last : List ℕ) → bytes ≡ within ++ last → length within ≢ length bytes → (0 < length last) × (length within < length bytes)
+cut_short bytes within last e cut =
+    let n : length bytes ≡ length within + length last = ap length e ∙ length-append within last in
+    (omega (arith, n, cut), omega (arith, n, cut))
+
+pub differ : (m n : ℕ) → (m == n) ≡ false → m ≢ n
+differ m n h = grind (arith, nat_tests)

@@ -1,4 +1,4 @@
-ghost use Rattle.std.specs.Prelude.{◌≡◌, ◌<◌, ◌≤◌, length, take, true};
+ghost use Rattle.std.specs.Prelude.{◌≡◌, ◌<◌, ◌≤◌, length, take, true, false};
 ghost use Rattle.lc_sexp.specs.Text.{class_of, is_Letter, are_letters, begins_word};
 ghost use Rattle.lc_sexp.specs.Runs.{IsComment, IsRun};
 
@@ -20,17 +20,30 @@ pub(crate) fn first_run(bytes: &[u8], in_comment: bool) -> Run
     requires { 0 < length bytes.now }
     ensures { IsRun in_comment bytes.now result }
 {
-    if in_comment || bytes[0] == b';' {
+    if in_comment {
         return comment(bytes);
     }
-    let class = classify(bytes[0]);
-    let length = match class {
-        Class::Letter => word_length(bytes),
-        _ => 1,
-    };
+    match classify(bytes[0]) {
+        Class::Letter => Run {
+            class: Class::Letter,
+            length: word_length(bytes),
+            in_comment: false,
+        },
+        Class::White => alone(Class::White),
+        Class::Open => alone(Class::Open),
+        Class::Close => alone(Class::Close),
+        Class::Other if bytes[0] == b';' => comment(bytes),
+        Class::Other => alone(Class::Other),
+    }
+}
+
+/// A byte of this class outside of comments.
+fn alone(class: Class) -> Run
+    ensures { result ≡ record { class = class; length = 1; in_comment = false } }
+{
     Run {
         class,
-        length,
+        length: 1,
         in_comment: false,
     }
 }

@@ -1,4 +1,4 @@
-ghost use Rattle.std.specs.Prelude.{◌≡◌, ◌+◌, ◌≤◌, ◌<◌, ◌++◌, ℕ, List, [], ◌∷◌, length, take, Some, None, false, true, if◌then◌else◌, OnOk, IfOk, IfErr, vec_len};
+ghost use Rattle.std.specs.Prelude.{◌≡◌, ◌+◌, ◌≤◌, ◌<◌, ◌++◌, ℕ, List, [], ◌∷◌, length, take, Some, None, false, true, not, if◌then◌else◌, OnOk, IfOk, IfErr, vec_len};
 ghost use Rattle.lc_sexp.specs.Trees.{Trees, Token, item_count, tokens_of_all};
 ghost use Rattle.lc_sexp.specs.Text.{class_of, is_misplaced, begins_word, uncommented, lexed};
 ghost use Rattle.lc_sexp.specs.Runs.{AreSeen};
@@ -16,6 +16,7 @@ use crate::filling::fill;
 use crate::forms::Forms;
 use crate::machine::Machine;
 use crate::part::Part;
+use crate::run::{Run, first_run};
 use crate::sexp::Sexp;
 use lc_base::{Fault, OutOfMemory, Refusal};
 use std::alloc::Global;
@@ -168,40 +169,56 @@ impl Splitter {
         Ok(())
     }
 
-    /// Takes a run that is not misplaced.
-    fn take_run(&mut self, class: Class, bytes: &[u8]) -> Result<(), OutOfMemory>
+    /// Takes a run of these bytes; whether it is not misplaced.
+    fn take_run(&mut self, run: Run, bytes: &[u8]) -> Result<bool, OutOfMemory>
         requires some { 0 < length bytes.now }
-        requires seen { (seen : List ℕ) × AreSeen class bytes.now seen }
-        requires placed { is_misplaced (depth_of self.old) class ≡ false }
-        requires room { vec_len self.old.machine.nodes + vec_len self.old.machine.text + length bytes.now ≤ self.old.machine.offset + self.old.machine.start }
-        requires short { vec_len self.old.machine.text + length bytes.now ≤ self.old.machine.offset }
-        ensures splits { OnOk result ((whole : List ℕ → List Token) → (rest : List ℕ → List ℕ) → (taken : List Part) → (seen : List ℕ) →
-            AreSeen class bytes.now seen →
+        requires length { run.length ≡ length bytes.now }
+        requires seen { (seen : List ℕ) × AreSeen run.class bytes.now seen }
+        requires room { self.old.machine.offset + run.length ≤ 16777216 }
+        ensures splits { IfOk result (λ went. went ≡ true → (whole : List ℕ → List Token) → (rest : List ℕ → List ℕ) → (taken : List Part) → (seen : List ℕ) →
+            AreSeen run.class bytes.now seen →
             Splits whole (λ x. seen ++ rest x) taken self.old → Splits whole rest taken self.new) }
-        ensures depth { OnOk result (depth_of self.new ≡ depth_behind (depth_of self.old) class) }
-        ensures offset { self.new.machine.offset ≡ self.old.machine.offset }
-        ensures comment { self.new.machine.in_comment ≡ self.old.machine.in_comment }
+        ensures placed { IfOk result (λ went. is_misplaced (depth_of self.old) run.class ≡ not went) }
+        ensures depth { IfOk result (λ went. went ≡ true → depth_of self.new ≡ depth_behind (depth_of self.old) run.class) }
+        ensures offset { IfOk result (λ went. went ≡ true → self.new.machine.offset ≡ self.old.machine.offset + run.length) }
+        ensures comment { IfOk result (λ went. went ≡ true → self.new.machine.in_comment ≡ run.in_comment) }
+        ensures same { IfOk result (λ went. went ≡ false → self.new ≡ self.old) }
     {
-        match class {
-            Class::Letter => self.machine.push_letters(bytes)?,
-            Class::White => self.end_word()?,
+        match run.class {
+            Class::Letter => {
+                self.machine.advance(run.length, run.in_comment);
+                self.machine.push_letters(bytes)?;
+            }
+            Class::White => {
+                self.machine.advance(run.length, run.in_comment);
+                self.end_word()?;
+            }
             Class::Open => {
+                if misplaced_within(self.machine.depth(), self.in_list, Class::Open) {
+                    return Ok(false);
+                }
+                self.machine.advance(run.length, run.in_comment);
                 self.end_word()?;
                 self.open_list()?;
             }
             Class::Close => {
+                if misplaced_within(self.machine.depth(), self.in_list, Class::Close) {
+                    return Ok(false);
+                }
+                self.machine.advance(run.length, run.in_comment);
                 self.end_word()?;
                 self.close_list()?;
             }
-            Class::Other => unreachable!(),
+            Class::Other => return Ok(false),
         }
-        Ok(())
+        Ok(true)
     }
 
     /// Takes the run at the front of these bytes of the file, and answers how many they are. Where it is misplaced
     /// nothing changes, and the offset is that of the first fault.
     pub(crate) fn push_run(&mut self, bytes: &[u8]) -> Result<usize, OutOfMemory>
-        requires { 0 < length bytes.now }
+        requires some { 0 < length bytes.now }
+        requires room { self.old.machine.offset + length bytes.now ≤ 16777216 }
         ensures within { IfOk result (λ count. count ≤ length bytes.now) }
         ensures splits { IfOk result (λ count. 0 < count → (whole : List ℕ → List Token) → (taken : List Part) →
             Splits whole (uncommented self.old.machine.in_comment) taken self.old →
@@ -214,14 +231,10 @@ impl Splitter {
         ensures offset { IfOk result (λ count. self.new.machine.offset ≡ self.old.machine.offset + count) }
         ensures same { IfOk result (λ count. count ≡ 0 → self.new ≡ self.old) }
     {
-        let Some(run) = self.machine.next_run(bytes) else {
-            return Ok(0);
-        };
-        if misplaced_within(self.machine.depth(), self.in_list, run.class) {
+        let run = first_run(bytes, self.machine.in_comment());
+        if !self.take_run(run, &bytes[..run.length])? {
             return Ok(0);
         }
-        self.machine.advance(run.length, run.in_comment);
-        self.take_run(run.class, &bytes[..run.length])?;
         Ok(run.length)
     }
 
