@@ -1,4 +1,4 @@
-ghost use Rattle.std.specs.Prelude.{◌≡◌, ◌+◌, ◌≤◌, ◌<◌, ◌++◌, ℕ, List, [], ◌∷◌, length, take, Some, None, false, true, not, if◌then◌else◌, OnOk, IfOk, IfErr, vec_len};
+ghost use Rattle.std.specs.Prelude.{◌≡◌, ◌≢◌, ◌+◌, ◌≤◌, ◌<◌, ◌++◌, ℕ, List, [], ◌∷◌, length, take, Some, None, false, true, not, if◌then◌else◌, OnOk, IfOk, IfErr, vec_len};
 ghost use Rattle.lc_sexp.specs.Trees.{Trees, Token, item_count, tokens_of_all};
 ghost use Rattle.lc_sexp.specs.Text.{class_of, is_misplaced, begins_word, uncommented, lexed};
 ghost use Rattle.lc_sexp.specs.Runs.{AreSeen};
@@ -91,14 +91,32 @@ impl Splitter {
         ensures offset { self.new.machine.offset ≡ self.old.machine.offset }
         ensures comment { self.new.machine.in_comment ≡ self.old.machine.in_comment }
     {
+        if self.machine.word().is_empty() {
+            return Ok(());
+        }
+        self.end_begun_word()
+    }
+
+    /// Ends the word that has begun.
+    fn end_begun_word(&mut self) -> Result<(), OutOfMemory>
+        requires { self.old.machine.start ≢ vec_len self.old.machine.text }
+        ensures splits { OnOk result ((whole : List ℕ → List Token) → (rest : List ℕ → List ℕ) → (taken : List Part) →
+            ((x : List ℕ) → begins_word (rest x) ≡ false) →
+            Splits whole rest taken self.old → Splits whole rest taken self.new) }
+        ensures ended { OnOk result (self.new.machine.start ≡ vec_len self.new.machine.text) }
+        ensures room { OnOk result (
+            vec_len self.old.machine.nodes + vec_len self.old.machine.text < self.old.machine.offset + self.old.machine.start →
+            vec_len self.new.machine.nodes < self.new.machine.offset) }
+        ensures holes { self.new.machine.holes ≡ self.old.machine.holes }
+        ensures in_list { self.new.in_list ≡ self.old.in_list }
+        ensures offset { self.new.machine.offset ≡ self.old.machine.offset }
+        ensures comment { self.new.machine.in_comment ≡ self.old.machine.in_comment }
+    {
         if self.machine.depth() > 0 {
             self.machine.end_word()?;
             return Ok(());
         }
         let word = self.machine.word();
-        if word.is_empty() {
-            return Ok(());
-        }
         if self.in_list {
             let sexp = Sexp::of_letters(self.alloc, word)?;
             self.machine.drop_word();
