@@ -1,5 +1,5 @@
 -- The table of classes gives the class of each byte, by computing.
-use Rattle.std.proofs.Common.{◌≡◌, ℕ, zero, suc, ◌<◌, Bool, true, false, ◌&&◌, cond, slice_index_or, refl, sym, ap, ◌∙◌, arith, inl, inr, eqb-true}
+use Rattle.std.proofs.Common.{◌≡◌, ℕ, zero, suc, ◌<◌, Bool, true, ◌&&◌, cond, slice_index_or, refl, sym, ap, ◌∙◌, arith, inl, inr, eqb-true}
 use Rattle.std.specs.Prelude.{◌==◌}
 use Rattle.std.proofs.lemmas.Bool.{cases_eq}
 use Rattle.lc_sexp.specs.Text.{class_of}

@@ -1,21 +1,19 @@
 -- A reader that is fed bytes and of which parts are taken.
-use Rattle.std.proofs.Common.{◌≡◌, ℕ, ◌+◌, ◌-◌, Bool, true, false, List, [], ◌∷◌, ◌++◌, length, drop, Option, Some, None, Result, Ok, Err, refl, sym, ap, ◌∙◌, subst, arith, append_assoc, append-nil, length-append, length-drop, IfOk, IfErr, OnOk, vec_len, ◌⊎◌, inl, inr, take}
+use Rattle.std.proofs.Common.{◌≡◌, ℕ, ◌+◌, ◌-◌, Bool, true, false, List, [], ◌∷◌, ◌++◌, length, drop, Option, Some, None, Result, Ok, Err, refl, sym, ap, ◌∙◌, subst, arith, append_assoc, append-nil, length-append, length-drop, IfOk, IfErr, OnOk, ◌⊎◌, inl, inr, take}
 use Rattle.std.specs.Prelude.{flat_map}
 use Rattle.std.specs.Option.{IfNone, is_some, option_to_list}
-use Rattle.std.proofs.lemmas.List.{take-append-drop}
 use Rattle.std.specs.declared.alloc.Global.{Global}
 use Rattle.std.specs.declared.collections.VecDeque.{VecDeque}
 use Rattle.lc_base.specs.declared.refusal.Fault.{Fault}
 use Rattle.lc_sexp.specs.Trees.{Trees, none, Token, open_list, tokens_of_all}
 use Rattle.lc_sexp.specs.Text.{lexed, uncommented}
 use Rattle.lc_sexp.specs.Entries.{first_row, later_rows, rows_tokens}
-use Rattle.lc_sexp.specs.Flat.{entries, is_rooted, IsUnderWay}
-use Rattle.lc_sexp.specs.Built.{entries_in}
-use Rattle.lc_sexp.specs.Reads.{ReadsAs, IsFirstFault}
+use Rattle.lc_sexp.specs.Flat.{entries, is_rooted}
+use Rattle.lc_sexp.specs.Reads.{IsFirstFault}
 use Rattle.lc_sexp.specs.Progress.{told, told_tokens, fault_from}
 use Rattle.lc_sexp.specs.Takes.{parts_of, without, parts_ended}
 use Rattle.lc_sexp.specs.Begins.{Begins, AreAllParts}
-use Rattle.lc_sexp.specs.Splitting.{opened, front, depth_of, IsSetAside, Splits}
+use Rattle.lc_sexp.specs.Splitting.{opened, front, depth_of, Splits}
 use Rattle.lc_sexp.specs.Answers.{IsTextFault, IsAnswerWithout}
 use Rattle.lc_sexp.specs.Reading.{fault_with, tokens_behind, IsAfterTaking}
 use Rattle.lc_sexp.specs.declared.node.Node.{Node}
@@ -27,7 +25,7 @@ use Rattle.lc_sexp.proofs.Faults.{found_fault, found_trees}
 use Rattle.lc_sexp.proofs.Nodes.{letters_drop, none_listed}
 use Rattle.lc_sexp.proofs.Cuts.{told_none, rooted_none}
 use Rattle.lc_sexp.proofs.Runs.{taken_on, parted}
-use Rattle.lc_sexp.proofs.Takings.{same_rest, at_rests, same_parts}
+use Rattle.lc_sexp.proofs.Takings.{at_rests, same_parts}
 use Rattle.lc_sexp.proofs.Answered.{IsTextFault-weaker}
 
 -- the whole known otherwise

@@ -1,12 +1,11 @@
 -- What runs of bytes make.
-use Rattle.std.proofs.Common.{◌≡◌, ◌≢◌, ℕ, zero, suc, ◌+◌, ◌-◌, ◌≤◌, ◌<◌, Bool, true, false, ◌&&◌, ◌||◌, cond, not, List, [], ◌∷◌, ◌++◌, length, get_or, take, drop, Option, Some, None, refl, sym, ap, ◌∙◌, subst, arith, append_assoc, append-nil, length-append, length-take, length-drop, map, min}
+use Rattle.std.proofs.Common.{◌≡◌, ◌≢◌, ℕ, zero, suc, ◌+◌, ◌-◌, ◌≤◌, ◌<◌, Bool, true, false, ◌||◌, cond, not, List, [], ◌∷◌, ◌++◌, length, get_or, take, drop, Some, refl, sym, ap, ◌∙◌, subst, arith, append_assoc, append-nil, length-append, length-take, length-drop, map, min}
 use Rattle.std.specs.Prelude.{◌==◌}
 use Rattle.std.specs.List.{list_all}
 use Rattle.std.proofs.Math.Seq.{take-add}
 use Rattle.std.proofs.lemmas.Bool.Decides.{nat_tests}
 use Rattle.std.proofs.lemmas.List.{take_more, take_all, length-map, take-append-drop}
 use Rattle.lc_sexp.proofs.Tokens.{and_parts, Letter-from}
-use Rattle.lc_sexp.specs.Trees.{Token}
 use Rattle.lc_sexp.specs.Text.{class_of, is_Letter, are_letters, begins_word, lexed, before, uncommented, is_misplaced}
 use Rattle.lc_sexp.specs.Progress.{told, told_tokens, fault_from, depth_behind}
 use Rattle.lc_sexp.specs.Runs.{AreOf, IsCount, AreSeen, IsRun}
@@ -98,14 +97,14 @@ pub fault_full : (c : Bool) (offset depth : ℕ) (bytes rest : List ℕ) → 0 <
 fault_full c offset depth [] rest some e = absurd (omega (arith, some))
 fault_full c offset depth (b ∷ s) rest some e =
     by_tests (b == 10) (c || b == 59) (let t : at_limit offset ≡ true = grind (arith, nat_tests) in t) where
-  first : (x : ℕ) (s : List ℕ) → at_limit offset ≡ true → fault_from offset depth (x ∷ s) ≡ Some offset
-  first x s t = ap (λ u. cond (u || is_misplaced depth (class_of x)) (Some offset) (fault_from (offset + 1) (depth_behind depth (class_of x)) s)) t
+      first : (x : ℕ) (s : List ℕ) → at_limit offset ≡ true → fault_from offset depth (x ∷ s) ≡ Some offset
+      first x s t = ap (λ u. cond (u || is_misplaced depth (class_of x)) (Some offset) (fault_from (offset + 1) (depth_behind depth (class_of x)) s)) t
 
-  by_tests : (t u : Bool) → at_limit offset ≡ true
-      → fault_from offset depth (cond t (10 ∷ uncommented false (s ++ rest)) (cond u (32 ∷ uncommented true (s ++ rest)) (b ∷ uncommented false (s ++ rest)))) ≡ Some offset
-  by_tests true u t = first 10 (uncommented false (s ++ rest)) t
-  by_tests false true t = first 32 (uncommented true (s ++ rest)) t
-  by_tests false false t = first b (uncommented false (s ++ rest)) t
+      by_tests : (t u : Bool) → at_limit offset ≡ true
+          → fault_from offset depth (cond t (10 ∷ uncommented false (s ++ rest)) (cond u (32 ∷ uncommented true (s ++ rest)) (b ∷ uncommented false (s ++ rest)))) ≡ Some offset
+      by_tests true u t = first 10 (uncommented false (s ++ rest)) t
+      by_tests false true t = first 32 (uncommented true (s ++ rest)) t
+      by_tests false false t = first b (uncommented false (s ++ rest)) t
 
 -- bytes of a comment that goes on behind them
 abbrev pub goes_on : List ℕ → Bool
@@ -127,9 +126,9 @@ blanked (b ∷ w) rest h =
     let hs = and_parts (not (b == 10)) (goes_on w) h in
     ap (λ t. cond t (10 ∷ uncommented false (w ++ rest)) (32 ∷ uncommented true (w ++ rest))) (not_true (b == 10) hs.0)
     ∙ ap (λ x. 32 ∷ x) (blanked w rest hs.1) where
-  not_true : (t : Bool) → not t ≡ true → t ≡ false
-  not_true true h = cc
-  not_true false h = refl
+      not_true : (t : Bool) → not t ≡ true → t ≡ false
+      not_true true h = cc
+      not_true false h = refl
 
 length-blanks : (w : List ℕ) → length (blanks w) ≡ length w
 unfolding blanks
@@ -242,45 +241,6 @@ letters_together bytes n le some h = record {
   counts = record { of_class = of_letters (take n bytes) h; size = refl; count = tt; letters = λ k. refl };
   uncomments = λ rest. letters_plain (take n bytes) rest h;
 }
-
--- a comment begins with its semicolon
-comment_begins : (bytes more : List ℕ) (d : ℕ) → 0 < length bytes → get_or bytes 0 d ≡ 59 → uncommented false (bytes ++ more) ≡ uncommented true (bytes ++ more)
-comment_begins [] more d some e = absurd (omega (arith, some))
-comment_begins (b ∷ s) more d some e = rw e refl
-
-take_first : (bytes : List ℕ) (n d : ℕ) → 0 < n → n ≤ length bytes → (0 < length (take n bytes)) × (get_or (take n bytes) 0 d ≡ get_or bytes 0 d)
-take_first [] n d some le = absurd (omega (arith, some, le))
-take_first (b ∷ s) zero d some le = absurd (omega (arith, some))
-take_first (b ∷ s) (suc n) d some le = (omega arith, refl)
-
-pub comment_first : (bytes : List ℕ) (d : ℕ) (run : Run) → get_or bytes 0 d ≡ 59 → IsRun true bytes run → IsRun false bytes run
-comment_first bytes d run e h =
-    let first = take_first bytes run.length d h.some h.within in
-    record {
-      some = h.some;
-      within = h.within;
-      seen = h.seen;
-      counts = h.counts;
-      uncomments = λ rest. comment_begins (take run.length bytes) rest d first.0 (first.1 ∙ e) ∙ h.uncomments rest;
-    }
-
--- the run of the first bytes is that of all
-pub run_within : (c : Bool) (bytes : List ℕ) (n : ℕ) (run : Run) → IsRun c (take n bytes) run → IsRun c bytes run
-run_within c bytes n run h =
-    let short : run.length ≤ min n (length bytes) = subst (λ x. run.length ≤ x) (length-take n bytes) h.within in
-    let same : take run.length (take n bytes) ≡ take run.length bytes = take_less run.length n bytes (omega (arith, short)) in
-    record {
-      some = h.some;
-      within = omega (arith, short);
-      seen = h.seen;
-      counts = subst (λ x. AreSeen run.class x h.seen) same h.counts;
-      uncomments = λ rest. ap (λ x. uncommented c (x ++ rest)) (sym same) ∙ h.uncomments rest;
-    } where
-  take_less : (i n : ℕ) (xs : List ℕ) → i ≤ n → take i (take n xs) ≡ take i xs
-  take_less zero n xs le = refl
-  take_less (suc i) zero xs le = absurd (omega (arith, le))
-  take_less (suc i) (suc n) [] le = refl
-  take_less (suc i) (suc n) (x ∷ xs) le = ap (λ ys. x ∷ ys) (take_less i n xs (omega (arith, le)))
 
 begins_by : (bytes : List ℕ) → 0 < length bytes → Letter ≡ class_of (get_or bytes 0 0) → begins_word bytes ≡ true
 begins_by [] some e = absurd (omega (arith, some))

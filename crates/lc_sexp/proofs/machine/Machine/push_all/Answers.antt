@@ -1,4 +1,4 @@
-use Rattle.std.proofs.Common.{◌≡◌, ℕ, ◌-◌, ◌<◌, List, ◌++◌, length, take, drop, vec_len, sym, ap, ◌∙◌, arith, length-drop}
+use Rattle.std.proofs.Common.{ℕ, ◌-◌, ◌<◌, List, ◌++◌, length, take, drop, vec_len, sym, ap, ◌∙◌, arith, length-drop}
 use Rattle.lc_sexp.specs.Text.{uncommented}
 use Rattle.lc_sexp.specs.Progress.{told, fault_from}
 use Rattle.lc_sexp.proofs.Runs.{parted, parted_last, taken_on, tail_of, all_taken, cut_short, differ, fault_full}

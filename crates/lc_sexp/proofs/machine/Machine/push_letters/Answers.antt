@@ -1,4 +1,4 @@
-use Rattle.std.proofs.Common.{◌≡◌, ◌++◌, ◌∷◌, [], cond, length, get_or, sym, ap, ◌∙◌, arith}
+use Rattle.std.proofs.Common.{◌++◌, cond, length, sym, ap, ◌∙◌, arith}
 use Rattle.std.specs.Result.{is_ok}
 use Rattle.lc_sexp.proofs.Tokens.{letters_extended}
 use Rattle.lc_sexp.proofs.Nodes.{under_way_extended, told_letters, refused_or_more}

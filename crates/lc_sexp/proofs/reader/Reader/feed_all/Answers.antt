@@ -1,7 +1,6 @@
-use Rattle.std.proofs.Common.{◌≡◌, ℕ, ◌+◌, ◌-◌, ◌<◌, List, ◌++◌, length, take, drop, Some, refl, sym, ap, ◌∙◌, subst, arith, length-append, length-drop, length-take}
+use Rattle.std.proofs.Common.{ℕ, ◌-◌, ◌<◌, List, ◌++◌, length, take, drop, Some, refl, sym, ap, ◌∙◌, arith, length-append, length-drop, length-take}
 use Rattle.lc_sexp.specs.Splitting.{depth_of}
-use Rattle.lc_sexp.specs.Reading.{IsAfterTaking}
-use Rattle.lc_sexp.proofs.Runs.{tail_of, all_taken, cut_short, fault_full}
+use Rattle.lc_sexp.proofs.Runs.{tail_of, cut_short, fault_full}
 use Rattle.lc_sexp.proofs.Fed.{after_rest, after_run, after_fault, after_next, after_last, fault_before}
 use Rattle.lc_sexp.proofs.reader.Reader.feed_all.Goals as goal
 

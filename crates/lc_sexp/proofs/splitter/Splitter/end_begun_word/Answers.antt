@@ -1,9 +1,6 @@
-use Rattle.std.proofs.Common.{◌≡◌, ◌≢◌, ℕ, ◌∷◌, ◌++◌, length, drop, ap, sym, refl, ◌∙◌, arith, length-drop}
-use Rattle.std.proofs.lemmas.Bool.Decides.{nat_tests}
-use Rattle.lc_sexp.specs.Trees.{word, tokens_of}
+use Rattle.std.proofs.Common.{◌≢◌, ◌++◌, length, ap, sym, refl, ◌∙◌, arith, length-drop}
+use Rattle.lc_sexp.specs.Trees.{tokens_of}
 use Rattle.lc_sexp.specs.Flat.{is_rooted}
-use Rattle.lc_sexp.specs.Entries.{leaf}
-use Rattle.lc_sexp.specs.Built.{entries_in}
 use Rattle.lc_sexp.specs.Progress.{told}
 use Rattle.lc_sexp.proofs.Nodes.{none_listed}
 use Rattle.lc_sexp.proofs.Cuts.{rooted_none, told_cut_word}

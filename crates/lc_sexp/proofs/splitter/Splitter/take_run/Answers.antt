@@ -1,4 +1,4 @@
-use Rattle.std.proofs.Common.{◌≡◌, ◌∷◌, ◌++◌, refl, sym, ap, ◌∙◌, subst, arith}
+use Rattle.std.proofs.Common.{◌++◌, refl, sym, ap, ◌∙◌, subst, arith}
 use Rattle.lc_sexp.specs.Splitting.{Splits}
 use Rattle.lc_sexp.specs.Progress.{told}
 use Rattle.lc_sexp.specs.Flat.{is_rooted}
