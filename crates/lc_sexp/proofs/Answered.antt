@@ -1,15 +1,14 @@
 -- What reading answers, from the tokens and the fault.
-use Rattle.std.proofs.Common.{◌≡◌, ◌≤◌, ℕ, true, false, List, [], ◌++◌, length, take, Option, Some, None, Result, Ok, Err, sym, ap, ◌∙◌, subst, arith, append-nil, IfOk, IfErr, OnOk, vec_len}
+use Rattle.std.proofs.Common.{◌≡◌, ◌≤◌, ℕ, false, List, [], ◌++◌, length, Some, None, Result, Ok, Err, sym, ap, ◌∙◌, subst, arith, append-nil, IfOk, IfErr, OnOk, vec_len}
 use Rattle.lc_base.specs.declared.refusal.Refusal.TheVariants.{Text}
 use Rattle.lc_base.specs.declared.refusal.Fault.{Fault}
 use Rattle.lc_base.specs.declared.refusal.Fault.TheVariants.{Refused, OutOfMemory}
-use Rattle.lc_sexp.specs.Trees.{Trees, Token, tokens_of_all, item_count_of_all}
+use Rattle.lc_sexp.specs.Trees.{Trees, tokens_of_all, item_count_of_all}
 use Rattle.lc_sexp.specs.Text.{lexed, uncommented}
 use Rattle.lc_sexp.specs.Reads.{ReadsAs, IsFirstFault}
 use Rattle.lc_sexp.specs.Progress.{told, fault_from}
 use Rattle.lc_sexp.specs.Answers.{IsTextFault, IsAnswerTo, IsAnswerWithout}
 use Rattle.lc_sexp.specs.declared.machine.Machine.{Machine}
-use Rattle.lc_sexp.specs.declared.part.Part.{Part}
 use Rattle.lc_sexp.proofs.Faults.{found_fault, found_trees}
 use Rattle.lc_sexp.proofs.Items.{items_fit_lem}
 use Rattle.lc_sexp.proofs.Takings.{without_none}

@@ -1,21 +1,20 @@
 -- Items that are taken out of the nodes.
-use Rattle.std.proofs.Common.{◌≡◌, ◌≢◌, ℕ, zero, suc, ◌+◌, ◌-◌, ◌≤◌, ◌<◌, Bool, true, false, List, [], ◌∷◌, ◌++◌, length, get_or, set, take, drop, refl, sym, ap, ◌∙◌, subst, arith, append_assoc, append-nil, length-append, length-drop}
+use Rattle.std.proofs.Common.{◌≡◌, ◌≢◌, ℕ, zero, suc, ◌+◌, ◌-◌, ◌≤◌, ◌<◌, true, false, List, [], ◌∷◌, ◌++◌, length, get_or, set, take, drop, refl, sym, ap, ◌∙◌, subst, arith, append_assoc, append-nil, length-append, length-drop}
 use Rattle.std.specs.List.{list_all}
-use Rattle.std.proofs.Math.Nat.{zero-add}
 use Rattle.std.proofs.Math.Seq.{take-append_seam, drop-append_seam}
 use Rattle.std.proofs.lemmas.List.{length-map, take-append-drop, take-map, drop-map, drop_all, take_all}
 use Rattle.std.proofs.lemmas.List.Folds.{list_all-append}
-use Rattle.lc_sexp.specs.Trees.{Tree, Trees, list, item_count_of_all, Token, open_list, close_list, word, tokens_of, tokens_of_all}
+use Rattle.lc_sexp.specs.Trees.{Trees, list, item_count_of_all, Token, open_list, close_list, word, tokens_of, tokens_of_all}
 use Rattle.lc_sexp.specs.Text.{class_of, are_letters, begins_word, lexed, before}
 use Rattle.lc_sexp.specs.declared.class.Class.TheVariants.{White}
-use Rattle.lc_sexp.specs.Entries.{Entry, branch, hole, entries_of, entries_of_all, first_row, later_rows, laid, holes_from, rows_tokens}
-use Rattle.lc_sexp.specs.Flat.{entry_of, entries, is_within, is_rooted, trees_of, IsFlat, IsUnderWay, node_tokens}
+use Rattle.lc_sexp.specs.Entries.{Entry, hole, entries_of_all, first_row, later_rows, laid, holes_from, rows_tokens}
+use Rattle.lc_sexp.specs.Flat.{entry_of, entries, is_within, is_rooted, IsFlat, IsUnderWay}
 use Rattle.lc_sexp.specs.Progress.{told, told_tokens}
 use Rattle.lc_sexp.specs.declared.node.Node.{Node}
 use Rattle.lc_sexp.specs.declared.node.Node.TheVariants.{Atom, List as ListOf, Open}
 use Rattle.lc_sexp.proofs.Tokens.{and_parts}
 use Rattle.lc_sexp.proofs.Rows.{entries_all_counted, first_laid, later_laid, place_least}
-use Rattle.lc_sexp.proofs.Nodes.{within_more, word_lexed, list_place}
+use Rattle.lc_sexp.proofs.Nodes.{within_more, word_lexed}
 use Rattle.lc_sexp.proofs.Flats.{flat_from}
 
 -- nodes of which there are none
@@ -37,13 +36,6 @@ told_ended_at text start nodes rest e = ap (λ x. told_tokens text nodes (lexed 
 pub told_bracket_at : (text : List ℕ) (start : ℕ) (nodes : List Node) (tok : Token) (b : ℕ) (rest : List ℕ) → start ≡ length text → lexed (b ∷ rest) ≡ tok ∷ lexed rest
     → told text start nodes (b ∷ rest) ≡ told_tokens text nodes (tok ∷ lexed rest)
 told_bracket_at text start nodes tok b rest e l = told_ended_at text start nodes (b ∷ rest) e ∙ ap (told_tokens text nodes) l
-
-lexed_white : (b : ℕ) (rest : List ℕ) → class_of b ≡ White → lexed (b ∷ rest) ≡ lexed rest
-lexed_white b rest e = ap (λ k. before k b (begins_word rest) (lexed rest)) e
-
-pub told_white_at : (text : List ℕ) (start : ℕ) (nodes : List Node) (b : ℕ) (rest : List ℕ) → start ≡ length text → class_of b ≡ White → told text start nodes rest ≡ told text start nodes (b ∷ rest)
-told_white_at text start nodes b rest e w =
-    told_ended_at text start nodes rest e ∙ ap (told_tokens text nodes) (sym (lexed_white b rest w)) ∙ sym (told_ended_at text start nodes (b ∷ rest) e)
 
 -- a word where no node stands
 pub told_cut_word : (text text' : List ℕ) (start start' : ℕ) (nodes nodes' : List Node) (w rest : List ℕ) → nodes ≡ [] → nodes' ≡ nodes → w ≡ drop start text → length w ≢ 0 → are_letters w ≡ true

@@ -1,21 +1,19 @@
 -- A reader that is fed bytes and of which parts are taken.
-use Rattle.std.proofs.Common.{◌≡◌, ℕ, ◌+◌, ◌<◌, Bool, true, false, List, [], ◌∷◌, ◌++◌, length, get_or, drop, Option, Some, None, Result, Ok, Err, refl, sym, ap, ◌∙◌, subst, arith, append_assoc, append-nil, length-append, length-drop, IfOk, IfErr, OnOk, vec_len, ◌⊎◌, inl, inr, take}
+use Rattle.std.proofs.Common.{◌≡◌, ℕ, ◌+◌, ◌-◌, Bool, true, false, List, [], ◌∷◌, ◌++◌, length, drop, Option, Some, None, Result, Ok, Err, refl, sym, ap, ◌∙◌, subst, arith, append_assoc, append-nil, length-append, length-drop, IfOk, IfErr, OnOk, ◌⊎◌, inl, inr, take}
 use Rattle.std.specs.Prelude.{flat_map}
 use Rattle.std.specs.Option.{IfNone, is_some, option_to_list}
-use Rattle.std.proofs.lemmas.List.{take-append-drop, take_more}
 use Rattle.std.specs.declared.alloc.Global.{Global}
 use Rattle.std.specs.declared.collections.VecDeque.{VecDeque}
 use Rattle.lc_base.specs.declared.refusal.Fault.{Fault}
 use Rattle.lc_sexp.specs.Trees.{Trees, none, Token, open_list, tokens_of_all}
 use Rattle.lc_sexp.specs.Text.{lexed, uncommented}
 use Rattle.lc_sexp.specs.Entries.{first_row, later_rows, rows_tokens}
-use Rattle.lc_sexp.specs.Flat.{entries, is_rooted, IsUnderWay}
-use Rattle.lc_sexp.specs.Built.{entries_in}
-use Rattle.lc_sexp.specs.Reads.{ReadsAs, IsFirstFault}
+use Rattle.lc_sexp.specs.Flat.{entries, is_rooted}
+use Rattle.lc_sexp.specs.Reads.{IsFirstFault}
 use Rattle.lc_sexp.specs.Progress.{told, told_tokens, fault_from}
 use Rattle.lc_sexp.specs.Takes.{parts_of, without, parts_ended}
 use Rattle.lc_sexp.specs.Begins.{Begins, AreAllParts}
-use Rattle.lc_sexp.specs.Splitting.{opened, front, depth_of, IsSetAside, Splits}
+use Rattle.lc_sexp.specs.Splitting.{opened, front, depth_of, Splits}
 use Rattle.lc_sexp.specs.Answers.{IsTextFault, IsAnswerWithout}
 use Rattle.lc_sexp.specs.Reading.{fault_with, tokens_behind, IsAfterTaking}
 use Rattle.lc_sexp.specs.declared.node.Node.{Node}
@@ -26,7 +24,8 @@ use Rattle.lc_sexp.specs.declared.reader.Reader.{Reader}
 use Rattle.lc_sexp.proofs.Faults.{found_fault, found_trees}
 use Rattle.lc_sexp.proofs.Nodes.{letters_drop, none_listed}
 use Rattle.lc_sexp.proofs.Cuts.{told_none, rooted_none}
-use Rattle.lc_sexp.proofs.Takings.{same_rest, at_rests, same_parts}
+use Rattle.lc_sexp.proofs.Runs.{taken_on, parted}
+use Rattle.lc_sexp.proofs.Takings.{at_rests, same_parts}
 use Rattle.lc_sexp.proofs.Answered.{IsTextFault-weaker}
 
 -- the whole known otherwise
@@ -66,42 +65,42 @@ after_new r e o d c h = record {
 behind : (fed more rest : List ℕ) → fault_from 0 0 (uncommented false (fed ++ (more ++ rest))) ≡ fault_from 0 0 (uncommented false ((fed ++ more) ++ rest))
 behind fed more rest = ap (λ x. fault_from 0 0 (uncommented false x)) (sym (append_assoc fed more rest))
 
-pub after_byte : (fed : List ℕ) (taken : List Part) (b : ℕ) (r r' : Reader) → r.fault ≡ None → r'.fault ≡ None
+pub after_run : (fed : List ℕ) (taken : List Part) (run : List ℕ) (r r' : Reader) → r.fault ≡ None → r'.fault ≡ None
     → ((whole : List ℕ → List Token) → (taken : List Part) → Splits whole (uncommented r.splitter.machine.in_comment) taken r.splitter
-    → Splits (λ x. whole (b ∷ x)) (uncommented r'.splitter.machine.in_comment) taken r'.splitter)
-    → ((rest : List ℕ) → fault_with None r'.splitter rest ≡ fault_with None r.splitter (b ∷ rest))
-    → r'.splitter.machine.offset ≡ r.splitter.machine.offset + 1
-    → IsAfterTaking fed taken r → IsAfterTaking (fed ++ (b ∷ [])) taken r'
-after_byte fed taken b r r' e e' splits fault offset h =
+    → Splits (λ x. whole (run ++ x)) (uncommented r'.splitter.machine.in_comment) taken r'.splitter)
+    → ((rest : List ℕ) → fault_with None r'.splitter rest ≡ fault_with None r.splitter (run ++ rest))
+    → r'.splitter.machine.offset ≡ r.splitter.machine.offset + length run
+    → IsAfterTaking fed taken r → IsAfterTaking (fed ++ run) taken r'
+after_run fed taken run r r' e e' splits fault offset h =
     let same : fed ≡ h.read = h.joined ∙ ap (λ x. h.read ++ x) (h.going e) ∙ append-nil h.read in
     record {
-      read = h.read ++ (b ∷ []);
+      read = h.read ++ run;
       unread = [];
-      joined = ap (λ x. x ++ (b ∷ [])) same ∙ sym (append-nil (h.read ++ (b ∷ [])));
+      joined = ap (λ x. x ++ run) same ∙ sym (append-nil (h.read ++ run));
       going = λ f. refl;
       stopped = λ n f. absurd (let k : None ≡ Some n = sym e' ∙ f in cc);
-      offset = omega (arith, offset, h.offset, length-append h.read (b ∷ []));
+      offset = omega (arith, offset, h.offset, length-append h.read run);
       fault = λ rest.
-          ap (λ x. fault_with x r'.splitter rest) e' ∙ fault rest ∙ sym (ap (λ x. fault_with x r.splitter (b ∷ rest)) e)
-          ∙ h.fault (b ∷ rest) ∙ behind fed (b ∷ []) rest;
+          ap (λ x. fault_with x r'.splitter rest) e' ∙ fault rest ∙ sym (ap (λ x. fault_with x r.splitter (run ++ rest)) e)
+          ∙ h.fault (run ++ rest) ∙ behind fed run rest;
       splits =
-          same_whole (λ x. tokens_behind h.read (b ∷ x)) (tokens_behind (h.read ++ (b ∷ []))) _ taken r'.splitter
-          (λ x. ap (λ y. lexed (uncommented false y)) (sym (append_assoc h.read (b ∷ []) x))) (splits (tokens_behind h.read) taken h.splits);
+          same_whole (λ x. tokens_behind h.read (run ++ x)) (tokens_behind (h.read ++ run)) _ taken r'.splitter
+          (λ x. ap (λ y. lexed (uncommented false y)) (sym (append_assoc h.read run x))) (splits (tokens_behind h.read) taken h.splits);
     }
 
-pub after_fault : (fed : List ℕ) (taken : List Part) (b : ℕ) (r r' : Reader) → r.fault ≡ None → r'.fault ≡ Some r.splitter.machine.offset → r'.splitter ≡ r.splitter
-    → ((rest : List ℕ) → fault_with None r.splitter (b ∷ rest) ≡ Some r.splitter.machine.offset)
-    → IsAfterTaking fed taken r → IsAfterTaking (fed ++ (b ∷ [])) taken r'
-after_fault fed taken b r r' e e' same wrong h = record {
+pub after_fault : (fed : List ℕ) (taken : List Part) (more : List ℕ) (r r' : Reader) → r.fault ≡ None → r'.fault ≡ Some r.splitter.machine.offset → r'.splitter ≡ r.splitter
+    → ((rest : List ℕ) → fault_with None r.splitter (more ++ rest) ≡ Some r.splitter.machine.offset)
+    → IsAfterTaking fed taken r → IsAfterTaking (fed ++ more) taken r'
+after_fault fed taken more r r' e e' same wrong h = record {
   read = h.read;
-  unread = h.unread ++ (b ∷ []);
-  joined = ap (λ x. x ++ (b ∷ [])) h.joined ∙ append_assoc h.read h.unread (b ∷ []);
+  unread = h.unread ++ more;
+  joined = ap (λ x. x ++ more) h.joined ∙ append_assoc h.read h.unread more;
   going = λ f. absurd (let k : None ≡ Some r.splitter.machine.offset = sym f ∙ e' in cc);
   stopped = λ n f. (let k : Some r.splitter.machine.offset ≡ Some n = sym e' ∙ f in let same : r.splitter.machine.offset ≡ n = cc in sym h.offset ∙ same);
   offset = ap (λ s. s.machine.offset) same ∙ h.offset;
   fault = λ rest.
-      ap (λ x. fault_with x r'.splitter rest) e' ∙ sym (wrong rest) ∙ sym (ap (λ x. fault_with x r.splitter (b ∷ rest)) e)
-      ∙ h.fault (b ∷ rest) ∙ behind fed (b ∷ []) rest;
+      ap (λ x. fault_with x r'.splitter rest) e' ∙ sym (wrong rest) ∙ sym (ap (λ x. fault_with x r.splitter (more ++ rest)) e)
+      ∙ h.fault (more ++ rest) ∙ behind fed more rest;
   splits = subst (λ s. Splits (tokens_behind h.read) (uncommented s.machine.in_comment) taken s) (sym same) h.splits;
 }
 
@@ -166,19 +165,31 @@ some_fault None e = absurd (cc)
 some_fault (Some n) e = (n, refl)
 
 -- behind a fault nothing more is read
-pub after_rest : (fed piece : List ℕ) (i : ℕ) (taken : List Part) (r r' : Reader) → r'.splitter ≡ r.splitter → r'.fault ≡ r.fault → is_some r.fault ≡ true → IsAfterTaking (fed ++ take i piece) taken r
+pub after_rest : (fed piece : List ℕ) (taken : List Part) (r r' : Reader) → r'.splitter ≡ r.splitter → r'.fault ≡ r.fault → is_some r.fault ≡ true → IsAfterTaking fed taken r
     → IsAfterTaking (fed ++ piece) taken r'
-after_rest fed piece i taken r r' d g e h =
+after_rest fed piece taken r r' d g e h =
     let f = some_fault r.fault e in
-    same_reader (fed ++ piece) taken r r' d g
-    (subst (λ x. IsAfterTaking x taken r) (append_assoc fed (take i piece) (drop i piece) ∙ ap (λ x. fed ++ x) (take-append-drop i piece)) (after_more (fed ++ take i piece) (drop i piece) taken r f.0 f.1 h))
+    same_reader (fed ++ piece) taken r r' d g (after_more fed piece taken r f.0 f.1 h)
 
--- one more byte of a piece
-pub after_one : (fed piece : List ℕ) (i b d : ℕ) (taken : List Part) (r : Reader) → i < length piece → b ≡ get_or piece i d → IsAfterTaking ((fed ++ take i piece) ++ (b ∷ [])) taken r
-    → IsAfterTaking (fed ++ take (i + 1) piece) taken r
-after_one fed piece i b d taken r lt e h =
-    subst (λ x. IsAfterTaking x taken r)
-    (append_assoc fed (take i piece) (b ∷ []) ∙ ap (λ x. fed ++ (take i piece ++ (x ∷ []))) e ∙ ap (λ x. fed ++ x) (sym (take_more piece i d lt))) h
+-- one run more of a piece
+pub after_next : (fed piece : List ℕ) (i n : ℕ) (taken : List Part) (r : Reader) → IsAfterTaking ((fed ++ take i piece) ++ take n (take (length piece - i) (drop i piece))) taken r
+    → IsAfterTaking (fed ++ take (i + n) piece) taken r
+after_next fed piece i n taken r h =
+    let front : List ℕ = take n (take (length piece - i) (drop i piece)) in
+    let same : take i piece ++ front ≡ take (i + n) piece =
+    ap (λ x. take i piece ++ x) (sym (append-nil front)) ∙ taken_on i n piece [] ∙ append-nil (take (i + n) piece) in
+    subst (λ x. IsAfterTaking x taken r) (append_assoc fed (take i piece) front ∙ ap (λ x. fed ++ x) same) h
+
+-- the rest of a piece, of which some may stand behind the file limit
+pub after_last : (fed piece within last : List ℕ) (i : ℕ) (taken : List Part) (r : Reader) → piece ≡ within ++ last
+    → IsAfterTaking ((fed ++ take i within) ++ (take (length within - i) (drop i within) ++ last)) taken r → IsAfterTaking (fed ++ piece) taken r
+after_last fed piece within last i taken r e h =
+    let tail : List ℕ = take (length within - i) (drop i within) in
+    let same : take i within ++ (tail ++ last) ≡ piece = sym (parted i within last) ∙ sym e in
+    subst (λ x. IsAfterTaking x taken r) (append_assoc fed (take i within) (tail ++ last) ∙ ap (λ x. fed ++ x) same) h
+
+pub fault_before : (tail last rest : List ℕ) (s : Splitter) → ((rest : List ℕ) → fault_with None s (tail ++ rest) ≡ Some s.machine.offset) → fault_with None s ((tail ++ last) ++ rest) ≡ Some s.machine.offset
+fault_before tail last rest s wrong = ap (fault_with None s) (append_assoc tail last rest) ∙ wrong (last ++ rest)
 
 -- the first part that is ready was taken
 pub after_part : (fed : List ℕ) (taken : List Part) (r : Reader) (q : VecDeque Part Global) (p : Part) → r.splitter.ready.items ≡ p ∷ q.items → IsAfterTaking fed taken r

@@ -1,11 +1,11 @@
 -- Parts that are put back into their lists.
 use Rattle.std.proofs.Common.{◌≡◌, ℕ, ◌+◌, List, [], ◌∷◌, ◌++◌, sym, ap, ◌∙◌, subst, append_assoc}
 use Rattle.lc_sexp.specs.Trees.{Trees, list, ◌▸◌, item_count_of_all}
-use Rattle.lc_sexp.specs.Entries.{Entry, leaf, branch, entries_of_all}
+use Rattle.lc_sexp.specs.Entries.{Entry, branch, entries_of_all}
 use Rattle.lc_sexp.specs.Flat.{entry_of}
 use Rattle.lc_sexp.specs.Filling.{front_of, behind_of, filled}
 use Rattle.lc_sexp.specs.declared.node.Node.{Node}
-use Rattle.lc_sexp.specs.declared.node.Node.TheVariants.{Atom, List as ListOf, Open}
+use Rattle.lc_sexp.specs.declared.node.Node.TheVariants.{Atom, List as ListOf}
 use Rattle.lc_sexp.specs.declared.part.Part.{Part}
 
 -- an atom is put behind

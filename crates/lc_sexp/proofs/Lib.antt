@@ -1,6 +1,7 @@
 pub mod Answered
 pub mod Atoms
 pub mod Builds
+pub mod Classes
 pub mod Cuts
 pub mod Exists
 pub mod Faults
@@ -13,6 +14,7 @@ pub mod Nodes
 pub mod PrintedLemmas
 pub mod Prints
 pub mod Rows
+pub mod Runs
 pub mod Splits
 pub mod Takings
 pub mod Tokens

@@ -55,24 +55,24 @@ within_set k [] i n h = refl
 within_set k (x ∷ nodes) zero n h = (and_parts (is_within k x) _ h).1
 within_set k (x ∷ nodes) (suc i) n h = let hs = and_parts (is_within k x) _ h in both _ _ hs.0 (within_set k nodes i n hs.1)
 
--- a letter more at the end of the text
-pub under_way_letter : (text text' : List ℕ) (start b : ℕ) (nodes : List Node) (holes : List ℕ) → text' ≡ text ++ (b ∷ []) → start ≤ length text
+-- more letters at the end of the text
+pub under_way_letters : (text text' : List ℕ) (start : ℕ) (more : List ℕ) (nodes : List Node) (holes : List ℕ) → text' ≡ text ++ more → start ≤ length text
     → IsUnderWay text start nodes holes → IsUnderWay text' start nodes holes
-under_way_letter text text' start b nodes holes e le h =
-    let same : entries text nodes ≡ entries text' nodes = sym (ap (λ x. entries x nodes) e ∙ entries_more text (b ∷ []) start nodes le h.within) in
+under_way_letters text text' start more nodes holes e le h =
+    let same : entries text nodes ≡ entries text' nodes = sym (ap (λ x. entries x nodes) e ∙ entries_more text more start nodes le h.within) in
     record {
       whole = subst (λ es. laid (first_row es) (later_rows es) ≡ es) same h.whole;
       within = h.within;
       places = subst (λ es. holes ≡ holes_from 0 (first_row es) (later_rows es)) same h.places;
     }
 
-pub told_letter : (text text' : List ℕ) (start b : ℕ) (nodes : List Node) (holes rest : List ℕ) → text' ≡ text ++ (b ∷ []) → start ≤ length text
-    → IsUnderWay text start nodes holes → told text' start nodes rest ≡ told text start nodes (b ∷ rest)
-told_letter text text' start b nodes holes rest e le h =
-    let same = ap (λ x. entries x nodes) e ∙ entries_more text (b ∷ []) start nodes le h.within in
+pub told_letters : (text text' : List ℕ) (start : ℕ) (more : List ℕ) (nodes : List Node) (holes rest : List ℕ) → text' ≡ text ++ more → start ≤ length text
+    → IsUnderWay text start nodes holes → told text' start nodes rest ≡ told text start nodes (more ++ rest)
+told_letters text text' start more nodes holes rest e le h =
+    let same = ap (λ x. entries x nodes) e ∙ entries_more text more start nodes le h.within in
     ap (λ es. rows_tokens (first_row es) (later_rows es) ++ lexed (drop start text' ++ rest)) same
-    ∙ ap (λ x. node_tokens text nodes ++ lexed (x ++ rest)) (ap (drop start) e ∙ drop-append-le start text (b ∷ []) le)
-    ∙ ap (λ x. node_tokens text nodes ++ lexed x) (append_assoc (drop start text) (b ∷ []) rest)
+    ∙ ap (λ x. node_tokens text nodes ++ lexed (x ++ rest)) (ap (drop start) e ∙ drop-append-le start text more le)
+    ∙ ap (λ x. node_tokens text nodes ++ lexed x) (append_assoc (drop start text) more rest)
 
 -- nodes that have become others
 record IsNext (text : List ℕ) (start start' : ℕ) (nodes nodes' : List Node) (holes' : List ℕ) (tokens : List Token) : Type 0 where
@@ -261,12 +261,12 @@ lexed_open b rest e = ap (λ k. before k b (begins_word rest) (lexed rest)) e
 pub lexed_close : (b : ℕ) (rest : List ℕ) → class_of b ≡ CloseClass → lexed (b ∷ rest) ≡ close_list ∷ lexed rest
 lexed_close b rest e = ap (λ k. before k b (begins_word rest) (lexed rest)) e
 
--- the same where a push may have been refused
-pub under_way_pushed : (ok : Bool) (text text' : List ℕ) (start b : ℕ) (nodes : List Node) (holes : List ℕ) → text' ≡ cond ok (text ++ (b ∷ [])) text → start ≤ length text
+-- the same where memory may have been refused
+pub under_way_extended : (ok : Bool) (text text' : List ℕ) (start : ℕ) (more : List ℕ) (nodes : List Node) (holes : List ℕ) → text' ≡ cond ok (text ++ more) text → start ≤ length text
     → IsUnderWay text start nodes holes → IsUnderWay text' start nodes holes
-under_way_pushed true text text' start b nodes holes e le h = under_way_letter text text' start b nodes holes e le h
-under_way_pushed false text text' start b nodes holes e le h = subst (λ x. IsUnderWay x start nodes holes) (sym e) h
+under_way_extended true text text' start more nodes holes e le h = under_way_letters text text' start more nodes holes e le h
+under_way_extended false text text' start more nodes holes e le h = subst (λ x. IsUnderWay x start nodes holes) (sym e) h
 
-pub refused_or_more : (ok : Bool) (n m : ℕ) → n ≡ cond ok (m + 1) m → (m ≤ n) × (n ≤ m + 1)
-refused_or_more true n m e = (omega (arith, e), omega (arith, e))
-refused_or_more false n m e = (omega (arith, e), omega (arith, e))
+pub refused_or_more : (ok : Bool) (n m k : ℕ) → n ≡ cond ok (m + k) m → (m ≤ n) × (n ≤ m + k)
+refused_or_more true n m k e = (omega (arith, e), omega (arith, e))
+refused_or_more false n m k e = (omega (arith, e), omega (arith, e))

@@ -161,18 +161,20 @@ list_taken m m' k t b rest told e e' l o r =
     ∙ told_none m'.text.items m'.nodes.items (tokens_of t ++ lexed rest) none
     ∙ ap (λ ts. tokens_of t ++ ts) (sym (told_ended_at m'.text.items m'.start m'.nodes.items rest e' ∙ told_none m'.text.items m'.nodes.items (lexed rest) none))
 
--- a byte of the file as the byte that counts
-pub byte_step : (whole : List ℕ → List Token) (taken : List Part) (s : Splitter) (m : Machine) (b seen : ℕ) (c : Bool) → m.text ≡ s.machine.text → m.start ≡ s.machine.start → m.nodes ≡ s.machine.nodes → m.holes ≡ s.machine.holes
-    → ((x : List ℕ) → uncommented s.machine.in_comment (b ∷ x) ≡ seen ∷ uncommented c x) → Splits whole (uncommented s.machine.in_comment) taken s
-    → Splits (λ x. whole (b ∷ x)) (λ x. seen ∷ uncommented c x) taken (record s { machine = m })
-byte_step whole taken s m b seen c et es en eh u h = record {
-  aside = at_rests whole (λ x. whole (b ∷ x)) (λ x. told_by s.machine (uncommented s.machine.in_comment x)) (λ x. told_by m (seen ∷ uncommented c x)) _ s.in_list _ s.form s.item (λ x. b ∷ x) (λ x. refl)
-      (λ x.
-      ap (λ v. told v.items m.start m.nodes.items (seen ∷ uncommented c x)) et
-      ∙ ap (λ n. told s.machine.text.items n m.nodes.items (seen ∷ uncommented c x)) es
-      ∙ ap (λ v. told s.machine.text.items s.machine.start v.items (seen ∷ uncommented c x)) en
-      ∙ ap (told_by s.machine) (sym (u x)))
+-- bytes were counted
+pub count_step : (whole : List ℕ → List Token) (rest : List ℕ → List ℕ) (taken : List Part) (s : Splitter) (m : Machine) → ((x : List ℕ) → told_by m x ≡ told_by s.machine x)
+    → m.nodes ≡ s.machine.nodes → m.holes ≡ s.machine.holes → Splits whole rest taken s → Splits whole rest taken (record s { machine = m })
+count_step whole rest taken s m t en eh h =
+    machine_step whole rest rest taken s m (λ x. t (rest x)) (λ r. ap (λ v. is_rooted v.items) en ∙ r) (λ e o. ap (λ v. v.items) eh ∙ o) h
+
+-- bytes of the file as the bytes that count
+pub run_step : (whole : List ℕ → List Token) (taken : List Part) (s : Splitter) (bytes seen : List ℕ) (c : Bool)
+    → ((x : List ℕ) → uncommented s.machine.in_comment (bytes ++ x) ≡ seen ++ uncommented c x) → Splits whole (uncommented s.machine.in_comment) taken s
+    → Splits (λ x. whole (bytes ++ x)) (λ x. seen ++ uncommented c x) taken s
+run_step whole taken s bytes seen c u h = record {
+  aside = at_rests whole (λ x. whole (bytes ++ x)) (λ x. told_by s.machine (uncommented s.machine.in_comment x)) (λ x. told_by s.machine (seen ++ uncommented c x)) _ s.in_list _ s.form s.item (λ x. bytes ++ x) (λ x. refl)
+      (λ x. ap (told_by s.machine) (sym (u x)))
       h.aside;
-  rooted = ap (λ v. is_rooted v.items) en ∙ h.rooted;
-  outside = λ e. ap (λ v. v.items) eh ∙ h.outside e;
+  rooted = h.rooted;
+  outside = h.outside;
 }

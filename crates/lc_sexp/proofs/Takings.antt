@@ -6,9 +6,9 @@ use Rattle.std.proofs.Math.Seq.{take-append_seam, drop-append_seam}
 use Rattle.lc_sexp.specs.Trees.{Tree, Trees, atom, list, none, ◌▸◌, item_count, item_count_of_all, Token, open_list, close_list, word, tokens_of, tokens_of_all}
 use Rattle.lc_sexp.specs.TreeCode.{joined_rows, tree_count, behind_first}
 use Rattle.lc_sexp.specs.Entries.{Entry, leaf, branch, entries_of_all}
-use Rattle.lc_sexp.specs.Takes.{parts_in, parts_from, parts_of, without, parts_ended}
+use Rattle.lc_sexp.specs.Takes.{parts_in, parts_from, parts_of, without}
 use Rattle.lc_sexp.specs.Filling.{front_of, behind_of, filled}
-use Rattle.lc_sexp.specs.Splitting.{opened, front, items_before, emptied, IsSetAside}
+use Rattle.lc_sexp.specs.Splitting.{front, emptied, IsSetAside}
 use Rattle.lc_sexp.specs.declared.part.Part.{Part}
 use Rattle.lc_sexp.proofs.Rows.{entries_joined, tokens_joined, count_joined}
 

@@ -1,5 +1,5 @@
 -- Laws of tokens and of trees in a row.
-use Rattle.std.proofs.Common.{◌≡◌, ℕ, ◌<◌, Bool, true, false, ◌&&◌, cond, List, [], ◌∷◌, ◌++◌, refl, sym, ap, ◌∙◌, subst, arith}
+use Rattle.std.proofs.Common.{◌≡◌, ℕ, ◌<◌, Bool, true, false, ◌&&◌, cond, List, [], ◌∷◌, ◌++◌, refl, ap, ◌∙◌, arith}
 use Rattle.std.proofs.lemmas.Bool.Decides.{nat_tests}
 use Rattle.std.proofs.lemmas.List.Folds.{list_all-append}
 use Rattle.lc_sexp.specs.Trees.{Token, word}
@@ -40,14 +40,8 @@ pub letter_ascii : (b : ℕ) → Letter ≡ class_of b → b < 128
 unfolding class_of
 letter_ascii b h = grind (arith, nat_tests)
 
-pub letters_more : (b : ℕ) (w w' : List ℕ) → w' ≡ w ++ (b ∷ []) → are_letters w ≡ true → Letter ≡ class_of b → are_letters w' ≡ true
-letters_more b w w' e h k =
-    ap are_letters e ∙ list_all-append (λ x. is_Letter (class_of x)) w (b ∷ []) ∙ ap (λ x. x && are_letters (b ∷ [])) h ∙ ap (λ x. is_Letter x && true) (sym k)
-
-pub letters_pushed : (r : Bool) (b : ℕ) (w w' code : List ℕ) → w' ≡ cond r (w ++ code) w → code ≡ b ∷ [] → are_letters w ≡ true → Letter ≡ class_of b → are_letters w' ≡ true
-letters_pushed true b w w' code e f h k = letters_more b w w' (e ∙ ap (λ x. w ++ x) f) h k
-letters_pushed false b w w' code e f h k = ap are_letters e ∙ h
-
--- the code of a letter is one byte
-pub letter_code : (b c : ℕ) (code : List ℕ) → c ≡ b → Letter ≡ class_of b → (c < 128 → code ≡ c ∷ []) → code ≡ b ∷ []
-letter_code b c code e k one = one (subst (λ x. x < 128) (sym e) (letter_ascii b k)) ∙ ap (λ x. x ∷ []) e
+-- letters behind letters, where memory may have been refused
+pub letters_extended : (ok : Bool) (w w' more : List ℕ) → w' ≡ cond ok (w ++ more) w → are_letters w ≡ true → are_letters more ≡ true → are_letters w' ≡ true
+letters_extended true w w' more e h k =
+    ap are_letters e ∙ list_all-append (λ x. is_Letter (class_of x)) w more ∙ ap (λ x. x && are_letters more) h ∙ k
+letters_extended false w w' more e h k = ap are_letters e ∙ h

@@ -13,6 +13,7 @@ pub mod Printing
 pub mod Progress
 pub mod Reading
 pub mod Reads
+pub mod Runs
 pub mod Shown
 pub mod Splitting
 pub mod Takes

@@ -1,8 +1,8 @@
 -- A text whose parts are set aside as they end.
 use Rattle.std.specs.Prelude.{◌≡◌, ℕ, ◌+◌, Bool, true, false, if◌then◌else◌, List, [], ◌∷◌, ◌++◌, vec_len}
-use Rattle.lc_sexp.specs.Trees.{Tree, Trees, atom, list, none, ◌▸◌, item_count_of_all, Token, open_list, tokens_of_all}
+use Rattle.lc_sexp.specs.Trees.{Trees, atom, list, none, ◌▸◌, item_count_of_all, Token, open_list, tokens_of_all}
 use Rattle.lc_sexp.specs.TreeCode.{tree_count}
-use Rattle.lc_sexp.specs.Entries.{Entry, leaf, branch, hole, entries_of_all}
+use Rattle.lc_sexp.specs.Entries.{Entry, entries_of_all}
 use Rattle.lc_sexp.specs.Built.{entries_in}
 use Rattle.lc_sexp.specs.Flat.{is_rooted}
 use Rattle.lc_sexp.specs.Progress.{told}

@@ -1,6 +1,6 @@
 -- Parts of a file: the items that stand directly in a list that is a form.
 use Rattle.std.specs.Prelude.{ℕ, ◌+◌, ◌-◌, List, [], ◌∷◌, ◌++◌}
-use Rattle.lc_sexp.specs.Trees.{Tree, Trees, atom, list, none, ◌▸◌, item_count, item_count_of_all}
+use Rattle.lc_sexp.specs.Trees.{Trees, atom, list, none, ◌▸◌, item_count, item_count_of_all}
 use Rattle.lc_sexp.specs.TreeCode.{tree_count, behind_first}
 use Rattle.lc_sexp.specs.declared.part.Part.{Part}
 

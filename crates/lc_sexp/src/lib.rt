@@ -15,6 +15,7 @@ mod part;
 mod printing;
 mod reader;
 mod reading;
+mod run;
 mod sexp;
 mod splitter;
 

@@ -1,6 +1,7 @@
-ghost use Rattle.std.specs.Prelude.{◌≡◌, ◌+◌, ◌<◌, ◌++◌, ℕ, List, [], ◌∷◌, length, take, Some, None, false, true, if◌then◌else◌, OnOk, IfOk, IfErr, vec_len};
+ghost use Rattle.std.specs.Prelude.{◌≡◌, ◌≢◌, ◌+◌, ◌≤◌, ◌<◌, ◌++◌, ℕ, List, [], ◌∷◌, length, take, Some, None, false, true, not, if◌then◌else◌, OnOk, IfOk, IfErr, vec_len};
 ghost use Rattle.lc_sexp.specs.Trees.{Trees, Token, item_count, tokens_of_all};
 ghost use Rattle.lc_sexp.specs.Text.{class_of, is_misplaced, begins_word, uncommented, lexed};
+ghost use Rattle.lc_sexp.specs.Runs.{AreSeen};
 ghost use Rattle.lc_sexp.specs.Progress.{depth_behind, fault_from};
 ghost use Rattle.lc_sexp.specs.Splitting.{Splits, depth_of};
 ghost use Rattle.lc_sexp.specs.Reading.{tokens_behind};
@@ -10,11 +11,12 @@ ghost use Rattle.lc_sexp.specs.declared.part.Part.{Part};
 ghost use Rattle.lc_sexp.specs.declared.class.Class.TheVariants.{Open as OpenClass, Close as CloseClass};
 
 use crate::builder::Builder;
-use crate::class::{Class, blanked, classify, commented, misplaced_within};
+use crate::class::{Class, misplaced_within};
 use crate::filling::fill;
 use crate::forms::Forms;
-use crate::machine::{FILE_LIMIT, Machine};
+use crate::machine::Machine;
 use crate::part::Part;
+use crate::run::{Run, first_run};
 use crate::sexp::Sexp;
 use lc_base::{Fault, OutOfMemory, Refusal};
 use std::alloc::Global;
@@ -89,14 +91,33 @@ impl Splitter {
         ensures offset { self.new.machine.offset ≡ self.old.machine.offset }
         ensures comment { self.new.machine.in_comment ≡ self.old.machine.in_comment }
     {
+        if self.machine.word().is_empty() {
+            return Ok(());
+        }
+        self.end_begun_word()
+    }
+
+    /// Ends the word that has begun. It stands apart so that the test before it costs no call.
+    #[inline(never)]
+    fn end_begun_word(&mut self) -> Result<(), OutOfMemory>
+        requires { self.old.machine.start ≢ vec_len self.old.machine.text }
+        ensures splits { OnOk result ((whole : List ℕ → List Token) → (rest : List ℕ → List ℕ) → (taken : List Part) →
+            ((x : List ℕ) → begins_word (rest x) ≡ false) →
+            Splits whole rest taken self.old → Splits whole rest taken self.new) }
+        ensures ended { OnOk result (self.new.machine.start ≡ vec_len self.new.machine.text) }
+        ensures room { OnOk result (
+            vec_len self.old.machine.nodes + vec_len self.old.machine.text < self.old.machine.offset + self.old.machine.start →
+            vec_len self.new.machine.nodes < self.new.machine.offset) }
+        ensures holes { self.new.machine.holes ≡ self.old.machine.holes }
+        ensures in_list { self.new.in_list ≡ self.old.in_list }
+        ensures offset { self.new.machine.offset ≡ self.old.machine.offset }
+        ensures comment { self.new.machine.in_comment ≡ self.old.machine.in_comment }
+    {
         if self.machine.depth() > 0 {
             self.machine.end_word()?;
             return Ok(());
         }
         let word = self.machine.word();
-        if word.is_empty() {
-            return Ok(());
-        }
         if self.in_list {
             let sexp = Sexp::of_letters(self.alloc, word)?;
             self.machine.drop_word();
@@ -167,58 +188,73 @@ impl Splitter {
         Ok(())
     }
 
-    /// Takes a byte that is not misplaced.
-    fn take_byte(&mut self, class: Class, byte: u8) -> Result<(), OutOfMemory>
-        requires class { class ≡ class_of byte }
-        requires placed { is_misplaced (depth_of self.old) class ≡ false }
-        requires room { vec_len self.old.machine.nodes + vec_len self.old.machine.text < self.old.machine.offset + self.old.machine.start }
-        requires short { vec_len self.old.machine.text < self.old.machine.offset }
-        ensures splits { OnOk result ((whole : List ℕ → List Token) → (rest : List ℕ → List ℕ) → (taken : List Part) →
-            Splits whole (λ x. byte ∷ rest x) taken self.old → Splits whole rest taken self.new) }
-        ensures depth { OnOk result (depth_of self.new ≡ depth_behind (depth_of self.old) class) }
-        ensures offset { self.new.machine.offset ≡ self.old.machine.offset }
-        ensures comment { self.new.machine.in_comment ≡ self.old.machine.in_comment }
+    /// Takes a run of these bytes; whether it is not misplaced.
+    fn take_run(&mut self, run: Run, bytes: &[u8]) -> Result<bool, OutOfMemory>
+        requires some { 0 < length bytes.now }
+        requires length { run.length ≡ length bytes.now }
+        requires seen { (seen : List ℕ) × AreSeen run.class bytes.now seen }
+        requires room { self.old.machine.offset + run.length ≤ 16777216 }
+        ensures splits { IfOk result (λ went. went ≡ true → (whole : List ℕ → List Token) → (rest : List ℕ → List ℕ) → (taken : List Part) → (seen : List ℕ) →
+            AreSeen run.class bytes.now seen →
+            Splits whole (λ x. seen ++ rest x) taken self.old → Splits whole rest taken self.new) }
+        ensures placed { IfOk result (λ went. is_misplaced (depth_of self.old) run.class ≡ not went) }
+        ensures depth { IfOk result (λ went. went ≡ true → depth_of self.new ≡ depth_behind (depth_of self.old) run.class) }
+        ensures offset { IfOk result (λ went. went ≡ true → self.new.machine.offset ≡ self.old.machine.offset + run.length) }
+        ensures comment { IfOk result (λ went. went ≡ true → self.new.machine.in_comment ≡ run.in_comment) }
+        ensures same { IfOk result (λ went. went ≡ false → self.new ≡ self.old) }
     {
-        match class {
-            Class::Letter => self.machine.push_letter(byte)?,
-            Class::White => self.end_word()?,
+        match run.class {
+            Class::Letter => {
+                self.machine.advance(run.length, run.in_comment);
+                self.machine.push_letters(bytes)?;
+            }
+            Class::White => {
+                self.machine.advance(run.length, run.in_comment);
+                self.end_word()?;
+            }
             Class::Open => {
+                if misplaced_within(self.machine.depth(), self.in_list, Class::Open) {
+                    return Ok(false);
+                }
+                self.machine.advance(run.length, run.in_comment);
                 self.end_word()?;
                 self.open_list()?;
             }
             Class::Close => {
+                if misplaced_within(self.machine.depth(), self.in_list, Class::Close) {
+                    return Ok(false);
+                }
+                self.machine.advance(run.length, run.in_comment);
                 self.end_word()?;
                 self.close_list()?;
             }
-            Class::Other => unreachable!(),
+            Class::Other => return Ok(false),
         }
-        Ok(())
+        Ok(true)
     }
 
-    /// Takes a byte of the file. Where it is misplaced nothing changes, and the offset is that of the first fault.
-    pub(crate) fn push_byte(&mut self, byte: u8) -> Result<bool, OutOfMemory>
-        ensures splits { IfOk result (λ went. went ≡ true → (whole : List ℕ → List Token) → (taken : List Part) →
+    /// Takes the run at the front of these bytes of the file, and answers how many they are. Where it is misplaced
+    /// nothing changes, and the offset is that of the first fault.
+    pub(crate) fn push_run(&mut self, bytes: &[u8]) -> Result<usize, OutOfMemory>
+        requires some { 0 < length bytes.now }
+        requires room { self.old.machine.offset + length bytes.now ≤ 16777216 }
+        ensures within { IfOk result (λ count. count ≤ length bytes.now) }
+        ensures splits { IfOk result (λ count. 0 < count → (whole : List ℕ → List Token) → (taken : List Part) →
             Splits whole (uncommented self.old.machine.in_comment) taken self.old →
-            Splits (λ x. whole (byte ∷ x)) (uncommented self.new.machine.in_comment) taken self.new) }
-        ensures fault { IfOk result (λ went. went ≡ true → (rest : List ℕ) →
+            Splits (λ x. whole (take count bytes.now ++ x)) (uncommented self.new.machine.in_comment) taken self.new) }
+        ensures fault { IfOk result (λ count. 0 < count → (rest : List ℕ) →
             fault_from self.new.machine.offset (depth_of self.new) (uncommented self.new.machine.in_comment rest)
-            ≡ fault_from self.old.machine.offset (depth_of self.old) (uncommented self.old.machine.in_comment (byte ∷ rest))) }
-        ensures wrong { IfOk result (λ went. went ≡ false → (rest : List ℕ) →
-            fault_from self.old.machine.offset (depth_of self.old) (uncommented self.old.machine.in_comment (byte ∷ rest)) ≡ Some self.old.machine.offset) }
-        ensures offset { IfOk result (λ went. went ≡ true → self.new.machine.offset ≡ self.old.machine.offset + 1) }
-        ensures same { IfOk result (λ went. went ≡ false → self.new ≡ self.old) }
+            ≡ fault_from self.old.machine.offset (depth_of self.old) (uncommented self.old.machine.in_comment (take count bytes.now ++ rest))) }
+        ensures wrong { IfOk result (λ count. count ≡ 0 → (rest : List ℕ) →
+            fault_from self.old.machine.offset (depth_of self.old) (uncommented self.old.machine.in_comment (bytes.now ++ rest)) ≡ Some self.old.machine.offset) }
+        ensures offset { IfOk result (λ count. self.new.machine.offset ≡ self.old.machine.offset + count) }
+        ensures same { IfOk result (λ count. count ≡ 0 → self.new ≡ self.old) }
     {
-        let in_comment = commented(self.machine.in_comment(), byte);
-        let seen = blanked(in_comment, byte);
-        let class = classify(seen);
-        if self.machine.offset() == FILE_LIMIT
-            || misplaced_within(self.machine.depth(), self.in_list, class)
-        {
-            return Ok(false);
+        let run = first_run(bytes, self.machine.in_comment());
+        if !self.take_run(run, &bytes[..run.length])? {
+            return Ok(0);
         }
-        self.machine.advance(in_comment);
-        self.take_byte(class, seen)?;
-        Ok(true)
+        Ok(run.length)
     }
 
     /// The forms of the text, which ends here, without the parts that were taken.

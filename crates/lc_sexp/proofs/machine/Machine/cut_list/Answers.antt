@@ -1,7 +1,5 @@
-use Rattle.std.proofs.Common.{◌≡◌, ℕ, List, [], ◌∷◌, vec_len, ◌+◌, ◌-◌, ◌++◌, length, take, ap, ◌∙◌, arith}
+use Rattle.std.proofs.Common.{◌≡◌, ℕ, [], ◌∷◌, vec_len, ◌+◌, ◌-◌, ◌++◌, length, take, ap, ◌∙◌, arith}
 use Rattle.lc_sexp.specs.Trees.{list, tokens_of}
-use Rattle.lc_sexp.specs.Entries.{entries_of}
-use Rattle.lc_sexp.specs.Flat.{entries}
 use Rattle.lc_sexp.specs.Progress.{told_tokens}
 use Rattle.lc_sexp.specs.Built.{entries_in}
 use Rattle.lc_sexp.proofs.Builds.{list_built}

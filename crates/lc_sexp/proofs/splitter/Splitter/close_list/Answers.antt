@@ -1,4 +1,4 @@
-use Rattle.std.proofs.Common.{◌≡◌, ℕ, ◌+◌, ◌<◌, Bool, ◌∷◌, List, [], true, false, cond, length, refl, ap, sym, ◌∙◌, arith}
+use Rattle.std.proofs.Common.{◌≡◌, ℕ, ◌+◌, ◌<◌, Bool, ◌∷◌, List, [], true, false, cond, length, refl, ap, ◌∙◌, arith}
 use Rattle.lc_sexp.specs.Trees.{close_list}
 use Rattle.lc_sexp.proofs.Nodes.{lexed_close, none_listed}
 use Rattle.lc_sexp.proofs.Cuts.{rooted_take}

@@ -1,4 +1,4 @@
-use Rattle.std.proofs.Common.{◌≡◌, refl, ap, ◌∙◌, [], arith}
+use Rattle.std.proofs.Common.{refl, ap, ◌∙◌, [], arith}
 use Rattle.lc_sexp.proofs.Nodes.{none_listed}
 use Rattle.lc_sexp.proofs.Splits.{all_aside}
 use Rattle.lc_sexp.proofs.splitter.Splitter.finish.Goals as goal

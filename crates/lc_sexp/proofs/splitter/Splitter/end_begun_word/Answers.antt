@@ -1,14 +1,11 @@
-use Rattle.std.proofs.Common.{◌≡◌, ◌≢◌, ℕ, ◌∷◌, ◌++◌, length, drop, ap, sym, refl, ◌∙◌, arith, length-drop}
-use Rattle.std.proofs.lemmas.Bool.Decides.{nat_tests}
-use Rattle.lc_sexp.specs.Trees.{word, tokens_of}
+use Rattle.std.proofs.Common.{◌≢◌, ◌++◌, length, ap, sym, refl, ◌∙◌, arith, length-drop}
+use Rattle.lc_sexp.specs.Trees.{tokens_of}
 use Rattle.lc_sexp.specs.Flat.{is_rooted}
-use Rattle.lc_sexp.specs.Entries.{leaf}
-use Rattle.lc_sexp.specs.Built.{entries_in}
 use Rattle.lc_sexp.specs.Progress.{told}
 use Rattle.lc_sexp.proofs.Nodes.{none_listed}
 use Rattle.lc_sexp.proofs.Cuts.{rooted_none, told_cut_word}
 use Rattle.lc_sexp.proofs.Splits.{part_step, atom_step}
-use Rattle.lc_sexp.proofs.splitter.Splitter.end_word.Goals as goal
+use Rattle.lc_sexp.proofs.splitter.Splitter.end_begun_word.Goals as goal
 
 pub returns-then-self-clause-splits : goal.returns-then-self-clause-splits
 returns-then-self-clause-splits c = λ whole rest taken wordless h.
@@ -18,7 +15,8 @@ returns-then-self-clause-splits c = λ whole rest taken wordless h.
     let t' = m'.text.ok.0 in
     let d = c.depth.ensures in
     let w = c.word-word.ensures in
-    let some : length c.word-word.result.now ≢ 0 = (let e = c.is_empty.ensures in let f = c.if-is_empty.false in grind (arith, nat_tests)) in
+    let t = m.text.ok.0 in
+    let some : length c.word-word.result.now ≢ 0 = omega (arith, t, m.begun, ap length w.word, length-drop m.start m.text.items, c.requires) in
     let no = none_listed m.holes.items (omega (arith, n, d, c.if-depth-gt0.false)) in
     let none = rooted_none m.text.items m.start m.nodes.items m.holes.items no h.rooted m.under_way in
     let same = ap (λ v. v.items) c.drop_word.ensures.nodes in
@@ -36,7 +34,8 @@ returns-clause-splits c = λ whole rest taken wordless h.
     let t' = m'.text.ok.0 in
     let d = c.depth.ensures in
     let w = c.word-word.ensures in
-    let some : length c.word-word.result.now ≢ 0 = (let e = c.is_empty.ensures in let f = c.if-is_empty.false in grind (arith, nat_tests)) in
+    let t = m.text.ok.0 in
+    let some : length c.word-word.result.now ≢ 0 = omega (arith, t, m.begun, ap length w.word, length-drop m.start m.text.items, c.requires) in
     let no = none_listed m.holes.items (omega (arith, n, d, c.if-depth-gt0.false)) in
     let none = rooted_none m.text.items m.start m.nodes.items m.holes.items no h.rooted m.under_way in
     let same = ap (λ v. v.items) c.drop_word-2.ensures.nodes in

@@ -1,0 +1,91 @@
+ghost use Rattle.std.specs.Prelude.{◌≡◌, ◌<◌, ◌≤◌, length, take, true, false};
+ghost use Rattle.lc_sexp.specs.Text.{class_of, is_Letter, are_letters, begins_word};
+ghost use Rattle.lc_sexp.specs.Runs.{IsComment, IsRun};
+
+use crate::class::{Class, classify};
+
+/// Bytes that are read at once: a comment, letters that stand together, or a byte alone.
+#[derive(Clone, Copy)]
+pub(crate) struct Run {
+    /// The class of each of the bytes. Those of a comment are white.
+    pub(crate) class: Class,
+    /// How many bytes.
+    pub(crate) length: usize,
+    /// Whether a comment goes on behind them.
+    pub(crate) in_comment: bool,
+}
+
+/// The run at the front of these bytes, which begin in a comment or not.
+pub(crate) fn first_run(bytes: &[u8], in_comment: bool) -> Run
+    requires { 0 < length bytes.now }
+    ensures { IsRun in_comment bytes.now result }
+{
+    if in_comment {
+        return comment(bytes);
+    }
+    match classify(bytes[0]) {
+        Class::Letter => Run {
+            class: Class::Letter,
+            length: word_length(bytes),
+            in_comment: false,
+        },
+        Class::White => alone(Class::White),
+        Class::Open => alone(Class::Open),
+        Class::Close => alone(Class::Close),
+        Class::Other if bytes[0] == b';' => comment(bytes),
+        Class::Other => alone(Class::Other),
+    }
+}
+
+/// A byte of this class outside of comments.
+fn alone(class: Class) -> Run
+    ensures { result ≡ record { class = class; length = 1; in_comment = false } }
+{
+    Run {
+        class,
+        length: 1,
+        in_comment: false,
+    }
+}
+
+/// The rest of a comment, with the line feed that ends it.
+fn comment(bytes: &[u8]) -> Run
+    requires { 0 < length bytes.now }
+    ensures { IsComment bytes.now result }
+{
+    for (at, byte) in bytes.iter().enumerate() {
+        if *byte == b'\n' {
+            return Run {
+                class: Class::White,
+                length: at + 1,
+                in_comment: false,
+            };
+        }
+    }
+    Run {
+        class: Class::White,
+        length: bytes.len(),
+        in_comment: true,
+    }
+}
+
+/// How many letters stand at the front.
+fn word_length(bytes: &[u8]) -> usize
+    ensures within { result ≤ length bytes.now }
+    ensures letters { are_letters (take result bytes.now) ≡ true }
+    ensures some { begins_word bytes.now ≡ true → 0 < result }
+{
+    for (at, byte) in bytes.iter().enumerate() {
+        if !is_letter(*byte) {
+            return at;
+        }
+    }
+    bytes.len()
+}
+
+/// Whether a byte may stand in an atom.
+fn is_letter(byte: u8) -> bool
+    ensures { result ≡ is_Letter (class_of byte) }
+{
+    matches!(classify(byte), Class::Letter)
+}
