@@ -9,7 +9,7 @@ use Rattle.lc_term.proofs.table.Terms.enter_stored.Goals as goal
 pub returns-then-eq-clause-id : goal.returns-then-eq-clause-id
 returns-then-eq-clause-id c =
     let is = entry_found c.args.columns.now c.loop-entry.entry-index c.entry-item.result c.args.column.0 c.loop-entry-test.true c.entry-item.is (sym c.eq.ensures ∙ c.if-eq.true) c.loop-entry.invariant.1 in
-    IfOk-weaker c.enter_column.result _ _ (λ k h. h ∙ ap (λ x. Some (column_part x)) is) c.enter_column.ensures.id
+    IfOk-weaker c.enter_column.result _ _ (λ k h. h ∙ ap (λ x. Some (column_part x)) (sym is)) c.enter_column.ensures.id
 
 pub loop-entry-preserved : goal.loop-entry-preserved
 loop-entry-preserved c = (
