@@ -10,7 +10,7 @@ use Rattle.lc_term.specs.Lists.{IsIn}
 use Rattle.lc_reading.proofs.Holding.{Holds, anything, weaker, mapped_holds, both_holds, three_holds, limited_holds}
 use Rattle.lc_reading.specs.Listed.{declared_by}
 use Rattle.lc_reading.specs.Naming.{is_full, within, name_reading}
-use Rattle.lc_reading.specs.Readings.{Reading, fine, flawed, wrong, mapped, behind_reading}
+use Rattle.lc_reading.specs.Readings.{fine, wrong, mapped, behind_reading}
 use Rattle.lc_reading.specs.Reserved.{is_reserved}
 use Rattle.lc_reading.specs.Rows.{second_name, declared_reading}
 use Rattle.lc_reading.specs.Words.{is, is_long}

@@ -2,7 +2,6 @@
 use Rattle.std.proofs.Common.{◌≡◌, ℕ, List, codes, Option, Some, None, IfSome, Result, Ok, Err, refl, sym, subst, ◌∙◌, inl, inr}
 use Rattle.lc_base.specs.declared.refusal.Fault.{Fault}
 use Rattle.lc_base.specs.declared.refusal.Fault.TheVariants.{Refused, OutOfMemory}
-use Rattle.lc_base.specs.declared.refusal.Refusal.{Refusal}
 use Rattle.lc_kernel.proofs.Views.{parts_formulas}
 use Rattle.lc_kernel.specs.Answers.{Proves}
 use Rattle.lc_kernel.specs.Derivation.{DerivesGoal, FailsGoal}
@@ -10,9 +9,9 @@ use Rattle.lc_kernel.specs.View.{proof_of}
 use Rattle.lc_kernel.specs.declared.fault.ProofFault.{ProofFault}
 use Rattle.lc_kernel.specs.declared.fault.ProofFault.TheVariants.{Bad, Large as TooLarge, OutOfMemory as NoMore}
 use Rattle.lc_kernel.specs.declared.reason.Flaw.TheVariants.{Bad as BadFlaw, Large as LargeFlaw}
-use Rattle.lc_proof_text.specs.Files.{Claim, claim_in, file_reading}
+use Rattle.lc_proof_text.specs.Files.{claim_in, file_reading}
 use Rattle.lc_proof_text.specs.declared.claim.FormulaFile.{FormulaFile}
-use Rattle.lc_reading.specs.Files.{Says, IsFirstRefusal, IsAnswerTo}
+use Rattle.lc_reading.specs.Files.{Says, IsAnswerTo}
 use Rattle.lc_term.specs.Syntax as T
 use Rattle.lc_term.specs.Tables.{formula_in, formulas_in}
 use Rattle.lincheck.specs.Answers.{Told}

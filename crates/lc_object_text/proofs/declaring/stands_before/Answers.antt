@@ -1,4 +1,4 @@
-use Rattle.std.proofs.Common.{ap, sym, ◌∙◌}
+use Rattle.std.proofs.Common.{sym, ◌∙◌}
 use Rattle.lc_reading.specs.TableView.{listed}
 use Rattle.lc_object_text.proofs.Placed.{not_placed, placed}
 use Rattle.lc_object_text.proofs.declaring.stands_before.Goals as goal
