@@ -1,6 +1,6 @@
 -- Products up to a cap.
 use Rattle.std.proofs.Common.{◌≡◌, ℕ, zero, suc, ◌+◌, ◌*◌, ◌≤◌, ◌<◌, Bool, true, false, refl, sym, ap, ◌∙◌, arith}
-use Rattle.std.specs.Prelude.{min, nat_le}
+use Rattle.std.specs.Prelude.{min, nat_le, nat_lt}
 use Rattle.std.proofs.Math.Nat.{mul_comm, mul_assoc, mul-le-mul_right, le-mul_of_pos_right}
 use Rattle.std.proofs.lemmas.Bool.Decides.{nat_tests}
 use Rattle.lc_sexp.specs.Trees.{Tree, Trees, none, ◌▸◌}
@@ -51,3 +51,16 @@ paths_done known own count all us e few h =
     let one : path_count known own us ≡ 1 = ap (path_count known own) e in
     let same : min 65 (count * 1) ≡ count = omega (arith, few) in
     sym (h ∙ ap (λ n. min 65 (count * n)) one ∙ same)
+
+-- beyond the limit, counted up to the cap
+pub over_cap : (n : ℕ) → nat_lt 64 (min 65 n) ≡ nat_lt 64 n
+over_cap n = by_size (nat_lt 64 n) refl where
+  by_size : (t : Bool) → nat_lt 64 n ≡ t → nat_lt 64 (min 65 n) ≡ t
+  by_size true e =
+      let h : 65 ≤ n = grind (arith, nat_tests) in
+      let same : min 65 n ≡ 65 = omega (arith, h) in
+      ap (nat_lt 64) same
+  by_size false e =
+      let h : n ≤ 64 = grind (arith, nat_tests) in
+      let same : min 65 n ≡ n = omega (arith, h) in
+      ap (nat_lt 64) same ∙ e
