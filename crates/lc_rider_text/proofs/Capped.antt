@@ -1,7 +1,7 @@
 -- Products up to a cap.
-use Rattle.std.proofs.Common.{◌≡◌, ℕ, zero, suc, ◌+◌, ◌*◌, ◌≤◌, ◌<◌, Bool, true, false, refl, sym, ap, ◌∙◌, arith}
+use Rattle.std.proofs.Common.{◌≡◌, ℕ, zero, suc, ◌*◌, ◌≤◌, ◌<◌, Bool, true, false, refl, sym, ap, ◌∙◌, arith}
 use Rattle.std.specs.Prelude.{min, nat_le, nat_lt}
-use Rattle.std.proofs.Math.Nat.{mul_comm, mul_assoc, mul-le-mul_right, le-mul_of_pos_right}
+use Rattle.std.proofs.Math.Nat.{mul_comm, mul_assoc, le-mul_of_pos_right}
 use Rattle.std.proofs.lemmas.Bool.Decides.{nat_tests}
 use Rattle.lc_sexp.specs.Trees.{Tree, Trees, none, ◌▸◌}
 use Rattle.lc_rider_text.specs.Known.{Known}
@@ -17,8 +17,8 @@ beyond a zero h =
 beyond a (suc b) h =
     let positive : zero < suc b = omega arith in
     both_beyond (65 * suc b) (a * suc b) (le-mul_of_pos_right 65 positive) (large (le-mul_of_pos_right a positive)) where
-  large : {x : ℕ} → a ≤ x → 65 ≤ x
-  large {x} k = omega (arith, h, k)
+      large : {x : ℕ} → a ≤ x → 65 ≤ x
+      large {x} k = omega (arith, h, k)
 
 -- a factor up to the cap
 pub capped_left : (a b : ℕ) → min 65 (min 65 a * b) ≡ min 65 (a * b)

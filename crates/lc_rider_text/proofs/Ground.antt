@@ -1,9 +1,9 @@
 -- Where no quantifier stands, a formula has none.
-use Rattle.std.proofs.Common.{◌≡◌, ℕ, Bool, true, false, ◌&&◌, List, [], Option, Some, None, IfSome, refl}
+use Rattle.std.proofs.Common.{◌≡◌, ℕ, true, [], Option, Some, None, IfSome, refl}
 use Rattle.lc_sexp.specs.Trees.{Tree}
 use Rattle.lc_reading.specs.Readings.{fine}
 use Rattle.lc_reading.proofs.Holding.{held, and_true}
-use Rattle.lc_term.specs.Syntax.{Term, Column, Formula, Formulas}
+use Rattle.lc_term.specs.Syntax.{Formula}
 use Rattle.lc_term.specs.Truth.{is_ground, are_ground}
 use Rattle.lc_text.specs.Formulas.{formula_reading}
 use Rattle.lc_text.specs.Names.{Names}

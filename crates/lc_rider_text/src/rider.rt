@@ -121,11 +121,7 @@ fn read_deed<S: Scope>(
 }
 
 /// The condition of a rider.
-fn read_condition<S: Scope>(
-    alloc: Global,
-    scope: &S,
-    part: Part<'_>,
-) -> Result<When, ReadFault>
+fn read_condition<S: Scope>(alloc: Global, scope: &S, part: Part<'_>) -> Result<When, ReadFault>
     ensures { IsReading formula_in (formula_reading (quiet (S.names scope.now)) [] (place_of part.entry) (tree_of part.entry)) result }
 {
     let formula = read_formula(alloc, &Quiet(scope), part)?;
