@@ -13,7 +13,7 @@ use Rattle.lc_term.specs.SystemColumns.{column_count}
 use Rattle.lc_action.specs.Action.{Action, Acts, acting_variables}
 use Rattle.lc_outline.specs.Development.{Development, first_system}
 use Rattle.lc_cond.specs.Conditions.{is_base, same_column, column_condition, column_conditions, action_conditions}
-use Rattle.lc_sound.specs.Claims.{IsValid}
+use Rattle.lc_sound.specs.Valid.{IsValid}
 use Rattle.lc_term.proofs.Stores.{Every_left, Every_right, writes_other}
 use Rattle.lc_term.proofs.Symbolic.{columns_by, values_by, columns_by-after, Holds-told}
 

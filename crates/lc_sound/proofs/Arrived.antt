@@ -23,7 +23,8 @@ use Rattle.lc_action.specs.Action.{Action, skip, leave, enter, Acts}
 use Rattle.lc_outline.specs.Development.{invariant_of, Development, On, first_system, riders_in}
 use Rattle.lc_cond.specs.Conditions.{at_end, asserts_to, action_conditions, on_conditions, body_frame}
 use Rattle.lc_outline.specs.Resolved.{IsOnResolved, IsRiderResolved}
-use Rattle.lc_sound.specs.Claims.{IsValid, IsProven, IsClientGood, IsGood, own}
+use Rattle.lc_sound.specs.Claims.{IsProven, IsClientGood, IsGood, own}
+use Rattle.lc_sound.specs.Valid.{IsValid}
 use Rattle.lc_term.proofs.Stores.{cell_other, cell_same, cell_away, stored_here}
 use Rattle.lc_sound.proofs.Stable.{each_agree}
 use Rattle.lc_sound.proofs.Frames.{Kept, Kept_trans, Kept_rides}

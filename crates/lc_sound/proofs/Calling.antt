@@ -16,7 +16,7 @@ use Rattle.lc_term.specs.State.{initial_state}
 use Rattle.lc_term.proofs.Substituted.{Holds-replacing}
 use Rattle.lc_hist.proofs.Tables.{slice_get-set, slice_get-set_other}
 use Rattle.lc_object.specs.Syntax.{Operation, Object}
-use Rattle.lc_object.specs.WellFormed.{is_object, is_label, is_first, are_operations, has_limits}
+use Rattle.lc_object.specs.WellFormed.{is_object, is_first, are_operations, has_limits}
 use Rattle.lc_machine.specs.World.{Client, Idle, In, World, first_variables}
 use Rattle.lc_machine.specs.Step.{IsClient}
 use Rattle.lc_machine.proofs.Promised.{first_count}
@@ -31,7 +31,8 @@ use Rattle.lc_outline.specs.Development.{invariant_of, Development, first_system
 use Rattle.lc_tie.specs.Tie.{start_column}
 use Rattle.lc_cond.specs.Conditions.{Init, InitIdle, Entry, First, conditions_of, range, idle_frame, body_frame, hold_variables, start_formula, start_conditions, padded, enter_variables, entry_variables, entered, entry_conditions, at_start, at_entry}
 use Rattle.lc_sound.specs.Instrumented.{start_world}
-use Rattle.lc_sound.specs.Claims.{IsValid, IsProven, IsClientGood, IsGood, own}
+use Rattle.lc_sound.specs.Claims.{IsProven, IsClientGood, IsGood, own}
+use Rattle.lc_sound.specs.Valid.{IsValid}
 use Rattle.lc_term.proofs.Stores.{Every_left, Every_right, writes_away}
 use Rattle.lc_term.proofs.Symbolic.{columns_by, values_by, columns_by-after, each_told, each-append}
 use Rattle.lc_sound.proofs.Stable.{each_agree}

@@ -3,9 +3,8 @@ use Rattle.std.proofs.Common.{◌≡◌, ◌↔◌, ℕ, ◌+◌, ◌≤◌, ◌
 use Rattle.std.specs.Prelude.{slice_get}
 use Rattle.std.specs.List.{list_all}
 use Rattle.std.proofs.lemmas.Option.{same_Some, slice_get_within}
-use Rattle.std.proofs.lemmas.Bool.Decides.{nat_tests}
 use Rattle.lc_term.specs.Lists.{Every, IsIn}
-use Rattle.lc_term.specs.Meaning.{State, Env, outside, value, column, Holds, AllHold, EachHolds}
+use Rattle.lc_term.specs.Meaning.{State, Env, outside, Holds, AllHold, EachHolds}
 use Rattle.lc_term.specs.Said.{told}
 use Rattle.lc_term.specs.State.{with_cell}
 use Rattle.lc_term.specs.Syntax.{Term, Variable, Number, Formula, formulas}
@@ -24,7 +23,7 @@ use Rattle.lc_object.specs.declared.instr.EdgeKind.{EdgeKind}
 use Rattle.lc_object.specs.declared.instr.EdgeKind.TheVariants.{Next}
 use Rattle.lc_machine.specs.EdgeSteps.{updated, reached}
 use Rattle.lc_machine.specs.Step.{Event, Invoked, Moved, Returned, IsClient, IsRunning, Does, Steps, Goes, Answers, after, numbers}
-use Rattle.lc_machine.specs.World.{Client, Idle, In, World}
+use Rattle.lc_machine.specs.World.{Idle, In, World}
 use Rattle.lc_machine.proofs.Bodies.{placed, answers_next, does_outside}
 use Rattle.lc_machine.proofs.EdgeLaw.{from_edge}
 use Rattle.lc_rider.specs.Paths.{Path, path_start, edge_variables}
@@ -32,11 +31,11 @@ use Rattle.lc_rider.specs.PathLaws.{AreMet, OnlyClients, LeavesCalls, DeedLeaves
 use Rattle.lc_rider.specs.Rider.{Mark, Deed, Assign, Marks, Rider, RideAll, IsJustified, return_writes}
 use Rattle.lc_rider.proofs.PathLaw.{exclude, go_along}
 use Rattle.lc_rider.proofs.PathTaken.{taken}
-use Rattle.lc_outline.specs.Development.{Development, On, first_system, on_at, riders_in, riders_at}
-use Rattle.lc_outline.specs.Resolved.{IsResolved, IsRiderResolved, IsDeedResolved, IsOnResolved}
+use Rattle.lc_outline.specs.Development.{Development, first_system, on_at, riders_at}
+use Rattle.lc_outline.specs.Resolved.{IsResolved, IsRiderResolved, IsDeedResolved}
 use Rattle.lc_outline.proofs.Matched.{grounds, branches_resolved, match_at, few}
 use Rattle.lc_cond.specs.Conditions.{hold_terms, justified, at_end, reply_goals}
-use Rattle.lc_sound.specs.EdgePaths.{edge_paths, IsGone, GoesAlong, IsOrdinary, EdgePathsExclude, StepsArePaths}
+use Rattle.lc_sound.specs.EdgePaths.{edge_paths, IsGone, IsOrdinary, EdgePathsExclude, StepsArePaths}
 use Rattle.lc_sound.specs.Instrumented.{Instrumented, with_columns}
 use Rattle.lc_sound.proofs.Going.{justified_is}
 use Rattle.lc_sound.proofs.Gone.{edge_here}

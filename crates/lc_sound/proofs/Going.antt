@@ -17,7 +17,8 @@ use Rattle.lc_rider.specs.Rider.{Mark, RideAll, IsJustified, return_writes}
 use Rattle.lc_outline.specs.Development.{invariant_of, Development, first_system, riders_in}
 use Rattle.lc_rider.specs.Paths.{Path, path_start}
 use Rattle.lc_cond.specs.Conditions.{Head, conditions_from, conditions_of, on_path, alone_on_path, duty_condition, Reply, Invariant, NextKind, hold_terms, justified, at_end, asserts_to, reply_goals, on_conditions}
-use Rattle.lc_sound.specs.Claims.{IsValid, IsProven, IsGood}
+use Rattle.lc_sound.specs.Claims.{IsProven, IsGood}
+use Rattle.lc_sound.specs.Valid.{IsValid}
 use Rattle.lc_outline.proofs.Matched.{grounds}
 use Rattle.lc_term.proofs.Stores.{Every_left, Every_right}
 use Rattle.lc_term.proofs.Symbolic.{columns_by, values_by, columns_by-put, each_told, each-append}

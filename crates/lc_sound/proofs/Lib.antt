@@ -30,3 +30,4 @@ pub mod CounterResolved
 pub mod Counting
 pub mod Losing
 pub mod Helping
+pub mod Proven

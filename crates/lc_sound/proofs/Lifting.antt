@@ -22,7 +22,8 @@ use Rattle.lc_outline.specs.Development.{invariant_of, Development, On, first_sy
 use Rattle.lc_rider.specs.Paths.{Path, Duty, paths, path_start, edge_columns, edge_variables}
 use Rattle.lc_cond.specs.Conditions.{duty_condition, range, body_frame, body_hypotheses, start_conditions, entry_conditions, edge_conditions, edge_conditions_in, path_conditions, in_body, in_operation, conditions}
 use Rattle.lc_outline.specs.Resolved.{IsRiderResolved}
-use Rattle.lc_sound.specs.Claims.{IsValid, IsProven, IsClientGood, IsGood}
+use Rattle.lc_sound.specs.Claims.{IsProven, IsClientGood, IsGood}
+use Rattle.lc_sound.specs.Valid.{IsValid}
 use Rattle.lc_term.proofs.Stores.{Every_left, Every_right, Every-map}
 use Rattle.lc_term.proofs.Symbolic.{columns_by, values_by, columns_by-puts, each-append, own_values, values_put}
 use Rattle.lc_rider.proofs.Riding.{Every-concat, Every-counted}

@@ -1,5 +1,5 @@
 -- Each world that an instrumented run reaches is ordinary.
-use Rattle.std.proofs.Common.{◌≡◌, ◌==◌, ℕ, ◌+◌, ◌≤◌, ◌⊎◌, Bool, true, false, true≢false, List, [], ◌∷◌, ℤ, pos, Some, length, replicate, refl, sym, ap, ◌∙◌, subst, inl, inr, arith}
+use Rattle.std.proofs.Common.{◌≡◌, ◌==◌, ℕ, ◌+◌, ◌⊎◌, Bool, true, false, true≢false, List, [], ◌∷◌, ℤ, pos, Some, length, refl, sym, ap, ◌∙◌, subst, inl, inr, arith}
 use Rattle.std.specs.Ordering.{int_eq}
 use Rattle.std.specs.Prelude.{slice_get, slice_set}
 use Rattle.std.proofs.lemmas.Bool.{eqb-false}
@@ -8,7 +8,7 @@ use Rattle.std.proofs.lemmas.Int.{ints}
 use Rattle.std.proofs.lemmas.Option.{same_Some, slice_get_within}
 use Rattle.lc_term.specs.Meaning.{State}
 use Rattle.lc_term.specs.SystemColumns.{pend}
-use Rattle.lc_term.specs.Updates.{Write, stored_all, variable, assigned}
+use Rattle.lc_term.specs.Updates.{Write, stored_all, variable}
 use Rattle.lc_term.proofs.Stores.{writes_away}
 use Rattle.lc_hist.proofs.Tables.{slice_get-set, slice_get-set_other}
 use Rattle.lc_object.specs.Edges.{Edge}

@@ -15,7 +15,7 @@ use Rattle.lc_action.specs.Action.{Action, Acts}
 use Rattle.lc_outline.specs.Development.{invariant_of, Development}
 use Rattle.lc_cond.specs.Conditions.{range, stable_under}
 use Rattle.lc_outline.specs.Resolved.{variables_below, IsBelow}
-use Rattle.lc_sound.specs.Claims.{IsValid}
+use Rattle.lc_sound.specs.Valid.{IsValid}
 use Rattle.lc_term.proofs.Symbolic.{columns_by, values_by, columns_by-after, Holds-told, each-append, values_from}
 
 -- a formula of the first n variables

@@ -2,7 +2,7 @@
 use Rattle.std.specs.Prelude.{◌≡◌, ℕ, ◌<◌, ◌⊎◌, List, [], ◌∷◌, ◌++◌, ℤ, pos, Option, Some, None, map, length, slice_get}
 use Rattle.lc_term.specs.Updates.{variable}
 use Rattle.lc_machine.specs.Runs.{BareLabel, BareRuns}
-use Rattle.lc_term.specs.Meaning.{State, Env, outside, value, EachHolds, Valid}
+use Rattle.lc_term.specs.Meaning.{State, Env, outside, value, EachHolds}
 use Rattle.lc_object.specs.Syntax.{Point, Operation}
 use Rattle.lc_object.specs.WellFormed.{variable_count}
 use Rattle.lc_object.specs.declared.instr.EdgeKind.TheVariants.{Next}
@@ -10,23 +10,21 @@ use Rattle.lc_machine.specs.World.{Client, Idle, In, World, initial_world}
 use Rattle.lc_machine.specs.Step.{Event, Invoked, Moved, Returned, IsClient, Steps}
 use Rattle.lc_seq.specs.TextStep.{text_step, start_of}
 use Rattle.lc_hist.specs.History.{Linearizes}
-use Rattle.lc_term.specs.Lists.{Every}
 use Rattle.lc_term.specs.SystemColumns.{pend}
 use Rattle.lc_rider.specs.Rider.{Mark, argument}
 use Rattle.lc_action.specs.Action.{Action, skip, enter, leave, Acts}
 use Rattle.lc_outline.specs.Development.{Development, On, first_system, invariant_of, on_at, asserts_at}
-use Rattle.lc_cond.specs.Conditions.{Condition, conditions, idle_frame, body_frame}
+use Rattle.lc_cond.specs.Conditions.{idle_frame, body_frame}
 use Rattle.lc_outline.specs.Resolved.{IsResolved}
-use Rattle.lc_sound.specs.Instrumented.{Label, Instrumented, IsRun, IsOver, unmarked, history, IsLinearizableObject}
+use Rattle.lc_sound.specs.Instrumented.{Label, Instrumented, IsRun, IsOver, unmarked, history}
+use Rattle.lc_sound.specs.Linearizable.{IsLinearizableObject}
+use Rattle.lc_sound.specs.Valid.{AreValid}
 use Rattle.lc_sound.specs.Order.{order}
-
-abbrev pub IsValid : Condition → Type 0
-IsValid c = Valid c.hypotheses c.goal
 
 -- its names are resolved, and all its conditions are valid
 pub record IsProven (D : Development) : Type 0 where
   pub resolved : IsResolved D
-  pub valid : Every IsValid (conditions D)
+  pub valid : AreValid D
 
 -- in the invariant the number of clients is the only variable, and at idle the client is the second
 abbrev pub own : ℕ → ℕ → List ℤ
@@ -76,29 +74,50 @@ IsAction D n w c (Invoked o ns) w' = Acts n (enter (first_system D)) c (pos o �
 IsAction D n w c (Moved p k) w' = (vs : List ℤ) × IsClient w c (In p vs) × IsEdgeAction D n c vs (on_at D p k) (Moved p k) w.columns w'.columns
 IsAction D n w c (Returned ns) w' = (p : ℕ) × (vs : List ℤ) × IsClient w c (In p vs) × IsEdgeAction D n c vs (on_at D p Next) (Returned ns) w.columns w'.columns
 
+-- ---- for a development
+
+-- for every number of clients, in every world that an instrumented run reaches, the invariant, the frames and the assertions hold
+abbrev pub OutlineHolds : Development → Type 0
+OutlineHolds D = (n : ℕ) (labels : List Label) (w : World) → IsRun D n labels w → IsGood D n w
+
+-- there, each bare step has its instrumented step: each mark is lawful and each return is justified
+abbrev pub StepsAreInstrumented : Development → Type 0
+StepsAreInstrumented D =
+    (n : ℕ) (labels : List Label) (w b : World) → IsRun D n labels w → IsOver D w b →
+    (c : ℕ) (what : Event) (b' : World) → Steps D.object b c what b' → IsLifted D w c what b'
+
+-- there, each step is an instance of its edge's action
+abbrev pub StepsAreInstances : Development → Type 0
+StepsAreInstances D =
+    (n : ℕ) (labels : List Label) (w w' : World) → IsRun D n labels w →
+    (c : ℕ) (what : Event) (marks : List Mark) → Instrumented D w c what marks w' → IsAction D n w c what w'
+
+-- over each bare run stands an instrumented run with the same steps
+abbrev pub RunsAreInstrumented : Development → Type 0
+RunsAreInstrumented D = (n : ℕ) (labels : List BareLabel) (b : World) → BareRuns D.object (initial_world D.object n) labels b → IsOverRun D n labels b
+
+-- the order of the marks of each instrumented run linearizes its history
+abbrev pub MarksLinearize : Development → Type 0
+MarksLinearize D =
+    (n : ℕ) (labels : List Label) (w : World) → IsRun D n labels w →
+    Linearizes (text_step D.specification.operations) (start_of D.specification.columns) (history labels) (order labels)
+
 -- ---- for all developments
 
 abbrev pub OutlinesHold : Type 0
-OutlinesHold = (D : Development) → IsProven D → (n : ℕ) (labels : List Label) (w : World) → IsRun D n labels w → IsGood D n w
+OutlinesHold = (D : Development) → IsProven D → OutlineHolds D
 
 abbrev pub BareStepsLift : Type 0
-BareStepsLift =
-    (D : Development) → IsProven D → (n : ℕ) (labels : List Label) (w b : World) → IsRun D n labels w → IsOver D w b →
-    (c : ℕ) (what : Event) (b' : World) → Steps D.object b c what b' → IsLifted D w c what b'
+BareStepsLift = (D : Development) → IsProven D → StepsAreInstrumented D
 
 abbrev pub StepsAreActions : Type 0
-StepsAreActions =
-    (D : Development) → IsProven D → (n : ℕ) (labels : List Label) (w w' : World) → IsRun D n labels w →
-    (c : ℕ) (what : Event) (marks : List Mark) → Instrumented D w c what marks w' → IsAction D n w c what w'
+StepsAreActions = (D : Development) → IsProven D → StepsAreInstances D
 
 abbrev pub RunsAreSimulated : Type 0
-RunsAreSimulated =
-    (D : Development) → IsProven D → (n : ℕ) (labels : List BareLabel) (b : World) → BareRuns D.object (initial_world D.object n) labels b → IsOverRun D n labels b
+RunsAreSimulated = (D : Development) → IsProven D → RunsAreInstrumented D
 
 abbrev pub OrdersLinearize : Type 0
-OrdersLinearize =
-    (D : Development) → IsResolved D → (n : ℕ) (labels : List Label) (w : World) → IsRun D n labels w →
-    Linearizes (text_step D.specification.operations) (start_of D.specification.columns) (history labels) (order labels)
+OrdersLinearize = (D : Development) → IsResolved D → MarksLinearize D
 
 -- the labels of an instrumented run, marks taken off, are a bare run
 abbrev pub RunsStandOver : Type 0
@@ -133,4 +152,4 @@ StepsAreDetermined =
     Instrumented D w c what marks v → Instrumented D w c what' marks' v' → IsOnce what what' marks marks' v v'
 
 abbrev pub Headline : Type 0
-Headline = (D : Development) → IsProven D → IsLinearizableObject D
+Headline = (D : Development) → IsProven D → IsLinearizableObject D.specification D.object

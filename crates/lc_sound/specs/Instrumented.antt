@@ -1,29 +1,16 @@
 -- The steps of an object with its riders, and the runs of both kinds.
-use Rattle.std.specs.Prelude.{◌≡◌, ℕ, ◌+◌, ◌<◌, ◌≤◌, List, [], ◌∷◌, ◌++◌, ℤ, map, length, replicate}
+use Rattle.std.specs.Prelude.{◌≡◌, ℕ, ◌+◌, ◌<◌, ◌≤◌, List, [], ◌∷◌, ℤ, map, length, replicate}
 use Rattle.lc_term.specs.Updates.{stored_all, variable}
 use Rattle.lc_term.specs.Meaning.{State}
-use Rattle.lc_seq.specs.TextStep.{text_step, start_of}
 use Rattle.lc_hist.specs.History as H
-use Rattle.lc_hist.specs.History.{Called, Replied, IsLinearizable}
 use Rattle.lc_object.specs.declared.instr.EdgeKind.TheVariants.{Next}
-use Rattle.lc_machine.specs.Runs.{BareLabel, IsBareRun}
+use Rattle.lc_machine.specs.Runs.{BareLabel}
 use Rattle.lc_machine.specs.World.{World, Idle, In}
 use Rattle.lc_machine.specs.Step.{Event, Invoked, Moved, Returned, IsClient, Steps}
 use Rattle.lc_object.specs.Places.{operation_at}
 use Rattle.lc_rider.specs.Rider.{Mark, invocation_writes, return_writes, RideAll, IsJustified}
 use Rattle.lc_outline.specs.Development.{Development, first_system, start_columns, riders_at}
-
--- ---- histories
-
--- the invocations and returns of a step
-abbrev pub event_of : ℕ → Event → List H.Event
-event_of c (Invoked o numbers) = Called c (record { op = o; numbers = numbers }) ∷ []
-event_of c (Moved point edge) = []
-event_of c (Returned numbers) = Replied c numbers ∷ []
-
-abbrev pub bare_history : List BareLabel → List H.Event
-bare_history [] = []
-bare_history (l ∷ ls) = event_of l.client l.what ++ bare_history ls
+pub use Rattle.lc_sound.specs.Linearizable.{event_of, bare_history}
 
 -- ---- instrumented steps and runs
 
@@ -81,9 +68,3 @@ unmarked l = record { client = l.client; what = l.what }
 
 abbrev pub history : List Label → List H.Event
 history ls = bare_history (map unmarked ls)
-
--- every history of the object, for any number of clients, is linearizable
-abbrev pub IsLinearizableObject : Development → Type 0
-IsLinearizableObject D =
-    (clients : ℕ) (labels : List BareLabel) → IsBareRun D.object clients labels →
-    IsLinearizable (text_step D.specification.operations) (start_of D.specification.columns) (bare_history labels)

@@ -1,7 +1,10 @@
 pub mod Happening
 pub mod Lawful
+pub mod Linearizable
 pub mod Instrumented
 pub mod Order
 pub mod EdgePaths
+pub mod Valid
+pub mod Derived
 pub mod Claims
 pub mod Examples

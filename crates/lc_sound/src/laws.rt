@@ -24,7 +24,7 @@ pub fn orders_linearize()
 /// Where all conditions of a development are valid, for every number of clients: in every world that an instrumented
 /// run reaches the invariant, the frames and the assertions hold; each bare step there has its instrumented step; each
 /// step is an instance of its edge's action; and over every bare run stands an instrumented run with the same steps.
-pub fn outline_holds()
+pub fn outlines_hold()
     ensures holds { OutlinesHold }
     ensures lifts { BareStepsLift }
     ensures acts { StepsAreActions }
@@ -51,6 +51,6 @@ pub fn edges_go_by_paths()
 
 /// Where all conditions of a development are valid, for every number of clients and every list of single-access steps of its
 /// object, the history of calls and returns is linearizable.
-pub fn linearizable_runs()
+pub fn objects_are_linearizable()
     ensures { Headline }
 {}

@@ -3,3 +3,6 @@
 
 pub mod examples;
 pub mod laws;
+mod theorems;
+
+pub use theorems::{derived_conditions_are_valid, linearizable_runs, outline_holds};

@@ -1,0 +1,14 @@
+use Rattle.lc_outline.specs.DevelopmentView.{development_shown}
+use Rattle.lc_sound.proofs.Lifted.{lifts}
+use Rattle.lc_sound.proofs.Proven.{proven}
+use Rattle.lc_sound.proofs.Simulated.{outlines_hold, steps_act}
+use Rattle.lc_sound.proofs.theorems.outline_holds.Goals as goal
+
+pub returns-clause-holds : goal.returns-clause-holds
+returns-clause-holds c = outlines_hold (development_shown c.args.development.now) (proven c.args.development.now c.requires.valid)
+
+pub returns-clause-lifts : goal.returns-clause-lifts
+returns-clause-lifts c = lifts (development_shown c.args.development.now) (proven c.args.development.now c.requires.valid)
+
+pub returns-clause-acts : goal.returns-clause-acts
+returns-clause-acts c = steps_act (development_shown c.args.development.now) (proven c.args.development.now c.requires.valid)

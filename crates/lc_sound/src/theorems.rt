@@ -1,0 +1,33 @@
+ghost use Rattle.lc_outline.specs.DevelopmentView.{development_shown};
+ghost use Rattle.lc_sound.specs.Claims.{OutlineHolds, StepsAreInstrumented, StepsAreInstances, RunsAreInstrumented, MarksLinearize};
+ghost use Rattle.lc_sound.specs.Derived.{AreDerived};
+ghost use Rattle.lc_sound.specs.Linearizable.{IsLinearizableObject};
+ghost use Rattle.lc_sound.specs.Valid.{AreValid};
+
+use lc_outline::Development;
+
+/// Where each condition of a development has a derivation, all its conditions are valid.
+pub fn derived_conditions_are_valid(development: &Development)
+    requires derived { AreDerived (development_shown development.now) }
+    ensures valid { AreValid (development_shown development.now) }
+{}
+
+/// Where all conditions of a development are valid, for every number of clients: in every world that an instrumented run
+/// reaches the invariant, the frames and the assertions hold; each bare step there has its instrumented step, so that each
+/// mark is lawful and each return justified; and each step is an instance of its edge's action.
+pub fn outline_holds(development: &Development)
+    requires valid { AreValid (development_shown development.now) }
+    ensures holds { OutlineHolds (development_shown development.now) }
+    ensures lifts { StepsAreInstrumented (development_shown development.now) }
+    ensures acts { StepsAreInstances (development_shown development.now) }
+{}
+
+/// Where all conditions of a development are valid: for every number of clients and every list of single-access steps of its
+/// object, the history of calls and returns is linearizable by its specification. Over the steps stands an instrumented run,
+/// and the order of its marks is one that linearizes the history.
+pub fn linearizable_runs(development: &Development)
+    requires valid { AreValid (development_shown development.now) }
+    ensures simulated { RunsAreInstrumented (development_shown development.now) }
+    ensures ordered { MarksLinearize (development_shown development.now) }
+    ensures linearizable { IsLinearizableObject (development_shown development.now).specification (development_shown development.now).object }
+{}
