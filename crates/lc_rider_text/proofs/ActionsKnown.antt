@@ -24,7 +24,7 @@ use Rattle.lc_text.specs.Terms.{pair, triple, term_reading}
 use Rattle.lc_object_text.specs.Declaring.{kth_name_reading}
 use Rattle.lc_object_text.specs.ObjectNames.{items_within, later, within_first}
 use Rattle.lc_object_text.specs.Sections.{parts_in, parts_of_fit}
-use Rattle.lc_rider_text.proofs.Below.{place_below}
+use Rattle.lc_reading.proofs.Places.{place_below}
 use Rattle.lc_rider_text.specs.Actions.{parameters_reading, parameters_in, the_action, action_parts_reading, headed_action_reading, action_reading}
 use Rattle.lc_rider_text.specs.Known.{Known}
 use Rattle.lc_rider_text.specs.Scopes.{beside_names, column_place, place_or}

@@ -14,7 +14,7 @@ use Rattle.lc_text.proofs.Variables.{NamesIn, FormulaIn, formula_in}
 use Rattle.lc_text.specs.Formulas.{formula_reading}
 use Rattle.lc_text.specs.Terms.{pair}
 use Rattle.lc_tie.specs.Tie.{Conjunct}
-use Rattle.lc_rider_text.proofs.Below.{place_below}
+use Rattle.lc_reading.proofs.Places.{place_below}
 use Rattle.lc_rider_text.specs.Conjuncts.{the_conjunct, conjunct_parts_reading, conjunct_reading}
 use Rattle.lc_rider_text.specs.Scopes.{beside_names, variable_names}
 

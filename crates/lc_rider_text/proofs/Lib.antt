@@ -1,5 +1,4 @@
 pub mod ActionsKnown
-pub mod Below
 pub mod Capped
 pub mod FormulasWithin
 pub mod Ground

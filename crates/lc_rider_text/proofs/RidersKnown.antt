@@ -23,7 +23,7 @@ use Rattle.lc_term.specs.Updates.{Update}
 use Rattle.lc_text.specs.Names.{Names}
 use Rattle.lc_text.specs.Terms.{pair, triple, term_reading}
 use Rattle.lc_object_text.specs.Rows.{cons, placed_reading}
-use Rattle.lc_rider_text.proofs.Below.{place_below}
+use Rattle.lc_reading.proofs.Places.{place_below}
 use Rattle.lc_rider_text.proofs.Ground.{quiet_holds}
 use Rattle.lc_rider_text.specs.Edges.{edge_of, edge_in, edge_reading, is_refused, without}
 use Rattle.lc_rider_text.specs.Heads.{head_of}

@@ -18,6 +18,7 @@ ghost use Rattle.lc_rider_text.specs.Seen.{terms_of, call_parts, step_parts};
 use crate::edge_words::{edge_in, edge_of, read_edge};
 use crate::edges::Edges;
 use crate::known::Known;
+use crate::numbers::number_at;
 use crate::paths::path_count;
 use crate::rider::read_riders;
 use lc_object::EdgeKind;
@@ -49,7 +50,7 @@ fn read_action_use(known: Known<'_, '_>, part: Part<'_>) -> Result<ActionId, Rea
 {
     match part.item() {
         Item::Atom(atom) if is_built_in(atom.text()) => Err(wrong(Pass::Shape, atom.number())),
-        Item::Atom(_) => Ok(ActionId(read_use(known.actions, part)?)),
+        Item::Atom(_) => Ok(ActionId(number_at(read_use(known.actions, part)?)?)),
         Item::List(list) => Err(wrong(Pass::Shape, list.owner())),
     }
 }
@@ -66,7 +67,7 @@ fn arguments_due(known: Known<'_, '_>, part: Part<'_>) -> Option<u64>
         return None;
     }
     let place = known.actions.place(atom.text())?;
-    known.parameters.get(place as usize).copied()
+    known.parameters.get(place).copied()
 }
 
 /// The terms that are left in a list, just so many where it is known how many.

@@ -21,13 +21,13 @@ fn capped(count: u64) -> u64
 }
 
 /// How many branches the operation at this place has, or one where none is known; up to the cap.
-fn branches_at(known: Known<'_, '_>, place: Option<u32>) -> u64
+fn branches_at(known: Known<'_, '_>, place: Option<usize>) -> u64
     ensures { result ≡ min 65 (or_one (K.count_at (known_seen known.entry).branches place)) }
 {
     let Some(place) = place else {
         return 1;
     };
-    match known.branches.get(place as usize) {
+    match known.branches.get(place) {
         Some(count) => capped(*count),
         None => 1,
     }

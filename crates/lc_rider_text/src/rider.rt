@@ -17,6 +17,7 @@ ghost use Rattle.lc_rider_text.specs.Seen.{deed_of, other_parts, when_parts};
 
 use crate::deed::Deed;
 use crate::known::Known;
+use crate::numbers::number_at;
 use crate::scope::Quiet;
 use crate::update::{Stores, read_update};
 use crate::words::{Head, head_of};
@@ -36,7 +37,7 @@ const RIDER_LIMIT: u64 = 6;
 fn read_operation(known: Known<'_, '_>, part: Part<'_>) -> Result<OpId, ReadFault>
     ensures { IsReading (λ operation. operation.0) (use_reading (known_seen known.entry).operations (place_of part.entry) (tree_of part.entry)) result }
 {
-    Ok(OpId(read_use(known.operations, part)?))
+    Ok(OpId(number_at(read_use(known.operations, part)?)?))
 }
 
 /// `T OP`

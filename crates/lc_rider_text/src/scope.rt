@@ -47,7 +47,7 @@ impl<'a, 'b> Columns<'a, 'b> {
         ensures names { IfOk result (λ columns. columns_listed columns ≡ listed names.now) }
         ensures auxiliaries { IfOk result (λ columns. columns.auxiliaries ≡ auxiliaries) }
     {
-        if names.len() > u32::MAX - SYSTEM_COUNT {
+        if names.len() > (u32::MAX - SYSTEM_COUNT) as usize {
             return Err(OutOfMemory);
         }
         Ok(Columns { names, auxiliaries })
@@ -58,9 +58,9 @@ impl<'a, 'b> Columns<'a, 'b> {
         ensures { result ≡ column_place (columns_listed self.now) name.now }
     {
         match self.names.place(name) {
-            Some(place) => Some(place),
+            Some(place) => Some(place as u32),
             None => match system_place(name) {
-                Some(place) => Some(self.names.len() + place),
+                Some(place) => Some(self.names.len() as u32 + place),
                 None => None,
             },
         }
@@ -83,7 +83,7 @@ impl<'a, 'b> Variables<'a, 'b> {
     pub fn of_client(others: &'b NameTable<'a>) -> Result<Variables<'a, 'b>, OutOfMemory>
         ensures { IfOk result (λ variables. others_listed variables ≡ Some (listed others.now)) }
     {
-        if others.len() > u32::MAX - 2 {
+        if others.len() > (u32::MAX - 2) as usize {
             return Err(OutOfMemory);
         }
         Ok(Variables {
@@ -131,7 +131,7 @@ impl Scope for Beside<'_, '_> {
             return Some(1);
         }
         let place = others.place(name)?;
-        Some(2 + place)
+        Some(2 + place as u32)
     }
 
     fn column(&self, name: &str) -> ColumnUse {

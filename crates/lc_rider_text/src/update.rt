@@ -33,7 +33,7 @@ fn is_open(stores: Stores, known: Known<'_, '_>, column: u32) -> bool
     match stores {
         Stores::InAll => true,
         Stores::InAuxiliary => {
-            known.columns.auxiliaries <= column && column < known.columns.names.len()
+            known.columns.auxiliaries <= column && (column as usize) < known.columns.names.len()
         }
     }
 }

@@ -3,7 +3,7 @@ use Rattle.std.specs.Borrow.{Bor}
 use Rattle.lc_reading.specs.TableView.{listed}
 use Rattle.lc_reading.specs.declared.table.NameTable.{NameTable}
 use Rattle.lc_rider_text.specs.Tables.{count_there}
-use Rattle.lc_rider_text.proofs.Below.{place_below}
+use Rattle.lc_reading.proofs.Places.{place_below}
 use Rattle.lc_rider_text.proofs.scope.BesideScope.variable.Goals as goal
 
 pub overflow_add-result : goal.overflow_add-result
