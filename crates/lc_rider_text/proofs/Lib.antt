@@ -3,4 +3,5 @@ pub mod Capped
 pub mod FormulasWithin
 pub mod Ground
 pub mod Parts
+pub mod PathsCounted
 pub mod RidersKnown

@@ -12,3 +12,4 @@ pub mod Ons
 pub mod Tables
 pub mod KnownView
 pub mod Seen
+pub mod Counted

@@ -6,10 +6,11 @@ ghost use Rattle.lc_reading.specs.TableView.{listed};
 ghost use Rattle.lc_seq.specs.SpecView.{column_of};
 ghost use Rattle.lc_rider_text.specs.Columns.{column_parts_reading};
 
-use lc_object_text::{ReadsPlaced, read_kth_name, read_numbers};
+use lc_object_text::{ReadsPlaced, read_kth_name};
 use lc_reading::{NameTable, Part, Pass, ReadFault, both, limited, next_part, wrong};
 use lc_seq::Column;
 use lc_sexp::{Cursor, Item};
+use lc_text::read_numbers;
 use std::alloc::Global;
 
 /// The most columns that a file declares.

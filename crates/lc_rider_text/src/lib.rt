@@ -10,6 +10,7 @@ mod deed;
 mod edge_words;
 mod edges;
 mod known;
+pub mod laws;
 mod numbers;
 mod on;
 mod parameters;
