@@ -1,8 +1,8 @@
 ghost use Rattle.std.specs.Prelude.{◌≡◌, ◌<◌, ◌≤◌, length, take, true, false};
-ghost use Rattle.lc_sexp.specs.Text.{class_of, is_Letter, are_letters, begins_word};
+ghost use Rattle.lc_sexp.specs.Text.{are_letters, begins_word};
 ghost use Rattle.lc_sexp.specs.Runs.{IsComment, IsRun};
 
-use crate::class::{Class, classify};
+use crate::class::{Class, classify, is_letter};
 
 /// Bytes that are read at once: a comment, letters that stand together, or a byte alone.
 #[derive(Clone, Copy)]
@@ -81,11 +81,4 @@ fn word_length(bytes: &[u8]) -> usize
         }
     }
     bytes.len()
-}
-
-/// Whether a byte may stand in an atom.
-fn is_letter(byte: u8) -> bool
-    ensures { result ≡ is_Letter (class_of byte) }
-{
-    matches!(classify(byte), Class::Letter)
 }
