@@ -5,8 +5,7 @@ use Rattle.std.proofs.Math.Seq.{take-append_seam, drop-append_seam}
 use Rattle.std.proofs.lemmas.List.{length-map, take-append-drop, take-map, drop-map, drop_all, take_all}
 use Rattle.std.proofs.lemmas.List.Folds.{list_all-append}
 use Rattle.lc_sexp.specs.Trees.{Trees, list, item_count_of_all, Token, open_list, close_list, word, tokens_of, tokens_of_all}
-use Rattle.lc_sexp.specs.Text.{class_of, are_letters, begins_word, lexed, before}
-use Rattle.lc_sexp.specs.declared.class.Class.TheVariants.{White}
+use Rattle.lc_sexp.specs.Text.{are_letters, begins_word, lexed}
 use Rattle.lc_sexp.specs.Entries.{Entry, hole, entries_of_all, first_row, later_rows, laid, holes_from, rows_tokens}
 use Rattle.lc_sexp.specs.Flat.{entry_of, entries, is_within, is_rooted, IsFlat, IsUnderWay}
 use Rattle.lc_sexp.specs.Progress.{told, told_tokens}

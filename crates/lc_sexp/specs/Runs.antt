@@ -32,7 +32,3 @@ pub record IsRun (in_comment : Bool) (bytes : List ℕ) (run : Run) : Type 0 whe
   pub seen : List ℕ
   pub counts : AreSeen run.class (take run.length bytes) seen
   pub uncomments : (rest : List ℕ) → uncommented in_comment (take run.length bytes ++ rest) ≡ seen ++ uncommented run.in_comment rest
-
--- the bytes begin with the rest of a comment
-abbrev pub IsComment : List ℕ → Run → Type 0
-IsComment bytes run = (run.class ≡ White) × IsRun true bytes run

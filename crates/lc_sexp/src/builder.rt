@@ -33,6 +33,20 @@ impl Builder {
         }
     }
 
+    /// The same, with room for so many items and letters.
+    pub(crate) fn with_room(
+        alloc: Global,
+        items: usize,
+        letters: usize,
+    ) -> Result<Builder, OutOfMemory>
+        ensures { IfOk result (λ built. entries_in built ≡ []) }
+    {
+        Ok(Builder {
+            nodes: Vec::with_capacity(alloc, items)?,
+            text: Vec::with_capacity(alloc, letters)?,
+        })
+    }
+
     /// Puts an atom of these letters behind.
     pub(crate) fn push_atom(&mut self, letters: &[u8]) -> Result<(), OutOfMemory>
         requires { are_letters letters.now ≡ true }

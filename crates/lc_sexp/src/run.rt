@@ -1,8 +1,8 @@
 ghost use Rattle.std.specs.Prelude.{◌≡◌, ◌<◌, ◌≤◌, length, take, true, false};
-ghost use Rattle.lc_sexp.specs.Text.{class_of, is_Letter, are_letters, begins_word};
-ghost use Rattle.lc_sexp.specs.Runs.{IsComment, IsRun};
+ghost use Rattle.lc_sexp.specs.Text.{are_letters, begins_word};
+ghost use Rattle.lc_sexp.specs.Runs.{IsRun};
 
-use crate::class::{Class, classify};
+use crate::class::{Class, classify, is_letter};
 
 /// Bytes that are read at once: a comment, letters that stand together, or a byte alone.
 #[derive(Clone, Copy)]
@@ -15,7 +15,8 @@ pub(crate) struct Run {
     pub(crate) in_comment: bool,
 }
 
-/// The run at the front of these bytes, which begin in a comment or not.
+/// The run at the front of these bytes, which begin in a comment or not. Each class has an arm, so that whoever takes
+/// the run needs no second branch.
 pub(crate) fn first_run(bytes: &[u8], in_comment: bool) -> Run
     requires { 0 < length bytes.now }
     ensures { IsRun in_comment bytes.now result }
@@ -51,7 +52,7 @@ fn alone(class: Class) -> Run
 /// The rest of a comment, with the line feed that ends it.
 fn comment(bytes: &[u8]) -> Run
     requires { 0 < length bytes.now }
-    ensures { IsComment bytes.now result }
+    ensures { IsRun true bytes.now result }
 {
     for (at, byte) in bytes.iter().enumerate() {
         if *byte == b'\n' {
@@ -81,11 +82,4 @@ fn word_length(bytes: &[u8]) -> usize
         }
     }
     bytes.len()
-}
-
-/// Whether a byte may stand in an atom.
-fn is_letter(byte: u8) -> bool
-    ensures { result ≡ is_Letter (class_of byte) }
-{
-    matches!(classify(byte), Class::Letter)
 }

@@ -1,12 +1,12 @@
 ghost use Rattle.std.specs.Prelude.{◌≡◌, ◌+◌, ◌++◌, IfOk, OnOk};
-ghost use Rattle.lc_sexp.specs.Text.{class_of, are_letters, is_Letter};
+ghost use Rattle.lc_sexp.specs.Text.{are_letters};
 ghost use Rattle.lc_sexp.specs.Printed.{is_atom};
 ghost use Rattle.lc_sexp.specs.Trees.{row, item_count_of_all};
 ghost use Rattle.lc_sexp.specs.Entries.{entries_of_all};
 ghost use Rattle.lc_sexp.specs.Built.{entries_in};
 
 use crate::builder::{Builder, short};
-use crate::class::{Class, classify};
+use crate::class::is_letter;
 use crate::cursor::Cursor;
 use crate::node::Node;
 use lc_base::OutOfMemory;
@@ -70,7 +70,7 @@ impl Sexp {
         requires { are_letters letters.now ≡ true }
         ensures { IfOk result (λ sexp. sexp ≡ atom letters.now) }
     {
-        let mut built = Builder::new(alloc);
+        let mut built = Builder::with_room(alloc, 1, letters.len())?;
         built.push_atom(letters)?;
         Ok(built.into_sexp())
     }
@@ -132,12 +132,6 @@ pub(crate) fn put_all(built: &mut Builder, sexps: &[Sexp]) -> Result<(), OutOfMe
         sexp.put(built)?;
     }
     Ok(())
-}
-
-fn is_letter(byte: u8) -> bool
-    ensures { result ≡ is_Letter (class_of byte) }
-{
-    matches!(classify(byte), Class::Letter)
 }
 
 fn are_letters(bytes: &[u8]) -> bool

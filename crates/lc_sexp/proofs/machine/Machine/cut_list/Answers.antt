@@ -43,8 +43,8 @@ into_sexp-requires c =
     let k = c.args.self.now.nodes.ok.0 in
     let cuts = cut c.args.self.now c.only_hole-at.result c.only_hole-at.ensures c.requires.ended in (
       list cuts.trees,
-      list_built (entries_in c.new-built.result) (entries_in c.push_list.new.self) (entries_in c.push_row.new.self) (c.len.result - c.only_hole-at.result - 1) cuts.trees
-          c.new-built.ensures c.in_ok-push_list.ensures
+      list_built (entries_in c.in_ok-built.built) (entries_in c.push_list.new.self) (entries_in c.push_row.new.self) (c.len.result - c.only_hole-at.result - 1) cuts.trees
+          c.in_ok-built.ensures c.in_ok-push_list.ensures
           (c.in_ok-push_row.ensures
           ∙ ap (λ es. entries_in c.push_list.new.self ++ es)
           (entries_slice c.args.self.now.text.items c.deref-2.result.now c.args.self.now.nodes.items c.deref.result.now (c.only_hole-at.result + 1) c.deref-2.ensures.value c.deref.ensures.value ∙ cuts.shown))
@@ -57,8 +57,8 @@ returns-clause-told c = λ tokens.
     let cuts = cut c.args.self.now c.only_hole-at.result c.only_hole-at.ensures c.requires.ended in
     let is : c.into_sexp.result ≡ list cuts.trees =
     c.into_sexp.ensures (list cuts.trees)
-    (list_built (entries_in c.new-built.result) (entries_in c.push_list.new.self) (entries_in c.push_row.new.self) (c.len.result - c.only_hole-at.result - 1) cuts.trees
-    c.new-built.ensures c.in_ok-push_list.ensures
+    (list_built (entries_in c.in_ok-built.built) (entries_in c.push_list.new.self) (entries_in c.push_row.new.self) (c.len.result - c.only_hole-at.result - 1) cuts.trees
+    c.in_ok-built.ensures c.in_ok-push_list.ensures
     (c.in_ok-push_row.ensures
     ∙ ap (λ es. entries_in c.push_list.new.self ++ es)
     (entries_slice c.args.self.now.text.items c.deref-2.result.now c.args.self.now.nodes.items c.deref.result.now (c.only_hole-at.result + 1) c.deref-2.ensures.value c.deref.ensures.value ∙ cuts.shown))
