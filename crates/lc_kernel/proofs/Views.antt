@@ -1,5 +1,5 @@
 -- What is seen of formulas of each kind.
-use Rattle.std.specs.Prelude.{◌≡◌, ℕ, suc, ◌⊎◌, List, [], ◌∷◌, Box}
+use Rattle.std.specs.Prelude.{◌≡◌, ℕ, suc, ◌⊎◌, ◌&&◌, List, [], ◌∷◌, Box}
 use Rattle.std.proofs.Common.{refl, sym, ap, ◌∙◌, inl, inr}
 use Rattle.std.specs.declared.alloc.Global.{Global}
 use Rattle.lc_term.specs.Places.{Test, passes, all_pass}
@@ -8,7 +8,7 @@ use Rattle.lc_term.specs.Syntax.{formulas, parts}
 use Rattle.lc_term.specs.View.{formula_of}
 use Rattle.lc_term.specs.declared.formula.Formula.{Formula, Forall, Exists}
 use Rattle.lc_term.proofs.Views.{formula_of-Forall, formula_of-Exists}
-use Rattle.lc_kernel.specs.Below.{below, formula_below}
+use Rattle.lc_kernel.specs.Below.{below, formula_below, all_below}
 
 pub parts_formulas : (fs : List S.Formula) → parts (formulas fs) ≡ fs
 parts_formulas [] = refl
@@ -37,3 +37,12 @@ below_Forall v f g h (inl is) at =
     ap (λ x. formula_below v (formula_of x)) at ∙ passes_anywhere (below v) 0 1 (formula_of g.value) ∙ sym (ap (formula_below v) (ap formula_of is ∙ formula_of-Forall g))
 below_Forall v f g h (inr is) at =
     ap (λ x. formula_below v (formula_of x)) at ∙ passes_anywhere (below v) 0 1 (formula_of g.value) ∙ sym (ap (formula_below v) (ap formula_of is ∙ formula_of-Exists g))
+
+-- the parts of a conjunction or a disjunction, as a list
+pub parts_below : (count : ℕ) (fs : List S.Formula) → all_below count fs ≡ all_pass (λ n. below count) 0 (formulas fs)
+parts_below count [] = refl
+parts_below count (f ∷ fs) = ap (λ b. formula_below count f && b) (parts_below count fs)
+
+-- what a quantifier binds
+pub body_below : (count : ℕ) (f : S.Formula) → formula_below count f ≡ formula_below count (S.Forall f)
+body_below count f = passes_anywhere (below count) 0 1 f

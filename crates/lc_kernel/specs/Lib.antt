@@ -6,3 +6,4 @@ pub mod Table
 pub mod Derivation
 pub mod Branches
 pub mod Answers
+pub mod Uses

@@ -2,7 +2,7 @@ ghost use Rattle.std.specs.Prelude.{◌≡◌, ◌&&◌, IfOk};
 ghost use Rattle.lc_kernel.specs.Below.{all_below, formula_below};
 ghost use Rattle.lc_term.specs.Tables.{formula_in, formulas_in, IsFormula, AreFormulas};
 
-use crate::below::formula_below;
+use crate::uses::{are_formulas_below, is_formula_below, nothing_known};
 use lc_base::OutOfMemory;
 use lc_term::{FormulaId, Terms};
 use std::alloc::Global;
@@ -23,38 +23,10 @@ impl Goal {
         requires goal { IsFormula terms.now self.now.goal }
         ensures { IfOk result (λ yes'. yes' ≡ (all_below self.now.vars (formulas_in terms.now self.now.hypotheses.items) && formula_below self.now.vars (formula_in terms.now self.now.goal))) }
     {
-        if !are_below(alloc, terms, self.vars, &self.hypotheses)? {
+        let mut known = nothing_known(alloc);
+        if !are_formulas_below(terms, self.vars, &self.hypotheses, &mut known)? {
             return Ok(false);
         }
-        is_below(alloc, terms, self.vars, self.goal)
+        is_formula_below(terms, self.vars, self.goal, &mut known)
     }
-}
-
-fn is_below(
-    alloc: Global,
-    terms: &Terms,
-    count: u32,
-    formula: FormulaId,
-) -> Result<bool, OutOfMemory>
-    requires { IsFormula terms.now formula }
-    ensures { IfOk result (λ yes'. yes' ≡ formula_below count (formula_in terms.now formula)) }
-{
-    Ok(formula_below(count, &terms.formula(alloc, formula)?))
-}
-
-fn are_below(
-    alloc: Global,
-    terms: &Terms,
-    count: u32,
-    formulas: &[FormulaId],
-) -> Result<bool, OutOfMemory>
-    requires { AreFormulas terms.now formulas.now }
-    ensures { IfOk result (λ yes'. yes' ≡ all_below count (formulas_in terms.now formulas.now)) }
-{
-    for formula in formulas {
-        if !is_below(alloc, terms, count, *formula)? {
-            return Ok(false);
-        }
-    }
-    Ok(true)
 }

@@ -13,6 +13,7 @@ mod proof;
 mod proving;
 mod reason;
 mod rules;
+mod uses;
 
 pub use fault::ProofFault;
 pub use goal::Goal;

@@ -1,0 +1,231 @@
+//! Whether free variables have numbers below a count, told over the nodes of a table. What is shared is looked at once.
+ghost use Rattle.std.specs.Prelude.{◌≡◌, ◌&&◌, ℕ, IfOk, OnOk};
+ghost use Rattle.lc_kernel.specs.Below.{term_below, column_below, formula_below, all_below};
+ghost use Rattle.lc_kernel.specs.Uses.{AreBelow};
+ghost use Rattle.lc_term.specs.NodeTables.{Table};
+ghost use Rattle.lc_term.specs.Tables.{term_in, column_in, formula_in, formulas_in, IsTerm, IsColumn, IsFormula, AreFormulas};
+
+use indexmap::IndexSet;
+use lc_base::OutOfMemory;
+use lc_term::{ColExprId, FormulaId, FormulaNode, TermId, TermNode, Terms};
+use std::alloc::Global;
+
+// What is known to have its variables below the count.
+pub(crate) struct KnownBelow {
+    terms: IndexSet<TermId>,
+    columns: IndexSet<ColExprId>,
+    formulas: IndexSet<FormulaId>,
+}
+
+impl Drop for KnownBelow {
+    fn drop(self) {
+        let KnownBelow {
+            terms: _,
+            columns: _,
+            formulas: _,
+        } = self;
+    }
+}
+
+pub(crate) fn nothing_known(alloc: Global) -> KnownBelow
+    ensures { (count : ℕ) (ts : Table) → AreBelow count ts result }
+{
+    KnownBelow {
+        terms: IndexSet::new(alloc),
+        columns: IndexSet::new(alloc),
+        formulas: IndexSet::new(alloc),
+    }
+}
+
+#[cycle(is_term_below)]
+fn is_term_below(
+    terms: &Terms,
+    count: u32,
+    term: TermId,
+    known: &mut KnownBelow,
+) -> Result<bool, OutOfMemory>
+    requires there { IsTerm terms.now term }
+    requires known { AreBelow count terms.now known.old }
+    ensures below { IfOk result (λ yes'. yes' ≡ term_below count (term_in terms.now term)) }
+    ensures known { OnOk result (AreBelow count terms.now known.new) }
+{
+    if known.terms.contains(&term) {
+        return Ok(true);
+    }
+    let is_below = is_term_node_below(terms, count, term, known)?;
+    if is_below {
+        known.terms.insert(term)?;
+    }
+    Ok(is_below)
+}
+
+#[cycle(is_term_below)]
+fn is_term_node_below(
+    terms: &Terms,
+    count: u32,
+    term: TermId,
+    known: &mut KnownBelow,
+) -> Result<bool, OutOfMemory>
+    requires there { IsTerm terms.now term }
+    requires known { AreBelow count terms.now known.old }
+    ensures below { IfOk result (λ yes'. yes' ≡ term_below count (term_in terms.now term)) }
+    ensures known { OnOk result (AreBelow count terms.now known.new) }
+{
+    match terms.term_node(term) {
+        TermNode::Number(_) | TermNode::Bound(_) => Ok(true),
+        TermNode::Variable(number) => Ok(number < count),
+        TermNode::Add(left, right) | TermNode::Subtract(left, right) => {
+            are_both_below(terms, count, left, right, known)
+        }
+        TermNode::Multiply(_, term) => is_term_below(terms, count, term, known),
+        TermNode::Read(column, index) => {
+            if !is_column_below(terms, count, column, known)? {
+                return Ok(false);
+            }
+            is_term_below(terms, count, index, known)
+        }
+        TermNode::Base(_) | TermNode::Store(_, _, _) | TermNode::Affine(_, _) => unreachable!(),
+    }
+}
+
+#[cycle(is_term_below)]
+fn are_both_below(
+    terms: &Terms,
+    count: u32,
+    left: TermId,
+    right: TermId,
+    known: &mut KnownBelow,
+) -> Result<bool, OutOfMemory>
+    requires left { IsTerm terms.now left }
+    requires right { IsTerm terms.now right }
+    requires known { AreBelow count terms.now known.old }
+    ensures below { IfOk result (λ yes'. yes' ≡ (term_below count (term_in terms.now left) && term_below count (term_in terms.now right))) }
+    ensures known { OnOk result (AreBelow count terms.now known.new) }
+{
+    if !is_term_below(terms, count, left, known)? {
+        return Ok(false);
+    }
+    is_term_below(terms, count, right, known)
+}
+
+#[cycle(is_term_below)]
+fn is_column_below(
+    terms: &Terms,
+    count: u32,
+    column: ColExprId,
+    known: &mut KnownBelow,
+) -> Result<bool, OutOfMemory>
+    requires there { IsColumn terms.now column }
+    requires known { AreBelow count terms.now known.old }
+    ensures below { IfOk result (λ yes'. yes' ≡ column_below count (column_in terms.now column)) }
+    ensures known { OnOk result (AreBelow count terms.now known.new) }
+{
+    if known.columns.contains(&column) {
+        return Ok(true);
+    }
+    let is_below = is_column_node_below(terms, count, column, known)?;
+    if is_below {
+        known.columns.insert(column)?;
+    }
+    Ok(is_below)
+}
+
+#[cycle(is_term_below)]
+fn is_column_node_below(
+    terms: &Terms,
+    count: u32,
+    column: ColExprId,
+    known: &mut KnownBelow,
+) -> Result<bool, OutOfMemory>
+    requires there { IsColumn terms.now column }
+    requires known { AreBelow count terms.now known.old }
+    ensures below { IfOk result (λ yes'. yes' ≡ column_below count (column_in terms.now column)) }
+    ensures known { OnOk result (AreBelow count terms.now known.new) }
+{
+    match terms.column_node(column) {
+        TermNode::Base(_) | TermNode::Affine(_, _) => Ok(true),
+        TermNode::Store(column, index, value) => {
+            if !is_column_below(terms, count, column, known)? {
+                return Ok(false);
+            }
+            are_both_below(terms, count, index, value, known)
+        }
+        _ => unreachable!(),
+    }
+}
+
+/// Whether each free variable of a formula has a number below the count.
+#[cycle(is_formula_below)]
+pub(crate) fn is_formula_below(
+    terms: &Terms,
+    count: u32,
+    formula: FormulaId,
+    known: &mut KnownBelow,
+) -> Result<bool, OutOfMemory>
+    requires there { IsFormula terms.now formula }
+    requires known { AreBelow count terms.now known.old }
+    ensures below { IfOk result (λ yes'. yes' ≡ formula_below count (formula_in terms.now formula)) }
+    ensures known { OnOk result (AreBelow count terms.now known.new) }
+{
+    if known.formulas.contains(&formula) {
+        return Ok(true);
+    }
+    let is_below = is_formula_node_below(terms, count, formula, known)?;
+    if is_below {
+        known.formulas.insert(formula)?;
+    }
+    Ok(is_below)
+}
+
+#[cycle(is_formula_below)]
+fn is_formula_node_below(
+    terms: &Terms,
+    count: u32,
+    formula: FormulaId,
+    known: &mut KnownBelow,
+) -> Result<bool, OutOfMemory>
+    requires there { IsFormula terms.now formula }
+    requires known { AreBelow count terms.now known.old }
+    ensures below { IfOk result (λ yes'. yes' ≡ formula_below count (formula_in terms.now formula)) }
+    ensures known { OnOk result (AreBelow count terms.now known.new) }
+{
+    match terms.formula_node(formula) {
+        FormulaNode::Le(left, right) | FormulaNode::Eq(left, right) => {
+            are_both_below(terms, count, *left, *right, known)
+        }
+        FormulaNode::Not(formula) => is_formula_below(terms, count, *formula, known),
+        FormulaNode::And(parts) | FormulaNode::Or(parts) => {
+            are_formulas_below(terms, count, parts, known)
+        }
+        FormulaNode::Implies(left, right) => {
+            if !is_formula_below(terms, count, *left, known)? {
+                return Ok(false);
+            }
+            is_formula_below(terms, count, *right, known)
+        }
+        FormulaNode::Forall(body) | FormulaNode::Exists(body) => {
+            is_formula_below(terms, count, *body, known)
+        }
+    }
+}
+
+/// The same of each formula of a list.
+#[cycle(is_formula_below)]
+pub(crate) fn are_formulas_below(
+    terms: &Terms,
+    count: u32,
+    formulas: &[FormulaId],
+    known: &mut KnownBelow,
+) -> Result<bool, OutOfMemory>
+    requires there { AreFormulas terms.now formulas.now }
+    requires known { AreBelow count terms.now known.old }
+    ensures below { IfOk result (λ yes'. yes' ≡ all_below count (formulas_in terms.now formulas.now)) }
+    ensures known { OnOk result (AreBelow count terms.now known.new) }
+{
+    for formula in formulas {
+        if !is_formula_below(terms, count, *formula, known)? {
+            return Ok(false);
+        }
+    }
+    Ok(true)
+}
