@@ -1,0 +1,1 @@
+-- The text that is written of a certificate.

@@ -1,0 +1,5 @@
+use Rattle.lc_cert.proofs.Back.{certificate_back}
+use Rattle.lc_cert.proofs.laws.printed_certificates_read_back.Goals as goal
+
+pub returns : goal.returns
+returns c = certificate_back
