@@ -146,8 +146,9 @@ base_read names reader n w c e = used_read (names.column w) reader n w c e
 
 module _ (names : Names) (by : Spelled) where
   mutual
-    pub term_atoms : (d : ℕ) (t : Term) → d ≤ 4294967296 → TermReadsBack names by d t → HasAtoms (term_tree by d t)
     unfolding class_of
+
+    pub term_atoms : (d : ℕ) (t : Term) → d ≤ 4294967296 → TermReadsBack names by d t → HasAtoms (term_tree by d t)
     term_atoms d (Number z) h r = number_atom z r
     term_atoms d (Variable k) h r = atom_read names (binders d) 0 (by.variable k) (Variable k) (r 0)
     term_atoms d (Bound k) h r = name_atom (binder (d - 1 - k)) (binder_is_name (d - 1 - k) (omega arith))
@@ -157,7 +158,6 @@ module _ (names : Names) (by : Spelled) where
     term_atoms d (Read c i) h r = (refl, (column_atoms d c h r.0, (term_atoms d i h r.1, tt)))
 
     pub column_atoms : (d : ℕ) (c : Column) → d ≤ 4294967296 → ColumnReadsBack names by d c → HasAtoms (column_tree by d c)
-    unfolding class_of
     column_atoms d (Base c) h r = base_read names 0 0 (by.column c) (Base c) (r 0 0)
     column_atoms d (Store c i v) h r = (refl, (column_atoms d c h r.1, (term_atoms d i h r.2, (term_atoms d v h r.3, tt))))
     column_atoms d (Affine a b) h r = (refl, (number_atom a r.1, (number_atom b r.2, tt)))
@@ -172,8 +172,9 @@ module _ (names : Names) (by : Spelled) where
   deeper d f h k = subst (λ e. HasAtoms (formula_tree by e f)) (one_deeper_is d h) k
 
   mutual
-    pub formula_atoms : (d : ℕ) (f : Formula) → d ≤ 4294967296 → FormulaReadsBack names by d f → HasAtoms (formula_tree by d f)
     unfolding class_of
+
+    pub formula_atoms : (d : ℕ) (f : Formula) → d ≤ 4294967296 → FormulaReadsBack names by d f → HasAtoms (formula_tree by d f)
     formula_atoms d (Le t u) h r = (refl, (term_atoms d t h r.0, (term_atoms d u h r.1, tt)))
     formula_atoms d (Eq t u) h r = (refl, (term_atoms d t h r.0, (term_atoms d u h r.1, tt)))
     formula_atoms d (Not f) h r = (refl, (formula_atoms d f h r, tt))

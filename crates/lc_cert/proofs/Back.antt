@@ -1,5 +1,5 @@
 -- What is printed of a certificate reads back.
-use Rattle.std.proofs.Common.{◌≡◌, ℕ, ◌+◌, ◌<◌, ◌^◌, Bool, true, cond, List, [], ◌∷◌, Option, Some, None, refl, ap, ap₂, ◌∙◌, pos}
+use Rattle.std.proofs.Common.{◌≡◌, ℕ, ◌+◌, ◌<◌, ◌^◌, Bool, true, cond, List, [], ◌∷◌, Option, Some, None, refl, ap, ap₂, ◌∙◌, pos, arith}
 use Rattle.std.proofs.lemmas.Bool.{and_parts, and_from, eq-eqb, lt-ltb, cond-true}
 use Rattle.std.specs.Fmt.{decimal}
 use Rattle.lc_sexp.specs.Parts.{fits_i64}
@@ -49,9 +49,11 @@ entries_back : (D : Development) (last : Option ℕ) (m : ℕ) (es : List Entry)
     → entries_reading (names_with (column_names D)) last m (entry_trees (spelled_with (column_names D)) es) ≡ fine es
 entries_back D last m [] h r = refl
 entries_back D last m (e ∷ es) h r =
+    let names = names_with (column_names D) in
+    let by = spelled_with (column_names D) in
     let p = and_parts (is_above last e.number) (is_rising (Some e.number) es) h in
-    one_before (names_with (column_names D)) last _ _ e es _
-    (entry_back (names_with (column_names D)) (spelled_with (column_names D)) last m e p.0 r.0.0 r.0.1) (entries_back D (Some e.number) _ es p.1 r.1)
+    one_before names last (m + item_count (entry_tree by e)) (entry_trees by es) e es (entry_reading names last m (entry_tree by e))
+    (entry_back names by last m e p.0 r.0.0 r.0.1) (entries_back D (Some e.number) (m + item_count (entry_tree by e)) es p.1 r.1)
 
 same_word : (w : List ℕ) → is w w ≡ true
 same_word [] = refl
@@ -73,4 +75,4 @@ tree_atoms D es r = ((refl, (name_atom D.object.name r.name, entries_atoms D es 
 
 pub certificate_back : (D : Development) (es : List Entry) → ReadsBack D es → Certifies D (certificate_line D es) es
 certificate_back D es r =
-    (certificate_tree D es ▸ none, printed_reads (certificate_tree D es ▸ none) (tree_atoms D es r) r.nesting r.size, file_back D es r.rising r.entries)
+    (certificate_tree D es ▸ none, printed_reads (certificate_tree D es ▸ none) (tree_atoms D es r) (omega (arith, r.nesting)) r.size, file_back D es r.rising r.entries)

@@ -1,22 +1,26 @@
 -- Entries that are read one after another.
-use Rattle.std.proofs.Common.{◌≡◌, ℕ, ◌+◌, List, [], ◌∷◌, Option, Some, Ok, Err, refl, sym, ap, ◌∙◌, subst}
+use Rattle.std.proofs.Common.{◌≡◌, ℕ, ◌+◌, List, [], ◌∷◌, Option, Some, None, Ok, Err, refl, sym, ap, ◌∙◌, subst}
 use Rattle.std.specs.Prelude.{Result, Vec}
 use Rattle.std.specs.declared.alloc.Global.{Global}
-use Rattle.lc_sexp.specs.Trees.{Tree, Trees, ◌▸◌, item_count}
-use Rattle.lc_sexp.specs.Shown.{rest_of, number_of}
+use Rattle.lc_sexp.specs.Trees.{Tree, Trees, ◌▸◌, item_count, item_count_of_all}
+use Rattle.lc_sexp.specs.Shown.{rest_of, number_of, owner_of}
 use Rattle.lc_sexp.specs.declared.cursor.Cursor.{Cursor}
+use Rattle.lc_reading.proofs.Combined.{both_read}
 use Rattle.lc_reading.proofs.SoFar.{IsSoFar, so_far_push}
-use Rattle.lc_reading.specs.Parts.{IsBehind, tree_of, place_of}
+use Rattle.lc_reading.specs.Parts.{IsBehind, IsOne, tree_of, place_of}
 use Rattle.lc_reading.specs.Readings.{Reading, fine, flawed, both}
-use Rattle.lc_reading.specs.Results.{IsReading, IsPushed}
+use Rattle.lc_reading.specs.Results.{IsReading, IsPushed, both_results}
 use Rattle.lc_reading.specs.declared.flaw.ReadFault.{ReadFault}
 use Rattle.lc_reading.specs.declared.flaw.ReadFault.TheVariants.{Flawed, OutOfMemory}
 use Rattle.lc_reading.specs.declared.part.Part.{Part}
 use Rattle.lc_text.specs.Names.{Names}
+use Rattle.lc_proof_text.specs.Files.{only}
+use Rattle.lc_outline.specs.Development.{Development}
 use Rattle.lc_cert.specs.Answers.{last_told}
 use Rattle.lc_cert.specs.Certificates as S
-use Rattle.lc_cert.specs.EntryView.{entry_of}
-use Rattle.lc_cert.specs.Readings.{entry_reading, last_behind, entries_reading}
+use Rattle.lc_cert.specs.ColumnNames.{column_names, names_with}
+use Rattle.lc_cert.specs.EntryView.{entry_of, entries_of}
+use Rattle.lc_cert.specs.Readings.{entry_reading, last_behind, entries_reading, name_due, named_reading, form_reading, certificate_reading}
 use Rattle.lc_cert.specs.declared.entry.Entry.{Entry}
 
 -- behind the item i the others are left, from m on
@@ -52,3 +56,26 @@ entry_pushed names last after whole l behind part values c a at next read is p h
     pushed_at names last after whole (entry_reading names last (place_of part) (tree_of part)) (number_of behind) (rest_of behind) values c a read is p
     (subst (λ r. IsSoFar entry_of (λ e es. e ∷ es) whole r values)
     (one_more_at names last (number_of l) (place_of part) (number_of behind) (tree_of part) (rest_of behind) (rest_of l) at next.rest next.number) h)
+
+-- the name, and the entries behind it
+named_at : (columns : List (List ℕ)) (name : List ℕ) (n m i k : ℕ) (t : Tree) (ts us : Trees) (a : Result (Unit {0}) ReadFault) (b : Result (Vec Entry Global) ReadFault) (c : Result (Unit {0} × Vec Entry Global) ReadFault)
+    → us ≡ t ▸ ts → i ≡ m → k ≡ m + item_count t
+    → IsReading (λ (u : Unit {0}). u) (name_due name i t) a → IsReading (λ (es : Vec Entry Global). entries_of es.items) (entries_reading (names_with columns) None k ts) b → c ≡ both_results a b
+    → IsReading (λ (p : Unit {0} × Vec Entry Global). entries_of p.1.items) (named_reading columns name n m us) c
+named_at columns name n m i k t ts us a b c rest at number due read together =
+    rw (together, rest)
+    (both_read (λ (u : Unit {0}). u) (λ (es : Vec Entry Global). entries_of es.items) (λ u es. es) _ _ a b
+    (subst (λ j. IsReading (λ (u : Unit {0}). u) (name_due name j t) a) at due)
+    (subst (λ j. IsReading (λ (es : Vec Entry Global). entries_of es.items) (entries_reading (names_with columns) None j ts) b) number read))
+
+pub named_read : (columns : List (List ℕ)) (name : List ℕ) (l rest : Cursor) (first : Part) (a : Result (Unit {0}) ReadFault) (b : Result (Vec Entry Global) ReadFault) (c : Result (Unit {0} × Vec Entry Global) ReadFault)
+    → IsOne l (Ok (first, rest)) → IsReading (λ (u : Unit {0}). u) (name_due name (place_of first) (tree_of first)) a
+    → IsReading (λ (es : Vec Entry Global). entries_of es.items) (entries_reading (names_with columns) None (number_of rest) (rest_of rest)) b → c ≡ both_results a b
+    → IsReading (λ (p : Unit {0} × Vec Entry Global). entries_of p.1.items) (named_reading columns name (owner_of l) (number_of l) (rest_of l)) c
+named_read columns name l rest first a b c (same, at, behind) due read together =
+    named_at columns name (owner_of l) (number_of l) (place_of first) (number_of rest) (tree_of first) (rest_of rest) (rest_of l) a b c same at behind due read together
+
+-- the whole file
+pub file_at : (D : Development) (n m : ℕ) (ts us : Trees) (columns : List (List ℕ)) (name : List ℕ) → n ≡ item_count_of_all us → m ≡ 0 → ts ≡ us → columns ≡ column_names D → name ≡ D.object.name
+    → only (form_reading columns name) n m ts ≡ certificate_reading D us
+file_at D n m ts us columns name owner number rest named object = rw (owner, number, rest, named, object) refl

@@ -1,6 +1,7 @@
 -- Where the proof of a number stands among numbers that rise.
-use Rattle.std.proofs.Common.{◌≡◌, ℕ, zero, suc, ◌<◌, ◌≤◌, Bool, true, false, cond, List, [], ◌∷◌, length, get_or, Option, Some, None, refl, ap, ◌∙◌, arith}
-use Rattle.std.proofs.lemmas.Bool.{and_parts, ltb-true, ltb-false, cond-false, ne_eqb}
+use Rattle.std.proofs.Common.{◌≡◌, ℕ, zero, suc, ◌<◌, ◌≤◌, Bool, true, false, cond, List, [], ◌∷◌, length, get_or, Option, Some, None, refl, sym, ap, ◌∙◌, subst, arith}
+use Rattle.std.proofs.lemmas.Bool.{and_parts, ltb-true, ltb-false, cond-true, cond-false, eq-eqb, ne_eqb}
+use Rattle.std.proofs.lemmas.Option.{slice_get_read, slice_get_past}
 use Rattle.std.specs.Prelude.{◌==◌, nat_lt, slice_get}
 use Rattle.std.specs.List.{AllWithin}
 use Rattle.std.specs.List.Sorted.{IsNonDecreasingBy}
@@ -61,3 +62,25 @@ proof_behind last k (e ∷ es) (suc place) h le below others =
     cond-false _ _ _ (ne_eqb e.number k (λ same. omega arith))
     ∙ proof_behind (Some e.number) k es place (behind_first last e es h) (omega arith)
     (λ i d low high. below (suc i) d (omega arith) (omega arith)) (λ i d low high. others (suc i) d (omega arith) (omega arith))
+
+-- the same where the entries are seen as another list
+pub proof_looked_up : (k place : ℕ) (es xs : List Entry) → xs ≡ es → is_rising None (entries_of es) ≡ true → place ≤ length xs
+    → AllWithin (λ (e : Entry). nat_lt e.number k ≡ true) xs 0 place × AllWithin (λ (e : Entry). nat_lt e.number k ≡ false) xs place (length xs)
+    → proof_at (entries_of es) k ≡ proof_if k (slice_get es place)
+proof_looked_up k place es xs same h le point =
+    ap (λ l. proof_at (entries_of l) k) (sym same)
+    ∙ proof_behind None k xs place (subst (λ l. is_rising None (entries_of l) ≡ true) (sym same) h) le point.0 point.1
+    ∙ ap (λ l. proof_if k (slice_get l place)) same
+
+pub proof_found : (k place : ℕ) (es ys : List Entry) (e : Entry) (o : Option Proof) → o ≡ proof_if k (slice_get es place) → ys ≡ es → place < length ys → e ≡ get_or ys place e → e.number ≡ k
+    → Some (proof_of e.proof) ≡ o
+proof_found k place es ys e o is same lt at number =
+    sym (is ∙ ap (λ l. proof_if k (slice_get l place)) (sym same) ∙ ap (proof_if k) (slice_get_read ys (length ys) place e refl lt at) ∙ cond-true _ _ _ (eq-eqb e.number k number))
+
+pub proof_of_another : (k place : ℕ) (es ys : List Entry) (e : Entry) (o : Option Proof) → o ≡ proof_if k (slice_get es place) → ys ≡ es → place < length ys → e ≡ get_or ys place e → (e.number ≡ k → ⊥)
+    → None ≡ o
+proof_of_another k place es ys e o is same lt at number =
+    sym (is ∙ ap (λ l. proof_if k (slice_get l place)) (sym same) ∙ ap (proof_if k) (slice_get_read ys (length ys) place e refl lt at) ∙ cond-false _ _ _ (ne_eqb e.number k number))
+
+pub no_proof_behind : (k place : ℕ) (es ys : List Entry) (o : Option Proof) → o ≡ proof_if k (slice_get es place) → ys ≡ es → length ys ≤ place → None ≡ o
+no_proof_behind k place es ys o is same le = sym (is ∙ ap (λ l. proof_if k (slice_get l place)) (sym same) ∙ ap (proof_if k) (slice_get_past ys place le))

@@ -59,10 +59,7 @@ fn with_system_columns<'a>(names: Vec<&'a str>) -> Result<Vec<&'a str>, OutOfMem
 }
 
 /// The names of all columns, by their numbers.
-pub(crate) fn column_names<'a>(
-    alloc: Global,
-    parts: &'a Parts,
-) -> Result<Vec<&'a str>, OutOfMemory>
+pub(crate) fn column_names<'a>(alloc: Global, parts: &'a Parts) -> Result<Vec<&'a str>, OutOfMemory>
     ensures { IfOk result (λ all. names_in all.items ≡ column_names (parts_shown parts.now)) }
 {
     let names = with_columns(Vec::new(alloc), parts.specification.columns())?;
@@ -72,10 +69,7 @@ pub(crate) fn column_names<'a>(
 }
 
 /// A table of these names.
-pub(crate) fn table_of<'a>(
-    alloc: Global,
-    names: &[&'a str],
-) -> Result<NameTable<'a>, OutOfMemory>
+pub(crate) fn table_of<'a>(alloc: Global, names: &[&'a str]) -> Result<NameTable<'a>, OutOfMemory>
     ensures { IfOk result (λ table. listed table ≡ names_in names.now) }
 {
     let mut table = NameTable::new(alloc);
