@@ -10,7 +10,6 @@ use Rattle.lc_sexp.specs.Numerals.{are_digits, natural_of, negative_of, integer_
 use Rattle.lc_sexp.specs.Parts.{fits_i64, integer_within, variable_within}
 use Rattle.lc_sexp.specs.Printed.{is_atom, HasAtoms, HaveAtoms}
 use Rattle.lc_sexp.specs.Text.{class_of, is_Letter, are_letters}
-use Rattle.lc_sexp.specs.Trees.{Tree, Trees, atom, list, none, ◌▸◌}
 use Rattle.lc_reading.specs.Readings.{Reading, fine, flawed, wrong, mapped}
 use Rattle.lc_reading.specs.declared.flaw.Flaw.{Flaw}
 use Rattle.lc_reading.specs.declared.pass.Pass.TheVariants.{Shape}

@@ -1,11 +1,12 @@
 -- What is printed of a certificate reads back.
-use Rattle.std.proofs.Common.{◌≡◌, ℕ, ◌+◌, ◌<◌, ◌^◌, Bool, true, cond, List, [], ◌∷◌, Option, Some, None, refl, ap, ap₂, ◌∙◌, pos, arith}
+use Rattle.std.proofs.Common.{◌≡◌, ℕ, ◌+◌, ◌<◌, ◌^◌, true, List, [], ◌∷◌, Option, Some, None, refl, ap, ap₂, ◌∙◌, pos, arith}
 use Rattle.std.proofs.lemmas.Bool.{and_parts, and_from, eq-eqb, lt-ltb, cond-true}
 use Rattle.std.specs.Fmt.{decimal}
+use Rattle.lc_base.specs.NameText.{is_name}
 use Rattle.lc_sexp.specs.Parts.{fits_i64}
-use Rattle.lc_sexp.specs.Printed.{is_atom, HasAtoms, HaveAtoms}
+use Rattle.lc_sexp.specs.Printed.{HaveAtoms}
 use Rattle.lc_sexp.specs.Text.{class_of}
-use Rattle.lc_sexp.specs.Trees.{Tree, Trees, atom, list, none, ◌▸◌, item_count}
+use Rattle.lc_sexp.specs.Trees.{Trees, atom, none, ◌▸◌, item_count}
 use Rattle.lc_sexp.proofs.PrintedLemmas.{printed_reads}
 use Rattle.lc_reading.specs.Readings.{Reading, fine, wrong, both}
 use Rattle.lc_reading.specs.Words.{is}
@@ -13,20 +14,18 @@ use Rattle.lc_reading.specs.declared.pass.Pass.TheVariants.{Shape}
 use Rattle.lc_term.specs.Lists.{Every}
 use Rattle.lc_text.specs.Names.{Names}
 use Rattle.lc_text.specs.Spelling.{Spelled}
-use Rattle.lc_text.specs.Terms.{fit_reading, number_reading}
+use Rattle.lc_text.specs.Terms.{fit_reading}
 use Rattle.lc_text.proofs.Numerals.{integer_fit-signed}
-use Rattle.lc_kernel.specs.Proofs.{Proof}
 use Rattle.lc_proof_text.proofs.ProofsBack.{proof_back}
-use Rattle.lc_proof_text.specs.ProofTrees.{proof_tree, ProofReadsBack}
-use Rattle.lc_proof_text.specs.Proofs.{proof_reading}
+use Rattle.lc_proof_text.specs.ProofTrees.{ProofReadsBack}
 use Rattle.lc_outline.specs.Development.{Development}
 use Rattle.lc_cert.proofs.Atoms.{name_atom, number_atom}
 use Rattle.lc_cert.proofs.ProofAtoms.{proof_atoms}
 use Rattle.lc_cert.specs.Certificates.{Entry, is_above, is_rising}
 use Rattle.lc_cert.specs.ColumnNames.{column_names, names_with, spelled_with}
 use Rattle.lc_cert.specs.Files.{Certifies}
-use Rattle.lc_cert.specs.Printed.{entry_tree, entry_trees, certificate_tree, certificate_line, EntryReadsBack, ReadsBack}
-use Rattle.lc_cert.specs.Readings.{rising_reading, place_reading, entry, entry_reading, last_behind, entries_reading, name_due, certificate_reading}
+use Rattle.lc_cert.specs.Printed.{entry_tree, entry_trees, certificate_tree, certificate_line, EntryReadsBack, IsWithinLimits}
+use Rattle.lc_cert.specs.Readings.{rising_reading, place_reading, entry, entry_reading, last_behind, entries_reading, certificate_reading}
 
 fits_number : (k : ℕ) → k < 2 ^ 63 → fits_i64 (pos k) ≡ true
 fits_number k h = lt-ltb k 9223372036854775808 h
@@ -69,10 +68,10 @@ entries_atoms D (e ∷ es) r =
     let by = spelled_with (column_names D) in
     ((refl, (number_atom (pos e.number) (fits_number e.number r.0.0), (proof_atoms (names_with (column_names D)) by e.proof r.0.1, tt))), entries_atoms D es r.1)
 
-tree_atoms : (D : Development) (es : List Entry) → ReadsBack D es → HaveAtoms (certificate_tree D es ▸ none)
+tree_atoms : (D : Development) (es : List Entry) → is_name D.object.name ≡ true → Every (EntryReadsBack D) es → HaveAtoms (certificate_tree D es ▸ none)
 unfolding class_of
-tree_atoms D es r = ((refl, (name_atom D.object.name r.name, entries_atoms D es r.entries)), tt)
+tree_atoms D es name r = ((refl, (name_atom D.object.name name, entries_atoms D es r)), tt)
 
-pub certificate_back : (D : Development) (es : List Entry) → ReadsBack D es → Certifies D (certificate_line D es) es
-certificate_back D es r =
-    (certificate_tree D es ▸ none, printed_reads (certificate_tree D es ▸ none) (tree_atoms D es r) (omega (arith, r.nesting)) r.size, file_back D es r.rising r.entries)
+pub certificate_back : (D : Development) (es : List Entry) → is_rising None es ≡ true → Every (EntryReadsBack D) es → IsWithinLimits D es → Certifies D (certificate_line D es) es
+certificate_back D es rising r limits =
+    (certificate_tree D es ▸ none, printed_reads (certificate_tree D es ▸ none) (tree_atoms D es limits.name r) (omega (arith, limits.nesting)) limits.size, file_back D es rising r)

@@ -1,5 +1,5 @@
 -- Entries that are read one after another.
-use Rattle.std.proofs.Common.{◌≡◌, ℕ, ◌+◌, List, [], ◌∷◌, Option, Some, None, Ok, Err, refl, sym, ap, ◌∙◌, subst}
+use Rattle.std.proofs.Common.{◌≡◌, ℕ, ◌+◌, List, ◌∷◌, Option, None, Ok, Err, refl, sym, ap, ◌∙◌, subst}
 use Rattle.std.specs.Prelude.{Result, Vec}
 use Rattle.std.specs.declared.alloc.Global.{Global}
 use Rattle.lc_sexp.specs.Trees.{Tree, Trees, ◌▸◌, item_count, item_count_of_all}
@@ -8,7 +8,7 @@ use Rattle.lc_sexp.specs.declared.cursor.Cursor.{Cursor}
 use Rattle.lc_reading.proofs.Combined.{both_read}
 use Rattle.lc_reading.proofs.SoFar.{IsSoFar, so_far_push}
 use Rattle.lc_reading.specs.Parts.{IsBehind, IsOne, tree_of, place_of}
-use Rattle.lc_reading.specs.Readings.{Reading, fine, flawed, both}
+use Rattle.lc_reading.specs.Readings.{Reading, both}
 use Rattle.lc_reading.specs.Results.{IsReading, IsPushed, both_results}
 use Rattle.lc_reading.specs.declared.flaw.ReadFault.{ReadFault}
 use Rattle.lc_reading.specs.declared.flaw.ReadFault.TheVariants.{Flawed, OutOfMemory}

@@ -1,9 +1,9 @@
 -- The same of proofs.
-use Rattle.std.proofs.Common.{◌≡◌, ℕ, ℤ, ◌≤◌, true, List, [], ◌∷◌, refl, arith}
+use Rattle.std.proofs.Common.{◌≡◌, ℤ, true, List, [], ◌∷◌, refl, arith}
 use Rattle.lc_sexp.specs.Parts.{fits_i64}
 use Rattle.lc_sexp.specs.Printed.{HasAtoms, HaveAtoms}
 use Rattle.lc_sexp.specs.Text.{class_of}
-use Rattle.lc_sexp.specs.Trees.{Trees, none, ◌▸◌}
+use Rattle.lc_sexp.specs.Trees.{Trees}
 use Rattle.lc_kernel.specs.Proofs as S
 use Rattle.lc_kernel.specs.Proofs.{Step, Split, Cases, Push, Instantiate, Fresh, Cut, Written, Same, Affine, Trichotomy, Divide, Sum, Opposite, Open}
 use Rattle.lc_kernel.specs.Proofs.{Proof, Proofs, proof, more}

@@ -1,5 +1,5 @@
 -- The numbers of a certificate that is read rise.
-use Rattle.std.proofs.Common.{◌≡◌, ℕ, ◌+◌, Bool, true, false, cond, List, [], ◌∷◌, Option, Some, None, refl}
+use Rattle.std.proofs.Common.{◌≡◌, ℕ, ◌+◌, Bool, true, false, cond, List, ◌∷◌, Option, Some, None, refl}
 use Rattle.std.proofs.lemmas.Bool.{and_from}
 use Rattle.std.specs.Prelude.{ℤ, pos, negsuc, codes}
 use Rattle.lc_sexp.specs.Trees.{Tree, Trees, none, ◌▸◌, item_count, item_count_of_all}
@@ -10,13 +10,12 @@ use Rattle.lc_reading.specs.declared.flaw.Flaw.{Flaw}
 use Rattle.lc_reading.specs.declared.pass.Pass.TheVariants.{Shape}
 use Rattle.lc_text.specs.Names.{Names}
 use Rattle.lc_text.specs.Terms.{number_reading}
-use Rattle.lc_kernel.specs.Proofs.{Proof}
 use Rattle.lc_proof_text.specs.Files.{only}
 use Rattle.lc_proof_text.specs.Proofs.{proof_reading}
 use Rattle.lc_outline.specs.Development.{Development}
 use Rattle.lc_cert.specs.Certificates.{Entry, is_above, is_rising}
 use Rattle.lc_cert.specs.ColumnNames.{column_names, names_with}
-use Rattle.lc_cert.specs.Readings.{rising_reading, place_reading, entry, parts_reading, entry_reading, last_behind, entries_reading, name_due, named_reading, form_reading, file_reading, certificate_reading}
+use Rattle.lc_cert.specs.Readings.{rising_reading, place_reading, entry, parts_reading, entry_reading, last_behind, entries_reading, name_due, named_reading, form_reading, certificate_reading}
 
 above_kept : (last : Option ℕ) (n k : ℕ) (b : Bool) → is_above last k ≡ b → IfFine (cond b (fine k) (wrong Shape n)) (λ j. is_above last j ≡ true)
 above_kept last n k true e = e

@@ -2,9 +2,10 @@
 ghost use Rattle.std.specs.Prelude.{◌≡◌, ◌⊎◌, ℕ, true, None, List};
 ghost use Rattle.lc_base.specs.declared.refusal.Refusal.{Refusal};
 ghost use Rattle.lc_outline.specs.Development.{Development};
+ghost use Rattle.lc_term.specs.Lists.{Every};
 ghost use Rattle.lc_cert.specs.Certificates.{Entry, is_rising};
 ghost use Rattle.lc_cert.specs.Files.{Certifies, IsFirstRefusal};
-ghost use Rattle.lc_cert.specs.Printed.{certificate_line, ReadsBack};
+ghost use Rattle.lc_cert.specs.Printed.{certificate_line, EntryReadsBack, IsWithinLimits};
 
 /// All bytes are a certificate of a development, with one list of entries, or they have one first refusal; and never both.
 /// The numbers of its entries rise.
@@ -16,8 +17,8 @@ pub fn a_certificate_is_read_or_refused()
     ensures rising { (D : Development) (bytes : List ℕ) (es : List Entry) → Certifies D bytes es → is_rising None es ≡ true }
 {}
 
-/// What is printed of a certificate whose proofs read back is, within the limits of nesting and size, a certificate of the same
-/// development with the same entries.
+/// What is printed of a certificate whose numbers rise and whose proofs read back is, within the limits of nesting and size, a
+/// certificate of the same development with the same entries.
 pub fn printed_certificates_read_back()
-    ensures { (D : Development) (es : List Entry) → ReadsBack D es → Certifies D (certificate_line D es) es }
+    ensures { (D : Development) (es : List Entry) → is_rising None es ≡ true → Every (EntryReadsBack D) es → IsWithinLimits D es → Certifies D (certificate_line D es) es }
 {}

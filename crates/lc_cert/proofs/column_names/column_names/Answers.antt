@@ -1,4 +1,4 @@
-use Rattle.std.proofs.Common.{◌≡◌, ◌++◌, ap, ◌∙◌, map}
+use Rattle.std.proofs.Common.{◌++◌, ap, ◌∙◌, map}
 use Rattle.lc_term.specs.SystemColumns.{system_columns}
 use Rattle.lc_seq.specs.Specification as Q
 use Rattle.lc_seq.specs.SpecView.{columns_of}

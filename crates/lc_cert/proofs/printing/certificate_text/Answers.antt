@@ -1,4 +1,4 @@
-use Rattle.std.proofs.Common.{◌≡◌, ◌++◌, string_bytes, ap, ◌∙◌}
+use Rattle.std.proofs.Common.{◌++◌, string_bytes, ap, ◌∙◌}
 use Rattle.std.specs.Prelude.{codes}
 use Rattle.lc_object.specs.Syntax.{Object}
 use Rattle.lc_outline.specs.Development.{Development}

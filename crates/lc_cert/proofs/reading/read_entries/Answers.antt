@@ -1,5 +1,5 @@
 use Rattle.std.proofs.Common.{ap}
-use Rattle.lc_sexp.specs.Shown.{rest_of, number_of}
+use Rattle.lc_sexp.specs.Shown.{number_of}
 use Rattle.lc_reading.proofs.SoFar.{each_end}
 use Rattle.lc_reading.specs.TableView.{listed}
 use Rattle.lc_cert.proofs.Behind.{entry_pushed}

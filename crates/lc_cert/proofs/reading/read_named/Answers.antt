@@ -1,4 +1,3 @@
-use Rattle.std.specs.Prelude.{Vec}
 use Rattle.lc_reading.proofs.Combined.{ok_arm, err_arm}
 use Rattle.lc_reading.specs.TableView.{listed}
 use Rattle.lc_cert.proofs.Behind.{named_read}

@@ -1,5 +1,5 @@
 use Rattle.std.proofs.Common.{rules, ◌≡◌, true, List, None, sym, subst}
-use Rattle.std.specs.Prelude.{nat_lt, slice_get}
+use Rattle.std.specs.Prelude.{nat_lt}
 use Rattle.std.proofs.lemmas.List.Sorted.{IsPartitionPoint-from_clause, IsPartitionedBy-ltb}
 use Rattle.lc_cert.proofs.Places.{never_fall, proof_looked_up, proof_found, proof_of_another, no_proof_behind}
 use Rattle.lc_cert.specs.Certificates.{is_rising}
