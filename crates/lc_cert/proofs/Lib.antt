@@ -6,3 +6,5 @@ pub mod Back
 pub mod Places
 pub mod Behind
 pub mod Written
+pub mod Spelled
+pub mod Kept

@@ -17,8 +17,9 @@ pub fn a_certificate_is_read_or_refused()
     ensures rising { (D : Development) (bytes : List ℕ) (es : List Entry) → Certifies D bytes es → is_rising None es ≡ true }
 {}
 
-/// What is printed of a certificate whose numbers rise and whose proofs read back is, within the limits of nesting and size, a
-/// certificate of the same development with the same entries.
+/// What is printed of a certificate is, within the limits of nesting and size, a certificate of the same development with the
+/// same entries: of each that is read from bytes, and of each whose numbers rise and whose proofs read back.
 pub fn printed_certificates_read_back()
-    ensures { (D : Development) (es : List Entry) → is_rising None es ≡ true → Every (EntryReadsBack D) es → IsWithinLimits D es → Certifies D (certificate_line D es) es }
+    ensures read { (D : Development) (bytes : List ℕ) (es : List Entry) → Certifies D bytes es → IsWithinLimits D es → Certifies D (certificate_line D es) es }
+    ensures made { (D : Development) (es : List Entry) → is_rising None es ≡ true → Every (EntryReadsBack D) es → IsWithinLimits D es → Certifies D (certificate_line D es) es }
 {}
