@@ -24,7 +24,7 @@ use Rattle.lc_cert.proofs.ProofAtoms.{proof_atoms}
 use Rattle.lc_cert.specs.Certificates.{Entry, is_above, is_rising}
 use Rattle.lc_cert.specs.ColumnNames.{column_names, names_with, spelled_with}
 use Rattle.lc_cert.specs.Files.{Certifies}
-use Rattle.lc_cert.specs.Printed.{entry_tree, entry_trees, certificate_tree, certificate_line, EntryReadsBack, IsWithinLimits}
+use Rattle.lc_cert.specs.Printed.{entry_tree, entry_trees, certificate_tree, certificate_line, EntryReadsBack, IsPrintable}
 use Rattle.lc_cert.specs.Readings.{rising_reading, place_reading, entry, entry_reading, last_behind, entries_reading, certificate_reading}
 
 fits_number : (k : ℕ) → k < 2 ^ 63 → fits_i64 (pos k) ≡ true
@@ -72,6 +72,6 @@ tree_atoms : (D : Development) (es : List Entry) → is_name D.object.name ≡ t
 unfolding class_of
 tree_atoms D es name r = ((refl, (name_atom D.object.name name, entries_atoms D es r)), tt)
 
-pub certificate_back : (D : Development) (es : List Entry) → is_rising None es ≡ true → Every (EntryReadsBack D) es → IsWithinLimits D es → Certifies D (certificate_line D es) es
+pub certificate_back : (D : Development) (es : List Entry) → is_rising None es ≡ true → Every (EntryReadsBack D) es → IsPrintable D es → Certifies D (certificate_line D es) es
 certificate_back D es rising r limits =
     (certificate_tree D es ▸ none, printed_reads (certificate_tree D es ▸ none) (tree_atoms D es limits.name r) (omega (arith, limits.nesting)) limits.size, file_back D es rising r)

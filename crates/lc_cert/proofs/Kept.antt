@@ -23,7 +23,7 @@ use Rattle.lc_cert.proofs.Spelled.{names_spelled}
 use Rattle.lc_cert.specs.Certificates.{Entry, is_above}
 use Rattle.lc_cert.specs.ColumnNames.{column_names, names_with, spelled_with}
 use Rattle.lc_cert.specs.Files.{Certifies}
-use Rattle.lc_cert.specs.Printed.{certificate_line, EntryReadsBack, IsWithinLimits}
+use Rattle.lc_cert.specs.Printed.{certificate_line, EntryReadsBack, IsPrintable}
 use Rattle.lc_cert.specs.Readings.{rising_reading, place_reading, entry, parts_reading, entry_reading, last_behind, entries_reading, name_due, named_reading, form_reading, certificate_reading}
 
 small_place : (last : Option ℕ) (n k : ℕ) (b : Bool) → fits_i64 (pos k) ≡ true → IfFine (cond b (fine k) (wrong Shape n)) (λ k. k < 2 ^ 63)
@@ -80,5 +80,5 @@ module _ (D : Development) where
       of_fine (Every (EntryReadsBack D)) (certificate_reading D ts) es (file_kept (item_count_of_all ts) 0 ts (omega (arith, few, short))) says
 
   -- what is printed of a certificate that is read is one again
-  pub certified_back : (bytes : List ℕ) (es : List Entry) → Certifies D bytes es → IsWithinLimits D es → Certifies D (certificate_line D es) es
+  pub certified_back : (bytes : List ℕ) (es : List Entry) → Certifies D bytes es → IsPrintable D es → Certifies D (certificate_line D es) es
   certified_back bytes es h limits = certificate_back D es (certificate_rises D bytes es h) (certified_kept bytes es h) limits

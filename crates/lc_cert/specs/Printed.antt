@@ -29,8 +29,8 @@ certificate_line D es = printed (certificate_tree D es ▸ none)
 abbrev pub EntryReadsBack : Development → Entry → Type 0
 EntryReadsBack D e = (e.number < 2 ^ 63) × ProofReadsBack (names_with (column_names D)) (spelled_with (column_names D)) e.proof
 
--- the object has a name, and the text is within the limits of nesting and size
-pub record IsWithinLimits (D : Development) (es : List Entry) : Type 0 where
+-- what is printed may be a file: the object has a name, and the text is within the limits of nesting and size
+pub record IsPrintable (D : Development) (es : List Entry) : Type 0 where
   pub name : is_name D.object.name ≡ true
   pub nesting : depth_of (certificate_tree D es) ≤ 1000
   pub size : length (certificate_line D es) ≤ 16777216

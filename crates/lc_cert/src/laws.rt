@@ -5,7 +5,7 @@ ghost use Rattle.lc_outline.specs.Development.{Development};
 ghost use Rattle.lc_term.specs.Lists.{Every};
 ghost use Rattle.lc_cert.specs.Certificates.{Entry, is_rising};
 ghost use Rattle.lc_cert.specs.Files.{Certifies, IsFirstRefusal};
-ghost use Rattle.lc_cert.specs.Printed.{certificate_line, EntryReadsBack, IsWithinLimits};
+ghost use Rattle.lc_cert.specs.Printed.{certificate_line, EntryReadsBack, IsPrintable};
 
 /// All bytes are a certificate of a development, with one list of entries, or they have one first refusal; and never both.
 /// The numbers of its entries rise.
@@ -20,6 +20,6 @@ pub fn a_certificate_is_read_or_refused()
 /// What is printed of a certificate is, within the limits of nesting and size, a certificate of the same development with the
 /// same entries: of each that is read from bytes, and of each whose numbers rise and whose proofs read back.
 pub fn printed_certificates_read_back()
-    ensures read { (D : Development) (bytes : List ℕ) (es : List Entry) → Certifies D bytes es → IsWithinLimits D es → Certifies D (certificate_line D es) es }
-    ensures made { (D : Development) (es : List Entry) → is_rising None es ≡ true → Every (EntryReadsBack D) es → IsWithinLimits D es → Certifies D (certificate_line D es) es }
+    ensures read { (D : Development) (bytes : List ℕ) (es : List Entry) → Certifies D bytes es → IsPrintable D es → Certifies D (certificate_line D es) es }
+    ensures made { (D : Development) (es : List Entry) → is_rising None es ≡ true → Every (EntryReadsBack D) es → IsPrintable D es → Certifies D (certificate_line D es) es }
 {}
