@@ -6,3 +6,4 @@ pub mod Numerals
 pub mod Printed
 pub mod ReadBack
 pub mod ReadHolds
+pub mod Kept
