@@ -6,6 +6,7 @@ ghost use Rattle.lc_reading.specs.Results.{IsReading};
 ghost use Rattle.lc_reading.specs.TableView.{listed};
 ghost use Rattle.lc_outline.specs.DevelopmentView.{development_shown};
 ghost use Rattle.lc_proof_text.specs.Files.{only};
+ghost use Rattle.lc_proof_text.specs.Proofs.{proof_reading};
 ghost use Rattle.lc_cert.specs.Certificates.{is_above};
 ghost use Rattle.lc_cert.specs.ColumnNames.{names_with};
 ghost use Rattle.lc_cert.specs.EntryView.{entry_of, entries_of};
@@ -18,6 +19,7 @@ use crate::column_names::{column_names, table_of};
 use crate::entry::Entry;
 use crate::scope::InCertificate;
 use lc_base::{Fault, Refusal};
+use lc_kernel::Proof;
 use lc_outline::Development;
 use lc_proof_text::read_proof;
 use lc_reading::{
@@ -48,6 +50,18 @@ fn read_rising(last: Option<u64>, part: Part<'_>) -> Result<u64, ReadFault>
     }
 }
 
+/// The proof of an entry.
+fn read_entry_proof(
+    alloc: Global,
+    columns: &NameTable<'_>,
+    part: Part<'_>,
+) -> Result<Proof, ReadFault>
+    ensures { IsReading proof_of (proof_reading (names_with (listed columns.now)) (place_of part.entry) (tree_of part.entry)) result }
+{
+    let names = InCertificate::new(columns)?;
+    read_proof(alloc, &names, part)
+}
+
 /// `K P`
 fn read_parts(
     alloc: Global,
@@ -59,7 +73,7 @@ fn read_parts(
 {
     let (first, second, rest) = two(list)?;
     let number = read_rising(last, first);
-    let proof = read_proof(alloc, &InCertificate(columns), second);
+    let proof = read_entry_proof(alloc, columns, second);
     let (number, proof) = ended(both(number, proof), rest)?;
     Ok(Entry { number, proof })
 }

@@ -13,10 +13,10 @@ pub returns-in_err-number : goal.returns-in_err-number
 returns-in_err-number c =
     let names = names_with (listed c.args.columns.now) in
     two_err (λ k. k) proof_of entry_of entry (place_reading c.args.last) (proof_reading names) (parts_reading names c.args.last (owner_of c.args.list)) c.args.list c.in_ok-first.rest c.in_ok-first.first c.in_ok-first.second _ _ _ _ _ _
-    c.in_ok-first.ensures c.read_rising-number.ensures c.read_proof-proof.ensures c.both.ensures c.ended.ensures (λ m ts. refl) c.in_err-number.was c.from_residual-in_err-number.ensures.1
+    c.in_ok-first.ensures c.read_rising-number.ensures c.read_entry_proof-proof.ensures c.both.ensures c.ended.ensures (λ m ts. refl) c.in_err-number.was c.from_residual-in_err-number.ensures.1
 
 pub returns : goal.returns
 returns c =
     let names = names_with (listed c.args.columns.now) in
     two_ok (λ k. k) proof_of entry (place_reading c.args.last) (proof_reading names) (parts_reading names c.args.last (owner_of c.args.list)) c.args.list c.in_ok-first.rest c.in_ok-first.first c.in_ok-first.second _ _ _ _ _
-    c.in_ok-first.ensures c.read_rising-number.ensures c.read_proof-proof.ensures c.both.ensures c.ended.ensures (λ m ts. refl) c.in_ok-number.was
+    c.in_ok-first.ensures c.read_rising-number.ensures c.read_entry_proof-proof.ensures c.both.ensures c.ended.ensures (λ m ts. refl) c.in_ok-number.was
