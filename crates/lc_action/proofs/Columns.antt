@@ -4,7 +4,6 @@ use Rattle.std.proofs.lemmas.Bool.Decides.{eqb_tells}
 use mathlib.Core.Path.{fun_ext}
 use Rattle.lc_term.specs.Syntax.{Term, Column, Base, Store}
 use Rattle.lc_term.specs.Said.{put}
-use Rattle.lc_term.specs.Lists.{Every}
 use Rattle.lc_action.specs.Telling.{column_at}
 pub use Rattle.lc_term.proofs.Entries.{IsAbsent, same, found, missing, absent-more}
 

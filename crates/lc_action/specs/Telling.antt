@@ -1,5 +1,5 @@
 -- What columns after stores, as a list, and terms in place of variables make of a term or a formula.
-use Rattle.std.specs.Prelude.{ℕ, zero, suc, ◌==◌, true, if◌then◌else◌, List, [], ◌∷◌, map}
+use Rattle.std.specs.Prelude.{ℕ, zero, suc, true, List, map}
 use Rattle.lc_base.specs.declared.ids.ColId.{ColId}
 use Rattle.lc_term.specs.Replacement.{Replacement, replacing, under_many}
 use Rattle.lc_term.specs.Places.{Test, term_passes, column_passes, no_bounds}
