@@ -54,6 +54,7 @@ impl<'a, 'b> Columns<'a, 'b> {
     }
 
     /// The place of a column, declared or of the system.
+    #[tactic(auto, using(lc_reading::proofs::Places::place_below))]
     pub(crate) fn place(&self, name: &str) -> Option<u32>
         ensures { result ≡ column_place (columns_listed self.now) name.now }
     {

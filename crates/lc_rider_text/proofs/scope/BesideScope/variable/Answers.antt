@@ -11,3 +11,9 @@ overflow_add-result c =
     let others = c.in-Some.others.now in
     let few : length (listed others) + 2 ≤ 2 ^ 32 = subst (λ (o : Option (Bor NameTable)). count_there o + 2 ≤ 2 ^ 32) c.in-Some.is c.args.self.now.variables.few in
     omega (arith, few, place_below (listed others) c.args.name.now c.in_ok-place.place (sym c.in_ok-place.ensures))
+
+pub overflow_cast-result : goal.overflow_cast-result
+overflow_cast-result c =
+    let others = c.in-Some.others.now in
+    let few : length (listed others) + 2 ≤ 2 ^ 32 = subst (λ (o : Option (Bor NameTable)). count_there o + 2 ≤ 2 ^ 32) c.in-Some.is c.args.self.now.variables.few in
+    omega (arith, few, place_below (listed others) c.args.name.now c.in_ok-place.place (sym c.in_ok-place.ensures))
