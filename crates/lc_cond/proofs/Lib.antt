@@ -1,2 +1,6 @@
 pub mod PartsList
 pub mod Printed
+pub mod Adding
+pub mod Made
+pub mod Telling
+pub mod Held

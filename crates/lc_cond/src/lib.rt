@@ -1,5 +1,15 @@
 //! The conditions of a development, as a list that is defined: where all of them are valid, its object is linearizable.
-//! What makes the list of a development is to come.
 #![tactic(auto)]
 
+mod condition;
+
+mod entering;
+mod frames;
+mod known;
 pub mod laws;
+mod lookup;
+mod making;
+
+mod temporary;
+
+pub use condition::{Condition, Kind, Passage, Place, Which};
