@@ -10,6 +10,7 @@ pub mod laws;
 mod lookup;
 mod making;
 
+mod scene;
 mod temporary;
 
 pub use condition::{Condition, Kind, Passage, Place, Which};
