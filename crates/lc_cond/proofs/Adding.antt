@@ -1,10 +1,10 @@
 -- What conditions that are added say in later tables.
-use Rattle.std.proofs.Common.{◌≡◌, List, [], ◌∷◌, ◌++◌, map, refl, sym, subst, ap, ap₂, ◌∙◌, append_assoc, append-nil, is_some}
-use Rattle.std.proofs.lemmas.List.{map-append}
+use Rattle.std.proofs.Common.{◌≡◌, ℕ, zero, suc, take, List, [], ◌∷◌, ◌++◌, map, refl, sym, subst, ap, ap₂, ◌∙◌, append_assoc, append-nil, is_some}
+use Rattle.std.proofs.lemmas.List.{map-append, take-map}
 use Rattle.lc_term.specs.Syntax.{Formula}
 use Rattle.lc_term.specs.Lists.{Every}
 use Rattle.lc_term.specs.NodeTables.{Table}
-use Rattle.lc_term.specs.Tables.{Keeps, formula_in, HasFormula, AreFormulas}
+use Rattle.lc_term.specs.Tables.{Keeps, formula_in, formulas_in, HasFormula, AreFormulas}
 use Rattle.lc_term.specs.declared.node.FormulaId.{FormulaId}
 use Rattle.lc_term.proofs.Later.{are_formulas_still, formulas_still, is_formula_still, formula_still, formula_is, keeps_itself, are_formulas_pushed, formulas_pushed}
 use Rattle.lc_cond.specs.Conditions as S
@@ -106,3 +106,16 @@ pub adds_to_none : (ts : Table) (now : List Condition) (said : List S.Condition)
 adds_to_none ts now said h =
     (let P : List Condition → Type 0 = λ cs. AreConditions ts cs × (map (condition_in ts) cs ≡ said) in
     subst P (sym h.behind) (h.are, h.read))
+
+-- the formulas of numbers, as they are
+pub formulas_are : (ts : Table) (ks : List FormulaId) → AreFormulas ts ks → HasFormulas ts ks (formulas_in ts ks)
+formulas_are ts ks h = record { are = h; trees = refl }
+
+-- the first of them, so many
+pub first_are : (ts : Table) (ks : List FormulaId) (n : ℕ) → AreFormulas ts ks → AreFormulas ts (take n ks)
+first_are ts ks zero h = tt
+first_are ts [] (suc n) h = tt
+first_are ts (k ∷ ks) (suc n) h = (h.0, first_are ts ks n h.1)
+
+pub first_formulas : (ts : Table) (ks : List FormulaId) (fs : List Formula) (n : ℕ) → HasFormulas ts ks fs → HasFormulas ts (take n ks) (take n fs)
+first_formulas ts ks fs n h = record { are = first_are ts ks n h.are; trees = sym (take-map (formula_in ts) n ks) ∙ ap (take n) h.trees }

@@ -4,3 +4,4 @@ pub mod Adding
 pub mod Made
 pub mod Telling
 pub mod Held
+pub mod Scening

@@ -19,3 +19,7 @@ pub record Adds (before : List Condition) (ts : Table) (now : List Condition) (s
   pub behind : now ≡ before ++ added
   pub are : AreConditions ts added
   pub read : map (condition_in ts) added ≡ said
+
+-- what holds of the formulas of these numbers
+abbrev pub Under : Table → List FormulaId → (List Formula → Type 0) → Type 0
+Under ts ks P = (fs : List Formula) → HasFormulas ts ks fs → P fs

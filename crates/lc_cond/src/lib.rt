@@ -3,6 +3,7 @@
 
 mod condition;
 
+mod edge_conditions;
 mod entering;
 mod frames;
 mod known;
