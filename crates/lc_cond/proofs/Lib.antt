@@ -5,3 +5,4 @@ pub mod Made
 pub mod Telling
 pub mod Held
 pub mod Scening
+pub mod Columned

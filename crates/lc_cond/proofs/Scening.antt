@@ -1,6 +1,6 @@
 -- What a scene says in later tables, and the parts of its conditions.
-use Rattle.std.proofs.Common.{◌≡◌, ℕ, ◌+◌, ◌<◌, Option, Some, None, List, [], ◌∷◌, ◌++◌, map, take, length, get_or, pos, sym, subst, ap, ap₂, ◌∙◌}
-use Rattle.std.specs.Prelude.{option_map}
+use Rattle.std.proofs.Common.{◌≡◌, ℕ, ◌+◌, ◌<◌, Option, Some, None, List, [], ◌∷◌, ◌++◌, map, take, length, get_or, pos, Bor, sym, subst, ap, ap₂, ◌∙◌}
+use Rattle.std.specs.Prelude.{option_map, slice_get}
 use Rattle.std.proofs.lemmas.List.{map-append, take_more}
 use Rattle.lc_base.specs.declared.ids.PointId.{PointId}
 use Rattle.lc_term.specs.Syntax.{Column, Formula, Variable, Number}
@@ -15,8 +15,13 @@ use Rattle.lc_term.proofs.Later.{are_formulas_still, formula_later, formula_is}
 use Rattle.lc_rider.specs.Paths.{edge_variables}
 use Rattle.lc_rider.specs.DutyView.{duty_in, owed_of, owing_of}
 use Rattle.lc_rider.specs.declared.duty.Duty.{Duty}
+use Rattle.lc_object.specs.Edges.{Edge}
+use Rattle.lc_action.specs.Action as A
+use Rattle.lc_outline.specs.Development as D
+use Rattle.lc_outline.specs.DevelopmentView.{on_of}
+use Rattle.lc_outline.specs.declared.parts.On.{On}
 use Rattle.lc_cond.specs.Conditions as S
-use Rattle.lc_cond.specs.Conditions.{at_end, path_place, conditions_of, alone_on_path}
+use Rattle.lc_cond.specs.Conditions.{at_end, path_place, conditions_of, alone_on_path, action_conditions, on_conditions}
 use Rattle.lc_cond.specs.Adding.{HasFormulas, Adds}
 use Rattle.lc_cond.specs.Scenes.{IsScene, IsReply, code_in, told_in, duty_conditions}
 use Rattle.lc_cond.specs.declared.condition.Condition.{Condition}
@@ -73,3 +78,9 @@ pub at_end-none : (first c : ℕ) (o : Option PointId) (σ τ after : ℕ → Co
 at_end-none first c o σ τ after is same column stored = stored
     ∙ ap₂ (λ (ρ : ℕ → Column) (n : ℕ). put ρ (record { column = n; index = Variable 1; value = Number (pos 0) })) same column
     ∙ ap (λ x. at_end first (option_map (λ (p : PointId). p.0) x) τ) (sym is)
+
+-- what stands beside an edge
+pub on_said : (D : D.Development) (e : Edge) (v j : ℕ) (hs : List Formula) (σ : ℕ → Column) (o : Option (Bor On)) (x : Bor On) (a : A.Action) → o ≡ Some x → Some a ≡ slice_get D.actions (on_of x.now).action →
+    action_conditions D e v j hs σ (on_of x.now).arguments (Some a) ≡ on_conditions D e v j hs σ (option_map (λ y. on_of y.now) o)
+on_said D e v j hs σ o x a is there =
+    ap (action_conditions D e v j hs σ (on_of x.now).arguments) there ∙ ap (λ y. on_conditions D e v j hs σ (option_map (λ z. on_of z.now) y)) (sym is)

@@ -16,7 +16,7 @@ use Rattle.lc_outline.specs.Development as D
 use Rattle.lc_outline.specs.Development.{first_system, invariant_of, on_at}
 use Rattle.lc_outline.specs.DevelopmentView.{development_shown, on_of}
 use Rattle.lc_cond.specs.Conditions as S
-use Rattle.lc_cond.specs.Conditions.{asserts_to, reply_goals, body_hypotheses, conditions_of, alone_on_path, on_path, duty_condition, on_conditions, path_conditions}
+use Rattle.lc_cond.specs.Conditions.{asserts_to, reply_goals, body_hypotheses, conditions_of, alone_on_path, on_path, duty_condition, on_conditions, path_conditions, at_end}
 use Rattle.lc_cond.specs.Adding.{HasFormulas}
 use Rattle.lc_cond.specs.declared.scene.Scene.{Scene}
 
@@ -69,6 +69,12 @@ next_conditions s j hs σ =
 
 abbrev pub on_conditions_in : Scene → ℕ → List Formula → (ℕ → Column) → List S.Condition
 on_conditions_in s j hs σ = on_conditions (development_in s) (code_in s) s.count j hs σ (on_in s)
+
+-- besides what the marks of the path ask for
+abbrev pub outcome_conditions : Scene → ℕ → List Formula → Path → List S.Condition
+outcome_conditions s j hs p =
+    (let σ = at_end (first_system (development_in s)) (code_in s).next p.columns in
+    reply_conditions s j hs p.columns ++ (next_conditions s j hs σ ++ on_conditions_in s j hs σ))
 
 abbrev pub path_conditions_in : Scene → ℕ → List Formula → Path → List S.Condition
 path_conditions_in s j hs p = path_conditions (development_in s) (code_in s) s.count (on_in s) hs j p

@@ -58,8 +58,8 @@ fn push_duty(
     push_one(alloc, head, which, hypotheses, goal, conditions)
 }
 
-// The first of a path's facts, so many, behind what is known before the edge.
-fn known_with(
+/// The first of a path's facts, so many, behind what is known before the edge.
+pub(crate) fn known_with(
     alloc: Global,
     scene: &Scene<'_>,
     facts: &[FormulaId],
@@ -70,8 +70,8 @@ fn known_with(
     joined(before, facts)
 }
 
-// What the marks of a path ask for.
-fn push_duties(
+/// What the marks of a path ask for.
+pub(crate) fn push_duties(
     alloc: Global,
     terms: &mut Terms,
     scene: &Scene<'_>,
@@ -93,8 +93,8 @@ fn push_duties(
     Ok(())
 }
 
-// What a return asks for, in these columns.
-fn push_reply(
+/// What a return asks for, in these columns.
+pub(crate) fn push_reply(
     alloc: Global,
     terms: &mut Terms,
     scene: &Scene<'_>,
@@ -143,8 +143,8 @@ pub(crate) fn push_told(
     push_each(alloc, head, known, &goals, conditions)
 }
 
-// The invariant, and what holds where the edge leads to, in these columns.
-fn push_next(
+/// The invariant, and what holds where the edge leads to, in these columns.
+pub(crate) fn push_next(
     alloc: Global,
     terms: &mut Terms,
     scene: &Scene<'_>,
@@ -187,8 +187,8 @@ fn push_next(
     )
 }
 
-// The columns behind a path, where a return has stored that no call is pending.
-fn at_end(
+/// The columns behind a path, where a return has stored that no call is pending.
+pub(crate) fn at_end(
     alloc: Global,
     scene: &Scene<'_>,
     path: &Path,

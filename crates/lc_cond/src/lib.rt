@@ -11,6 +11,8 @@ pub mod laws;
 mod lookup;
 mod making;
 
+mod matching;
+mod paths;
 mod scene;
 mod temporary;
 
