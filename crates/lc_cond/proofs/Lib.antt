@@ -5,4 +5,5 @@ pub mod Made
 pub mod Telling
 pub mod Held
 pub mod Scening
+pub mod Ridden
 pub mod Columned
