@@ -9,12 +9,12 @@ use Rattle.lc_term.specs.Tables.{formulas_in}
 use Rattle.lc_seq.specs.Specification as Q
 use Rattle.lc_object.specs.Syntax.{Operation, Point, Object}
 use Rattle.lc_object.specs.Edges.{Edge}
-use Rattle.lc_outline.specs.Development.{Development, first_system, riders_in}
+use Rattle.lc_outline.specs.Development.{Development, first_system, invariant_of, riders_in}
 use Rattle.lc_rider.specs.Rider.{Rider}
 use Rattle.lc_rider.specs.Paths.{Path, paths, edge_variables, path_start}
 use Rattle.lc_cond.specs.Conditions as S
-use Rattle.lc_cond.specs.Conditions.{path_conditions, edge_conditions_in, in_body, in_operation}
-use Rattle.lc_cond.specs.Scenes.{IsSceneOf, on_in, duty_conditions, outcome_conditions, path_conditions_in, reply_conditions, next_conditions, on_conditions_in, development_in, code_in}
+use Rattle.lc_cond.specs.Conditions.{path_conditions, edge_conditions_in, in_body, in_operation, at_end, conditions_of, on_path, asserts_to}
+use Rattle.lc_cond.specs.Scenes.{IsSceneOf, on_in, duty_conditions, outcome_conditions, path_conditions_in, reply_conditions, on_conditions_in, told_in, development_in, code_in}
 use Rattle.lc_cond.specs.declared.scene.Scene.{Scene}
 
 concat_places-snoc : {A B : Type 0} (f : ℕ → A → List B) (k : ℕ) (xs : List A) (y : A) → concat_places f k (xs ++ y ∷ []) ≡ concat_places f k xs ++ f (k + length xs) y
@@ -35,7 +35,12 @@ places_more f view xs i x below is =
 
 -- what its marks ask for, and what else is asked
 pub path_said : (s : Scene) (j : ℕ) (hs : List Formula) (p : Path) → duty_conditions s j hs p.duties ++ outcome_conditions s j (hs ++ p.facts) p ≡ path_conditions_in s j hs p
-path_said s j hs p = ap (λ l. duty_conditions s j hs p.duties ++ (reply_conditions s j (hs ++ p.facts) p.columns ++ l)) (append_assoc _ _ _)
+path_said s j hs p =
+    let all = hs ++ p.facts in
+    let σ = at_end (first_system (development_in s)) (code_in s).next p.columns in
+    let holds = conditions_of (on_path S.Invariant (code_in s) s.count j) all (map (told_in s σ) (invariant_of (development_in s))) in
+    let next = conditions_of (on_path S.NextKind (code_in s) s.count j) all (map (told_in s σ) (asserts_to (development_in s) (code_in s).next)) in
+    ap (λ l. duty_conditions s j hs p.duties ++ (reply_conditions s j all p.columns ++ l)) (append_assoc holds next (on_conditions_in s j all σ))
 
 -- an edge by its scene
 pub edge_said : (ts : Table) (D : Development) (o : ℕ) (operation : Operation) (e : Edge) (s : Scene) (ops : List Q.Operation) (first : ℕ) (riders : List Rider) (ps : List Path) → IsSceneOf ts D o operation e s →
@@ -54,3 +59,9 @@ in_body_said object f (Some p) k h = let e : p.operation ≡ k = cc in ap (λ n.
 pub in_no_body : {A : Type 0} (object : Object) (f : ℕ → Operation → List A) (o : Option Point) → None ≡ option_map (λ (p : Point). p.operation) o → in_body object f o ≡ []
 in_no_body object f None h = refl
 in_no_body object f (Some p) h = cc
+
+pub in_operation_said : {A : Type 0} (f : ℕ → Operation → List A) (k : ℕ) (o : Option Operation) (operation : Operation) → Some operation ≡ o → in_operation f k o ≡ f k operation
+in_operation_said f k o operation h = ap (in_operation f k) (sym h)
+
+pub in_no_operation : {A : Type 0} (f : ℕ → Operation → List A) (k : ℕ) (o : Option Operation) → None ≡ o → in_operation f k o ≡ []
+in_no_operation f k o h = ap (in_operation f k) (sym h)

@@ -6,5 +6,4 @@ pub mod CounterLines
 pub mod ConditionView
 pub mod Adding
 pub mod Heads
-pub mod Temporary
 pub mod Scenes

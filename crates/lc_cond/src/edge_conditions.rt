@@ -1,6 +1,5 @@
 //! The conditions of an edge, path by path.
 ghost use Rattle.std.specs.Prelude.{◌≡◌, ◌++◌, [], ◌∷◌, map, Some, IfOk, OnOk};
-ghost use Rattle.lc_term.specs.Replacement.{replace};
 ghost use Rattle.lc_term.specs.Tables.{formulas_in, AreFormulas, Keeps};
 ghost use Rattle.lc_term.specs.View.{formula_of};
 ghost use Rattle.lc_action.specs.ActionView.{first_of};
@@ -9,20 +8,18 @@ ghost use Rattle.lc_rider.specs.DutyView.{owing_of};
 ghost use Rattle.lc_rider.specs.PathView.{path_of};
 ghost use Rattle.lc_cond.specs.Adding.{HasFormulas, Adds, Under};
 ghost use Rattle.lc_cond.specs.Conditions as S;
-ghost use Rattle.lc_cond.specs.Conditions.{at_end, conditions_of, path_place};
-ghost use Rattle.lc_cond.specs.Heads.{head_of};
-ghost use Rattle.lc_cond.specs.Scenes.{IsScene, code_in, duty_conditions, reply_conditions, next_conditions, path_conditions_in};
-ghost use Rattle.lc_cond.specs.Temporary.{Remembers, replacement_of};
+ghost use Rattle.lc_cond.specs.Conditions.{at_end, path_place};
+ghost use Rattle.lc_cond.specs.Scenes.{IsScene, code_in, duty_conditions, reply_conditions, next_conditions};
 
 use crate::condition::{Condition, Kind, Passage, Which};
-use crate::entering::{entered, joined, told};
-use crate::making::{Head, push_each, push_one};
+use crate::entering::joined;
+use crate::making::{Head, push_one};
 use crate::scene::Scene;
-use crate::temporary::{Put, PutColumns, PutVariables, ReplacedNodes, nothing_replaced, replace};
+use crate::telling::push_both_told;
 use lc_action::{copy_columns, store};
 use lc_base::{ColId, OutOfMemory};
 use lc_rider::{Duty, Path};
-use lc_term::{ColExpr, FormulaId, Term, Terms};
+use lc_term::{ColExpr, FormulaId, Put, PutColumns, PutVariables, Term, Terms, nothing_replaced};
 use std::alloc::Global;
 
 /// What the conditions of a kind on a path share.
@@ -116,31 +113,9 @@ pub(crate) fn push_reply(
         variables: PutVariables::Terms(&scene.variables),
     };
     let mut done = nothing_replaced(alloc);
-    let goal = replace(terms, alloc, &put, &mut done, reply)?;
+    let goal = terms.replace(alloc, &put, &mut done, reply)?;
     let head = on_path(scene, Kind::Reply, number);
     push_one(alloc, head, Which::Alone, known, goal, conditions)
-}
-
-/// A condition for each of these formulas, with what is put in.
-pub(crate) fn push_told(
-    alloc: Global,
-    terms: &mut Terms,
-    head: Head,
-    put: &Put<'_>,
-    done: &mut ReplacedNodes,
-    known: &[FormulaId],
-    formulas: &[FormulaId],
-    conditions: &mut Vec<Condition>,
-) -> Result<(), OutOfMemory>
-    requires formulas { AreFormulas terms.old formulas.now }
-    requires done { Remembers (replacement_of put.now) terms.old done.old }
-    ensures list { OnOk result (Under terms.old known.now (λ hs. Adds conditions.old.items terms.new conditions.new.items
-        (conditions_of (head_of head) hs (map (replace (replacement_of put.now)) (formulas_in terms.old formulas.now))))) }
-    ensures kept { Keeps terms.old terms.new }
-    ensures done { OnOk result (Remembers (replacement_of put.now) terms.new done.new) }
-{
-    let goals = told(alloc, terms, put, done, formulas)?;
-    push_each(alloc, head, known, &goals, conditions)
 }
 
 /// The invariant, and what holds where the edge leads to, in these columns.
@@ -162,26 +137,17 @@ pub(crate) fn push_next(
         columns: PutColumns::Stored(columns),
         variables: PutVariables::Terms(&scene.variables),
     };
-    let mut done = nothing_replaced(alloc);
-    let head = on_path(scene, Kind::Invariant, number);
-    push_told(
+    let heads = (
+        on_path(scene, Kind::Invariant, number),
+        on_path(scene, Kind::Next, number),
+    );
+    push_both_told(
         alloc,
         terms,
-        head,
+        heads,
         &put,
-        &mut done,
         known,
         &scene.invariant,
-        conditions,
-    )?;
-    let head = on_path(scene, Kind::Next, number);
-    push_told(
-        alloc,
-        terms,
-        head,
-        &put,
-        &mut done,
-        known,
         &scene.next,
         conditions,
     )

@@ -7,11 +7,10 @@ ghost use Rattle.lc_term.specs.View.{formulas_of};
 ghost use Rattle.lc_tie.specs.Tie as T;
 ghost use Rattle.lc_tie.specs.TieView.{conjuncts_in, conjunct_of};
 ghost use Rattle.lc_cond.specs.Adding.{HasFormulas};
-ghost use Rattle.lc_cond.specs.Temporary.{Remembers, replacement_of};
+ghost use Rattle.lc_term.specs.Put.{Remembers, replacement_of};
 
-use crate::temporary::{Put, ReplacedNodes, replace};
 use lc_base::OutOfMemory;
-use lc_term::{Formula, FormulaId, Terms};
+use lc_term::{Formula, FormulaId, Put, ReplacedNodes, Terms};
 use lc_tie::{Conjunct, Tie};
 use std::alloc::Global;
 
@@ -95,7 +94,7 @@ pub(crate) fn told(
 {
     let mut numbers = Vec::with_capacity(alloc, formulas.len())?;
     for formula in formulas {
-        numbers.push(replace(terms, alloc, put, done, *formula)?)?;
+        numbers.push(terms.replace(alloc, put, done, *formula)?)?;
     }
     Ok(numbers)
 }

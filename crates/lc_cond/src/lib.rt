@@ -14,6 +14,6 @@ mod making;
 mod matching;
 mod paths;
 mod scene;
-mod temporary;
+mod telling;
 
 pub use condition::{Condition, Kind, Passage, Place, Which};

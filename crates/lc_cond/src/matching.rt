@@ -18,11 +18,10 @@ use crate::edge_conditions::on_path;
 use crate::lookup::{action_at, count_of};
 use crate::making::{Head, push_one};
 use crate::scene::Scene;
-use crate::temporary::{Put, PutColumns, PutVariables, nothing_replaced, replace, shift_column};
 use lc_action::{Action, SystemColumns, column_after, post_columns};
 use lc_base::{ColId, OutOfMemory};
 use lc_outline::On;
-use lc_term::{ColExpr, FormulaId, Term, TermId, Terms};
+use lc_term::{ColExpr, FormulaId, Put, PutColumns, PutVariables, Term, TermId, Terms, nothing_replaced};
 use std::alloc::Global;
 
 // Whether this is the column itself, in which nothing is stored.
@@ -53,7 +52,7 @@ fn raised_cell(
     ensures kept { Keeps terms.old terms.new }
 {
     let entered = terms.enter_column(column)?;
-    let raised = shift_column(terms, alloc, entered, 1, 0)?;
+    let raised = terms.shift_column(alloc, entered, 1, 0)?;
     let index = terms.bound(0)?;
     terms.read(raised, index)
 }
@@ -167,7 +166,7 @@ pub(crate) fn entered_guard(
     };
     let guard = terms.enter_formula(alloc, &action.guard)?;
     let mut done = nothing_replaced(alloc);
-    replace(terms, alloc, &put, &mut done, guard)
+    terms.replace(alloc, &put, &mut done, guard)
 }
 
 // The guard of the action, and the columns in which it or the path stores.

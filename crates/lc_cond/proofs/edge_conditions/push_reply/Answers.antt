@@ -17,7 +17,7 @@ pub returns-clause-list : goal.returns-clause-list
 returns-clause-list c =
     let s = c.args.scene.now in
     let t0 = c.args.terms.now in
-    let t1 = c.replace.new.terms in
+    let t1 = c.replace.new.self in
     let goals = reply_goals (first_system (development_in s)) (code_in s) in
     let reply : IsReply t0 (Some c.in-Some.reply) goals = subst (λ k. IsReply t0 k goals) c.in-Some.is c.requires.reply in
     let variables = ap (map term_of) c.deref.ensures.value ∙ c.requires.variables in

@@ -1,11 +1,11 @@
 use Rattle.std.proofs.Common.{map, subst, sym}
 use Rattle.lc_term.specs.Replacement.{replace}
 use Rattle.lc_term.specs.Tables.{formulas_in}
-use Rattle.lc_cond.specs.Temporary.{replacement_of}
+use Rattle.lc_term.specs.Put.{replacement_of}
 use Rattle.std.proofs.lemmas.Result.{on_ok_weaker}
 use Rattle.lc_cond.specs.Adding.{HasFormulas}
 use Rattle.lc_cond.proofs.Adding.{formulas_later}
-use Rattle.lc_cond.proofs.edge_conditions.push_told.Goals as goal
+use Rattle.lc_cond.proofs.telling.push_told.Goals as goal
 
 pub returns-clause-list : goal.returns-clause-list
 returns-clause-list c =
