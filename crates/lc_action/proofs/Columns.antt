@@ -6,26 +6,7 @@ use Rattle.lc_term.specs.Syntax.{Term, Column, Base, Store}
 use Rattle.lc_term.specs.Said.{put}
 use Rattle.lc_term.specs.Lists.{Every}
 use Rattle.lc_action.specs.Telling.{column_at}
-
--- no entry is of this column
-abbrev pub IsAbsent : ℕ → List (ℕ × Column) → Type 0
-IsAbsent c ps = Every (λ (p : ℕ × Column). (p.0 == c) ≡ false) ps
-
-pub same : (c d : ℕ) → (c == d) ≡ true → c ≡ d
-same c d e = elim (eqb_tells c d) [ inl h ↦ h.1 | inr h ↦ absurd (cc (h.0, e)) ]
-
--- an entry of a column, behind others that are not
-pub found : (c : ℕ) (ps qs : List (ℕ × Column)) (x : Column) → IsAbsent c ps → column_at (ps ++ (c, x) ∷ qs) c ≡ x
-found c [] qs x h = elim (eqb_tells c c) [ inl t ↦ ap (λ b. if b then x else column_at qs c) t.0 | inr f ↦ absurd (f.1 refl) ]
-found c (p ∷ ps) qs x h = ap (λ b. if b then p.1 else column_at (ps ++ (c, x) ∷ qs) c) h.0 ∙ found c ps qs x h.1
-
-pub missing : (c : ℕ) (ps : List (ℕ × Column)) → IsAbsent c ps → column_at ps c ≡ Base c
-missing c [] h = refl
-missing c (p ∷ ps) h = ap (λ b. if b then p.1 else column_at ps c) h.0 ∙ missing c ps h.1
-
-pub absent-more : (c : ℕ) (ps : List (ℕ × Column)) (p : ℕ × Column) → IsAbsent c ps → (p.0 == c) ≡ false → IsAbsent c (ps ++ p ∷ [])
-absent-more c [] p h n = (n, tt)
-absent-more c (q ∷ ps) p h n = (h.0, absent-more c ps p h.1 n)
+pub use Rattle.lc_term.proofs.Entries.{IsAbsent, same, found, missing, absent-more}
 
 -- another entry for a column in place of one, or in place of none
 put_at : (c : ℕ) (ps qs : List (ℕ × Column)) (x : Column) (i v : Term) (d : ℕ) → IsAbsent c ps →

@@ -10,30 +10,8 @@ use Rattle.lc_term.specs.declared.term.ColExpr.{ColExpr}
 use Rattle.lc_term.specs.UpdateView.{update_of, updates_of}
 use Rattle.lc_term.specs.declared.update.Update.{Update}
 use Rattle.lc_action.specs.Telling.{column_at, entry_of, columns_in}
-use Rattle.lc_action.proofs.Columns.{IsAbsent, same, found, absent-more, put_in_place, put_behind}
-
--- the front, the element at a place, and the rest
-split : {A : Type 0} (xs : List A) (i : ℕ) (d : A) → i < length xs → xs ≡ take i xs ++ get_or xs i d ∷ drop (i + 1) xs
-split xs i d h = sym (take-append-drop i xs) ∙ ap (λ ys. take i xs ++ ys) (drop_more xs i d h)
-
-pub split_entries : (cs : List (ColId × ColExpr)) (i : ℕ) (p : ColId × ColExpr) → i < length cs → p ≡ get_or cs i p →
-    map entry_of cs ≡ map entry_of (take i cs) ++ entry_of p ∷ map entry_of (drop (i + 1) cs)
-split_entries cs i p h is =
-    ap (map entry_of) (split cs i p h) ∙ map-append entry_of (take i cs) (get_or cs i p ∷ drop (i + 1) cs)
-    ∙ ap (λ x. map entry_of (take i cs) ++ entry_of x ∷ map entry_of (drop (i + 1) cs)) (sym is)
-
-pub entry_found : (cs : List (ColId × ColExpr)) (i : ℕ) (p : ColId × ColExpr) (c : ℕ) → i < length cs → p ≡ get_or cs i p → (p.0.0 == c) ≡ true →
-    IsAbsent c (map entry_of (take i cs)) → columns_in cs c ≡ column_of p.1
-entry_found cs i p c h is at absent =
-    ap (λ ps. column_at ps c) (split_entries cs i p h is)
-    ∙ ap (λ k. column_at (map entry_of (take i cs) ++ (k, column_of p.1) ∷ map entry_of (drop (i + 1) cs)) c) (same p.0.0 c at)
-    ∙ found c (map entry_of (take i cs)) (map entry_of (drop (i + 1) cs)) (column_of p.1) absent
-
-pub absent_step : (cs : List (ColId × ColExpr)) (i : ℕ) (p : ColId × ColExpr) (c : ℕ) → i < length cs → p ≡ get_or cs i p → (p.0.0 == c) ≡ false →
-    IsAbsent c (map entry_of (take i cs)) → IsAbsent c (map entry_of (take (i + 1) cs))
-absent_step cs i p c h is other absent =
-    subst (IsAbsent c) (sym (map_more entry_of cs i p h ∙ ap (λ x. map entry_of (take i cs) ++ entry_of x ∷ []) (sym is)))
-    (absent-more c (map entry_of (take i cs)) (entry_of p) absent other)
+use Rattle.lc_action.proofs.Columns.{IsAbsent, same, put_in_place, put_behind}
+pub use Rattle.lc_term.proofs.Entries.{split, split_entries, entry_found, absent_step}
 
 -- one more update
 pub puts_more : (σ : ℕ → S.Column) (τ : List S.Term) (us : List Update) (i : ℕ) (u : Update) (stored : ℕ → S.Column) → i < length us → u ≡ get_or us i u →

@@ -1,25 +1,13 @@
--- Columns after stores as a list, and what they and terms in place of variables make of a term or a formula.
+-- What columns after stores, as a list, and terms in place of variables make of a term or a formula.
 use Rattle.std.specs.Prelude.{ℕ, zero, suc, ◌==◌, true, if◌then◌else◌, List, [], ◌∷◌, map}
 use Rattle.lc_base.specs.declared.ids.ColId.{ColId}
-use Rattle.lc_term.specs.Syntax.{Column, Base}
 use Rattle.lc_term.specs.Replacement.{Replacement, replacing, under_many}
 use Rattle.lc_term.specs.Places.{Test, term_passes, column_passes, no_bounds}
 use Rattle.lc_term.specs.Said.{term_at}
-use Rattle.lc_term.specs.View.{term_of, column_of}
+pub use Rattle.lc_term.specs.Put.{column_at, entry_of, columns_in}
+use Rattle.lc_term.specs.View.{term_of}
 use Rattle.lc_term.specs.declared.term.Term.{Term}
 use Rattle.lc_term.specs.declared.term.ColExpr.{ColExpr}
-
--- what stands in a column: what the list has for it first; the column itself, where it has nothing
-abbrev pub column_at : List (ℕ × Column) → ℕ → Column
-column_at [] c = Base c
-column_at (p ∷ ps) c = if p.0 == c then p.1 else column_at ps c
-
-abbrev pub entry_of : ColId × ColExpr → ℕ × Column
-entry_of p = (p.0.0, column_of p.1)
-
--- the columns that a list of the code stands for
-abbrev pub columns_in : List (ColId × ColExpr) → ℕ → Column
-columns_in ps = column_at (map entry_of ps)
 
 -- what is put in for columns and variables by such a list and by terms
 abbrev pub telling : List (ColId × ColExpr) → List Term → Replacement

@@ -25,3 +25,5 @@ pub mod Symbolic
 pub mod Listed
 pub mod Copied
 pub mod NodeReplacement
+pub mod Entries
+pub mod Remembered

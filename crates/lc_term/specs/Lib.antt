@@ -11,6 +11,7 @@ pub mod NodeReplacement
 pub mod NodeTables
 pub mod Nodes
 pub mod Places
+pub mod Put
 pub mod Reached
 pub mod Replacement
 pub mod Rows

@@ -42,6 +42,22 @@ impl Terms {
         self.shifted_term(term, added, cutoff, &mut done)
     }
 
+    /// The column expression below `added` further quantifiers, as `shift` of a term.
+    pub fn shift_column(
+        &mut self,
+        alloc: Global,
+        column: ColExprId,
+        added: u32,
+        cutoff: u32,
+    ) -> Result<ColExprId, OutOfMemory>
+        requires { IsColumn self.old column }
+        ensures id { IfOk result (λ k. HasColumn self.new k (replace_column (shifting added cutoff) (column_in self.old column))) }
+        ensures kept { Keeps self.old self.new }
+    {
+        let mut done = IndexMap::new(alloc);
+        self.shifted_column(column, added, cutoff, &mut done)
+    }
+
     #[cycle(shifted_part)]
     #[tactic(auto, using(crate::proofs::NodeReplacement::term_replaced, crate::proofs::NodeReplacement::term_at, crate::proofs::NodeReplacement::term_noted, crate::proofs::Copied::term_stands))]
     fn shifted_term(

@@ -1,8 +1,13 @@
 //! What texts read as, and their flaws, are cases of the program `lc_cases`.
+ghost use Rattle.std.specs.Prelude.{IfOk};
+ghost use Rattle.lc_term.specs.Tables.{IsTerm};
+
 use lc_base::{ColId, OutOfMemory};
 use lc_reading::{Flaw, Pass, ReadFault, next_part};
 use lc_sexp::{Forms, Item};
-use lc_term::{ColExpr, Formula, Term};
+use lc_term::{
+    ColExpr, Formula, Put, PutColumns, PutVariables, Term, TermId, Terms, nothing_replaced,
+};
 use lc_text::{
     ColumnUse, Extra, Scope, Spelling, read_formulas, write_column, write_formula, write_term,
 };
@@ -114,5 +119,88 @@ fn reads_formulas_in_a_row(rt: HostRuntime) -> Result<(), Fail> {
         formula_count(rt.alloc(), "((and) x)").err(),
         Some(ReadFault::Flawed(flaw))
     );
+    Ok(())
+}
+
+/// `(forall b1 (<= (rd c0 b1) ?0))` and `(<= (rd c0 ?1) ?0)`, below one quantifier.
+fn comparisons(alloc: Global) -> Result<Formula, OutOfMemory> {
+    let cell = Term::Read(ColExpr::Base(ColId(0)), Box::new(alloc, Term::Bound(0))?);
+    let each = Formula::Forall(Box::new(alloc, Formula::Le(cell, Term::Variable(0)))?);
+    let cell = Term::Read(ColExpr::Base(ColId(0)), Box::new(alloc, Term::Variable(1))?);
+    let one = Formula::Le(cell, Term::Variable(0));
+    Ok(Formula::And(Vec::from_array(alloc, [each, one])?))
+}
+
+/// The formula in text, below one quantifier, where columns and variables are replaced over numbers.
+#[tactic(auto, using(lc_term::proofs::Later::is_formula_later, lc_term::proofs::Later::keeps_itself))]
+fn replaced_text(alloc: Global, formula: &Formula, put: &Put<'_>) -> Result<String, OutOfMemory> {
+    let mut terms = Terms::new(alloc);
+    let formula = terms.enter_formula(alloc, formula)?;
+    let formula = terms.replace(alloc, put, &mut nothing_replaced(alloc), formula)?;
+    let mut text = String::new(alloc);
+    write_formula(&mut text, &Numbers, 1, &terms.formula(alloc, formula)?)?;
+    Ok(text)
+}
+
+#[test]
+fn replaces_columns_and_variables_at_once(rt: HostRuntime) -> Result<(), Fail> {
+    let alloc = rt.alloc();
+    let store = ColExpr::Store(
+        Box::new(alloc, ColExpr::Base(ColId(0)))?,
+        Box::new(alloc, Term::Variable(0))?,
+        Box::new(alloc, Term::Number(7))?,
+    );
+    let stored = Vec::from_array(alloc, [(ColId(0), store)])?;
+    let terms = Vec::from_array(alloc, [Term::Bound(0)])?;
+    let put = Put {
+        columns: PutColumns::Stored(&stored),
+        variables: PutVariables::Terms(&terms),
+    };
+    let text = replaced_text(alloc, &comparisons(alloc)?, &put)?;
+    let want = "(and (forall b1 (<= (rd (store c0 ?0 7) b1) b0)) (<= (rd (store c0 ?0 7) 0) b0))";
+    assert_eq!(rt; text.as_str(), want);
+    let put = Put {
+        columns: PutColumns::All(&[]),
+        variables: PutVariables::Own,
+    };
+    let text = replaced_text(alloc, &comparisons(alloc)?, &put)?;
+    let want = "(and (forall b1 (<= (rd (affine 0 0) b1) ?0)) (<= (rd (affine 0 0) ?1) ?0))";
+    assert_eq!(rt; text.as_str(), want);
+    Ok(())
+}
+
+/// A variable added to itself, and what comes out again, so many times.
+#[tactic(auto, using(lc_term::proofs::Later::is_term_later, lc_term::proofs::Later::keeps_itself))]
+fn doubled(terms: &mut Terms, times: u32) -> Result<TermId, OutOfMemory>
+    ensures { IfOk result (λ k. IsTerm terms.new k) }
+{
+    let mut sum = terms.variable(0)?;
+    for _ in 0..times {
+        sum = terms.add(sum, sum)?;
+    }
+    Ok(sum)
+}
+
+/// Whether a sum of 2 ^ 60 variables is replaced node by node, and but once.
+#[tactic(auto, using(lc_term::proofs::Later::is_term_still, lc_term::proofs::Later::keeps_itself))]
+fn is_replaced_once(alloc: Global) -> Result<bool, OutOfMemory> {
+    let mut terms = Terms::new(alloc);
+    let sum = doubled(&mut terms, 60)?;
+    let ones = [Term::Number(1)];
+    let put = Put {
+        columns: PutColumns::Stored(&[]),
+        variables: PutVariables::Terms(&ones),
+    };
+    let mut done = nothing_replaced(alloc);
+    let entered = terms.len();
+    let replaced = terms.replace_term(alloc, &put, &mut done, sum)?;
+    let grown = terms.len();
+    let again = terms.replace_term(alloc, &put, &mut done, sum)?;
+    Ok((entered == 61) & (grown == 122) & (again == replaced) & (terms.len() == 122))
+}
+
+#[test]
+fn what_is_shared_is_replaced_once(rt: HostRuntime) -> Result<(), Fail> {
+    assert!(rt; is_replaced_once(rt.alloc())?);
     Ok(())
 }

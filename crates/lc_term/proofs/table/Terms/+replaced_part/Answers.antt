@@ -1,0 +1,133 @@
+use Rattle.std.proofs.Common.{◌≡◌, ap, ap₂, sym, ◌∙◌, Some, rules, refl, slice_get}
+use Rattle.lc_term.specs.Syntax as S
+use Rattle.lc_term.specs.Nodes.{part_of, term as term_part, column as column_part}
+use Rattle.lc_term.specs.Tables.{parts, term_in, column_in, IsTerm}
+use Rattle.lc_term.specs.NodeReplacement.{part_in, replaced_part}
+use Rattle.lc_term.proofs.Later.{kept_on, same_store, is_column_later}
+use Rattle.lc_term.proofs.NodeReplacement.{one_term, first_term, second_term, later_term, first_column}
+use Rattle.lc_term.specs.Put.{replacement_of}
+use Rattle.lc_term.specs.Replacement.{under_many}
+use Rattle.lc_term.proofs.Remembered.{remembers_later, bound_stays, term_remembered, column_remembered, term_noted, column_noted}
+use Rattle.std.specs.Prelude.{option_copied}
+use Rattle.lc_term.proofs.table.Terms.+replaced_part.Goals as goal
+
+pub replaced_part-returns-in_ok-variable_below-in-Variable-clause-done : goal.replaced_part-returns-in_ok-variable_below-in-Variable-clause-done
+replaced_part-returns-in_ok-variable_below-in-Variable-clause-done t c = remembers_later (replacement_of c.args.put.now) _ _ _ c.requires.done c.in_ok-variable_below-in-Variable.ensures.kept
+
+pub replaced_part-returns-in_ok-column_below-in-Base-clause-done : goal.replaced_part-returns-in_ok-column_below-in-Base-clause-done
+replaced_part-returns-in_ok-column_below-in-Base-clause-done t c = remembers_later (replacement_of c.args.put.now) _ _ _ c.requires.done c.in_ok-column_below-in-Base.ensures.kept
+
+pub replaced_part-returns-in-Bound-clause-id : goal.replaced_part-returns-in-Bound-clause-id
+replaced_part-returns-in-Bound-clause-id t c =
+    bound_stays (replacement_of c.args.put.now) (λ k. refl) c.args.depth c.args.self.now c.args.part _ (c.part_node.ensures.tree ∙ ap (λ n. Some (part_of (parts c.args.self.now) n)) c.in-Bound.is)
+
+pub replaced_part-returns-in_ok-add-in-Add-clause-done : goal.replaced_part-returns-in_ok-add-in-Add-clause-done
+replaced_part-returns-in_ok-add-in-Add-clause-done t c = remembers_later (replacement_of c.args.put.now) _ _ _ c.in_ok-right-in-Add.ensures.done c.in_ok-add-in-Add.ensures.kept
+
+pub replaced_part-returns-in_ok-subtract-in-Subtract-clause-done : goal.replaced_part-returns-in_ok-subtract-in-Subtract-clause-done
+replaced_part-returns-in_ok-subtract-in-Subtract-clause-done t c = remembers_later (replacement_of c.args.put.now) _ _ _ c.in_ok-right-in-Subtract.ensures.done c.in_ok-subtract-in-Subtract.ensures.kept
+
+pub replaced_part-returns-in_ok-multiply-in-Multiply-clause-done : goal.replaced_part-returns-in_ok-multiply-in-Multiply-clause-done
+replaced_part-returns-in_ok-multiply-in-Multiply-clause-done t c = remembers_later (replacement_of c.args.put.now) _ _ _ c.in_ok-term-in-Multiply.ensures.done c.in_ok-multiply-in-Multiply.ensures.kept
+
+pub replaced_part-returns-in_ok-read-in-Read-clause-done : goal.replaced_part-returns-in_ok-read-in-Read-clause-done
+replaced_part-returns-in_ok-read-in-Read-clause-done t c = remembers_later (replacement_of c.args.put.now) _ _ _ c.in_ok-index-in-Read.ensures.done c.in_ok-read-in-Read.ensures.kept
+
+pub replaced_part-returns-in_ok-store-in-Store-clause-done : goal.replaced_part-returns-in_ok-store-in-Store-clause-done
+replaced_part-returns-in_ok-store-in-Store-clause-done t c = remembers_later (replacement_of c.args.put.now) _ _ _ c.in_ok-value-in-Store.ensures.done c.in_ok-store-in-Store.ensures.kept
+
+pub replaced_part-returns-in_ok-add-in-Add-clause-id : goal.replaced_part-returns-in_ok-add-in-Add-clause-id
+replaced_part-returns-in_ok-add-in-Add-clause-id t c =
+    let t0 = c.args.self.now in
+    let r = under_many c.args.depth (replacement_of c.args.put.now) in
+    let t1 = c.replaced_term.new.self in
+    let t2 = c.replaced_term-in-Add.new.self in
+    let k1 = c.in_ok-left-in-Add.ensures.kept in
+    let there : part_in t0 c.args.part ≡ term_part (S.Add (term_in t0 c.in-Add.left) (term_in t0 c.in-Add.right)) = search rules in
+    let is : IsTerm t0 c.in-Add.right = search rules in
+    let left = first_term r t0 t1 t2 c.in-Add.left c.in_ok-left-in-Add.left c.in_ok-right-in-Add.ensures.kept c.in_ok-left-in-Add.ensures.id in
+    let right = second_term r (r) t0 t1 t2 c.in-Add.right c.in_ok-right-in-Add.right refl is k1 c.in_ok-right-in-Add.ensures.id in
+    c.in_ok-add-in-Add.ensures.id ∙ ap (λ x. Some (term_part x)) (ap₂ S.Add left right) ∙ ap (λ p. Some (replaced_part r p)) (sym there)
+
+pub replaced_part-returns-in_ok-subtract-in-Subtract-clause-id : goal.replaced_part-returns-in_ok-subtract-in-Subtract-clause-id
+replaced_part-returns-in_ok-subtract-in-Subtract-clause-id t c =
+    let t0 = c.args.self.now in
+    let r = under_many c.args.depth (replacement_of c.args.put.now) in
+    let t1 = c.replaced_term-in-Subtract.new.self in
+    let t2 = c.replaced_term-in-Subtract-2.new.self in
+    let k1 = c.in_ok-left-in-Subtract.ensures.kept in
+    let there : part_in t0 c.args.part ≡ term_part (S.Subtract (term_in t0 c.in-Subtract.left) (term_in t0 c.in-Subtract.right)) = search rules in
+    let is : IsTerm t0 c.in-Subtract.right = search rules in
+    let left = first_term r t0 t1 t2 c.in-Subtract.left c.in_ok-left-in-Subtract.left c.in_ok-right-in-Subtract.ensures.kept c.in_ok-left-in-Subtract.ensures.id in
+    let right = second_term r (r) t0 t1 t2 c.in-Subtract.right c.in_ok-right-in-Subtract.right refl is k1 c.in_ok-right-in-Subtract.ensures.id in
+    c.in_ok-subtract-in-Subtract.ensures.id ∙ ap (λ x. Some (term_part x)) (ap₂ S.Subtract left right) ∙ ap (λ p. Some (replaced_part r p)) (sym there)
+
+pub replaced_part-returns-in_ok-multiply-in-Multiply-clause-id : goal.replaced_part-returns-in_ok-multiply-in-Multiply-clause-id
+replaced_part-returns-in_ok-multiply-in-Multiply-clause-id t c =
+    let t0 = c.args.self.now in
+    let r = under_many c.args.depth (replacement_of c.args.put.now) in
+    let t1 = c.replaced_term-in-Multiply.new.self in
+    let there : part_in t0 c.args.part ≡ term_part (S.Multiply c.in-Multiply.factor (term_in t0 c.in-Multiply.term)) = search rules in
+    let inner = one_term r t0 t1 c.in-Multiply.term c.in_ok-term-in-Multiply.term c.in_ok-term-in-Multiply.ensures.id in
+    let made : slice_get (parts c.multiply.new.self) c.in_ok-multiply-in-Multiply.field-0.0 ≡ Some (term_part (S.Multiply c.in-Multiply.factor (term_in t1 c.in_ok-term-in-Multiply.term))) = search rules in
+    made ∙ ap (λ x. Some (term_part (S.Multiply c.in-Multiply.factor x))) inner ∙ ap (λ p. Some (replaced_part r p)) (sym there)
+
+pub replaced_part-returns-in_ok-read-in-Read-clause-id : goal.replaced_part-returns-in_ok-read-in-Read-clause-id
+replaced_part-returns-in_ok-read-in-Read-clause-id t c =
+    let t0 = c.args.self.now in
+    let r = under_many c.args.depth (replacement_of c.args.put.now) in
+    let t1 = c.replaced_column.new.self in
+    let t2 = c.replaced_term-in-Read.new.self in
+    let k1 = c.in_ok-column-in-Read.ensures.kept in
+    let there : part_in t0 c.args.part ≡ term_part (S.Read (column_in t0 c.in-Read.column) (term_in t0 c.in-Read.index)) = search rules in
+    let is : IsTerm t0 c.in-Read.index = search rules in
+    let column = first_column r t0 t1 t2 c.in-Read.column c.in_ok-column-in-Read.column c.in_ok-index-in-Read.ensures.kept c.in_ok-column-in-Read.ensures.id in
+    let index = second_term r (r) t0 t1 t2 c.in-Read.index c.in_ok-index-in-Read.index refl is k1 c.in_ok-index-in-Read.ensures.id in
+    c.in_ok-read-in-Read.ensures.id ∙ ap (λ x. Some (term_part x)) (ap₂ S.Read column index) ∙ ap (λ p. Some (replaced_part r p)) (sym there)
+
+pub replaced_part-returns-in_ok-store-in-Store-clause-id : goal.replaced_part-returns-in_ok-store-in-Store-clause-id
+replaced_part-returns-in_ok-store-in-Store-clause-id t c =
+    let t0 = c.args.self.now in
+    let r = under_many c.args.depth (replacement_of c.args.put.now) in
+    let t1 = c.replaced_column-in-Store.new.self in
+    let t2 = c.replaced_term-in-Store.new.self in
+    let t3 = c.replaced_term-in-Store-2.new.self in
+    let k1 = c.in_ok-column-in-Store.ensures.kept in
+    let k2 = c.in_ok-index-in-Store.ensures.kept in
+    let k3 = c.in_ok-value-in-Store.ensures.kept in
+    let there : part_in t0 c.args.part ≡ column_part (S.Store (column_in t0 c.in-Store.column) (term_in t0 c.in-Store.index) (term_in t0 c.in-Store.value)) = search rules in
+    let is_index : IsTerm t0 c.in-Store.index = search rules in
+    let is_value : IsTerm t0 c.in-Store.value = search rules in
+    let k12 = kept_on t0 t1 t2 k1 k2 in
+    let column = first_column r t0 t1 t3 c.in-Store.column c.in_ok-column-in-Store.column (kept_on t1 t2 t3 k2 k3) c.in_ok-column-in-Store.ensures.id in
+    let index = later_term r (r) t0 t1 t2 t3 c.in-Store.index c.in_ok-index-in-Store.index refl is_index k1 k3 c.in_ok-index-in-Store.ensures.id in
+    let value = second_term r (r) t0 t2 t3 c.in-Store.value c.in_ok-value-in-Store.value refl is_value k12 c.in_ok-value-in-Store.ensures.id in
+    c.in_ok-store-in-Store.ensures.id ∙ ap (λ x. Some (column_part x)) (same_store _ _ _ _ _ _ column index value) ∙ ap (λ p. Some (replaced_part r p)) (sym there)
+
+pub replaced_part-store-requires-clause-column : goal.replaced_part-store-requires-clause-column
+replaced_part-store-requires-clause-column t c =
+    let t1 = c.replaced_column-in-Store.new.self in
+    let t2 = c.replaced_term-in-Store.new.self in
+    let t3 = c.replaced_term-in-Store-2.new.self in
+    let k1 = c.in_ok-column-in-Store.ensures.kept in
+    let k2 = c.in_ok-index-in-Store.ensures.kept in
+    let k3 = c.in_ok-value-in-Store.ensures.kept in
+    is_column_later t1 t3 c.in_ok-column-in-Store.column _ c.in_ok-column-in-Store.ensures.id (kept_on t1 t2 t3 k2 k3)
+
+pub replaced_term-returns-in-Some-clause-id : goal.replaced_term-returns-in-Some-clause-id
+replaced_term-returns-in-Some-clause-id t c =
+    term_remembered (replacement_of c.args.put.now) c.args.self.now c.args.done.now c.args.term c.args.depth _ c.requires.done c.requires.there (sym c.get.ensures.value ∙ ap option_copied c.in-Some.is)
+
+pub replaced_term-returns-clause-done : goal.replaced_term-returns-clause-done
+replaced_term-returns-clause-done t c =
+    term_noted (replacement_of c.args.put.now) c.args.self.now c.replaced_part.new.self c.replaced_part.new.done (record { parts = c.insert.new.self; formulas = c.replaced_part.new.done.formulas }) c.args.term c.args.depth _ c.requires.there c.in_ok-number.ensures.kept c.in_ok-number.ensures.done
+    c.in_ok-number.ensures.id c.in_ok-insert.ensures.updates.0 refl
+
+pub replaced_column-returns-in-Some-clause-id : goal.replaced_column-returns-in-Some-clause-id
+replaced_column-returns-in-Some-clause-id t c =
+    column_remembered (replacement_of c.args.put.now) c.args.self.now c.args.done.now c.args.column c.args.depth _ c.requires.done c.requires.there (sym c.get.ensures.value ∙ ap option_copied c.in-Some.is)
+
+pub replaced_column-returns-clause-done : goal.replaced_column-returns-clause-done
+replaced_column-returns-clause-done t c =
+    column_noted (replacement_of c.args.put.now) c.args.self.now c.replaced_part.new.self c.replaced_part.new.done (record { parts = c.insert.new.self; formulas = c.replaced_part.new.done.formulas }) c.args.column c.args.depth _ c.requires.there c.in_ok-number.ensures.kept c.in_ok-number.ensures.done
+    c.in_ok-number.ensures.id c.in_ok-insert.ensures.updates.0 refl

@@ -1,0 +1,385 @@
+//! Columns and variables of a table's terms and formulas replaced, all at once. What is shared is replaced once.
+ghost use Rattle.std.specs.Prelude.{◌≡◌, suc, IfOk, OnOk, map, slice_get, Some, is_some, true};
+ghost use Rattle.lc_term.specs.NodeReplacement.{part_in, replaced_part};
+ghost use Rattle.lc_term.specs.Put.{columns_put, columns_in, variables_put, replacement_of, Remembers};
+ghost use Rattle.lc_term.specs.Replacement.{replace, replace_term, replace_column, under_many};
+ghost use Rattle.lc_term.specs.Tables.{parts, term_in, column_in, formula_in, formulas_in, IsTerm, IsColumn, IsFormula, AreFormulas, HasTerm, HasColumn, HasFormula, Keeps};
+
+use crate::node::{ColExprId, FormulaId, FormulaNode, TermId, TermNode};
+use crate::put::{Occurrence, Put, PutColumns, PutVariables, ReplacedNodes};
+use crate::table::Terms;
+use crate::term::ColExpr;
+use lc_base::{ColId, OutOfMemory};
+use std::alloc::Global;
+
+impl Terms {
+    /// The term with what is put in for its columns and variables. `OutOfMemory` is answered also where the number of a
+    /// shifted bound variable has no place in 32 bits, here and below.
+    pub fn replace_term(
+        &mut self,
+        alloc: Global,
+        put: &Put<'_>,
+        done: &mut ReplacedNodes,
+        term: TermId,
+    ) -> Result<TermId, OutOfMemory>
+        requires term { IsTerm self.old term }
+        requires done { Remembers (replacement_of put.now) self.old done.old }
+        ensures id { IfOk result (λ k. HasTerm self.new k (replace_term (replacement_of put.now) (term_in self.old term))) }
+        ensures kept { Keeps self.old self.new }
+        ensures done { OnOk result (Remembers (replacement_of put.now) self.new done.new) }
+    {
+        self.replaced_term(alloc, put, done, term, 0)
+    }
+
+    /// The column expression with what is put in.
+    pub fn replace_column(
+        &mut self,
+        alloc: Global,
+        put: &Put<'_>,
+        done: &mut ReplacedNodes,
+        column: ColExprId,
+    ) -> Result<ColExprId, OutOfMemory>
+        requires column { IsColumn self.old column }
+        requires done { Remembers (replacement_of put.now) self.old done.old }
+        ensures id { IfOk result (λ k. HasColumn self.new k (replace_column (replacement_of put.now) (column_in self.old column))) }
+        ensures kept { Keeps self.old self.new }
+        ensures done { OnOk result (Remembers (replacement_of put.now) self.new done.new) }
+    {
+        self.replaced_column(alloc, put, done, column, 0)
+    }
+
+    /// The formula with what is put in. A formula in which nothing is replaced keeps its number.
+    pub fn replace(
+        &mut self,
+        alloc: Global,
+        put: &Put<'_>,
+        done: &mut ReplacedNodes,
+        formula: FormulaId,
+    ) -> Result<FormulaId, OutOfMemory>
+        requires formula { IsFormula self.old formula }
+        requires done { Remembers (replacement_of put.now) self.old done.old }
+        ensures id { IfOk result (λ k. HasFormula self.new k (replace (replacement_of put.now) (formula_in self.old formula))) }
+        ensures kept { Keeps self.old self.new }
+        ensures done { OnOk result (Remembers (replacement_of put.now) self.new done.new) }
+    {
+        self.replaced_formula(alloc, put, done, formula, 0)
+    }
+
+    // The first entry of a column; the column itself where it has none.
+    fn enter_stored(
+        &mut self,
+        columns: &[(ColId, ColExpr)],
+        column: ColId,
+    ) -> Result<ColExprId, OutOfMemory>
+        ensures id { IfOk result (λ k. HasColumn self.new k (columns_in columns.now column.0)) }
+        ensures kept { Keeps self.old self.new }
+    {
+        for entry in columns {
+            if entry.0 == column {
+                return self.enter_column(&entry.1);
+            }
+        }
+        self.base(column)
+    }
+
+    // What is put in for a column, outside every quantifier.
+    fn enter_put_column(
+        &mut self,
+        columns: PutColumns<'_>,
+        column: ColId,
+    ) -> Result<ColExprId, OutOfMemory>
+        ensures id { IfOk result (λ k. HasColumn self.new k (columns_put columns.entry column.0)) }
+        ensures kept { Keeps self.old self.new }
+    {
+        match columns {
+            PutColumns::Stored(columns) => self.enter_stored(columns, column),
+            PutColumns::All(columns) => match columns.get(column.0 as usize) {
+                Some(column) => self.enter_column(column),
+                None => self.affine(0, 0),
+            },
+        }
+    }
+
+    // What is put in for a variable, outside every quantifier.
+    fn enter_put_variable(
+        &mut self,
+        variables: PutVariables<'_>,
+        number: u32,
+    ) -> Result<TermId, OutOfMemory>
+        ensures id { IfOk result (λ k. HasTerm self.new k (variables_put variables.entry number)) }
+        ensures kept { Keeps self.old self.new }
+    {
+        match variables {
+            PutVariables::Own => self.variable(number),
+            PutVariables::Terms(terms) => match terms.get(number as usize) {
+                Some(term) => self.enter_term(term),
+                None => self.number(0),
+            },
+        }
+    }
+
+    // The same below as many quantifiers as `depth` counts.
+    fn column_below(
+        &mut self,
+        alloc: Global,
+        put: &Put<'_>,
+        column: ColId,
+        depth: u32,
+    ) -> Result<ColExprId, OutOfMemory>
+        ensures id { IfOk result (λ k. HasColumn self.new k ((under_many depth (replacement_of put.now)).columns column.0)) }
+        ensures kept { Keeps self.old self.new }
+    {
+        let column = self.enter_put_column(put.columns, column)?;
+        if depth == 0 {
+            Ok(column)
+        } else {
+            self.shift_column(alloc, column, depth, 0)
+        }
+    }
+
+    fn variable_below(
+        &mut self,
+        alloc: Global,
+        put: &Put<'_>,
+        number: u32,
+        depth: u32,
+    ) -> Result<TermId, OutOfMemory>
+        ensures id { IfOk result (λ k. HasTerm self.new k ((under_many depth (replacement_of put.now)).variables number)) }
+        ensures kept { Keeps self.old self.new }
+    {
+        let term = self.enter_put_variable(put.variables, number)?;
+        if depth == 0 {
+            Ok(term)
+        } else {
+            self.shift(alloc, term, depth, 0)
+        }
+    }
+
+    #[cycle(replaced_part)]
+    #[tactic(auto, using(crate::proofs::NodeReplacement::term_at, crate::proofs::Copied::term_stands))]
+    fn replaced_term(
+        &mut self,
+        alloc: Global,
+        put: &Put<'_>,
+        done: &mut ReplacedNodes,
+        term: TermId,
+        depth: u32,
+    ) -> Result<TermId, OutOfMemory>
+        requires there { IsTerm self.old term }
+        requires done { Remembers (replacement_of put.now) self.old done.old }
+        ensures id { IfOk result (λ k. HasTerm self.new k (replace_term (under_many depth (replacement_of put.now)) (term_in self.old term))) }
+        ensures kept { Keeps self.old self.new }
+        ensures done { OnOk result (Remembers (replacement_of put.now) self.new done.new) }
+    {
+        let occurrence = Occurrence {
+            number: term.0,
+            depth,
+        };
+        if let Some(number) = done.parts.get(&occurrence) {
+            return Ok(TermId(*number));
+        }
+        let number = self.replaced_part(alloc, put, done, term.0, depth)?;
+        done.parts.insert(occurrence, number)?;
+        Ok(TermId(number))
+    }
+
+    #[cycle(replaced_part)]
+    #[tactic(auto, using(crate::proofs::NodeReplacement::column_at, crate::proofs::Copied::column_stands))]
+    fn replaced_column(
+        &mut self,
+        alloc: Global,
+        put: &Put<'_>,
+        done: &mut ReplacedNodes,
+        column: ColExprId,
+        depth: u32,
+    ) -> Result<ColExprId, OutOfMemory>
+        requires there { IsColumn self.old column }
+        requires done { Remembers (replacement_of put.now) self.old done.old }
+        ensures id { IfOk result (λ k. HasColumn self.new k (replace_column (under_many depth (replacement_of put.now)) (column_in self.old column))) }
+        ensures kept { Keeps self.old self.new }
+        ensures done { OnOk result (Remembers (replacement_of put.now) self.new done.new) }
+    {
+        let occurrence = Occurrence {
+            number: column.0,
+            depth,
+        };
+        if let Some(number) = done.parts.get(&occurrence) {
+            return Ok(ColExprId(*number));
+        }
+        let number = self.replaced_part(alloc, put, done, column.0, depth)?;
+        done.parts.insert(occurrence, number)?;
+        Ok(ColExprId(number))
+    }
+
+    // What stands at a number, replaced, which is not replaced yet.
+    #[cycle(replaced_part)]
+    #[tactic(auto, using(crate::proofs::Later::kept_on, crate::proofs::Later::keeps_itself, crate::proofs::Later::is_term_later, crate::proofs::Later::is_column_later, crate::proofs::Later::is_term_still, crate::proofs::NodeReplacement::part_there))]
+    fn replaced_part(
+        &mut self,
+        alloc: Global,
+        put: &Put<'_>,
+        done: &mut ReplacedNodes,
+        part: u32,
+        depth: u32,
+    ) -> Result<u32, OutOfMemory>
+        requires there { is_some (slice_get (parts self.old) part) ≡ true }
+        requires done { Remembers (replacement_of put.now) self.old done.old }
+        ensures id { IfOk result (λ k. slice_get (parts self.new) k ≡ Some (replaced_part (under_many depth (replacement_of put.now)) (part_in self.old part))) }
+        ensures kept { Keeps self.old self.new }
+        ensures done { OnOk result (Remembers (replacement_of put.now) self.new done.new) }
+    {
+        match self.part_node(part) {
+            TermNode::Variable(number) => Ok(self.variable_below(alloc, put, number, depth)?.0),
+            TermNode::Base(column) => Ok(self.column_below(alloc, put, column, depth)?.0),
+            TermNode::Bound(_) => Ok(part),
+            TermNode::Number(_) | TermNode::Affine(_, _) => Ok(part),
+            TermNode::Add(left, right) => {
+                let left = self.replaced_term(alloc, put, done, left, depth)?;
+                let right = self.replaced_term(alloc, put, done, right, depth)?;
+                Ok(self.add(left, right)?.0)
+            }
+            TermNode::Subtract(left, right) => {
+                let left = self.replaced_term(alloc, put, done, left, depth)?;
+                let right = self.replaced_term(alloc, put, done, right, depth)?;
+                Ok(self.subtract(left, right)?.0)
+            }
+            TermNode::Multiply(factor, term) => {
+                let term = self.replaced_term(alloc, put, done, term, depth)?;
+                Ok(self.multiply(factor, term)?.0)
+            }
+            TermNode::Read(column, index) => {
+                let column = self.replaced_column(alloc, put, done, column, depth)?;
+                let index = self.replaced_term(alloc, put, done, index, depth)?;
+                Ok(self.read(column, index)?.0)
+            }
+            TermNode::Store(column, index, value) => {
+                let column = self.replaced_column(alloc, put, done, column, depth)?;
+                let index = self.replaced_term(alloc, put, done, index, depth)?;
+                let value = self.replaced_term(alloc, put, done, value, depth)?;
+                Ok(self.store(column, index, value)?.0)
+            }
+        }
+    }
+
+    #[cycle(replaced_formula)]
+    fn replaced_formula(
+        &mut self,
+        alloc: Global,
+        put: &Put<'_>,
+        done: &mut ReplacedNodes,
+        formula: FormulaId,
+        depth: u32,
+    ) -> Result<FormulaId, OutOfMemory>
+        requires there { IsFormula self.old formula }
+        requires done { Remembers (replacement_of put.now) self.old done.old }
+        ensures id { IfOk result (λ k. HasFormula self.new k (replace (under_many depth (replacement_of put.now)) (formula_in self.old formula))) }
+        ensures kept { Keeps self.old self.new }
+        ensures done { OnOk result (Remembers (replacement_of put.now) self.new done.new) }
+    {
+        let occurrence = Occurrence {
+            number: formula.0,
+            depth,
+        };
+        if let Some(number) = done.formulas.get(&occurrence) {
+            return Ok(FormulaId(*number));
+        }
+        let number = self.replaced_formula_node(alloc, put, done, formula, depth)?;
+        done.formulas.insert(occurrence, number.0)?;
+        Ok(number)
+    }
+
+    // A formula, replaced, which is not replaced yet.
+    #[cycle(replaced_formula)]
+    #[tactic(auto, using(crate::proofs::Later::kept_on, crate::proofs::Later::keeps_itself, crate::proofs::Later::is_term_later, crate::proofs::Later::is_term_still, crate::proofs::Later::is_formula_later, crate::proofs::Later::is_formula_still))]
+    fn replaced_formula_node(
+        &mut self,
+        alloc: Global,
+        put: &Put<'_>,
+        done: &mut ReplacedNodes,
+        formula: FormulaId,
+        depth: u32,
+    ) -> Result<FormulaId, OutOfMemory>
+        requires there { IsFormula self.old formula }
+        requires done { Remembers (replacement_of put.now) self.old done.old }
+        ensures id { IfOk result (λ k. HasFormula self.new k (replace (under_many depth (replacement_of put.now)) (formula_in self.old formula))) }
+        ensures kept { Keeps self.old self.new }
+        ensures done { OnOk result (Remembers (replacement_of put.now) self.new done.new) }
+    {
+        match self.formula_node(formula) {
+            FormulaNode::Le(left, right) => {
+                let (left, right) = (*left, *right);
+                let left = self.replaced_term(alloc, put, done, left, depth)?;
+                let right = self.replaced_term(alloc, put, done, right, depth)?;
+                self.le(left, right)
+            }
+            FormulaNode::Eq(left, right) => {
+                let (left, right) = (*left, *right);
+                let left = self.replaced_term(alloc, put, done, left, depth)?;
+                let right = self.replaced_term(alloc, put, done, right, depth)?;
+                self.eq(left, right)
+            }
+            FormulaNode::Not(formula) => {
+                let formula = *formula;
+                let formula = self.replaced_formula(alloc, put, done, formula, depth)?;
+                self.not(formula)
+            }
+            FormulaNode::And(parts) => {
+                let parts = Vec::from_slice(alloc, parts)?;
+                let parts = self.replaced_formulas(alloc, put, done, &parts, depth)?;
+                self.and(parts)
+            }
+            FormulaNode::Or(parts) => {
+                let parts = Vec::from_slice(alloc, parts)?;
+                let parts = self.replaced_formulas(alloc, put, done, &parts, depth)?;
+                self.or(parts)
+            }
+            FormulaNode::Implies(left, right) => {
+                let (left, right) = (*left, *right);
+                let left = self.replaced_formula(alloc, put, done, left, depth)?;
+                let right = self.replaced_formula(alloc, put, done, right, depth)?;
+                self.implies(left, right)
+            }
+            FormulaNode::Forall(body) => {
+                let body = *body;
+                let body = self.replaced_formula(alloc, put, done, body, below(depth)?)?;
+                self.forall(body)
+            }
+            FormulaNode::Exists(body) => {
+                let body = *body;
+                let body = self.replaced_formula(alloc, put, done, body, below(depth)?)?;
+                self.exists(body)
+            }
+        }
+    }
+
+    #[cycle(replaced_formula)]
+    #[tactic(auto, using(crate::proofs::Later::kept_on, crate::proofs::Later::keeps_itself))]
+    fn replaced_formulas(
+        &mut self,
+        alloc: Global,
+        put: &Put<'_>,
+        done: &mut ReplacedNodes,
+        formulas: &[FormulaId],
+        depth: u32,
+    ) -> Result<Vec<FormulaId>, OutOfMemory>
+        requires there { AreFormulas self.old formulas.now }
+        requires done { Remembers (replacement_of put.now) self.old done.old }
+        ensures are { IfOk result (λ ks. AreFormulas self.new ks.items) }
+        ensures trees { IfOk result (λ ks. formulas_in self.new ks.items ≡ map (replace (under_many depth (replacement_of put.now))) (formulas_in self.old formulas.now)) }
+        ensures kept { Keeps self.old self.new }
+        ensures done { OnOk result (Remembers (replacement_of put.now) self.new done.new) }
+    {
+        let mut entered = Vec::with_capacity(alloc, formulas.len())?;
+        for formula in formulas {
+            entered.push(self.replaced_formula(alloc, put, done, *formula, depth)?)?;
+        }
+        Ok(entered)
+    }
+}
+
+// One quantifier more.
+fn below(depth: u32) -> Result<u32, OutOfMemory>
+    ensures { IfOk result (λ n. n ≡ suc depth) }
+{
+    depth.checked_add(1).ok_or(OutOfMemory)
+}
