@@ -55,6 +55,10 @@ formulas_put old new ks now k fs f pushed h kept at =
       trees = formulas_pushed old new ks k f h.are kept at ∙ ap (λ l. l ++ f ∷ []) h.trees;
     }))
 
+-- the same numbers, seen as a list
+pub formulas_listed : (ts : Table) (ks now : List FormulaId) (fs : List Formula) → HasFormulas ts ks fs → now ≡ ks → HasFormulas ts now fs
+formulas_listed ts ks now fs h same = (let P : List FormulaId → Type 0 = λ l. HasFormulas ts l fs in subst P (sym same) h)
+
 -- ---- conditions
 
 condition_still : (old new : Table) (c : Condition) → IsCondition old c → Keeps old new → condition_in new c ≡ condition_in old c

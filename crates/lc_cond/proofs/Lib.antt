@@ -2,8 +2,9 @@ pub mod PartsList
 pub mod Printed
 pub mod Adding
 pub mod Made
-pub mod Telling
+pub mod Replacing
 pub mod Held
 pub mod Scening
 pub mod Ridden
 pub mod Columned
+pub mod Counted

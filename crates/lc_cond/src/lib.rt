@@ -5,6 +5,7 @@ mod condition;
 
 mod edge_conditions;
 mod entering;
+mod entries;
 mod frames;
 mod known;
 pub mod laws;
@@ -14,6 +15,8 @@ mod making;
 mod matching;
 mod paths;
 mod scene;
+mod start;
 mod telling;
+mod variables;
 
 pub use condition::{Condition, Kind, Passage, Place, Which};

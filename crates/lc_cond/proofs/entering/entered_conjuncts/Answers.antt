@@ -4,7 +4,7 @@ use Rattle.lc_tie.specs.TieView.{conjunct_of}
 use Rattle.lc_term.proofs.Later.{kept_on}
 use Rattle.lc_cond.specs.Adding.{HasFormulas}
 use Rattle.lc_cond.proofs.Adding.{formulas_put}
-use Rattle.lc_cond.proofs.Telling.{conjuncts_more}
+use Rattle.lc_cond.proofs.Replacing.{conjuncts_more}
 use Rattle.lc_cond.proofs.entering.entered_conjuncts.Goals as goal
 
 pub loop-conjunct-preserved : goal.loop-conjunct-preserved
