@@ -8,3 +8,4 @@ pub mod Scening
 pub mod Ridden
 pub mod Columned
 pub mod Counted
+pub mod Entered

@@ -1,5 +1,5 @@
 //! The conditions where a call begins.
-ghost use Rattle.std.specs.Prelude.{◌≡◌, ◌++◌, map, length, None, Some, IfOk, OnOk};
+ghost use Rattle.std.specs.Prelude.{◌≡◌, ◌+◌, ◌++◌, map, length, None, Some, IfOk, OnOk};
 ghost use Rattle.lc_term.specs.Said.{after, told};
 ghost use Rattle.lc_term.specs.Syntax.{Base};
 ghost use Rattle.lc_term.specs.Tables.{Keeps};
@@ -134,8 +134,8 @@ pub(crate) fn push_entry(
 {
     let system = system_columns(development)?;
     let columns = entered_columns(alloc, system, operation, argument_count(body))?;
-    let known = known_idle(alloc, terms, development, system)?;
-    let known = in_range(alloc, terms, &known)?;
+    let idle = known_idle(alloc, terms, development, system)?;
+    let known = in_range(alloc, terms, &idle)?;
     push_entered(
         alloc,
         terms,

@@ -35,13 +35,25 @@ fn is_below_count(alloc: Global, variable: u32) -> Result<Formula, OutOfMemory>
     Ok(Formula::Le(Term::Add(client, one), Term::Variable(0)))
 }
 
+/// The variable is a client; behind other formulas.
+pub(crate) fn push_range(
+    alloc: Global,
+    variable: u32,
+    formulas: &mut Vec<Formula>,
+) -> Result<(), OutOfMemory>
+    ensures { OnOk result (formulas_of formulas.new.items ≡ formulas_of formulas.old.items ++ range (Variable variable)) }
+{
+    formulas.push(Formula::Le(Term::Number(0), Term::Variable(variable)))?;
+    formulas.push(is_below_count(alloc, variable)?)?;
+    Ok(())
+}
+
 /// The variable is a client.
 pub(crate) fn range(alloc: Global, variable: u32) -> Result<Vec<Formula>, OutOfMemory>
     ensures { IfOk result (λ fs. formulas_of fs.items ≡ range (Variable variable)) }
 {
     let mut formulas = Vec::with_capacity(alloc, 2)?;
-    formulas.push(Formula::Le(Term::Number(0), Term::Variable(variable)))?;
-    formulas.push(is_below_count(alloc, variable)?)?;
+    push_range(alloc, variable, &mut formulas)?;
     Ok(formulas)
 }
 

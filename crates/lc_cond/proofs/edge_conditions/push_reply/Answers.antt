@@ -13,6 +13,9 @@ use Rattle.lc_cond.proofs.Adding.{formulas_later}
 use Rattle.lc_cond.proofs.Scening.{reply_said}
 use Rattle.lc_cond.proofs.edge_conditions.push_reply.Goals as goal
 
+pub replace-requires-clause-done : goal.replace-requires-clause-done
+replace-requires-clause-done c = c.nothing_replaced-done.ensures _ _
+
 pub returns-clause-list : goal.returns-clause-list
 returns-clause-list c =
     let s = c.args.scene.now in

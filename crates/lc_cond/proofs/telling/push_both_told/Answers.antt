@@ -9,6 +9,9 @@ use Rattle.lc_cond.specs.Heads.{head_of}
 use Rattle.lc_cond.proofs.Adding.{formulas_later, adds_on}
 use Rattle.lc_cond.proofs.telling.push_both_told.Goals as goal
 
+pub push_told-requires-clause-done : goal.push_told-requires-clause-done
+push_told-requires-clause-done c = c.nothing_replaced-done.ensures _ _
+
 pub push_told-requires-2-clause-formulas : goal.push_told-requires-2-clause-formulas
 push_told-requires-2-clause-formulas c = are_formulas_still c.args.terms.now c.push_told.new.terms c.args.second.now c.requires.second c.in_ok-push_told.ensures.kept
 
