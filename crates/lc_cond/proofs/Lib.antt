@@ -9,3 +9,4 @@ pub mod Ridden
 pub mod Columned
 pub mod Counted
 pub mod Entered
+pub mod Crossed

@@ -16,7 +16,7 @@ use Rattle.lc_cond.specs.declared.condition.Which.TheVariants.{Numbered}
 use Rattle.lc_cond.specs.declared.making.Head.{Head}
 use Rattle.lc_cond.proofs.Adding.{adds_both}
 
-numbered-snoc : {A B : Type 0} (f : ℕ → A → B) (k : ℕ) (xs : List A) (y : A) → numbered f k (xs ++ y ∷ []) ≡ numbered f k xs ++ f (k + length xs) y ∷ []
+pub numbered-snoc : {A B : Type 0} (f : ℕ → A → B) (k : ℕ) (xs : List A) (y : A) → numbered f k (xs ++ y ∷ []) ≡ numbered f k xs ++ f (k + length xs) y ∷ []
 numbered-snoc f k [] y = ap (λ n. f n y ∷ []) (sym (add-zero k))
 numbered-snoc f k (x ∷ xs) y =
     let e : suc k + length xs ≡ k + length (x ∷ xs) = omega arith in

@@ -17,7 +17,7 @@ use Rattle.lc_cond.specs.Conditions.{path_conditions, edge_conditions_in, in_bod
 use Rattle.lc_cond.specs.Scenes.{IsSceneOf, on_in, duty_conditions, outcome_conditions, path_conditions_in, reply_conditions, on_conditions_in, told_in, development_in, code_in}
 use Rattle.lc_cond.specs.declared.scene.Scene.{Scene}
 
-concat_places-snoc : {A B : Type 0} (f : ℕ → A → List B) (k : ℕ) (xs : List A) (y : A) → concat_places f k (xs ++ y ∷ []) ≡ concat_places f k xs ++ f (k + length xs) y
+pub concat_places-snoc : {A B : Type 0} (f : ℕ → A → List B) (k : ℕ) (xs : List A) (y : A) → concat_places f k (xs ++ y ∷ []) ≡ concat_places f k xs ++ f (k + length xs) y
 concat_places-snoc f k [] y = append-nil (f k y) ∙ ap (λ n. f n y) (sym (add-zero k))
 concat_places-snoc f k (x ∷ xs) y =
     let e : suc k + length xs ≡ k + length (x ∷ xs) = omega arith in

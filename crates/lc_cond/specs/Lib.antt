@@ -7,3 +7,4 @@ pub mod ConditionView
 pub mod Adding
 pub mod Heads
 pub mod Scenes
+pub mod Crossings

@@ -15,6 +15,7 @@ mod making;
 mod matching;
 mod paths;
 mod scene;
+mod stability;
 mod start;
 mod telling;
 mod variables;
