@@ -2,7 +2,7 @@
 use Rattle.std.proofs.Common.{◌≡◌, ℕ, zero, suc, ◌+◌, ◌<◌, Some, List, [], ◌∷◌, ◌++◌, map, take, length, get_or, refl, sym, subst, ap, ap₂, ◌∙◌, arith, zero-add}
 use Rattle.std.specs.Prelude.{Option, None, option_map, slice_get}
 use Rattle.std.proofs.lemmas.Option.{slice_get-get_or}
-use Rattle.std.proofs.lemmas.List.{take_more, take_all, length-map, length-take-le}
+use Rattle.std.proofs.lemmas.List.{map-append, take_more, take_all, length-map, length-take-le}
 use Rattle.lc_base.specs.declared.ids.PointId.{PointId}
 use Rattle.lc_term.specs.Lists.{Every, numbered, concat_places}
 use Rattle.lc_term.specs.NodeTables.{Table}
@@ -134,3 +134,7 @@ pub conjuncts_all : (point : Option PointId) (count i : ℕ) (crossings : List C
 conjuncts_all point count i crossings old now end so_far ts D n hs asserts actions h count_is =
     (let st : ℕ → Formula → List S.Condition = λ k g. numbered (stable_under D (option_map (λ (p : PointId). p.0) point) n hs k g) 0 actions in
     subst (λ l. Adds old ts now (concat_places st 0 l)) (take_all i asserts (omega arith)) (so_far ts D n hs asserts actions h count_is))
+
+-- one more of some that are seen
+pub seen_more : {A B : Type 0} (view : A → B) (xs : List A) (i : ℕ) (x : A) → i < length xs → x ≡ get_or xs i x → map view (take (i + 1) xs) ≡ map view (take i xs) ++ view x ∷ []
+seen_more view xs i x below is = ap (map view) (take_more xs i x below ∙ ap (λ y. take i xs ++ y ∷ []) (sym is)) ∙ map-append view (take i xs) (x ∷ [])

@@ -2,7 +2,7 @@
 use Rattle.std.proofs.Common.{◌≡◌, ℕ, zero, suc, ◌+◌, ◌<◌, Option, Some, None, List, [], ◌∷◌, ◌++◌, map, take, length, get_or, refl, sym, ap, ap₂, ◌∙◌, arith, append_assoc, append-nil, add-zero}
 use Rattle.std.specs.Prelude.{option_map, slice_get}
 use Rattle.std.proofs.lemmas.List.{map-append, take_more, length-map, length-take-le}
-use Rattle.lc_term.specs.Lists.{concat_places}
+use Rattle.lc_term.specs.Lists.{concat_map, concat_places}
 use Rattle.lc_term.specs.NodeTables.{Table}
 use Rattle.lc_term.specs.Syntax.{Formula}
 use Rattle.lc_term.specs.Tables.{formulas_in}
@@ -65,3 +65,12 @@ in_operation_said f k o operation h = ap (in_operation f k) (sym h)
 
 pub in_no_operation : {A : Type 0} (f : ℕ → Operation → List A) (k : ℕ) (o : Option Operation) → None ≡ o → in_operation f k o ≡ []
 in_no_operation f k o h = ap (in_operation f k) (sym h)
+
+concat_map-snoc : {A B : Type 0} (f : A → List B) (xs : List A) (y : A) → concat_map f (xs ++ y ∷ []) ≡ concat_map f xs ++ f y
+concat_map-snoc f [] y = append-nil (f y)
+concat_map-snoc f (x ∷ xs) y = ap (λ l. f x ++ l) (concat_map-snoc f xs y) ∙ sym (append_assoc (f x) (concat_map f xs) (f y))
+
+-- what comes of one more, whatever its place is
+pub mapped_more : {A B C : Type 0} (f : A → List B) (view : C → A) (xs : List C) (i : ℕ) (x : C) → i < length xs → x ≡ get_or xs i x → concat_map f (map view (take (i + 1) xs)) ≡ concat_map f (map view (take i xs)) ++ f (view x)
+mapped_more f view xs i x below is =
+    ap (λ l. concat_map f (map view l)) (take_more xs i x below ∙ ap (λ y. take i xs ++ y ∷ []) (sym is)) ∙ ap (concat_map f) (map-append view (take i xs) (x ∷ [])) ∙ concat_map-snoc f (map view (take i xs)) (view x)

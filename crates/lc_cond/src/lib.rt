@@ -9,6 +9,7 @@ mod entries;
 mod frames;
 mod known;
 pub mod laws;
+mod list;
 mod lookup;
 mod making;
 
@@ -21,3 +22,4 @@ mod telling;
 mod variables;
 
 pub use condition::{Condition, Kind, Passage, Place, Which};
+pub use list::conditions;
