@@ -58,10 +58,7 @@ pub(crate) fn range(alloc: Global, variable: u32) -> Result<Vec<Formula>, OutOfM
 }
 
 /// Client 1 has no call.
-pub(crate) fn idle_frame(
-    alloc: Global,
-    system: SystemColumns,
-) -> Result<Vec<Formula>, OutOfMemory>
+pub(crate) fn idle_frame(alloc: Global, system: SystemColumns) -> Result<Vec<Formula>, OutOfMemory>
     ensures { IfOk result (λ fs. formulas_of fs.items ≡ idle_frame (first_of system)) }
 {
     let mut formulas = Vec::with_capacity(alloc, 1)?;
@@ -146,11 +143,7 @@ fn is_settled(
 }
 
 // The call of client 1 is not settled, and has noted these terms.
-fn has_noted(
-    alloc: Global,
-    system: SystemColumns,
-    replies: &[Term],
-) -> Result<Formula, OutOfMemory>
+fn has_noted(alloc: Global, system: SystemColumns, replies: &[Term]) -> Result<Formula, OutOfMemory>
     ensures { IfOk result (λ f. formula_of f ≡ And (formulas (is_cell (pend (first_of system)) (Number (pos 1)) ∷ is_cell (noted (first_of system)) (Number (pos 1)) ∷ hold_terms (note_columns (first_of system)) (map term_of replies.now)))) }
 {
     let mut parts = Vec::with_capacity(alloc, 5)?;

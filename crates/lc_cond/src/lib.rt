@@ -2,7 +2,6 @@
 #![tactic(auto)]
 
 mod condition;
-
 mod edge_conditions;
 mod entering;
 mod entries;
@@ -12,7 +11,6 @@ pub mod laws;
 mod list;
 mod lookup;
 mod making;
-
 mod matching;
 mod paths;
 mod scene;

@@ -112,14 +112,24 @@ pub(crate) fn action_at(development: &Development, action: ActionId) -> Option<&
 pub(crate) fn operation_at(development: &Development, operation: OpId) -> Option<&Operation>
     ensures { option_map (λ o. operation_of o.now) result ≡ slice_get (development_shown development.now).object.operations operation.0 }
 {
-    development.parts().object.parts().operations.get(operation.0 as usize)
+    development
+        .parts()
+        .object
+        .parts()
+        .operations
+        .get(operation.0 as usize)
 }
 
 /// The operation in whose body a point stands, if there is such a point.
 pub(crate) fn body_at(development: &Development, point: PointId) -> Option<OpId>
     ensures { option_map (λ o. o.0) result ≡ option_map (λ p. p.operation) (slice_get (development_shown development.now).object.points point.0) }
 {
-    let point = development.parts().object.parts().points.get(point.0 as usize)?;
+    let point = development
+        .parts()
+        .object
+        .parts()
+        .points
+        .get(point.0 as usize)?;
     Some(point.operation)
 }
 

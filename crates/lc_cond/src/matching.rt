@@ -21,7 +21,9 @@ use crate::scene::Scene;
 use lc_action::{Action, SystemColumns, column_after, post_columns};
 use lc_base::{ColId, OutOfMemory};
 use lc_outline::On;
-use lc_term::{ColExpr, FormulaId, Put, PutColumns, PutVariables, Term, TermId, Terms, nothing_replaced};
+use lc_term::{
+    ColExpr, FormulaId, Put, PutColumns, PutVariables, Term, TermId, Terms, nothing_replaced,
+};
 use std::alloc::Global;
 
 // Whether this is the column itself, in which nothing is stored.
@@ -43,11 +45,7 @@ fn is_unwritten(left: &ColExpr, right: &ColExpr, column: ColId) -> bool
 
 // What stands in a cell of a column, where the cell is the variable of one more quantifier.
 #[tactic(auto, using(lc_term::proofs::Later::kept_on))]
-fn raised_cell(
-    alloc: Global,
-    terms: &mut Terms,
-    column: &ColExpr,
-) -> Result<TermId, OutOfMemory>
+fn raised_cell(alloc: Global, terms: &mut Terms, column: &ColExpr) -> Result<TermId, OutOfMemory>
     ensures id { IfOk result (λ k. HasTerm terms.new k (Read (replace_column raising (column_of column.now)) (Bound 0))) }
     ensures kept { Keeps terms.old terms.new }
 {
@@ -117,9 +115,7 @@ fn push_columns(
         let column = ColId(place);
         let left = column_after(alloc, columns, column)?;
         let right = column_after(alloc, action, column)?;
-        push_column(
-            alloc, terms, head, known, column, &left, &right, conditions,
-        )?;
+        push_column(alloc, terms, head, known, column, &left, &right, conditions)?;
     }
     Ok(())
 }

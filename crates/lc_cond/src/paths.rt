@@ -39,7 +39,15 @@ fn push_outcome(
         (outcome_conditions scene.now number hs (path_of path.now)))) }
     ensures kept { Keeps terms.old terms.new }
 {
-    push_reply(alloc, terms, scene, number, path.columns(), known, conditions)?;
+    push_reply(
+        alloc,
+        terms,
+        scene,
+        number,
+        path.columns(),
+        known,
+        conditions,
+    )?;
     let columns = at_end(alloc, scene, path)?;
     push_next(alloc, terms, scene, number, &columns, known, conditions)?;
     push_on(alloc, terms, scene, number, &columns, known, conditions)
@@ -130,7 +138,5 @@ pub(crate) fn push_edge(
     let Some(body) = operation_at(development, operation) else {
         return Ok(());
     };
-    push_edge_in(
-        alloc, terms, development, operation, body, code, conditions,
-    )
+    push_edge_in(alloc, terms, development, operation, body, code, conditions)
 }

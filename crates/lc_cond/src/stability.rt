@@ -272,7 +272,15 @@ fn all_crossings(
         IfOk result (λ cs. AllCross terms.old terms.new d client known.now asserts.now (all_actions d) cs.items) }
     ensures kept { Keeps terms.old terms.new }
 {
-    let declared = declared_crossings(alloc, terms, development, client, known, invariant, asserts)?;
+    let declared = declared_crossings(
+        alloc,
+        terms,
+        development,
+        client,
+        known,
+        invariant,
+        asserts,
+    )?;
     let begins = enter(alloc, system)?;
     let entered = with_crossing(
         alloc,

@@ -21,6 +21,6 @@ loop-duty-preserved c =
     (formulas_are t0 s.hypotheses.items c.requires.scene) (keeps_itself t0) (first_formulas t0 c.args.facts.now facts d.known c.requires.facts) (c.deref.ensures.value ∙ c.in_ok-known.ensures) in (
       kept_on t0 t1 t2 c.loop-duty.invariant.0 kept,
       duties_more s c.args.number hs facts c.marks-duty-items.result.now c.loop-duty.duty-index d c.args.conditions.now.items c.loop-duty.conditions.items c.push_duty.new.conditions.items t1 t2
-      c.loop-duty-test.true c.duty-item.is c.loop-duty.invariant.1 kept
-      (c.in_ok-push_duty.ensures.list (hs ++ take d.known facts) (formulas_later t0 t1 c.deref.result.now _ known c.loop-duty.invariant.0)),
+          c.loop-duty-test.true c.duty-item.is c.loop-duty.invariant.1 kept
+          (c.in_ok-push_duty.ensures.list (hs ++ take d.known facts) (formulas_later t0 t1 c.deref.result.now _ known c.loop-duty.invariant.0)),
     )

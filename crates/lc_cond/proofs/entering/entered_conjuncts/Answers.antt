@@ -14,5 +14,5 @@ loop-conjunct-preserved c =
     let items : c.push.new.self.items ≡ c.loop-conjunct.numbers.items ++ k ∷ [] = search rules in (
       kept_on c.args.terms.now c.loop-conjunct.terms now c.loop-conjunct.invariant.0 c.in_ok-enter_formula.ensures.kept,
       subst (HasFormulas now c.push.new.self.items) (sym (conjuncts_more c.args.conjuncts.now c.loop-conjunct.conjunct-index c.conjunct-item.result c.loop-conjunct-test.true c.conjunct-item.is))
-      (formulas_put c.loop-conjunct.terms now c.loop-conjunct.numbers.items c.push.new.self.items k _ _ items c.loop-conjunct.invariant.1 c.in_ok-enter_formula.ensures.kept c.in_ok-enter_formula.ensures.id),
+          (formulas_put c.loop-conjunct.terms now c.loop-conjunct.numbers.items c.push.new.self.items k _ _ items c.loop-conjunct.invariant.1 c.in_ok-enter_formula.ensures.kept c.in_ok-enter_formula.ensures.id),
     )

@@ -16,5 +16,5 @@ loop-formula-preserved c =
       kept_on c.args.terms.now c.loop-formula.terms now c.loop-formula.invariant.0 c.in_ok-replace.ensures.kept,
       c.in_ok-replace.ensures.done,
       told_more c.args.terms.now c.loop-formula.terms now (replacement_of c.args.put.now) c.args.formulas.now c.loop-formula.formula-index (record { 0 = 0 }) c.loop-formula.numbers.items c.push.new.self.items k
-      c.loop-formula-test.true c.requires.formulas c.loop-formula.invariant.0 c.in_ok-replace.ensures.kept c.in_ok-replace.ensures.id items c.loop-formula.invariant.2,
+          c.loop-formula-test.true c.requires.formulas c.loop-formula.invariant.0 c.in_ok-replace.ensures.kept c.in_ok-replace.ensures.id items c.loop-formula.invariant.2,
     )

@@ -17,5 +17,5 @@ loop-edge-preserved c =
     let kept = c.in_ok-push_edge.ensures.kept in (
       kept_on c.args.terms.now t1 t2 c.loop-edge.invariant.0 kept,
       subst (Adds c.args.conditions.now.items t2 c.push_edge.new.conditions.items) (sym (mapped_more (edge_conditions D) edge_of c.args.edges.now c.loop-edge.edge-index x c.loop-edge-test.true c.edge-item.is))
-      (adds_on c.args.conditions.now.items c.loop-edge.conditions.items c.push_edge.new.conditions.items t1 t2 _ _ c.loop-edge.invariant.1 kept c.in_ok-push_edge.ensures.list),
+          (adds_on c.args.conditions.now.items c.loop-edge.conditions.items c.push_edge.new.conditions.items t1 t2 _ _ c.loop-edge.invariant.1 kept c.in_ok-push_edge.ensures.list),
     )

@@ -22,8 +22,8 @@ loop-number-preserved c =
     let kept = c.in_ok-push_entry.ensures.kept in (
       kept_on c.args.terms.now t1 t2 c.loop-number.invariant.0 kept,
       subst (Adds c.args.conditions.now.items t2 c.push_entry.new.conditions.items) (sym (places_more (entry_conditions D) operation_of c.operations_of-body-items.result.now c.loop-number.number x c.loop-number-test.true c.body-item.is))
-      (adds_on c.args.conditions.now.items c.loop-number.conditions.items c.push_entry.new.conditions.items t1 t2 _ _ c.loop-number.invariant.1 kept
-      (subst (λ n. Adds c.loop-number.conditions.items t2 c.push_entry.new.conditions.items (entry_conditions D n (operation_of x))) c.in_ok-place.ensures c.in_ok-push_entry.ensures.list)),
+          (adds_on c.args.conditions.now.items c.loop-number.conditions.items c.push_entry.new.conditions.items t1 t2 _ _ c.loop-number.invariant.1 kept
+          (subst (λ n. Adds c.loop-number.conditions.items t2 c.push_entry.new.conditions.items (entry_conditions D n (operation_of x))) c.in_ok-place.ensures c.in_ok-push_entry.ensures.list)),
     )
 
 pub returns-clause-list : goal.returns-clause-list

@@ -15,8 +15,8 @@ loop-number-preserved c =
     let kept = c.in_ok-push_column.ensures.kept in (
       kept_on c.args.terms.now t1 t2 c.loop-number.invariant.0 kept,
       λ hs has. columns_step (λ k goal. condition_made c.args.head (OfColumn k) hs goal) (columns_in c.args.columns.now) (columns_in c.args.action.now) c.loop-number.number c.in_ok-place.place _ _
-      c.args.conditions.now.items c.loop-number.conditions.items c.push_column.new.conditions.items t1 t2 c.in_ok-place.ensures c.in_ok-left.ensures c.in_ok-right.ensures
-      (c.loop-number.invariant.1 hs has) kept (c.in_ok-push_column.ensures.list hs (formulas_later c.args.terms.now t1 c.args.known.now hs has c.loop-number.invariant.0)),
+          c.args.conditions.now.items c.loop-number.conditions.items c.push_column.new.conditions.items t1 t2 c.in_ok-place.ensures c.in_ok-left.ensures c.in_ok-right.ensures
+          (c.loop-number.invariant.1 hs has) kept (c.in_ok-push_column.ensures.list hs (formulas_later c.args.terms.now t1 c.args.known.now hs has c.loop-number.invariant.0)),
     )
 
 pub returns-clause-list : goal.returns-clause-list

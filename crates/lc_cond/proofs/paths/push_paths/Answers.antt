@@ -28,7 +28,7 @@ loop-number-preserved c =
     let kept = c.in_ok-push_path.ensures.kept in (
       kept_on t0 t1 t2 c.loop-number.invariant.0 kept,
       subst (Adds c.args.conditions.now.items t2 c.push_path.new.conditions.items)
-      (sym (places_more (λ j q. path_conditions_in s j hs q) path_of c.args.paths.now i p c.loop-number-test.true c.index-paths-number.is))
-      (adds_on c.args.conditions.now.items c.loop-number.conditions.items c.push_path.new.conditions.items t1 t2 _ _ c.loop-number.invariant.1 kept
-      (subst (λ fs. Adds c.loop-number.conditions.items t2 c.push_path.new.conditions.items (path_conditions_in s i fs (path_of p))) still c.in_ok-push_path.ensures.list)),
+          (sym (places_more (λ j q. path_conditions_in s j hs q) path_of c.args.paths.now i p c.loop-number-test.true c.index-paths-number.is))
+          (adds_on c.args.conditions.now.items c.loop-number.conditions.items c.push_path.new.conditions.items t1 t2 _ _ c.loop-number.invariant.1 kept
+          (subst (λ fs. Adds c.loop-number.conditions.items t2 c.push_path.new.conditions.items (path_conditions_in s i fs (path_of p))) still c.in_ok-push_path.ensures.list)),
     )

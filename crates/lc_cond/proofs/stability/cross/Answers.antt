@@ -38,8 +38,8 @@ returns-clause-crossing c =
     λ hs fs kh fh. record {
       variables = c.in_ok-variables.ensures;
       hypotheses = formulas_listed t3 _ c.in_ok-hypotheses.hypotheses.items _
-      (formulas_joined t3 c.in_ok-clients.clients.items _ _ _ c.in_ok-clients.ensures.list
-      (formulas_joined t3 c.args.known.now _ hs _ (formulas_later t0 t3 c.args.known.now hs kh kept03)
-      (formulas_joined t3 (c.in_ok-guard.guard ∷ []) c.deref-3.result.now _ _ (formula_alone t3 c.in_ok-guard.guard _ guard) behind))) c.in_ok-hypotheses.ensures;
+          (formulas_joined t3 c.in_ok-clients.clients.items _ _ _ c.in_ok-clients.ensures.list
+          (formulas_joined t3 c.args.known.now _ hs _ (formulas_later t0 t3 c.args.known.now hs kh kept03)
+          (formulas_joined t3 (c.in_ok-guard.guard ∷ []) c.deref-3.result.now _ _ (formula_alone t3 c.in_ok-guard.guard _ guard) behind))) c.in_ok-hypotheses.ensures;
       goals = formulas_later t1 t3 c.in_ok-behind.goals.items _ (subst (λ gs. HasFormulas t1 c.in_ok-behind.goals.items (map (λ f. stable_goal n f a) gs)) fh.trees goals1) kept13;
     }

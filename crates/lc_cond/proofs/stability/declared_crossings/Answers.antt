@@ -29,9 +29,9 @@ loop-action-preserved c =
     let kept = c.loop-action.invariant.0 in (
       kept_on t0 t1 t2 kept c.in_ok-next.ensures.kept,
       λ hs fs kh fh. subst (λ l. AreCrossings t2 D c.args.client hs fs l c.push.new.self.items) (sym (seen_more action_of c.actions_of-action-items.result.now i a c.loop-action-test.true c.action-item.is))
-      (crossings_put t1 t2 D c.args.client hs fs (map action_of (take i c.actions_of-action-items.result.now)) c.loop-action.crossings.items c.push.new.self.items (action_of a) c.in_ok-next.next items
-      (c.loop-action.invariant.1 hs fs kh fh) c.in_ok-next.ensures.kept
-      (c.in_ok-next.ensures.crossing hs fs (formulas_later t0 t1 c.args.known.now hs kh kept) (formulas_later t0 t1 c.args.asserts.now fs fh kept))),
+          (crossings_put t1 t2 D c.args.client hs fs (map action_of (take i c.actions_of-action-items.result.now)) c.loop-action.crossings.items c.push.new.self.items (action_of a) c.in_ok-next.next items
+          (c.loop-action.invariant.1 hs fs kh fh) c.in_ok-next.ensures.kept
+          (c.in_ok-next.ensures.crossing hs fs (formulas_later t0 t1 c.args.known.now hs kh kept) (formulas_later t0 t1 c.args.asserts.now fs fh kept))),
     )
 
 pub returns-clause-crossings : goal.returns-clause-crossings
