@@ -10,3 +10,4 @@ pub mod Columned
 pub mod Counted
 pub mod Entered
 pub mod Crossed
+pub mod Names

@@ -12,6 +12,7 @@ mod list;
 mod lookup;
 mod making;
 mod matching;
+mod naming;
 mod paths;
 mod scene;
 mod stability;
