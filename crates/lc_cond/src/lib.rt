@@ -18,7 +18,9 @@ mod scene;
 mod stability;
 mod start;
 mod telling;
+mod text;
 mod variables;
 
 pub use condition::{Condition, Kind, Passage, Place, Which};
 pub use list::conditions;
+pub use text::condition_text;
