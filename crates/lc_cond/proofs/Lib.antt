@@ -11,3 +11,4 @@ pub mod Counted
 pub mod Entered
 pub mod Crossed
 pub mod Names
+pub mod Lines
