@@ -1,0 +1,13 @@
+pub mod Known
+pub mod Scopes
+pub mod Heads
+pub mod Columns
+pub mod Conjuncts
+pub mod Updates
+pub mod Actions
+pub mod Riders
+pub mod Paths
+pub mod Edges
+pub mod Ons
+pub mod KnownView
+pub mod Seen

@@ -1,0 +1,14 @@
+ghost use Rattle.std.specs.Prelude.{◌+◌, ◌≤◌, ◌^◌, length};
+ghost use Rattle.lc_reading.specs.TableView.{listed};
+
+use lc_reading::NameTable;
+
+/// The columns that a file declares, behind which the system columns stand.
+#[derive(Clone, Copy)]
+pub struct Columns<'a, 'b> {
+    /// Abstract, then concrete, then auxiliary.
+    pub(crate) names: &'b NameTable<'a>,
+    /// The place of the first column that is auxiliary.
+    pub(crate) auxiliaries: u32,
+    ghost few: { length (listed names.now) + 12 ≤ 2 ^ 32 },
+}

@@ -1,0 +1,10 @@
+/// The edges at which an `on` may stand.
+#[derive(Clone, Copy, Debug, PartialEq, Eq)]
+pub struct Edges {
+    /// The one edge of an instruction that has one, `next`.
+    pub next: bool,
+    /// The edge `then`.
+    pub holds: bool,
+    /// The edge `else`.
+    pub fails: bool,
+}

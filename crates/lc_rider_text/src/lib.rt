@@ -1,0 +1,33 @@
+//! The text of what stands beside the code of an object: auxiliary columns, actions, conjuncts of the invariant, and what is
+//! done at the edges of instructions. Each is read in one walk, as a value or its first flaw.
+#![tactic(auto)]
+
+mod action;
+mod auxiliary;
+mod columns;
+mod conjunct;
+mod deed;
+mod edge_words;
+mod edges;
+mod known;
+mod on;
+mod parameters;
+mod paths;
+mod rider;
+mod scope;
+mod update;
+mod variables;
+mod words;
+
+pub use action::Actions;
+pub use auxiliary::AuxiliaryColumns;
+pub use columns::Columns;
+pub use conjunct::Conjuncts;
+pub use edge_words::{edge_in, edge_of};
+pub use edges::Edges;
+pub use known::Known;
+pub use on::{read_on, read_ons};
+pub use paths::{path_count, rider_ways};
+pub use rider::{read_rider, read_riders};
+pub use scope::{Beside, Quiet};
+pub use variables::Variables;

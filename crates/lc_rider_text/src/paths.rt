@@ -1,0 +1,113 @@
+ghost use Rattle.std.specs.Prelude.{◌≡◌, min};
+ghost use Rattle.lc_sexp.specs.Shown.{rest_of};
+ghost use Rattle.lc_reading.specs.Parts.{tree_of};
+ghost use Rattle.lc_rider_text.specs.Known as K;
+ghost use Rattle.lc_rider_text.specs.KnownView.{known_seen};
+ghost use Rattle.lc_rider_text.specs.Paths.{or_one, other_ways, ways_with, deed_ways, when_ways, rider_ways, path_count};
+
+use crate::known::Known;
+use crate::words::{Head, head_of};
+use lc_reading::{Part, headed, next_part, two};
+use lc_sexp::{Cursor, Item};
+
+/// So many paths are not told apart from more.
+const COUNT_CAP: u64 = 65;
+
+/// This count, or the cap if it is beyond.
+fn capped(count: u64) -> u64
+    ensures { result ≡ min 65 count }
+{
+    if count < COUNT_CAP { count } else { COUNT_CAP }
+}
+
+/// How many branches the operation at this place has, or one where none is known; up to the cap.
+fn branches_at(known: Known<'_, '_>, place: Option<u32>) -> u64
+    ensures { result ≡ min 65 (or_one (K.count_at (known_seen known.entry).branches place)) }
+{
+    let Some(place) = place else {
+        return 1;
+    };
+    match known.branches.get(place as usize) {
+        Some(count) => capped(*count),
+        None => 1,
+    }
+}
+
+/// `T OP`: in how many ways the call of another client is settled, up to the cap.
+fn other_ways(known: Known<'_, '_>, list: Cursor<'_>) -> u64
+    ensures { result ≡ min 65 (other_ways (known_seen known.entry) (rest_of list.entry)) }
+{
+    let Ok((_, operation, _)) = two(list) else {
+        return 1;
+    };
+    match operation.item() {
+        Item::Atom(atom) => branches_at(known, known.operations.place(atom.text())),
+        Item::List(_) => 1,
+    }
+}
+
+/// In how many ways a list's other parts are done, if it begins so, in the body of an operation that has so many branches; up
+/// to the cap.
+fn ways_with(known: Known<'_, '_>, own: u64, head: Option<Head>, list: Cursor<'_>) -> u64
+    ensures { result ≡ min 65 (ways_with (known_seen known.entry) own (rest_of list.entry) head) }
+{
+    match head {
+        None | Some(Head::Set) => 1,
+        Some(Head::Lin | Head::Note) => capped(own),
+        Some(Head::LinOther) => other_ways(known, list),
+    }
+}
+
+/// The same of an item that is no `when`.
+fn deed_ways(known: Known<'_, '_>, own: u64, part: Part<'_>) -> u64
+    ensures { result ≡ min 65 (deed_ways (known_seen known.entry) own (tree_of part.entry)) }
+{
+    let list = match part.item() {
+        Item::Atom(_) => return 1,
+        Item::List(list) => list,
+    };
+    match headed(list) {
+        Ok((word, parts)) => ways_with(known, own, head_of(word), parts),
+        Err(_) => 1,
+    }
+}
+
+/// `F RIDER`: one way more; up to the cap.
+fn when_ways(known: Known<'_, '_>, own: u64, list: Cursor<'_>) -> u64
+    ensures { result ≡ min 65 (when_ways (known_seen known.entry) own (rest_of list.entry)) }
+{
+    match two(list) {
+        Ok((_, rider, _)) => capped(1 + deed_ways(known, own, rider)),
+        Err(_) => 1,
+    }
+}
+
+/// In how many ways a rider is passed, in the body of an operation that has so many branches; 65 where there are more than 64.
+pub fn rider_ways(known: Known<'_, '_>, own: u64, part: Part<'_>) -> u64
+    ensures { result ≡ min 65 (rider_ways (known_seen known.entry) own (tree_of part.entry)) }
+{
+    let list = match part.item() {
+        Item::Atom(_) => return 1,
+        Item::List(list) => list,
+    };
+    match headed(list) {
+        Ok((word, parts)) if word == "when" => when_ways(known, own, parts),
+        Ok((word, parts)) => ways_with(known, own, head_of(word), parts),
+        Err(_) => 1,
+    }
+}
+
+/// How many paths the riders make that are left in a list, in the body of an operation that has so many branches; 65 where
+/// there are more than 64.
+pub fn path_count(known: Known<'_, '_>, own: u64, list: Cursor<'_>) -> u64
+    ensures { result ≡ min 65 (path_count (known_seen known.entry) own (rest_of list.entry)) }
+{
+    let mut rest = list;
+    let mut count = 1;
+    'riders: loop {
+        let Ok(part) = next_part(&mut rest) else {
+            return count;
+        };
+        count = capped(count * rider_ways(known, own, part));
+    }
+}
