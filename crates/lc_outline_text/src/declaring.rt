@@ -1,11 +1,10 @@
 //! How what a file declares is found.
-ghost use Rattle.std.specs.Prelude.{◌≡◌, Some, None, map, slice_get, IfOk};
+ghost use Rattle.std.specs.Prelude.{◌≡◌, map, IfOk};
 ghost use Rattle.lc_sexp.specs.Shown.{rest_of};
 ghost use Rattle.lc_object_text.specs.ObjectNames as N;
 ghost use Rattle.lc_object_text.specs.Seen.{sections_seen, forms_left};
 ghost use Rattle.lc_reading.specs.TableView.{listed};
-ghost use Rattle.lc_rider_text.specs.KnownView.{known_seen};
-ghost use Rattle.lc_outline_text.specs.Declarations.{branches_in, branch_count, parameter_count, declarations_in, form_at, known_of};
+ghost use Rattle.lc_outline_text.specs.Declarations.{branches_in, branch_count, parameter_count, declarations_in, form_at};
 ghost use Rattle.lc_outline_text.specs.DeclarationsView.{rests_of, declarations_seen};
 
 use crate::declarations::Declarations;

@@ -10,7 +10,7 @@ mod edges;
 mod file;
 mod formulas;
 mod instruction;
-mod laws;
+pub mod laws;
 mod made;
 mod needs;
 mod paths;

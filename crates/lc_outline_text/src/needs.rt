@@ -1,10 +1,13 @@
 //! The edges of instructions, and which of them need an `on`.
-ghost use Rattle.std.specs.Prelude.{◌≡◌, codes};
+ghost use Rattle.std.specs.Prelude.{◌≡◌, ◌&&◌, not, codes};
+ghost use Rattle.std.specs.List.{list_any};
 ghost use Rattle.lc_sexp.specs.Shown.{rest_of};
 ghost use Rattle.lc_object_text.specs.ObjectNames.{text_in};
 ghost use Rattle.lc_object_text.specs.Sections.{forms_in};
 ghost use Rattle.lc_reading.specs.Parts.{tree_of};
+ghost use Rattle.lc_reading.specs.Reserved.{is_action_name};
 ghost use Rattle.lc_reading.specs.TableView.{listed};
+ghost use Rattle.lc_reading.specs.Words.{is};
 ghost use Rattle.lc_outline_text.specs.Needs.{code_word, goes_next, branches_off, edges_of, stores, edge_word, rides, acts, lacks_at, lacks_on};
 
 use lc_object::EdgeKind;
