@@ -6,4 +6,4 @@ pub mod Tables
 pub mod Sizes
 pub mod Developments
 pub mod DeclarationsView
-pub mod Seen
+pub mod Views

@@ -4,7 +4,7 @@ ghost use Rattle.lc_reading.specs.Parts.{tree_of, place_of};
 ghost use Rattle.lc_reading.specs.Results.{IsReading};
 ghost use Rattle.lc_outline_text.specs.Bodies.{ith_reading, bodies_reading};
 ghost use Rattle.lc_outline_text.specs.DeclarationsView.{declarations_seen};
-ghost use Rattle.lc_outline_text.specs.Seen.{body_outlined};
+ghost use Rattle.lc_outline_text.specs.Views.{body_outlined};
 
 use crate::declarations::Declarations;
 use crate::point::Outlines;
@@ -61,7 +61,7 @@ impl ReadsPlaced for Bodies<'_, '_> {
     ghost use Rattle.lc_object_text.specs.Points as P;
     ghost use Rattle.lc_outline_text.specs.Bodies.{ith_reading};
     ghost use Rattle.lc_outline_text.specs.DeclarationsView.{declarations_seen};
-    ghost use Rattle.lc_outline_text.specs.Seen.{body_outlined};
+    ghost use Rattle.lc_outline_text.specs.Views.{body_outlined};
 
     type Value = BodyText<(Point, Outline)>;
 

@@ -5,13 +5,13 @@ ghost use Rattle.lc_object_text.specs.DeclaredView.{body_seen};
 ghost use Rattle.lc_object_text.specs.ObjectNames.{points_in};
 ghost use Rattle.lc_object_text.specs.Seen.{sections_seen};
 ghost use Rattle.lc_outline_text.specs.DeclarationsView.{declarations_seen};
-ghost use Rattle.lc_outline_text.specs.Seen.{capped, totals_seen};
+ghost use Rattle.lc_outline_text.specs.Views.{capped, totals_seen};
 ghost use Rattle.lc_outline_text.specs.Sizes.{assert_count, point_conditions, body_conditions, bodies_conditions, totals_of, condition_count};
 
 use crate::declarations::Declarations;
-use crate::edges::{assert_count, point_conditions};
+use crate::edge_counts::{assert_count, point_conditions};
 use crate::instruction::{Totals, count_at};
-use crate::paths::{capped, capped_sum, sum_of};
+use crate::path_counts::{capped, capped_sum, sum_of};
 use lc_base::OutOfMemory;
 use lc_object_text::{Body, Sections, behind_first, items_in_first, next_form};
 use lc_sexp::Cursor;

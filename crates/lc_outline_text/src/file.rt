@@ -13,7 +13,7 @@ ghost use Rattle.lc_tie.specs.TieView.{numbers_in};
 ghost use Rattle.lc_outline_text.specs.Declarations.{declarations_of};
 ghost use Rattle.lc_outline_text.specs.DeclarationsView.{declarations_seen};
 ghost use Rattle.lc_outline_text.specs.Developments.{specification_reading, object_reading, second_form_reading, forms_reading, file_reading};
-ghost use Rattle.lc_outline_text.specs.Seen.{specifications_shown, object_seen, IsFileRead, is_told_before_limits};
+ghost use Rattle.lc_outline_text.specs.Views.{specifications_shown, object_seen, IsFileRead, is_told_before_limits};
 
 use crate::bodies::read_bodies;
 use crate::conditions::condition_count;

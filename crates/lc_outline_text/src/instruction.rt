@@ -5,12 +5,12 @@ ghost use Rattle.lc_object.specs.View.{columns_of};
 ghost use Rattle.lc_object.specs.WellFormed.{numbers_from};
 ghost use Rattle.lc_object_text.specs.DeclaredView.{declared_seen, body_seen};
 ghost use Rattle.lc_object_text.specs.ObjectNames as N;
-ghost use Rattle.lc_outline_text.specs.Seen.{totals_seen};
+ghost use Rattle.lc_outline_text.specs.Views.{totals_seen};
 ghost use Rattle.lc_outline_text.specs.Sizes.{text_at, label_place, count_at, array_columns, columns_written, asked_behind};
 
 use crate::columns_stored::system_behind;
 use crate::needs::stores;
-use crate::paths::sum_of;
+use crate::path_counts::sum_of;
 use lc_base::{ColId, OutOfMemory};
 use lc_object::EdgeKind;
 use lc_object_text::{Body, Declared, Span, behind_first, first_text};

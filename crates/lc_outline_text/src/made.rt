@@ -8,7 +8,7 @@ ghost use Rattle.lc_seq.specs.SpecView.{column_of};
 ghost use Rattle.lc_outline.specs.PartsView.{outline_of, parts_shown};
 ghost use Rattle.lc_tie.specs.TieView.{numbers_in};
 ghost use Rattle.lc_outline_text.specs.Developments.{code_of, outlines_of, development_of};
-ghost use Rattle.lc_outline_text.specs.Seen.{outlined_of, bodies_outlined, specifications_shown, object_seen, declared_numbers};
+ghost use Rattle.lc_outline_text.specs.Views.{outlined_of, bodies_outlined, specifications_shown, object_seen, declared_numbers};
 
 use crate::sides::Sides;
 use lc_base::OutOfMemory;
@@ -94,12 +94,7 @@ pub(crate) fn made_development(
     let ((tables, sides), bodies) = object;
     let (code, outlines) = code_and_outlines(alloc, bodies)?;
     let object = Object::of_parts(made_parts(alloc, text, (tables, code))?);
-    let Sides {
-        auxiliaries,
-        actions,
-        conjuncts,
-        idle,
-    } = sides;
+    let (auxiliaries, actions, conjuncts, idle) = sides.into_parts();
     let initial = start_numbers(
         alloc,
         specification.columns(),

@@ -54,7 +54,7 @@ impl ReadsBeside for Outlines<'_, '_> {
     ghost use Rattle.lc_outline.specs.Development as D;
     ghost use Rattle.lc_rider_text.specs.KnownView.{known_seen, names_beside};
     ghost use Rattle.lc_outline_text.specs.Points.{beside};
-    ghost use Rattle.lc_outline_text.specs.Seen.{outlined_of};
+    ghost use Rattle.lc_outline_text.specs.Views.{outlined_of};
 
     type Value = (Point, Outline);
 

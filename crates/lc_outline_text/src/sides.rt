@@ -10,7 +10,7 @@ ghost use Rattle.lc_reading.specs.Results.{IsReading};
 ghost use Rattle.lc_outline_text.specs.DeclarationsView.{declarations_seen};
 ghost use Rattle.lc_rider_text.specs.Scopes.{beside_names};
 ghost use Rattle.lc_outline_text.specs.Points.{formulas_in_reading};
-ghost use Rattle.lc_outline_text.specs.Seen.{actions_shown, conditions_shown, sides_shown};
+ghost use Rattle.lc_outline_text.specs.Views.{actions_shown, conditions_shown, sides_shown};
 ghost use Rattle.lc_outline_text.specs.Tables.{auxiliaries_reading, actions_reading, invariant_reading, conditions_reading, sides_reading};
 
 use crate::declarations::Declarations;
@@ -44,6 +44,23 @@ impl Drop for Sides {
             conjuncts: _,
             idle: _,
         } = self;
+    }
+}
+
+impl Sides {
+    ghost use Rattle.std.specs.Prelude.{◌≡◌};
+
+    /// The auxiliary columns, the actions, the conjuncts, and what holds of idle clients.
+    pub(crate) fn into_parts(self) -> (Vec<Column>, Vec<Action>, Vec<Conjunct>, Vec<Formula>)
+        ensures { result ≡ (self.auxiliaries, self.actions, self.conjuncts, self.idle) }
+    {
+        let Sides {
+            auxiliaries,
+            actions,
+            conjuncts,
+            idle,
+        } = self;
+        (auxiliaries, actions, conjuncts, idle)
     }
 }
 

@@ -4,7 +4,7 @@ ghost use Rattle.lc_sexp.specs.Shown.{rest_of};
 ghost use Rattle.lc_object_text.specs.DeclaredView.{declared_seen};
 ghost use Rattle.lc_reading.specs.TableView.{listed};
 ghost use Rattle.lc_outline_text.specs.DeclarationsView.{declarations_seen};
-ghost use Rattle.lc_outline_text.specs.Seen.{ways_seen, way_lists};
+ghost use Rattle.lc_outline_text.specs.Views.{ways_seen, way_lists};
 ghost use Rattle.lc_outline_text.specs.Sizes.{column_named, columns_settled, columns_noted, mark_ways, ways_with, deed_ways, rider_ways, all_ways};
 
 use crate::columns_stored::{columns_noted, columns_settled, push_column};

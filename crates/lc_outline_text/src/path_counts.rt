@@ -1,7 +1,7 @@
 //! The conditions of the paths of an edge, counted up to a cap.
 ghost use Rattle.std.specs.Prelude.{◌≡◌, ◌+◌, ◌++◌, Some, IfOk};
 ghost use Rattle.lc_object.specs.View.{columns_of};
-ghost use Rattle.lc_outline_text.specs.Seen.{capped, way_lists};
+ghost use Rattle.lc_outline_text.specs.Views.{capped, way_lists};
 ghost use Rattle.lc_outline_text.specs.Sizes.{different, instance_count, path_conditions};
 
 use crate::ways::Way;

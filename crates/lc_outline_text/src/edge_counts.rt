@@ -5,7 +5,7 @@ ghost use Rattle.lc_object.specs.View.{columns_of};
 ghost use Rattle.lc_object_text.specs.DeclaredView.{body_seen};
 ghost use Rattle.lc_object_text.specs.Sections.{forms_in};
 ghost use Rattle.lc_outline_text.specs.DeclarationsView.{declarations_seen};
-ghost use Rattle.lc_outline_text.specs.Seen.{capped, totals_seen, rest_found};
+ghost use Rattle.lc_outline_text.specs.Views.{capped, totals_seen, rest_found};
 ghost use Rattle.lc_outline_text.specs.Sizes.{on_of, columns_acted, edge_conditions, kind_conditions, point_conditions, assert_count};
 
 use crate::columns_stored::push_stored;
@@ -13,7 +13,7 @@ use crate::declarations::Declarations;
 use crate::declaring::form_at;
 use crate::instruction::{Totals, asked_behind, columns_written};
 use crate::needs::{branches_off, edge_word, goes_next};
-use crate::paths::{capped, capped_sum, path_conditions};
+use crate::path_counts::{capped, capped_sum, path_conditions};
 use crate::ways::all_ways;
 use lc_base::{ColId, OutOfMemory};
 use lc_object::EdgeKind;
