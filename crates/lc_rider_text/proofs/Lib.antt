@@ -1,1 +1,4 @@
+pub mod Below
+pub mod Capped
 pub mod Ground
+pub mod Parts

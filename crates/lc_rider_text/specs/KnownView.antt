@@ -1,11 +1,10 @@
 -- What clauses see of the names that a file declares.
-use Rattle.std.specs.Prelude.{ℕ, List, Option, Some, None}
-use Rattle.std.specs.Borrow.{Bor}
+use Rattle.std.specs.Prelude.{ℕ, List, Option}
 use Rattle.lc_reading.specs.TableView.{listed}
-use Rattle.lc_reading.specs.declared.table.NameTable.{NameTable}
 use Rattle.lc_text.specs.Names.{Names}
 use Rattle.lc_rider_text.specs.Known as K
 use Rattle.lc_rider_text.specs.Scopes.{beside_names}
+use Rattle.lc_rider_text.specs.Tables.{listed_there}
 use Rattle.lc_rider_text.specs.declared.columns.Columns.{Columns}
 use Rattle.lc_rider_text.specs.declared.variables.Variables.{Variables}
 use Rattle.lc_rider_text.specs.declared.known.Known.{Known}
@@ -14,10 +13,6 @@ use Rattle.lc_rider_text.specs.declared.scope.Beside.{Beside}
 -- the columns that are declared
 abbrev pub columns_listed : Columns → List (List ℕ)
 columns_listed columns = listed columns.names.now
-
-abbrev pub listed_there : Option (Bor NameTable) → Option (List (List ℕ))
-listed_there None = None
-listed_there (Some table) = Some (listed table.now)
 
 -- the variables behind the client, if there is one
 abbrev pub others_listed : Variables → Option (List (List ℕ))

@@ -9,5 +9,6 @@ pub mod Riders
 pub mod Paths
 pub mod Edges
 pub mod Ons
+pub mod Tables
 pub mod KnownView
 pub mod Seen

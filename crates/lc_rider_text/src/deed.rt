@@ -1,4 +1,5 @@
 use lc_base::OpId;
+use lc_rider::{Rider, When};
 use lc_term::{Term, Update};
 
 /// What a rider does.
@@ -18,6 +19,28 @@ impl Drop for Deed {
     fn drop(self) {
         match self {
             Deed::Assign(_) | Deed::LinSelf | Deed::LinOther(_, _) | Deed::Note => {}
+        }
+    }
+}
+
+impl Deed {
+    ghost use Rattle.std.specs.Prelude.{◌≡◌, option_map};
+    ghost use Rattle.lc_rider.specs.RiderView.{formula_in, rider_of};
+    ghost use Rattle.lc_rider_text.specs.Seen.{deed_of};
+
+    /// The rider that does this under a condition, or always.
+    pub(crate) fn under(self, condition: Option<When>) -> Rider
+        ensures { rider_of result ≡ record { condition = option_map formula_in condition; deed = deed_of self } }
+    {
+        match self {
+            Deed::Assign(update) => Rider::Assign { condition, update },
+            Deed::LinSelf => Rider::LinSelf { condition },
+            Deed::LinOther(client, operation) => Rider::LinOther {
+                condition,
+                client,
+                operation,
+            },
+            Deed::Note => Rider::Note { condition },
         }
     }
 }

@@ -1,4 +1,4 @@
-ghost use Rattle.std.specs.Prelude.{◌≡◌, ℕ, [], option_map};
+ghost use Rattle.std.specs.Prelude.{ℕ, []};
 ghost use Rattle.lc_sexp.specs.Shown.{rest_of, number_of, owner_of};
 ghost use Rattle.lc_reading.specs.Naming.{use_reading};
 ghost use Rattle.lc_reading.specs.Parts.{tree_of, place_of};
@@ -135,27 +135,11 @@ fn read_when<S: Scope>(
     ended(both(condition, deed), rest)
 }
 
-/// The rider that does this under a condition, or always.
-fn rider(condition: Option<When>, deed: Deed) -> Rider
-    ensures { rider_of result ≡ record { condition = option_map formula_in condition; deed = deed_of deed } }
-{
-    match deed {
-        Deed::Assign(update) => Rider::Assign { condition, update },
-        Deed::LinSelf => Rider::LinSelf { condition },
-        Deed::LinOther(client, operation) => Rider::LinOther {
-            condition,
-            client,
-            operation,
-        },
-        Deed::Note => Rider::Note { condition },
-    }
-}
-
 /// A rider without a condition.
 fn made_rider(deed: Result<Deed, ReadFault>) -> Result<Rider, ReadFault>
     ensures { (r : Reading R.Deed) → IsReading deed_of r deed → IsReading rider_of (mapped always r) result }
 {
-    Ok(rider(None, deed?))
+    Ok(deed?.under(None))
 }
 
 /// A rider with a condition.
@@ -163,7 +147,7 @@ fn made_when(parts: Result<(When, Deed), ReadFault>) -> Result<Rider, ReadFault>
     ensures { (r : Reading (T.Formula × R.Deed)) → IsReading when_parts r parts → IsReading rider_of (mapped where_holds r) result }
 {
     let (condition, deed) = parts?;
-    Ok(rider(Some(condition), deed))
+    Ok(deed.under(Some(condition)))
 }
 
 /// The rider that an item reads as.

@@ -1,4 +1,4 @@
-ghost use Rattle.std.specs.Prelude.{◌≡◌, ◌∷◌, [], codes};
+ghost use Rattle.std.specs.Prelude.{◌≡◌, ◌<◌, ◌∷◌, [], codes, IfSome};
 ghost use Rattle.lc_reading.specs.Listed.{place_of};
 ghost use Rattle.lc_reading.specs.TableView.{listed};
 ghost use Rattle.lc_rider_text.specs.KnownView.{columns_listed};
@@ -15,7 +15,8 @@ const SYSTEM_COUNT: u32 = 12;
 
 /// The place of a system column among these.
 fn system_place(name: &str) -> Option<u32>
-    ensures { result ≡ system_place name.now }
+    ensures place { result ≡ system_place name.now }
+    ensures below { IfSome result (λ k. k < 12) }
 {
     match name {
         "pend" => Some(0),

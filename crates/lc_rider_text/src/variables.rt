@@ -1,5 +1,5 @@
-ghost use Rattle.std.specs.Prelude.{◌+◌, ◌≤◌, ◌^◌, length, IfSome};
-ghost use Rattle.lc_reading.specs.TableView.{listed};
+ghost use Rattle.std.specs.Prelude.{◌+◌, ◌≤◌, ◌^◌};
+ghost use Rattle.lc_rider_text.specs.Tables.{count_there};
 
 use lc_reading::NameTable;
 
@@ -8,5 +8,5 @@ use lc_reading::NameTable;
 #[derive(Clone, Copy)]
 pub struct Variables<'a, 'b> {
     pub(crate) others: Option<&'b NameTable<'a>>,
-    ghost few: { IfSome others (λ table. length (listed table.now) + 2 ≤ 2 ^ 32) },
+    ghost few: { count_there others + 2 ≤ 2 ^ 32 },
 }
