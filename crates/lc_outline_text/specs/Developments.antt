@@ -15,7 +15,7 @@ use Rattle.lc_outline.specs.Development.{Outline, Development}
 use Rattle.lc_outline_text.specs.Bodies.{bodies_reading}
 use Rattle.lc_outline_text.specs.Declarations.{Declarations, declarations_of}
 use Rattle.lc_outline_text.specs.Sizes.{condition_count}
-use Rattle.lc_outline_text.specs.Tables.{Sides, sides_reading}
+use Rattle.lc_outline_text.specs.Sides.{Sides, sides_reading}
 
 -- the specification, and as much of it as the object's code sees. Its branches see the abstract columns alone, and the others
 -- of the file may not be stored in

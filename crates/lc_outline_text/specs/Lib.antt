@@ -2,7 +2,7 @@ pub mod Declarations
 pub mod Needs
 pub mod Points
 pub mod Bodies
-pub mod Tables
+pub mod Sides
 pub mod Sizes
 pub mod Developments
 pub mod DeclarationsView

@@ -41,7 +41,7 @@ use Rattle.lc_reading.specs.declared.pass.Pass.TheVariants.{Bound}
 use Rattle.lc_outline_text.specs.Developments as S
 use Rattle.lc_outline_text.specs.Developments.{file_reading}
 use Rattle.lc_outline_text.specs.Sizes as Z
-use Rattle.lc_outline_text.specs.Tables as B
+use Rattle.lc_outline_text.specs.Sides as B
 use Rattle.lc_outline_text.specs.declared.instruction.Totals.{Totals}
 use Rattle.lc_outline_text.specs.declared.sides.Sides.{Sides}
 use Rattle.lc_outline_text.specs.declared.ways.Way.{Way}

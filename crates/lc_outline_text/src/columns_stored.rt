@@ -7,10 +7,11 @@ ghost use Rattle.lc_reading.specs.TableView.{listed};
 ghost use Rattle.lc_rider_text.specs.Scopes.{column_place};
 ghost use Rattle.lc_outline_text.specs.Sizes.{column_named, columns_stored, columns_settled, columns_noted};
 
+use crate::needs::code_word;
 use lc_action::SystemColumns;
 use lc_base::{ColId, OutOfMemory};
-use lc_object_text::{behind_first, first_text, within_first};
-use lc_reading::NameTable;
+use lc_object_text::{behind_first, within_first};
+use lc_reading::{NameTable, next_part};
 use lc_rider_text::{Beside, Columns, Variables};
 use lc_sexp::Cursor;
 use lc_text::{ColumnUse, Scope};
@@ -65,11 +66,10 @@ pub(crate) fn push_stored(
     let mut all = stored;
     let mut rest = list;
     'updates: loop {
-        let name = first_text(&within_first(rest));
-        let Ok(_) = rest.item() else {
+        let Ok(update) = next_part(&mut rest) else {
             return Ok(all);
         };
-        all = push_column(columns, name, all)?;
+        all = push_column(columns, code_word(update), all)?;
     }
 }
 
@@ -81,9 +81,11 @@ fn push_first(
 ) -> Result<Vec<ColId>, OutOfMemory>
     ensures { IfOk result (λ all. columns_of all.items ≡ columns_of stored.items ++ take count (columns_of row.now)) }
 {
-    for column in row.iter().take(count) {
-        stored.push(*column)?;
+    if row.len() <= count {
+        stored.extend_from_slice(row)?;
+        return Ok(stored);
     }
+    stored.extend_from_slice(&row[..count])?;
     Ok(stored)
 }
 

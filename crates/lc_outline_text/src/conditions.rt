@@ -11,9 +11,11 @@ ghost use Rattle.lc_outline_text.specs.Sizes.{assert_count, point_conditions, bo
 use crate::declarations::Declarations;
 use crate::edge_counts::{assert_count, point_conditions};
 use crate::instruction::{Totals, count_at};
+use crate::needs::parts_in;
 use crate::path_counts::{capped, capped_sum, sum_of};
 use lc_base::OutOfMemory;
 use lc_object_text::{Body, Sections, behind_first, items_in_first, next_form};
+use lc_reading::next_part;
 use lc_sexp::Cursor;
 use std::alloc::Global;
 
@@ -107,10 +109,10 @@ fn bodies_conditions(
     let mut operation = 0u32;
     let mut count = 0;
     for body in &declarations.declared.bodies {
-        let parts = items_in_first(rest, "body");
-        let Ok(_) = rest.item() else {
+        let Ok(part) = next_part(&mut rest) else {
             return Ok(count);
         };
+        let parts = parts_in(part, "body");
         let more = body_conditions(alloc, declarations, totals, operation, body, parts)?;
         count = capped_sum(count, more);
         if operation == u32::MAX {

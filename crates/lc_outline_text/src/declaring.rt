@@ -101,10 +101,10 @@ pub(crate) fn form_at<'a>(forms: &[Cursor<'a>], place: Option<u32>) -> Cursor<'a
     let Some(place) = place else {
         return Cursor::empty();
     };
-    match forms.get(place as usize) {
-        Some(form) => *form,
-        None => Cursor::empty(),
-    }
+    let Some(form) = forms.get(place as usize) else {
+        return Cursor::empty();
+    };
+    *form
 }
 
 impl<'a> Declarations<'a> {

@@ -2,8 +2,8 @@
 ghost use Rattle.std.specs.Prelude.{◌≡◌, ◌&&◌, not, codes};
 ghost use Rattle.std.specs.List.{list_any};
 ghost use Rattle.lc_sexp.specs.Shown.{rest_of};
-ghost use Rattle.lc_object_text.specs.ObjectNames.{text_in};
-ghost use Rattle.lc_object_text.specs.Sections.{forms_in};
+ghost use Rattle.lc_object_text.specs.ObjectNames.{text_in, items_within};
+ghost use Rattle.lc_object_text.specs.Sections.{forms_in, parts_in};
 ghost use Rattle.lc_reading.specs.Parts.{tree_of};
 ghost use Rattle.lc_reading.specs.Reserved.{is_action_name};
 ghost use Rattle.lc_reading.specs.TableView.{listed};
@@ -12,7 +12,7 @@ ghost use Rattle.lc_outline_text.specs.Needs.{code_word, goes_next, branches_off
 
 use lc_object::EdgeKind;
 use lc_object_text::{first_text, next_form};
-use lc_reading::{NameTable, Part, three, two};
+use lc_reading::{NameTable, Part, behind_word, three, two};
 use lc_rider_text::Edges;
 use lc_sexp::{Cursor, Item};
 
@@ -26,14 +26,31 @@ pub(crate) fn text_of<'a>(part: Part<'a>) -> &'a str
     }
 }
 
+/// The items of a part that is a list; of an atom none.
+pub(crate) fn items_within<'a>(part: Part<'a>) -> Cursor<'a>
+    ensures { rest_of result ≡ items_within (tree_of part.entry) }
+{
+    let Item::List(list) = part.item() else {
+        return Cursor::empty();
+    };
+    list
+}
+
+/// What stands behind the word in a part that is a list which begins with this word; else nothing.
+pub(crate) fn parts_in<'a>(part: Part<'a>, word: &str) -> Cursor<'a>
+    ensures { rest_of result ≡ parts_in word.now (tree_of part.entry) }
+{
+    let Ok(parts) = behind_word(part, word) else {
+        return Cursor::empty();
+    };
+    parts
+}
+
 /// The word of an instruction; no text where it has none.
 pub(crate) fn code_word<'a>(part: Part<'a>) -> &'a str
     ensures { result.now ≡ code_word (tree_of part.entry) }
 {
-    match part.item() {
-        Item::Atom(_) => "",
-        Item::List(list) => first_text(&list),
-    }
+    first_text(&items_within(part))
 }
 
 /// Whether an instruction of this word has one edge.
@@ -94,11 +111,19 @@ fn rides(word: &str, parts: Cursor<'_>) -> bool
     }
 }
 
+/// Whether an action of this name is built in.
+#[tactic(auto, unfolding(lc_reading::specs::Reserved::is_action_name))]
+fn is_built_in(name: &str) -> bool
+    ensures { result ≡ is_action_name name.now }
+{
+    matches!(name, "skip" | "enter" | "leave")
+}
+
 /// Whether this is the name of one of these actions, and none that is built in.
 fn is_declared(actions: &NameTable<'_>, name: &str) -> bool
     ensures { result ≡ (list_any (is name.now) (listed actions.now) && not (is_action_name name.now)) }
 {
-    actions.contains(name) && !matches!(name, "skip" | "enter" | "leave")
+    actions.contains(name) && !is_built_in(name)
 }
 
 /// Whether `EDGE (ACTION ..) ..` names one of these actions, which is not built in, and is at the edge of this word.

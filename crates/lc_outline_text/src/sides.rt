@@ -11,7 +11,7 @@ ghost use Rattle.lc_outline_text.specs.DeclarationsView.{declarations_seen};
 ghost use Rattle.lc_rider_text.specs.Scopes.{beside_names};
 ghost use Rattle.lc_outline_text.specs.Points.{formulas_in_reading};
 ghost use Rattle.lc_outline_text.specs.Views.{actions_shown, conditions_shown, sides_shown};
-ghost use Rattle.lc_outline_text.specs.Tables.{auxiliaries_reading, actions_reading, invariant_reading, conditions_reading, sides_reading};
+ghost use Rattle.lc_outline_text.specs.Sides.{auxiliaries_reading, actions_reading, invariant_reading, conditions_reading, sides_reading};
 
 use crate::declarations::Declarations;
 use crate::formulas::read_formulas_in;

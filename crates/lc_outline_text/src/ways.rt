@@ -10,9 +10,10 @@ ghost use Rattle.lc_outline_text.specs.Sizes.{column_named, columns_settled, col
 use crate::columns_stored::{columns_noted, columns_settled, push_column};
 use crate::declarations::Declarations;
 use crate::declaring::{branches_in, form_at};
+use crate::needs::{items_within, parts_in};
 use lc_base::{ColId, OutOfMemory};
-use lc_object_text::{behind_first, first_text, items_in_first, within_first};
-use lc_reading::NameTable;
+use lc_object_text::{behind_first, first_text, within_first};
+use lc_reading::{NameTable, next_part};
 use lc_sexp::Cursor;
 use std::alloc::Global;
 
@@ -46,10 +47,10 @@ fn mark_ways(
     let mut ways = Vec::new(alloc);
     let mut rest = branches;
     'branches: loop {
-        let branch = items_in_first(rest, "branch");
-        let Ok(_) = rest.item() else {
+        let Ok(part) = next_part(&mut rest) else {
             return Ok(ways);
         };
+        let branch = parts_in(part, "branch");
         let stored = if is_note {
             columns_noted(alloc, columns, branch)?
         } else {
@@ -148,10 +149,10 @@ pub(crate) fn all_ways(
     let mut all = Vec::new(alloc);
     let mut rest = list;
     'riders: loop {
-        let rider = within_first(rest);
-        let Ok(_) = rest.item() else {
+        let Ok(part) = next_part(&mut rest) else {
             return Ok(all);
         };
+        let rider = items_within(part);
         all.push(rider_ways(alloc, declarations, operation, rider)?)?;
     }
 }
