@@ -1,1 +1,2 @@
 mod CodeAlone
+mod Counting

@@ -1,5 +1,5 @@
 -- How many conditions a development has, by its text: lists are counted, and names have places; nothing else is read.
-use Rattle.std.specs.Prelude.{ℕ, zero, suc, ◌+◌, ◌*◌, ◌==◌, codes, if◌then◌else◌, List, [], ◌∷◌, ◌++◌, map, length, sum, take, slice_get, slice_index_or, Option, Some, None}
+use Rattle.std.specs.Prelude.{ℕ, zero, suc, ◌+◌, ◌*◌, ◌==◌, codes, if◌then◌else◌, List, [], ◌∷◌, ◌++◌, map, length, sum, sum_by, take, slice_get, slice_index_or, Option, Some, None}
 use Rattle.std.specs.List.{list_any}
 use Rattle.lc_sexp.specs.TreeCode.{tree_count}
 use Rattle.lc_sexp.specs.Trees.{Tree, Trees, none, ◌▸◌}
@@ -94,7 +94,7 @@ instance_count (Some stored) columns = 1 + different (columns ++ stored)
 -- those of the paths that pass these riders, where so many conditions are asked and these columns stored in before
 abbrev pub path_conditions : Option (List ℕ) → List (List Way) → ℕ → List ℕ → ℕ
 path_conditions action [] asked columns = asked + instance_count action columns
-path_conditions action (ways ∷ riders) asked columns = sum (map (λ way. path_conditions action riders (asked + way.asked) (columns ++ way.columns)) ways)
+path_conditions action (ways ∷ riders) asked columns = sum_by (λ (way : Way). path_conditions action riders (asked + way.asked) (columns ++ way.columns)) ways
 
 -- the `on` of the edge of this word, EDGE (ACTION ..) RIDER ..: what stands behind EDGE
 abbrev pub on_of : List ℕ → List Trees → Option Trees
@@ -186,7 +186,7 @@ point_conditions d n o b asserts ts =
 abbrev pub body_conditions : Declarations → Totals → ℕ → Body → Trees → ℕ
 body_conditions d n o b ts =
     let asserts = map assert_count (points_in ts) in
-    n.invariant + count_at asserts (Some 0) + sum (map (point_conditions d n o b asserts) (points_in ts)) + sum asserts * n.actions
+    n.invariant + count_at asserts (Some 0) + sum_by (point_conditions d n o b asserts) (points_in ts) + sum asserts * n.actions
 
 abbrev pub bodies_conditions : Declarations → Totals → ℕ → List Body → Trees → ℕ
 bodies_conditions d n o (b ∷ bs) (t ▸ ts) = body_conditions d n o b (parts_in (codes "body") t) + bodies_conditions d n (suc o) bs ts

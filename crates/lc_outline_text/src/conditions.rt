@@ -1,5 +1,5 @@
 //! How many conditions a development has, counted from its text up to a cap.
-ghost use Rattle.std.specs.Prelude.{◌≡◌, ◌*◌, map, sum, IfOk};
+ghost use Rattle.std.specs.Prelude.{◌≡◌, ◌*◌, map, sum, sum_by, IfOk};
 ghost use Rattle.lc_sexp.specs.Shown.{rest_of};
 ghost use Rattle.lc_object_text.specs.DeclaredView.{body_seen};
 ghost use Rattle.lc_object_text.specs.ObjectNames.{points_in};
@@ -63,7 +63,7 @@ fn points_conditions(
     asserts: &[u64],
     list: Cursor<'_>,
 ) -> Result<u64, OutOfMemory>
-    ensures { IfOk result (λ count. count ≡ capped (sum (map (point_conditions (declarations_seen declarations.now) (totals_seen totals) operation (body_seen body.now) asserts.now) (points_in (rest_of list.entry))))) }
+    ensures { IfOk result (λ count. count ≡ capped (sum_by (point_conditions (declarations_seen declarations.now) (totals_seen totals) operation (body_seen body.now) asserts.now) (points_in (rest_of list.entry)))) }
 {
     let mut rest = behind_first(behind_first(list));
     let mut some = true;

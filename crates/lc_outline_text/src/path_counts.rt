@@ -1,5 +1,6 @@
 //! The conditions of the paths of an edge, counted up to a cap.
-ghost use Rattle.std.specs.Prelude.{◌≡◌, ◌+◌, ◌++◌, Some, IfOk};
+ghost use Rattle.std.specs.Prelude.{◌≡◌, ◌+◌, ◌++◌, ◌==◌, Some, IfOk};
+ghost use Rattle.std.specs.List.{list_any};
 ghost use Rattle.lc_object.specs.View.{columns_of};
 ghost use Rattle.lc_outline_text.specs.Views.{capped, way_lists};
 ghost use Rattle.lc_outline_text.specs.Sizes.{different, instance_count, path_conditions};
@@ -35,15 +36,27 @@ pub(crate) fn sum_of(left: u64, right: u64) -> Result<u64, OutOfMemory>
     }
 }
 
+fn is_among(columns: &[ColId], column: ColId) -> bool
+    ensures { result ≡ list_any (λ other. other == column.0) (columns_of columns.now) }
+{
+    columns
+        .iter()
+        .map(|other| other.0)
+        .any(|other| other == column.0)
+}
+
 /// How many different columns there are.
-fn different(columns: &[ColId]) -> u64
-    ensures { result ≡ different (columns_of columns.now) }
+fn different(columns: &[ColId]) -> Result<u64, OutOfMemory>
+    ensures { IfOk result (λ count. count ≡ different (columns_of columns.now)) }
 {
     let Some((first, others)) = columns.split_first() else {
-        return 0;
+        return Ok(0);
     };
-    let more = different(others);
-    if others.contains(first) { more } else { more + 1 }
+    let more = different(others)?;
+    if is_among(others, *first) {
+        return Ok(more);
+    }
+    sum_of(1, more)
 }
 
 /// These columns, and behind them those.
@@ -65,7 +78,7 @@ fn instance_count(
     ensures { IfOk result (λ count. count ≡ instance_count (Some (columns_of action.now)) (columns_of columns.now)) }
 {
     let all = joined(alloc, columns, action)?;
-    sum_of(1, different(&all))
+    sum_of(1, different(&all)?)
 }
 
 /// The conditions of the paths that pass these riders, at an edge where an action stores in these columns, where so many are
