@@ -1,2 +1,3 @@
 mod CodeAlone
 mod Counting
+mod Walks
