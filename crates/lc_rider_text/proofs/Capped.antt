@@ -1,7 +1,7 @@
 -- Products up to a cap.
-use Rattle.std.proofs.Common.{◌≡◌, ℕ, zero, suc, ◌+◌, ◌*◌, ◌≤◌, ◌<◌, Bool, true, false, refl, sym, ap, ◌∙◌, arith}
-use Rattle.std.specs.Prelude.{min, nat_le}
-use Rattle.std.proofs.Math.Nat.{mul_comm, mul_assoc, mul-le-mul_right, le-mul_of_pos_right}
+use Rattle.std.proofs.Common.{◌≡◌, ℕ, zero, suc, ◌*◌, ◌≤◌, ◌<◌, Bool, true, false, refl, sym, ap, ◌∙◌, arith}
+use Rattle.std.specs.Prelude.{min, nat_le, nat_lt}
+use Rattle.std.proofs.Math.Nat.{mul_comm, mul_assoc, le-mul_of_pos_right}
 use Rattle.std.proofs.lemmas.Bool.Decides.{nat_tests}
 use Rattle.lc_sexp.specs.Trees.{Tree, Trees, none, ◌▸◌}
 use Rattle.lc_rider_text.specs.Known.{Known}
@@ -17,8 +17,8 @@ beyond a zero h =
 beyond a (suc b) h =
     let positive : zero < suc b = omega arith in
     both_beyond (65 * suc b) (a * suc b) (le-mul_of_pos_right 65 positive) (large (le-mul_of_pos_right a positive)) where
-  large : {x : ℕ} → a ≤ x → 65 ≤ x
-  large {x} k = omega (arith, h, k)
+      large : {x : ℕ} → a ≤ x → 65 ≤ x
+      large {x} k = omega (arith, h, k)
 
 -- a factor up to the cap
 pub capped_left : (a b : ℕ) → min 65 (min 65 a * b) ≡ min 65 (a * b)
@@ -51,3 +51,16 @@ paths_done known own count all us e few h =
     let one : path_count known own us ≡ 1 = ap (path_count known own) e in
     let same : min 65 (count * 1) ≡ count = omega (arith, few) in
     sym (h ∙ ap (λ n. min 65 (count * n)) one ∙ same)
+
+-- beyond the limit, counted up to the cap
+pub over_cap : (n : ℕ) → nat_lt 64 (min 65 n) ≡ nat_lt 64 n
+over_cap n = by_size (nat_lt 64 n) refl where
+  by_size : (t : Bool) → nat_lt 64 n ≡ t → nat_lt 64 (min 65 n) ≡ t
+  by_size true e =
+      let h : 65 ≤ n = grind (arith, nat_tests) in
+      let same : min 65 n ≡ 65 = omega (arith, h) in
+      ap (nat_lt 64) same
+  by_size false e =
+      let h : n ≤ 64 = grind (arith, nat_tests) in
+      let same : min 65 n ≡ n = omega (arith, h) in
+      ap (nat_lt 64) same ∙ e

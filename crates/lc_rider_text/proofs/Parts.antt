@@ -1,10 +1,11 @@
 -- Parts of actions and of what is done at edges, as cursors find them.
-use Rattle.std.proofs.Common.{◌≡◌, ℕ, ◌+◌, Bool, List, Option, Some, Ok, refl, sym, ap, ◌∙◌}
+use Rattle.std.proofs.Common.{◌≡◌, ℕ, ◌+◌, false, Some, Ok, refl, sym, ap, ◌∙◌}
+use Rattle.std.specs.Prelude.{nat_lt}
 use Rattle.lc_sexp.specs.Trees.{Tree, Trees, ◌▸◌, item_count}
 use Rattle.lc_sexp.specs.Shown.{rest_of, number_of, owner_of}
 use Rattle.lc_sexp.specs.declared.cursor.Cursor.{Cursor}
 use Rattle.lc_reading.specs.Parts.{IsNext, IsBehind, tree_of, place_of}
-use Rattle.lc_reading.specs.Readings.{both}
+use Rattle.lc_reading.specs.Readings.{limited, both}
 use Rattle.lc_reading.specs.declared.part.Part.{Part}
 use Rattle.lc_text.specs.Names.{Names}
 use Rattle.lc_text.specs.Terms.{pair}
@@ -12,8 +13,10 @@ use Rattle.lc_object_text.specs.Rows.{cons}
 use Rattle.lc_rider_text.specs.Known.{Known}
 use Rattle.lc_rider_text.specs.Scopes.{beside_names}
 use Rattle.lc_rider_text.specs.Actions.{parameters_in, heading_reading, effect_reading, action_parts_reading}
-use Rattle.lc_rider_text.specs.Edges.{edge_in, without}
-use Rattle.lc_rider_text.specs.Ons.{action_use, arguments_due, arguments_reading, call_parts_reading, on_parts_reading, on_reading, ons_reading}
+use Rattle.lc_rider_text.specs.Edges.{edge_of, edge_in, is_refused, without}
+use Rattle.lc_rider_text.specs.Ons.{step_reading, the_on, on_parts_reading, on_reading, ons_reading}
+use Rattle.lc_rider_text.specs.Paths.{path_count}
+use Rattle.lc_rider_text.specs.Riders.{riders_reading}
 use Rattle.lc_rider_text.specs.declared.edges.Edges.{Edges}
 
 -- an action's parts at i, j and k, of us, and its updates from l on
@@ -33,16 +36,21 @@ action_found known p l first second third t u f (a1, n1) (a2, n2) (a3, n3) =
     (rest_of l) (rest_of first) (rest_of second) (rest_of third) n1.rest n2.rest n3.rest
     a1 (a2 ∙ n1.number) (a3 ∙ n2.number ∙ ap (λ m. m + item_count (tree_of u)) (sym a2)) (n3.number ∙ ap (λ m. m + item_count (tree_of f)) (sym a3))
 
--- the action of a call, and its terms
-call_at : (known : Known) (names : Names) (n o m i k : ℕ) (t : Tree) (us ts : Trees) → us ≡ t ▸ ts → o ≡ n → i ≡ m → k ≡ m + item_count t
-    → call_parts_reading known names n m us ≡ both pair (action_use known i t) (arguments_reading names (arguments_due known t) o k ts)
-call_at known names n o m i k t us ts rest owner at next = rw (rest, owner, at, next) refl
+-- an edge with its call, and its riders from k on, where it is no edge too many
+on_at : (known : Known) (names : Names) (own : ℕ) (edges : Edges) (n m i j k : ℕ) (t u : Tree) (us us1 ts : Trees)
+    → us ≡ t ▸ us1 → us1 ≡ u ▸ ts → is_refused edges (edge_of t) ≡ false → i ≡ m → j ≡ m + item_count t → k ≡ j + item_count u
+    → on_parts_reading known names own edges n m us
+    ≡ limited (nat_lt 64 (path_count known own ts)) n (both the_on (step_reading known names i t j u) (riders_reading known names k ts))
+on_at known names own edges n m i j k t u us us1 ts e1 e2 due a1 a2 a3 = rw (e1, e2, due, a3, a2, a1) refl
 
-pub call_found : (known : Known) (names : Names) (l behind : Cursor) (t : Part) → IsNext l (Ok t) behind
-    → call_parts_reading known names (owner_of l) (number_of l) (rest_of l)
-    ≡ both pair (action_use known (place_of t) (tree_of t)) (arguments_reading names (arguments_due known (tree_of t)) (owner_of behind) (number_of behind) (rest_of behind))
-call_found known names l behind t (at, next) =
-    call_at known names (owner_of l) (owner_of behind) (number_of l) (place_of t) (number_of behind) (tree_of t) (rest_of l) (rest_of behind) next.rest next.owner at next.number
+pub on_found : (known : Known) (names : Names) (own : ℕ) (edges : Edges) (l first second : Cursor) (t u : Part)
+    → IsNext l (Ok t) first → IsNext first (Ok u) second → is_refused edges (edge_of (tree_of t)) ≡ false
+    → on_parts_reading known names own edges (owner_of l) (number_of l) (rest_of l)
+    ≡ limited (nat_lt 64 (path_count known own (rest_of second))) (owner_of l)
+    (both the_on (step_reading known names (place_of t) (tree_of t) (place_of u) (tree_of u)) (riders_reading known names (number_of second) (rest_of second)))
+on_found known names own edges l first second t u (a1, n1) (a2, n2) due =
+    on_at known names own edges (owner_of l) (number_of l) (place_of t) (place_of u) (number_of second) (tree_of t) (tree_of u) (rest_of l) (rest_of first) (rest_of second)
+    n1.rest n2.rest due a1 (a2 ∙ n1.number) (n2.number ∙ ap (λ m. m + item_count (tree_of u)) (sym a2))
 
 -- behind one item the others are left
 ons_at : (known : Known) (names : Names) (own : ℕ) (edges left : Edges) (n p m : ℕ) (t : Tree) (ts us : Trees) → us ≡ t ▸ ts → p ≡ n → m ≡ n + item_count t → left ≡ without edges (edge_in t)

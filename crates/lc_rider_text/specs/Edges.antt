@@ -1,6 +1,6 @@
 -- The edges at which an `on` may stand.
-use Rattle.std.specs.Prelude.{ℕ, Bool, false, not, List, Option, Some, None}
-use Rattle.lc_sexp.specs.Trees.{Tree, Trees, atom, list, ◌▸◌}
+use Rattle.std.specs.Prelude.{ℕ, Bool, false, not, Option, Some, None}
+use Rattle.lc_sexp.specs.Trees.{Tree, atom, list, ◌▸◌}
 use Rattle.lc_object.specs.declared.instr.EdgeKind.{EdgeKind}
 use Rattle.lc_object.specs.declared.instr.EdgeKind.TheVariants.{Next, Then, Else}
 use Rattle.lc_reading.specs.Readings.{Reading, fine, wrong}

@@ -1,5 +1,5 @@
 -- How many paths riders make, by their texts.
-use Rattle.std.specs.Prelude.{ℕ, ◌+◌, ◌*◌, codes, if◌then◌else◌, List, Option, Some, None}
+use Rattle.std.specs.Prelude.{ℕ, ◌+◌, ◌*◌, codes, if◌then◌else◌, Option, Some, None}
 use Rattle.lc_sexp.specs.Trees.{Tree, Trees, atom, list, none, ◌▸◌}
 use Rattle.lc_reading.specs.Listed.{place_of}
 use Rattle.lc_reading.specs.Words.{is}

@@ -27,13 +27,17 @@ other_reading known names n m _ = wrong Shape n
 abbrev pub mark_of : Term × ℕ → Deed
 mark_of p = Marks (Other p.0 p.1)
 
+-- what stands behind this word: the parts of the list n, numbered from m on
+abbrev pub headed_reading : Known → Names → Head → ℕ → ℕ → Trees → Reading Deed
+headed_reading known names H.Set n m ts = mapped Assign (update_reading InAuxiliary known names n m ts)
+headed_reading known names H.Lin n m ts = ended m ts (fine (Marks Own))
+headed_reading known names H.LinOther n m ts = mapped mark_of (other_reading known names n m ts)
+headed_reading known names H.Note n m ts = ended m ts (fine (Marks Note))
+
 -- the list n that begins so, whose other parts are numbered from m on
 abbrev pub deed_with : Known → Names → ℕ → ℕ → Trees → Option Head → Reading Deed
 deed_with known names n m ts None = wrong Shape n
-deed_with known names n m ts (Some H.Set) = mapped Assign (update_reading InAuxiliary known names n m ts)
-deed_with known names n m ts (Some H.Lin) = ended m ts (fine (Marks Own))
-deed_with known names n m ts (Some H.LinOther) = mapped mark_of (other_reading known names n m ts)
-deed_with known names n m ts (Some H.Note) = ended m ts (fine (Marks Note))
+deed_with known names n m ts (Some h) = headed_reading known names h n m ts
 
 -- (set COLUMN T T), (lin), (lin-other T OP), (note)
 abbrev pub deed_reading : Known → Names → ℕ → Tree → Reading Deed

@@ -1,7 +1,7 @@
 -- How names are read beside the code of an object.
-use Rattle.std.specs.Prelude.{ℕ, ◌+◌, Bool, true, false, codes, List, [], ◌∷◌, length, Option, Some, None, option_map, if◌then◌else◌}
+use Rattle.std.specs.Prelude.{ℕ, ◌+◌, Bool, true, false, codes, List, [], ◌∷◌, length, Option, Some, None, option_map}
 use Rattle.lc_reading.specs.Listed.{place_of}
-use Rattle.lc_reading.specs.Words.{is}
+use Rattle.lc_term.specs.SystemColumns.{system_columns}
 use Rattle.lc_text.specs.Names.{Names}
 use Rattle.lc_text.specs.declared.scope.ColumnUse.{ColumnUse}
 use Rattle.lc_text.specs.declared.scope.ColumnUse.TheVariants.{Usable, Undeclared}
@@ -10,20 +10,7 @@ use Rattle.lc_text.specs.declared.scope.Extra.TheVariants.{Quantifiers, BuiltCol
 
 -- the place of a system column among these
 abbrev pub system_place : List ℕ → Option ℕ
-system_place w =
-    if is w (codes "pend") then Some 0
-    else (if is w (codes "op") then Some 1
-    else (if is w (codes "arg1") then Some 2
-    else (if is w (codes "arg2") then Some 3
-    else (if is w (codes "arg3") then Some 4
-    else (if is w (codes "rep1") then Some 5
-    else (if is w (codes "rep2") then Some 6
-    else (if is w (codes "rep3") then Some 7
-    else (if is w (codes "noted") then Some 8
-    else (if is w (codes "note1") then Some 9
-    else (if is w (codes "note2") then Some 10
-    else (if is w (codes "note3") then Some 11
-    else None)))))))))))
+system_place w = place_of system_columns w
 
 -- that of a column: the system columns stand behind those that are declared, of which there are n
 abbrev pub place_or : ℕ → Option ℕ → Option ℕ → Option ℕ

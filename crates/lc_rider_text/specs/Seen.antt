@@ -1,5 +1,5 @@
 -- What parts that are read together stand for.
-use Rattle.std.specs.Prelude.{ℕ, ℤ, List, map, Vec, Some, None}
+use Rattle.std.specs.Prelude.{ℕ, List, map, Vec}
 use Rattle.std.specs.declared.alloc.Global.{Global}
 use Rattle.lc_base.specs.Name.{bytes_of}
 use Rattle.lc_base.specs.declared.name.Name.{Name}

@@ -20,9 +20,7 @@ use crate::variables::Variables;
 use lc_action::Action;
 use lc_base::Name;
 use lc_object_text::{ReadsPlaced, read_kth_name};
-use lc_reading::{
-    NameTable, Part, ReadFault, behind_word, both, limited, next_part, read_each,
-};
+use lc_reading::{NameTable, Part, ReadFault, behind_word, both, limited, next_part, read_each};
 use lc_sexp::Cursor;
 use lc_term::{Formula, Update};
 use lc_text::{Scope, read_formula};

@@ -33,11 +33,7 @@ fn read_column_parts(
 }
 
 /// The list of such parts.
-fn read_column_list(
-    names: &NameTable<'_>,
-    place: u64,
-    part: Part<'_>,
-) -> Result<Column, ReadFault>
+fn read_column_list(names: &NameTable<'_>, place: u64, part: Part<'_>) -> Result<Column, ReadFault>
     ensures { IsReading column_of (listed_reading (column_parts_reading (listed names.now) place) (place_of part.entry) (tree_of part.entry)) result }
 {
     match part.item() {

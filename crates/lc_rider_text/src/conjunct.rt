@@ -39,11 +39,7 @@ fn made_conjunct(parts: Result<(Name, Formula), ReadFault>) -> Result<Conjunct, 
 }
 
 /// `(NAME F)`
-fn read_conjunct<S: Scope>(
-    alloc: Global,
-    scope: &S,
-    part: Part<'_>,
-) -> Result<Conjunct, ReadFault>
+fn read_conjunct<S: Scope>(alloc: Global, scope: &S, part: Part<'_>) -> Result<Conjunct, ReadFault>
     ensures { IsReading conjunct_of (conjunct_reading (S.names scope.now) (place_of part.entry) (tree_of part.entry)) result }
 {
     match part.item() {

@@ -11,7 +11,7 @@ ghost use Rattle.lc_term.specs.Updates as U;
 ghost use Rattle.lc_term.specs.UpdateView.{update_of};
 ghost use Rattle.lc_text.specs.Formulas.{formula_reading};
 ghost use Rattle.lc_rider_text.specs.KnownView.{known_seen};
-ghost use Rattle.lc_rider_text.specs.Riders.{other_reading, mark_of, deed_with, deed_reading, when_reading, always, where_holds, rider_reading, riders_reading};
+ghost use Rattle.lc_rider_text.specs.Riders.{other_reading, mark_of, headed_reading, deed_with, deed_reading, when_reading, always, where_holds, rider_reading, riders_reading};
 ghost use Rattle.lc_rider_text.specs.Scopes.{quiet};
 ghost use Rattle.lc_rider_text.specs.Seen.{deed_of, other_parts, when_parts};
 
@@ -69,7 +69,25 @@ fn made_store(update: Result<Update, ReadFault>) -> Result<Deed, ReadFault>
     Ok(Deed::Assign(update?))
 }
 
-/// What is done by a list's other parts, if it begins so.
+/// What is done by a list's other parts behind this word.
+fn read_headed<S: Scope>(
+    alloc: Global,
+    known: Known<'_, '_>,
+    scope: &S,
+    head: Head,
+    list: Cursor<'_>,
+) -> Result<Deed, ReadFault>
+    ensures { IsReading deed_of (headed_reading (known_seen known.entry) (S.names scope.now) head (owner_of list.entry) (number_of list.entry) (rest_of list.entry)) result }
+{
+    match head {
+        Head::Set => made_store(read_update(alloc, Stores::InAuxiliary, known, scope, list)),
+        Head::Lin => ended(Ok(Deed::LinSelf), list),
+        Head::LinOther => made_mark(read_other(alloc, known, scope, list)),
+        Head::Note => ended(Ok(Deed::Note), list),
+    }
+}
+
+/// The same of a list that begins so.
 fn read_deed_with<S: Scope>(
     alloc: Global,
     known: Known<'_, '_>,
@@ -80,11 +98,8 @@ fn read_deed_with<S: Scope>(
     ensures { IsReading deed_of (deed_with (known_seen known.entry) (S.names scope.now) (owner_of list.entry) (number_of list.entry) (rest_of list.entry) head) result }
 {
     match head {
+        Some(head) => read_headed(alloc, known, scope, head, list),
         None => Err(wrong(Pass::Shape, list.owner())),
-        Some(Head::Set) => made_store(read_update(alloc, Stores::InAuxiliary, known, scope, list)),
-        Some(Head::Lin) => ended(Ok(Deed::LinSelf), list),
-        Some(Head::LinOther) => made_mark(read_other(alloc, known, scope, list)),
-        Some(Head::Note) => ended(Ok(Deed::Note), list),
     }
 }
 
@@ -106,11 +121,7 @@ fn read_deed<S: Scope>(
 }
 
 /// The condition of a rider.
-fn read_condition<S: Scope>(
-    alloc: Global,
-    scope: &S,
-    part: Part<'_>,
-) -> Result<When, ReadFault>
+fn read_condition<S: Scope>(alloc: Global, scope: &S, part: Part<'_>) -> Result<When, ReadFault>
     ensures { IsReading formula_in (formula_reading (quiet (S.names scope.now)) [] (place_of part.entry) (tree_of part.entry)) result }
 {
     let formula = read_formula(alloc, &Quiet(scope), part)?;

@@ -43,10 +43,7 @@ impl<'a, 'b> Columns<'a, 'b> {
 
     /// These columns (abstract, then concrete, then auxiliary), of which those from this place on are auxiliary.
     /// `OutOfMemory` is answered where the system columns behind them would have no numbers.
-    pub fn new(
-        names: &'b NameTable<'a>,
-        auxiliaries: u32,
-    ) -> Result<Columns<'a, 'b>, OutOfMemory>
+    pub fn new(names: &'b NameTable<'a>, auxiliaries: u32) -> Result<Columns<'a, 'b>, OutOfMemory>
         ensures names { IfOk result (λ columns. columns_listed columns ≡ listed names.now) }
         ensures auxiliaries { IfOk result (λ columns. columns.auxiliaries ≡ auxiliaries) }
     {

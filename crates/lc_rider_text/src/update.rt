@@ -39,11 +39,7 @@ fn is_open(stores: Stores, known: Known<'_, '_>, column: u32) -> bool
 }
 
 /// The column of an update.
-fn read_stored(
-    stores: Stores,
-    known: Known<'_, '_>,
-    part: Part<'_>,
-) -> Result<ColId, ReadFault>
+fn read_stored(stores: Stores, known: Known<'_, '_>, part: Part<'_>) -> Result<ColId, ReadFault>
     ensures { IsReading (λ column. column.0) (stored_reading stores (known_seen known.entry) (place_of part.entry) (tree_of part.entry)) result }
 {
     let atom = match part.item() {

@@ -1,4 +1,4 @@
-use Rattle.std.proofs.Common.{[], None, refl, ap, subst}
+use Rattle.std.proofs.Common.{[], None, refl}
 use Rattle.lc_base.specs.Name.{bytes_of}
 use Rattle.lc_sexp.specs.Shown.{owner_of}
 use Rattle.lc_term.specs.View.{formula_of}

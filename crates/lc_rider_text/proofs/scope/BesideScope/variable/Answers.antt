@@ -1,4 +1,4 @@
-use Rattle.std.proofs.Common.{ℕ, ◌+◌, ◌≤◌, ◌^◌, Option, length, sym, subst, arith}
+use Rattle.std.proofs.Common.{◌+◌, ◌≤◌, ◌^◌, Option, length, sym, subst, arith}
 use Rattle.std.specs.Borrow.{Bor}
 use Rattle.lc_reading.specs.TableView.{listed}
 use Rattle.lc_reading.specs.declared.table.NameTable.{NameTable}
