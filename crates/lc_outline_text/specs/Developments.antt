@@ -26,9 +26,13 @@ specification_reading d n t = both pair (O.specification_reading d.declared n t)
 abbrev pub Parts : Type 0
 Parts = (O.Tables × Sides) × List (BodyText (Point × Outline))
 
+-- what stands in the object n before its bodies
+abbrev pub tables_reading : Declarations → Sections → ℕ → Reading (O.Tables × Sides)
+tables_reading d s n = both pair (O.tables_reading d.declared s n) (sides_reading d s n)
+
 -- the object n
 abbrev pub object_reading : Declarations → Sections → ℕ → Reading Parts
-object_reading d s n = both pair (both pair (O.tables_reading d.declared s n) (sides_reading d s n)) (bodies_reading d n s.bodies.number s.bodies.trees)
+object_reading d s n = both pair (tables_reading d s n) (bodies_reading d n s.bodies.number s.bodies.trees)
 
 -- the code of bodies, and the outlines of all their points
 abbrev pub code_of : BodyText (Point × Outline) → BodyText Point

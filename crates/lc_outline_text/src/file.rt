@@ -12,18 +12,18 @@ ghost use Rattle.lc_reading.specs.Results.{IsReading};
 ghost use Rattle.lc_tie.specs.TieView.{numbers_in};
 ghost use Rattle.lc_outline_text.specs.Declarations.{declarations_of};
 ghost use Rattle.lc_outline_text.specs.DeclarationsView.{declarations_seen};
-ghost use Rattle.lc_outline_text.specs.Developments.{specification_reading, object_reading, second_form_reading, forms_reading, file_reading};
-ghost use Rattle.lc_outline_text.specs.Views.{specifications_shown, object_seen, IsFileRead, is_told_before_limits};
+ghost use Rattle.lc_outline_text.specs.Developments.{specification_reading, tables_reading, object_reading, second_form_reading, forms_reading, file_reading};
+ghost use Rattle.lc_outline_text.specs.Views.{specifications_shown, tables_and_sides, object_seen, IsFileRead, is_told_before_limits};
 
 use crate::bodies::read_bodies;
 use crate::conditions::condition_count;
 use crate::declarations::Declarations;
 use crate::declaring::read_all_declarations;
 use crate::made::{ObjectParts, made_development};
-use crate::sides::read_sides;
+use crate::sides::{Sides, read_sides};
 use lc_base::Fault;
 use lc_object_text::{
-    Sections, SpecificationText, find_sections, read_specification as read_text, read_tables,
+    Sections, SpecificationText, Tables, find_sections, read_specification as read_text, read_tables,
 };
 use lc_outline::{Development, Parts};
 use lc_reading::{Part, Pass, ReadFault, both, ended, limited, next_part, wrong};
@@ -44,10 +44,29 @@ fn read_specification<'a>(
     ensures { IsReading specifications_shown (specification_reading (declarations_seen declarations.now) (place_of part.entry) (tree_of part.entry)) result }
 {
     let text = read_text(alloc, &declarations.declared, part);
-    both(
+    match both(
         text,
         read_meaning(alloc, &declarations.declared.columns, part),
-    )
+    ) {
+        Ok((text, specification)) => Ok((text, specification)),
+        Err(fault) => Err(fault),
+    }
+}
+
+/// An object's own tables, and what stands beside its code, in the object of this number.
+fn read_tables_and_sides(
+    alloc: Global,
+    declarations: &Declarations<'_>,
+    sections: &Sections<'_>,
+    object: u64,
+) -> Result<(Tables, Sides), ReadFault>
+    ensures { IsReading tables_and_sides (tables_reading (declarations_seen declarations.now) (sections_seen sections.now) object) result }
+{
+    let tables = read_tables(alloc, &declarations.declared, sections, object);
+    match both(tables, read_sides(alloc, declarations, sections, object)) {
+        Ok((tables, sides)) => Ok((tables, sides)),
+        Err(fault) => Err(fault),
+    }
 }
 
 /// The object of this number.
@@ -59,13 +78,14 @@ fn read_object(
 ) -> Result<ObjectParts, ReadFault>
     ensures { IsReading object_seen (object_reading (declarations_seen declarations.now) (sections_seen sections.now) object) result }
 {
-    let tables = read_tables(alloc, &declarations.declared, sections, object);
-    let sides = read_sides(alloc, declarations, sections, object);
-    let tables = both(tables, sides);
-    both(
+    let tables = read_tables_and_sides(alloc, declarations, sections, object);
+    match both(
         tables,
         read_bodies(alloc, declarations, object, sections.bodies),
-    )
+    ) {
+        Ok((tables, bodies)) => Ok((tables, bodies)),
+        Err(fault) => Err(fault),
+    }
 }
 
 /// The second form of a file, which is its last.

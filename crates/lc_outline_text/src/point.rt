@@ -1,9 +1,15 @@
 ghost use Rattle.lc_sexp.specs.Shown.{rest_of, number_of};
+ghost use Rattle.lc_object.specs.Syntax as O;
+ghost use Rattle.lc_object.specs.View.{point_of};
 ghost use Rattle.lc_outline.specs.PartsView.{outline_of};
 ghost use Rattle.lc_reading.specs.Parts.{tree_of, place_of};
+ghost use Rattle.lc_reading.specs.Readings.{Reading, both};
 ghost use Rattle.lc_reading.specs.Results.{IsReading};
 ghost use Rattle.lc_rider_text.specs.KnownView.{known_seen, names_beside};
+ghost use Rattle.lc_text.specs.Terms.{pair};
+ghost use Rattle.lc_outline_text.specs.Needs.{edges_of};
 ghost use Rattle.lc_outline_text.specs.Points.{outline_reading};
+ghost use Rattle.lc_outline_text.specs.Views.{outlined_of};
 
 use crate::formulas::read_formulas_in;
 use crate::needs::{code_word, edges_of, lacks_on};
@@ -49,6 +55,41 @@ fn read_outline(
     }
 }
 
+/// A point with `(assert F ..) ON ..`, which stand behind its instruction of this word.
+fn read_outlined(
+    alloc: Global,
+    reader: &Outlines<'_, '_>,
+    word: &str,
+    point: Result<Point, ReadFault>,
+    asserts: Part<'_>,
+    ons: Cursor<'_>,
+) -> Result<(Point, Outline), ReadFault>
+    ensures { (r : Reading O.Point) → IsReading point_of r point → IsReading outlined_of
+        (both pair r (outline_reading (known_seen reader.now.known) (names_beside reader.now.scope) reader.now.own (edges_of word.now) (place_of asserts.entry) (tree_of asserts.entry) (number_of ons.entry) (rest_of ons.entry))) result }
+{
+    let outline = read_outline(alloc, reader, edges_of(word), asserts, ons);
+    match both(point, outline) {
+        Ok((point, outline)) => Ok((point, outline)),
+        Err(fault) => Err(fault),
+    }
+}
+
+impl Outlines<'_, '_> {
+    ghost use Rattle.std.specs.Prelude.{◌≡◌, ◌&&◌, codes};
+    ghost use Rattle.lc_sexp.specs.Shown.{rest_of};
+    ghost use Rattle.lc_object_text.specs.Sections.{forms_in};
+    ghost use Rattle.lc_rider_text.specs.KnownView.{known_seen};
+    ghost use Rattle.lc_outline_text.specs.Needs.{lacks_on};
+
+    /// Whether an edge of an instruction of this word, in which nothing is misshapen, lacks an `on` among the lists that
+    /// stand next.
+    fn lacks_on(&self, is_shaped: bool, word: &str, list: Cursor<'_>) -> bool
+        ensures { result ≡ (is_shaped && lacks_on (known_seen self.now.known).actions word.now (forms_in (codes "on") (rest_of list.entry))) }
+    {
+        is_shaped && lacks_on(self.known.actions, word, list)
+    }
+}
+
 impl ReadsBeside for Outlines<'_, '_> {
     ghost use Rattle.lc_object.specs.Syntax as O;
     ghost use Rattle.lc_outline.specs.Development as D;
@@ -75,12 +116,9 @@ impl ReadsBeside for Outlines<'_, '_> {
         let mut rest = list;
         let asserts = next_part(&mut rest)?;
         let word = code_word(code);
-        if is_shaped && lacks_on(self.known.actions, word, rest) {
+        if self.lacks_on(is_shaped, word, rest) {
             return Err(wrong(Pass::Shape, list.owner()));
         }
-        both(
-            point,
-            read_outline(alloc, self, edges_of(word), asserts, rest),
-        )
+        read_outlined(alloc, self, word, point, asserts, rest)
     }
 }

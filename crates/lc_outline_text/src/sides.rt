@@ -107,10 +107,13 @@ fn read_actions(
     let known = declarations.known()?;
     let auxiliaries = read_first_auxiliaries(alloc, declarations, object, sections.auxiliaries);
     let list = behind_first(sections.auxiliaries);
-    both(
+    match both(
         auxiliaries,
         read_lists(alloc, &Actions(known), "action", list),
-    )
+    ) {
+        Ok((auxiliaries, actions)) => Ok((auxiliaries, actions)),
+        Err(fault) => Err(fault),
+    }
 }
 
 /// `(invariant (NAME F) ..)`
@@ -162,10 +165,11 @@ fn read_conditions(
     let Ok(idle) = next_part(&mut list) else {
         return Err(wrong(Pass::Shape, object));
     };
-    both(
-        read_invariant(alloc, declarations, invariant),
-        read_idle(alloc, declarations, idle),
-    )
+    let conjuncts = read_invariant(alloc, declarations, invariant);
+    match both(conjuncts, read_idle(alloc, declarations, idle)) {
+        Ok((conjuncts, idle)) => Ok((conjuncts, idle)),
+        Err(fault) => Err(fault),
+    }
 }
 
 /// What stands beside the code in the object of this number.
