@@ -90,3 +90,71 @@ beside_code known names own n code shaped point m (t ▸ ts) =
     if_holds (IsCode n code shaped point m (t ▸ ts)) _ (wrong Shape n) _ tt
     (both_holds (λ q. point ≡ fine q) (λ o. sides_reading n m (t ▸ ts) ≡ fine tt) (IsCode n code shaped point m (t ▸ ts)) (λ x y. (x, y)) point _
     (point_fine point) (outline_sides known names own (edges_of (code_word code)) n m t ts) (λ q o h g. alone_fine point q _ h g))
+
+-- ---- a body
+
+-- what reads with its outline reads as its code: of a way to read beside the code
+abbrev pub ReadsCode : Beside (Point × Outline) → Type 0
+ReadsCode side = (n : ℕ) (code : Tree) (shaped : Bool) (point : Reading Point) (m : ℕ) (ts : Trees) → Holds (IsCode n code shaped point m ts) (side n code shaped point m ts)
+
+point_code : (d : Declared) (b : Body) (side : Beside (Point × Outline)) → ReadsCode side → (o i n m : ℕ) (ts : Trees) → Holds (λ p. point_parts d b code_alone o i n m ts ≡ fine p.0) (point_parts d b side o i n m ts)
+point_code d b side h o i n m none = tt
+point_code d b side h o i n m (name ▸ none) = tt
+point_code d b side h o i n m (name ▸ code ▸ ts) =
+    let instruction = instruction_reading (code_names d b) (body_names d b) (m + item_count name) code in
+    h n code (is_shaped instruction) (both (point_of o) (point_name_reading d (b.first + i) n m name) instruction) (m + item_count name + item_count code) ts
+
+-- a list by its word, of which another reading of what stands behind the word tells
+by_word : {X Y : Type 0} (f : X → Y) (word : List ℕ) (read : ℕ → ℕ → Trees → Reading X) (other : ℕ → ℕ → Trees → Reading Y) → ((n m : ℕ) (ts : Trees) → Holds (λ x. other n m ts ≡ fine (f x)) (read n m ts)) → (n : ℕ) (t : Tree)
+    → Holds (λ x. behind_reading word other n t ≡ fine (f x)) (behind_reading word read n t)
+by_word f word read other h n (atom w) = tt
+by_word f word read other h n (list none) = tt
+by_word f word read other h n (list (list us ▸ ts)) = tt
+by_word f word read other h n (list (atom w ▸ ts)) = by_test (is w word) where
+  by_test : (b : Bool) → Holds (λ x. cond b (other n (n + 2) ts) (wrong Shape n) ≡ fine (f x)) (cond b (read n (n + 2) ts) (wrong Shape n))
+  by_test true = h n (n + 2) ts
+  by_test false = tt
+
+-- items in a row
+by_row : {X Y : Type 0} (f : X → Y) (read : ℕ → ℕ → Tree → Reading X) (other : ℕ → ℕ → Tree → Reading Y) → ((i n : ℕ) (t : Tree) → Holds (λ x. other i n t ≡ fine (f x)) (read i n t)) → (i m : ℕ) (ts : Trees)
+    → Holds (λ xs. placed_reading other i m ts ≡ fine (map f xs)) (placed_reading read i m ts)
+by_row f read other h i m none = refl
+by_row f read other h i m (t ▸ ts) =
+    both_holds (λ x. other i m t ≡ fine (f x)) (λ xs. placed_reading other (i + 1) (m + item_count t) ts ≡ fine (map f xs)) (λ xs. placed_reading other i m (t ▸ ts) ≡ fine (map f xs)) cons (read i m t) _
+    (h i m t) (by_row f read other h (i + 1) (m + item_count t) ts) (λ x xs e g. ap₂ (both cons) e g)
+
+points_code : (d : Declared) (b : Body) (side : Beside (Point × Outline)) → ReadsCode side → (o n m : ℕ) (ts : Trees)
+    → Holds (λ ps. points_reading d b code_alone o n m ts ≡ fine (map (λ p. p.0) ps)) (points_reading d b side o n m ts)
+points_code d b side h o n m none = tt
+points_code d b side h o n m (t ▸ ts) =
+    by_row (λ p. p.0) (point_reading d b side o) (point_reading d b code_alone o) (λ i n t. by_word (λ p. p.0) (codes "point") (point_parts d b side o i) (point_parts d b code_alone o i) (point_code d b side h o i) n t) 0 m (t ▸ ts)
+
+locals_fine : {X : Type 0} (r : Reading X) → Holds (λ x. r ≡ fine x) r
+locals_fine (fine x) = refl
+locals_fine (flawed f) = tt
+
+body_code : (d : Declared) (b : Body) (side : Beside (Point × Outline)) → ReadsCode side → (o n m : ℕ) (ts : Trees) → Holds (λ x. body_parts d b code_alone o n m ts ≡ fine (code_of x)) (body_parts d b side o n m ts)
+body_code d b side h o n m none = tt
+body_code d b side h o n m (op ▸ none) = tt
+body_code d b side h o n m (op ▸ locals ▸ ts) = by_test (is_of_another d.operations b.operation op) where
+  by_test : (c : Bool) → Holds (λ x. cond c (wrong Shape n) (both body_of (locals_reading d b m op (m + item_count op) locals) (points_reading d b code_alone o n (m + item_count op + item_count locals) ts)) ≡ fine (code_of x))
+      (cond c (wrong Shape n) (both body_of (locals_reading d b m op (m + item_count op) locals) (points_reading d b side o n (m + item_count op + item_count locals) ts)))
+  by_test true = tt
+  by_test false =
+      both_holds (λ ws. locals_reading d b m op (m + item_count op) locals ≡ fine ws) (λ ps. points_reading d b code_alone o n (m + item_count op + item_count locals) ts ≡ fine (map (λ p. p.0) ps))
+      (λ x. both body_of (locals_reading d b m op (m + item_count op) locals) (points_reading d b code_alone o n (m + item_count op + item_count locals) ts) ≡ fine (code_of x)) body_of _ _
+      (locals_fine (locals_reading d b m op (m + item_count op) locals)) (points_code d b side h o n (m + item_count op + item_count locals) ts) (λ ws ps e g. ap₂ (both body_of) e g)
+
+due_code : (d : Declarations) (i n : ℕ) (t : Tree) (o : Option Body) → Holds (λ x. due_body_reading d.declared code_alone o i n t ≡ fine (code_of x)) (due_reading d o i n t)
+due_code d i n t None = tt
+due_code d i n t (Some b) =
+    let side = beside (known_of d) (names_in d b) (own_branches d i) in
+    by_word code_of (codes "body") (body_parts d.declared b side i) (body_parts d.declared b code_alone i)
+    (body_code d.declared b side (λ n code shaped point m ts. beside_code (known_of d) (names_in d b) (own_branches d i) n code shaped point m ts) i) n t
+
+-- what reads as bodies with their outlines reads as their code
+pub bodies_code : (d : Declarations) (n m : ℕ) (ts : Trees) → Holds (λ bs. code_bodies_reading d.declared code_alone n m ts ≡ fine (map code_of bs)) (bodies_reading d n m ts)
+bodies_code d n m ts = by_test (nat_lt (tree_count ts) (bodies_due (length d.declared.operations))) where
+  by_test : (c : Bool) → Holds (λ bs. cond c (wrong Shape n) (placed_reading (ith_body_reading d.declared code_alone) 0 m ts) ≡ fine (map code_of bs)) (cond c (wrong Shape n) (placed_reading (ith_reading d) 0 m ts))
+  by_test true = tt
+  by_test false = by_row code_of (ith_reading d) (ith_body_reading d.declared code_alone) (λ i n t. due_code d i n t (slice_get d.declared.bodies i)) 0 m ts

@@ -1,4 +1,5 @@
-ghost use Rattle.std.specs.Prelude.{map};
+ghost use Rattle.std.specs.Prelude.{◌≡◌, map, option_map, slice_get};
+ghost use Rattle.lc_object_text.specs.DeclaredView.{body_seen};
 ghost use Rattle.lc_sexp.specs.Shown.{rest_of, number_of};
 ghost use Rattle.lc_reading.specs.Parts.{tree_of, place_of};
 ghost use Rattle.lc_reading.specs.Results.{IsReading};
@@ -11,7 +12,7 @@ use crate::point::Outlines;
 use lc_base::OpId;
 use lc_object::Point;
 use lc_object_text::{
-    BodyText, InBody, Points, ReadsPlaced, bodies_due, read_body, read_placed,
+    Body, BodyText, InBody, Points, ReadsPlaced, bodies_due, read_body, read_placed,
 };
 use lc_outline::Outline;
 use lc_reading::{Part, Pass, ReadFault, wrong};
@@ -23,6 +24,13 @@ use std::alloc::Global;
 #[derive(Clone, Copy)]
 pub(crate) struct Bodies<'a, 'b>(pub(crate) &'b Declarations<'a>);
 
+/// What the body of this place declares, if one is due there.
+fn due_body<'a, 'b>(declarations: &'b Declarations<'a>, place: u32) -> Option<&'b Body<'a>>
+    ensures { option_map (λ body. body_seen body.now) result ≡ slice_get (declarations_seen declarations.now).declared.bodies place }
+{
+    declarations.declared.bodies.get(place as usize)
+}
+
 /// The body of the operation of this number.
 fn read_ith(
     alloc: Global,
@@ -32,7 +40,7 @@ fn read_ith(
 ) -> Result<BodyText<(Point, Outline)>, ReadFault>
     ensures { IsReading body_outlined (ith_reading (declarations_seen declarations.now) place (place_of part.entry) (tree_of part.entry)) result }
 {
-    let Some(body) = declarations.declared.bodies.get(place as usize) else {
+    let Some(body) = due_body(declarations, place) else {
         return Err(wrong(Pass::Shape, part.number()));
     };
     let known = declarations.known()?;

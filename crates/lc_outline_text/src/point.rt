@@ -68,10 +68,7 @@ fn read_outlined(
         (both pair r (outline_reading (known_seen reader.now.known) (names_beside reader.now.scope) reader.now.own (edges_of word.now) (place_of asserts.entry) (tree_of asserts.entry) (number_of ons.entry) (rest_of ons.entry))) result }
 {
     let outline = read_outline(alloc, reader, edges_of(word), asserts, ons);
-    match both(point, outline) {
-        Ok((point, outline)) => Ok((point, outline)),
-        Err(fault) => Err(fault),
-    }
+    both(point, outline)
 }
 
 impl Outlines<'_, '_> {

@@ -18,7 +18,7 @@ use crate::formulas::read_formulas_in;
 use lc_action::Action;
 use lc_object_text::{Sections, behind_first, read_lists, read_placed};
 use lc_reading::{
-    NameTable, Part, Pass, ReadFault, behind_word, both, next_part, read_each, wrong,
+    NameTable, Part, Pass, ReadFault, behind_word, both, next_part, read_each, two, wrong,
 };
 use lc_rider_text::{Actions, AuxiliaryColumns, Beside, Columns, Conjuncts, Variables};
 use lc_seq::Column;
@@ -155,21 +155,16 @@ fn read_conditions(
     alloc: Global,
     declarations: &Declarations<'_>,
     object: u64,
-    mut list: Cursor<'_>,
+    list: Cursor<'_>,
 ) -> Result<(Vec<Conjunct>, Vec<Formula>), ReadFault>
     ensures { IsReading conditions_shown (conditions_reading (declarations_seen declarations.now) object (number_of list.entry) (rest_of list.entry)) result }
 {
-    let Ok(invariant) = next_part(&mut list) else {
-        return Err(wrong(Pass::Shape, object));
-    };
-    let Ok(idle) = next_part(&mut list) else {
+    let Ok((invariant, idle, _)) = two(list) else {
         return Err(wrong(Pass::Shape, object));
     };
     let conjuncts = read_invariant(alloc, declarations, invariant);
-    match both(conjuncts, read_idle(alloc, declarations, idle)) {
-        Ok((conjuncts, idle)) => Ok((conjuncts, idle)),
-        Err(fault) => Err(fault),
-    }
+    let idle = read_idle(alloc, declarations, idle);
+    both(conjuncts, idle)
 }
 
 /// What stands beside the code in the object of this number.
