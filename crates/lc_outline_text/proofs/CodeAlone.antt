@@ -8,6 +8,7 @@ use Rattle.lc_reading.specs.Readings.{Reading, fine, flawed, wrong, both, behind
 use Rattle.lc_reading.specs.Rows.{each_reading}
 use Rattle.lc_reading.specs.Words.{is}
 use Rattle.lc_reading.specs.declared.pass.Pass.TheVariants.{Shape}
+use Rattle.lc_text.specs.Formulas.{formula_reading}
 use Rattle.lc_text.specs.Names.{Names}
 use Rattle.lc_term.specs.Syntax.{Formula}
 use Rattle.lc_object.specs.Syntax.{Point}
@@ -69,7 +70,7 @@ outline_sides : (known : Known) (names : Names) (own : ℕ) (edges : Edges) (n m
 outline_sides known names own edges n m t ts =
     both_holds (λ fs. headed_reading (codes "assert") m t ≡ fine tt) (λ ons. (us : List (Unit {0})) × (each_reading (headed_reading (codes "on")) (m + item_count t) ts ≡ fine us))
     (λ o. sides_reading n m (t ▸ ts) ≡ fine tt) outline_of (formulas_in_reading (codes "assert") names m t) (ons_reading known names own edges (m + item_count t) ts)
-    (headed (codes "assert") _ m t) (ons_headed known names own edges (m + item_count t) ts) (λ fs ons h g. sides_fine n m t ts g.0 h g.1)
+    (headed (codes "assert") (λ n. each_reading (formula_reading names [])) m t) (ons_headed known names own edges (m + item_count t) ts) (λ fs ons h g. sides_fine n m t ts g.0 h g.1)
 
 -- ---- a point
 point_fine : (r : Reading Point) → Holds (λ q. r ≡ fine q) r

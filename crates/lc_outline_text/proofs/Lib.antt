@@ -3,5 +3,7 @@ mod Counting
 mod FileReads
 mod MadeBodies
 mod Needed
+mod ObjectOf
+mod Outlined
 mod PlacedReads
 mod Walks

@@ -2,7 +2,7 @@
 use Rattle.std.proofs.Common.{◌≡◌, ℕ, ◌+◌, Bool, false, cond, List, [], ◌++◌, Option, Some, refl, sym, ap, ap₂, ◌∙◌}
 use Rattle.std.specs.Prelude.{codes, ◌&&◌}
 use Rattle.lc_sexp.specs.Trees.{Tree, Trees, ◌▸◌, item_count}
-use Rattle.lc_reading.specs.Readings.{Reading, wrong, both}
+use Rattle.lc_reading.specs.Readings.{Reading, wrong, both, ended}
 use Rattle.lc_reading.specs.declared.pass.Pass.TheVariants.{Shape}
 use Rattle.lc_text.specs.Names.{Names}
 use Rattle.lc_text.specs.Terms.{pair}
@@ -14,7 +14,7 @@ use Rattle.lc_rider_text.specs.Known.{Known}
 use Rattle.lc_rider_text.specs.Scopes.{beside_names}
 use Rattle.lc_outline_text.specs.Bodies.{names_in, due_reading}
 use Rattle.lc_outline_text.specs.Declarations.{Declarations, known_of, own_branches}
-use Rattle.lc_outline_text.specs.Developments.{development_of, specification_reading, second_form_reading, forms_reading}
+use Rattle.lc_outline_text.specs.Developments.{development_of, specification_reading, object_reading, second_form_reading, forms_reading}
 use Rattle.lc_outline_text.specs.Needs.{code_word, edges_of, lacks_on}
 use Rattle.lc_outline_text.specs.Points.{formulas_in_reading, outline_reading, beside}
 use Rattle.lc_outline_text.specs.Sides.{invariant_reading, conditions_reading}
@@ -51,3 +51,7 @@ due_at d o b known columns others own place n t there e1 e2 e3 e4 =
 pub forms_at : (d : Declarations) (s : Sections) (n i k : ℕ) (t : Tree) (ts us : Trees) → us ≡ t ▸ ts → i ≡ n → k ≡ n + item_count t
     → forms_reading d s n us ≡ both development_of (specification_reading d i t) (second_form_reading d s k ts)
 forms_at d s n i k t ts us same first second = rw (same, first, second) refl
+
+-- OBJECT
+pub second_at : (d : Declarations) (s : Sections) (n i k : ℕ) (t : Tree) (ts us : Trees) → us ≡ t ▸ ts → i ≡ n → k ≡ n + item_count t → second_form_reading d s n us ≡ ended k ts (object_reading d s i)
+second_at d s n i k t ts us same first second = rw (same, first, second) refl
