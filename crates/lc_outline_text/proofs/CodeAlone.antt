@@ -29,6 +29,10 @@ use Rattle.lc_outline_text.specs.Developments.{code_of}
 use Rattle.lc_outline_text.specs.Needs.{code_word, edges_of, lacks_on}
 use Rattle.lc_outline_text.specs.Points.{formulas_in_reading, outline_of, outline_reading, beside}
 
+all_read : {X : Type 0} (P : X → Type 0) (r : Reading X) → ((x : X) → P x) → Holds P r
+all_read P (fine x) h = h x
+all_read P (flawed f) h = tt
+
 -- a list that reads so begins with its word
 headed : {X : Type 0} (word : List ℕ) (read : ℕ → ℕ → Trees → Reading X) (n : ℕ) (t : Tree) → Holds (λ x. headed_reading word n t ≡ fine tt) (behind_reading word read n t)
 headed word read n (atom w) = tt
@@ -36,10 +40,7 @@ headed word read n (list none) = tt
 headed word read n (list (list us ▸ ts)) = tt
 headed {X} word read n (list (atom w ▸ ts)) = by_test (is w word) where
   by_test : (b : Bool) → Holds (λ x. cond b (nothing_more n (n + 2) ts) (wrong Shape n) ≡ fine tt) (cond b (read n (n + 2) ts) (wrong Shape n))
-  by_test true = same (read n (n + 2) ts) where
-    same : (r : Reading X) → Holds (λ x. fine tt ≡ fine tt) r
-    same (fine x) = refl
-    same (flawed f) = tt
+  by_test true = all_read (λ x. nothing_more n (n + 2) ts ≡ fine tt) (read n (n + 2) ts) (λ x. refl)
   by_test false = tt
 
 -- lists that read so begin with `on`
