@@ -1,0 +1,249 @@
+-- What stands beside the code of a development fits the code.
+use Rattle.std.proofs.Common.{◌≡◌, ℕ, zero, suc, ◌+◌, ◌<◌, Bool, true, false, ◌&&◌, ◌==◌, cond, List, [], ◌∷◌, ◌++◌, map, length, length-append, append_assoc, Option, Some, None, refl, sym, ap, ap₂, ◌∙◌, subst, arith}
+use Rattle.std.proofs.lemmas.Bool.Decides.{nat_tests}
+use Rattle.std.specs.List.{list_all}
+use Rattle.std.specs.Prelude.{nat_lt, nat_le, slice_get, is_some}
+use Rattle.lc_sexp.specs.Trees.{Trees}
+use Rattle.lc_reading.proofs.Holding.{and_true}
+use Rattle.lc_term.specs.Lists.{Every}
+use Rattle.lc_term.specs.SystemColumns.{column_count}
+use Rattle.lc_term.specs.Updates.{Update}
+use Rattle.lc_action.specs.Action.{Action}
+use Rattle.lc_object.specs.Syntax as O
+use Rattle.lc_object.specs.Syntax.{Point}
+use Rattle.lc_object.specs.Edges.{Edge, edges_at, edges_from}
+use Rattle.lc_object.specs.Places.{operation_at, operation_in}
+use Rattle.lc_object.specs.WellFormed.{variable_count}
+use Rattle.lc_object.specs.declared.instr.EdgeKind.{EdgeKind}
+use Rattle.lc_object.specs.declared.instr.EdgeKind.TheVariants.{Next, Then, Else}
+use Rattle.lc_object_text.proofs.BodiesHold.{IsOperationOf, AreOperationsOf, at_seam}
+use Rattle.lc_object_text.specs.ObjectNames.{Body, first_text}
+use Rattle.lc_outline.specs.Development.{Development, On, Outline, first_system, same_kind, on_for, ons_in, asserts_in, on_at, asserts_at}
+use Rattle.lc_outline.specs.Resolved.{has_some, is_empty, is_below, variables_at, is_matched, are_matched, is_auxiliary, deed_is_resolved, condition_is_resolved, rider_is_resolved, takes, on_is_resolved, action_is_resolved, edge_is_resolved, asserts_are_resolved}
+use Rattle.lc_rider.specs.Rider.{Deed, Assign, Marks, Own, Other, Note, Rider}
+use Rattle.lc_rider_text.proofs.ActionsKnown.{stores_below}
+use Rattle.lc_rider_text.proofs.FormulasWithin.{variable_total}
+use Rattle.lc_rider_text.proofs.RidersKnown.{deed_is_known, rider_is_known, IsOnKnown}
+use Rattle.lc_rider_text.specs.Known.{Known}
+use Rattle.lc_seq.specs.Branches.{op_branches}
+use Rattle.lc_seq.specs.Specification as Q
+use Rattle.lc_outline_text.proofs.Needed.{IsMet}
+use Rattle.lc_outline_text.proofs.Outlined.{IsAPoint, IsPointOf, IsOutlined}
+use Rattle.lc_outline_text.specs.Declarations.{Declarations, known_of, parameter_count}
+
+-- actions with so many parameters, which store in columns that there are
+abbrev pub AreActionsOf : Known → List Trees → List Action → Type 0
+AreActionsOf known [] [] = Unit {0}
+AreActionsOf known [] (a ∷ as) = ⊥
+AreActionsOf known (f ∷ fs) [] = ⊥
+AreActionsOf known (f ∷ fs) (a ∷ as) = ((length a.parameters ≡ parameter_count f) × (list_all (stores_below known) a.updates ≡ true)) × AreActionsOf known fs as
+
+-- a development of what is declared
+pub record Fits (d : Declarations) (D : Development) (ps : List (Point × Outline)) : Type 0 where
+  pub points : D.object.points ≡ map (λ p. p.0) ps
+  pub outlines : D.outlines ≡ map (λ p. p.1) ps
+  pub known : Every (IsAPoint d) ps
+  pub operations : AreOperationsOf d.declared.bodies D.object.operations
+  pub matched : are_matched D.object.operations D.specification.operations ≡ true
+  pub branched : (k : ℕ) → k < length d.declared.operations → has_some (op_branches D.specification.operations k) ≡ true
+  pub columns : first_system D ≡ length d.declared.columns
+  pub auxiliaries : length D.specification.columns + length D.object.concretes ≡ d.declared.auxiliaries
+  pub actions : AreActionsOf (known_of d) d.actions D.actions
+
+-- ---- tests
+
+same_number : (m n : ℕ) → m ≡ n → (m == n) ≡ true
+same_number zero zero e = refl
+same_number zero (suc n) e = absurd (omega (arith, e))
+same_number (suc m) zero e = absurd (omega (arith, e))
+same_number (suc m) (suc n) e = same_number m n (omega (arith, e))
+
+below_of : (k n : ℕ) → nat_lt k n ≡ true → k < n
+below_of k n e = grind (arith, nat_tests)
+
+left : (a b : Bool) → (a && b) ≡ true → a ≡ true
+left true b h = refl
+left false b h = absurd (cc)
+
+right : (a b : Bool) → (a && b) ≡ true → b ≡ true
+right true b h = h
+right false b h = absurd (cc)
+
+all_both : {X : Type 0} (test : X → Bool) (xs ys : List X) → list_all test xs ≡ true → list_all test ys ≡ true → list_all test (xs ++ ys) ≡ true
+all_both test [] ys h g = g
+all_both test (x ∷ xs) ys h g = and_true (test x) (list_all test (xs ++ ys)) (left (test x) (list_all test xs) h) (all_both test xs ys (right (test x) (list_all test xs) h) g)
+
+all_weaker : {X : Type 0} (test other : X → Bool) → ((x : X) → test x ≡ true → other x ≡ true) → (xs : List X) → list_all test xs ≡ true → list_all other xs ≡ true
+all_weaker test other f [] h = refl
+all_weaker test other f (x ∷ xs) h = and_true (other x) (list_all other xs) (f x (left (test x) (list_all test xs) h)) (all_weaker test other f xs (right (test x) (list_all test xs) h))
+
+-- ---- operations
+
+-- the operation of a body
+found : (bs : List Body) (os : List O.Operation) (k : ℕ) (b : Body) → AreOperationsOf bs os → slice_get bs k ≡ Some b → (o : O.Operation) × (slice_get os k ≡ Some o) × IsOperationOf b o
+found [] [] k b h e = absurd (cc)
+found [] (o ∷ os) k b h e = absurd h
+found (c ∷ bs) [] k b h e = absurd h
+found (c ∷ bs) (o ∷ os) zero b h e = let same : c ≡ b = cc in (o, refl, subst (λ x. IsOperationOf x o) same h.0)
+found (c ∷ bs) (o ∷ os) (suc k) b h e = found bs os k b h.1 e
+
+-- it has a branch
+matched_some : (os : List O.Operation) (qs : List Q.Operation) (k : ℕ) (o : O.Operation) → are_matched os qs ≡ true → slice_get os k ≡ Some o → has_some (op_branches qs k) ≡ true
+matched_some [] qs k o h e = absurd (cc)
+matched_some (p ∷ os) [] k o h e = absurd (cc)
+matched_some (p ∷ os) (q ∷ qs) zero o h e =
+    right (p.replies == q.replies) (has_some q.branches) (right (length p.arguments == length q.arguments) _ (left (is_matched p q) (are_matched os qs) h))
+matched_some (p ∷ os) (q ∷ qs) (suc k) o h e = matched_some os qs k o (right (is_matched p q) (are_matched os qs) h) e
+
+-- ---- actions
+
+taken : (known : Known) (forms : List Trees) (actions : List Action) (a n : ℕ) → AreActionsOf known forms actions → a < length (map first_text forms) → ((k : ℕ) → slice_get (map parameter_count forms) a ≡ Some k → n ≡ k)
+    → takes (slice_get actions a) n ≡ true
+taken known [] actions a n h few f = absurd (omega (arith, few))
+taken known (t ∷ forms) [] a n h few f = absurd h
+taken known (t ∷ forms) (x ∷ actions) zero n h few f = same_number n (length x.parameters) (f (parameter_count t) refl ∙ sym h.0.0)
+taken known (t ∷ forms) (x ∷ actions) (suc a) n h few f = taken known forms actions a n h.1 (omega (arith, few)) f
+
+actions_stored : (known : Known) (D : Development) (forms : List Trees) (actions : List Action) → first_system D ≡ length known.columns → AreActionsOf known forms actions → list_all (action_is_resolved D) actions ≡ true
+actions_stored known D [] [] e h = refl
+actions_stored known D [] (x ∷ actions) e h = absurd h
+actions_stored known D (t ∷ forms) [] e h = absurd h
+actions_stored known D (t ∷ forms) (x ∷ actions) e h =
+    and_true (action_is_resolved D x) (list_all (action_is_resolved D) actions)
+    (subst (λ n. list_all (λ (u : Update). nat_lt u.column (column_count n)) x.updates ≡ true) (sym e) h.0.1)
+    (actions_stored known D forms actions e h.1)
+
+pub actions_resolved : (d : Declarations) (D : Development) (ps : List (Point × Outline)) → Fits d D ps → list_all (action_is_resolved D) D.actions ≡ true
+actions_resolved d D ps h = actions_stored (known_of d) D d.actions D.actions h.columns h.actions
+
+-- ---- riders
+
+deed_resolved : (d : Declarations) (D : Development) (ps : List (Point × Outline)) (o : ℕ) (x : Deed) → Fits d D ps → has_some (op_branches D.specification.operations o) ≡ true → deed_is_known (known_of d) x ≡ true → deed_is_resolved D o x ≡ true
+deed_resolved d D ps o (Assign u) h b e =
+    subst (λ n. (nat_le n u.column && nat_lt u.column (first_system D)) ≡ true) (sym h.auxiliaries) (subst (λ n. (nat_le d.declared.auxiliaries u.column && nat_lt u.column n) ≡ true) (sym h.columns) e)
+deed_resolved d D ps o (Marks Own) h b e = b
+deed_resolved d D ps o (Marks (Other t p)) h b e = h.branched p (below_of p (length d.declared.operations) e)
+deed_resolved d D ps o (Marks Note) h b e = b
+
+rider_resolved : (d : Declarations) (D : Development) (ps : List (Point × Outline)) (o : ℕ) → Fits d D ps → has_some (op_branches D.specification.operations o) ≡ true → (r : Rider) → rider_is_known (known_of d) r ≡ true → rider_is_resolved D o r ≡ true
+rider_resolved d D ps o h b r e =
+    and_true (condition_is_resolved r.condition) (deed_is_resolved D o r.deed) (left (condition_is_resolved r.condition) (deed_is_known (known_of d) r.deed) e)
+    (deed_resolved d D ps o r.deed h b (right (condition_is_resolved r.condition) (deed_is_known (known_of d) r.deed) e))
+
+-- ---- edges
+
+-- what is done at an edge is known; and without it nothing is stored there
+on_resolved : (d : Declarations) (D : Development) (ps : List (Point × Outline)) (o : ℕ) (e : Edge) (kind : EdgeKind) (ons : List On) → Fits d D ps → has_some (op_branches D.specification.operations o) ≡ true
+    → Every (IsOnKnown (known_of d)) ons → (is_some (on_for ons kind) ≡ false → is_empty e.updates ≡ true) → on_is_resolved D o e (on_for ons kind) ≡ true
+on_resolved d D ps o e kind [] h b g f = f refl
+on_resolved d D ps o e kind (x ∷ ons) h b g f = by_kind (same_kind x.edge kind) f where
+  by_kind : (c : Bool) → (is_some (cond c (Some x) (on_for ons kind)) ≡ false → is_empty e.updates ≡ true) → on_is_resolved D o e (cond c (Some x) (on_for ons kind)) ≡ true
+  by_kind true f =
+      and_true (takes (slice_get D.actions x.action) (length x.arguments)) (list_all (rider_is_resolved D o) x.riders)
+      (taken (known_of d) d.actions D.actions x.action (length x.arguments) h.actions g.0.0.0 g.0.0.1)
+      (all_weaker (rider_is_known (known_of d)) (rider_is_resolved D o) (rider_resolved d D ps o h b) x.riders g.0.1)
+  by_kind false f = on_resolved d D ps o e kind ons h b g.1 f
+
+not_both : {P : Type 0} (b : Bool) → b ≡ true → b ≡ false → P
+not_both true h g = absurd (cc)
+not_both false h g = absurd (cc)
+
+-- the edges of one point
+abbrev AreResolvedAt : Development → ℕ → List On → List Edge → Type 0
+AreResolvedAt D o ons es = list_all (λ (e : Edge). on_is_resolved D o e (on_for ons e.kind)) es ≡ true
+
+one : (a : Bool) → a ≡ true → (a && true) ≡ true
+one a h = and_true a true h refl
+
+two : (a b : Bool) → a ≡ true → b ≡ true → (a && (b && true)) ≡ true
+two a b h g = and_true a (b && true) h (one b g)
+
+point_edges : (d : Declarations) (D : Development) (ps : List (Point × Outline)) (k o : ℕ) (i : O.Instr) (ons : List On) → Fits d D ps → has_some (op_branches D.specification.operations o) ≡ true
+    → Every (IsOnKnown (known_of d)) ons → IsMet i ons → AreResolvedAt D o ons (edges_at D.object k i)
+point_edges d D ps k o (O.Load a t rs l) ons h b g m = one _ (on_resolved d D ps o _ Next ons h b g (λ n. refl))
+point_edges d D ps k o (O.Store a t vs l) ons h b g m = one _ (on_resolved d D ps o _ Next ons h b g (λ n. not_both (is_some (on_for ons Next)) m n))
+point_edges d D ps k o (O.Cas a t old new l r) ons h b g m =
+    two _ _ (on_resolved d D ps o _ Then ons h b g (λ n. not_both (is_some (on_for ons Then)) m n)) (on_resolved d D ps o _ Else ons h b g (λ n. refl))
+point_edges d D ps k o (O.Set rs vs l) ons h b g m = one _ (on_resolved d D ps o _ Next ons h b g (λ n. refl))
+point_edges d D ps k o (O.If c l r) ons h b g m = two _ _ (on_resolved d D ps o _ Then ons h b g (λ n. refl)) (on_resolved d D ps o _ Else ons h b g (λ n. refl))
+point_edges d D ps k o (O.Return vs) ons h b g m = one _ (on_resolved d D ps o _ Next ons h b g (λ n. refl))
+
+-- the edges of a point are those that stand at its number
+abbrev AtPlace : Development → ℕ → ℕ → List On → Type 0
+AtPlace D k o ons = (operation_at D.object k ≡ o) × ((kind : EdgeKind) → on_at D k kind ≡ on_for ons kind)
+
+edge_at : (D : Development) (k o : ℕ) (ons : List On) (e : Edge) → AtPlace D k o ons → e.point ≡ k → on_is_resolved D o e (on_for ons e.kind) ≡ true → edge_is_resolved D e ≡ true
+edge_at D k o ons e h p r =
+    ap₂ (λ n x. on_is_resolved D n e x) (ap (operation_at D.object) p ∙ h.0) (ap (λ n. on_at D n e.kind) p ∙ h.1 e.kind) ∙ r
+
+placed_edges : (D : Development) (k o : ℕ) (i : O.Instr) (ons : List On) → AtPlace D k o ons → AreResolvedAt D o ons (edges_at D.object k i) → list_all (edge_is_resolved D) (edges_at D.object k i) ≡ true
+placed_edges D k o (O.Load a t rs l) ons h r = one _ (edge_at D k o ons _ h refl (left _ true r))
+placed_edges D k o (O.Store a t vs l) ons h r = one _ (edge_at D k o ons _ h refl (left _ true r))
+placed_edges D k o (O.Cas a t old new l m) ons h r = two _ _ (edge_at D k o ons _ h refl (left _ _ r)) (edge_at D k o ons _ h refl (left _ true (right _ _ r)))
+placed_edges D k o (O.Set rs vs l) ons h r = one _ (edge_at D k o ons _ h refl (left _ true r))
+placed_edges D k o (O.If c l m) ons h r = two _ _ (edge_at D k o ons _ h refl (left _ _ r)) (edge_at D k o ons _ h refl (left _ true (right _ _ r)))
+placed_edges D k o (O.Return vs) ons h r = one _ (edge_at D k o ons _ h refl (left _ true r))
+
+-- ---- points
+
+-- what stands at the place of a point
+code_there : (before rest : List (Point × Outline)) (p : Point × Outline) → slice_get (map (λ q. q.0) (before ++ p ∷ rest)) (length before) ≡ Some p.0
+code_there [] rest p = refl
+code_there (q ∷ before) rest p = code_there before rest p
+
+outline_there : (before rest : List (Point × Outline)) (p : Point × Outline) → slice_get (map (λ q. q.1) (before ++ p ∷ rest)) (length before) ≡ Some p.1
+outline_there [] rest p = refl
+outline_there (q ∷ before) rest p = outline_there before rest p
+
+pub record IsThere (D : Development) (k : ℕ) (p : Point × Outline) : Type 0 where
+  code : slice_get D.object.points k ≡ Some p.0
+  outline : slice_get D.outlines k ≡ Some p.1
+
+there : (d : Declarations) (D : Development) (ps before rest : List (Point × Outline)) (k : ℕ) (p : Point × Outline) → Fits d D ps → ps ≡ before ++ p ∷ rest → length before ≡ k → IsThere D k p
+there d D ps before rest k p h e n = record {
+  code = ap₂ slice_get (h.points ∙ ap (map (λ q. q.0)) e) (sym n) ∙ code_there before rest p;
+  outline = ap₂ slice_get (h.outlines ∙ ap (map (λ q. q.1)) e) (sym n) ∙ outline_there before rest p;
+}
+
+variables : (b : Body) (o : O.Operation) → IsOperationOf b o → variable_total (Some (b.call.arguments ++ b.locals)) ≡ variable_count o
+variables b o h = omega (arith, length-append b.call.arguments b.locals, h.arguments, h.locals)
+
+-- what is said at a point
+pub record IsGood (D : Development) (k : ℕ) (p : Point × Outline) : Type 0 where
+  asserts : list_all (is_below (variables_at D.object (slice_get D.object.operations p.0.operation))) (asserts_at D k) ≡ true
+  edges : list_all (edge_is_resolved D) (edges_at D.object k p.0.instruction) ≡ true
+
+good : (d : Declarations) (D : Development) (ps : List (Point × Outline)) (k : ℕ) (p : Point × Outline) → Fits d D ps → IsAPoint d p → IsThere D k p → IsGood D k p
+good d D ps k p h (b, e, g) at =
+    let (o, f, fit) = found d.declared.bodies D.object.operations p.0.operation b h.operations e in
+    let some = matched_some D.object.operations D.specification.operations p.0.operation o h.matched f in
+    record {
+      asserts = subst (λ n. list_all (is_below n) (asserts_at D k) ≡ true) (variables b o fit ∙ sym (ap (variables_at D.object) f))
+      (subst (λ fs. list_all (is_below (variable_total (Some (b.call.arguments ++ b.locals)))) fs ≡ true) (sym (ap asserts_in at.outline)) g.asserts);
+      edges = placed_edges D k p.0.operation p.0.instruction p.1.ons (ap operation_in at.code, λ kind. ap (λ x. on_for (ons_in x) kind) at.outline)
+      (point_edges d D ps k p.0.operation p.0.instruction p.1.ons h some g.named g.met);
+    }
+
+one_behind : (before rest : List (Point × Outline)) (p : Point × Outline) (ps : List (Point × Outline)) → ps ≡ before ++ p ∷ rest → ps ≡ (before ++ p ∷ []) ++ rest
+one_behind before rest p ps e = e ∙ sym (append_assoc before (p ∷ []) rest)
+
+asserts_from : (d : Declarations) (D : Development) (ps before rest : List (Point × Outline)) (k : ℕ) → Fits d D ps → ps ≡ before ++ rest → length before ≡ k → Every (IsAPoint d) rest
+    → asserts_are_resolved D k (map (λ p. p.0) rest) ≡ true
+asserts_from d D ps before [] k h e n g = refl
+asserts_from d D ps before (p ∷ rest) k h e n g =
+    let ok = good d D ps k p h g.0 (there d D ps before rest k p h e n) in
+    and_true _ _ ok.asserts (asserts_from d D ps (before ++ p ∷ []) rest (suc k) h (one_behind before rest p ps e) (omega (arith, n, length-append before (p ∷ []))) g.1)
+
+edges_resolved_from : (d : Declarations) (D : Development) (ps before rest : List (Point × Outline)) (k : ℕ) → Fits d D ps → ps ≡ before ++ rest → length before ≡ k → Every (IsAPoint d) rest
+    → list_all (edge_is_resolved D) (edges_from D.object k (map (λ p. p.0) rest)) ≡ true
+edges_resolved_from d D ps before [] k h e n g = refl
+edges_resolved_from d D ps before (p ∷ rest) k h e n g =
+    let ok = good d D ps k p h g.0 (there d D ps before rest k p h e n) in
+    all_both (edge_is_resolved D) (edges_at D.object k p.0.instruction) (edges_from D.object (suc k) (map (λ p. p.0) rest)) ok.edges
+    (edges_resolved_from d D ps (before ++ p ∷ []) rest (suc k) h (one_behind before rest p ps e) (omega (arith, n, length-append before (p ∷ []))) g.1)
+
+pub asserts_resolved : (d : Declarations) (D : Development) (ps : List (Point × Outline)) → Fits d D ps → asserts_are_resolved D 0 D.object.points ≡ true
+asserts_resolved d D ps h = subst (λ qs. asserts_are_resolved D 0 qs ≡ true) (sym h.points) (asserts_from d D ps [] ps 0 h refl refl h.known)
+
+pub edges_resolved : (d : Declarations) (D : Development) (ps : List (Point × Outline)) → Fits d D ps → list_all (edge_is_resolved D) (edges_from D.object 0 D.object.points) ≡ true
+edges_resolved d D ps h = subst (λ qs. list_all (edge_is_resolved D) (edges_from D.object 0 qs) ≡ true) (sym h.points) (edges_resolved_from d D ps [] ps 0 h refl refl h.known)

@@ -1,0 +1,9 @@
+mod CodeAlone
+mod Counting
+mod FileReads
+mod MadeBodies
+mod Needed
+mod ObjectOf
+mod Outlined
+mod PlacedReads
+mod Walks
