@@ -98,7 +98,7 @@ pub(crate) fn read_bodies(
 ) -> Result<Vec<BodyText<(Point, Outline)>>, ReadFault>
     ensures { IsReading (λ bodies. map body_outlined bodies.items) (bodies_reading (declarations_seen declarations.now) object (number_of list.entry) (rest_of list.entry)) result }
 {
-    if list.len() < bodies_due(declarations.declared.operations.len()) as usize {
+    if list.len() < bodies_due(declarations.declared.operations.len()) {
         return Err(wrong(Pass::Shape, object));
     }
     read_placed(alloc, &Bodies(declarations), list)

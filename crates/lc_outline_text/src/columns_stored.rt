@@ -12,7 +12,7 @@ use lc_action::SystemColumns;
 use lc_base::{ColId, OutOfMemory};
 use lc_object_text::{behind_first, within_first};
 use lc_reading::{NameTable, next_part};
-use lc_rider_text::{Beside, Columns, Variables};
+use lc_rider_text::{Beside, Columns, Variables, number_at};
 use lc_sexp::Cursor;
 use lc_text::{ColumnUse, Scope};
 use std::alloc::Global;
@@ -35,7 +35,7 @@ fn column_of(columns: &NameTable<'_>, name: &str) -> Result<Option<ColId>, OutOf
 pub(crate) fn system_behind(columns: &NameTable<'_>) -> Result<SystemColumns, OutOfMemory>
     ensures { IfOk result (λ system. first_of system ≡ length (listed columns.now)) }
 {
-    match SystemColumns::new(ColId(columns.len())) {
+    match SystemColumns::new(ColId(number_at(columns.len())?)) {
         Some(system) => Ok(system),
         None => Err(OutOfMemory),
     }

@@ -95,13 +95,13 @@ pub(crate) fn read_all_declarations<'a>(
 }
 
 /// What stands behind the word of the form at this place, if it stands at one; else nothing.
-pub(crate) fn form_at<'a>(forms: &[Cursor<'a>], place: Option<u32>) -> Cursor<'a>
+pub(crate) fn form_at<'a>(forms: &[Cursor<'a>], place: Option<usize>) -> Cursor<'a>
     ensures { rest_of result ≡ form_at (rests_of forms.now) place }
 {
     let Some(place) = place else {
         return Cursor::empty();
     };
-    let Some(form) = forms.get(place as usize) else {
+    let Some(form) = forms.get(place) else {
         return Cursor::empty();
     };
     *form

@@ -51,13 +51,13 @@ fn label_place(word: &str, kind: EdgeKind) -> u8
 }
 
 /// The count at this place, if there is one.
-pub(crate) fn count_at(counts: &[u64], place: Option<u32>) -> u64
+pub(crate) fn count_at(counts: &[u64], place: Option<usize>) -> u64
     ensures { result ≡ count_at counts.now place }
 {
     let Some(place) = place else {
         return 0;
     };
-    match counts.get(place as usize) {
+    match counts.get(place) {
         Some(count) => *count,
         None => 0,
     }
@@ -93,7 +93,7 @@ fn array_columns(
     let Some(place) = declared.arrays.place(name) else {
         return Ok(Vec::new(alloc));
     };
-    let Some(span) = declared.spans.get(place as usize) else {
+    let Some(span) = declared.spans.get(place) else {
         return Ok(Vec::new(alloc));
     };
     columns_of_span(alloc, *span)

@@ -89,7 +89,7 @@ fn ways_with(
 {
     let declared = &declarations.declared;
     let columns = &declared.columns;
-    let own = branches_in(form_at(&declarations.operations, Some(operation)));
+    let own = branches_in(form_at(&declarations.operations, Some(operation as usize)));
     match word {
         "set" => set_way(alloc, columns, first_text(&list)),
         "lin" => mark_ways(alloc, columns, false, 2, own),
