@@ -9,7 +9,7 @@ use lc_text::{ColumnUse, Extra, Scope};
 /// The names of columns that a file declares: those of the specification, and those of the rest of the file.
 #[derive(Clone, Copy)]
 pub(crate) struct Columns<'a, 'b> {
-    own: &'b NameTable<'a>,
+    pub(crate) own: &'b NameTable<'a>,
     pub(crate) others: &'b NameTable<'a>,
     ghost numbered: { length (listed own.now) < 2 ^ 32 },
 }
@@ -34,7 +34,7 @@ impl<'a, 'b> Columns<'a, 'b> {
     }
 
     /// The column of this name, if it is one of the specification.
-    #[tactic(auto, using(crate::proofs::Places::next_place))]
+    #[tactic(auto, using(lc_reading::proofs::Places::place_below))]
     pub(crate) fn place(self, name: &str) -> Option<u32>
         ensures { result ≡ place_of (columns_seen self.entry).own name.now }
     {
@@ -98,7 +98,7 @@ impl Scope for InBranch<'_, '_> {
 
     ghost names = { λ scope. branch_names (columns_seen scope.columns).own (listed scope.variables) };
 
-    #[tactic(auto, using(crate::proofs::Places::next_place))]
+    #[tactic(auto, using(lc_reading::proofs::Places::place_below))]
     fn variable(&self, name: &str) -> Option<u32> {
         match self.variables.place(name) {
             Some(place) => Some(place as u32 + 1),
