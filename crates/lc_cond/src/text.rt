@@ -128,11 +128,7 @@ fn push_path(out: &mut String, path: Option<usize>) -> Result<(), OutOfMemory>
     }
 }
 
-fn push_which(
-    out: &mut String,
-    development: &Development,
-    which: Which,
-) -> Result<(), OutOfMemory>
+fn push_which(out: &mut String, development: &Development, which: Which) -> Result<(), OutOfMemory>
     ensures { OnOk result (string_bytes out.new ≡ string_bytes out.old ++ spaced (which_text (development_shown development.now) (which_of which))) }
 {
     match which {
@@ -146,11 +142,7 @@ fn push_which(
 }
 
 // Where a condition stands, word by word.
-fn push_place(
-    out: &mut String,
-    development: &Development,
-    place: &Place,
-) -> Result<(), OutOfMemory>
+fn push_place(out: &mut String, development: &Development, place: &Place) -> Result<(), OutOfMemory>
     ensures { let d = development_shown development.now in
         let p = place_of place.now in
         OnOk result (string_bytes out.new ≡ string_bytes out.old ++ (spaced (or_hyphen (name_at (point_names d)) p.point) ++ spaced (passage_text d p.passage) ++ spaced (or_hyphen decimal p.path) ++ spaced (which_text d p.which))) }
