@@ -1,5 +1,6 @@
 -- What stands beside the code of a development fits the code.
 use Rattle.std.proofs.Common.{◌≡◌, ℕ, zero, suc, ◌+◌, ◌<◌, Bool, true, false, ◌&&◌, ◌==◌, cond, List, [], ◌∷◌, ◌++◌, map, length, length-append, append_assoc, Option, Some, None, refl, sym, ap, ap₂, ◌∙◌, subst, arith}
+use Rattle.std.proofs.lemmas.Bool.{eq-eqb}
 use Rattle.std.proofs.lemmas.Bool.Decides.{nat_tests}
 use Rattle.std.specs.List.{list_all}
 use Rattle.std.specs.Prelude.{nat_lt, nat_le, slice_get, is_some}
@@ -34,9 +35,10 @@ use Rattle.lc_outline_text.specs.Declarations.{Declarations, known_of, parameter
 -- actions with so many parameters, which store in columns that there are
 abbrev pub AreActionsOf : Known → List Trees → List Action → Type 0
 AreActionsOf known [] [] = Unit {0}
-AreActionsOf known [] (a ∷ as) = ⊥
-AreActionsOf known (f ∷ fs) [] = ⊥
-AreActionsOf known (f ∷ fs) (a ∷ as) = ((length a.parameters ≡ parameter_count f) × (list_all (stores_below known) a.updates ≡ true)) × AreActionsOf known fs as
+AreActionsOf known [] (a ∷ actions) = ⊥
+AreActionsOf known (f ∷ forms) [] = ⊥
+AreActionsOf known (f ∷ forms) (a ∷ actions) =
+    ((length a.parameters ≡ parameter_count f) × (list_all (stores_below known) a.updates ≡ true)) × AreActionsOf known forms actions
 
 -- a development of what is declared
 pub record Fits (d : Declarations) (D : Development) (ps : List (Point × Outline)) : Type 0 where
@@ -52,11 +54,8 @@ pub record Fits (d : Declarations) (D : Development) (ps : List (Point × Outlin
 
 -- ---- tests
 
-same_number : (m n : ℕ) → m ≡ n → (m == n) ≡ true
-same_number zero zero e = refl
-same_number zero (suc n) e = absurd (omega (arith, e))
-same_number (suc m) zero e = absurd (omega (arith, e))
-same_number (suc m) (suc n) e = same_number m n (omega (arith, e))
+pub same_number : (m n : ℕ) → m ≡ n → (m == n) ≡ true
+same_number m n e = eq-eqb m n e
 
 below_of : (k n : ℕ) → nat_lt k n ≡ true → k < n
 below_of k n e = grind (arith, nat_tests)
@@ -136,53 +135,42 @@ rider_resolved d D ps o h b r e =
 on_resolved : (d : Declarations) (D : Development) (ps : List (Point × Outline)) (o : ℕ) (e : Edge) (kind : EdgeKind) (ons : List On) → Fits d D ps → has_some (op_branches D.specification.operations o) ≡ true
     → Every (IsOnKnown (known_of d)) ons → (is_some (on_for ons kind) ≡ false → is_empty e.updates ≡ true) → on_is_resolved D o e (on_for ons kind) ≡ true
 on_resolved d D ps o e kind [] h b g f = f refl
-on_resolved d D ps o e kind (x ∷ ons) h b g f = by_kind (same_kind x.edge kind) f where
-  by_kind : (c : Bool) → (is_some (cond c (Some x) (on_for ons kind)) ≡ false → is_empty e.updates ≡ true) → on_is_resolved D o e (cond c (Some x) (on_for ons kind)) ≡ true
-  by_kind true f =
+on_resolved d D ps o e kind (x ∷ ons) h b g f = by_kind (same_kind x.edge kind) (on_resolved d D ps o e kind ons h b g.1) f where
+  by_kind : (c : Bool) → ((is_some (on_for ons kind) ≡ false → is_empty e.updates ≡ true) → on_is_resolved D o e (on_for ons kind) ≡ true)
+      → (is_some (cond c (Some x) (on_for ons kind)) ≡ false → is_empty e.updates ≡ true) → on_is_resolved D o e (cond c (Some x) (on_for ons kind)) ≡ true
+  by_kind true next f =
       and_true (takes (slice_get D.actions x.action) (length x.arguments)) (list_all (rider_is_resolved D o) x.riders)
       (taken (known_of d) d.actions D.actions x.action (length x.arguments) h.actions g.0.0.0 g.0.0.1)
       (all_weaker (rider_is_known (known_of d)) (rider_is_resolved D o) (rider_resolved d D ps o h b) x.riders g.0.1)
-  by_kind false f = on_resolved d D ps o e kind ons h b g.1 f
+  by_kind false next f = next f
 
 not_both : {P : Type 0} (b : Bool) → b ≡ true → b ≡ false → P
 not_both true h g = absurd (cc)
 not_both false h g = absurd (cc)
 
--- the edges of one point
-abbrev AreResolvedAt : Development → ℕ → List On → List Edge → Type 0
-AreResolvedAt D o ons es = list_all (λ (e : Edge). on_is_resolved D o e (on_for ons e.kind)) es ≡ true
+-- an edge of the point of this number, which stores nothing where it lacks an `on`
+abbrev IsEdgeOf : ℕ → List On → Edge → Type 0
+IsEdgeOf k ons e = (e.point ≡ k) × (is_some (on_for ons e.kind) ≡ false → is_empty e.updates ≡ true)
 
-one : (a : Bool) → a ≡ true → (a && true) ≡ true
-one a h = and_true a true h refl
-
-two : (a b : Bool) → a ≡ true → b ≡ true → (a && (b && true)) ≡ true
-two a b h g = and_true a (b && true) h (one b g)
-
-point_edges : (d : Declarations) (D : Development) (ps : List (Point × Outline)) (k o : ℕ) (i : O.Instr) (ons : List On) → Fits d D ps → has_some (op_branches D.specification.operations o) ≡ true
-    → Every (IsOnKnown (known_of d)) ons → IsMet i ons → AreResolvedAt D o ons (edges_at D.object k i)
-point_edges d D ps k o (O.Load a t rs l) ons h b g m = one _ (on_resolved d D ps o _ Next ons h b g (λ n. refl))
-point_edges d D ps k o (O.Store a t vs l) ons h b g m = one _ (on_resolved d D ps o _ Next ons h b g (λ n. not_both (is_some (on_for ons Next)) m n))
-point_edges d D ps k o (O.Cas a t old new l r) ons h b g m =
-    two _ _ (on_resolved d D ps o _ Then ons h b g (λ n. not_both (is_some (on_for ons Then)) m n)) (on_resolved d D ps o _ Else ons h b g (λ n. refl))
-point_edges d D ps k o (O.Set rs vs l) ons h b g m = one _ (on_resolved d D ps o _ Next ons h b g (λ n. refl))
-point_edges d D ps k o (O.If c l r) ons h b g m = two _ _ (on_resolved d D ps o _ Then ons h b g (λ n. refl)) (on_resolved d D ps o _ Else ons h b g (λ n. refl))
-point_edges d D ps k o (O.Return vs) ons h b g m = one _ (on_resolved d D ps o _ Next ons h b g (λ n. refl))
+edges_of_point : (object : O.Object) (k : ℕ) (i : O.Instr) (ons : List On) → IsMet i ons → Every (IsEdgeOf k ons) (edges_at object k i)
+edges_of_point object k (O.Load a t rs l) ons m = ((refl, λ n. refl), tt)
+edges_of_point object k (O.Store a t vs l) ons m = ((refl, λ n. not_both (is_some (on_for ons Next)) m n), tt)
+edges_of_point object k (O.Cas a t old new l r) ons m = ((refl, λ n. not_both (is_some (on_for ons Then)) m n), ((refl, λ n. refl), tt))
+edges_of_point object k (O.Set rs vs l) ons m = ((refl, λ n. refl), tt)
+edges_of_point object k (O.If c l r) ons m = ((refl, λ n. refl), ((refl, λ n. refl), tt))
+edges_of_point object k (O.Return vs) ons m = ((refl, λ n. refl), tt)
 
 -- the edges of a point are those that stand at its number
 abbrev AtPlace : Development → ℕ → ℕ → List On → Type 0
 AtPlace D k o ons = (operation_at D.object k ≡ o) × ((kind : EdgeKind) → on_at D k kind ≡ on_for ons kind)
 
-edge_at : (D : Development) (k o : ℕ) (ons : List On) (e : Edge) → AtPlace D k o ons → e.point ≡ k → on_is_resolved D o e (on_for ons e.kind) ≡ true → edge_is_resolved D e ≡ true
-edge_at D k o ons e h p r =
-    ap₂ (λ n x. on_is_resolved D n e x) (ap (operation_at D.object) p ∙ h.0) (ap (λ n. on_at D n e.kind) p ∙ h.1 e.kind) ∙ r
-
-placed_edges : (D : Development) (k o : ℕ) (i : O.Instr) (ons : List On) → AtPlace D k o ons → AreResolvedAt D o ons (edges_at D.object k i) → list_all (edge_is_resolved D) (edges_at D.object k i) ≡ true
-placed_edges D k o (O.Load a t rs l) ons h r = one _ (edge_at D k o ons _ h refl (left _ true r))
-placed_edges D k o (O.Store a t vs l) ons h r = one _ (edge_at D k o ons _ h refl (left _ true r))
-placed_edges D k o (O.Cas a t old new l m) ons h r = two _ _ (edge_at D k o ons _ h refl (left _ _ r)) (edge_at D k o ons _ h refl (left _ true (right _ _ r)))
-placed_edges D k o (O.Set rs vs l) ons h r = one _ (edge_at D k o ons _ h refl (left _ true r))
-placed_edges D k o (O.If c l m) ons h r = two _ _ (edge_at D k o ons _ h refl (left _ _ r)) (edge_at D k o ons _ h refl (left _ true (right _ _ r)))
-placed_edges D k o (O.Return vs) ons h r = one _ (edge_at D k o ons _ h refl (left _ true r))
+placed_edges : (d : Declarations) (D : Development) (ps : List (Point × Outline)) (k o : ℕ) (ons : List On) (es : List Edge) → Fits d D ps → has_some (op_branches D.specification.operations o) ≡ true
+    → Every (IsOnKnown (known_of d)) ons → AtPlace D k o ons → Every (IsEdgeOf k ons) es → list_all (edge_is_resolved D) es ≡ true
+placed_edges d D ps k o ons [] h b g at f = refl
+placed_edges d D ps k o ons (e ∷ es) h b g at f =
+    and_true (edge_is_resolved D e) (list_all (edge_is_resolved D) es)
+    (ap₂ (λ n x. on_is_resolved D n e x) (ap (operation_at D.object) f.0.0 ∙ at.0) (ap (λ n. on_at D n e.kind) f.0.0 ∙ at.1 e.kind) ∙ on_resolved d D ps o e e.kind ons h b g f.0.1)
+    (placed_edges d D ps k o ons es h b g at f.1)
 
 -- ---- points
 
@@ -220,8 +208,8 @@ good d D ps k p h (b, e, g) at =
     record {
       asserts = subst (λ n. list_all (is_below n) (asserts_at D k) ≡ true) (variables b o fit ∙ sym (ap (variables_at D.object) f))
       (subst (λ fs. list_all (is_below (variable_total (Some (b.call.arguments ++ b.locals)))) fs ≡ true) (sym (ap asserts_in at.outline)) g.asserts);
-      edges = placed_edges D k p.0.operation p.0.instruction p.1.ons (ap operation_in at.code, λ kind. ap (λ x. on_for (ons_in x) kind) at.outline)
-      (point_edges d D ps k p.0.operation p.0.instruction p.1.ons h some g.named g.met);
+      edges = placed_edges d D ps k p.0.operation p.1.ons (edges_at D.object k p.0.instruction) h some g.named (ap operation_in at.code, λ kind. ap (λ x. on_for (ons_in x) kind) at.outline)
+      (edges_of_point D.object k p.0.instruction p.1.ons g.met);
     }
 
 one_behind : (before rest : List (Point × Outline)) (p : Point × Outline) (ps : List (Point × Outline)) → ps ≡ before ++ p ∷ rest → ps ≡ (before ++ p ∷ []) ++ rest

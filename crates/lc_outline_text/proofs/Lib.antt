@@ -1,9 +1,12 @@
+mod Agreed
 mod CodeAlone
 mod Counting
 mod FileReads
+mod Fitting
 mod MadeBodies
 mod Needed
 mod ObjectOf
 mod Outlined
 mod PlacedReads
+mod SidesHold
 mod Walks

@@ -22,8 +22,6 @@ use Rattle.lc_object_text.specs.Instructions.{load_of, load_reading, store_of, s
 use Rattle.lc_object_text.specs.ObjectNames.{text_in, first_text}
 use Rattle.lc_object_text.specs.Rows.{cons}
 use Rattle.lc_object_text.specs.Sections.{parts_in, before_others, forms_in}
-use Rattle.lc_object_text.specs.declared.words.Head.{Head}
-use Rattle.lc_object_text.specs.declared.words.Head.TheVariants as H
 use Rattle.lc_outline.specs.Development.{On, on_for, same_kind}
 use Rattle.lc_rider_text.specs.Edges.{edge_of, edge_in, found_edge, is_refused, without}
 use Rattle.lc_rider_text.specs.Heads.{kind_of}
@@ -77,16 +75,24 @@ tests w names code n m (a ▸ none) = tt
 tests w names code n m (a ▸ l ▸ none) = tt
 tests w names code n m (a ▸ l ▸ k ▸ ts) = both_holds (λ p. Unit {0}) (λ q. Unit {0}) (IsOfWord w) if_of _ _ (anything _) (anything _) (λ p q h g. tt)
 
+-- the first whose test holds
+first_of : {X : Type 0} (P : Option X → Type 0) (o p q r s : Option X) (a b c d e : Bool) → P o → (b ≡ true → P p) → (c ≡ true → P q) → P r → P s → P None → P (cond a o (cond b p (cond c q (cond d r (cond e s None)))))
+first_of P o p q r s true b c d e h i j k l m = h
+first_of P o p q r s false true c d e h i j k l m = i refl
+first_of P o p q r s false false true d e h i j k l m = j refl
+first_of P o p q r s false false false true e h i j k l m = k
+first_of P o p q r s false false false false true h i j k l m = l
+first_of P o p q r s false false false false false h i j k l m = m
+
 by_head : (w : List ℕ) (names : Names) (code : CodeNames) (n m : ℕ) (ts : Trees) → Holds (IsOfWord w) (code_reading names code n m ts (head_of w))
-by_head w names code n m ts = by_tests (is w (codes "load")) (is w (codes "store")) (is w (codes "cas")) (is w (codes "set")) (is w (codes "if")) refl refl where
-  by_tests : (a b c d e : Bool) → is w (codes "store") ≡ b → is w (codes "cas") ≡ c
-      → Holds (IsOfWord w) (code_reading names code n m ts (cond a (Some H.Load) (cond b (Some H.Store) (cond c (Some H.Cas) (cond d (Some H.Set) (cond e (Some H.If) None))))))
-  by_tests true b c d e h g = behind_holds (IsOfWord w) 4 m ts (load_reading names code n m ts) (loads w names code n m ts)
-  by_tests false true c d e h g = behind_holds (IsOfWord w) 4 m ts (store_reading names code n m ts) (stores_row w h names code n m ts)
-  by_tests false false true d e h g = behind_holds (IsOfWord w) 6 m ts (cas_reading names code n m ts) (exchanges w g names code n m ts)
-  by_tests false false false true e h g = behind_holds (IsOfWord w) 2 m ts (set_reading names code n m ts) (sets w names code n m ts)
-  by_tests false false false false true h g = behind_holds (IsOfWord w) 3 m ts (if_reading names code n m ts) (tests w names code n m ts)
-  by_tests false false false false false h g = tt
+by_head w names code n m ts =
+    first_of (λ o. Holds (IsOfWord w) (code_reading names code n m ts o)) (head_of (codes "load")) (head_of (codes "store")) (head_of (codes "cas")) (head_of (codes "set")) (head_of (codes "if"))
+    (is w (codes "load")) (is w (codes "store")) (is w (codes "cas")) (is w (codes "set")) (is w (codes "if"))
+    (behind_holds (IsOfWord w) 4 m ts (load_reading names code n m ts) (loads w names code n m ts))
+    (λ e. behind_holds (IsOfWord w) 4 m ts (store_reading names code n m ts) (stores_row w e names code n m ts))
+    (λ e. behind_holds (IsOfWord w) 6 m ts (cas_reading names code n m ts) (exchanges w e names code n m ts))
+    (behind_holds (IsOfWord w) 2 m ts (set_reading names code n m ts) (sets w names code n m ts))
+    (behind_holds (IsOfWord w) 3 m ts (if_reading names code n m ts) (tests w names code n m ts)) tt
 
 pub instruction_word : (names : Names) (code : CodeNames) (n : ℕ) (t : Tree) → Holds (IsOfWord (code_word t)) (instruction_reading names code n t)
 instruction_word names code n (atom w) = tt

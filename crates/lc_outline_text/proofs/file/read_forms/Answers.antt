@@ -13,8 +13,11 @@ use Rattle.lc_reading.specs.Parts.{tree_of, place_of}
 use Rattle.lc_reading.specs.Readings.{fine}
 use Rattle.lc_reading.specs.Results.{IsReading}
 use Rattle.lc_seq.specs.declared.specification.TextSpec.{TextSpec}
+use Rattle.lc_outline_text.proofs.Agreed.{AreSame}
+use Rattle.lc_outline_text.proofs.Fitting.{asserts_resolved}
 use Rattle.lc_outline_text.proofs.ObjectOf.{object_is_one}
 use Rattle.lc_outline_text.proofs.PlacedReads.{forms_at}
+use Rattle.lc_outline_text.proofs.SidesHold.{AreSides}
 use Rattle.lc_outline_text.specs.DeclarationsView.{declarations_seen}
 use Rattle.lc_outline_text.specs.Developments.{development_of, forms_reading}
 use Rattle.lc_outline_text.specs.Views.{specifications_shown, object_seen}
