@@ -60,7 +60,7 @@ same_number m n e = eq-eqb m n e
 below_of : (k n : ℕ) → nat_lt k n ≡ true → k < n
 below_of k n e = grind (arith, nat_tests)
 
-left : (a b : Bool) → (a && b) ≡ true → a ≡ true
+pub left : (a b : Bool) → (a && b) ≡ true → a ≡ true
 left true b h = refl
 left false b h = absurd (cc)
 
