@@ -1,18 +1,17 @@
 -- A specification that is read says of its operations what its object sees of them.
-use Rattle.std.proofs.Common.{◌≡◌, ℕ, zero, suc, ◌+◌, ◌≤◌, ◌<◌, Bool, true, false, ◌&&◌, ◌==◌, cond, List, [], ◌∷◌, ◌++◌, length, length-append, Option, Some, None, refl, sym, ap, ◌∙◌, arith}
+use Rattle.std.proofs.Common.{◌≡◌, ℕ, zero, suc, ◌+◌, ◌≤◌, ◌<◌, Bool, true, false, ◌&&◌, ◌==◌, cond, List, [], ◌∷◌, ◌++◌, length, Option, Some, None, refl, sym, ap, ◌∙◌, arith}
 use Rattle.std.specs.Prelude.{ℤ, pos, negsuc, codes, nat_lt}
 use Rattle.lc_sexp.specs.Numerals.{integer_of}
-use Rattle.lc_sexp.specs.Parts.{fits, beyond, fits_i64, integer_within, integer_fit}
+use Rattle.lc_sexp.specs.Parts.{fits, beyond, integer_within}
 use Rattle.lc_sexp.specs.TreeCode.{tree_count}
 use Rattle.lc_sexp.specs.Trees.{Tree, Trees, atom, list, none, ◌▸◌, item_count}
 use Rattle.lc_reading.proofs.Holding.{Holds, anything, mapped_holds, both_holds, three_holds, limited_holds, if_holds, and_true}
 use Rattle.lc_reading.specs.Listed.{declared_by, names_among}
 use Rattle.lc_reading.specs.Naming.{is_full, name_reading}
-use Rattle.lc_reading.specs.Readings.{Reading, fine, flawed, wrong}
+use Rattle.lc_reading.specs.Readings.{Reading, fine, wrong}
 use Rattle.lc_reading.specs.Rows.{each_reading, first_name, second_name, declared_reading}
 use Rattle.lc_reading.specs.declared.pass.Pass.TheVariants.{Bound}
 use Rattle.lc_text.specs.Terms.{pair, triple}
-use Rattle.lc_object.specs.Syntax as O
 use Rattle.lc_object.specs.Syntax.{Point}
 use Rattle.lc_object_text.proofs.Holding.{weaker, Each, form_holds}
 use Rattle.lc_object_text.proofs.SignatureHolds.{IsSignature, IsOperation, columns_behind}
@@ -20,9 +19,9 @@ use Rattle.lc_object_text.specs.ObjectNames.{Declared, items_within, within_firs
 use Rattle.lc_object_text.specs.Objects.{Signature, operations_from}
 use Rattle.lc_object_text.specs.Points.{BodyText}
 use Rattle.lc_object_text.specs.Sections.{parts_in}
-use Rattle.lc_outline.specs.Resolved.{has_some, is_matched, are_matched}
+use Rattle.lc_outline.specs.Resolved.{has_some, are_matched}
 use Rattle.lc_seq.specs.Branches.{op_branches}
-use Rattle.lc_seq.specs.Specification.{Column, Branch, Operation, Specification}
+use Rattle.lc_seq.specs.Specification.{Operation, Specification}
 use Rattle.lc_spec_text.specs.Operations.{natural, few, count_reading, arguments_reading, signature_reading, variables_in, operation_parts_reading, the_operation, operation_reading, count_in}
 use Rattle.lc_spec_text.specs.Branches.{branch_reading}
 use Rattle.lc_spec_text.specs.Scopes.{Columns, client, branch_names}

@@ -1,5 +1,5 @@
 -- A development that is read is resolved.
-use Rattle.std.proofs.Common.{◌≡◌, ℕ, zero, suc, ◌+◌, ◌≤◌, ◌<◌, Bool, true, ◌&&◌, ◌==◌, List, [], ◌∷◌, ◌++◌, map, length, length-append, refl, sym, ap, ◌∙◌, subst, arith}
+use Rattle.std.proofs.Common.{◌≡◌, ℕ, zero, suc, ◌+◌, ◌≤◌, ◌<◌, true, ◌==◌, List, [], ◌∷◌, ◌++◌, map, length, length-append, refl, sym, ap, ◌∙◌, subst, arith}
 use Rattle.std.proofs.lemmas.List.{length-map}
 use Rattle.std.specs.List.{list_all}
 use Rattle.std.specs.Prelude.{codes}
@@ -7,20 +7,20 @@ use Rattle.lc_sexp.specs.Parts.{fits, form_fit}
 use Rattle.lc_sexp.specs.TreeCode.{tree_count}
 use Rattle.lc_sexp.specs.Trees.{Tree, Trees, none, ◌▸◌, item_count}
 use Rattle.lc_reading.proofs.Holding.{Holds, held, anything, both_holds, ended_holds, and_true}
-use Rattle.lc_reading.specs.Readings.{Reading, fine}
+use Rattle.lc_reading.specs.Readings.{fine}
 use Rattle.lc_text.specs.Terms.{pair}
 use Rattle.lc_object.specs.Syntax.{Point}
 use Rattle.lc_object.specs.WellFormed.{is_object}
-use Rattle.lc_object_text.proofs.ArrayHolds.{AreArrays, columns_count, concretes_counted}
+use Rattle.lc_object_text.proofs.ArrayHolds.{columns_count, concretes_counted}
 use Rattle.lc_object_text.proofs.BodiesHold.{AreBodies}
-use Rattle.lc_object_text.proofs.Holding.{weaker, and_holds, each_counted, each_form, parts_of_all, some_forms, parts_counted}
-use Rattle.lc_object_text.proofs.ObjectHolds.{SpecificationFits, ObjectFits, CodeFits, names_counted, specification_fits, object_holds, code_fits}
+use Rattle.lc_object_text.proofs.Holding.{weaker, and_holds, each_counted, each_form, some_forms, parts_counted}
+use Rattle.lc_object_text.proofs.ObjectHolds.{SpecificationFits, ObjectFits, names_counted, specification_fits, object_holds, code_fits}
 use Rattle.lc_object_text.proofs.SignatureHolds.{IsOperation, IsSpecification, specification_holds}
-use Rattle.lc_object_text.specs.ObjectNames.{Declared, first_text, later, names_of_columns, columns_of_arrays, bodies_due, abstracts_in, arrays_in, auxiliaries_in, operations_in, declared_in_sections}
+use Rattle.lc_object_text.specs.ObjectNames.{first_text, later, names_of_columns, columns_of_arrays, bodies_due, abstracts_in, arrays_in, auxiliaries_in, operations_in, declared_in_sections}
 use Rattle.lc_object_text.specs.Objects as O
 use Rattle.lc_object_text.specs.Points.{BodyText, code_alone}
 use Rattle.lc_object_text.specs.Sections.{parts_in, Sections, sections_of}
-use Rattle.lc_outline.specs.Development.{Development, Outline, first_system, invariant_of}
+use Rattle.lc_outline.specs.Development.{Development, first_system, invariant_of}
 use Rattle.lc_outline.specs.Resolved.{is_below, are_matched, asserts_are_resolved, action_is_resolved, edge_is_resolved, is_resolved}
 use Rattle.lc_object.specs.Edges.{edges}
 use Rattle.lc_seq.specs.SpecView.{column_of, operations_of}
@@ -34,7 +34,7 @@ use Rattle.lc_outline_text.proofs.ObjectOf.{IsObjectOf, objects, object_is_one}
 use Rattle.lc_outline_text.proofs.Outlined.{AreBodiesOf, bodies_outlined, all_points, each_point, code_points, outline_points}
 use Rattle.lc_outline_text.proofs.SidesHold.{AreSides, sides_hold}
 use Rattle.lc_outline_text.specs.Bodies.{bodies_reading}
-use Rattle.lc_outline_text.specs.Declarations.{Declarations, declarations_in, declarations_of}
+use Rattle.lc_outline_text.specs.Declarations.{declarations_in, declarations_of}
 use Rattle.lc_outline_text.specs.Developments.{Parts, specification_reading, tables_reading, object_reading, second_form_reading, code_of, development_of, forms_reading}
 use Rattle.lc_outline_text.specs.Sides.{Sides, sides_reading}
 
