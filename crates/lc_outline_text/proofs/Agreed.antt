@@ -1,18 +1,17 @@
 -- A specification that is read says of its operations what its object sees of them.
-use Rattle.std.proofs.Common.{◌≡◌, ℕ, suc, ◌+◌, ◌≤◌, ◌<◌, Bool, true, false, ◌&&◌, ◌==◌, cond, List, [], ◌∷◌, ◌++◌, length, length-append, Option, Some, None, refl, sym, ap, ◌∙◌, arith}
+use Rattle.std.proofs.Common.{◌≡◌, ℕ, zero, suc, ◌+◌, ◌≤◌, ◌<◌, Bool, true, false, ◌&&◌, ◌==◌, cond, List, [], ◌∷◌, ◌++◌, length, Option, Some, None, refl, sym, ap, ◌∙◌, arith}
 use Rattle.std.specs.Prelude.{ℤ, pos, negsuc, codes, nat_lt}
 use Rattle.lc_sexp.specs.Numerals.{integer_of}
-use Rattle.lc_sexp.specs.Parts.{fits, beyond, fits_i64, integer_within, integer_fit}
+use Rattle.lc_sexp.specs.Parts.{fits, beyond, integer_within}
 use Rattle.lc_sexp.specs.TreeCode.{tree_count}
 use Rattle.lc_sexp.specs.Trees.{Tree, Trees, atom, list, none, ◌▸◌, item_count}
 use Rattle.lc_reading.proofs.Holding.{Holds, anything, mapped_holds, both_holds, three_holds, limited_holds, if_holds, and_true}
 use Rattle.lc_reading.specs.Listed.{declared_by, names_among}
 use Rattle.lc_reading.specs.Naming.{is_full, name_reading}
-use Rattle.lc_reading.specs.Readings.{Reading, fine, flawed, wrong}
+use Rattle.lc_reading.specs.Readings.{Reading, fine, wrong}
 use Rattle.lc_reading.specs.Rows.{each_reading, first_name, second_name, declared_reading}
 use Rattle.lc_reading.specs.declared.pass.Pass.TheVariants.{Bound}
 use Rattle.lc_text.specs.Terms.{pair, triple}
-use Rattle.lc_object.specs.Syntax as O
 use Rattle.lc_object.specs.Syntax.{Point}
 use Rattle.lc_object_text.proofs.Holding.{weaker, Each, form_holds}
 use Rattle.lc_object_text.proofs.SignatureHolds.{IsSignature, IsOperation, columns_behind}
@@ -20,9 +19,9 @@ use Rattle.lc_object_text.specs.ObjectNames.{Declared, items_within, within_firs
 use Rattle.lc_object_text.specs.Objects.{Signature, operations_from}
 use Rattle.lc_object_text.specs.Points.{BodyText}
 use Rattle.lc_object_text.specs.Sections.{parts_in}
-use Rattle.lc_outline.specs.Resolved.{has_some, is_matched, are_matched}
+use Rattle.lc_outline.specs.Resolved.{has_some, are_matched}
 use Rattle.lc_seq.specs.Branches.{op_branches}
-use Rattle.lc_seq.specs.Specification.{Column, Branch, Operation, Specification}
+use Rattle.lc_seq.specs.Specification.{Operation, Specification}
 use Rattle.lc_spec_text.specs.Operations.{natural, few, count_reading, arguments_reading, signature_reading, variables_in, operation_parts_reading, the_operation, operation_reading, count_in}
 use Rattle.lc_spec_text.specs.Branches.{branch_reading}
 use Rattle.lc_spec_text.specs.Scopes.{Columns, client, branch_names}
@@ -167,21 +166,21 @@ same d i (t ▸ ts) (s ∷ ss) [] h g = absurd g
 same d i (t ▸ ts) (s ∷ ss) (q ∷ qs) h g =
     let us = parts_in (codes "op") t in
     let c : IsSignature d i us s = h.0.1 in
-    ((c.arguments ∙ sym g.0.arguments, (same_replies (later (later us)) s.replies q.replies c.replies c.at_most g.0.replies, g.0.branches)), same d (i + 1) ts ss qs h.1 g.1)
+    ((c.arguments ∙ sym g.0.arguments, same_replies (later (later us)) s.replies q.replies c.replies c.at_most g.0.replies, g.0.branches), same d (i + 1) ts ss qs h.1 g.1)
 
 pub matched : (e : ℕ) (ss : List Signature) (bs : List (BodyText Point)) (qs : List Operation) → length ss ≤ length bs → AreSame ss qs → are_matched (operations_from e ss bs) qs ≡ true
-matched e [] bs [] few h = refl
-matched e [] bs (q ∷ qs) few h = absurd h
-matched e (s ∷ ss) bs [] few h = absurd h
-matched e (s ∷ ss) [] (q ∷ qs) few h = absurd (omega (arith, few))
-matched e (s ∷ ss) (b ∷ bs) (q ∷ qs) few h =
+matched e [] bs [] room h = refl
+matched e [] bs (q ∷ qs) room h = absurd h
+matched e (s ∷ ss) bs [] room h = absurd h
+matched e (s ∷ ss) [] (q ∷ qs) room h = absurd (omega (arith, room))
+matched e (s ∷ ss) (b ∷ bs) (q ∷ qs) room h =
     and_true _ (are_matched (operations_from (e + length b.points) ss bs) qs)
     (and_true (length s.arguments == length q.arguments) ((s.replies == q.replies) && has_some q.branches) (same_number (length s.arguments) (length q.arguments) h.0.0)
-    (and_true (s.replies == q.replies) (has_some q.branches) (same_number s.replies q.replies h.0.1.0) h.0.1.1))
-    (matched (e + length b.points) ss bs qs (omega (arith, few)) h.1)
+    (and_true (s.replies == q.replies) (has_some q.branches) (same_number s.replies q.replies h.0.1) h.0.2))
+    (matched (e + length b.points) ss bs qs (omega (arith, room)) h.1)
 
 pub branched : (ss : List Signature) (qs : List Operation) (k : ℕ) → AreSame ss qs → k < length ss → has_some (op_branches qs k) ≡ true
-branched [] qs k h few = absurd (omega (arith, few))
-branched (s ∷ ss) [] k h few = absurd h
-branched (s ∷ ss) (q ∷ qs) 0 h few = h.0.1.1
-branched (s ∷ ss) (q ∷ qs) (suc k) h few = branched ss qs k h.1 (omega (arith, few))
+branched [] qs k h room = absurd (omega (arith, room))
+branched (s ∷ ss) [] k h room = absurd h
+branched (s ∷ ss) (q ∷ qs) zero h room = h.0.2
+branched (s ∷ ss) (q ∷ qs) (suc k) h room = branched ss qs k h.1 (omega (arith, room))

@@ -1,24 +1,23 @@
 -- What reads as bodies with their outlines reads as the code of these bodies.
-use Rattle.std.proofs.Common.{◌≡◌, ℕ, ◌+◌, Bool, true, false, cond, List, [], ◌∷◌, map, length, Option, Some, None, refl, ap, ap₂, ◌∙◌, subst}
-use Rattle.std.specs.Prelude.{codes, ◌&&◌, nat_lt, slice_get}
+use Rattle.std.proofs.Common.{◌≡◌, ℕ, ◌+◌, Bool, true, false, cond, List, [], ◌∷◌, map, length, Option, Some, None, refl, ap₂}
+use Rattle.std.specs.Prelude.{codes, nat_lt, slice_get}
 use Rattle.lc_sexp.specs.TreeCode.{tree_count}
 use Rattle.lc_sexp.specs.Trees.{Tree, Trees, atom, list, none, ◌▸◌, item_count}
-use Rattle.lc_reading.proofs.Holding.{Holds, held, both_holds, if_holds, anything}
+use Rattle.lc_reading.proofs.Holding.{Holds, both_holds, if_holds}
 use Rattle.lc_reading.specs.Readings.{Reading, fine, flawed, wrong, both, behind_reading}
 use Rattle.lc_reading.specs.Rows.{each_reading}
 use Rattle.lc_reading.specs.Words.{is}
 use Rattle.lc_reading.specs.declared.pass.Pass.TheVariants.{Shape}
 use Rattle.lc_text.specs.Formulas.{formula_reading}
 use Rattle.lc_text.specs.Names.{Names}
-use Rattle.lc_term.specs.Syntax.{Formula}
 use Rattle.lc_object.specs.Syntax.{Point}
 use Rattle.lc_object_text.specs.Headed.{nothing_more, headed_reading}
 use Rattle.lc_object_text.specs.Instructions.{instruction_reading}
 use Rattle.lc_object_text.specs.ObjectNames.{Declared, Body, bodies_due, code_names, body_names}
 use Rattle.lc_object_text.specs.Objects.{due_body_reading, ith_body_reading, bodies_reading as code_bodies_reading}
-use Rattle.lc_object_text.specs.Points.{Beside, is_shaped, point_of, point_name_reading, point_parts, point_reading, points_reading, BodyText, body_of, locals_reading, is_of_another, body_parts, body_reading, point_alone, nothing_of, sides_reading, code_alone}
+use Rattle.lc_object_text.specs.Points.{Beside, is_shaped, point_of, point_name_reading, point_parts, point_reading, points_reading, body_of, locals_reading, is_of_another, body_parts, point_alone, nothing_of, sides_reading, code_alone}
 use Rattle.lc_object_text.specs.Rows.{cons, placed_reading}
-use Rattle.lc_outline.specs.Development.{On, Outline}
+use Rattle.lc_outline.specs.Development.{Outline}
 use Rattle.lc_rider_text.specs.Known.{Known}
 use Rattle.lc_rider_text.specs.Ons.{on_parts_reading, on_reading, ons_reading}
 use Rattle.lc_rider_text.specs.Edges.{without, edge_in}
@@ -26,7 +25,7 @@ use Rattle.lc_rider_text.specs.declared.edges.Edges.{Edges}
 use Rattle.lc_outline_text.specs.Bodies.{names_in, due_reading, ith_reading, bodies_reading}
 use Rattle.lc_outline_text.specs.Declarations.{Declarations, known_of, own_branches}
 use Rattle.lc_outline_text.specs.Developments.{code_of}
-use Rattle.lc_outline_text.specs.Needs.{code_word, edges_of, lacks_on}
+use Rattle.lc_outline_text.specs.Needs.{code_word, edges_of}
 use Rattle.lc_outline_text.specs.Points.{formulas_in_reading, outline_of, outline_reading, beside}
 
 all_read : {X : Type 0} (P : X → Type 0) (r : Reading X) → ((x : X) → P x) → Holds P r

@@ -1,5 +1,5 @@
 -- What is told of a whole file.
-use Rattle.std.proofs.Common.{◌≡◌, ℕ, Bool, true, false, inr, List, Ok, Err, refl, sym, ap, ◌∙◌, arith}
+use Rattle.std.proofs.Common.{◌≡◌, ℕ, Bool, true, false, inr, List, Ok, Err, refl, ap, ◌∙◌, arith}
 use Rattle.std.proofs.lemmas.Bool.Decides.{nat_tests}
 use Rattle.std.specs.Prelude.{Result, not, nat_lt, IfOk}
 use Rattle.std.specs.Result.{IsErrAnd}
@@ -14,7 +14,7 @@ use Rattle.lc_outline.specs.declared.parts.Parts.{Parts}
 use Rattle.lc_reading.proofs.Listed.{limited_read}
 use Rattle.lc_reading.specs.Files.{IsAnswerTo}
 use Rattle.lc_reading.specs.Flaws.{at, lesser, refused_in, refusal_of}
-use Rattle.lc_reading.specs.Readings.{Reading, fine, flawed, limited}
+use Rattle.lc_reading.specs.Readings.{Reading, flawed, limited}
 use Rattle.lc_reading.specs.Results.{IsReading, limited_result, told}
 use Rattle.lc_reading.specs.declared.flaw.Flaw.{Flaw}
 use Rattle.lc_reading.specs.declared.flaw.ReadFault.{ReadFault}

@@ -1,5 +1,5 @@
 -- What stands beside the code of a development fits the code.
-use Rattle.std.proofs.Common.{◌≡◌, ℕ, zero, suc, ◌+◌, ◌<◌, Bool, true, false, ◌&&◌, ◌==◌, cond, List, [], ◌∷◌, ◌++◌, map, length, length-append, append_assoc, Option, Some, None, refl, sym, ap, ap₂, ◌∙◌, subst, arith}
+use Rattle.std.proofs.Common.{◌≡◌, ℕ, zero, suc, ◌+◌, ◌<◌, Bool, true, false, ◌&&◌, ◌==◌, cond, List, [], ◌∷◌, ◌++◌, map, length, length-append, append_assoc, Some, refl, sym, ap, ap₂, ◌∙◌, subst, arith}
 use Rattle.std.proofs.lemmas.Bool.{eq-eqb}
 use Rattle.std.proofs.lemmas.Bool.Decides.{nat_tests}
 use Rattle.std.specs.List.{list_all}
@@ -16,11 +16,11 @@ use Rattle.lc_object.specs.Edges.{Edge, edges_at, edges_from}
 use Rattle.lc_object.specs.Places.{operation_at, operation_in}
 use Rattle.lc_object.specs.WellFormed.{variable_count}
 use Rattle.lc_object.specs.declared.instr.EdgeKind.{EdgeKind}
-use Rattle.lc_object.specs.declared.instr.EdgeKind.TheVariants.{Next, Then, Else}
-use Rattle.lc_object_text.proofs.BodiesHold.{IsOperationOf, AreOperationsOf, at_seam}
+use Rattle.lc_object.specs.declared.instr.EdgeKind.TheVariants.{Next, Then}
+use Rattle.lc_object_text.proofs.BodiesHold.{IsOperationOf, AreOperationsOf}
 use Rattle.lc_object_text.specs.ObjectNames.{Body, first_text}
 use Rattle.lc_outline.specs.Development.{Development, On, Outline, first_system, same_kind, on_for, ons_in, asserts_in, on_at, asserts_at}
-use Rattle.lc_outline.specs.Resolved.{has_some, is_empty, is_below, variables_at, is_matched, are_matched, is_auxiliary, deed_is_resolved, condition_is_resolved, rider_is_resolved, takes, on_is_resolved, action_is_resolved, edge_is_resolved, asserts_are_resolved}
+use Rattle.lc_outline.specs.Resolved.{has_some, is_empty, is_below, variables_at, is_matched, are_matched, deed_is_resolved, condition_is_resolved, rider_is_resolved, takes, on_is_resolved, action_is_resolved, edge_is_resolved, asserts_are_resolved}
 use Rattle.lc_rider.specs.Rider.{Deed, Assign, Marks, Own, Other, Note, Rider}
 use Rattle.lc_rider_text.proofs.ActionsKnown.{stores_below}
 use Rattle.lc_rider_text.proofs.FormulasWithin.{variable_total}
@@ -29,7 +29,7 @@ use Rattle.lc_rider_text.specs.Known.{Known}
 use Rattle.lc_seq.specs.Branches.{op_branches}
 use Rattle.lc_seq.specs.Specification as Q
 use Rattle.lc_outline_text.proofs.Needed.{IsMet}
-use Rattle.lc_outline_text.proofs.Outlined.{IsAPoint, IsPointOf, IsOutlined}
+use Rattle.lc_outline_text.proofs.Outlined.{IsAPoint}
 use Rattle.lc_outline_text.specs.Declarations.{Declarations, known_of, parameter_count}
 
 -- actions with so many parameters, which store in columns that there are
@@ -60,7 +60,7 @@ same_number m n e = eq-eqb m n e
 below_of : (k n : ℕ) → nat_lt k n ≡ true → k < n
 below_of k n e = grind (arith, nat_tests)
 
-left : (a b : Bool) → (a && b) ≡ true → a ≡ true
+pub left : (a b : Bool) → (a && b) ≡ true → a ≡ true
 left true b h = refl
 left false b h = absurd (cc)
 
@@ -207,9 +207,9 @@ good d D ps k p h (b, e, g) at =
     let some = matched_some D.object.operations D.specification.operations p.0.operation o h.matched f in
     record {
       asserts = subst (λ n. list_all (is_below n) (asserts_at D k) ≡ true) (variables b o fit ∙ sym (ap (variables_at D.object) f))
-      (subst (λ fs. list_all (is_below (variable_total (Some (b.call.arguments ++ b.locals)))) fs ≡ true) (sym (ap asserts_in at.outline)) g.asserts);
+          (subst (λ fs. list_all (is_below (variable_total (Some (b.call.arguments ++ b.locals)))) fs ≡ true) (sym (ap asserts_in at.outline)) g.asserts);
       edges = placed_edges d D ps k p.0.operation p.1.ons (edges_at D.object k p.0.instruction) h some g.named (ap operation_in at.code, λ kind. ap (λ x. on_for (ons_in x) kind) at.outline)
-      (edges_of_point D.object k p.0.instruction p.1.ons g.met);
+          (edges_of_point D.object k p.0.instruction p.1.ons g.met);
     }
 
 one_behind : (before rest : List (Point × Outline)) (p : Point × Outline) (ps : List (Point × Outline)) → ps ≡ before ++ p ∷ rest → ps ≡ (before ++ p ∷ []) ++ rest

@@ -1,4 +1,5 @@
 mod Agreed
+mod Assembled
 mod CodeAlone
 mod Counting
 mod FileReads

@@ -1,12 +1,12 @@
 -- An edge that stores has an `on` in what is read.
-use Rattle.std.proofs.Common.{◌≡◌, ℕ, ◌+◌, Bool, true, false, ◌&&◌, ◌||◌, cond, List, [], ◌∷◌, Option, Some, None, refl, sym, ap, ◌∙◌}
+use Rattle.std.proofs.Common.{◌≡◌, ℕ, ◌+◌, Bool, true, false, ◌&&◌, ◌||◌, cond, List, ◌∷◌, Option, Some, None, refl, sym, ap, ◌∙◌}
 use Rattle.std.specs.List.{list_any}
-use Rattle.std.specs.Prelude.{codes, not, is_some, nat_lt}
+use Rattle.std.specs.Prelude.{codes, not, is_some}
 use Rattle.lc_sexp.specs.Parts.{fits, form_fit}
 use Rattle.lc_sexp.specs.Trees.{Tree, Trees, atom, list, none, ◌▸◌, item_count}
 use Rattle.lc_reading.proofs.Holding.{Holds, anything, both_holds, if_holds, limited_holds}
 use Rattle.lc_reading.proofs.Words.{is-true}
-use Rattle.lc_reading.specs.Readings.{fine, wrong}
+use Rattle.lc_reading.specs.Readings.{wrong}
 use Rattle.lc_reading.specs.Words.{is}
 use Rattle.lc_reading.specs.declared.pass.Pass.TheVariants.{Shape}
 use Rattle.lc_text.specs.Names.{Names}

@@ -1,13 +1,13 @@
 -- The object of a development that is read is one.
-use Rattle.std.proofs.Common.{◌≡◌, ℕ, true, List, map, ap₂, refl}
-use Rattle.lc_sexp.specs.Trees.{Tree, Trees, none, ◌▸◌, item_count}
+use Rattle.std.proofs.Common.{◌≡◌, ℕ, true, map, ap₂, refl}
+use Rattle.lc_sexp.specs.Trees.{Tree, Trees, none, ◌▸◌}
 use Rattle.lc_text.specs.Terms.{pair}
 use Rattle.lc_object.specs.WellFormed.{is_object}
 use Rattle.lc_object_text.proofs.ObjectHolds.{is_well_formed}
 use Rattle.lc_object_text.specs.Objects as O
 use Rattle.lc_object_text.specs.Points.{code_alone}
 use Rattle.lc_object_text.specs.Sections.{Sections, sections_of}
-use Rattle.lc_reading.proofs.Holding.{Holds, held, anything, both_holds, ended_holds}
+use Rattle.lc_reading.proofs.Holding.{Holds, held, anything, both_holds}
 use Rattle.lc_reading.specs.Readings.{Reading, fine, flawed, both, ended}
 use Rattle.lc_seq.specs.Specification.{Specification}
 use Rattle.lc_spec_text.specs.Specifications as Q

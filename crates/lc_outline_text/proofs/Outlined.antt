@@ -1,23 +1,21 @@
 -- What holds of points with their outlines, where they are read.
-use Rattle.std.proofs.Common.{◌≡◌, ℕ, ◌+◌, Bool, true, false, ◌&&◌, cond, List, [], ◌∷◌, ◌++◌, map, Option, Some, None, length, refl, sym, ap, ap₂, ◌∙◌, subst}
+use Rattle.std.proofs.Common.{◌≡◌, ℕ, ◌+◌, Bool, true, false, cond, List, [], ◌∷◌, ◌++◌, map, Option, Some, None, length, refl, sym, ap, ◌∙◌, subst}
 use Rattle.std.proofs.lemmas.List.{map-append}
 use Rattle.std.specs.List.{list_all, list_any}
 use Rattle.std.specs.Prelude.{codes, nat_lt, slice_get}
 use Rattle.lc_sexp.specs.TreeCode.{tree_count}
-use Rattle.lc_sexp.specs.Trees.{Tree, Trees, atom, list, none, ◌▸◌, item_count}
+use Rattle.lc_sexp.specs.Trees.{Tree, Trees, none, ◌▸◌, item_count}
 use Rattle.lc_reading.proofs.Holding.{Holds, anything, both_holds, if_holds, behind_holds, each_holds}
 use Rattle.lc_reading.specs.Readings.{Reading, fine, flawed, wrong, both}
 use Rattle.lc_reading.specs.declared.pass.Pass.TheVariants.{Shape}
 use Rattle.lc_term.specs.Lists.{Every}
-use Rattle.lc_term.specs.Syntax.{Formula}
 use Rattle.lc_text.specs.Formulas.{formula_reading}
-use Rattle.lc_text.specs.Names.{Names}
 use Rattle.lc_text.specs.Terms.{pair}
 use Rattle.lc_object.specs.Syntax.{Instr, Point}
 use Rattle.lc_object.specs.declared.instr.EdgeKind.{EdgeKind}
 use Rattle.lc_object_text.proofs.Holding.{and_holds, weaker}
 use Rattle.lc_object_text.specs.Instructions.{instruction_reading}
-use Rattle.lc_object_text.specs.ObjectNames.{Declared, Body, bodies_due, code_names, body_names}
+use Rattle.lc_object_text.specs.ObjectNames.{Body, bodies_due, code_names, body_names}
 use Rattle.lc_object_text.specs.Objects.{points_of}
 use Rattle.lc_object_text.specs.Points.{Beside, is_shaped, point_of, point_name_reading, point_parts, point_reading, points_reading, BodyText, body_of, locals_reading, is_of_another, body_parts, body_reading}
 use Rattle.lc_object_text.specs.Rows.{cons, placed_reading}

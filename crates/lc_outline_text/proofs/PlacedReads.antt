@@ -12,7 +12,7 @@ use Rattle.lc_object_text.specs.Points.{body_reading}
 use Rattle.lc_object_text.specs.Sections.{Sections, forms_in}
 use Rattle.lc_rider_text.specs.Known.{Known}
 use Rattle.lc_rider_text.specs.Scopes.{beside_names}
-use Rattle.lc_outline_text.specs.Bodies.{names_in, due_reading}
+use Rattle.lc_outline_text.specs.Bodies.{due_reading}
 use Rattle.lc_outline_text.specs.Declarations.{Declarations, known_of, own_branches}
 use Rattle.lc_outline_text.specs.Developments.{development_of, specification_reading, object_reading, second_form_reading, forms_reading}
 use Rattle.lc_outline_text.specs.Needs.{code_word, edges_of, lacks_on}

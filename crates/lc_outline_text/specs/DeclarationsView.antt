@@ -1,6 +1,5 @@
 -- What clauses see of what a development file declares.
-use Rattle.std.specs.Prelude.{List, map, Option, Some, None}
-use Rattle.std.specs.Borrow.{Bor}
+use Rattle.std.specs.Prelude.{List, map}
 use Rattle.lc_sexp.specs.Shown.{rest_of}
 use Rattle.lc_sexp.specs.Trees.{Trees}
 use Rattle.lc_sexp.specs.declared.cursor.Cursor.{Cursor}

@@ -2,7 +2,7 @@
 use Rattle.std.specs.Prelude.{ℕ, zero, suc, ◌+◌, ◌*◌, ◌==◌, codes, if◌then◌else◌, List, [], ◌∷◌, ◌++◌, map, length, sum, sum_by, take, slice_get, slice_index_or, Option, Some, None}
 use Rattle.std.specs.List.{list_any}
 use Rattle.lc_sexp.specs.TreeCode.{tree_count}
-use Rattle.lc_sexp.specs.Trees.{Tree, Trees, none, ◌▸◌}
+use Rattle.lc_sexp.specs.Trees.{Trees, none, ◌▸◌}
 use Rattle.lc_reading.specs.Listed.{place_of}
 use Rattle.lc_reading.specs.Words.{is}
 use Rattle.lc_term.specs.SystemColumns.{pend, rep_columns, noted, note_columns}
@@ -13,7 +13,7 @@ use Rattle.lc_object_text.specs.ObjectNames.{Declared, Body, Span, text_in, firs
 use Rattle.lc_object_text.specs.Sections.{Sections, parts_in, forms_in}
 use Rattle.lc_rider_text.specs.Scopes.{column_place}
 use Rattle.lc_outline_text.specs.Declarations.{Declarations, branches_in, form_at}
-use Rattle.lc_outline_text.specs.Needs.{code_word, edge_word, goes_next, branches_off, stores}
+use Rattle.lc_outline_text.specs.Needs.{edge_word, goes_next, branches_off, stores}
 
 -- ---- columns that are stored in
 

@@ -106,11 +106,38 @@ pub(crate) fn point_conditions(
     let word = first_text(&code);
     let mut count = 0;
     if goes_next(word) {
-        count = kind_conditions(alloc, declarations, totals, operation, body, asserts, point, EdgeKind::Next)?;
+        count = kind_conditions(
+            alloc,
+            declarations,
+            totals,
+            operation,
+            body,
+            asserts,
+            point,
+            EdgeKind::Next,
+        )?;
     }
     if branches_off(word) {
-        let holds = kind_conditions(alloc, declarations, totals, operation, body, asserts, point, EdgeKind::Then)?;
-        let fails = kind_conditions(alloc, declarations, totals, operation, body, asserts, point, EdgeKind::Else)?;
+        let holds = kind_conditions(
+            alloc,
+            declarations,
+            totals,
+            operation,
+            body,
+            asserts,
+            point,
+            EdgeKind::Then,
+        )?;
+        let fails = kind_conditions(
+            alloc,
+            declarations,
+            totals,
+            operation,
+            body,
+            asserts,
+            point,
+            EdgeKind::Else,
+        )?;
         count = capped_sum(count, capped_sum(holds, fails));
     }
     Ok(count)

@@ -23,7 +23,8 @@ use crate::made::{ObjectParts, made_development};
 use crate::sides::{Sides, read_sides};
 use lc_base::Fault;
 use lc_object_text::{
-    Sections, SpecificationText, Tables, find_sections, read_specification as read_text, read_tables,
+    Sections, SpecificationText, Tables, find_sections, read_specification as read_text,
+    read_tables,
 };
 use lc_outline::{Development, Parts};
 use lc_reading::{Part, Pass, ReadFault, both, ended, limited, next_part, wrong};

@@ -70,11 +70,7 @@ fn joined(alloc: Global, left: &[ColId], right: &[ColId]) -> Result<Vec<ColId>, 
 }
 
 /// How many conditions ask of a path that stores in these columns that it is an instance of an action that stores in those.
-fn instance_count(
-    alloc: Global,
-    action: &[ColId],
-    columns: &[ColId],
-) -> Result<u64, OutOfMemory>
+fn instance_count(alloc: Global, action: &[ColId], columns: &[ColId]) -> Result<u64, OutOfMemory>
     ensures { IfOk result (λ count. count ≡ instance_count (Some (columns_of action.now)) (columns_of columns.now)) }
 {
     let all = joined(alloc, columns, action)?;

@@ -41,14 +41,7 @@ fn read_outline(
     ensures { IsReading outline_of (outline_reading (known_seen reader.now.known) (names_beside reader.now.scope) reader.now.own edges (place_of asserts.entry) (tree_of asserts.entry) (number_of ons.entry) (rest_of ons.entry)) result }
 {
     let asserts = read_formulas_in(alloc, &reader.scope, "assert", asserts);
-    let ons = read_ons(
-        alloc,
-        reader.known,
-        &reader.scope,
-        reader.own,
-        edges,
-        ons,
-    );
+    let ons = read_ons(alloc, reader.known, &reader.scope, reader.own, edges, ons);
     match both(asserts, ons) {
         Ok((asserts, ons)) => Ok(Outline { asserts, ons }),
         Err(fault) => Err(fault),

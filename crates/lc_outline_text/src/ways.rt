@@ -64,11 +64,7 @@ fn mark_ways(
 }
 
 /// The one way in which a column of this name is set.
-fn set_way(
-    alloc: Global,
-    columns: &NameTable<'_>,
-    name: &str,
-) -> Result<Vec<Way>, OutOfMemory>
+fn set_way(alloc: Global, columns: &NameTable<'_>, name: &str) -> Result<Vec<Way>, OutOfMemory>
     ensures { IfOk result (λ ways. ways_seen ways ≡ record { asked = 0; columns = column_named (listed columns.now) name.now } ∷ []) }
 {
     let columns = push_column(columns, name, Vec::new(alloc))?;

@@ -1,10 +1,8 @@
-use Rattle.std.proofs.Common.{◌≡◌, ℕ, suc, ◌+◌, ◌<◌, ◌∷◌, List, map, drop, get_or, length, refl, sym, ap, ap₂, ◌∙◌, arith}
+use Rattle.std.proofs.Common.{arith}
 use Rattle.lc_sexp.specs.Shown.{rest_of}
-use Rattle.lc_object_text.specs.DeclaredView.{bodies_seen}
 use Rattle.lc_outline_text.proofs.Counting.{counted, counted_more, few_counted}
 use Rattle.lc_outline_text.proofs.Walks.{no_trees, no_bodies, body_more}
 use Rattle.lc_outline_text.specs.DeclarationsView.{declarations_seen}
-use Rattle.lc_outline_text.specs.Sizes.{bodies_conditions}
 use Rattle.lc_outline_text.specs.Views.{totals_seen}
 use Rattle.lc_outline_text.proofs.conditions.bodies_conditions.Goals as goal
 

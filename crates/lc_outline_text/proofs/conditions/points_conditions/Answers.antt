@@ -1,8 +1,7 @@
-use Rattle.std.proofs.Common.{◌≡◌, ap}
-use Rattle.std.specs.Prelude.{codes, sum_by}
+use Rattle.std.proofs.Common.{ap}
+use Rattle.std.specs.Prelude.{sum_by}
 use Rattle.lc_sexp.specs.Shown.{rest_of}
 use Rattle.lc_object_text.specs.DeclaredView.{body_seen}
-use Rattle.lc_object_text.specs.ObjectNames.{points_in}
 use Rattle.lc_outline_text.proofs.Counting.{counted, counted_more, few_counted}
 use Rattle.lc_outline_text.proofs.Walks.{point_more}
 use Rattle.lc_outline_text.specs.DeclarationsView.{declarations_seen}

@@ -14,8 +14,8 @@ abbrev pub invariant-points : goal.invariant-points
 invariant-points l = record {
   few : l.count ≤ 100001;
   counted :
-    let each = point_conditions (declarations_seen l.declarations) (totals_seen l.totals) l.operation (body_seen l.body) l.asserts in
-    capped (l.count + sum_by each (forms_left l.some (codes "point") (rest_of l.rest))) ≡ capped (sum_by each (points_in (rest_of l.fn.list)));
+      let each = point_conditions (declarations_seen l.declarations) (totals_seen l.totals) l.operation (body_seen l.body) l.asserts in
+      capped (l.count + sum_by each (forms_left l.some (codes "point") (rest_of l.rest))) ≡ capped (sum_by each (points_in (rest_of l.fn.list)));
 }
 
 abbrev pub decreases-points : goal.decreases-points

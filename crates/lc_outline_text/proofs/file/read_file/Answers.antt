@@ -1,4 +1,4 @@
-use Rattle.std.proofs.Common.{◌≡◌, sym, ap, ap₂, ◌∙◌}
+use Rattle.std.proofs.Common.{sym, ap, ap₂, ◌∙◌}
 use Rattle.lc_sexp.specs.Shown.{rest_of}
 use Rattle.lc_object_text.specs.Sections.{sections_at}
 use Rattle.lc_outline_text.proofs.FileReads.{told_first, told_limited, still}

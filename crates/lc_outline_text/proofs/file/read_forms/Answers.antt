@@ -1,4 +1,4 @@
-use Rattle.std.proofs.Common.{◌≡◌, ℕ, ◌+◌, sym, ap, ap₂, ◌∙◌, subst}
+use Rattle.std.proofs.Common.{sym, ap, ap₂, ◌∙◌, subst}
 use Rattle.std.specs.Prelude.{Vec}
 use Rattle.std.specs.declared.alloc.Global.{Global}
 use Rattle.lc_sexp.specs.Shown.{rest_of, number_of}
@@ -8,16 +8,15 @@ use Rattle.lc_object_text.specs.declared.body.BodyText.{BodyText}
 use Rattle.lc_object_text.specs.declared.signatures.SpecificationText.{SpecificationText}
 use Rattle.lc_object_text.specs.declared.tables.Tables.{Tables}
 use Rattle.lc_outline.specs.declared.parts.Outline.{Outline}
+use Rattle.lc_outline.specs.PartsView.{parts_shown}
 use Rattle.lc_reading.proofs.Combined.{both_read, ok_arm}
 use Rattle.lc_reading.specs.Parts.{tree_of, place_of}
 use Rattle.lc_reading.specs.Readings.{fine}
 use Rattle.lc_reading.specs.Results.{IsReading}
 use Rattle.lc_seq.specs.declared.specification.TextSpec.{TextSpec}
-use Rattle.lc_outline_text.proofs.Agreed.{AreSame}
-use Rattle.lc_outline_text.proofs.Fitting.{asserts_resolved}
+use Rattle.lc_outline_text.proofs.Assembled.{development_is_resolved, text_is_resolved}
 use Rattle.lc_outline_text.proofs.ObjectOf.{object_is_one}
 use Rattle.lc_outline_text.proofs.PlacedReads.{forms_at}
-use Rattle.lc_outline_text.proofs.SidesHold.{AreSides}
 use Rattle.lc_outline_text.specs.DeclarationsView.{declarations_seen}
 use Rattle.lc_outline_text.specs.Developments.{development_of, forms_reading}
 use Rattle.lc_outline_text.specs.Views.{specifications_shown, object_seen}
@@ -51,4 +50,5 @@ returns-clause-read c =
     sym (ap₂ (λ d s. forms_reading d s 0 us) c.requires.declared c.requires.sections) ∙ sym (ap (λ n. forms_reading D S n us) c.requires.start) ∙ same ∙ value ∙ ap fine (sym c.in_ok-parts.ensures.shown)
 
 pub returns-clause-resolved : goal.returns-clause-resolved
-returns-clause-resolved c = ?
+returns-clause-resolved c =
+    development_is_resolved (rest_of c.args.forms) (parts_shown c.in_ok-parts.parts) (returns-clause-read c) (text_is_resolved c.in_ok-parts.parts.specification)

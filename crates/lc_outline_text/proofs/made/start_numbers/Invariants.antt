@@ -1,4 +1,4 @@
-use Rattle.std.proofs.Common.{◌≡◌, ◌++◌, map, take, []}
+use Rattle.std.proofs.Common.{◌≡◌, ◌++◌, map, take}
 use Rattle.lc_object.specs.View.{column_shown}
 use Rattle.lc_seq.specs.SpecView.{column_of}
 use Rattle.lc_seq.specs.Specification as Q

@@ -1,0 +1,177 @@
+-- A development that is read is resolved.
+use Rattle.std.proofs.Common.{◌≡◌, ℕ, zero, suc, ◌+◌, ◌≤◌, ◌<◌, true, ◌==◌, List, [], ◌∷◌, ◌++◌, map, length, length-append, refl, sym, ap, ◌∙◌, subst, arith}
+use Rattle.std.proofs.lemmas.List.{length-map}
+use Rattle.std.specs.List.{list_all}
+use Rattle.std.specs.Prelude.{codes}
+use Rattle.lc_sexp.specs.Parts.{fits, form_fit}
+use Rattle.lc_sexp.specs.TreeCode.{tree_count}
+use Rattle.lc_sexp.specs.Trees.{Tree, Trees, none, ◌▸◌, item_count}
+use Rattle.lc_reading.proofs.Holding.{Holds, held, anything, both_holds, ended_holds, and_true}
+use Rattle.lc_reading.specs.Readings.{fine}
+use Rattle.lc_text.specs.Terms.{pair}
+use Rattle.lc_object.specs.Syntax.{Point}
+use Rattle.lc_object.specs.WellFormed.{is_object}
+use Rattle.lc_object_text.proofs.ArrayHolds.{columns_count, concretes_counted}
+use Rattle.lc_object_text.proofs.BodiesHold.{AreBodies}
+use Rattle.lc_object_text.proofs.Holding.{weaker, and_holds, each_counted, each_form, some_forms, parts_counted}
+use Rattle.lc_object_text.proofs.ObjectHolds.{SpecificationFits, ObjectFits, names_counted, specification_fits, object_holds, code_fits}
+use Rattle.lc_object_text.proofs.SignatureHolds.{IsOperation, IsSpecification, specification_holds}
+use Rattle.lc_object_text.specs.ObjectNames.{first_text, later, names_of_columns, columns_of_arrays, bodies_due, abstracts_in, arrays_in, auxiliaries_in, operations_in, declared_in_sections}
+use Rattle.lc_object_text.specs.Objects as O
+use Rattle.lc_object_text.specs.Points.{BodyText, code_alone}
+use Rattle.lc_object_text.specs.Sections.{parts_in, Sections, sections_of}
+use Rattle.lc_outline.specs.Development.{Development, first_system, invariant_of}
+use Rattle.lc_outline.specs.Resolved.{is_below, are_matched, asserts_are_resolved, action_is_resolved, edge_is_resolved, is_resolved}
+use Rattle.lc_object.specs.Edges.{edges}
+use Rattle.lc_seq.specs.SpecView.{column_of, operations_of}
+use Rattle.lc_seq.specs.Specification.{Specification, operation_is_resolved, names_differ}
+use Rattle.lc_seq.specs.TextView.{specification_of}
+use Rattle.lc_seq.specs.declared.specification.TextSpec.{TextSpec}
+use Rattle.lc_spec_text.specs.Specifications as Q
+use Rattle.lc_outline_text.proofs.Agreed.{IsSpecificationSaid, specification_said, AreSame, same, matched, branched}
+use Rattle.lc_outline_text.proofs.Fitting.{Fits, left, same_number, actions_resolved, asserts_resolved, edges_resolved}
+use Rattle.lc_outline_text.proofs.ObjectOf.{IsObjectOf, objects, object_is_one}
+use Rattle.lc_outline_text.proofs.Outlined.{AreBodiesOf, bodies_outlined, all_points, each_point, code_points, outline_points}
+use Rattle.lc_outline_text.proofs.SidesHold.{AreSides, sides_hold}
+use Rattle.lc_outline_text.specs.Bodies.{bodies_reading}
+use Rattle.lc_outline_text.specs.Declarations.{declarations_in, declarations_of}
+use Rattle.lc_outline_text.specs.Developments.{Parts, specification_reading, tables_reading, object_reading, second_form_reading, code_of, development_of, forms_reading}
+use Rattle.lc_outline_text.specs.Sides.{Sides, sides_reading}
+
+-- ---- the specification
+
+-- what is read of a specification fits what is declared, both as its object sees it and as it is
+pub record SpecificationHolds (s : Sections) (p : O.SpecificationText × Specification) : Type 0 where
+  fit : SpecificationFits (declared_in_sections s) s p.0
+  columns : length p.0.abstracts ≡ length p.1.columns
+  operations : AreSame p.0.signatures p.1.operations
+
+specification_of_text : (t u : Tree) (ts : Trees) → Holds (SpecificationHolds (sections_of (t ▸ u ▸ ts))) (specification_reading (declarations_of (t ▸ u ▸ ts)) 0 t)
+specification_of_text t u ts =
+    let s = sections_of (t ▸ u ▸ ts) in
+    let d = declared_in_sections s in
+    let us = parts_in (codes "spec") t in
+    both_holds (λ text. (form_fit (codes "spec") t ≡ fits us) × IsSpecification d us text) (IsSpecificationSaid us) (SpecificationHolds s) pair (O.specification_reading d 0 t) (Q.specification_reading d.columns 0 t)
+    (specification_holds d 0 t) (specification_said d.columns 0 t)
+    (λ text q h g. record {
+      fit = specification_fits t u ts text h.0 h.1;
+      columns = h.1.abstracts ∙ sym g.columns;
+      operations = same d 0 (later (later us)) text.signatures q.operations h.1.operations.1 g.operations;
+    })
+
+-- ---- the object
+
+pub record ObjectHolds (s : Sections) (p : Parts) : Type 0 where
+  fit : ObjectFits (declared_in_sections s) s (p.0.0, map code_of p.1)
+  sides : AreSides (declarations_in s) s p.0.1
+  bodies : AreBodiesOf (declarations_in s) 0 p.1
+
+abbrev HaveOutlines : Sections → Parts → Type 0
+HaveOutlines s p = AreSides (declarations_in s) s p.0.1 × AreBodiesOf (declarations_in s) 0 p.1
+
+outlines_read : (s : Sections) (n : ℕ) → Holds (HaveOutlines s) (object_reading (declarations_in s) s n)
+outlines_read s n =
+    let d = declarations_in s in
+    both_holds (λ (x : O.Tables × Sides). AreSides d s x.1) (AreBodiesOf d 0) (HaveOutlines s) pair (tables_reading d s n) (bodies_reading d n s.bodies.number s.bodies.trees)
+    (both_holds (λ x. Unit {0}) (AreSides d s) (λ (x : O.Tables × Sides). AreSides d s x.1) pair (O.tables_reading d.declared s n) (sides_reading d s n) (anything (O.tables_reading d.declared s n)) (sides_hold d s n) (λ a b h g. g))
+    (bodies_outlined d n s.bodies.number s.bodies.trees) (λ a b h g. (h, g))
+
+object_of_text : (s : Sections) (n : ℕ) → Holds (ObjectHolds s) (object_reading (declarations_in s) s n)
+object_of_text s n =
+    let d = declarations_in s in
+    let r = object_reading d s n in
+    weaker (λ p. IsObjectOf d s n p × HaveOutlines s p) (ObjectHolds s) r
+    (λ p h. record { fit = held (ObjectFits d.declared s) (O.object_reading d.declared s code_alone n) (p.0.0, map code_of p.1) (object_holds d.declared s n) h.0; sides = h.1.0; bodies = h.1.1 })
+    (and_holds (IsObjectOf d s n) (HaveOutlines s) r (objects d s n) (outlines_read s n))
+
+-- ---- counts
+
+due_enough : (n m : ℕ) → bodies_due n ≤ m → n ≤ m
+due_enough zero m h = omega arith
+due_enough (suc n) m h = h
+
+-- as many operations as are declared
+signatures_counted : (s : Sections) (text : O.SpecificationText) → SpecificationFits (declared_in_sections s) s text → length text.signatures ≡ length (declared_in_sections s).operations
+signatures_counted s text h =
+    let d = declared_in_sections s in
+    let os = s.operations.trees in
+    let forms = each_form (IsOperation d) (codes "op") (λ i t x p. p.0) 0 os text.signatures h.operations.1 in
+    each_counted (IsOperation d) 0 os text.signatures h.operations.1 ∙ sym (parts_counted (codes "op") os) ∙ sym (ap length (some_forms (codes "op") os forms)) ∙ sym (length-map (operations_in s) first_text)
+
+-- and a body for each
+enough_bodies : (s : Sections) (bs : List (BodyText Point)) → AreBodies (declared_in_sections s) s.bodies.trees bs → length (declared_in_sections s).operations ≤ length bs
+enough_bodies s bs h =
+    let d = declared_in_sections s in
+    subst (λ n. length d.operations ≤ n) (sym (each_counted _ 0 s.bodies.trees bs h.1)) (due_enough (length d.operations) (tree_count s.bodies.trees) h.0)
+
+array_columns : (forms : List Trees) → length (columns_of_arrays forms) ≡ columns_count forms
+array_columns [] = refl
+array_columns (ts ∷ forms) = omega (arith, length-append (names_of_columns (later ts)) (columns_of_arrays forms), names_counted (later ts), array_columns forms)
+
+-- the columns that are declared
+first_auxiliary : (s : Sections) (p : O.SpecificationText × Specification) (o : Parts) → SpecificationHolds s p → ObjectHolds s o → length p.1.columns + length (O.concretes_of o.0.0.arrays) ≡ (declared_in_sections s).auxiliaries
+first_auxiliary s p o h g =
+    omega (arith, length-append (abstracts_in s) (columns_of_arrays (arrays_in s)), h.columns, h.fit.abstracts, array_columns (arrays_in s), concretes_counted (arrays_in s) o.0.0.arrays g.fit.0)
+
+all_columns : (s : Sections) (p : O.SpecificationText × Specification) (o : Parts) → SpecificationHolds s p → ObjectHolds s o → first_system (development_of p o) ≡ length (declared_in_sections s).columns
+all_columns s p o h g =
+    let first = first_auxiliary s p o h g in
+    omega (arith, first, g.sides.auxiliaries, length-append (abstracts_in s ++ columns_of_arrays (arrays_in s)) (auxiliaries_in s))
+
+-- ---- the whole
+
+fits_declared : (s : Sections) (p : O.SpecificationText × Specification) (o : Parts) → SpecificationHolds s p → ObjectHolds s o → Fits (declarations_in s) (development_of p o) (all_points o.1)
+fits_declared s p o h g =
+    let d = declarations_in s in
+    let bs = map code_of o.1 in
+    let counted = signatures_counted s p.0 h.fit in
+    let code = code_fits s p.0 (o.0.0, bs) h.fit g.fit in
+    record {
+      points = code_points o.1;
+      outlines = outline_points o.1;
+      known = each_point d 0 o.1 g.bodies;
+      operations = code.operations_fit;
+      matched = matched 0 p.0.signatures bs p.1.operations (subst (λ n. n ≤ length bs) (sym counted) (enough_bodies s bs g.fit.1)) h.operations;
+      branched = λ k few. branched p.0.signatures p.1.operations k h.operations (subst (λ n. k < n) (sym counted) few);
+      columns = all_columns s p o h g;
+      auxiliaries = first_auxiliary s p o h g;
+      actions = g.sides.actions;
+    }
+
+-- where its specification is, and its object is one
+abbrev pub IsSound : Development → Type 0
+IsSound D = list_all (operation_is_resolved (length D.specification.columns)) D.specification.operations ≡ true → is_object D.object ≡ true → is_resolved D ≡ true
+
+resolved_of : (s : Sections) (p : O.SpecificationText × Specification) (o : Parts) → SpecificationHolds s p → ObjectHolds s o → IsSound (development_of p o)
+resolved_of s p o h g spec object =
+    let d = declarations_in s in
+    let D = development_of p o in
+    let ps = all_points o.1 in
+    let fit = fits_declared s p o h g in
+    let code = and_true _ (are_matched D.object.operations D.specification.operations)
+    (and_true _ (length D.object.abstracts == length D.specification.columns) (and_true (is_object D.object) (list_all (operation_is_resolved (length D.specification.columns)) D.specification.operations) object spec)
+    (same_number (length D.object.abstracts) (length D.specification.columns) h.columns)) fit.matched in
+    let formulas = and_true _ (asserts_are_resolved D 0 D.object.points) (and_true (list_all (is_below 1) (invariant_of D)) (list_all (is_below 2) D.idle) g.sides.invariant g.sides.idle) (asserts_resolved d D ps fit) in
+    and_true _ (list_all (edge_is_resolved D) (edges D.object)) (and_true _ (list_all (action_is_resolved D) D.actions) (and_true _ _ code formulas) (actions_resolved d D ps fit)) (edges_resolved d D ps fit)
+
+seconds_hold : (s : Sections) (n : ℕ) (ts : Trees) → Holds (ObjectHolds s) (second_form_reading (declarations_in s) s n ts)
+seconds_hold s n none = tt
+seconds_hold s n (t ▸ ts) = ended_holds (ObjectHolds s) (n + item_count t) ts (object_reading (declarations_in s) s n) (object_of_text s n)
+
+sound : (ts : Trees) → Holds IsSound (forms_reading (declarations_of ts) (sections_of ts) 0 ts)
+sound none = tt
+sound (t ▸ none) =
+    both_holds (λ p. Unit {0}) (λ o. ⊥) IsSound development_of (specification_reading (declarations_of (t ▸ none)) 0 t) _ (anything (specification_reading (declarations_of (t ▸ none)) 0 t)) tt (λ p o h g. absurd g)
+sound (t ▸ u ▸ ts) =
+    let s = sections_of (t ▸ u ▸ ts) in
+    both_holds (SpecificationHolds s) (ObjectHolds s) IsSound development_of (specification_reading (declarations_of (t ▸ u ▸ ts)) 0 t) (second_form_reading (declarations_in s) s (0 + item_count t) (u ▸ ts))
+    (specification_of_text t u ts) (seconds_hold s (0 + item_count t) (u ▸ ts)) (resolved_of s)
+
+pub development_is_resolved : (ts : Trees) (D : Development) → forms_reading (declarations_of ts) (sections_of ts) 0 ts ≡ fine D → list_all (operation_is_resolved (length D.specification.columns)) D.specification.operations ≡ true → is_resolved D ≡ true
+development_is_resolved ts D e spec = held IsSound (forms_reading (declarations_of ts) (sections_of ts) 0 ts) D (sound ts) e spec (object_is_one ts D e)
+
+-- a specification is, by its type
+pub text_is_resolved : (q : TextSpec) → list_all (operation_is_resolved (length (specification_of q).columns)) (specification_of q).operations ≡ true
+text_is_resolved q =
+    let operations = operations_of q.operations.items in
+    subst (λ n. list_all (operation_is_resolved n) operations ≡ true) (sym (length-map q.columns.items column_of)) (left (list_all (operation_is_resolved (length q.columns.items)) operations) (names_differ operations) q.is_resolved)
