@@ -5,7 +5,7 @@ use Rattle.lc_sexp.specs.Numerals.{integer_of}
 use Rattle.lc_sexp.specs.Parts.{fits, beyond, integer_within}
 use Rattle.lc_sexp.specs.TreeCode.{tree_count}
 use Rattle.lc_sexp.specs.Trees.{Tree, Trees, atom, list, none, ◌▸◌, item_count}
-use Rattle.lc_reading.proofs.Holding.{Holds, anything, mapped_holds, both_holds, three_holds, limited_holds, if_holds, and_true}
+use Rattle.lc_reading.proofs.Holding.{Holds, anything, mapped_holds, both_holds, three_holds, limited_holds, if_holds, and_true, weaker}
 use Rattle.lc_reading.specs.Listed.{declared_by, names_among}
 use Rattle.lc_reading.specs.Naming.{is_full, name_reading}
 use Rattle.lc_reading.specs.Readings.{Reading, fine, wrong}
@@ -13,7 +13,7 @@ use Rattle.lc_reading.specs.Rows.{each_reading, first_name, second_name, declare
 use Rattle.lc_reading.specs.declared.pass.Pass.TheVariants.{Bound}
 use Rattle.lc_text.specs.Terms.{pair, triple}
 use Rattle.lc_object.specs.Syntax.{Point}
-use Rattle.lc_object_text.proofs.Holding.{weaker, Each, form_holds}
+use Rattle.lc_object_text.proofs.Holding.{Each, form_holds}
 use Rattle.lc_object_text.proofs.SignatureHolds.{IsSignature, IsOperation, columns_behind}
 use Rattle.lc_object_text.specs.ObjectNames.{Declared, items_within, within_first, later, count_of_fit, reply_count}
 use Rattle.lc_object_text.specs.Objects.{Signature, operations_from}

@@ -6,14 +6,14 @@ use Rattle.std.specs.Prelude.{codes}
 use Rattle.lc_sexp.specs.Parts.{fits, form_fit}
 use Rattle.lc_sexp.specs.TreeCode.{tree_count}
 use Rattle.lc_sexp.specs.Trees.{Tree, Trees, none, ◌▸◌, item_count}
-use Rattle.lc_reading.proofs.Holding.{Holds, held, anything, both_holds, ended_holds, and_true}
+use Rattle.lc_reading.proofs.Holding.{Holds, held, anything, both_holds, ended_holds, and_true, weaker, and_holds}
 use Rattle.lc_reading.specs.Readings.{fine}
 use Rattle.lc_text.specs.Terms.{pair}
 use Rattle.lc_object.specs.Syntax.{Point}
 use Rattle.lc_object.specs.WellFormed.{is_object}
 use Rattle.lc_object_text.proofs.ArrayHolds.{columns_count, concretes_counted}
 use Rattle.lc_object_text.proofs.BodiesHold.{AreBodies}
-use Rattle.lc_object_text.proofs.Holding.{weaker, and_holds, each_counted, each_form, some_forms, parts_counted}
+use Rattle.lc_object_text.proofs.Holding.{each_counted, each_form, some_forms, parts_counted}
 use Rattle.lc_object_text.proofs.ObjectHolds.{SpecificationFits, ObjectFits, names_counted, specification_fits, object_holds, code_fits}
 use Rattle.lc_object_text.proofs.SignatureHolds.{IsOperation, IsSpecification, specification_holds}
 use Rattle.lc_object_text.specs.ObjectNames.{first_text, later, names_of_columns, columns_of_arrays, bodies_due, abstracts_in, arrays_in, auxiliaries_in, operations_in, declared_in_sections}

@@ -5,7 +5,7 @@ use Rattle.std.specs.List.{list_all, list_any}
 use Rattle.std.specs.Prelude.{codes, nat_lt, slice_get}
 use Rattle.lc_sexp.specs.TreeCode.{tree_count}
 use Rattle.lc_sexp.specs.Trees.{Tree, Trees, none, ◌▸◌, item_count}
-use Rattle.lc_reading.proofs.Holding.{Holds, anything, both_holds, if_holds, behind_holds, each_holds}
+use Rattle.lc_reading.proofs.Holding.{Holds, anything, both_holds, if_holds, behind_holds, each_holds, and_holds, weaker}
 use Rattle.lc_reading.specs.Readings.{Reading, fine, flawed, wrong, both}
 use Rattle.lc_reading.specs.declared.pass.Pass.TheVariants.{Shape}
 use Rattle.lc_term.specs.Lists.{Every}
@@ -13,7 +13,6 @@ use Rattle.lc_text.specs.Formulas.{formula_reading}
 use Rattle.lc_text.specs.Terms.{pair}
 use Rattle.lc_object.specs.Syntax.{Instr, Point}
 use Rattle.lc_object.specs.declared.instr.EdgeKind.{EdgeKind}
-use Rattle.lc_object_text.proofs.Holding.{and_holds, weaker}
 use Rattle.lc_object_text.specs.Instructions.{instruction_reading}
 use Rattle.lc_object_text.specs.ObjectNames.{Body, bodies_due, code_names, body_names}
 use Rattle.lc_object_text.specs.Objects.{points_of}

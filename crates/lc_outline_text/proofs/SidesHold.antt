@@ -5,7 +5,7 @@ use Rattle.std.specs.Prelude.{codes}
 use Rattle.lc_sexp.specs.Parts.{fits, misshapen}
 use Rattle.lc_sexp.specs.TreeCode.{tree_count}
 use Rattle.lc_sexp.specs.Trees.{Tree, Trees, atom, list, none, ◌▸◌, item_count}
-use Rattle.lc_reading.proofs.Holding.{Holds, anything, both_holds, behind_holds, each_holds}
+use Rattle.lc_reading.proofs.Holding.{Holds, anything, both_holds, behind_holds, each_holds, weaker}
 use Rattle.lc_reading.specs.Readings.{Reading, fine, both}
 use Rattle.lc_reading.specs.Words.{is}
 use Rattle.lc_text.specs.Terms.{pair}
@@ -13,7 +13,7 @@ use Rattle.lc_term.specs.Syntax.{Formula}
 use Rattle.lc_action.specs.Action.{Action}
 use Rattle.lc_seq.specs.Specification.{Column}
 use Rattle.lc_tie.specs.Tie.{Conjunct, formulas_of}
-use Rattle.lc_object_text.proofs.Holding.{weaker, Each, placed_holds, each_counted, form_holds}
+use Rattle.lc_object_text.proofs.Holding.{Each, placed_holds, each_counted, form_holds}
 use Rattle.lc_object_text.proofs.ObjectHolds.{names_counted}
 use Rattle.lc_object_text.specs.ObjectNames.{auxiliaries_in}
 use Rattle.lc_object_text.specs.Rows.{cons, placed_reading, lists_reading}
