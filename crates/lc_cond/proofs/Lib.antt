@@ -1,2 +1,12 @@
 pub mod PartsList
 pub mod Printed
+pub mod Adding
+pub mod Made
+pub mod Replacing
+pub mod Held
+pub mod Scening
+pub mod Ridden
+pub mod Columned
+pub mod Counted
+pub mod Entered
+pub mod Crossed

@@ -3,3 +3,8 @@ pub mod Listed
 pub mod ConditionText
 pub mod Counter
 pub mod CounterLines
+pub mod ConditionView
+pub mod Adding
+pub mod Heads
+pub mod Scenes
+pub mod Crossings

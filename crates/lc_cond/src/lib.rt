@@ -1,5 +1,25 @@
 //! The conditions of a development, as a list that is defined: where all of them are valid, its object is linearizable.
-//! What makes the list of a development is to come.
 #![tactic(auto)]
 
+mod condition;
+
+mod edge_conditions;
+mod entering;
+mod entries;
+mod frames;
+mod known;
 pub mod laws;
+mod list;
+mod lookup;
+mod making;
+
+mod matching;
+mod paths;
+mod scene;
+mod stability;
+mod start;
+mod telling;
+mod variables;
+
+pub use condition::{Condition, Kind, Passage, Place, Which};
+pub use list::conditions;

@@ -1,0 +1,125 @@
+-- What conditions that are added say in later tables.
+use Rattle.std.proofs.Common.{◌≡◌, ℕ, zero, suc, take, List, [], ◌∷◌, ◌++◌, map, refl, sym, subst, ap, ap₂, ◌∙◌, append_assoc, append-nil, is_some}
+use Rattle.std.proofs.lemmas.List.{map-append, take-map}
+use Rattle.lc_term.specs.Syntax.{Formula}
+use Rattle.lc_term.specs.Lists.{Every}
+use Rattle.lc_term.specs.NodeTables.{Table}
+use Rattle.lc_term.specs.Tables.{Keeps, formula_in, formulas_in, HasFormula, AreFormulas}
+use Rattle.lc_term.specs.declared.node.FormulaId.{FormulaId}
+use Rattle.lc_term.proofs.Later.{are_formulas_still, formulas_still, is_formula_still, formula_still, formula_is, keeps_itself, are_formulas_pushed, formulas_pushed}
+use Rattle.lc_cond.specs.Conditions as S
+use Rattle.lc_cond.specs.ConditionView.{kind_of, place_of, condition_in, IsCondition, AreConditions}
+use Rattle.lc_cond.specs.Adding.{HasFormulas, Adds}
+use Rattle.lc_cond.specs.declared.condition.Condition.{Condition}
+
+-- ---- formulas
+
+pub formulas_later : (old new : Table) (ks : List FormulaId) (fs : List Formula) → HasFormulas old ks fs → Keeps old new → HasFormulas new ks fs
+formulas_later old new ks fs h kept = record { are = are_formulas_still old new ks h.are kept; trees = formulas_still old new ks h.are kept ∙ h.trees }
+
+are_joined : (ts : Table) (ks ls : List FormulaId) → AreFormulas ts ks → AreFormulas ts ls → AreFormulas ts (ks ++ ls)
+are_joined ts [] ls a b = b
+are_joined ts (k ∷ ks) ls a b = (a.0, are_joined ts ks ls a.1 b)
+
+pub formulas_joined : (ts : Table) (ks ls : List FormulaId) (fs gs : List Formula) → HasFormulas ts ks fs → HasFormulas ts ls gs → HasFormulas ts (ks ++ ls) (fs ++ gs)
+formulas_joined ts ks ls fs gs a b = record {
+  are = are_joined ts ks ls a.are b.are;
+  trees = map-append (formula_in ts) ks ls ∙ ap₂ (λ x y. x ++ y) a.trees b.trees;
+}
+
+-- some formulas, and others behind them that are entered later
+pub formulas_behind : (old new : Table) (ks ls now : List FormulaId) (fs gs : List Formula) → HasFormulas old ks fs → Keeps old new → HasFormulas new ls gs → now ≡ ks ++ ls → HasFormulas new now (fs ++ gs)
+formulas_behind old new ks ls now fs gs a kept b joins =
+    (let P : List FormulaId → Type 0 = λ l. HasFormulas new l (fs ++ gs) in
+    subst P (sym joins) (formulas_joined new ks ls fs gs (formulas_later old new ks fs a kept) b))
+
+-- some formulas that are entered later, and others behind them
+pub formulas_ahead : (old new : Table) (ks ls now : List FormulaId) (fs gs : List Formula) → HasFormulas old ls gs → Keeps old new → HasFormulas new ks fs → now ≡ ks ++ ls → HasFormulas new now (fs ++ gs)
+formulas_ahead old new ks ls now fs gs b kept a joins =
+    (let P : List FormulaId → Type 0 = λ l. HasFormulas new l (fs ++ gs) in
+    subst P (sym joins) (formulas_joined new ks ls fs gs a (formulas_later old new ls gs b kept)))
+
+pub formula_alone : (ts : Table) (k : FormulaId) (f : Formula) → HasFormula ts k f → HasFormulas ts (k ∷ []) (f ∷ [])
+formula_alone ts k f h = record { are = (ap is_some h, tt); trees = ap (λ x. x ∷ []) (formula_is ts k f h) }
+
+pub no_formulas : (ts : Table) → HasFormulas ts [] []
+no_formulas ts = record { are = tt; trees = refl }
+
+-- one formula more
+pub formulas_put : (old new : Table) (ks now : List FormulaId) (k : FormulaId) (fs : List Formula) (f : Formula) → now ≡ ks ++ k ∷ [] → HasFormulas old ks fs → Keeps old new → HasFormula new k f →
+    HasFormulas new now (fs ++ f ∷ [])
+formulas_put old new ks now k fs f pushed h kept at =
+    (let P : List FormulaId → Type 0 = λ l. HasFormulas new l (fs ++ f ∷ []) in
+    subst P (sym pushed) (record {
+      are = are_formulas_pushed old new ks k f h.are kept at;
+      trees = formulas_pushed old new ks k f h.are kept at ∙ ap (λ l. l ++ f ∷ []) h.trees;
+    }))
+
+-- the same numbers, seen as a list
+pub formulas_listed : (ts : Table) (ks now : List FormulaId) (fs : List Formula) → HasFormulas ts ks fs → now ≡ ks → HasFormulas ts now fs
+formulas_listed ts ks now fs h same = (let P : List FormulaId → Type 0 = λ l. HasFormulas ts l fs in subst P (sym same) h)
+
+-- ---- conditions
+
+condition_still : (old new : Table) (c : Condition) → IsCondition old c → Keeps old new → condition_in new c ≡ condition_in old c
+condition_still old new c h kept =
+    ap₂ (λ hs g. record { kind = kind_of c.kind; place = place_of c.place; variables = c.goal.vars; hypotheses = hs; goal = g })
+    (formulas_still old new c.goal.hypotheses.items h.0 kept) (formula_still old new c.goal.goal h.1 kept)
+
+are_later : (old new : Table) (cs : List Condition) → AreConditions old cs → Keeps old new → AreConditions new cs
+are_later old new [] h kept = tt
+are_later old new (c ∷ cs) h kept =
+    ((are_formulas_still old new c.goal.hypotheses.items h.0.0 kept, is_formula_still old new c.goal.goal h.0.1 kept), are_later old new cs h.1 kept)
+
+conditions_still : (old new : Table) (cs : List Condition) → AreConditions old cs → Keeps old new → map (condition_in new) cs ≡ map (condition_in old) cs
+conditions_still old new [] h kept = refl
+conditions_still old new (c ∷ cs) h kept = ap₂ (λ x xs. x ∷ xs) (condition_still old new c h.0 kept) (conditions_still old new cs h.1 kept)
+
+are_both : (ts : Table) (cs ds : List Condition) → AreConditions ts cs → AreConditions ts ds → AreConditions ts (cs ++ ds)
+are_both ts [] ds a b = b
+are_both ts (c ∷ cs) ds a b = (a.0, are_both ts cs ds a.1 b)
+
+pub adds_later : (before : List Condition) (old new : Table) (now : List Condition) (said : List S.Condition) → Adds before old now said → Keeps old new → Adds before new now said
+adds_later before old new now said h kept = record {
+  added = h.added;
+  behind = h.behind;
+  are = are_later old new h.added h.are kept;
+  read = conditions_still old new h.added h.are kept ∙ h.read;
+}
+
+pub adds_nothing : (before : List Condition) (ts : Table) → Adds before ts before []
+adds_nothing before ts = record { added = []; behind = sym (append-nil before); are = tt; read = refl }
+
+pub adds_both : (a b c : List Condition) (ts : Table) (xs ys : List S.Condition) → Adds a ts b xs → Adds b ts c ys → Adds a ts c (xs ++ ys)
+adds_both a b c ts xs ys h k = record {
+  added = h.added ++ k.added;
+  behind = k.behind ∙ ap (λ l. l ++ k.added) h.behind ∙ append_assoc a h.added k.added;
+  are = are_both ts h.added k.added h.are k.are;
+  read = map-append (condition_in ts) h.added k.added ∙ ap₂ (λ x y. x ++ y) h.read k.read;
+}
+
+-- some conditions, and others behind them
+pub adds_on : (a b c : List Condition) (old new : Table) (xs ys : List S.Condition) → Adds a old b xs → Keeps old new → Adds b new c ys → Adds a new c (xs ++ ys)
+adds_on a b c old new xs ys h kept k = adds_both a b c new xs ys (adds_later a old new b xs h kept) k
+
+pub adds_one : (before now : List Condition) (ts : Table) (c : Condition) (x : S.Condition) → now ≡ before ++ c ∷ [] → IsCondition ts c → condition_in ts c ≡ x → Adds before ts now (x ∷ [])
+adds_one before now ts c x pushed is reads = record { added = c ∷ []; behind = pushed; are = (is, tt); read = ap (λ y. y ∷ []) reads }
+
+-- all that there are
+pub adds_to_none : (ts : Table) (now : List Condition) (said : List S.Condition) → Adds [] ts now said → AreConditions ts now × (map (condition_in ts) now ≡ said)
+adds_to_none ts now said h =
+    (let P : List Condition → Type 0 = λ cs. AreConditions ts cs × (map (condition_in ts) cs ≡ said) in
+    subst P (sym h.behind) (h.are, h.read))
+
+-- the formulas of numbers, as they are
+pub formulas_are : (ts : Table) (ks : List FormulaId) → AreFormulas ts ks → HasFormulas ts ks (formulas_in ts ks)
+formulas_are ts ks h = record { are = h; trees = refl }
+
+-- the first of them, so many
+pub first_are : (ts : Table) (ks : List FormulaId) (n : ℕ) → AreFormulas ts ks → AreFormulas ts (take n ks)
+first_are ts ks zero h = tt
+first_are ts [] (suc n) h = tt
+first_are ts (k ∷ ks) (suc n) h = (h.0, first_are ts ks n h.1)
+
+pub first_formulas : (ts : Table) (ks : List FormulaId) (fs : List Formula) (n : ℕ) → HasFormulas ts ks fs → HasFormulas ts (take n ks) (take n fs)
+first_formulas ts ks fs n h = record { are = first_are ts ks n h.are; trees = sym (take-map (formula_in ts) n ks) ∙ ap (take n) h.trees }

@@ -1,0 +1,46 @@
+-- Variables in order, and zeros behind them.
+use Rattle.std.proofs.Common.{◌≡◌, ℕ, zero, suc, ◌+◌, List, [], ◌∷◌, ◌++◌, if◌then◌else◌, nat_lt, pos, map, refl, sym, ap, ◌∙◌, arith, add-zero, add-one, true, ◌<◌}
+use Rattle.std.proofs.lemmas.Bool.Decides.{nat_tests}
+use Rattle.std.specs.Prelude.{replicate}
+use Rattle.lc_term.specs.Syntax.{Term, Number, Variable}
+use Rattle.lc_term.specs.Said.{variables_from}
+use Rattle.lc_term.specs.View.{term_of}
+use Rattle.lc_term.specs.declared.term.Term as T
+use Rattle.lc_term.specs.declared.term.Term.TheVariants as V
+use Rattle.std.proofs.lemmas.List.{map-append}
+use Rattle.lc_cond.specs.Conditions.{padded}
+
+variables-snoc : (n k : ℕ) → variables_from n (suc k) ≡ variables_from n k ++ Variable (n + k) ∷ []
+variables-snoc n zero = ap (λ m. Variable m ∷ []) (sym (add-zero n))
+variables-snoc n (suc k) = let e : suc n + k ≡ n + suc k = omega arith in ap (λ l. Variable n ∷ l) (variables-snoc (suc n) k ∙ ap (λ m. variables_from (suc n) k ++ Variable m ∷ []) e)
+
+-- one variable more
+pub variables_more : (n k : ℕ) → variables_from n (k + 1) ≡ variables_from n k ++ Variable (n + k) ∷ []
+variables_more n k = ap (variables_from n) (add-one k) ∙ variables-snoc n k
+
+zeros-snoc : {A : Type 0} (k : ℕ) (x : A) → replicate (suc k) x ≡ replicate k x ++ x ∷ []
+zeros-snoc zero x = refl
+zeros-snoc (suc k) x = ap (λ l. x ∷ l) (zeros-snoc k x)
+
+-- one more of the same
+pub replicate_more : {A : Type 0} (k : ℕ) (x : A) → replicate (k + 1) x ≡ replicate k x ++ x ∷ []
+replicate_more k x = ap (λ n. replicate n x) (add-one k) ∙ zeros-snoc k x
+
+abbrev pub argument : ℕ → ℕ → Term
+argument n i = if nat_lt i n then Variable (2 + i) else Number (pos 0)
+
+argument_there : (n i : ℕ) → i < n → argument n i ≡ Variable (2 + i)
+argument_there n i h = let there : nat_lt i n ≡ true = grind (arith, nat_tests) in ap (λ b. if b then Variable (2 + i) else Number (pos 0)) there
+
+-- the arguments of `enter`, by their places
+pub padded_is : (n : ℕ) → padded 3 (variables_from 2 n) ≡ argument n 0 ∷ argument n 1 ∷ argument n 2 ∷ []
+padded_is zero = refl
+padded_is (suc zero) = refl
+padded_is (suc (suc zero)) = refl
+padded_is (suc (suc (suc n))) =
+    sym (λ i. argument_there (suc (suc (suc n))) 0 (omega arith) i ∷ argument_there (suc (suc (suc n))) 1 (omega arith) i ∷ argument_there (suc (suc (suc n))) 2 (omega arith) i ∷ [])
+
+pub variables_step : (first : ℕ) (ts now : List T.Term) (k m place : ℕ) → m ≡ first + place → place ≡ k → now ≡ ts ++ V.Variable m ∷ [] → map term_of ts ≡ variables_from first k → map term_of now ≡ variables_from first (k + 1)
+variables_step first ts now k m place number at pushed so_far =
+    ap (map term_of) pushed ∙ map-append term_of ts (V.Variable m ∷ []) ∙ ap (λ l. l ++ Variable m ∷ []) so_far
+    ∙ ap (λ n. variables_from first k ++ Variable n ∷ []) (number ∙ ap (λ n. first + n) at) ∙ sym (variables_more first k)

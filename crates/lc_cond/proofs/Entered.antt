@@ -1,0 +1,31 @@
+-- Conditions where a call begins.
+use Rattle.std.proofs.Common.{◌≡◌, ℕ, ◌+◌, Some, None, List, map, length, ap, ap₂, ◌∙◌}
+use Rattle.lc_term.specs.Syntax as S
+use Rattle.lc_term.specs.Syntax.{Column, Formula}
+use Rattle.lc_term.specs.NodeTables.{Table}
+use Rattle.lc_term.specs.Replacement.{replacing, replace}
+use Rattle.lc_term.specs.Said.{term_at, told}
+use Rattle.lc_term.specs.Tables.{formulas_in}
+use Rattle.lc_term.specs.View.{term_of}
+use Rattle.lc_term.specs.declared.node.FormulaId.{FormulaId}
+use Rattle.lc_term.specs.declared.term.Term.{Term}
+use Rattle.lc_object.specs.View.{operation_of}
+use Rattle.lc_object.specs.declared.parts.Operation.{Operation}
+use Rattle.lc_cond.specs.Conditions.{at_entry}
+use Rattle.lc_cond.specs.Adding.{HasFormulas}
+use Rattle.lc_cond.specs.ConditionView.{kind_of}
+use Rattle.lc_cond.specs.Heads.{head_of}
+use Rattle.lc_cond.specs.declared.condition.Kind.{Kind}
+use Rattle.lc_cond.specs.declared.condition.Passage.TheVariants.{Nothing}
+use Rattle.lc_cond.specs.declared.making.Head.{Head}
+
+-- formulas with these columns and variables
+pub told_where : (ts : Table) (σ : ℕ → Column) (vs : List Term) (τ : List S.Term) (ks : List FormulaId) (fs : List Formula) → map term_of vs ≡ τ → HasFormulas ts ks fs →
+    map (replace (replacing σ (term_at (map term_of vs)))) (formulas_in ts ks) ≡ map (told σ τ) fs
+told_where ts σ vs τ ks fs variables has = ap₂ (λ υ gs. map (replace (replacing σ (term_at υ))) gs) variables has.trees
+
+-- what the conditions share
+pub entry_head : (kind : Kind) (body : Operation) (n : ℕ) → n ≡ 2 + length (operation_of body).arguments →
+    head_of (record { kind = kind; variables = n; point = Some body.entry; passage = Nothing; path = None }) ≡ at_entry (kind_of kind) (operation_of body)
+entry_head kind body n count =
+    ap (λ m. head_of (record { kind = kind; variables = m; point = Some body.entry; passage = Nothing; path = None })) count

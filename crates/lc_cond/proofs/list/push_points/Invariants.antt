@@ -1,0 +1,13 @@
+use Rattle.std.proofs.Common.{map, take}
+use Rattle.lc_term.specs.Lists.{concat_places}
+use Rattle.lc_term.specs.Tables.{Keeps}
+use Rattle.lc_object.specs.View.{point_of}
+use Rattle.lc_outline.specs.DevelopmentView.{development_shown}
+use Rattle.lc_cond.specs.Adding.{Adds}
+use Rattle.lc_cond.specs.Conditions.{point_stability}
+use Rattle.lc_cond.proofs.list.push_points.Given as goal
+
+-- those so far
+abbrev pub invariant-loop-number : goal.invariant-loop-number
+invariant-loop-number l =
+    Keeps l.fn.terms l.terms × Adds l.fn.conditions.items l.terms l.conditions.items (concat_places (point_stability (development_shown l.development)) 0 (map point_of (take l.number l.point-items)))

@@ -1,0 +1,23 @@
+use Rattle.std.proofs.Common.{◌++◌, ap, ap₂, sym, subst}
+use Rattle.std.proofs.lemmas.Result.{IfOk-weaker}
+use Rattle.lc_term.specs.Syntax.{Variable}
+use Rattle.lc_term.specs.View.{formulas_of}
+use Rattle.lc_object.specs.View.{operation_of}
+use Rattle.lc_action.specs.ActionView.{first_of}
+use Rattle.lc_outline.specs.Development.{invariant_of, asserts_at}
+use Rattle.lc_outline.specs.DevelopmentView.{development_shown}
+use Rattle.std.specs.Prelude.{length}
+use Rattle.lc_cond.specs.Adding.{HasFormulas}
+use Rattle.lc_cond.specs.Conditions.{range, body_frame}
+use Rattle.lc_cond.proofs.scene.edge_hypotheses.Goals as goal
+
+pub returns-clause-list : goal.returns-clause-list
+returns-clause-list c =
+    let d = development_shown c.args.development.now in
+    let n = length (operation_of c.args.body.now).arguments in
+    let known = body_frame (first_of c.args.system) c.args.operation.0 n ++ (invariant_of d ++ asserts_at d c.args.code.now.point.0) in
+    let has = c.in_ok-before.ensures.list known (subst (λ l. HasFormulas c.known_in_body.new.terms l known) (sym c.deref.ensures.value) c.in_ok-known.ensures.list) in
+    IfOk-weaker c.entered_behind.result _ _
+    (λ ks h. subst (HasFormulas c.entered_behind.new.terms ks.items)
+    (ap₂ (λ first facts. (range (Variable 1) ++ (body_frame first c.args.operation.0 n ++ (invariant_of d ++ asserts_at d c.args.code.now.point.0))) ++ facts) c.requires (ap formulas_of c.deref-2.ensures.value))
+    (h (range (Variable 1) ++ known) has)) c.entered_behind.ensures.list

@@ -1,0 +1,12 @@
+use Rattle.std.proofs.Common.{map, take}
+use Rattle.lc_term.specs.Tables.{Keeps}
+use Rattle.lc_action.specs.ActionView.{action_of}
+use Rattle.lc_outline.specs.DevelopmentView.{development_shown}
+use Rattle.lc_cond.specs.Crossings.{AllCross}
+use Rattle.lc_cond.proofs.stability.declared_crossings.Given as goal
+
+-- the actions so far
+abbrev pub invariant-loop-action : goal.invariant-loop-action
+invariant-loop-action l =
+    Keeps l.fn.terms l.terms
+    × AllCross l.fn.terms l.terms (development_shown l.development) l.client l.known l.asserts (map action_of (take l.action-index l.action-items)) l.crossings.items

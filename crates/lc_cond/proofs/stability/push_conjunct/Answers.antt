@@ -1,0 +1,27 @@
+use Rattle.std.proofs.Common.{Some, None, take, subst}
+use Rattle.std.proofs.lemmas.List.{take_all}
+use Rattle.lc_cond.specs.Crossings.{MakesStable}
+use Rattle.lc_cond.specs.Heads.{MakesOne}
+use Rattle.lc_cond.specs.declared.condition.Kind.TheVariants as K
+use Rattle.lc_cond.specs.declared.condition.Passage.TheVariants as P
+use Rattle.lc_cond.specs.declared.condition.Which.TheVariants as W
+use Rattle.lc_cond.specs.declared.making.Head.{Head}
+use Rattle.lc_cond.proofs.Crossed.{stable_none, stable_more}
+use Rattle.lc_cond.proofs.stability.push_conjunct.Goals as goal
+
+pub loop-place-init : goal.loop-place-init
+loop-place-init c = stable_none c.args.point c.args.number c.args.conditions.now.items
+
+pub loop-place-preserved : goal.loop-place-preserved
+loop-place-preserved c =
+    let crossing = c.index-crossings-place.result in
+    let now = c.loop-place.conditions.items in
+    let new = c.push_one.new.conditions.items in
+    let head : Head = record { kind = K.Stable; variables = crossing.variables; point = c.args.point; passage = P.Action c.loop-place.place; path = None } in
+    stable_more c.args.point c.args.number c.args.crossings.now c.loop-place.place crossing c.index-goal.result.now c.args.conditions.now.items now new c.loop-place-test.true c.index-crossings-place.is c.loop-place.invariant
+    (subst (λ g. MakesOne head (W.Numbered c.args.number) crossing.hypotheses.items g now new) c.index-goal.ensures
+    (subst (λ ks. MakesOne head (W.Numbered c.args.number) ks c.index-goal.result.now now new) c.deref.ensures.value c.in_ok-push_one.ensures))
+
+pub returns : goal.returns
+returns c =
+    subst (λ l. MakesStable c.args.point c.args.number l c.args.conditions.now.items c.loop-place.conditions.items) (take_all c.loop-place.place c.args.crossings.now c.loop-place-test.false) c.loop-place.invariant

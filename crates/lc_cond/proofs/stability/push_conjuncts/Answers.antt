@@ -1,0 +1,20 @@
+use Rattle.std.proofs.Common.{◌≡◌, arith}
+use Rattle.lc_cond.proofs.Adding.{adds_nothing}
+use Rattle.lc_cond.proofs.Crossed.{goals_enough, conjunct_more, conjuncts_all}
+use Rattle.lc_cond.proofs.stability.push_conjuncts.Goals as goal
+
+pub loop-number-init : goal.loop-number-init
+loop-number-init c = λ ts D n hs asserts actions h count. adds_nothing c.args.conditions.now.items ts
+
+pub push_conjunct-requires : goal.push_conjunct-requires
+push_conjunct-requires c = goals_enough c.args.count c.loop-number.number c.args.crossings.now c.requires c.loop-number-test.true
+
+pub loop-number-preserved : goal.loop-number-preserved
+loop-number-preserved c =
+    conjunct_more c.args.point c.args.count c.loop-number.number c.args.crossings.now c.args.conditions.now.items c.loop-number.conditions.items c.push_conjunct.new.conditions.items c.loop-number-test.true
+    c.loop-number.invariant c.in_ok-push_conjunct.ensures
+
+pub returns : goal.returns
+returns c =
+    let end : c.loop-number.number ≡ c.args.count = omega arith in
+    conjuncts_all c.args.point c.args.count c.loop-number.number c.args.crossings.now c.args.conditions.now.items c.loop-number.conditions.items end c.loop-number.invariant

@@ -1,0 +1,30 @@
+use Rattle.std.proofs.Common.{◌∷◌, [], pos, map, ap, ap₂, sym, subst, ◌∙◌}
+use Rattle.std.proofs.lemmas.Result.{on_ok_weaker}
+use Rattle.lc_term.specs.Put.{column_by_number}
+use Rattle.lc_term.specs.Replacement.{replace, replacing}
+use Rattle.lc_term.specs.Syntax.{Number, Variable, Le}
+use Rattle.lc_term.specs.Tables.{AreFormulas}
+use Rattle.lc_term.specs.View.{column_of}
+use Rattle.lc_outline.specs.Development.{invariant_of}
+use Rattle.lc_outline.specs.DevelopmentView.{development_shown}
+use Rattle.lc_cond.specs.Adding.{HasFormulas, Adds}
+use Rattle.lc_cond.specs.Conditions.{conditions_of}
+use Rattle.lc_cond.specs.Heads.{head_of}
+use Rattle.lc_cond.proofs.Adding.{formulas_later, formulas_listed}
+use Rattle.lc_cond.proofs.start.push_init.Goals as goal
+
+pub push_all_told-requires : goal.push_all_told-requires
+push_all_told-requires c = subst (AreFormulas c.entered_invariant.new.terms) (sym c.deref-2.ensures.value) c.in_ok-invariant.ensures.list.are
+
+pub returns-clause-list : goal.returns-clause-list
+returns-clause-list c =
+    let d = development_shown c.args.development.now in
+    let t2 = c.entered_invariant.new.terms in
+    let now = c.push_all_told.new.terms in
+    let r = replacing (column_by_number (map column_of c.args.columns.now)) Variable in
+    let known = formulas_listed t2 c.in_ok-known.known.items c.deref.result.now (Le (Number (pos 0)) (Variable 0) ∷ []) (formulas_later c.entered_count.new.terms t2 c.in_ok-known.known.items _ c.in_ok-known.ensures.list c.in_ok-invariant.ensures.kept) c.deref.ensures.value in
+    let goals = (formulas_listed t2 c.in_ok-invariant.invariant.items c.deref-2.result.now _ c.in_ok-invariant.ensures.list c.deref-2.ensures.value).trees ∙ ap (λ x. invariant_of x) c.parts.ensures.shown in
+    on_ok_weaker c.push_all_told.result
+    (λ list. subst (Adds c.args.conditions.now.items now c.push_all_told.new.conditions.items)
+    (ap₂ (λ h gs. conditions_of (head_of h) (Le (Number (pos 0)) (Variable 0) ∷ []) (map (replace r) gs)) c.at_start-head.ensures goals)
+    (list (Le (Number (pos 0)) (Variable 0) ∷ []) known)) c.push_all_told.ensures.list

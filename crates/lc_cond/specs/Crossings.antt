@@ -1,0 +1,54 @@
+-- Actions of other clients where something is known of a client.
+use Rattle.std.specs.Prelude.{◌≡◌, ℕ, suc, ◌+◌, List, [], ◌∷◌, ◌++◌, map, length, slice_get, Option, Some, option_map}
+use Rattle.lc_base.specs.declared.ids.PointId.{PointId}
+use Rattle.lc_term.specs.Lists.{numbered, concat_places}
+use Rattle.lc_term.specs.NodeTables.{Table}
+use Rattle.lc_term.specs.Syntax.{Formula}
+use Rattle.lc_term.specs.declared.node.FormulaId.{FormulaId}
+use Rattle.lc_action.specs.Action.{Action}
+use Rattle.lc_outline.specs.Development.{Development}
+use Rattle.lc_cond.specs.Adding.{HasFormulas, Adds}
+use Rattle.lc_cond.specs.Conditions.{stable_hypotheses, stable_goal, stable_under}
+use Rattle.lc_cond.specs.declared.condition.Condition.{Condition}
+use Rattle.lc_cond.specs.declared.stability.Crossing.{Crossing}
+
+-- client u, whose variable is the n-th, does this action, where hs is known of the other client and these are asserted
+pub record IsCrossing (ts : Table) (D : Development) (n : ℕ) (hs asserts : List Formula) (a : Action) (c : Crossing) : Type 0 where
+  pub variables : c.variables ≡ suc n + length a.parameters
+  pub hypotheses : HasFormulas ts c.hypotheses.items (stable_hypotheses D n hs a)
+  pub goals : HasFormulas ts c.goals.items (map (λ f. stable_goal n f a) asserts)
+
+abbrev pub AreCrossings : Table → Development → ℕ → List Formula → List Formula → List Action → List Crossing → Type 0
+AreCrossings ts D n hs asserts [] [] = Unit {0}
+AreCrossings ts D n hs asserts [] (c ∷ cs) = ⊥
+AreCrossings ts D n hs asserts (a ∷ as') [] = ⊥
+AreCrossings ts D n hs asserts (a ∷ as') (c ∷ cs) = IsCrossing ts D n hs asserts a c × AreCrossings ts D n hs asserts as' cs
+
+-- whatever the table says of what is known and asserted: the action, the actions do so
+abbrev pub Crosses : Table → Table → Development → ℕ → List FormulaId → List FormulaId → Action → Crossing → Type 0
+Crosses old new D n known asserts a c = (hs fs : List Formula) → HasFormulas old known hs → HasFormulas old asserts fs → IsCrossing new D n hs fs a c
+
+abbrev pub AllCross : Table → Table → Development → ℕ → List FormulaId → List FormulaId → List Action → List Crossing → Type 0
+AllCross old new D n known asserts actions cs = (hs fs : List Formula) → HasFormulas old known hs → HasFormulas old asserts fs → AreCrossings new D n hs fs actions cs
+
+-- one more action
+abbrev pub CrossesToo : Table → Table → Development → ℕ → List FormulaId → List FormulaId → Action → List Crossing → List Crossing → Type 0
+CrossesToo old new D n known asserts a before now =
+    (hs fs : List Formula) (actions : List Action) → HasFormulas old known hs → HasFormulas old asserts fs → AreCrossings old D n hs fs actions before → AreCrossings new D n hs fs (actions ++ a ∷ []) now
+
+-- each action in turn gives a condition of the k-th conjunct
+abbrev pub MakesStable : Option PointId → ℕ → List Crossing → List Condition → List Condition → Type 0
+MakesStable point k crossings old new =
+    (ts : Table) (D : Development) (n : ℕ) (hs asserts : List Formula) (actions : List Action) (f : Formula) → AreCrossings ts D n hs asserts actions crossings → slice_get asserts k ≡ Some f →
+    Adds old ts new (numbered (stable_under D (option_map (λ p. p.0) point) n hs k f) 0 actions)
+
+-- each conjunct of those that so many goals are for does
+abbrev pub MakesAllStable : Option PointId → ℕ → List Crossing → List Condition → List Condition → Type 0
+MakesAllStable point count crossings old new =
+    (ts : Table) (D : Development) (n : ℕ) (hs asserts : List Formula) (actions : List Action) → AreCrossings ts D n hs asserts actions crossings → length asserts ≡ count →
+    Adds old ts new (concat_places (λ k f. numbered (stable_under D (option_map (λ p. p.0) point) n hs k f) 0 actions) 0 asserts)
+
+-- each crossing has so many goals
+abbrev pub HaveGoals : ℕ → List Crossing → Type 0
+HaveGoals count [] = Unit {0}
+HaveGoals count (c ∷ cs) = (length c.goals.items ≡ count) × HaveGoals count cs

@@ -1,0 +1,32 @@
+-- Conditions that are made together, of formulas whatever table has them.
+use Rattle.std.specs.Prelude.{ℕ, List, [], ◌∷◌, option_map}
+use Rattle.lc_term.specs.Syntax.{Formula}
+use Rattle.lc_term.specs.NodeTables.{Table}
+use Rattle.lc_term.specs.Tables.{HasFormula}
+use Rattle.lc_term.specs.declared.node.FormulaId.{FormulaId}
+use Rattle.lc_cond.specs.Conditions as S
+use Rattle.lc_cond.specs.Conditions.{Numbered, conditions_of}
+use Rattle.lc_cond.specs.ConditionView.{kind_of, passage_of, which_of}
+use Rattle.lc_cond.specs.Adding.{HasFormulas, Adds}
+use Rattle.lc_cond.specs.declared.condition.Condition.{Condition}
+use Rattle.lc_cond.specs.declared.condition.Which.{Which}
+use Rattle.lc_cond.specs.declared.making.Head.{Head}
+
+abbrev pub place_with : Head → S.Which → S.Place
+place_with h w = record { point = option_map (λ p. p.0) h.point; passage = passage_of h.passage; path = h.path; which = w }
+
+abbrev pub head_of : Head → S.Head
+head_of h = record { kind = kind_of h.kind; variables = h.variables; place = λ k. place_with h (Numbered k) }
+
+abbrev pub condition_made : Head → S.Which → List Formula → Formula → S.Condition
+condition_made h w hs g = record { kind = kind_of h.kind; place = place_with h w; variables = h.variables; hypotheses = hs; goal = g }
+
+-- under these hypotheses this goal is one more condition
+abbrev pub MakesOne : Head → Which → List FormulaId → FormulaId → List Condition → List Condition → Type 0
+MakesOne h w ks k old new =
+    (ts : Table) (hs : List Formula) (g : Formula) → HasFormulas ts ks hs → HasFormula ts k g → Adds old ts new (condition_made h (which_of w) hs g ∷ [])
+
+-- under these hypotheses each of these goals is
+abbrev pub MakesEach : Head → List FormulaId → List FormulaId → List Condition → List Condition → Type 0
+MakesEach h ks goals old new =
+    (ts : Table) (hs gs : List Formula) → HasFormulas ts ks hs → HasFormulas ts goals gs → Adds old ts new (conditions_of (head_of h) hs gs)

@@ -1,0 +1,80 @@
+-- What the conditions of an edge share, and what it says in a table.
+use Rattle.std.specs.Prelude.{◌≡◌, ℕ, List, [], ◌∷◌, ◌++◌, map, Option, Some, None, option_map}
+use Rattle.lc_term.specs.Syntax.{Column, Formula}
+use Rattle.lc_term.specs.Said.{told}
+use Rattle.lc_term.specs.NodeTables.{Table}
+use Rattle.lc_term.specs.Tables.{formulas_in, AreFormulas, HasFormula}
+use Rattle.lc_term.specs.View.{term_of}
+use Rattle.lc_term.specs.declared.node.FormulaId.{FormulaId}
+use Rattle.lc_object.specs.Syntax.{Operation}
+use Rattle.lc_object.specs.WellFormed.{variable_count}
+use Rattle.lc_object.specs.Edges.{Edge}
+use Rattle.lc_object.specs.EdgeView.{edge_of}
+use Rattle.lc_action.specs.ActionView.{first_of}
+use Rattle.lc_rider.specs.Paths.{edge_variables, Duty, Path}
+use Rattle.lc_outline.specs.Development as D
+use Rattle.lc_outline.specs.Development.{first_system, invariant_of, on_at}
+use Rattle.lc_outline.specs.DevelopmentView.{development_shown, on_of}
+use Rattle.lc_cond.specs.Conditions as S
+use Rattle.lc_cond.specs.Conditions.{asserts_to, reply_goals, body_hypotheses, conditions_of, alone_on_path, on_path, duty_condition, on_conditions, path_conditions, at_end}
+use Rattle.lc_cond.specs.Adding.{HasFormulas}
+use Rattle.lc_cond.specs.declared.scene.Scene.{Scene}
+
+abbrev pub development_in : Scene → D.Development
+development_in s = development_shown s.development.now
+
+abbrev pub code_in : Scene → Edge
+code_in s = edge_of s.code.now
+
+abbrev pub on_in : Scene → Option D.On
+on_in s = option_map (λ o. on_of o.now) s.on
+
+-- the number of the only one of these formulas, if there is one
+abbrev pub IsReply : Table → Option FormulaId → List Formula → Type 0
+IsReply ts None fs = fs ≡ []
+IsReply ts (Some k) fs = (f : Formula) × HasFormula ts k f × (fs ≡ f ∷ [])
+
+pub record IsScene (ts : Table) (s : Scene) : Type 0 where
+  pub system : first_of s.system ≡ first_system (development_in s)
+  pub variables : map term_of s.variables.items ≡ edge_variables s.count (code_in s)
+  pub hypotheses : AreFormulas ts s.hypotheses.items
+  pub invariant : HasFormulas ts s.invariant.items (invariant_of (development_in s))
+  pub next : HasFormulas ts s.next.items (asserts_to (development_in s) (code_in s).next)
+  pub reply : IsReply ts s.reply (reply_goals (first_system (development_in s)) (code_in s))
+
+-- the scene of an edge in the body of this operation
+pub record IsSceneOf (ts : Table) (d : D.Development) (o : ℕ) (operation : Operation) (e : Edge) (s : Scene) : Type 0 where
+  pub development : development_in s ≡ d
+  pub code : code_in s ≡ e
+  pub on : on_in s ≡ on_at d e.point e.kind
+  pub count : s.count ≡ variable_count operation
+  pub known : formulas_in ts s.hypotheses.items ≡ body_hypotheses d o operation e.point ++ e.facts
+  pub stands : IsScene ts s
+
+-- ---- the conditions of a path, part by part
+
+abbrev pub told_in : Scene → (ℕ → Column) → Formula → Formula
+told_in s σ f = told σ (edge_variables s.count (code_in s)) f
+
+abbrev pub duty_conditions : Scene → ℕ → List Formula → List Duty → List S.Condition
+duty_conditions s j hs ds = map (duty_condition (code_in s) s.count j hs) ds
+
+abbrev pub reply_conditions : Scene → ℕ → List Formula → (ℕ → Column) → List S.Condition
+reply_conditions s j hs σ = conditions_of (alone_on_path S.Reply (code_in s) s.count j) hs (map (told_in s σ) (reply_goals (first_system (development_in s)) (code_in s)))
+
+abbrev pub next_conditions : Scene → ℕ → List Formula → (ℕ → Column) → List S.Condition
+next_conditions s j hs σ =
+    conditions_of (on_path S.Invariant (code_in s) s.count j) hs (map (told_in s σ) (invariant_of (development_in s)))
+    ++ conditions_of (on_path S.NextKind (code_in s) s.count j) hs (map (told_in s σ) (asserts_to (development_in s) (code_in s).next))
+
+abbrev pub on_conditions_in : Scene → ℕ → List Formula → (ℕ → Column) → List S.Condition
+on_conditions_in s j hs σ = on_conditions (development_in s) (code_in s) s.count j hs σ (on_in s)
+
+-- besides what the marks of the path ask for
+abbrev pub outcome_conditions : Scene → ℕ → List Formula → Path → List S.Condition
+outcome_conditions s j hs p =
+    (let σ = at_end (first_system (development_in s)) (code_in s).next p.columns in
+    reply_conditions s j hs p.columns ++ (next_conditions s j hs σ ++ on_conditions_in s j hs σ))
+
+abbrev pub path_conditions_in : Scene → ℕ → List Formula → Path → List S.Condition
+path_conditions_in s j hs p = path_conditions (development_in s) (code_in s) s.count (on_in s) hs j p

@@ -1,0 +1,79 @@
+use lc_base::{ColId, PointId};
+use lc_kernel::Goal;
+use lc_object::EdgeKind;
+use lc_rider::Owing;
+
+/// What a condition asks for.
+#[derive(Clone, Copy, Debug, PartialEq, Eq)]
+pub enum Kind {
+    /// The invariant holds at first.
+    Init,
+    /// What holds of idle clients holds of them at first.
+    InitIdle,
+    /// The invariant holds where a call begins.
+    Entry,
+    /// The assertions of a body's first point hold there.
+    First,
+    /// What a mark asks for.
+    Owed(Owing),
+    /// The replies that are returned are those of the call.
+    Reply,
+    /// The invariant holds behind an edge.
+    Invariant,
+    /// What holds where an edge leads to holds behind it.
+    Next,
+    /// The guard of the action that an edge is.
+    Guard,
+    /// An edge and its action store the same in a column.
+    Column,
+    /// What holds of a client stays where another one acts.
+    Stable,
+}
+
+/// What is passed.
+#[derive(Clone, Copy, Debug, PartialEq, Eq)]
+pub enum Passage {
+    Nothing,
+    Edge(EdgeKind),
+    /// An action of another client, by its place; `enter` and `leave` stand behind those that are declared.
+    Action(usize),
+}
+
+/// Which of its kind a condition is.
+#[derive(Clone, Copy, Debug, PartialEq, Eq)]
+pub enum Which {
+    /// There is one.
+    Alone,
+    /// By the place of a conjunct or a rider, from 0.
+    Numbered(usize),
+    Column(ColId),
+}
+
+/// Where a condition stands.
+#[derive(Clone, Copy, Debug, PartialEq, Eq)]
+pub struct Place {
+    pub point: Option<PointId>,
+    pub passage: Passage,
+    /// The place of a path among those of its edge, from 0.
+    pub path: Option<usize>,
+    pub which: Which,
+}
+
+/// What is to be proved of a development, in the table that its formulas are in.
+#[derive(Debug)]
+pub struct Condition {
+    pub kind: Kind,
+    pub place: Place,
+    pub goal: Goal,
+}
+
+// Written out, so that a place where a condition is let go has one call.
+impl Drop for Condition {
+    fn drop(self) {
+        let Condition {
+            kind: _,
+            place: _,
+            goal: _,
+        } = self;
+    }
+}

@@ -1,0 +1,100 @@
+//! Formulas of a development entered in a table.
+ghost use Rattle.std.specs.Prelude.{◌≡◌, ◌++◌, List, map, IfOk, OnOk};
+ghost use Rattle.lc_term.specs.Replacement.{replace};
+ghost use Rattle.lc_term.specs.Syntax as S;
+ghost use Rattle.lc_term.specs.Tables.{formulas_in, AreFormulas, Keeps};
+ghost use Rattle.lc_term.specs.View.{formulas_of};
+ghost use Rattle.lc_tie.specs.Tie as T;
+ghost use Rattle.lc_tie.specs.TieView.{conjuncts_in, conjunct_of};
+ghost use Rattle.lc_cond.specs.Adding.{HasFormulas};
+ghost use Rattle.lc_term.specs.Put.{Remembers, replacement_of};
+
+use lc_base::OutOfMemory;
+use lc_term::{Formula, FormulaId, Put, ReplacedNodes, Terms};
+use lc_tie::{Conjunct, Tie};
+use std::alloc::Global;
+
+/// Formulas, entered.
+pub(crate) fn entered(
+    alloc: Global,
+    terms: &mut Terms,
+    formulas: &[Formula],
+) -> Result<Vec<FormulaId>, OutOfMemory>
+    ensures list { IfOk result (λ ks. HasFormulas terms.new ks.items (formulas_of formulas.now)) }
+    ensures kept { Keeps terms.old terms.new }
+{
+    terms.enter_formulas(alloc, formulas)
+}
+
+fn entered_conjuncts(
+    alloc: Global,
+    terms: &mut Terms,
+    conjuncts: &[Conjunct],
+) -> Result<Vec<FormulaId>, OutOfMemory>
+    ensures list { IfOk result (λ ks. HasFormulas terms.new ks.items (T.formulas_of (map conjunct_of conjuncts.now))) }
+    ensures kept { Keeps terms.old terms.new }
+{
+    let mut numbers = Vec::with_capacity(alloc, conjuncts.len())?;
+    for conjunct in conjuncts {
+        numbers.push(terms.enter_formula(alloc, &conjunct.formula)?)?;
+    }
+    Ok(numbers)
+}
+
+/// The conjuncts of the invariant, entered.
+pub(crate) fn entered_invariant(
+    alloc: Global,
+    terms: &mut Terms,
+    tie: &Tie,
+) -> Result<Vec<FormulaId>, OutOfMemory>
+    ensures list { IfOk result (λ ks. HasFormulas terms.new ks.items (T.formulas_of (conjuncts_in tie.now))) }
+    ensures kept { Keeps terms.old terms.new }
+{
+    entered_conjuncts(alloc, terms, tie.conjuncts())
+}
+
+/// Some formulas, and others behind them.
+pub(crate) fn joined(
+    mut first: Vec<FormulaId>,
+    second: &[FormulaId],
+) -> Result<Vec<FormulaId>, OutOfMemory>
+    ensures { IfOk result (λ ks. ks.items ≡ first.items ++ second.now) }
+{
+    first.extend_from_slice(second)?;
+    Ok(first)
+}
+
+/// Some formulas, and others behind them, which are entered.
+pub(crate) fn entered_behind(
+    alloc: Global,
+    terms: &mut Terms,
+    first: Vec<FormulaId>,
+    formulas: &[Formula],
+) -> Result<Vec<FormulaId>, OutOfMemory>
+    ensures list { IfOk result (λ ks. (fs : List S.Formula) → HasFormulas terms.old first.items fs → HasFormulas terms.new ks.items (fs ++ formulas_of formulas.now)) }
+    ensures kept { Keeps terms.old terms.new }
+{
+    let second = entered(alloc, terms, formulas)?;
+    joined(first, &second)
+}
+
+/// Each of the formulas with what is put in.
+pub(crate) fn told(
+    alloc: Global,
+    terms: &mut Terms,
+    put: &Put<'_>,
+    done: &mut ReplacedNodes,
+    formulas: &[FormulaId],
+) -> Result<Vec<FormulaId>, OutOfMemory>
+    requires formulas { AreFormulas terms.old formulas.now }
+    requires done { Remembers (replacement_of put.now) terms.old done.old }
+    ensures list { IfOk result (λ ks. HasFormulas terms.new ks.items (map (replace (replacement_of put.now)) (formulas_in terms.old formulas.now))) }
+    ensures kept { Keeps terms.old terms.new }
+    ensures done { OnOk result (Remembers (replacement_of put.now) terms.new done.new) }
+{
+    let mut numbers = Vec::with_capacity(alloc, formulas.len())?;
+    for formula in formulas {
+        numbers.push(terms.replace(alloc, put, done, *formula)?)?;
+    }
+    Ok(numbers)
+}

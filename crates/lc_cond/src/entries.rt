@@ -1,0 +1,148 @@
+//! The conditions where a call begins.
+ghost use Rattle.std.specs.Prelude.{◌≡◌, ◌+◌, ◌++◌, map, length, None, Some, IfOk, OnOk};
+ghost use Rattle.lc_term.specs.Said.{after, told};
+ghost use Rattle.lc_term.specs.Syntax.{Base};
+ghost use Rattle.lc_term.specs.Tables.{Keeps};
+ghost use Rattle.lc_term.specs.View.{term_of};
+ghost use Rattle.lc_action.specs.Action.{enter};
+ghost use Rattle.lc_action.specs.ActionView.{first_of};
+ghost use Rattle.lc_action.specs.Telling.{columns_in};
+ghost use Rattle.lc_object.specs.View.{operation_of};
+ghost use Rattle.lc_outline.specs.Development.{invariant_of, asserts_at};
+ghost use Rattle.lc_outline.specs.DevelopmentView.{development_shown};
+ghost use Rattle.lc_cond.specs.Adding.{HasFormulas, Adds, Under};
+ghost use Rattle.lc_cond.specs.Conditions as S;
+ghost use Rattle.lc_cond.specs.Conditions.{at_entry, conditions_of, enter_variables, entry_conditions};
+
+use crate::condition::{Condition, Kind, Passage};
+use crate::entering::{entered, entered_invariant};
+use crate::known::{in_range, known_idle};
+use crate::lookup::{argument_count, asserts_at, count_of, system_columns};
+use crate::making::Head;
+use crate::telling::push_both_told;
+use crate::variables::{enter_variables, entry_variables};
+use lc_action::{Before, SystemColumns, enter, store_together};
+use lc_base::{ColId, OpId, OutOfMemory};
+use lc_object::Operation;
+use lc_outline::Development;
+use lc_term::{ColExpr, FormulaId, Put, PutColumns, PutVariables, Term, Terms};
+use std::alloc::Global;
+
+// How many variables there are where a call of this operation begins.
+fn entry_count(body: &Operation) -> Result<u32, OutOfMemory>
+    ensures { IfOk result (λ n. n ≡ 2 + length (operation_of body.now).arguments) }
+{
+    let arguments = count_of(argument_count(body))?;
+    arguments.checked_add(2).ok_or(OutOfMemory)
+}
+
+// What the conditions of a kind where a call of this operation begins share.
+fn at_entry(kind: Kind, variables: u32, body: &Operation) -> Head
+    ensures { result ≡ record { kind = kind; variables = variables; point = Some body.now.entry; passage = Passage.Nothing; path = None } }
+{
+    Head {
+        kind,
+        variables,
+        point: Some(body.entry),
+        passage: Passage::Nothing,
+        path: None,
+    }
+}
+
+// The columns behind `enter`, where a call of this operation begins.
+fn entered_columns(
+    alloc: Global,
+    system: SystemColumns,
+    operation: OpId,
+    count: usize,
+) -> Result<Vec<(ColId, ColExpr)>, OutOfMemory>
+    ensures { IfOk result (λ columns. columns_in columns.items ≡ after Base (enter_variables operation.0 count) (enter (first_of system)).updates) }
+{
+    let action = enter(alloc, system)?;
+    let variables = enter_variables(alloc, operation, count)?;
+    let before = Before {
+        columns: &[],
+        variables: &variables,
+    };
+    store_together(alloc, before, &action.updates)
+}
+
+// What is to hold where a call begins, entered: the invariant, and the assertions of the first point.
+#[tactic(auto, using(lc_term::proofs::Later::kept_on, crate::proofs::Adding::formulas_later))]
+fn entry_goals(
+    alloc: Global,
+    terms: &mut Terms,
+    development: &Development,
+    body: &Operation,
+) -> Result<(Vec<FormulaId>, Vec<FormulaId>), OutOfMemory>
+    ensures invariant { IfOk result (λ p. HasFormulas terms.new p.0.items (invariant_of (development_shown development.now))) }
+    ensures first { IfOk result (λ p. HasFormulas terms.new p.1.items (asserts_at (development_shown development.now) (operation_of body.now).entry)) }
+    ensures kept { Keeps terms.old terms.new }
+{
+    let invariant = entered_invariant(alloc, terms, &development.parts().tie)?;
+    let first = entered(alloc, terms, asserts_at(development, body.entry))?;
+    Ok((invariant, first))
+}
+
+// The conditions where a call of this operation begins, in these columns.
+#[tactic(auto, using(lc_term::proofs::Later::kept_on))]
+fn push_entered(
+    alloc: Global,
+    terms: &mut Terms,
+    development: &Development,
+    body: &Operation,
+    columns: &[(ColId, ColExpr)],
+    known: &[FormulaId],
+    conditions: &mut Vec<Condition>,
+) -> Result<(), OutOfMemory>
+    ensures list { let d = development_shown development.now in
+        let o = operation_of body.now in
+        OnOk result (Under terms.old known.now (λ hs. Adds conditions.old.items terms.new conditions.new.items
+        (conditions_of (at_entry S.Entry o) hs (map (told (columns_in columns.now) (S.entry_variables o)) (invariant_of d))
+        ++ conditions_of (at_entry S.First o) hs (map (told (columns_in columns.now) (S.entry_variables o)) (asserts_at d o.entry))))) }
+    ensures kept { Keeps terms.old terms.new }
+{
+    let count = entry_count(body)?;
+    let variables = entry_variables(alloc, body)?;
+    let put = Put {
+        columns: PutColumns::Stored(columns),
+        variables: PutVariables::Terms(&variables),
+    };
+    let (invariant, first) = entry_goals(alloc, terms, development, body)?;
+    let heads = (
+        at_entry(Kind::Entry, count, body),
+        at_entry(Kind::First, count, body),
+    );
+    push_both_told(
+        alloc, terms, heads, &put, known, &invariant, &first, conditions,
+    )
+}
+
+/// The conditions where a call of this operation begins.
+#[tactic(auto, using(lc_term::proofs::Later::kept_on))]
+pub(crate) fn push_entry(
+    alloc: Global,
+    terms: &mut Terms,
+    development: &Development,
+    operation: OpId,
+    body: &Operation,
+    conditions: &mut Vec<Condition>,
+) -> Result<(), OutOfMemory>
+    ensures list { OnOk result (Adds conditions.old.items terms.new conditions.new.items
+        (entry_conditions (development_shown development.now) operation.0 (operation_of body.now))) }
+    ensures kept { Keeps terms.old terms.new }
+{
+    let system = system_columns(development)?;
+    let columns = entered_columns(alloc, system, operation, argument_count(body))?;
+    let idle = known_idle(alloc, terms, development, system)?;
+    let known = in_range(alloc, terms, &idle)?;
+    push_entered(
+        alloc,
+        terms,
+        development,
+        body,
+        &columns,
+        &known,
+        conditions,
+    )
+}

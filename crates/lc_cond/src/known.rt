@@ -1,0 +1,130 @@
+//! What is known of a client at a point, and where it has no call.
+ghost use Rattle.std.specs.Prelude.{◌≡◌, ◌++◌, List, length, IfOk};
+ghost use Rattle.lc_term.specs.Syntax as S;
+ghost use Rattle.lc_term.specs.Syntax.{Variable};
+ghost use Rattle.lc_term.specs.Tables.{Keeps};
+ghost use Rattle.lc_term.specs.View.{formulas_of};
+ghost use Rattle.lc_object.specs.View.{operation_of};
+ghost use Rattle.lc_action.specs.ActionView.{first_of};
+ghost use Rattle.lc_outline.specs.Development.{invariant_of, asserts_at};
+ghost use Rattle.lc_outline.specs.DevelopmentView.{development_shown};
+ghost use Rattle.lc_cond.specs.Adding.{HasFormulas};
+ghost use Rattle.lc_cond.specs.Conditions.{range, idle_frame, body_frame};
+
+use crate::entering::{entered, entered_behind, entered_invariant, joined};
+use crate::frames;
+use crate::lookup::{argument_count, asserts_at, idle_of};
+use lc_action::SystemColumns;
+use lc_base::{OpId, OutOfMemory, PointId};
+use lc_object::Operation;
+use lc_outline::Development;
+use lc_term::{Formula, FormulaId, Terms};
+use std::alloc::Global;
+
+/// The range of a client, entered.
+pub(crate) fn range(
+    alloc: Global,
+    terms: &mut Terms,
+    variable: u32,
+) -> Result<Vec<FormulaId>, OutOfMemory>
+    ensures list { IfOk result (λ ks. HasFormulas terms.new ks.items (range (Variable variable))) }
+    ensures kept { Keeps terms.old terms.new }
+{
+    let formulas = frames::range(alloc, variable)?;
+    entered(alloc, terms, &formulas)
+}
+
+/// That client 1 has no call, entered.
+pub(crate) fn idle_frame(
+    alloc: Global,
+    terms: &mut Terms,
+    system: SystemColumns,
+) -> Result<Vec<FormulaId>, OutOfMemory>
+    ensures list { IfOk result (λ ks. HasFormulas terms.new ks.items (idle_frame (first_of system))) }
+    ensures kept { Keeps terms.old terms.new }
+{
+    let formulas = frames::idle_frame(alloc, system)?;
+    entered(alloc, terms, &formulas)
+}
+
+/// That client 1 is in a call of this operation with so many arguments, entered.
+pub(crate) fn body_frame(
+    alloc: Global,
+    terms: &mut Terms,
+    system: SystemColumns,
+    operation: OpId,
+    arguments: usize,
+) -> Result<Vec<FormulaId>, OutOfMemory>
+    ensures list { IfOk result (λ ks. HasFormulas terms.new ks.items (body_frame (first_of system) operation.0 arguments)) }
+    ensures kept { Keeps terms.old terms.new }
+{
+    let formulas = frames::body_frame(alloc, system, operation, arguments)?;
+    entered(alloc, terms, &formulas)
+}
+
+/// The invariant, and other formulas behind it, entered.
+#[tactic(auto, using(lc_term::proofs::Later::kept_on))]
+pub(crate) fn with_invariant(
+    alloc: Global,
+    terms: &mut Terms,
+    development: &Development,
+    others: &[Formula],
+) -> Result<Vec<FormulaId>, OutOfMemory>
+    ensures list { IfOk result (λ ks. HasFormulas terms.new ks.items (invariant_of (development_shown development.now) ++ formulas_of others.now)) }
+    ensures kept { Keeps terms.old terms.new }
+{
+    let invariant = entered_invariant(alloc, terms, &development.parts().tie)?;
+    entered_behind(alloc, terms, invariant, others)
+}
+
+/// What is known of client 1 at a point of the body of this operation: its frame, the invariant and the assertions.
+#[tactic(auto, using(lc_term::proofs::Later::kept_on))]
+pub(crate) fn known_in_body(
+    alloc: Global,
+    terms: &mut Terms,
+    development: &Development,
+    system: SystemColumns,
+    operation: OpId,
+    body: &Operation,
+    point: PointId,
+) -> Result<Vec<FormulaId>, OutOfMemory>
+    ensures list { let d = development_shown development.now in
+        IfOk result (λ ks. HasFormulas terms.new ks.items
+        (body_frame (first_of system) operation.0 (length (operation_of body.now).arguments) ++ (invariant_of d ++ asserts_at d point.0))) }
+    ensures kept { Keeps terms.old terms.new }
+{
+    let frame = body_frame(alloc, terms, system, operation, argument_count(body))?;
+    let asserts = asserts_at(development, point);
+    let shared = with_invariant(alloc, terms, development, asserts)?;
+    joined(frame, &shared)
+}
+
+/// What is known of client 1 where it has no call.
+#[tactic(auto, using(lc_term::proofs::Later::kept_on))]
+pub(crate) fn known_idle(
+    alloc: Global,
+    terms: &mut Terms,
+    development: &Development,
+    system: SystemColumns,
+) -> Result<Vec<FormulaId>, OutOfMemory>
+    ensures list { let d = development_shown development.now in
+        IfOk result (λ ks. HasFormulas terms.new ks.items (idle_frame (first_of system) ++ (invariant_of d ++ d.idle))) }
+    ensures kept { Keeps terms.old terms.new }
+{
+    let frame = idle_frame(alloc, terms, system)?;
+    let shared = with_invariant(alloc, terms, development, idle_of(development))?;
+    joined(frame, &shared)
+}
+
+/// Behind the range of client 1.
+pub(crate) fn in_range(
+    alloc: Global,
+    terms: &mut Terms,
+    known: &[FormulaId],
+) -> Result<Vec<FormulaId>, OutOfMemory>
+    ensures list { IfOk result (λ ks. (fs : List S.Formula) → HasFormulas terms.old known.now fs → HasFormulas terms.new ks.items (range (Variable 1) ++ fs)) }
+    ensures kept { Keeps terms.old terms.new }
+{
+    let range = range(alloc, terms, 1)?;
+    joined(range, known)
+}

@@ -1,0 +1,232 @@
+//! The list of the conditions of a development.
+ghost use Rattle.std.specs.Prelude.{◌≡◌, ◌++◌, [], length, map, Some, None, IfOk, OnOk};
+ghost use Rattle.lc_term.specs.Lists.{concat_map, concat_places};
+ghost use Rattle.lc_term.specs.Tables.{Keeps};
+ghost use Rattle.lc_object.specs.EdgeView.{edge_of};
+ghost use Rattle.lc_object.specs.Edges.{edges};
+ghost use Rattle.lc_object.specs.View.{operation_of, point_of};
+ghost use Rattle.lc_object.specs.WellFormed.{variable_count};
+ghost use Rattle.lc_outline.specs.Development.{asserts_at, first_system};
+ghost use Rattle.lc_outline.specs.DevelopmentView.{development_shown};
+ghost use Rattle.lc_cond.specs.Adding.{Adds};
+ghost use Rattle.lc_cond.specs.Conditions.{body_frame, stable_conditions, entry_conditions, edge_conditions, point_stability, idle_stability, conditions};
+ghost use Rattle.lc_cond.specs.ConditionView.{condition_in, AreConditions};
+
+use crate::condition::Condition;
+use crate::entries::push_entry;
+use crate::known::{known_idle, known_in_body};
+use crate::lookup::{asserts_at, count_of, idle_of, operation_at, system_columns, variable_count};
+use crate::paths::push_edge;
+use crate::stability::push_stable;
+use crate::start::push_start;
+use lc_base::{OpId, OutOfMemory, PointId};
+use lc_object::{Edge, Operation, Point, edges};
+use lc_outline::Development;
+use lc_term::Terms;
+use std::alloc::Global;
+
+// The operations, the points and the edges of the object.
+fn operations_of(development: &Development) -> &[Operation]
+    ensures { map operation_of result.now ≡ (development_shown development.now).object.operations }
+{
+    &development.parts().object.parts().operations
+}
+
+fn points_of(development: &Development) -> &[Point]
+    ensures { map point_of result.now ≡ (development_shown development.now).object.points }
+{
+    &development.parts().object.parts().points
+}
+
+fn edges_of(alloc: Global, development: &Development) -> Result<Vec<Edge>, OutOfMemory>
+    ensures { IfOk result (λ es. map edge_of es.items ≡ edges (development_shown development.now).object) }
+{
+    edges(alloc, &development.parts().object)
+}
+
+// The conditions where calls begin, operation by operation.
+fn push_entries(
+    alloc: Global,
+    terms: &mut Terms,
+    development: &Development,
+    conditions: &mut Vec<Condition>,
+) -> Result<(), OutOfMemory>
+    ensures list { let d = development_shown development.now in
+        OnOk result (Adds conditions.old.items terms.new conditions.new.items (concat_places (entry_conditions d) 0 d.object.operations)) }
+    ensures kept { Keeps terms.old terms.new }
+{
+    for (number, body) in operations_of(development).iter().enumerate() {
+        let place = count_of(number)?;
+        push_entry(alloc, terms, development, OpId(place), body, conditions)?;
+    }
+    Ok(())
+}
+
+// The conditions of the edges, edge by edge.
+fn push_each_edge(
+    alloc: Global,
+    terms: &mut Terms,
+    development: &Development,
+    edges: &[Edge],
+    conditions: &mut Vec<Condition>,
+) -> Result<(), OutOfMemory>
+    ensures list { OnOk result (Adds conditions.old.items terms.new conditions.new.items (concat_map (edge_conditions (development_shown development.now)) (map edge_of edges.now))) }
+    ensures kept { Keeps terms.old terms.new }
+{
+    for edge in edges {
+        push_edge(alloc, terms, development, edge, conditions)?;
+    }
+    Ok(())
+}
+
+fn push_edges(
+    alloc: Global,
+    terms: &mut Terms,
+    development: &Development,
+    conditions: &mut Vec<Condition>,
+) -> Result<(), OutOfMemory>
+    ensures list { let d = development_shown development.now in
+        OnOk result (Adds conditions.old.items terms.new conditions.new.items (concat_map (edge_conditions d) (edges d.object))) }
+    ensures kept { Keeps terms.old terms.new }
+{
+    let edges = edges_of(alloc, development)?;
+    push_each_edge(alloc, terms, development, &edges, conditions)
+}
+
+// The assertions at a point of this operation's body stay.
+#[tactic(auto, using(lc_term::proofs::Later::kept_on))]
+fn push_stay(
+    alloc: Global,
+    terms: &mut Terms,
+    development: &Development,
+    number: PointId,
+    operation: OpId,
+    body: &Operation,
+    conditions: &mut Vec<Condition>,
+) -> Result<(), OutOfMemory>
+    ensures list { let d = development_shown development.now in
+        let o = operation_of body.now in
+        OnOk result (Adds conditions.old.items terms.new conditions.new.items
+        (stable_conditions d (Some number.0) (variable_count o) (body_frame (first_system d) operation.0 (length o.arguments)) (asserts_at d number.0))) }
+    ensures kept { Keeps terms.old terms.new }
+{
+    let system = system_columns(development)?;
+    let count = variable_count(body)?;
+    let known = known_in_body(alloc, terms, development, system, operation, body, number)?;
+    push_stable(
+        alloc,
+        terms,
+        development,
+        Some(number),
+        count,
+        &known,
+        asserts_at(development, number),
+        conditions,
+    )
+}
+
+// The assertions at a point stay.
+fn push_point(
+    alloc: Global,
+    terms: &mut Terms,
+    development: &Development,
+    number: PointId,
+    point: &Point,
+    conditions: &mut Vec<Condition>,
+) -> Result<(), OutOfMemory>
+    ensures list { OnOk result (Adds conditions.old.items terms.new conditions.new.items (point_stability (development_shown development.now) number.0 (point_of point.now))) }
+    ensures kept { Keeps terms.old terms.new }
+{
+    let Some(body) = operation_at(development, point.operation) else {
+        return Ok(());
+    };
+    push_stay(
+        alloc,
+        terms,
+        development,
+        number,
+        point.operation,
+        body,
+        conditions,
+    )
+}
+
+// The assertions at the points stay, point by point.
+fn push_points(
+    alloc: Global,
+    terms: &mut Terms,
+    development: &Development,
+    conditions: &mut Vec<Condition>,
+) -> Result<(), OutOfMemory>
+    ensures list { let d = development_shown development.now in
+        OnOk result (Adds conditions.old.items terms.new conditions.new.items (concat_places (point_stability d) 0 d.object.points)) }
+    ensures kept { Keeps terms.old terms.new }
+{
+    for (number, point) in points_of(development).iter().enumerate() {
+        let place = count_of(number)?;
+        push_point(alloc, terms, development, PointId(place), point, conditions)?;
+    }
+    Ok(())
+}
+
+// What holds of idle clients stays.
+#[tactic(auto, using(lc_term::proofs::Later::kept_on))]
+fn push_idle(
+    alloc: Global,
+    terms: &mut Terms,
+    development: &Development,
+    conditions: &mut Vec<Condition>,
+) -> Result<(), OutOfMemory>
+    ensures list { OnOk result (Adds conditions.old.items terms.new conditions.new.items (idle_stability (development_shown development.now))) }
+    ensures kept { Keeps terms.old terms.new }
+{
+    let system = system_columns(development)?;
+    let known = known_idle(alloc, terms, development, system)?;
+    push_stable(
+        alloc,
+        terms,
+        development,
+        None,
+        2,
+        &known,
+        idle_of(development),
+        conditions,
+    )
+}
+
+// The conditions of the edges, and that what is asserted stays.
+#[tactic(auto, using(lc_term::proofs::Later::kept_on))]
+fn push_code(
+    alloc: Global,
+    terms: &mut Terms,
+    development: &Development,
+    conditions: &mut Vec<Condition>,
+) -> Result<(), OutOfMemory>
+    ensures list { let d = development_shown development.now in
+        OnOk result (Adds conditions.old.items terms.new conditions.new.items
+        (concat_map (edge_conditions d) (edges d.object) ++ (concat_places (point_stability d) 0 d.object.points ++ idle_stability d))) }
+    ensures kept { Keeps terms.old terms.new }
+{
+    push_edges(alloc, terms, development, conditions)?;
+    push_points(alloc, terms, development, conditions)?;
+    push_idle(alloc, terms, development, conditions)
+}
+
+/// The conditions of a development, in their order: where all of them are valid, its object is linearizable. Their formulas
+/// are entered in the table.
+#[tactic(auto, using(lc_term::proofs::Later::kept_on))]
+pub fn conditions(
+    alloc: Global,
+    terms: &mut Terms,
+    development: &Development,
+) -> Result<Vec<Condition>, OutOfMemory>
+    ensures are { IfOk result (λ cs. AreConditions terms.new cs.items) }
+    ensures list { IfOk result (λ cs. map (condition_in terms.new) cs.items ≡ conditions (development_shown development.now)) }
+    ensures kept { Keeps terms.old terms.new }
+{
+    let mut list = Vec::new(alloc);
+    push_start(alloc, terms, development, &mut list)?;
+    push_entries(alloc, terms, development, &mut list)?;
+    push_code(alloc, terms, development, &mut list)?;
+    Ok(list)
+}

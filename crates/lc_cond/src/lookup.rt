@@ -1,0 +1,148 @@
+//! What stands in a development at a place.
+ghost use Rattle.std.specs.Prelude.{◌≡◌, length, map, option_map, slice_get, IfOk};
+ghost use Rattle.lc_term.specs.View.{formulas_of};
+ghost use Rattle.lc_action.specs.ActionView.{action_of, first_of};
+ghost use Rattle.lc_rider.specs.RiderView.{riders_of};
+ghost use Rattle.lc_object.specs.View.{operation_of};
+ghost use Rattle.lc_object.specs.WellFormed.{variable_count};
+ghost use Rattle.lc_outline.specs.Development.{same_kind, on_for, on_at, asserts_at, riders_in, first_system};
+ghost use Rattle.lc_outline.specs.DevelopmentView.{development_shown, on_of};
+ghost use Rattle.lc_cond.specs.Conditions.{asserts_to};
+
+use lc_action::{Action, SystemColumns};
+use lc_base::{ColId, OpId, OutOfMemory, PointId};
+use lc_object::{EdgeKind, Operation};
+use lc_outline::{ActionId, Development, On};
+use lc_rider::Rider;
+use lc_term::Formula;
+
+/// The number of things in a list, which has at most so many as 32 bits count.
+pub(crate) fn count_of(length: usize) -> Result<u32, OutOfMemory>
+    ensures { IfOk result (λ n. n ≡ length) }
+{
+    u32::try_from(length).map_err(|_| OutOfMemory)
+}
+
+/// The system columns, behind the columns that are declared.
+pub(crate) fn system_columns(development: &Development) -> Result<SystemColumns, OutOfMemory>
+    ensures { IfOk result (λ system. first_of system ≡ first_system (development_shown development.now)) }
+{
+    let parts = development.parts();
+    let concretes = parts.object.parts().concretes.len();
+    let declared = parts
+        .auxiliaries
+        .len()
+        .checked_add(concretes)
+        .and_then(|count| count.checked_add(parts.specification.columns().len()))
+        .ok_or(OutOfMemory)?;
+    SystemColumns::new(ColId(count_of(declared)?)).ok_or(OutOfMemory)
+}
+
+/// The assertions at a point.
+pub(crate) fn asserts_at(development: &Development, point: PointId) -> &[Formula]
+    ensures { formulas_of result.now ≡ asserts_at (development_shown development.now) point.0 }
+{
+    match development.parts().outlines.get(point.0 as usize) {
+        None => &[],
+        Some(outline) => &outline.asserts,
+    }
+}
+
+/// The assertions at the point that is reached, or what holds of idle clients where none is.
+pub(crate) fn asserts_to(development: &Development, next: Option<PointId>) -> &[Formula]
+    ensures { formulas_of result.now ≡ asserts_to (development_shown development.now) (option_map (λ p. p.0) next) }
+{
+    match next {
+        None => &development.parts().idle,
+        Some(point) => asserts_at(development, point),
+    }
+}
+
+// Whether the kinds are the same.
+fn is_same_kind(left: EdgeKind, right: EdgeKind) -> bool
+    ensures { result ≡ same_kind left right }
+{
+    match left {
+        EdgeKind::Next => matches!(right, EdgeKind::Next),
+        EdgeKind::Then => matches!(right, EdgeKind::Then),
+        EdgeKind::Else => matches!(right, EdgeKind::Else),
+    }
+}
+
+// What stands at an edge of this kind, if anything does.
+fn on_for(ons: &[On], kind: EdgeKind) -> Option<&On>
+    ensures { option_map (λ o. on_of o.now) result ≡ on_for (map on_of ons.now) kind }
+{
+    for on in ons {
+        if is_same_kind(on.edge, kind) {
+            return Some(on);
+        }
+    }
+    None
+}
+
+/// What stands at the edge of this kind of a point, if anything does.
+pub(crate) fn on_at(development: &Development, point: PointId, kind: EdgeKind) -> Option<&On>
+    ensures { option_map (λ o. on_of o.now) result ≡ on_at (development_shown development.now) point.0 kind }
+{
+    match development.parts().outlines.get(point.0 as usize) {
+        None => None,
+        Some(outline) => on_for(&outline.ons, kind),
+    }
+}
+
+/// The riders that stand there.
+pub(crate) fn riders_in(on: Option<&On>) -> &[Rider]
+    ensures { riders_of result.now ≡ riders_in (option_map (λ o. on_of o.now) on.entry) }
+{
+    match on {
+        None => &[],
+        Some(on) => &on.riders,
+    }
+}
+
+/// A declared action by its number, if there is one.
+pub(crate) fn action_at(development: &Development, action: ActionId) -> Option<&Action>
+    ensures { option_map (λ a. action_of a.now) result ≡ slice_get (development_shown development.now).actions action.0 }
+{
+    development.parts().actions.get(action.0 as usize)
+}
+
+/// The operation in whose body a point stands, with its number, if there is one.
+pub(crate) fn operation_at(development: &Development, operation: OpId) -> Option<&Operation>
+    ensures { option_map (λ o. operation_of o.now) result ≡ slice_get (development_shown development.now).object.operations operation.0 }
+{
+    development.parts().object.parts().operations.get(operation.0 as usize)
+}
+
+/// The operation in whose body a point stands, if there is such a point.
+pub(crate) fn body_at(development: &Development, point: PointId) -> Option<OpId>
+    ensures { option_map (λ o. o.0) result ≡ option_map (λ p. p.operation) (slice_get (development_shown development.now).object.points point.0) }
+{
+    let point = development.parts().object.parts().points.get(point.0 as usize)?;
+    Some(point.operation)
+}
+
+/// What holds of clients that have no call.
+pub(crate) fn idle_of(development: &Development) -> &[Formula]
+    ensures { formulas_of result.now ≡ (development_shown development.now).idle }
+{
+    &development.parts().idle
+}
+
+/// How many arguments an operation takes.
+pub(crate) fn argument_count(body: &Operation) -> usize
+    ensures { result ≡ length (operation_of body.now).arguments }
+{
+    body.arguments.len()
+}
+
+/// How many variables there are in an operation's code.
+pub(crate) fn variable_count(body: &Operation) -> Result<u32, OutOfMemory>
+    ensures { IfOk result (λ n. n ≡ variable_count (operation_of body.now)) }
+{
+    let arguments = count_of(body.arguments.len())?;
+    let locals = count_of(body.locals.len())?;
+    let arguments = arguments.checked_add(2).ok_or(OutOfMemory)?;
+    arguments.checked_add(locals).ok_or(OutOfMemory)
+}

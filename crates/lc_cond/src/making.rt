@@ -1,0 +1,65 @@
+//! Conditions made of formulas of a table.
+ghost use Rattle.std.specs.Prelude.{OnOk};
+ghost use Rattle.lc_cond.specs.Heads.{MakesOne, MakesEach};
+
+use crate::condition::{Condition, Kind, Passage, Place, Which};
+use lc_base::{OutOfMemory, PointId};
+use lc_kernel::Goal;
+use lc_term::FormulaId;
+use std::alloc::Global;
+
+/// What conditions that are made together share: what they ask for, how many variables they have, and where they stand.
+#[derive(Clone, Copy)]
+pub(crate) struct Head {
+    pub kind: Kind,
+    pub variables: u32,
+    pub point: Option<PointId>,
+    pub passage: Passage,
+    pub path: Option<usize>,
+}
+
+/// One more condition.
+pub(crate) fn push_one(
+    alloc: Global,
+    head: Head,
+    which: Which,
+    hypotheses: &[FormulaId],
+    goal: FormulaId,
+    conditions: &mut Vec<Condition>,
+) -> Result<(), OutOfMemory>
+    ensures { OnOk result (MakesOne head which hypotheses.now goal conditions.old.items conditions.new.items) }
+{
+    let hypotheses = Vec::from_slice(alloc, hypotheses)?;
+    conditions.push(Condition {
+        kind: head.kind,
+        place: Place {
+            point: head.point,
+            passage: head.passage,
+            path: head.path,
+            which,
+        },
+        goal: Goal {
+            vars: head.variables,
+            hypotheses,
+            goal,
+        },
+    })?;
+    Ok(())
+}
+
+/// A condition for each of these goals, by their places.
+pub(crate) fn push_each(
+    alloc: Global,
+    head: Head,
+    hypotheses: &[FormulaId],
+    goals: &[FormulaId],
+    conditions: &mut Vec<Condition>,
+) -> Result<(), OutOfMemory>
+    ensures { OnOk result (MakesEach head hypotheses.now goals.now conditions.old.items conditions.new.items) }
+{
+    for (number, goal) in goals.iter().enumerate() {
+        let which = Which::Numbered(number);
+        push_one(alloc, head, which, hypotheses, *goal, conditions)?;
+    }
+    Ok(())
+}

@@ -1,0 +1,136 @@
+//! The conditions of the paths of an edge.
+ghost use Rattle.std.specs.Prelude.{map, OnOk};
+ghost use Rattle.lc_term.specs.Lists.{concat_places};
+ghost use Rattle.lc_term.specs.Tables.{formulas_in, Keeps};
+ghost use Rattle.lc_object.specs.EdgeView.{edge_of};
+ghost use Rattle.lc_object.specs.View.{operation_of};
+ghost use Rattle.lc_outline.specs.DevelopmentView.{development_shown};
+ghost use Rattle.lc_rider.specs.PathView.{path_of};
+ghost use Rattle.lc_cond.specs.Adding.{Adds, Under};
+ghost use Rattle.lc_cond.specs.Conditions.{edge_conditions, edge_conditions_in};
+ghost use Rattle.lc_cond.specs.Scenes.{IsScene, outcome_conditions, path_conditions_in};
+
+use crate::condition::Condition;
+use crate::edge_conditions::{at_end, known_with, push_duties, push_next, push_reply};
+use crate::entering::entered;
+use crate::lookup::{body_at, operation_at, riders_in};
+use crate::matching::push_on;
+use crate::scene::{Scene, set_scene};
+use lc_base::{OpId, OutOfMemory};
+use lc_object::{Edge, Operation};
+use lc_outline::Development;
+use lc_rider::{Path, paths};
+use lc_term::{FormulaId, Terms};
+use std::alloc::Global;
+
+// What is asked behind a path, besides what its marks ask for.
+#[tactic(auto, using(lc_term::proofs::Later::kept_on))]
+fn push_outcome(
+    alloc: Global,
+    terms: &mut Terms,
+    scene: &Scene<'_>,
+    number: usize,
+    path: &Path,
+    known: &[FormulaId],
+    conditions: &mut Vec<Condition>,
+) -> Result<(), OutOfMemory>
+    requires { IsScene terms.old scene.now }
+    ensures list { OnOk result (Under terms.old known.now (λ hs. Adds conditions.old.items terms.new conditions.new.items
+        (outcome_conditions scene.now number hs (path_of path.now)))) }
+    ensures kept { Keeps terms.old terms.new }
+{
+    push_reply(alloc, terms, scene, number, path.columns(), known, conditions)?;
+    let columns = at_end(alloc, scene, path)?;
+    push_next(alloc, terms, scene, number, &columns, known, conditions)?;
+    push_on(alloc, terms, scene, number, &columns, known, conditions)
+}
+
+// The conditions of a path.
+#[tactic(auto, using(lc_term::proofs::Later::kept_on))]
+fn push_path(
+    alloc: Global,
+    terms: &mut Terms,
+    scene: &Scene<'_>,
+    number: usize,
+    path: &Path,
+    conditions: &mut Vec<Condition>,
+) -> Result<(), OutOfMemory>
+    requires { IsScene terms.old scene.now }
+    ensures list { OnOk result (Adds conditions.old.items terms.new conditions.new.items
+        (path_conditions_in scene.now number (formulas_in terms.old scene.now.hypotheses.items) (path_of path.now))) }
+    ensures kept { Keeps terms.old terms.new }
+{
+    let facts = entered(alloc, terms, path.facts())?;
+    push_duties(alloc, terms, scene, number, path, &facts, conditions)?;
+    let known = known_with(alloc, scene, &facts)?;
+    push_outcome(alloc, terms, scene, number, path, &known, conditions)
+}
+
+// The conditions of the paths of an edge, path by path.
+fn push_paths(
+    alloc: Global,
+    terms: &mut Terms,
+    scene: &Scene<'_>,
+    paths: &[Path],
+    conditions: &mut Vec<Condition>,
+) -> Result<(), OutOfMemory>
+    requires { IsScene terms.old scene.now }
+    ensures list { OnOk result (Adds conditions.old.items terms.new conditions.new.items
+        (concat_places (λ j p. path_conditions_in scene.now j (formulas_in terms.old scene.now.hypotheses.items) p) 0 (map path_of paths.now))) }
+    ensures kept { Keeps terms.old terms.new }
+{
+    for (number, path) in paths.iter().enumerate() {
+        push_path(alloc, terms, scene, number, path, conditions)?;
+    }
+    Ok(())
+}
+
+// The conditions of an edge in the body of this operation.
+#[tactic(auto, using(lc_term::proofs::Later::kept_on))]
+fn push_edge_in(
+    alloc: Global,
+    terms: &mut Terms,
+    development: &Development,
+    operation: OpId,
+    body: &Operation,
+    code: &Edge,
+    conditions: &mut Vec<Condition>,
+) -> Result<(), OutOfMemory>
+    ensures list { OnOk result (Adds conditions.old.items terms.new conditions.new.items
+        (edge_conditions_in (development_shown development.now) operation.0 (operation_of body.now) (edge_of code.now))) }
+    ensures kept { Keeps terms.old terms.new }
+{
+    let scene = set_scene(alloc, terms, development, operation, body, code)?;
+    let edge = lc_rider::Edge {
+        code,
+        operation,
+        variables: scene.count,
+        system: scene.system,
+        riders: riders_in(scene.on),
+    };
+    let paths = paths(alloc, &development.parts().specification, edge)?;
+    push_paths(alloc, terms, &scene, &paths, conditions)
+}
+
+/// The conditions of an edge.
+pub(crate) fn push_edge(
+    alloc: Global,
+    terms: &mut Terms,
+    development: &Development,
+    code: &Edge,
+    conditions: &mut Vec<Condition>,
+) -> Result<(), OutOfMemory>
+    ensures list { OnOk result (Adds conditions.old.items terms.new conditions.new.items
+        (edge_conditions (development_shown development.now) (edge_of code.now))) }
+    ensures kept { Keeps terms.old terms.new }
+{
+    let Some(operation) = body_at(development, code.point) else {
+        return Ok(());
+    };
+    let Some(body) = operation_at(development, operation) else {
+        return Ok(());
+    };
+    push_edge_in(
+        alloc, terms, development, operation, body, code, conditions,
+    )
+}

@@ -1,0 +1,154 @@
+//! What the conditions of an edge share.
+ghost use Rattle.std.specs.Prelude.{◌≡◌, ◌++◌, map, option_map, IfOk};
+ghost use Rattle.lc_term.specs.Tables.{Keeps};
+ghost use Rattle.lc_object.specs.EdgeView.{edge_of};
+ghost use Rattle.lc_object.specs.View.{operation_of};
+ghost use Rattle.lc_action.specs.ActionView.{first_of};
+ghost use Rattle.lc_outline.specs.Development.{first_system, invariant_of};
+ghost use Rattle.lc_outline.specs.DevelopmentView.{development_shown};
+ghost use Rattle.lc_cond.specs.Adding.{HasFormulas};
+ghost use Rattle.lc_cond.specs.Conditions.{body_hypotheses, reply_goals, asserts_to};
+ghost use Rattle.lc_cond.specs.Scenes.{IsReply, IsSceneOf};
+
+use crate::entering::{entered, entered_behind, entered_invariant};
+use crate::frames::justified;
+use crate::known::{in_range, known_in_body};
+use crate::lookup::{asserts_to, on_at, system_columns, variable_count};
+use lc_action::SystemColumns;
+use lc_base::{OpId, OutOfMemory};
+use lc_object::{Edge, Operation};
+use lc_outline::{Development, On};
+use lc_rider::edge_variables;
+use lc_term::{FormulaId, Term, Terms};
+use std::alloc::Global;
+
+/// What the conditions of an edge share, in a table that has its formulas.
+pub(crate) struct Scene<'a> {
+    pub development: &'a Development,
+    pub code: &'a Edge,
+    pub on: Option<&'a On>,
+    pub system: SystemColumns,
+    /// How many variables there are before the edge, and what they are behind it.
+    pub count: u32,
+    pub variables: Vec<Term>,
+    /// What is known before the edge.
+    pub hypotheses: Vec<FormulaId>,
+    pub invariant: Vec<FormulaId>,
+    /// What is to hold where the edge leads to.
+    pub next: Vec<FormulaId>,
+    /// What a return asks for.
+    pub reply: Option<FormulaId>,
+}
+
+impl Drop for Scene<'_> {
+    fn drop(self) {
+        let Scene {
+            development: _,
+            code: _,
+            on: _,
+            system: _,
+            count: _,
+            variables: _,
+            hypotheses: _,
+            invariant: _,
+            next: _,
+            reply: _,
+        } = self;
+    }
+}
+
+// What a return of these replies asks for, entered; nothing where a point is reached.
+fn entered_reply(
+    alloc: Global,
+    terms: &mut Terms,
+    system: SystemColumns,
+    code: &Edge,
+) -> Result<Option<FormulaId>, OutOfMemory>
+    ensures reply { IfOk result (λ k. IsReply terms.new k (reply_goals (first_of system) (edge_of code.now))) }
+    ensures kept { Keeps terms.old terms.new }
+{
+    if code.next.is_some() {
+        return Ok(None);
+    }
+    let formula = justified(alloc, system, &code.replies)?;
+    Ok(Some(terms.enter_formula(alloc, &formula)?))
+}
+
+// What is known before the edge of an operation's code, entered.
+#[tactic(auto, using(lc_term::proofs::Later::kept_on))]
+fn edge_hypotheses(
+    alloc: Global,
+    terms: &mut Terms,
+    development: &Development,
+    system: SystemColumns,
+    operation: OpId,
+    body: &Operation,
+    code: &Edge,
+) -> Result<Vec<FormulaId>, OutOfMemory>
+    requires { first_of system ≡ first_system (development_shown development.now) }
+    ensures list { IfOk result (λ ks. HasFormulas terms.new ks.items
+        (body_hypotheses (development_shown development.now) operation.0 (operation_of body.now) (edge_of code.now).point ++ (edge_of code.now).facts)) }
+    ensures kept { Keeps terms.old terms.new }
+{
+    let known = known_in_body(
+        alloc,
+        terms,
+        development,
+        system,
+        operation,
+        body,
+        code.point,
+    )?;
+    let before = in_range(alloc, terms, &known)?;
+    entered_behind(alloc, terms, before, &code.facts)
+}
+
+// What is to hold behind the edge, entered: the invariant, and what holds where the edge leads to.
+#[tactic(auto, using(lc_term::proofs::Later::kept_on, crate::proofs::Adding::formulas_later))]
+fn edge_goals(
+    alloc: Global,
+    terms: &mut Terms,
+    development: &Development,
+    code: &Edge,
+) -> Result<(Vec<FormulaId>, Vec<FormulaId>), OutOfMemory>
+    ensures invariant { IfOk result (λ p. HasFormulas terms.new p.0.items (invariant_of (development_shown development.now))) }
+    ensures next { IfOk result (λ p. HasFormulas terms.new p.1.items (asserts_to (development_shown development.now) (edge_of code.now).next)) }
+    ensures kept { Keeps terms.old terms.new }
+{
+    let invariant = entered_invariant(alloc, terms, &development.parts().tie)?;
+    let next = entered(alloc, terms, asserts_to(development, code.next))?;
+    Ok((invariant, next))
+}
+
+/// The scene of an edge in the body of this operation.
+#[tactic(auto, using(lc_term::proofs::Later::kept_on, crate::proofs::Adding::formulas_later))]
+pub(crate) fn set_scene<'a>(
+    alloc: Global,
+    terms: &mut Terms,
+    development: &'a Development,
+    operation: OpId,
+    body: &Operation,
+    code: &'a Edge,
+) -> Result<Scene<'a>, OutOfMemory>
+    ensures scene { IfOk result (λ s. IsSceneOf terms.new (development_shown development.now) operation.0 (operation_of body.now) (edge_of code.now) s) }
+    ensures kept { Keeps terms.old terms.new }
+{
+    let system = system_columns(development)?;
+    let count = variable_count(body)?;
+    let variables = edge_variables(alloc, count, code)?;
+    let hypotheses = edge_hypotheses(alloc, terms, development, system, operation, body, code)?;
+    let (invariant, next) = edge_goals(alloc, terms, development, code)?;
+    let reply = entered_reply(alloc, terms, system, code)?;
+    Ok(Scene {
+        development,
+        code,
+        on: on_at(development, code.point, code.kind),
+        system,
+        count,
+        variables,
+        hypotheses,
+        invariant,
+        next,
+        reply,
+    })
+}

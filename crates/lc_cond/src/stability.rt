@@ -1,0 +1,377 @@
+//! The conditions that what holds of a client stays where another one acts.
+ghost use Rattle.std.specs.Prelude.{◌≡◌, ◌+◌, ◌<◌, ◌++◌, [], ◌∷◌, suc, length, map, option_map, IfOk, OnOk};
+ghost use Rattle.lc_term.specs.Lists.{Every, numbered, concat_places};
+ghost use Rattle.lc_term.specs.Replacement.{replace, replacing};
+ghost use Rattle.lc_term.specs.Syntax.{Variable, Eq, Not};
+ghost use Rattle.lc_term.specs.Tables.{formulas_in, AreFormulas, Keeps};
+ghost use Rattle.lc_term.specs.View.{term_of, formulas_of};
+ghost use Rattle.lc_action.specs.Action.{post_columns};
+ghost use Rattle.lc_action.specs.ActionView.{action_of, first_of};
+ghost use Rattle.lc_outline.specs.Development.{invariant_of, all_actions, first_system};
+ghost use Rattle.lc_outline.specs.DevelopmentView.{development_shown};
+ghost use Rattle.lc_cond.specs.Adding.{HasFormulas, Adds, Under};
+ghost use Rattle.lc_cond.specs.Conditions.{range, stable_variables, stable_under};
+ghost use Rattle.lc_cond.specs.Crossings.{Crosses, AllCross, CrossesToo, MakesStable, MakesAllStable, HaveGoals};
+
+use crate::condition::{Condition, Kind, Passage, Which};
+use crate::entering::{entered, entered_invariant, told};
+use crate::frames;
+use crate::lookup::{count_of, system_columns};
+use crate::making::{Head, push_one};
+use crate::matching::entered_guard;
+use crate::variables::variables_from;
+use lc_action::{Action, SystemColumns, enter, leave, post_columns};
+use lc_base::{OutOfMemory, PointId};
+use lc_outline::Development;
+use lc_term::{Formula, FormulaId, Put, PutColumns, PutVariables, Term, Terms, nothing_replaced};
+use std::alloc::Global;
+
+/// Another client's action where something is known of a client: what is known then, and what is to hold behind it.
+pub(crate) struct Crossing {
+    /// How many variables there are: those of the client's code, the other client and its action's parameters.
+    pub variables: u32,
+    pub hypotheses: Vec<FormulaId>,
+    /// A goal for each of the assertions.
+    pub goals: Vec<FormulaId>,
+}
+
+impl Drop for Crossing {
+    fn drop(self) {
+        let Crossing {
+            variables: _,
+            hypotheses: _,
+            goals: _,
+        } = self;
+    }
+}
+
+// Two clients, 1 and the variable, and they differ.
+fn two_clients(alloc: Global, other: u32) -> Result<Vec<Formula>, OutOfMemory>
+    ensures { IfOk result (λ fs. formulas_of fs.items ≡ range (Variable 1) ++ (range (Variable other) ++ (Not (Eq (Variable 1) (Variable other)) ∷ []))) }
+{
+    let mut formulas = frames::range(alloc, 1)?;
+    frames::push_range(alloc, other, &mut formulas)?;
+    let same = Formula::Eq(Term::Variable(1), Term::Variable(other));
+    formulas.push(Formula::Not(Box::new(alloc, same)?))?;
+    Ok(formulas)
+}
+
+// The invariant, and the assertions, behind an action of the client that is this variable.
+#[tactic(auto, using(lc_term::proofs::Later::kept_on, crate::proofs::Adding::formulas_later))]
+fn told_behind(
+    alloc: Global,
+    terms: &mut Terms,
+    action: &Action,
+    client: u32,
+    parameters: &[Term],
+    invariant: &[FormulaId],
+    asserts: &[FormulaId],
+) -> Result<(Vec<FormulaId>, Vec<FormulaId>), OutOfMemory>
+    requires invariant { AreFormulas terms.old invariant.now }
+    requires asserts { AreFormulas terms.old asserts.now }
+    ensures invariant { let σ = post_columns (action_of action.now) (Variable client) (map term_of parameters.now) in
+        IfOk result (λ p. HasFormulas terms.new p.0.items (map (replace (replacing σ Variable)) (formulas_in terms.old invariant.now))) }
+    ensures asserts { let σ = post_columns (action_of action.now) (Variable client) (map term_of parameters.now) in
+        IfOk result (λ p. HasFormulas terms.new p.1.items (map (replace (replacing σ Variable)) (formulas_in terms.old asserts.now))) }
+    ensures kept { Keeps terms.old terms.new }
+{
+    let columns = post_columns(alloc, action, &Term::Variable(client), parameters)?;
+    let put = Put {
+        columns: PutColumns::Stored(&columns),
+        variables: PutVariables::Own,
+    };
+    let mut done = nothing_replaced(alloc);
+    let invariant = told(alloc, terms, &put, &mut done, invariant)?;
+    let asserts = told(alloc, terms, &put, &mut done, asserts)?;
+    Ok((invariant, asserts))
+}
+
+// Some formulas, what is known, the guard, and what holds behind the action.
+fn gathered(
+    mut first: Vec<FormulaId>,
+    known: &[FormulaId],
+    guard: FormulaId,
+    behind: &[FormulaId],
+) -> Result<Vec<FormulaId>, OutOfMemory>
+    ensures { IfOk result (λ ks. ks.items ≡ first.items ++ (known.now ++ (guard ∷ behind.now))) }
+{
+    first.extend_from_slice(known)?;
+    first.push(guard)?;
+    first.extend_from_slice(behind)?;
+    Ok(first)
+}
+
+// The parameters of an action of the client that is this variable: the variables behind it.
+fn parameters(alloc: Global, action: &Action, client: u32) -> Result<Vec<Term>, OutOfMemory>
+    ensures { IfOk result (λ ts. map term_of ts.items ≡ stable_variables client (action_of action.now)) }
+{
+    let first = client.checked_add(1).ok_or(OutOfMemory)?;
+    variables_from(alloc, first, parameter_count(action))
+}
+
+// How many parameters an action has.
+fn parameter_count(action: &Action) -> usize
+    ensures { result ≡ length (action_of action.now).parameters }
+{
+    action.params.len()
+}
+
+// How many variables there are, with those parameters.
+fn variables_with(action: &Action, client: u32) -> Result<u32, OutOfMemory>
+    ensures { IfOk result (λ n. n ≡ suc client + length (action_of action.now).parameters) }
+{
+    let count = count_of(parameter_count(action))?;
+    let first = client.checked_add(1).ok_or(OutOfMemory)?;
+    first.checked_add(count).ok_or(OutOfMemory)
+}
+
+// Two clients, entered.
+fn entered_clients(
+    alloc: Global,
+    terms: &mut Terms,
+    other: u32,
+) -> Result<Vec<FormulaId>, OutOfMemory>
+    ensures list { IfOk result (λ ks. HasFormulas terms.new ks.items (range (Variable 1) ++ (range (Variable other) ++ (Not (Eq (Variable 1) (Variable other)) ∷ [])))) }
+    ensures kept { Keeps terms.old terms.new }
+{
+    let formulas = two_clients(alloc, other)?;
+    entered(alloc, terms, &formulas)
+}
+
+// The action of the client that is this variable, where these are known and asserted.
+#[tactic(auto, using(lc_term::proofs::Later::kept_on))]
+fn cross(
+    alloc: Global,
+    terms: &mut Terms,
+    development: &Development,
+    action: &Action,
+    client: u32,
+    known: &[FormulaId],
+    invariant: &[FormulaId],
+    asserts: &[FormulaId],
+) -> Result<Crossing, OutOfMemory>
+    requires known { AreFormulas terms.old known.now }
+    requires invariant { HasFormulas terms.old invariant.now (invariant_of (development_shown development.now)) }
+    requires asserts { AreFormulas terms.old asserts.now }
+    ensures crossing { IfOk result (λ c. Crosses terms.old terms.new (development_shown development.now) client known.now asserts.now (action_of action.now) c) }
+    ensures kept { Keeps terms.old terms.new }
+{
+    let _ = development;
+    let variables = variables_with(action, client)?;
+    let parameters = parameters(alloc, action, client)?;
+    let (behind, goals) = told_behind(
+        alloc,
+        terms,
+        action,
+        client,
+        &parameters,
+        invariant,
+        asserts,
+    )?;
+    let guard = entered_guard(alloc, terms, action, client, &parameters)?;
+    let clients = entered_clients(alloc, terms, client)?;
+    let hypotheses = gathered(clients, known, guard, &behind)?;
+    Ok(Crossing {
+        variables,
+        hypotheses,
+        goals,
+    })
+}
+
+// The declared actions of the client that is this variable.
+fn declared_crossings(
+    alloc: Global,
+    terms: &mut Terms,
+    development: &Development,
+    client: u32,
+    known: &[FormulaId],
+    invariant: &[FormulaId],
+    asserts: &[FormulaId],
+) -> Result<Vec<Crossing>, OutOfMemory>
+    requires known { AreFormulas terms.old known.now }
+    requires invariant { HasFormulas terms.old invariant.now (invariant_of (development_shown development.now)) }
+    requires asserts { AreFormulas terms.old asserts.now }
+    ensures crossings { let d = development_shown development.now in
+        IfOk result (λ cs. AllCross terms.old terms.new d client known.now asserts.now d.actions cs.items) }
+    ensures kept { Keeps terms.old terms.new }
+{
+    let mut crossings = Vec::new(alloc);
+    for action in actions_of(development) {
+        let next = cross(
+            alloc,
+            terms,
+            development,
+            action,
+            client,
+            known,
+            invariant,
+            asserts,
+        )?;
+        crossings.push(next)?;
+    }
+    Ok(crossings)
+}
+
+// The actions that are declared.
+fn actions_of(development: &Development) -> &[Action]
+    ensures { map action_of result.now ≡ (development_shown development.now).actions }
+{
+    &development.parts().actions
+}
+
+// Those actions, and behind them this one.
+#[tactic(auto, using(lc_term::proofs::Later::kept_on))]
+fn with_crossing(
+    alloc: Global,
+    terms: &mut Terms,
+    development: &Development,
+    mut crossings: Vec<Crossing>,
+    action: &Action,
+    client: u32,
+    known: &[FormulaId],
+    invariant: &[FormulaId],
+    asserts: &[FormulaId],
+) -> Result<Vec<Crossing>, OutOfMemory>
+    requires known { AreFormulas terms.old known.now }
+    requires invariant { HasFormulas terms.old invariant.now (invariant_of (development_shown development.now)) }
+    requires asserts { AreFormulas terms.old asserts.now }
+    ensures crossings { IfOk result (λ cs. CrossesToo terms.old terms.new (development_shown development.now) client known.now asserts.now (action_of action.now) crossings.items cs.items) }
+    ensures kept { Keeps terms.old terms.new }
+{
+    let next = cross(
+        alloc,
+        terms,
+        development,
+        action,
+        client,
+        known,
+        invariant,
+        asserts,
+    )?;
+    crossings.push(next)?;
+    Ok(crossings)
+}
+
+// All actions of the client that is this variable: those that are declared, and that a call begins or ends.
+#[tactic(auto, using(lc_term::proofs::Later::kept_on))]
+fn all_crossings(
+    alloc: Global,
+    terms: &mut Terms,
+    development: &Development,
+    system: SystemColumns,
+    client: u32,
+    known: &[FormulaId],
+    invariant: &[FormulaId],
+    asserts: &[FormulaId],
+) -> Result<Vec<Crossing>, OutOfMemory>
+    requires system { first_of system ≡ first_system (development_shown development.now) }
+    requires known { AreFormulas terms.old known.now }
+    requires invariant { HasFormulas terms.old invariant.now (invariant_of (development_shown development.now)) }
+    requires asserts { AreFormulas terms.old asserts.now }
+    ensures crossings { let d = development_shown development.now in
+        IfOk result (λ cs. AllCross terms.old terms.new d client known.now asserts.now (all_actions d) cs.items) }
+    ensures kept { Keeps terms.old terms.new }
+{
+    let declared = declared_crossings(alloc, terms, development, client, known, invariant, asserts)?;
+    let begins = enter(alloc, system)?;
+    let entered = with_crossing(
+        alloc,
+        terms,
+        development,
+        declared,
+        &begins,
+        client,
+        known,
+        invariant,
+        asserts,
+    )?;
+    let ends = leave(alloc, system)?;
+    with_crossing(
+        alloc,
+        terms,
+        development,
+        entered,
+        &ends,
+        client,
+        known,
+        invariant,
+        asserts,
+    )
+}
+
+// A condition for each of these actions, of the conjunct at this place.
+fn push_conjunct(
+    alloc: Global,
+    point: Option<PointId>,
+    number: usize,
+    crossings: &[Crossing],
+    conditions: &mut Vec<Condition>,
+) -> Result<(), OutOfMemory>
+    requires { Every (λ c. number < length c.goals.items) crossings.now }
+    ensures { OnOk result (MakesStable point number crossings.now conditions.old.items conditions.new.items) }
+{
+    for (place, crossing) in crossings.iter().enumerate() {
+        let head = Head {
+            kind: Kind::Stable,
+            variables: crossing.variables,
+            point,
+            passage: Passage::Action(place),
+            path: None,
+        };
+        let goal = crossing.goals[number];
+        let which = Which::Numbered(number);
+        push_one(alloc, head, which, &crossing.hypotheses, goal, conditions)?;
+    }
+    Ok(())
+}
+
+// The same of each conjunct, so many.
+fn push_conjuncts(
+    alloc: Global,
+    point: Option<PointId>,
+    count: usize,
+    crossings: &[Crossing],
+    conditions: &mut Vec<Condition>,
+) -> Result<(), OutOfMemory>
+    requires { HaveGoals count crossings.now }
+    ensures { OnOk result (MakesAllStable point count crossings.now conditions.old.items conditions.new.items) }
+{
+    for number in 0..count {
+        push_conjunct(alloc, point, number, crossings, conditions)?;
+    }
+    Ok(())
+}
+
+/// The conditions that these assertions stay, where a client has so many variables and this is known of it.
+#[tactic(auto, using(lc_term::proofs::Later::kept_on))]
+pub(crate) fn push_stable(
+    alloc: Global,
+    terms: &mut Terms,
+    development: &Development,
+    point: Option<PointId>,
+    variables: u32,
+    known: &[FormulaId],
+    asserts: &[Formula],
+    conditions: &mut Vec<Condition>,
+) -> Result<(), OutOfMemory>
+    requires { AreFormulas terms.old known.now }
+    ensures list { let d = development_shown development.now in
+        OnOk result (Under terms.old known.now (λ hs. Adds conditions.old.items terms.new conditions.new.items
+        (concat_places (λ k f. numbered (stable_under d (option_map (λ p. p.0) point) variables hs k f) 0 (all_actions d)) 0 (formulas_of asserts.now)))) }
+    ensures kept { Keeps terms.old terms.new }
+{
+    let system = system_columns(development)?;
+    let invariant = entered_invariant(alloc, terms, &development.parts().tie)?;
+    let goals = entered(alloc, terms, asserts)?;
+    let crossings = all_crossings(
+        alloc,
+        terms,
+        development,
+        system,
+        variables,
+        known,
+        &invariant,
+        &goals,
+    )?;
+    push_conjuncts(alloc, point, asserts.len(), &crossings, conditions)
+}
