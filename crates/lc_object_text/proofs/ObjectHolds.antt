@@ -24,18 +24,18 @@ use Rattle.lc_object_text.specs.Rows.{lists_reading}
 use Rattle.lc_object_text.specs.Sections.{parts_in, Sections, items_of_fit, items_in, behind_item, behind_first, sections_of}
 
 -- what is read of a specification and of an object, where these are the sections
-record SpecificationFits (d : Declared) (s : Sections) (text : SpecificationText) : Type 0 where
-  abstracts : length text.abstracts ≡ length (abstracts_in s)
-  operations : AreOperations d s.operations.trees text.signatures
+pub record SpecificationFits (d : Declared) (s : Sections) (text : SpecificationText) : Type 0 where
+  pub abstracts : length text.abstracts ≡ length (abstracts_in s)
+  pub operations : AreOperations d s.operations.trees text.signatures
 
-abbrev ObjectFits : Declared → Sections → Tables × List (BodyText Point) → Type 0
+abbrev pub ObjectFits : Declared → Sections → Tables × List (BodyText Point) → Type 0
 ObjectFits d s object = AreArrays (arrays_in s) object.0.arrays × AreBodies d s.bodies.trees object.1
 
-names_counted : (ts : Trees) → length (names_of_columns ts) ≡ tree_count ts
+pub names_counted : (ts : Trees) → length (names_of_columns ts) ≡ tree_count ts
 names_counted none = refl
 names_counted (t ▸ ts) = ap suc (names_counted ts)
 
-columns_counted : (ts : Trees) → length (names_of_columns (parts_in_first (codes "abstract") ts)) ≡ columns_behind ts
+pub columns_counted : (ts : Trees) → length (names_of_columns (parts_in_first (codes "abstract") ts)) ≡ columns_behind ts
 columns_counted none = refl
 columns_counted (t ▸ ts) = names_counted (parts_in (codes "abstract") t)
 
@@ -47,7 +47,7 @@ behind_two : (n : ℕ) (ts : Trees) → (behind_first (behind_item n ts)).trees 
 behind_two n none = refl
 behind_two n (t ▸ ts) = behind_one (n + item_count t) ts
 
-specification_fits : (t u : Tree) (ts : Trees) (text : SpecificationText) → form_fit (codes "spec") t ≡ fits (parts_in (codes "spec") t) → IsSpecification (declared_in (t ▸ u ▸ ts)) (parts_in (codes "spec") t) text
+pub specification_fits : (t u : Tree) (ts : Trees) (text : SpecificationText) → form_fit (codes "spec") t ≡ fits (parts_in (codes "spec") t) → IsSpecification (declared_in (t ▸ u ▸ ts)) (parts_in (codes "spec") t) text
     → SpecificationFits (declared_in (t ▸ u ▸ ts)) (sections_of (t ▸ u ▸ ts)) text
 specification_fits t u ts text fit h =
     let s = sections_of (t ▸ u ▸ ts) in
@@ -61,7 +61,7 @@ specification_fits t u ts text fit h =
       operations = subst (λ vs. AreOperations d vs text.signatures) (sym operations) h.operations;
     }
 
-tables_hold : (d : Declared) (s : Sections) (n : ℕ) → Holds (λ (tables : Tables). AreArrays (arrays_in s) tables.arrays) (tables_reading d s n)
+pub tables_hold : (d : Declared) (s : Sections) (n : ℕ) → Holds (λ (tables : Tables). AreArrays (arrays_in s) tables.arrays) (tables_reading d s n)
 tables_hold d s n =
     let name = first_reading (name_reading None []) n s.object.number s.object.trees in
     both_holds (λ named. AreArrays (arrays_in s) named.1) (λ ws. Unit {0}) (λ (tables : Tables). AreArrays (arrays_in s) tables.arrays) tables_of (arrays_reading d s n) (auxiliaries_reading d s n)
@@ -69,7 +69,7 @@ tables_hold d s n =
     (anything name) (arrays_hold d 0 s.arrays.number s.arrays.trees) (λ w arrays u h. h))
     (anything (auxiliaries_reading d s n)) (λ named ws h u. h)
 
-object_holds : (d : Declared) (s : Sections) (n : ℕ) → Holds (ObjectFits d s) (object_reading d s code_alone n)
+pub object_holds : (d : Declared) (s : Sections) (n : ℕ) → Holds (ObjectFits d s) (object_reading d s code_alone n)
 object_holds d s n =
     both_holds (λ (tables : Tables). AreArrays (arrays_in s) tables.arrays) (AreBodies d s.bodies.trees) (ObjectFits d s) pair (tables_reading d s n) (bodies_reading d code_alone n s.bodies.number s.bodies.trees)
     (tables_hold d s n) (bodies_hold d n s.bodies.number s.bodies.trees) (λ tables bodies h g. (h, g))
@@ -90,12 +90,12 @@ operations_counted (b ∷ bs) [] h = absurd h
 operations_counted (b ∷ bs) (o ∷ os) h = ap suc (operations_counted bs os h.1)
 
 -- the code of an object fits what is declared
-record CodeFits (d : Declared) (operations : List Operation) (points : List Point) : Type 0 where
-  operations_fit : AreOperationsOf d.bodies operations
-  points_fit : ArePoints d 0 0 d.bodies points
-  few : length operations ≤ 16
+pub record CodeFits (d : Declared) (operations : List Operation) (points : List Point) : Type 0 where
+  pub operations_fit : AreOperationsOf d.bodies operations
+  pub points_fit : ArePoints d 0 0 d.bodies points
+  pub few : length operations ≤ 16
 
-code_fits : (s : Sections) (text : SpecificationText) (object : Tables × List (BodyText Point)) → SpecificationFits (declared_in_sections s) s text → ObjectFits (declared_in_sections s) s object
+pub code_fits : (s : Sections) (text : SpecificationText) (object : Tables × List (BodyText Point)) → SpecificationFits (declared_in_sections s) s text → ObjectFits (declared_in_sections s) s object
     → CodeFits (declared_in_sections s) (operations_from 0 text.signatures object.1) (points_of object.1)
 code_fits s text object h g =
     let d = declared_in_sections s in

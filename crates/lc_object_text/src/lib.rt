@@ -42,5 +42,5 @@ pub use section_finding::{
     behind_first, find_sections, first_text, items_in_first, next_form, within_first,
 };
 pub use sections::Sections;
-pub use signatures::{Signature, Signatures, SpecificationText};
-pub use tables::{Tables, read_object_name};
+pub use signatures::{Signature, Signatures, SpecificationText, read_specification};
+pub use tables::{Tables, read_object_name, read_tables};

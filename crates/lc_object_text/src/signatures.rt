@@ -229,7 +229,7 @@ fn read_specification_parts(
 }
 
 /// The specification that an item reads as, without its branches.
-pub(crate) fn read_specification(
+pub fn read_specification(
     alloc: Global,
     declared: &Declared<'_>,
     part: Part<'_>,

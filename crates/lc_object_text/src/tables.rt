@@ -105,7 +105,7 @@ fn read_auxiliaries(
 }
 
 /// The object of this number without its bodies.
-pub(crate) fn read_tables(
+pub fn read_tables(
     alloc: Global,
     declared: &Declared<'_>,
     sections: &Sections<'_>,

@@ -1,0 +1,22 @@
+use Rattle.std.proofs.Common.{◌≡◌, ◌+◌, ◌≤◌}
+use Rattle.std.specs.Prelude.{codes, sum_by}
+use Rattle.lc_sexp.specs.Shown.{rest_of}
+use Rattle.lc_object_text.specs.DeclaredView.{body_seen}
+use Rattle.lc_object_text.specs.ObjectNames.{points_in}
+use Rattle.lc_object_text.specs.Seen.{size, forms_left}
+use Rattle.lc_outline_text.specs.DeclarationsView.{declarations_seen}
+use Rattle.lc_outline_text.specs.Sizes.{point_conditions}
+use Rattle.lc_outline_text.specs.Views.{capped, totals_seen}
+use Rattle.lc_outline_text.proofs.conditions.points_conditions.Given as goal
+
+-- the conditions so far, with those of the points that are left, are all
+abbrev pub invariant-points : goal.invariant-points
+invariant-points l = record {
+  few : l.count ≤ 100001;
+  counted :
+    let each = point_conditions (declarations_seen l.declarations) (totals_seen l.totals) l.operation (body_seen l.body) l.asserts in
+    capped (l.count + sum_by each (forms_left l.some (codes "point") (rest_of l.rest))) ≡ capped (sum_by each (points_in (rest_of l.fn.list)));
+}
+
+abbrev pub decreases-points : goal.decreases-points
+decreases-points l = size l.rest

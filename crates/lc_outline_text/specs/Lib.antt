@@ -1,0 +1,9 @@
+pub mod Declarations
+pub mod Needs
+pub mod Points
+pub mod Bodies
+pub mod Sides
+pub mod Sizes
+pub mod Developments
+pub mod DeclarationsView
+pub mod Views

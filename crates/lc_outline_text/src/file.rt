@@ -1,0 +1,176 @@
+ghost use Rattle.std.specs.Prelude.{◌≡◌, true, IfOk};
+ghost use Rattle.lc_sexp.specs.Shown.{rest_of, number_of};
+ghost use Rattle.lc_object_text.specs.Sections.{sections_of};
+ghost use Rattle.lc_object_text.specs.Seen.{sections_seen};
+ghost use Rattle.lc_outline.specs.Development.{start_numbers};
+ghost use Rattle.lc_outline.specs.DevelopmentView.{development_shown};
+ghost use Rattle.lc_outline.specs.PartsView.{parts_shown};
+ghost use Rattle.lc_outline.specs.Resolved.{is_resolved};
+ghost use Rattle.lc_reading.specs.Files.{IsAnswerTo};
+ghost use Rattle.lc_reading.specs.Parts.{tree_of, place_of};
+ghost use Rattle.lc_reading.specs.Results.{IsReading};
+ghost use Rattle.lc_tie.specs.TieView.{numbers_in};
+ghost use Rattle.lc_outline_text.specs.Declarations.{declarations_of};
+ghost use Rattle.lc_outline_text.specs.DeclarationsView.{declarations_seen};
+ghost use Rattle.lc_outline_text.specs.Developments.{specification_reading, tables_reading, object_reading, second_form_reading, forms_reading, file_reading};
+ghost use Rattle.lc_outline_text.specs.Views.{specifications_shown, tables_and_sides, object_seen, IsFileRead, is_told_before_limits};
+
+use crate::bodies::read_bodies;
+use crate::conditions::condition_count;
+use crate::declarations::Declarations;
+use crate::declaring::read_all_declarations;
+use crate::made::{ObjectParts, made_development};
+use crate::sides::{Sides, read_sides};
+use lc_base::Fault;
+use lc_object_text::{
+    Sections, SpecificationText, Tables, find_sections, read_specification as read_text, read_tables,
+};
+use lc_outline::{Development, Parts};
+use lc_reading::{Part, Pass, ReadFault, both, ended, limited, next_part, wrong};
+use lc_seq::TextSpec;
+use lc_sexp::{Cursor, Forms};
+use lc_spec_text::read_specification as read_meaning;
+use std::alloc::Global;
+
+/// The most conditions of a development.
+const CONDITION_LIMIT: u64 = 100_000;
+
+/// The specification, and as much of it as the object's code sees.
+fn read_specification<'a>(
+    alloc: Global,
+    declarations: &Declarations<'a>,
+    part: Part<'a>,
+) -> Result<(SpecificationText, TextSpec), ReadFault>
+    ensures { IsReading specifications_shown (specification_reading (declarations_seen declarations.now) (place_of part.entry) (tree_of part.entry)) result }
+{
+    let text = read_text(alloc, &declarations.declared, part);
+    match both(
+        text,
+        read_meaning(alloc, &declarations.declared.columns, part),
+    ) {
+        Ok((text, specification)) => Ok((text, specification)),
+        Err(fault) => Err(fault),
+    }
+}
+
+/// An object's own tables, and what stands beside its code, in the object of this number.
+fn read_tables_and_sides(
+    alloc: Global,
+    declarations: &Declarations<'_>,
+    sections: &Sections<'_>,
+    object: u64,
+) -> Result<(Tables, Sides), ReadFault>
+    ensures { IsReading tables_and_sides (tables_reading (declarations_seen declarations.now) (sections_seen sections.now) object) result }
+{
+    let tables = read_tables(alloc, &declarations.declared, sections, object);
+    match both(tables, read_sides(alloc, declarations, sections, object)) {
+        Ok((tables, sides)) => Ok((tables, sides)),
+        Err(fault) => Err(fault),
+    }
+}
+
+/// The object of this number.
+fn read_object(
+    alloc: Global,
+    declarations: &Declarations<'_>,
+    sections: &Sections<'_>,
+    object: u64,
+) -> Result<ObjectParts, ReadFault>
+    ensures { IsReading object_seen (object_reading (declarations_seen declarations.now) (sections_seen sections.now) object) result }
+{
+    let tables = read_tables_and_sides(alloc, declarations, sections, object);
+    match both(
+        tables,
+        read_bodies(alloc, declarations, object, sections.bodies),
+    ) {
+        Ok((tables, bodies)) => Ok((tables, bodies)),
+        Err(fault) => Err(fault),
+    }
+}
+
+/// The second form of a file, which is its last.
+fn read_second_form(
+    alloc: Global,
+    declarations: &Declarations<'_>,
+    sections: &Sections<'_>,
+    mut forms: Cursor<'_>,
+) -> Result<ObjectParts, ReadFault>
+    ensures { IsReading object_seen (second_form_reading (declarations_seen declarations.now) (sections_seen sections.now) (number_of forms.entry) (rest_of forms.entry)) result }
+{
+    let number = forms.number();
+    let Ok(_) = next_part(&mut forms) else {
+        return Err(wrong(Pass::Shape, number));
+    };
+    ended(read_object(alloc, declarations, sections, number), forms)
+}
+
+/// The forms of a file that declares this and has these sections.
+fn read_forms<'a>(
+    alloc: Global,
+    declarations: &Declarations<'a>,
+    sections: &Sections<'a>,
+    mut forms: Cursor<'a>,
+) -> Result<Parts, ReadFault>
+    requires start { number_of forms ≡ 0 }
+    requires declared { declarations_seen declarations.now ≡ declarations_of (rest_of forms) }
+    requires sections { sections_seen sections.now ≡ sections_of (rest_of forms) }
+    ensures read { IsReading parts_shown (forms_reading (declarations_of (rest_of forms.entry)) (sections_of (rest_of forms.entry)) 0 (rest_of forms.entry)) result }
+    ensures resolved { IfOk result (λ parts. is_resolved (parts_shown parts) ≡ true) }
+    ensures initial { IfOk result (λ parts. numbers_in parts.tie ≡ start_numbers (parts_shown parts)) }
+{
+    let number = forms.number();
+    let Ok(part) = next_part(&mut forms) else {
+        return Err(wrong(Pass::Shape, number));
+    };
+    let specification = read_specification(alloc, declarations, part);
+    let object = read_second_form(alloc, declarations, sections, forms);
+    let (specification, object) = both(specification, object)?;
+    let parts = made_development(alloc, specification, object)?;
+    Ok(parts)
+}
+
+/// Whether these are told before any item beyond a limit.
+fn is_told_before_limits(parts: &Result<Parts, ReadFault>) -> bool
+    ensures { result ≡ is_told_before_limits parts.now }
+{
+    match parts {
+        Err(ReadFault::Flawed(flaw)) => flaw.pass != Pass::Bound,
+        _ => false,
+    }
+}
+
+/// What the forms of a file say, else what is told first of them. Conditions are counted only where they may be told: behind
+/// a flaw of an earlier pass no limit is.
+fn read_file(alloc: Global, forms: Cursor<'_>) -> Result<Parts, ReadFault>
+    requires start { number_of forms ≡ 0 }
+    ensures read { IsFileRead (rest_of forms.entry) result }
+    ensures resolved { IfOk result (λ parts. is_resolved (parts_shown parts) ≡ true) }
+    ensures initial { IfOk result (λ parts. numbers_in parts.tie ≡ start_numbers (parts_shown parts)) }
+{
+    let sections = find_sections(forms);
+    let declarations = read_all_declarations(alloc, &sections)?;
+    let parts = read_forms(alloc, &declarations, &sections, forms);
+    if is_told_before_limits(&parts) {
+        return parts;
+    }
+    let count = condition_count(alloc, &declarations, &sections)?;
+    limited(count > CONDITION_LIMIT, 0, parts)
+}
+
+/// The development that a file is: `SPEC OBJECT`, where
+///
+/// ```text
+/// SPEC   ::= (spec NAME (abstract COL*) (op NAME (ARG*) REPLIES BRANCH+)+)
+/// OBJECT ::= (object NAME (array NAME COL+)* (aux COL*) ACTION* (invariant (NAME F)*) (idle F*) BODY+)
+/// ```
+///
+/// Where it is none, `Refused` has the first refusal: `Text` with the offset of the first text fault; else of `Shape`,
+/// `Unknown`, `Repeated`, `Auxiliary` and `Bound`, in this order, the first for which an item is wrong, with the least such
+/// item. That there are more than 100,000 conditions is `Bound` at the item 0. `OutOfMemory` says nothing of the file.
+pub fn development_of(alloc: Global, bytes: &[u8]) -> Result<Development, Fault>
+    ensures { IsAnswerTo development_shown file_reading bytes.now result }
+{
+    let forms = Forms::read(alloc, bytes)?;
+    let parts = read_file(alloc, forms.cursor())?;
+    Ok(Development::of_parts(parts))
+}

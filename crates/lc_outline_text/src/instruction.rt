@@ -1,0 +1,139 @@
+//! What is told from the text of an instruction about its edges.
+ghost use Rattle.std.specs.Prelude.{◌≡◌, IfOk};
+ghost use Rattle.lc_sexp.specs.Shown.{rest_of};
+ghost use Rattle.lc_object.specs.View.{columns_of};
+ghost use Rattle.lc_object.specs.WellFormed.{numbers_from};
+ghost use Rattle.lc_object_text.specs.DeclaredView.{declared_seen, body_seen};
+ghost use Rattle.lc_object_text.specs.ObjectNames as N;
+ghost use Rattle.lc_outline_text.specs.Views.{totals_seen};
+ghost use Rattle.lc_outline_text.specs.Sizes.{text_at, label_place, count_at, array_columns, columns_written, asked_behind};
+
+use crate::columns_stored::system_behind;
+use crate::needs::stores;
+use crate::path_counts::sum_of;
+use lc_base::{ColId, OutOfMemory};
+use lc_object::EdgeKind;
+use lc_object_text::{Body, Declared, Span, behind_first, first_text};
+use lc_sexp::Cursor;
+use std::alloc::Global;
+
+/// How many conjuncts hold in all states, and where a client is idle; and how many actions others may do, with those by which
+/// calls begin and end.
+#[derive(Clone, Copy)]
+pub(crate) struct Totals {
+    pub(crate) invariant: u64,
+    pub(crate) idle: u64,
+    pub(crate) actions: u64,
+}
+
+/// The text of the part of this number, if there is one and it is an atom; else none.
+fn text_at<'a>(list: Cursor<'a>, place: u8) -> &'a str
+    ensures { result.now ≡ text_at place (rest_of list.entry) }
+{
+    if place == 0 {
+        return first_text(&list);
+    }
+    text_at(behind_first(list), place - 1)
+}
+
+/// Which part of an instruction of this word is the label to which this edge leads.
+fn label_place(word: &str, kind: EdgeKind) -> u8
+    ensures { result ≡ label_place word.now kind }
+{
+    match kind {
+        EdgeKind::Next if word == "set" => 2,
+        EdgeKind::Next => 4,
+        EdgeKind::Then if word == "cas" => 5,
+        EdgeKind::Then => 2,
+        EdgeKind::Else if word == "cas" => 6,
+        EdgeKind::Else => 3,
+    }
+}
+
+/// The count at this place, if there is one.
+pub(crate) fn count_at(counts: &[u64], place: Option<u32>) -> u64
+    ensures { result ≡ count_at counts.now place }
+{
+    let Some(place) = place else {
+        return 0;
+    };
+    match counts.get(place as usize) {
+        Some(count) => *count,
+        None => 0,
+    }
+}
+
+/// How many conditions speak of what is to hold behind an edge of an instruction.
+pub(crate) fn asked_behind(
+    totals: Totals,
+    body: &Body<'_>,
+    asserts: &[u64],
+    kind: EdgeKind,
+    code: Cursor<'_>,
+) -> Result<u64, OutOfMemory>
+    ensures { IfOk result (λ count. count ≡ asked_behind (totals_seen totals) (body_seen body.now) asserts.now (N.first_text (rest_of code.entry)) kind (rest_of code.entry)) }
+{
+    let word = first_text(&code);
+    if word == "return" {
+        return sum_of(totals.invariant, sum_of(1, totals.idle)?);
+    }
+    let label = text_at(code, label_place(word, kind));
+    let reached = count_at(asserts, body.labels.place(label));
+    sum_of(totals.invariant, reached)
+}
+
+/// The columns of an array, if there is one of this name.
+fn array_columns(
+    alloc: Global,
+    declared: &Declared<'_>,
+    name: &str,
+) -> Result<Vec<ColId>, OutOfMemory>
+    ensures { IfOk result (λ columns. columns_of columns.items ≡ array_columns (declared_seen declared.now) name.now) }
+{
+    let Some(place) = declared.arrays.place(name) else {
+        return Ok(Vec::new(alloc));
+    };
+    let Some(span) = declared.spans.get(place as usize) else {
+        return Ok(Vec::new(alloc));
+    };
+    columns_of_span(alloc, *span)
+}
+
+/// The columns of this span.
+fn columns_of_span(alloc: Global, span: Span) -> Result<Vec<ColId>, OutOfMemory>
+    ensures { IfOk result (λ columns. columns_of columns.items ≡ numbers_from span.first span.width) }
+{
+    let Ok(width) = u32::try_from(span.width) else {
+        return Err(OutOfMemory);
+    };
+    let Some(end) = span.first.checked_add(width) else {
+        return Err(OutOfMemory);
+    };
+    let mut columns = Vec::new(alloc);
+    for column in span.first..end {
+        columns.push(ColId(column))?;
+    }
+    Ok(columns)
+}
+
+/// The columns in which an instruction itself stores at this edge.
+pub(crate) fn columns_written(
+    alloc: Global,
+    declared: &Declared<'_>,
+    kind: EdgeKind,
+    code: Cursor<'_>,
+) -> Result<Vec<ColId>, OutOfMemory>
+    ensures { IfOk result (λ columns. columns_of columns.items ≡ columns_written (declared_seen declared.now) (N.first_text (rest_of code.entry)) kind (rest_of code.entry)) }
+{
+    let word = first_text(&code);
+    if word == "return" {
+        let system = system_behind(&declared.columns)?;
+        let mut columns = Vec::new(alloc);
+        columns.push(system.pend())?;
+        return Ok(columns);
+    }
+    if !stores(word, kind) {
+        return Ok(Vec::new(alloc));
+    }
+    array_columns(alloc, declared, text_at(code, 1))
+}

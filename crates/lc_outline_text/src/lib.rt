@@ -1,0 +1,21 @@
+//! The text of developments: how a whole file is read, in one walk, as a development or its first refusal.
+#![tactic(auto)]
+
+mod bodies;
+mod columns_stored;
+mod conditions;
+mod declarations;
+mod declaring;
+mod edge_counts;
+mod file;
+mod formulas;
+mod instruction;
+pub mod laws;
+mod made;
+mod needs;
+mod path_counts;
+mod point;
+mod sides;
+mod ways;
+
+pub use file::development_of;
