@@ -1,0 +1,4 @@
+pub mod Verdicts
+pub mod Extras
+pub mod Answers
+pub mod VerdictView
