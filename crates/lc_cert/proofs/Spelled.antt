@@ -11,10 +11,10 @@ use Rattle.lc_reading.specs.Words.{is, is_long}
 use Rattle.lc_term.specs.Syntax.{Base}
 use Rattle.lc_text.proofs.Kept.{IsUsed, AreSpelled}
 use Rattle.lc_text.proofs.ReadBack.{numbered_back}
+use Rattle.lc_text.specs.Names.{column_at}
 use Rattle.lc_text.specs.SpelledTree.{binders}
 use Rattle.lc_text.specs.Terms.{base_reading, used}
 use Rattle.lc_text.specs.declared.scope.ColumnUse.TheVariants.{Usable}
-use Rattle.lc_proof_text.specs.FileNames.{column_at}
 use Rattle.lc_cert.specs.ColumnNames.{names_with, spelled_with}
 
 -- a name stands at its first place
