@@ -1,0 +1,2 @@
+pub mod LeastExtra
+pub mod OneVerdict

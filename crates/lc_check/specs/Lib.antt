@@ -1,4 +1,4 @@
 pub mod Verdicts
-pub mod Extras
+pub mod Numbers
 pub mod Answers
 pub mod VerdictView

@@ -1,7 +1,7 @@
 //! Proofs for numbers that no condition has.
 ghost use Rattle.std.specs.Prelude.{◌≡◌};
 ghost use Rattle.lc_cert.specs.EntryView.{entries_of};
-ghost use Rattle.lc_check.specs.Extras.{first_behind};
+ghost use Rattle.lc_check.specs.Numbers.{first_behind};
 
 use lc_cert::Entry;
 

@@ -27,7 +27,6 @@ pub struct Accepted {
 
 impl Accepted {
     ghost use Rattle.std.specs.Prelude.{◌≡◌, length};
-    ghost use Rattle.lc_object.specs.View.{bytes_of};
     ghost use Rattle.lc_outline.specs.DevelopmentView.{development_shown};
     ghost use Rattle.lc_cond.specs.Conditions.{conditions};
     ghost use Rattle.lc_sound.specs.Derived.{AreDerived};
