@@ -16,10 +16,10 @@ use Rattle.lc_cond.specs.Conditions.{Condition}
 use Rattle.lc_check.specs.Verdicts.{IsProved, IsUnproved, AreProved, IsFirstUnproved, ProvesAll, IsProofRefusal, flaw_told}
 
 -- no variables but those that are counted
-pub record IsCounted (v : ℕ) (ts : Table) (goal : Goal) : Type 0 where
+pub record IsCounted (v : ℕ) (ts : Table) (g : Goal) : Type 0 where
   pub few : v < 2 ^ 31
-  pub hypotheses : IsTrue (all_below v (formulas_in ts goal.hypotheses.items))
-  pub goal : IsTrue (formula_below v (formula_in ts goal.goal))
+  pub hypotheses : IsTrue (all_below v (formulas_in ts g.hypotheses.items))
+  pub goal : IsTrue (formula_below v (formula_in ts g.goal))
 
 -- the same of a condition
 abbrev pub UsesItsVariables : Condition → Type 0

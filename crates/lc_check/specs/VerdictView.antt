@@ -4,6 +4,7 @@ use Rattle.lc_base.specs.declared.refusal.Fault.{Fault}
 use Rattle.lc_base.specs.declared.refusal.Fault.TheVariants.{Refused as IsRefusedAs, OutOfMemory}
 use Rattle.lc_outline.specs.Development.{Development}
 use Rattle.lc_outline.specs.DevelopmentView.{development_shown}
+use Rattle.lc_sound.specs.Derived.{AreDerived}
 use Rattle.lc_sound.specs.Linearizable.{IsLinearizableObject}
 use Rattle.lc_check.specs.Verdicts.{IsAccepted, IsRefused}
 use Rattle.lc_check.specs.declared.verdict.Accepted.{Accepted}
@@ -28,8 +29,8 @@ abbrev pub IsLinearizableIfAccepted : Verdict → Type 0
 IsLinearizableIfAccepted (Accepts accepted) = IsLinearizable (development_in accepted)
 IsLinearizableIfAccepted (Refuses refusal) = Unit {0}
 
--- the files are accepted, or it is told why not; for want of memory nothing
+-- the files are accepted, and each condition has a derivation; or it is told why not; for want of memory nothing
 abbrev pub IsAnswer : List ℕ → List ℕ → Result Accepted Fault → Type 0
-IsAnswer dev cert (Ok accepted) = IsAccepted dev cert (development_in accepted)
+IsAnswer dev cert (Ok accepted) = IsAccepted dev cert (development_in accepted) × AreDerived (development_in accepted)
 IsAnswer dev cert (Err (IsRefusedAs refusal)) = IsRefused dev cert refusal
 IsAnswer dev cert (Err OutOfMemory) = Unit {0}

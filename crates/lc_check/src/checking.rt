@@ -1,11 +1,15 @@
 ghost use Rattle.std.specs.Prelude.{IfOk};
-ghost use Rattle.lc_check.specs.VerdictView.{IsVerdict, IsLinearizableIfAccepted, IsAnswer};
+ghost use Rattle.lc_outline.specs.DevelopmentView.{development_shown};
+ghost use Rattle.lc_sound.specs.Derived.{AreDerived};
+ghost use Rattle.lc_check.specs.VerdictView.{IsVerdict, IsLinearizable, IsLinearizableIfAccepted, IsAnswer};
 
 use crate::proving::prove_all;
 use crate::verdict::{Accepted, Verdict};
 use lc_base::{Fault, OutOfMemory};
 use lc_cert::certificate_of;
+use lc_outline::Development;
 use lc_outline_text::development_of;
+use lc_sound::{derived_conditions_are_valid, linearizable_runs};
 use std::alloc::Global;
 
 /// What is accepted of these files, if they are.
@@ -16,6 +20,15 @@ fn accepted(alloc: Global, dev: &[u8], cert: &[u8]) -> Result<Accepted, Fault>
     let certificate = certificate_of(alloc, &development, cert)?;
     let count = prove_all(alloc, &development, &certificate)?;
     Ok(Accepted::new(development, count))
+}
+
+/// Where each condition of a development has a derivation, its object is linearizable.
+fn derived_is_linearizable(development: &Development)
+    requires { AreDerived (development_shown development.now) }
+    ensures { IsLinearizable (development_shown development.now) }
+{
+    derived_conditions_are_valid(development);
+    linearizable_runs(development);
 }
 
 /// The verdict on a development file and a certificate file.
@@ -32,7 +45,7 @@ pub fn check(alloc: Global, dev: &[u8], cert: &[u8]) -> Result<Verdict, OutOfMem
 {
     match accepted(alloc, dev, cert) {
         Ok(accepted) => {
-            accepted.development();
+            derived_is_linearizable(accepted.development());
             Ok(Verdict::Accepted(accepted))
         }
         Err(Fault::Refused(refusal)) => Ok(Verdict::Refused(refusal)),

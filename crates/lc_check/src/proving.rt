@@ -58,7 +58,7 @@ fn prove_one(
 ) -> Result<(), Fault>
     requires known { IsCondition terms.old condition.now }
     requires steps { IfSome proof (λ p. size (proof_of p.now) ≤ 16777216) }
-    ensures exactly { ProvesOne number (condition_in terms.old condition.now) (option_map (λ p. proof_of p.now) proof) result }
+    ensures exactly { ProvesOne number (condition_in terms.old condition.now) (option_map (λ p. proof_of p.now) proof.entry) result }
     ensures kept { Keeps terms.old terms.new }
 {
     let Some(proof) = proof else {

@@ -5,7 +5,6 @@ ghost use Rattle.lc_sound.specs.Derived.{AreDerived};
 
 use lc_base::Refusal;
 use lc_outline::Development;
-use lc_sound::{derived_conditions_are_valid, linearizable_runs};
 
 /// What is said of a development file and a certificate file.
 #[derive(Drop)]
@@ -21,7 +20,7 @@ pub enum Verdict {
 pub struct Accepted {
     development: Development,
     count: u64,
-    ghost derived: { AreDerived (development_shown development) },
+    ghost derived: { ∥ AreDerived (development_shown development) ∥₁ },
     ghost counted: { count ≡ length (conditions (development_shown development)) },
 }
 
@@ -30,28 +29,22 @@ impl Accepted {
     ghost use Rattle.lc_outline.specs.DevelopmentView.{development_shown};
     ghost use Rattle.lc_cond.specs.Conditions.{conditions};
     ghost use Rattle.lc_sound.specs.Derived.{AreDerived};
-    ghost use Rattle.lc_sound.specs.Valid.{AreValid};
-    ghost use Rattle.lc_check.specs.VerdictView.{development_in, IsLinearizable};
+    ghost use Rattle.lc_check.specs.VerdictView.{development_in};
 
     /// The development, each of whose conditions has a derivation, and which has so many.
     pub(crate) fn new(development: Development, count: u64) -> Accepted
-        requires derived { AreDerived (development_shown development) }
+        requires derived { ∥ AreDerived (development_shown development) ∥₁ }
         requires counted { count ≡ length (conditions (development_shown development)) }
         ensures { development_in result ≡ development_shown development }
     {
         Accepted { development, count }
     }
 
-    /// The development. All its conditions are valid, and for every number of clients and every list of single-access steps of
-    /// its object the history of calls and returns is linearizable by its specification.
+    /// The development.
     pub fn development(&self) -> &Development
         ensures shown { development_shown result.now ≡ development_in self.now }
-        ensures derived { AreDerived (development_in self.now) }
-        ensures valid { AreValid (development_in self.now) }
-        ensures linearizable { IsLinearizable (development_in self.now) }
+        ensures derived { ∥ AreDerived (development_in self.now) ∥₁ }
     {
-        derived_conditions_are_valid(&self.development);
-        linearizable_runs(&self.development);
         &self.development
     }
 
