@@ -1,2 +1,3 @@
 pub mod LeastExtra
 pub mod OneVerdict
+pub mod EachProved
