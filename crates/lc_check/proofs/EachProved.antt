@@ -1,10 +1,11 @@
 -- Conditions that are proved one after another, in a table that grows.
-use Rattle.std.proofs.Common.{◌≡◌, ℕ, zero, suc, ◌+◌, ◌<◌, inl, inr, List, [], ◌∷◌, ◌++◌, map, take, drop, length, get_or, Option, Some, None, refl, sym, ap, ap₂, ◌∙◌, subst, arith, add-zero}
+use Rattle.std.proofs.Common.{◌≡◌, ℕ, true, zero, suc, ◌+◌, ◌<◌, ◌≤◌, inl, inr, List, [], ◌∷◌, ◌++◌, map, take, drop, length, get_or, Option, Some, None, refl, sym, ap, ap₂, ◌∙◌, subst, arith, add-zero}
 use Rattle.std.proofs.lemmas.List.{map-append, take_more, take-append-drop, length-map, length-take-le}
 use Rattle.std.specs.Prelude.{Result, Ok, Err, option_map, IfSome}
 use Rattle.lc_base.specs.declared.refusal.Fault.{Fault}
 use Rattle.lc_base.specs.declared.refusal.Fault.TheVariants.{Refused, OutOfMemory}
 use Rattle.lc_base.specs.declared.refusal.Refusal.{Refusal}
+use Rattle.lc_base.specs.declared.refusal.Refusal.TheVariants.{Extra}
 use Rattle.lc_term.proofs.Later.{formula_still, formulas_still, is_formula_still, are_formulas_still}
 use Rattle.lc_term.specs.Lists.{Every}
 use Rattle.lc_term.specs.NodeTables.{Table}
@@ -14,13 +15,15 @@ use Rattle.lc_kernel.specs.Proofs.{Proof, size}
 use Rattle.lc_kernel.specs.declared.fault.ProofFault.{ProofFault}
 use Rattle.lc_kernel.specs.declared.fault.ProofFault.TheVariants.{Bad as NotHolding, Large as TooLarge, OutOfMemory as NoMore}
 use Rattle.lc_kernel.specs.declared.reason.Flaw.TheVariants.{Bad, Large}
-use Rattle.lc_cert.specs.Certificates.{Entry, proof_at}
+use Rattle.lc_cert.specs.Certificates.{Entry, is_rising, proof_at}
 use Rattle.lc_cond.specs.Conditions as S
 use Rattle.lc_cond.specs.ConditionView.{kind_of, place_of, condition_in, IsCondition, AreConditions}
 use Rattle.lc_cond.specs.declared.condition.Condition.{Condition}
 use Rattle.lc_sound.specs.Derived.{IsDerived}
-use Rattle.lc_check.specs.Answers.{UsesItsVariables, HaveFewSteps, fault_of, ProvesOne, ProvesEach}
-use Rattle.lc_check.specs.Verdicts.{IsProved, IsUnproved, AreProved, IsFirstUnproved}
+use Rattle.lc_check.specs.Answers.{UsesItsVariables, HaveFewSteps, fault_of, ProvesOne, ProvesEach, CountsProved, CountsAll}
+use Rattle.lc_check.specs.Verdicts.{IsProved, IsUnproved, AreProved, IsFirstUnproved, HasNoExtra, IsFirstExtra}
+use Rattle.lc_check.specs.Numbers.{first_behind}
+use Rattle.lc_check.proofs.LeastExtra.{none_behind, least_behind}
 
 -- ---- one condition
 
@@ -113,6 +116,38 @@ one_not ts es cs i x (Refused r) lt is before h =
 -- what is answered of a condition and its proof, where they are seen as others
 pub seen_as : (i n : ℕ) (c d : S.Condition) (o q : Option Proof) (result : Result (Unit {0}) Fault) → n ≡ i → c ≡ d → o ≡ q → ProvesOne n c o result → ProvesOne i d q result
 seen_as i n c d o q result e f g h = subst (λ q. ProvesOne i d q result) g (subst (λ c. ProvesOne i c o result) f (subst (λ n. ProvesOne n c o result) e h))
+
+-- all are before the end
+pub all_before : (ts : Table) (es : List Entry) (cs : List Condition) (i : ℕ) (u : Unit {0}) → take i cs ≡ cs → ProvedBefore ts es i cs → ProvesEach es (map (condition_in ts) cs) (Ok u)
+all_before ts es cs i u all before =
+    let same = ap (map (condition_in ts)) all in
+    (subst (Every UsesItsVariables) same before.variables, subst (AreProved es 0) same before.proved)
+
+-- a proof of a certificate has few steps
+pub few_at : {A : Type 0} (view : A → Proof) (es : List Entry) (k : ℕ) (o : Option A) → HaveFewSteps es → option_map view o ≡ proof_at es k → IfSome o (λ p. size (view p) ≤ 16777216)
+few_at view es k None few is = tt
+few_at view es k (Some p) few is = few k (view p) (sym is)
+
+-- ---- all of them, with their number, and other proofs
+
+pub counted : (es : List Entry) (cs : List S.Condition) (n : ℕ) (u : Unit {0}) → n ≡ length cs → ProvesEach es cs (Ok u) → CountsProved es cs (Ok n)
+counted es cs n u is h = (is, h.0, h.1)
+
+pub not_counted : (es : List Entry) (cs : List S.Condition) (fault : Fault) → ProvesEach es cs (Err fault) → CountsProved es cs (Err fault)
+not_counted es cs (Refused r) h = h
+not_counted es cs OutOfMemory h = tt
+
+pub no_other : (es : List Entry) (cs : List S.Condition) (n : ℕ) → CountsProved es cs (Ok n) → None ≡ first_behind n es → CountsAll es cs (Ok n)
+no_other es cs n h none = (h.0, h.1, (h.2, subst (λ m. HasNoExtra m es) h.0 (none_behind n es (sym none))))
+
+pub another : (es : List Entry) (cs : List S.Condition) (n k : ℕ) → is_rising None es ≡ true → CountsProved es cs (Ok n) → Some k ≡ first_behind n es → CountsAll es cs (Err (Refused (Extra k)))
+another es cs n k rises h found =
+    let least = least_behind n None es k rises (sym found) in
+    inr (h.2, subst (λ m. IsFirstExtra m es (Extra k)) h.0 (k, least.0, least.1, refl))
+
+pub not_all : (es : List Entry) (cs : List S.Condition) (fault : Fault) → CountsProved es cs (Err fault) → CountsAll es cs (Err fault)
+not_all es cs (Refused r) h = inl h
+not_all es cs OutOfMemory h = tt
 
 -- ---- derived
 

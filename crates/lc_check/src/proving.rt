@@ -82,8 +82,8 @@ fn prove_each(
     requires steps { HaveFewSteps (entries_in certificate.now) }
     ensures exactly { ProvesEach (entries_in certificate.now) (map (condition_in terms.old) list.now) result }
 {
-    for (number, condition) in list.iter().enumerate() {
-        let number = number as u64;
+    for (place, condition) in list.iter().enumerate() {
+        let number = place as u64;
         prove_one(alloc, terms, number, condition, certificate.proof(number))?;
     }
     Ok(())
