@@ -1,0 +1,5 @@
+//! How developments are printed.
+#![tactic(auto)]
+
+mod naming;
+mod parts;
