@@ -12,7 +12,7 @@ use Rattle.lc_rider.specs.Rider.{Deed, Assign, Marks, Own, Other, Note, Rider}
 use Rattle.lc_tie.specs.Tie.{Conjunct}
 use Rattle.lc_outline.specs.Development.{On}
 use Rattle.lc_outline_print.specs.Naming.{with_client, named_by, operation_name, action_name}
-use Rattle.lc_outline_print.specs.Parts.{name_trees, term_trees, update_trees}
+use Rattle.lc_outline_print.specs.Parts.{name_trees, term_trees, update_parts, update_trees}
 
 -- (action NAME (PARAM*) F UPDATE*), with columns by these names
 abbrev pub action_tree : List (List ℕ) → Action → Tree
@@ -26,7 +26,7 @@ conjunct_tree columns c = list (atom c.name ▸ formula_tree (named_by columns (
 
 -- (set COLUMN T T), (lin), (lin-other T OP), (note)
 abbrev pub deed_tree : Object → Spelled → Deed → Tree
-deed_tree object by (Assign u) = list (atom (codes "set") ▸ atom (by.column u.column) ▸ term_tree by 0 u.index ▸ term_tree by 0 u.value ▸ none)
+deed_tree object by (Assign u) = list (atom (codes "set") ▸ update_parts by u)
 deed_tree object by (Marks Own) = list (atom (codes "lin") ▸ none)
 deed_tree object by (Marks (Other client o)) = list (atom (codes "lin-other") ▸ term_tree by 0 client ▸ atom (operation_name object o) ▸ none)
 deed_tree object by (Marks Note) = list (atom (codes "note") ▸ none)

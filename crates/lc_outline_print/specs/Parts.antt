@@ -20,9 +20,13 @@ formula_trees by fs = row (map (formula_tree by 0) fs)
 abbrev pub column_tree : List ℕ → ℤ → ℤ → Tree
 column_tree name slope start = list (atom name ▸ atom (signed_decimal slope) ▸ atom (signed_decimal start) ▸ none)
 
+-- COLUMN T T
+abbrev pub update_parts : Spelled → Update → Trees
+update_parts by u = atom (by.column u.column) ▸ term_tree by 0 u.index ▸ term_tree by 0 u.value ▸ none
+
 -- (COLUMN T T)
 abbrev pub update_tree : Spelled → Update → Tree
-update_tree by u = list (atom (by.column u.column) ▸ term_tree by 0 u.index ▸ term_tree by 0 u.value ▸ none)
+update_tree by u = list (update_parts by u)
 
 abbrev pub update_trees : Spelled → List Update → Trees
 update_trees by us = row (map (update_tree by) us)

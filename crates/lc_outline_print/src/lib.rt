@@ -3,3 +3,4 @@
 
 mod naming;
 mod parts;
+mod specification;

@@ -1,14 +1,17 @@
 //! By which names the text of a development speaks of what has a number.
-ghost use Rattle.std.specs.Prelude.{◌≡◌, ◌++◌, OnOk, string_bytes, map};
+ghost use Rattle.std.specs.Prelude.{◌≡◌, ◌++◌, IfOk, OnOk, string_bytes, map};
+ghost use Rattle.lc_base.specs.Name.{bytes_of};
+ghost use Rattle.lc_reading.specs.Words.{names_in};
 ghost use Rattle.lc_object.specs.View.{parts_of};
 ghost use Rattle.lc_action.specs.ActionView.{action_of};
-ghost use Rattle.lc_outline_print.specs.Naming.{array_name, label, operation_name, action_name};
+ghost use Rattle.lc_outline_print.specs.Naming.{with_client, array_name, label, operation_name, action_name};
 
 use lc_action::Action;
-use lc_base::{ColId, OpId, OutOfMemory, PointId};
+use lc_base::{ColId, Name, OpId, OutOfMemory, PointId};
 use lc_object::{ArrayId, Parts};
 use lc_outline::ActionId;
 use lc_text::Spelling;
+use std::alloc::Global;
 
 /// Columns and variables by these names.
 #[derive(Clone, Copy)]
@@ -36,6 +39,41 @@ impl Spelling for Named<'_, '_> {
         }
         Ok(())
     }
+}
+
+/// These, and these names behind them.
+fn with_names<'a>(before: Vec<&'a str>, names: &'a [Name]) -> Result<Vec<&'a str>, OutOfMemory>
+    ensures { IfOk result (λ all. names_in all.items ≡ names_in before.entry.items ++ map bytes_of names.now) }
+{
+    let mut all = before;
+    for name in names {
+        all.push(name.as_str())?;
+    }
+    Ok(all)
+}
+
+/// The number of clients, the client, and these variables behind them.
+pub(crate) fn client_variables<'a>(
+    alloc: Global,
+    names: &'a [Name],
+) -> Result<Vec<&'a str>, OutOfMemory>
+    ensures { IfOk result (λ all. names_in all.items ≡ with_client (map bytes_of names.now)) }
+{
+    let mut all = Vec::new(alloc);
+    all.push("N")?;
+    all.push("self")?;
+    with_names(all, names)
+}
+
+/// The variables of an operation's body.
+pub(crate) fn body_variables<'a>(
+    alloc: Global,
+    arguments: &'a [Name],
+    locals: &'a [Name],
+) -> Result<Vec<&'a str>, OutOfMemory>
+    ensures { IfOk result (λ all. names_in all.items ≡ with_client (map bytes_of arguments.now ++ map bytes_of locals.now)) }
+{
+    with_names(client_variables(alloc, arguments)?, locals)
 }
 
 /// Writes the name of an array.
