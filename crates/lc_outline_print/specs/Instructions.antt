@@ -11,11 +11,20 @@ use Rattle.lc_outline_print.specs.Parts.{term_trees}
 abbrev pub local_trees : Spelled → List ℕ → Trees
 local_trees by locals = row (map (λ r. atom (by.variable r)) locals)
 
--- (r T) of each local and its value
+-- (r T)
+abbrev pub assignment_tree : Spelled → ℕ → Term → Tree
+assignment_tree by r t = list (atom (by.variable r) ▸ term_tree by 0 t ▸ none)
+
+-- of each local and its value
 abbrev pub assignment_trees : Spelled → List ℕ → List Term → Trees
-assignment_trees by (r ∷ rs) (t ∷ ts) = list (atom (by.variable r) ▸ term_tree by 0 t ▸ none) ▸ assignment_trees by rs ts
+assignment_trees by (r ∷ rs) (t ∷ ts) = assignment_tree by r t ▸ assignment_trees by rs ts
 assignment_trees by _ _ = none
 
+-- A T
+abbrev pub access_trees : Object → Spelled → ℕ → Term → Trees
+access_trees object by a t = atom (array_name object a) ▸ term_tree by 0 t ▸ none
+
+-- (load A T (r ..) L), (store A T (T ..) L), (cas A T (T ..) (T ..) L M), (set ((r T) ..) L), (if F L M), (return T ..)
 abbrev pub instruction_tree : Object → Spelled → Instr → Tree
 instruction_tree object by (Load a t rs l) =
     list (atom (codes "load") ▸ atom (array_name object a) ▸ term_tree by 0 t ▸ list (local_trees by rs) ▸ atom (label object l) ▸ none)

@@ -15,12 +15,12 @@ use std::alloc::Global;
 
 /// Columns and variables by these names.
 #[derive(Clone, Copy)]
-pub(crate) struct Named<'a, 'b> {
+pub(crate) struct Named<'a, 'b, 'c, 'd> {
     pub(crate) columns: &'b [&'a str],
-    pub(crate) variables: &'b [&'a str],
+    pub(crate) variables: &'d [&'c str],
 }
 
-impl Spelling for Named<'_, '_> {
+impl Spelling for Named<'_, '_, '_, '_> {
     ghost use Rattle.lc_reading.specs.Words.{names_in};
     ghost use Rattle.lc_outline_print.specs.Naming.{named_by};
 

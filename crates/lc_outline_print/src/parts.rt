@@ -13,8 +13,19 @@ use lc_base::{Name, OutOfMemory};
 use lc_term::{Formula, Term, Update};
 use lc_text::{Spelling, write_formula, write_term};
 
-/// Writes a term behind a space.
+/// Writes a term.
 #[tactic(auto, using(lc_text::proofs::PrintedTrees::term_text))]
+fn write_plain_term<S: Spelling>(
+    out: &mut String,
+    spelling: &S,
+    term: &Term,
+) -> Result<(), OutOfMemory>
+    ensures { OnOk result (string_bytes out.new ≡ string_bytes out.old ++ printed_tree (term_tree (S.spelled spelling.now) 0 (term_of term.now))) }
+{
+    write_term(out, spelling, 0, term)
+}
+
+/// Writes a term behind a space.
 pub(crate) fn write_term_part<S: Spelling>(
     out: &mut String,
     spelling: &S,
@@ -23,7 +34,7 @@ pub(crate) fn write_term_part<S: Spelling>(
     ensures { OnOk result (string_bytes out.new ≡ string_bytes out.old ++ codes " " ++ printed_tree (term_tree (S.spelled spelling.now) 0 (term_of term.now))) }
 {
     out.push_str(" ")?;
-    write_term(out, spelling, 0, term)
+    write_plain_term(out, spelling, term)
 }
 
 /// Writes a formula behind a space.
@@ -78,7 +89,6 @@ pub(crate) fn write_terms<S: Spelling>(
 }
 
 /// Writes a list of terms behind a space.
-#[tactic(auto, using(lc_text::proofs::PrintedTrees::term_text))]
 pub(crate) fn write_term_list<S: Spelling>(
     out: &mut String,
     spelling: &S,
@@ -88,7 +98,7 @@ pub(crate) fn write_term_list<S: Spelling>(
 {
     out.push_str(" (")?;
     if let Some((first, others)) = terms.split_first() {
-        write_term(out, spelling, 0, first)?;
+        write_plain_term(out, spelling, first)?;
         write_terms(out, spelling, others)?;
     }
     out.push_str(")")?;
