@@ -8,7 +8,7 @@ use Rattle.lc_object.specs.Syntax.{Object}
 use Rattle.lc_object.specs.declared.instr.EdgeKind.{EdgeKind}
 use Rattle.lc_object.specs.declared.instr.EdgeKind.TheVariants.{Next, Then, Else}
 use Rattle.lc_action.specs.Action.{Action}
-use Rattle.lc_rider.specs.Rider.{Deed, Assign, Marks, Own, Other, Note, Rider}
+use Rattle.lc_rider.specs.Rider.{Deed, Assign, Marks, Marking, Own, Other, Note, Rider}
 use Rattle.lc_tie.specs.Tie.{Conjunct}
 use Rattle.lc_outline.specs.Development.{On}
 use Rattle.lc_outline_print.specs.Naming.{with_client, named_by, operation_name, action_name}
@@ -24,12 +24,16 @@ action_tree columns a =
 abbrev pub conjunct_tree : List (List ℕ) → Conjunct → Tree
 conjunct_tree columns c = list (atom c.name ▸ formula_tree (named_by columns (codes "N" ∷ [])) 0 c.formula ▸ none)
 
--- (set COLUMN T T), (lin), (lin-other T OP), (note)
+-- (lin), (lin-other T OP), (note)
+abbrev pub marking_tree : Object → Spelled → Marking → Tree
+marking_tree object by Own = list (atom (codes "lin") ▸ none)
+marking_tree object by (Other client o) = list (atom (codes "lin-other") ▸ term_tree by 0 client ▸ atom (operation_name object o) ▸ none)
+marking_tree object by Note = list (atom (codes "note") ▸ none)
+
+-- (set COLUMN T T), or a mark
 abbrev pub deed_tree : Object → Spelled → Deed → Tree
 deed_tree object by (Assign u) = list (atom (codes "set") ▸ update_parts by u)
-deed_tree object by (Marks Own) = list (atom (codes "lin") ▸ none)
-deed_tree object by (Marks (Other client o)) = list (atom (codes "lin-other") ▸ term_tree by 0 client ▸ atom (operation_name object o) ▸ none)
-deed_tree object by (Marks Note) = list (atom (codes "note") ▸ none)
+deed_tree object by (Marks m) = marking_tree object by m
 
 -- (when F RIDER), or the rider alone
 abbrev pub conditional_tree : Spelled → Option Formula → Tree → Tree

@@ -24,6 +24,10 @@ assignment_trees by _ _ = none
 abbrev pub access_trees : Object → Spelled → ℕ → Term → Trees
 access_trees object by a t = atom (array_name object a) ▸ term_tree by 0 t ▸ none
 
+-- L M
+abbrev pub label_trees : Object → ℕ → ℕ → Trees
+label_trees object l m = atom (label object l) ▸ atom (label object m) ▸ none
+
 -- (load A T (r ..) L), (store A T (T ..) L), (cas A T (T ..) (T ..) L M), (set ((r T) ..) L), (if F L M), (return T ..)
 abbrev pub instruction_tree : Object → Spelled → Instr → Tree
 instruction_tree object by (Load a t rs l) =
@@ -31,7 +35,7 @@ instruction_tree object by (Load a t rs l) =
 instruction_tree object by (Store a t vs l) =
     list (atom (codes "store") ▸ atom (array_name object a) ▸ term_tree by 0 t ▸ list (term_trees by vs) ▸ atom (label object l) ▸ none)
 instruction_tree object by (Cas a t old new l m) =
-    list (atom (codes "cas") ▸ atom (array_name object a) ▸ term_tree by 0 t ▸ list (term_trees by old) ▸ list (term_trees by new) ▸ atom (label object l) ▸ atom (label object m) ▸ none)
+    list (atom (codes "cas") ▸ atom (array_name object a) ▸ term_tree by 0 t ▸ list (term_trees by old) ▸ list (term_trees by new) ▸ label_trees object l m)
 instruction_tree object by (Set rs vs l) = list (atom (codes "set") ▸ list (assignment_trees by rs vs) ▸ atom (label object l) ▸ none)
-instruction_tree object by (If f l m) = list (atom (codes "if") ▸ formula_tree by 0 f ▸ atom (label object l) ▸ atom (label object m) ▸ none)
+instruction_tree object by (If f l m) = list (atom (codes "if") ▸ formula_tree by 0 f ▸ label_trees object l m)
 instruction_tree object by (Return vs) = list (atom (codes "return") ▸ term_trees by vs)

@@ -4,11 +4,13 @@ ghost use Rattle.lc_action.specs.ActionView.{action_of};
 ghost use Rattle.lc_object.specs.View.{parts_of};
 ghost use Rattle.lc_outline.specs.PartsView.{on_of};
 ghost use Rattle.lc_reading.specs.Words.{names_in};
+ghost use Rattle.lc_rider.specs.Rider.{Other};
 ghost use Rattle.lc_rider.specs.RiderView.{rider_of};
 ghost use Rattle.lc_sexp.specs.Printed.{printed_tree, printed_others};
 ghost use Rattle.lc_sexp.specs.Trees.{row};
+ghost use Rattle.lc_term.specs.View.{term_of};
 ghost use Rattle.lc_tie.specs.TieView.{conjunct_of};
-ghost use Rattle.lc_outline_print.specs.Beside.{action_tree, conjunct_tree, deed_tree, rider_tree, edge_word, on_tree};
+ghost use Rattle.lc_outline_print.specs.Beside.{action_tree, conjunct_tree, marking_tree, deed_tree, rider_tree, edge_word, on_tree};
 
 use crate::naming::{Named, client_variables, write_action_name, write_operation_name};
 use crate::parts::{
@@ -16,10 +18,11 @@ use crate::parts::{
     write_updates,
 };
 use lc_action::Action;
-use lc_base::OutOfMemory;
+use lc_base::{OpId, OutOfMemory};
 use lc_object::{EdgeKind, Parts};
 use lc_outline::On;
 use lc_rider::Rider;
+use lc_term::Term;
 use lc_text::Spelling;
 use lc_tie::Conjunct;
 use std::alloc::Global;
@@ -95,6 +98,23 @@ pub(crate) fn write_conjuncts(
     Ok(())
 }
 
+/// Writes `(lin-other T OP)`.
+fn write_lin_other<S: Spelling>(
+    out: &mut String,
+    object: &Parts,
+    spelling: &S,
+    client: &Term,
+    operation: OpId,
+) -> Result<(), OutOfMemory>
+    ensures { OnOk result (string_bytes out.new ≡ string_bytes out.old ++ printed_tree (marking_tree (parts_of object.now) (S.spelled spelling.now) (Other (term_of client.now) operation.0))) }
+{
+    out.push_str("(lin-other")?;
+    write_term_part(out, spelling, client)?;
+    write_operation_name(out, object, operation)?;
+    out.push_str(")")?;
+    Ok(())
+}
+
 /// Writes what a rider does, without its condition.
 fn write_deed<S: Spelling>(
     out: &mut String,
@@ -113,13 +133,7 @@ fn write_deed<S: Spelling>(
         Rider::LinSelf { .. } => out.push_str("(lin)")?,
         Rider::LinOther {
             client, operation, ..
-        } => {
-            out.push_str("(lin-other")?;
-            write_term_part(out, spelling, client)?;
-            out.push_str(" ")?;
-            write_operation_name(out, object, *operation)?;
-            out.push_str(")")?;
-        }
+        } => write_lin_other(out, object, spelling, client, *operation)?,
         Rider::Note { .. } => out.push_str("(note)")?,
     }
     Ok(())

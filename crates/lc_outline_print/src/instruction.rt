@@ -1,17 +1,19 @@
 //! How instructions are printed.
 ghost use Rattle.std.specs.Prelude.{◌≡◌, ◌∷◌, ◌++◌, OnOk, codes, string_bytes, map};
+ghost use Rattle.lc_object.specs.Syntax.{Load, Store, Cas, Set, If, Return};
 ghost use Rattle.lc_object.specs.View.{locals_of, terms_of, instruction_of, parts_of};
 ghost use Rattle.lc_sexp.specs.Printed.{printed_tree, printed_items, printed_others};
-ghost use Rattle.lc_sexp.specs.Trees.{list};
+ghost use Rattle.lc_sexp.specs.Trees.{list, none, ◌▸◌};
 ghost use Rattle.lc_term.specs.View.{term_of, formula_of};
 ghost use Rattle.lc_outline_print.specs.Naming.{label};
-ghost use Rattle.lc_outline_print.specs.Instructions.{access_trees, local_trees, assignment_tree, assignment_trees, instruction_tree};
+ghost use Rattle.lc_outline_print.specs.Parts.{term_trees};
+ghost use Rattle.lc_outline_print.specs.Instructions.{access_trees, label_trees, local_trees, assignment_tree, assignment_trees, instruction_tree};
 
 use crate::naming::{write_array_name, write_label};
 use crate::parts::{write_formula_part, write_term_list, write_term_part, write_terms};
 use lc_base::{OutOfMemory, PointId};
 use lc_object::{ArrayId, Instr, LocalId, Parts};
-use lc_term::Term;
+use lc_term::{Formula, Term};
 use lc_text::Spelling;
 
 /// Writes the name of a point behind a space.
@@ -124,6 +126,151 @@ fn write_access<S: Spelling>(
     write_term_part(out, spelling, index)
 }
 
+/// Writes `(load A T (r ..) L)`.
+fn write_load<S: Spelling>(
+    out: &mut String,
+    object: &Parts,
+    spelling: &S,
+    array: ArrayId,
+    index: &Term,
+    targets: &[LocalId],
+    next: PointId,
+) -> Result<(), OutOfMemory>
+    ensures { OnOk result (string_bytes out.new ≡ string_bytes out.old ++ printed_tree (instruction_tree (parts_of object.now) (S.spelled spelling.now) (Load array.0 (term_of index.now) (locals_of targets.now) next.0))) }
+{
+    out.push_str("(load ")?;
+    write_access(out, object, spelling, array, index)?;
+    write_local_list(out, spelling, targets)?;
+    write_label_part(out, object, next)?;
+    out.push_str(")")?;
+    Ok(())
+}
+
+/// Writes `(store A T (T ..) L)`.
+fn write_store<S: Spelling>(
+    out: &mut String,
+    object: &Parts,
+    spelling: &S,
+    array: ArrayId,
+    index: &Term,
+    values: &[Term],
+    next: PointId,
+) -> Result<(), OutOfMemory>
+    ensures { OnOk result (string_bytes out.new ≡ string_bytes out.old ++ printed_tree (instruction_tree (parts_of object.now) (S.spelled spelling.now) (Store array.0 (term_of index.now) (terms_of values.now) next.0))) }
+{
+    out.push_str("(store ")?;
+    write_access(out, object, spelling, array, index)?;
+    write_term_list(out, spelling, values)?;
+    write_label_part(out, object, next)?;
+    out.push_str(")")?;
+    Ok(())
+}
+
+/// Writes two labels, each behind a space.
+fn write_labels(
+    out: &mut String,
+    object: &Parts,
+    first: PointId,
+    second: PointId,
+) -> Result<(), OutOfMemory>
+    ensures { OnOk result (string_bytes out.new ≡ string_bytes out.old ++ printed_others (label_trees (parts_of object.now) first.0 second.0)) }
+{
+    write_label_part(out, object, first)?;
+    write_label_part(out, object, second)
+}
+
+/// Writes two lists of terms, each behind a space.
+fn write_rows<S: Spelling>(
+    out: &mut String,
+    spelling: &S,
+    old: &[Term],
+    new: &[Term],
+) -> Result<(), OutOfMemory>
+    ensures { OnOk result (string_bytes out.new ≡ string_bytes out.old ++ printed_others (list (term_trees (S.spelled spelling.now) (terms_of old.now)) ▸ list (term_trees (S.spelled spelling.now) (terms_of new.now)) ▸ none)) }
+{
+    write_term_list(out, spelling, old)?;
+    write_term_list(out, spelling, new)
+}
+
+/// Where a compare and swap goes: behind it where the row is the old one, and where it is not.
+#[derive(Clone, Copy)]
+struct Exits {
+    equal: PointId,
+    different: PointId,
+}
+
+/// Writes `(cas A T (T ..) (T ..) L M)`.
+fn write_cas<S: Spelling>(
+    out: &mut String,
+    object: &Parts,
+    spelling: &S,
+    array: ArrayId,
+    index: &Term,
+    old: &[Term],
+    new: &[Term],
+    exits: Exits,
+) -> Result<(), OutOfMemory>
+    ensures { OnOk result (string_bytes out.new ≡ string_bytes out.old ++ printed_tree (instruction_tree (parts_of object.now) (S.spelled spelling.now) (Cas array.0 (term_of index.now) (terms_of old.now) (terms_of new.now) exits.equal.0 exits.different.0))) }
+{
+    out.push_str("(cas ")?;
+    write_access(out, object, spelling, array, index)?;
+    write_rows(out, spelling, old, new)?;
+    write_labels(out, object, exits.equal, exits.different)?;
+    out.push_str(")")?;
+    Ok(())
+}
+
+/// Writes `(set ((r T) ..) L)`.
+fn write_set<S: Spelling>(
+    out: &mut String,
+    object: &Parts,
+    spelling: &S,
+    targets: &[LocalId],
+    values: &[Term],
+    next: PointId,
+) -> Result<(), OutOfMemory>
+    ensures { OnOk result (string_bytes out.new ≡ string_bytes out.old ++ printed_tree (instruction_tree (parts_of object.now) (S.spelled spelling.now) (Set (locals_of targets.now) (terms_of values.now) next.0))) }
+{
+    out.push_str("(set")?;
+    write_assignment_list(out, spelling, targets, values)?;
+    write_label_part(out, object, next)?;
+    out.push_str(")")?;
+    Ok(())
+}
+
+/// Writes `(if F L M)`.
+fn write_if<S: Spelling>(
+    out: &mut String,
+    object: &Parts,
+    spelling: &S,
+    condition: &Formula,
+    holds: PointId,
+    fails: PointId,
+) -> Result<(), OutOfMemory>
+    ensures { OnOk result (string_bytes out.new ≡ string_bytes out.old ++ printed_tree (instruction_tree (parts_of object.now) (S.spelled spelling.now) (If (formula_of condition.now) holds.0 fails.0))) }
+{
+    out.push_str("(if")?;
+    write_formula_part(out, spelling, condition)?;
+    write_labels(out, object, holds, fails)?;
+    out.push_str(")")?;
+    Ok(())
+}
+
+/// Writes `(return T ..)`.
+fn write_return<S: Spelling>(
+    out: &mut String,
+    object: &Parts,
+    spelling: &S,
+    values: &[Term],
+) -> Result<(), OutOfMemory>
+    ensures { OnOk result (string_bytes out.new ≡ string_bytes out.old ++ printed_tree (instruction_tree (parts_of object.now) (S.spelled spelling.now) (Return (terms_of values.now)))) }
+{
+    out.push_str("(return")?;
+    write_terms(out, spelling, values)?;
+    out.push_str(")")?;
+    Ok(())
+}
+
 /// Writes `INSTR`.
 pub(crate) fn write_instruction<S: Spelling>(
     out: &mut String,
@@ -139,23 +286,13 @@ pub(crate) fn write_instruction<S: Spelling>(
             index,
             targets,
             next,
-        } => {
-            out.push_str("(load ")?;
-            write_access(out, object, spelling, *array, index)?;
-            write_local_list(out, spelling, targets)?;
-            write_label_part(out, object, *next)?;
-        }
+        } => write_load(out, object, spelling, *array, index, targets, *next),
         Instr::Store {
             array,
             index,
             values,
             next,
-        } => {
-            out.push_str("(store ")?;
-            write_access(out, object, spelling, *array, index)?;
-            write_term_list(out, spelling, values)?;
-            write_label_part(out, object, *next)?;
-        }
+        } => write_store(out, object, spelling, *array, index, values, *next),
         Instr::Cas {
             array,
             index,
@@ -164,37 +301,22 @@ pub(crate) fn write_instruction<S: Spelling>(
             equal,
             different,
         } => {
-            out.push_str("(cas ")?;
-            write_access(out, object, spelling, *array, index)?;
-            write_term_list(out, spelling, old)?;
-            write_term_list(out, spelling, new)?;
-            write_label_part(out, object, *equal)?;
-            write_label_part(out, object, *different)?;
+            let exits = Exits {
+                equal: *equal,
+                different: *different,
+            };
+            write_cas(out, object, spelling, *array, index, old, new, exits)
         }
         Instr::Set {
             targets,
             values,
             next,
-        } => {
-            out.push_str("(set")?;
-            write_assignment_list(out, spelling, targets, values)?;
-            write_label_part(out, object, *next)?;
-        }
+        } => write_set(out, object, spelling, targets, values, *next),
         Instr::If {
             condition,
             holds,
             fails,
-        } => {
-            out.push_str("(if")?;
-            write_formula_part(out, spelling, condition)?;
-            write_label_part(out, object, *holds)?;
-            write_label_part(out, object, *fails)?;
-        }
-        Instr::Return { values } => {
-            out.push_str("(return")?;
-            write_terms(out, spelling, values)?;
-        }
+        } => write_if(out, object, spelling, condition, *holds, *fails),
+        Instr::Return { values } => write_return(out, object, spelling, values),
     }
-    out.push_str(")")?;
-    Ok(())
 }

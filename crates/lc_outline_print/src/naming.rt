@@ -1,5 +1,5 @@
 //! By which names the text of a development speaks of what has a number.
-ghost use Rattle.std.specs.Prelude.{◌≡◌, ◌++◌, IfOk, OnOk, string_bytes, map};
+ghost use Rattle.std.specs.Prelude.{◌≡◌, ◌++◌, IfOk, OnOk, codes, string_bytes, map};
 ghost use Rattle.lc_base.specs.Name.{bytes_of};
 ghost use Rattle.lc_reading.specs.Words.{names_in};
 ghost use Rattle.lc_object.specs.View.{parts_of};
@@ -104,14 +104,15 @@ pub(crate) fn write_label(
     Ok(())
 }
 
-/// Writes the name of an operation.
+/// Writes the name of an operation behind a space.
 pub(crate) fn write_operation_name(
     out: &mut String,
     object: &Parts,
     operation: OpId,
 ) -> Result<(), OutOfMemory>
-    ensures { OnOk result (string_bytes out.new ≡ string_bytes out.old ++ operation_name (parts_of object.now) operation.0) }
+    ensures { OnOk result (string_bytes out.new ≡ string_bytes out.old ++ codes " " ++ operation_name (parts_of object.now) operation.0) }
 {
+    out.push_str(" ")?;
     if let Some(operation) = object.operations.get(operation.0 as usize) {
         out.push_str(operation.name.as_str())?;
     }

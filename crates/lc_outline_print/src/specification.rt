@@ -1,5 +1,6 @@
 //! How specifications are printed.
 ghost use Rattle.std.specs.Prelude.{◌≡◌, ◌++◌, OnOk, codes, string_bytes, map};
+ghost use Rattle.std.specs.Fmt.{decimal};
 ghost use Rattle.lc_reading.specs.Words.{names_in};
 ghost use Rattle.lc_seq.specs.SpecView.{column_of, branch_of, operation_of};
 ghost use Rattle.lc_seq.specs.TextView.{specification_of};
@@ -56,6 +57,14 @@ fn write_branches<S: Spelling>(
     Ok(())
 }
 
+/// Writes a count behind a space.
+fn write_count(out: &mut String, count: u32) -> Result<(), OutOfMemory>
+    ensures { OnOk result (string_bytes out.new ≡ string_bytes out.old ++ codes " " ++ decimal count) }
+{
+    write!(out, " {count}")?;
+    Ok(())
+}
+
 /// Writes `(op NAME (ARG*) REPLIES BRANCH+)` behind a space.
 fn write_operation(
     alloc: Global,
@@ -70,11 +79,10 @@ fn write_operation(
         columns,
         variables: &variables,
     };
-    let replies = operation.replies;
     out.push_str(" (op ")?;
     out.push_str(operation.name.as_str())?;
     write_name_list(out, &operation.arguments)?;
-    write!(out, " {replies}")?;
+    write_count(out, operation.replies)?;
     write_branches(out, &named, &operation.branches)?;
     out.push_str(")")?;
     Ok(())
