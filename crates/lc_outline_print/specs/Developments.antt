@@ -26,15 +26,17 @@ invariant_tree D = list (atom (codes "invariant") ▸ row (map (conjunct_tree (c
 abbrev pub idle_tree : Development → Tree
 idle_tree D = list (atom (codes "idle") ▸ formula_trees (named_by (column_names D) (with_client [])) D.idle)
 
--- what stands behind the actions
+-- ARRAY* (aux COL*) ACTION*
+abbrev pub table_trees : Development → Trees
+table_trees D = followed (row (map (array_tree D.object) D.object.arrays)) (auxiliary_tree D ▸ row (map (action_tree (column_names D)) D.actions))
+
+-- (invariant (NAME F)*) (idle F*) BODY+
 abbrev pub conditions_and_bodies : Development → Trees
 conditions_and_bodies D = invariant_tree D ▸ idle_tree D ▸ body_trees D 0 D.object.operations
 
 -- (object NAME ARRAY* (aux COL*) ACTION* (invariant (NAME F)*) (idle F*) BODY+)
 abbrev pub object_tree : Development → Tree
-object_tree D =
-    list (atom (codes "object") ▸ atom D.object.name ▸ followed (row (map (array_tree D.object) D.object.arrays))
-      (auxiliary_tree D ▸ followed (row (map (action_tree (column_names D)) D.actions)) (conditions_and_bodies D)))
+object_tree D = list (atom (codes "object") ▸ atom D.object.name ▸ followed (table_trees D) (conditions_and_bodies D))
 
 -- the two forms, each in a line
 abbrev pub development_printed : Development → List ℕ

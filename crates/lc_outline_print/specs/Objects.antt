@@ -28,11 +28,13 @@ array_tree object a = list (atom (codes "array") ▸ atom a.name ▸ concrete_tr
 abbrev pub named_in : List (List ℕ) → Operation → Spelled
 named_in columns o = named_by columns (with_client (o.arguments ++ o.locals))
 
+-- (assert F*) ON*
+abbrev pub outline_trees : Development → Spelled → Option Outline → Trees
+outline_trees D by x = list (atom (codes "assert") ▸ formula_trees by (asserts_in x)) ▸ row (map (on_tree D.object D.actions by) (ons_in x))
+
 -- (point NAME INSTR (assert F*) ON*), with this outline
 abbrev pub point_tree : Development → Spelled → Point → Option Outline → Tree
-point_tree D by p x =
-    list (atom (codes "point") ▸ atom p.name ▸ instruction_tree D.object by p.instruction
-      ▸ list (atom (codes "assert") ▸ formula_trees by (asserts_in x)) ▸ row (map (on_tree D.object D.actions by) (ons_in x)))
+point_tree D by p x = list (atom (codes "point") ▸ atom p.name ▸ instruction_tree D.object by p.instruction ▸ outline_trees D by x)
 
 -- the points in the body of operation k; the first of these points has the number p
 abbrev pub point_trees : Development → Spelled → ℕ → ℕ → List Point → Trees
@@ -41,9 +43,11 @@ point_trees D by k p (point ∷ points) =
     if point.operation == k then point_tree D by point (slice_get D.outlines p) ▸ point_trees D by k (suc p) points else point_trees D by k (suc p) points
 
 -- (body OP (LOCAL*) POINT+), of operation k
+abbrev pub body_with : Development → Spelled → ℕ → Operation → Tree
+body_with D by k o = list (atom (codes "body") ▸ atom o.name ▸ list (name_trees o.locals) ▸ point_trees D by k 0 D.object.points)
+
 abbrev pub body_tree : Development → ℕ → Operation → Tree
-body_tree D k o =
-    list (atom (codes "body") ▸ atom o.name ▸ list (name_trees o.locals) ▸ point_trees D (named_in (column_names D) o) k 0 D.object.points)
+body_tree D k o = body_with D (named_in (column_names D) o) k o
 
 -- the bodies of these operations; the first of them has the number k
 abbrev pub body_trees : Development → ℕ → List Operation → Trees

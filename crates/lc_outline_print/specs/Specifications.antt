@@ -16,10 +16,13 @@ declared_tree c = column_tree c.name c.slope c.start
 abbrev pub branch_tree : Spelled → Branch → Tree
 branch_tree by b = list (atom (codes "branch") ▸ formula_tree by 0 b.guard ▸ list (update_trees by b.updates) ▸ list (term_trees by b.replies) ▸ none)
 
--- (op NAME (ARG*) REPLIES BRANCH+), with columns by these names
+-- (op NAME (ARG*) REPLIES BRANCH+)
+abbrev pub operation_with : Spelled → Operation → Tree
+operation_with by o = list (atom (codes "op") ▸ atom o.name ▸ list (name_trees o.arguments) ▸ atom (decimal o.replies) ▸ row (map (branch_tree by) o.branches))
+
+-- the same, with columns by these names
 abbrev pub operation_tree : List (List ℕ) → Operation → Tree
-operation_tree columns o =
-    list (atom (codes "op") ▸ atom o.name ▸ list (name_trees o.arguments) ▸ atom (decimal o.replies) ▸ row (map (branch_tree (named_by columns (with_client o.arguments))) o.branches))
+operation_tree columns o = operation_with (named_by columns (with_client o.arguments)) o
 
 -- (spec NAME (abstract COL*) OP+)
 abbrev pub specification_tree : List (List ℕ) → Specification → Tree

@@ -2,7 +2,12 @@
 #![tactic(auto)]
 
 mod beside;
+mod column_names;
+mod development;
 mod instruction;
 mod naming;
+mod object;
 mod parts;
 mod specification;
+
+pub use development::development_text;

@@ -6,7 +6,7 @@ ghost use Rattle.lc_seq.specs.SpecView.{column_of, branch_of, operation_of};
 ghost use Rattle.lc_seq.specs.TextView.{specification_of};
 ghost use Rattle.lc_sexp.specs.Printed.{printed_tree, printed_others};
 ghost use Rattle.lc_sexp.specs.Trees.{row};
-ghost use Rattle.lc_outline_print.specs.Specifications.{declared_tree, branch_tree, operation_tree, specification_tree};
+ghost use Rattle.lc_outline_print.specs.Specifications.{declared_tree, branch_tree, operation_with, operation_tree, specification_tree};
 
 use crate::naming::{Named, client_variables};
 use crate::parts::{
@@ -66,6 +66,23 @@ fn write_count(out: &mut String, count: u32) -> Result<(), OutOfMemory>
 }
 
 /// Writes `(op NAME (ARG*) REPLIES BRANCH+)` behind a space.
+fn write_operation_with<S: Spelling>(
+    out: &mut String,
+    spelling: &S,
+    operation: &Operation,
+) -> Result<(), OutOfMemory>
+    ensures { OnOk result (string_bytes out.new ≡ string_bytes out.old ++ codes " " ++ printed_tree (operation_with (S.spelled spelling.now) (operation_of operation.now))) }
+{
+    out.push_str(" (op ")?;
+    out.push_str(operation.name.as_str())?;
+    write_name_list(out, &operation.arguments)?;
+    write_count(out, operation.replies)?;
+    write_branches(out, spelling, &operation.branches)?;
+    out.push_str(")")?;
+    Ok(())
+}
+
+/// Writes an operation behind a space, with columns by these names.
 fn write_operation(
     alloc: Global,
     out: &mut String,
@@ -79,13 +96,7 @@ fn write_operation(
         columns,
         variables: &variables,
     };
-    out.push_str(" (op ")?;
-    out.push_str(operation.name.as_str())?;
-    write_name_list(out, &operation.arguments)?;
-    write_count(out, operation.replies)?;
-    write_branches(out, &named, &operation.branches)?;
-    out.push_str(")")?;
-    Ok(())
+    write_operation_with(out, &named, operation)
 }
 
 /// Writes `OP+`, each behind a space.
