@@ -5,3 +5,4 @@ pub mod Beside
 pub mod Instructions
 pub mod Objects
 pub mod Developments
+pub mod ReadsBack
