@@ -4,4 +4,6 @@ pub mod Answers
 pub mod Reading
 pub mod Formula
 pub mod Judge
+pub mod Developments
+pub mod Printing
 pub mod Execution

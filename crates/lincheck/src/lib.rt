@@ -3,11 +3,14 @@
 
 mod answer;
 mod command_line;
+mod conditions;
+mod development;
 mod disk;
 mod files;
 mod formula;
 mod judge;
 pub mod laws;
+mod printing;
 mod program;
 mod reading;
 
