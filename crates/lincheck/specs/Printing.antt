@@ -33,6 +33,6 @@ IsInPieces (CheckCertificate development certificate) = ⊥
 abbrev pub Leaves : Task → (List ℕ → ℕ → Type 0) → Option (List ℕ) → Option (List ℕ) → Result ℕ Failure → Type 0
 Leaves task IsAnswer before after (Ok status) = (text : List ℕ) × IsAnswer text status × Appends before after text
 Leaves task IsAnswer before after (Err (CannotRead path)) = Keeps before after
-Leaves task IsAnswer before after (Err CannotWrite) = (text : List ℕ) × (said : ℕ) × IsAnswer text said
+Leaves task IsAnswer before after (Err CannotWrite) = Keeps before after ⊎ ((text : List ℕ) × (said : ℕ) × IsAnswer text said)
 Leaves task IsAnswer before after (Err OutOfMemory) =
     Keeps before after ⊎ (IsInPieces task × ((text : List ℕ) × (said : ℕ) × IsAnswer text said × Begins before after text))

@@ -34,22 +34,19 @@ fn carry_out<'a, F: Files, O: Write>(
     ensures unread { IsUnread (F.CannotOpen files.old) (F.bytes_at files.old) (task_of request.entry) → IsErr result × (out.new ≡ out.old) }
     ensures leaves { Leaves (task_of request.entry) (AnswersTask (F.bytes_at files.old) (task_of request.entry)) (O.contents out.old) (O.contents out.new) result }
 {
-    let answer = match request {
-        Request::Formula(path) => answer_formula(alloc, files, path)?,
+    match request {
+        Request::Formula(path) => print_answer(out, &answer_formula(alloc, files, path)?),
         Request::Judge {
             development,
             history,
-        } => answer_judge(alloc, files, development, history)?,
-        Request::Show(development) => answer_show(alloc, files, development)?,
-        Request::Conditions(development) => {
-            return list_conditions(alloc, files, development, out);
-        }
+        } => print_answer(out, &answer_judge(alloc, files, development, history)?),
+        Request::Show(development) => print_answer(out, &answer_show(alloc, files, development)?),
+        Request::Conditions(development) => list_conditions(alloc, files, development, out),
         Request::Check {
             development,
             certificate,
-        } => answer_check(alloc, files, development, certificate)?,
-    };
-    print_answer(out, &answer)
+        } => print_answer(out, &answer_check(alloc, files, development, certificate)?),
+    }
 }
 
 /// Says on standard error why there is no answer, and answers the status. A fault of standard error changes nothing.
