@@ -94,12 +94,12 @@ check_answered known certificate certificate' D (Err failure) says keeps answers
 -- where a file that is needed cannot be opened, there is no answer: a development that is refused says nothing
 pub check_unread : {T E : Type 0} (CannotOpen : List ℕ → Type 0) (bytes_at : List ℕ → Option (List ℕ)) (development certificate : List ℕ) (result : Result T E)
     → (CannotOpen development → ⊥) → (CannotOpen certificate → IsErr result) → IsUnread CannotOpen bytes_at (CheckCertificate development certificate) → IsErr result
-check_unread CannotOpen bytes_at development certificate result open none (inl closed) = absurd (open closed)
-check_unread CannotOpen bytes_at development certificate result open none (inr (file, D, known, says, closed)) = none closed
+check_unread CannotOpen bytes_at development certificate result opens none (inl closed) = absurd (opens closed)
+check_unread CannotOpen bytes_at development certificate result opens none (inr (file, D, known, says, closed)) = none closed
 
 pub refused_opens : (CannotOpen : List ℕ → Type 0) (bytes_at : List ℕ → Option (List ℕ)) (development certificate : List ℕ) (text : List ℕ) (status : ℕ)
     → (CannotOpen development → ⊥) → IfSome (bytes_at development) (λ file. TellsRefusal file text status) → IsUnread CannotOpen bytes_at (CheckCertificate development certificate) → ⊥
-refused_opens CannotOpen bytes_at development certificate text status open tells (inl closed) = open closed
-refused_opens CannotOpen bytes_at development certificate text status open tells (inr (file, D, known, says, closed)) =
+refused_opens CannotOpen bytes_at development certificate text status opens tells (inl closed) = opens closed
+refused_opens CannotOpen bytes_at development certificate text status opens tells (inr (file, D, known, says, closed)) =
     let refuses : TellsRefusal file text status = subst (λ o. IfSome o (λ f. TellsRefusal f text status)) known tells in
     says_not_refused file_reading file D refuses.0 says refuses.1.0
