@@ -12,3 +12,4 @@ pub mod Entered
 pub mod Crossed
 pub mod Names
 pub mod Lines
+pub mod VariableCounts

@@ -8,3 +8,4 @@ pub mod Adding
 pub mod Heads
 pub mod Scenes
 pub mod Crossings
+pub mod VariableCounts
