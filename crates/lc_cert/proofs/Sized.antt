@@ -1,7 +1,7 @@
 -- The proofs of a certificate that is read have no more steps than the file has bytes.
-use Rattle.std.proofs.Common.{◌≡◌, ℕ, ◌+◌, ◌≤◌, List, ◌∷◌, Option, arith}
+use Rattle.std.proofs.Common.{◌≡◌, ℕ, ◌+◌, ◌≤◌, List, ◌∷◌, Option, None, arith}
 use Rattle.std.specs.Prelude.{codes}
-use Rattle.lc_sexp.proofs.Limits.{items_fit_lem}
+use Rattle.lc_sexp.proofs.Items.{items_fit_lem}
 use Rattle.lc_sexp.specs.Trees.{Tree, Trees, none, ◌▸◌, item_count, item_count_of_all}
 use Rattle.lc_kernel.specs.Proofs.{size}
 use Rattle.lc_reading.proofs.Fine.{IfFine, anything, weaker, both_fine, ended_fine, two_fine, behind_fine, of_fine}
