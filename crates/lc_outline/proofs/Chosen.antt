@@ -1,5 +1,5 @@
 -- What holds of all that is done at the edges of a point holds of what is done at one of them.
-use Rattle.std.proofs.Common.{◌≡◌, Bool, true, false, cond, List, [], ◌∷◌, Option, Some, subst}
+use Rattle.std.proofs.Common.{◌≡◌, Bool, true, false, cond, List, [], ◌∷◌, Some, subst}
 use Rattle.std.proofs.lemmas.Option.{same_Some}
 use Rattle.lc_term.specs.Lists.{Every}
 use Rattle.lc_object.specs.declared.instr.EdgeKind.{EdgeKind}
