@@ -82,33 +82,39 @@ edges_at-below : (object : Object) (op k : ℕ) (i : Instr) → ((o : Operation)
 edges_at-below object op k (Load a t rs l) h =
     ((refl, λ o is. record { facts = tt; values = reads-below (variable_count o) (array_columns object a) t (code_term-below (variable_count o) t (right_true _ _ (left_true _ _ (left_true _ _ (h o is))))); updates = tt }), tt)
 edges_at-below object op k (Store a t vs l) h = (
-  (refl, λ o is. record {
-    facts = tt;
-    values = tt;
-    updates = row_updates-below (variable_count o) (array_columns object a) t vs (code_term-below (variable_count o) t (right_true _ _ (left_true _ _ (left_true _ _ (h o is)))))
-        (code_terms-below (variable_count o) vs (right_true _ _ (left_true _ _ (h o is))));
-  }),
+  (
+    refl,
+    λ o is. record {
+      facts = tt;
+      values = tt;
+      updates = row_updates-below (variable_count o) (array_columns object a) t vs (code_term-below (variable_count o) t (right_true _ _ (left_true _ _ (left_true _ _ (h o is)))))
+          (code_terms-below (variable_count o) vs (right_true _ _ (left_true _ _ (h o is))));
+    },
+  ),
   tt,
 )
 edges_at-below object op k (Cas a t old new l m) h =
     (let index : (o : Operation) → slice_get object.operations op ≡ Some o → IsTrue (term_below (variable_count o) t) =
-        λ o is. code_term-below (variable_count o) t (right_true _ _ (left_true _ _ (left_true _ _ (left_true _ _ (left_true _ _ (h o is))))))
+    λ o is. code_term-below (variable_count o) t (right_true _ _ (left_true _ _ (left_true _ _ (left_true _ _ (left_true _ _ (h o is))))))
     in
     let facts : (o : Operation) → slice_get object.operations op ≡ Some o → FormulasBelow (variable_count o) (row_facts (array_columns object a) t old) =
-        λ o is. row_facts-below (variable_count o) (array_columns object a) t old (index o is) (code_terms-below (variable_count o) old (right_true _ _ (left_true _ _ (left_true _ _ (left_true _ _ (h o is))))))
+    λ o is. row_facts-below (variable_count o) (array_columns object a) t old (index o is) (code_terms-below (variable_count o) old (right_true _ _ (left_true _ _ (left_true _ _ (left_true _ _ (h o is))))))
     in (
-      (refl, λ o is. record {
-        facts = facts o is;
-        values = tt;
-        updates = row_updates-below (variable_count o) (array_columns object a) t new (index o is) (code_terms-below (variable_count o) new (right_true _ _ (left_true _ _ (left_true _ _ (h o is)))));
-      }),
+      (
+        refl,
+        λ o is. record {
+          facts = facts o is;
+          values = tt;
+          updates = row_updates-below (variable_count o) (array_columns object a) t new (index o is) (code_terms-below (variable_count o) new (right_true _ _ (left_true _ _ (left_true _ _ (h o is)))));
+        },
+      ),
       ((refl, λ o is. record { facts = (formulas-below (variable_count o) (row_facts (array_columns object a) t old) (facts o is), tt); values = tt; updates = tt }), tt),
     ))
 edges_at-below object op k (Set rs vs l) h =
     ((refl, λ o is. record { facts = tt; values = code_terms-below (variable_count o) vs (right_true _ _ (left_true _ _ (h o is))); updates = tt }), tt)
 edges_at-below object op k (If f l m) h =
     (let condition : (o : Operation) → slice_get object.operations op ≡ Some o → IsTrue (formula_below (variable_count o) f) =
-        λ o is. code_formula-below (variable_count o) f (left_true _ _ (left_true _ _ (h o is)))
+    λ o is. code_formula-below (variable_count o) f (left_true _ _ (left_true _ _ (h o is)))
     in (
       (refl, λ o is. record { facts = (condition o is, tt); values = tt; updates = tt }),
       ((refl, λ o is. record { facts = (condition o is, tt); values = tt; updates = tt }), tt),

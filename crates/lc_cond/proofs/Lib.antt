@@ -12,3 +12,8 @@ pub mod Entered
 pub mod Crossed
 pub mod Names
 pub mod Lines
+pub mod Below
+pub mod BelowStores
+pub mod BelowPaths
+pub mod BelowCode
+pub mod BelowConditions
