@@ -1,33 +1,34 @@
 -- Each condition of a resolved development uses no variables but those that it counts.
-use Rattle.std.proofs.Common.{◌≡◌, ℕ, zero, suc, ◌+◌, ◌≤◌, ◌&&◌, Bool, true, false, if◌then◌else◌, List, [], ◌∷◌, ◌++◌, map, length, replicate, ℤ, pos, Option, Some, None, IsTrue, refl, sym, subst, ap, ◌∙◌, arith}
+use Rattle.std.proofs.Common.{◌≡◌, ℕ, zero, suc, ◌+◌, ◌≤◌, ◌&&◌, Bool, true, false, if◌then◌else◌, List, [], ◌∷◌, ◌++◌, map, length, replicate, ℤ, pos, Option, Some, None, IsTrue, refl, subst, arith}
 use Rattle.std.specs.Prelude.{slice_get}
 use Rattle.std.proofs.lemmas.Bool.{and_from}
 use Rattle.lc_term.specs.Lists.{Every, numbered, concat_map, concat_places}
 use Rattle.lc_term.specs.Syntax.{Term, Number, Variable, Column, Base, Formula, Not, Eq}
-use Rattle.lc_term.specs.Replacement.{raising, replace_column, replacing, replace}
-use Rattle.lc_term.specs.Said.{told, after, variables_from}
+use Rattle.lc_term.specs.Replacement.{replacing, replace}
+use Rattle.lc_term.specs.Said.{told, variables_from}
 use Rattle.lc_term.specs.SystemColumns.{pend, op_column, arg_columns, column_count}
 use Rattle.lc_term.proofs.Stores.{Every-append, Every-map}
 use Rattle.lc_object.specs.Syntax.{Operation, Point}
 use Rattle.lc_object.specs.Edges.{Edge, edges}
 use Rattle.lc_object.specs.WellFormed.{variable_count}
-use Rattle.lc_action.specs.Action.{Action, enter, leave, acting_variables, guard_for, post_columns}
+use Rattle.lc_action.specs.Action.{Action, enter, acting_variables, guard_for, post_columns}
 use Rattle.lc_tie.specs.Tie.{start_column}
 use Rattle.lc_outline.specs.Development.{Development, On, first_system, invariant_of, all_actions, start_numbers, on_at, ons_at, asserts_at, riders_in}
 use Rattle.lc_outline.specs.Resolved.{AreArgumentsBelow, IsResolved}
 use Rattle.lc_outline.proofs.Chosen.{chosen}
-use Rattle.lc_rider.specs.Paths.{edge_columns, edge_variables, Duty, Path, paths, path_start}
+use Rattle.lc_rider.specs.Paths.{edge_variables, Duty, Path, paths, path_start}
 use Rattle.lc_kernel.specs.Below.{column_below, term_below, formula_below, all_below}
 use Rattle.lc_kernel.proofs.InUse.{formula_below-more}
-use Rattle.lc_cond.specs.Conditions.{Kind, Init, InitIdle, Entry, First, Reply, Invariant, NextKind, Head, Condition, conditions_from, conditions_of, at_start, at_entry, on_path, alone_on_path}
+use Rattle.lc_cond.specs.Conditions.{Init, InitIdle, Entry, First, Reply, Invariant, NextKind, Head, Condition, conditions_from, conditions_of, at_start, at_entry, on_path, alone_on_path}
 use Rattle.lc_cond.specs.Conditions.{is_cell, range, idle_frame, hold_variables, body_frame, start_formula, start_conditions, padded, enter_variables, entry_variables, entered, entry_conditions}
 use Rattle.lc_cond.specs.Conditions.{at_end, asserts_to, reply_goals, is_base, same_column, column_condition, column_conditions, action_conditions, on_conditions, duty_condition, path_conditions, body_hypotheses}
-use Rattle.lc_cond.specs.Conditions.{edge_conditions_in, in_operation, in_body, edge_conditions, stable_variables, stable_hypotheses, stable_goal, stable_under, stable_conditions, point_stability, idle_stability, conditions}
+use Rattle.lc_cond.specs.Conditions.{edge_conditions_in, in_operation, in_body, edge_conditions, stable_variables, stable_under, stable_conditions, point_stability, idle_stability, conditions}
 use Rattle.lc_cond.specs.Uses.{UsesItsVariables, AllUseTheirVariables}
 use Rattle.lc_cond.proofs.Below.{ColumnsBelow, TermsBelow, FormulasBelow, raised-below, told-below, replaced-below}
-use Rattle.lc_cond.proofs.BelowStores.{Every-mapped, Every-replicate, UpdateBelow, put-below, puts-below, after-below, base-below, variable-below, variables_from-below, assigned-below}
+use Rattle.lc_cond.proofs.Elements.{Every-mapped, Every-replicate, Every-each, Every-numbered, Every-places, Every-placed}
+use Rattle.lc_cond.proofs.BelowStores.{put-below, puts-below, after-below, base-below, variable-below, variables_from-below, assigned-below}
 use Rattle.lc_cond.proofs.BelowPaths.{DutyBelow, PathBelow, facts-append, paths-below}
-use Rattle.lc_cond.proofs.BelowCode.{EdgeBelow, StandsBelow, edges-below}
+use Rattle.lc_cond.proofs.BelowCode.{StandsBelow, edges-below}
 
 -- of hypotheses one after another
 abbrev Uses : Condition → Type 0
@@ -48,25 +49,6 @@ uses_from x hs k (goal ∷ goals) h g = ((h, g.0), uses_from x hs (suc k) goals 
 
 uses_of : (x : Head) (hs goals : List Formula) → FormulasBelow x.variables hs → FormulasBelow x.variables goals → Every Uses (conditions_of x hs goals)
 uses_of x hs goals h g = uses_from x hs 0 goals h g
-
-Every-numbered : {A B : Type 0} (P : B → Type 0) (f : ℕ → A → B) (k : ℕ) (xs : List A) → ((j : ℕ) (x : A) → P (f j x)) → Every P (numbered f k xs)
-Every-numbered P f k [] h = tt
-Every-numbered P f k (x ∷ xs) h = (h k x, Every-numbered P f (suc k) xs h)
-
-Every-places : {A B : Type 0} (P : A → Type 0) (Q : B → Type 0) (f : ℕ → A → List B) (k : ℕ) (xs : List A) → ((j : ℕ) (x : A) → P x → Every Q (f j x)) → Every P xs → Every Q (concat_places f k xs)
-Every-places P Q f k [] h p = tt
-Every-places P Q f k (x ∷ xs) h p = Every-append Q (f k x) (concat_places f (suc k) xs) (h k x p.0) (Every-places P Q f (suc k) xs h p.1)
-
--- each element at its place
-Every-placed : {A B : Type 0} (Q : B → Type 0) (f : ℕ → A → List B) (k : ℕ) (xs : List A) → ((j : ℕ) (x : A) → slice_get xs j ≡ Some x → Every Q (f (k + j) x)) → Every Q (concat_places f k xs)
-Every-placed Q f k [] h = tt
-Every-placed Q f k (x ∷ xs) h =
-    Every-append Q (f k x) (concat_places f (suc k) xs) (subst (λ j. Every Q (f j x)) (omega arith) (h zero x refl))
-    (Every-placed Q f (suc k) xs (λ j y e. subst (λ i. Every Q (f i y)) (omega arith) (h (suc j) y e)))
-
-Every-each : {A B : Type 0} (P : A → Type 0) (Q : B → Type 0) (f : A → List B) (xs : List A) → ((x : A) → P x → Every Q (f x)) → Every P xs → Every Q (concat_map f xs)
-Every-each P Q f [] h p = tt
-Every-each P Q f (x ∷ xs) h p = Every-append Q (f x) (concat_map f xs) (h x p.0) (Every-each P Q f xs h p.1)
 
 -- ---- frames
 
@@ -255,9 +237,8 @@ module _ (D : Development) (X : IsResolved D) where
 
   -- ---- stability
 
-  stable-uses : (point : Option ℕ) (n : ℕ) (hs asserts : List Formula) → 2 ≤ n → FormulasBelow n hs → FormulasBelow n asserts →
-      (k : ℕ) (f : Formula) → IsTrue (formula_below n f) → (i : ℕ) (a : Action) → Uses (stable_under D point n hs k f i a)
-  stable-uses point n hs asserts le below each k f h i a =
+  stable-uses : (point : Option ℕ) (n : ℕ) (hs : List Formula) → 2 ≤ n → FormulasBelow n hs → (k : ℕ) (f : Formula) → IsTrue (formula_below n f) → (i : ℕ) (a : Action) → Uses (stable_under D point n hs k f i a)
+  stable-uses point n hs le below k f h i a =
       let m = suc n + length a.parameters in
       let ts = stable_variables n a in
       let terms : TermsBelow m ts = variables_from-below m (suc n) (length a.parameters) (omega arith) in
@@ -283,7 +264,7 @@ module _ (D : Development) (X : IsResolved D) where
   stability-uses point n frame asserts le below each =
       let hs = frame ++ (invariant_of D ++ asserts) in
       Every-places (λ f. IsTrue (formula_below n f)) Uses (λ k f. numbered (stable_under D point n hs k f) 0 (all_actions D)) 0 asserts
-      (λ k f h. Every-numbered Uses (stable_under D point n hs k f) 0 (all_actions D) (stable-uses point n hs asserts le below each k f h)) each
+      (λ k f h. Every-numbered Uses (stable_under D point n hs k f) 0 (all_actions D) (stable-uses point n hs le below k f h)) each
 
   point-uses : (p : ℕ) (point : Point) → slice_get D.object.points p ≡ Some point → Every Uses (point_stability D p point)
   point-uses p point at = at_operation (slice_get D.object.operations point.operation) refl

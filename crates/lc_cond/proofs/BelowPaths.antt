@@ -1,21 +1,22 @@
 -- Variables below a count: the paths of riders. Whatever the riders and the branches say, they are told in variables below it.
-use Rattle.std.proofs.Common.{ℕ, suc, ◌≤◌, ◌&&◌, List, [], ◌∷◌, ◌++◌, map, pos, Option, Some, None, IsTrue, refl}
+use Rattle.std.proofs.Common.{ℕ, suc, List, [], ◌∷◌, ◌++◌, map, Option, Some, None, IsTrue, refl}
 use Rattle.std.proofs.lemmas.Bool.{and_from}
-use Rattle.lc_term.specs.Lists.{Every, concat_map}
-use Rattle.lc_term.specs.Syntax.{Term, Number, Variable, Column, Formula, Formulas, Eq, Not, And, Or, formulas, none, more}
+use Rattle.lc_term.specs.Lists.{Every}
+use Rattle.lc_term.specs.Syntax.{Term, Formula, Not, formulas}
 use Rattle.lc_term.specs.Places.{all_pass}
 use Rattle.lc_term.specs.Replacement.{replacing, replace_term}
-use Rattle.lc_term.specs.Said.{put, said, after, told, term_at, reads}
+use Rattle.lc_term.specs.Said.{said, told, term_at, reads}
 use Rattle.lc_term.specs.SystemColumns.{pend, op_column, arg_columns}
 use Rattle.lc_term.specs.Updates.{Update}
 use Rattle.lc_term.proofs.Stores.{Every-append}
 use Rattle.lc_seq.specs.Branches.{op_branches, arity}
 use Rattle.lc_seq.specs.Specification.{Branch, Operation}
 use Rattle.lc_rider.specs.Rider.{Marking, Own, Other, Note, Deed, Assign, Marks, Rider}
-use Rattle.lc_rider.specs.Paths.{Duty, Path, with_fact, is_empty, branch_variables, marked_client, marked_op, mark_updates, named_duty, observing_duty, mark_variables, mark_duties}
+use Rattle.lc_rider.specs.Paths.{Duty, Path, with_fact, is_empty, marked_client, marked_op, mark_updates, named_duty, observing_duty, mark_variables, mark_duties}
 use Rattle.lc_rider.specs.Paths.{branch_paths, mark_paths, deed_paths, deed_paths_where, rider_paths, paths}
 use Rattle.lc_kernel.specs.Below.{below, term_below, formula_below}
 use Rattle.lc_cond.proofs.Below.{ColumnsBelow, TermsBelow, FormulasBelow, told-below, told_term-below}
+use Rattle.lc_cond.proofs.Elements.{Every-each}
 use Rattle.lc_cond.proofs.BelowStores.{put-below, said-below, after-below, reads-below, take-below}
 
 abbrev pub DutyBelow : ℕ → Duty → Type 0
@@ -34,10 +35,6 @@ formulas-below n (f ∷ fs) h = and_from _ _ h.0 (formulas-below n fs h.1)
 
 pub facts-append : (n : ℕ) (fs gs : List Formula) → FormulasBelow n fs → FormulasBelow n gs → FormulasBelow n (fs ++ gs)
 facts-append n fs gs h g = Every-append (λ f. IsTrue (formula_below n f)) fs gs h g
-
-Every-each : {A B : Type 0} (P : A → Type 0) (Q : B → Type 0) (f : A → List B) (xs : List A) → ((x : A) → P x → Every Q (f x)) → Every P xs → Every Q (concat_map f xs)
-Every-each P Q f [] h p = tt
-Every-each P Q f (x ∷ xs) h p = Every-append Q (f x) (concat_map f xs) (h x p.0) (Every-each P Q f xs h p.1)
 
 -- ---- one more fact, one more duty
 

@@ -1,39 +1,14 @@
 -- Variables below a count: columns after stores, and terms in order.
-use Rattle.std.proofs.Common.{ℕ, zero, suc, ◌+◌, ◌≤◌, Bool, true, false, ◌&&◌, ◌==◌, if◌then◌else◌, List, [], ◌∷◌, ◌++◌, map, take, replicate, pos, IsTrue, refl, arith}
-use Rattle.std.specs.Prelude.{nat_lt, slice_set}
+use Rattle.std.proofs.Common.{ℕ, zero, suc, ◌+◌, ◌≤◌, Bool, true, false, ◌==◌, if◌then◌else◌, List, [], ◌∷◌, map, take, IsTrue, refl, arith}
 use Rattle.std.proofs.lemmas.Bool.{and_from}
 use Rattle.std.proofs.lemmas.Bool.Decides.{nat_tests}
 use Rattle.lc_term.specs.Lists.{Every}
-use Rattle.lc_term.specs.Syntax.{Term, Number, Variable, Column, Base, Store}
+use Rattle.lc_term.specs.Syntax.{Term, Variable, Column, Base, Store}
 use Rattle.lc_term.specs.Updates.{Update, assigned}
-use Rattle.lc_term.specs.Said.{put, puts, said, after, variables_from, reads, at_client}
+use Rattle.lc_term.specs.Said.{put, puts, said, after, variables_from, reads}
 use Rattle.lc_kernel.specs.Below.{term_below, column_below}
 use Rattle.lc_cond.proofs.Below.{ColumnsBelow, TermsBelow, told_term-below}
-
--- ---- lists
-
-pub Every-mapped : {A B : Type 0} (P : B → Type 0) (f : A → B) (xs : List A) → ((x : A) → P (f x)) → Every P (map f xs)
-Every-mapped P f [] h = tt
-Every-mapped P f (x ∷ xs) h = (h x, Every-mapped P f xs h)
-
-Every-take : {A : Type 0} (P : A → Type 0) (n : ℕ) (xs : List A) → Every P xs → Every P (take n xs)
-Every-take P zero xs h = tt
-Every-take P (suc n) [] h = tt
-Every-take P (suc n) (x ∷ xs) h = (h.0, Every-take P n xs h.1)
-
-Every-set : {A : Type 0} (P : A → Type 0) (xs : List A) (k : ℕ) (y : A) → Every P xs → P y → Every P (slice_set xs k y)
-Every-set P [] k y h p = tt
-Every-set P (x ∷ xs) zero y h p = (p, h.1)
-Every-set P (x ∷ xs) (suc k) y h p = (h.0, Every-set P xs k y h.1 p)
-
-Every-assigned : {A : Type 0} (P : A → Type 0) (xs : List A) (rs : List ℕ) (ys : List A) → Every P xs → Every P ys → Every P (assigned xs rs ys)
-Every-assigned P xs [] ys h g = h
-Every-assigned P xs (r ∷ rs) [] h g = h
-Every-assigned P xs (r ∷ rs) (y ∷ ys) h g = Every-assigned P (slice_set xs r y) rs ys (Every-set P xs r y h g.0) g.1
-
-pub Every-replicate : {A : Type 0} (P : A → Type 0) (n : ℕ) (x : A) → P x → Every P (replicate n x)
-Every-replicate P zero x h = tt
-Every-replicate P (suc n) x h = (h, Every-replicate P n x h)
+use Rattle.lc_cond.proofs.Elements.{Every-mapped, Every-take, Every-assigned}
 
 -- ---- stores
 

@@ -12,6 +12,7 @@ pub mod Entered
 pub mod Crossed
 pub mod Names
 pub mod Lines
+pub mod Elements
 pub mod Below
 pub mod BelowStores
 pub mod BelowPaths
