@@ -43,6 +43,9 @@ nonempty (x ∷ xs) h = tt
 same : (m n : ℕ) → (m == n) ≡ true → m ≡ n
 same m n h = grind (arith, nat_tests)
 
+at_most : (m n : ℕ) → nat_le m n ≡ true → m ≤ n
+at_most m n h = grind (arith, nat_tests)
+
 -- ---- operations
 
 matched : (os : List O.Operation) (qs : List Q.Operation) → are_matched os qs ≡ true → AreMatched os qs
@@ -137,7 +140,12 @@ module _ (D : Development) where
   -- ---- actions
 
   action : (a : Action) → action_is_resolved D a ≡ true → Every (λ (u : Update). u.column < column_count (first_system D)) a.updates
-  action a h = every (λ (u : Update). u.column < column_count (first_system D)) (λ (u : Update). nat_lt u.column (column_count (first_system D))) (λ u e. grind (arith, nat_tests)) a.updates h
+  action a h =
+      every (λ (u : Update). u.column < column_count (first_system D)) (λ (u : Update). nat_lt u.column (column_count (first_system D))) (λ u e. grind (arith, nat_tests)) a.updates
+      (right_true (nat_le (length a.parameters) 3) (list_all (λ (u : Update). nat_lt u.column (column_count (first_system D))) a.updates) h)
+
+  three_at_most : (a : Action) → action_is_resolved D a ≡ true → length a.parameters ≤ 3
+  three_at_most a h = at_most (length a.parameters) 3 (left_true (nat_le (length a.parameters) 3) (list_all (λ (u : Update). nat_lt u.column (column_count (first_system D))) a.updates) h)
 
   -- ---- together
 
@@ -212,6 +220,7 @@ resolved D h =
       invariant = below D 1 (invariant_of D) said.invariant;
       idle = below D 2 D.idle said.idle;
       actions = every (λ (a : Action). Every (λ (u : Update). u.column < column_count (first_system D)) a.updates) (action_is_resolved D) (action D) D.actions whole.actions;
+      parameters = every (λ (a : Action). length a.parameters ≤ 3) (action_is_resolved D) (three_at_most D) D.actions whole.actions;
       asserts = λ p point o here is. subst (λ n. Every (IsBelow n) (asserts_at D p)) (at_operation D point o is) (below D (variables D point) (asserts_at D p) (asserted_here D said.asserts p point here));
       arguments = λ p point o here is. subst (λ n. Every (AreArgumentsBelow n) (ons_at D p)) (at_operation D point o is) (called_here D whole.arguments p point here);
       ons = λ e i. among (λ (x : Edge). IsOnResolved D (operation_at D.object x.point) x (on_at D x.point x.kind)) (edge_is_resolved D) (λ x. on D (operation_at D.object x.point) x (on_at D x.point x.kind)) (edges D.object) whole.edges e i;

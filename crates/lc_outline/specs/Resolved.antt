@@ -78,6 +78,7 @@ pub record IsResolved (D : Development) : Type 0 where
   pub invariant : Every (IsBelow 1) (invariant_of D)
   pub idle : Every (IsBelow 2) D.idle
   pub actions : Every (λ (a : Action). Every (λ (u : Update). u.column < column_count (first_system D)) a.updates) D.actions
+  pub parameters : Every (λ (a : Action). length a.parameters ≤ 3) D.actions
   pub asserts : (p : ℕ) (point : O.Point) (o : O.Operation) → slice_get D.object.points p ≡ Some point → slice_get D.object.operations point.operation ≡ Some o → Every (IsBelow (variable_count o)) (asserts_at D p)
   pub arguments : (p : ℕ) (point : O.Point) (o : O.Operation) → slice_get D.object.points p ≡ Some point → slice_get D.object.operations point.operation ≡ Some o → Every (AreArgumentsBelow (variable_count o)) (ons_at D p)
   pub ons : (e : Edge) → IsIn e (edges D.object) → IsOnResolved D (operation_at D.object e.point) e (on_at D e.point e.kind)
@@ -130,9 +131,9 @@ abbrev pub on_is_resolved : Development → ℕ → Edge → Option On → Bool
 on_is_resolved D o e None = is_empty e.updates
 on_is_resolved D o e (Some x) = takes (slice_get D.actions x.action) (length x.arguments) && list_all (rider_is_resolved D o) x.riders
 
--- the actions store in columns that there are
+-- an action has three parameters at most, and stores in columns that there are
 abbrev pub action_is_resolved : Development → Action → Bool
-action_is_resolved D a = list_all (λ (u : Update). nat_lt u.column (column_count (first_system D))) a.updates
+action_is_resolved D a = nat_le (length a.parameters) 3 && list_all (λ (u : Update). nat_lt u.column (column_count (first_system D))) a.updates
 
 abbrev pub edge_is_resolved : Development → Edge → Bool
 edge_is_resolved D e = on_is_resolved D (operation_at D.object e.point) e (on_at D e.point e.kind)

@@ -22,7 +22,7 @@ use Rattle.lc_object_text.specs.ObjectNames.{Body, first_text}
 use Rattle.lc_outline.specs.Development.{Development, On, Outline, first_system, same_kind, on_for, ons_in, asserts_in, on_at, asserts_at}
 use Rattle.lc_outline.specs.Resolved.{has_some, is_empty, is_below, variables_at, is_matched, are_matched, deed_is_resolved, condition_is_resolved, rider_is_resolved, takes, on_is_resolved, action_is_resolved, edge_is_resolved, asserts_are_resolved}
 use Rattle.lc_rider.specs.Rider.{Deed, Assign, Marks, Own, Other, Note, Rider}
-use Rattle.lc_rider_text.proofs.ActionsKnown.{stores_below}
+use Rattle.lc_rider_text.proofs.ActionsKnown.{has_bounds}
 use Rattle.lc_rider_text.proofs.FormulasWithin.{variable_total}
 use Rattle.lc_rider_text.proofs.RidersKnown.{deed_is_known, rider_is_known, IsOnKnown}
 use Rattle.lc_rider_text.specs.Known.{Known}
@@ -38,7 +38,7 @@ AreActionsOf known [] [] = Unit {0}
 AreActionsOf known [] (a ∷ actions) = ⊥
 AreActionsOf known (f ∷ forms) [] = ⊥
 AreActionsOf known (f ∷ forms) (a ∷ actions) =
-    ((length a.parameters ≡ parameter_count f) × (list_all (stores_below known) a.updates ≡ true)) × AreActionsOf known forms actions
+    ((length a.parameters ≡ parameter_count f) × (has_bounds known a ≡ true)) × AreActionsOf known forms actions
 
 -- a development of what is declared
 pub record Fits (d : Declarations) (D : Development) (ps : List (Point × Outline)) : Type 0 where
@@ -109,7 +109,7 @@ actions_stored known D [] (x ∷ actions) e h = absurd h
 actions_stored known D (t ∷ forms) [] e h = absurd h
 actions_stored known D (t ∷ forms) (x ∷ actions) e h =
     and_true (action_is_resolved D x) (list_all (action_is_resolved D) actions)
-    (subst (λ n. list_all (λ (u : Update). nat_lt u.column (column_count n)) x.updates ≡ true) (sym e) h.0.1)
+    (subst (λ n. (nat_le (length x.parameters) 3 && list_all (λ (u : Update). nat_lt u.column (column_count n)) x.updates) ≡ true) (sym e) h.0.1)
     (actions_stored known D forms actions e h.1)
 
 pub actions_resolved : (d : Declarations) (D : Development) (ps : List (Point × Outline)) → Fits d D ps → list_all (action_is_resolved D) D.actions ≡ true

@@ -50,6 +50,7 @@ counter_resolved = record {
   invariant = (refl, tt);
   idle = tt;
   actions = ((omega arith, (omega arith, (omega arith, (omega arith, tt)))), ((omega arith, (omega arith, tt)), tt));
+  parameters = (omega arith, (omega arith, tt));
   asserts = asserted;
   ons = at_edges;
 }
@@ -84,6 +85,7 @@ racy_resolved = record {
   invariant = (refl, tt);
   idle = tt;
   actions = ((omega arith, (omega arith, (omega arith, (omega arith, tt)))), ((omega arith, (omega arith, tt)), tt));
+  parameters = (omega arith, (omega arith, tt));
   asserts = asserted_racy;
   ons = at_racy;
 }
