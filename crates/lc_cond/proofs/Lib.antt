@@ -13,3 +13,9 @@ pub mod Crossed
 pub mod Names
 pub mod Lines
 pub mod VariableCounts
+pub mod Elements
+pub mod Below
+pub mod BelowStores
+pub mod BelowPaths
+pub mod BelowCode
+pub mod BelowConditions

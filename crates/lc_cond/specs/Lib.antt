@@ -1,4 +1,5 @@
 pub mod Conditions
+pub mod Uses
 pub mod Listed
 pub mod ConditionText
 pub mod Counter

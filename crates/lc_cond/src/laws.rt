@@ -1,6 +1,7 @@
 //! Laws of the definitions: functions without effect, whose contracts are the laws.
 ghost use Rattle.lc_cond.specs.CounterLines.{CounterIsPrinted, HelpersAreNamed, NotesObserve};
 ghost use Rattle.lc_cond.specs.Listed.{PartsMakeTheList};
+ghost use Rattle.lc_cond.specs.Uses.{AllUseTheirVariables};
 ghost use Rattle.lc_cond.specs.VariableCounts.{AllHaveFewVariables};
 ghost use Rattle.lc_outline.specs.DevelopmentView.{development_shown};
 
@@ -10,6 +11,12 @@ use lc_outline::Development;
 /// of the code, the points, and idle.
 pub fn parts_make_the_list()
     ensures { PartsMakeTheList }
+{}
+
+/// Each condition of a development uses no variables but those that it counts: the free variables of its hypotheses and of
+/// its goal have numbers below that count.
+pub fn conditions_use_their_variables(development: &Development)
+    ensures { AllUseTheirVariables (development_shown development.now) }
 {}
 
 /// No condition of a development has more than 26 variables: the number of clients, a client, three arguments and 16 locals,
