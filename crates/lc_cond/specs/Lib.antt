@@ -1,8 +1,6 @@
 pub mod Conditions
 pub mod Listed
-pub mod ConditionText
 pub mod Counter
-pub mod CounterLines
 pub mod ConditionView
 pub mod Adding
 pub mod Heads

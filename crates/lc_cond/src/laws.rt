@@ -1,17 +1,8 @@
 //! Laws of the definitions: functions without effect, whose contracts are the laws.
-ghost use Rattle.lc_cond.specs.CounterLines.{CounterIsPrinted, HelpersAreNamed, NotesObserve};
 ghost use Rattle.lc_cond.specs.Listed.{PartsMakeTheList};
 
 /// The list of a development's conditions is that of its parts, one after another: the start, the calls that begin, the edges
 /// of the code, the points, and idle.
 pub fn parts_make_the_list()
     ensures { PartsMakeTheList }
-{}
-
-/// The conditions of the counter are these 59 lines, in this order. With a mark of another client's call there are 60, one of
-/// which asks which operation that client is in; with a note one asks that its branch stores nothing.
-pub fn counter_conditions()
-    ensures lines { CounterIsPrinted }
-    ensures named { HelpersAreNamed }
-    ensures observing { NotesObserve }
 {}
