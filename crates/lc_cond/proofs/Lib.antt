@@ -1,5 +1,4 @@
 pub mod PartsList
-pub mod Printed
 pub mod Adding
 pub mod Made
 pub mod Replacing

@@ -1,9 +1,7 @@
 pub mod Conditions
 pub mod Uses
 pub mod Listed
-pub mod ConditionText
 pub mod Counter
-pub mod CounterLines
 pub mod ConditionView
 pub mod Adding
 pub mod Heads
