@@ -1,5 +1,5 @@
 -- What the test of a development tells.
-use Rattle.std.proofs.Common.{◌≡◌, ℕ, zero, suc, ◌+◌, ◌<◌, ◌≤◌, Bool, true, false, ◌&&◌, ◌==◌, List, [], ◌∷◌, Some, None, Option, length, refl, sym, ap, ◌∙◌, subst, inl, inr, arith}
+use Rattle.std.proofs.Common.{◌≡◌, ℕ, zero, suc, ◌+◌, ◌<◌, ◌≤◌, Bool, true, ◌&&◌, ◌==◌, List, [], ◌∷◌, Some, None, Option, length, refl, ap, ◌∙◌, subst, inl, inr, arith}
 use Rattle.std.specs.Prelude.{slice_get, nat_le, nat_lt}
 use Rattle.std.specs.List.{list_all}
 use Rattle.std.proofs.lemmas.Bool.Decides.{nat_tests}
@@ -7,7 +7,7 @@ use Rattle.std.proofs.lemmas.Option.{same_Some}
 use Rattle.lc_term.specs.Lists.{Every, IsIn}
 use Rattle.lc_term.specs.Updates.{Update}
 use Rattle.lc_term.specs.SystemColumns.{column_count}
-use Rattle.lc_term.specs.Syntax.{Term, Formula}
+use Rattle.lc_term.specs.Syntax.{Formula}
 use Rattle.lc_term.proofs.Tests.{left_true, right_true}
 use Rattle.lc_seq.specs.Specification as Q
 use Rattle.lc_seq.specs.Specification.{operation_is_resolved}
