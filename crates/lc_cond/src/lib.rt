@@ -12,15 +12,12 @@ mod list;
 mod lookup;
 mod making;
 mod matching;
-mod naming;
 mod paths;
 mod scene;
 mod stability;
 mod start;
 mod telling;
-mod text;
 mod variables;
 
 pub use condition::{Condition, Kind, Passage, Place, Which};
 pub use list::conditions;
-pub use text::condition_text;
