@@ -6,7 +6,7 @@ use Rattle.lc_spec_text.specs.Specifications.{first_reading}
 use Rattle.lc_seq.specs.Specification.{Specification}
 use Rattle.lc_cond_text.specs.ConditionText.{conditions_text}
 use Rattle.lc_outline.specs.Development.{Development}
-use Rattle.lc_outline_print.specs.Developments.{development_text}
+use Rattle.lc_outline_print.specs.Developments.{development_printed}
 use Rattle.lc_outline_text.specs.Developments.{file_reading}
 use Rattle.lincheck.specs.CommandLine.{Task, CheckFormula, JudgeHistory, ShowDevelopment, ListConditions, CheckCertificate}
 use Rattle.lincheck.specs.Developments.{AnswersDevelopment, AnswersCheck}
@@ -19,7 +19,7 @@ abbrev pub AnswersTask : (List ℕ → Option (List ℕ)) → Task → List ℕ 
 AnswersTask bytes_at (CheckFormula path) text status = IfSome (bytes_at path) (λ file. AnswersFormula file text status)
 AnswersTask bytes_at (JudgeHistory development history) text status =
     IfSome (bytes_at development) (λ file. AnswersJudge file (bytes_at history) text status)
-AnswersTask bytes_at (ShowDevelopment development) text status = IfSome (bytes_at development) (λ file. AnswersDevelopment development_text file text status)
+AnswersTask bytes_at (ShowDevelopment development) text status = IfSome (bytes_at development) (λ file. AnswersDevelopment development_printed file text status)
 AnswersTask bytes_at (ListConditions development) text status = IfSome (bytes_at development) (λ file. AnswersDevelopment conditions_text file text status)
 AnswersTask bytes_at (CheckCertificate development certificate) text status =
     IfSome (bytes_at development) (λ file. AnswersCheck file (bytes_at certificate) text status)

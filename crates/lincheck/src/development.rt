@@ -1,7 +1,7 @@
 //! The commands that read a development: `show` and `check`.
 ghost use Rattle.std.specs.Prelude.{◌≡◌, IfOk, IfSome, IsErr};
 ghost use Rattle.lc_outline.specs.DevelopmentView.{development_shown};
-ghost use Rattle.lc_outline_print.specs.Developments.{development_text};
+ghost use Rattle.lc_outline_print.specs.Developments.{development_printed};
 ghost use Rattle.lc_check.specs.VerdictView.{IsVerdictOn};
 ghost use Rattle.lincheck.specs.CommandLine.{CheckCertificate};
 ghost use Rattle.lincheck.specs.Developments.{AnswersCertificate, AnswersCheck, AnswersDevelopment, OpensAs, TellsVerdict};
@@ -42,7 +42,7 @@ pub fn answer_show<'a, F: Files>(
     path: &'a str,
 ) -> Result<Answer, Failure<'a>>
     ensures unread { F.CannotOpen files.old path.now → IsErr result }
-    ensures answers { IfOk result (λ answer. IfSome (F.bytes_at files.old path.now) (λ file. AnswersDevelopment development_text file answer.text.items answer.status)) }
+    ensures answers { IfOk result (λ answer. IfSome (F.bytes_at files.old path.now) (λ file. AnswersDevelopment development_printed file answer.text.items answer.status)) }
 {
     match open_development(alloc, files, path)? {
         Ok(development) => Ok(Answer {
@@ -84,7 +84,7 @@ fn answer_certificate<'a, F: Files>(
     path: &'a str,
 ) -> Result<Answer, Failure<'a>>
     ensures unread { F.CannotOpen files.old path.now → IsErr result }
-    ensures answers { IfOk result (λ answer. IfSome (F.bytes_at files.old path.now) (λ file. AnswersCertificate (development_shown development.entry) file answer.text.items answer.status)) }
+    ensures answers { IfOk result (λ answer. IfSome (F.bytes_at files.old path.now) (λ file. AnswersCertificate (development_shown development) file answer.text.items answer.status)) }
 {
     let bytes = read_file(alloc, files, path)?;
     let verdict = check_certificate(alloc, development, &bytes)?;

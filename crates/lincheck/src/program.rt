@@ -1,7 +1,7 @@
 ghost use Rattle.std.specs.Prelude.{◌≡◌, ◌×◌, ◌⊎◌, ℕ, List, true, IfSome, IsErr};
 ghost use Rattle.clap.specs.Words.{kind_of};
 ghost use Rattle.lc_cond_text.specs.ConditionText.{conditions_text};
-ghost use Rattle.lc_outline_print.specs.Developments.{development_text};
+ghost use Rattle.lc_outline_print.specs.Developments.{development_printed};
 ghost use Rattle.lincheck.specs.CommandLine.{AreWrong, AskForHelp, AsksForText, HasPlainPaths, Task, check_words, conditions_words, formula_words, is_plain, judge_words, show_words, task_of, texts_of, words_for};
 ghost use Rattle.lincheck.specs.Developments.{AnswersCheck, AnswersDevelopment};
 ghost use Rattle.lincheck.specs.Execution.{AnswersTask, Ends, EndsInPieces, IsUnread};
@@ -97,7 +97,7 @@ pub fn execute<F: Files, O: Write, E: Write>(
     ensures judge { (name development history : List ℕ) → texts_of words.now ≡ judge_words name development history → is_plain development ≡ true → is_plain history ≡ true
         → Ends (λ text status. IfSome (F.bytes_at files.old development) (λ file. AnswersJudge file (F.bytes_at files.old history) text status)) (O.contents out.old) (O.contents out.new) result }
     ensures show { (name development : List ℕ) → texts_of words.now ≡ show_words name development → is_plain development ≡ true
-        → Ends (λ text status. IfSome (F.bytes_at files.old development) (λ file. AnswersDevelopment development_text file text status)) (O.contents out.old) (O.contents out.new) result }
+        → Ends (λ text status. IfSome (F.bytes_at files.old development) (λ file. AnswersDevelopment development_printed file text status)) (O.contents out.old) (O.contents out.new) result }
     ensures conditions { (name development : List ℕ) → texts_of words.now ≡ conditions_words name development → is_plain development ≡ true
         → EndsInPieces (λ text status. IfSome (F.bytes_at files.old development) (λ file. AnswersDevelopment conditions_text file text status)) (O.contents out.old) (O.contents out.new) result }
     ensures check { (name development certificate : List ℕ) → texts_of words.now ≡ check_words name development certificate → is_plain development ≡ true → is_plain certificate ≡ true
