@@ -1,3 +1,4 @@
 pub mod Names
 pub mod Lines
 pub mod Printed
+pub mod Recalled

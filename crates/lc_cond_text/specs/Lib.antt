@@ -1,2 +1,3 @@
 pub mod ConditionText
 pub mod CounterLines
+pub mod Recalled

@@ -3,6 +3,9 @@
 
 pub mod laws;
 mod naming;
+mod nodes;
 mod text;
+mod texts;
 
-pub use text::condition_text;
+pub use text::{condition_text, push_condition};
+pub use texts::{FormulaTexts, no_texts};
