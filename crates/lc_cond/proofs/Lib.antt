@@ -9,3 +9,10 @@ pub mod Columned
 pub mod Counted
 pub mod Entered
 pub mod Crossed
+pub mod VariableCounts
+pub mod Elements
+pub mod Below
+pub mod BelowStores
+pub mod BelowPaths
+pub mod BelowCode
+pub mod BelowConditions

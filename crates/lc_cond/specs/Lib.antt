@@ -1,4 +1,5 @@
 pub mod Conditions
+pub mod Uses
 pub mod Listed
 pub mod Counter
 pub mod ConditionView
@@ -6,3 +7,4 @@ pub mod Adding
 pub mod Heads
 pub mod Scenes
 pub mod Crossings
+pub mod VariableCounts
