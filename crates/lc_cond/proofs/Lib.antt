@@ -9,8 +9,6 @@ pub mod Columned
 pub mod Counted
 pub mod Entered
 pub mod Crossed
-pub mod Names
-pub mod Lines
 pub mod VariableCounts
 pub mod Elements
 pub mod Below
@@ -18,3 +16,5 @@ pub mod BelowStores
 pub mod BelowPaths
 pub mod BelowCode
 pub mod BelowConditions
+pub mod Parted
+pub mod Streamed
