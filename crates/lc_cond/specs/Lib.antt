@@ -8,3 +8,5 @@ pub mod Heads
 pub mod Scenes
 pub mod Crossings
 pub mod VariableCounts
+pub mod PartView
+pub mod Stream

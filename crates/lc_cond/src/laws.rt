@@ -11,6 +11,7 @@ use lc_outline::Development;
 pub fn parts_make_the_list()
     ensures { PartsMakeTheList }
 {}
+
 /// Each condition of a development uses no variables but those that it counts: the free variables of its hypotheses and of
 /// its goal have numbers below that count.
 pub fn conditions_use_their_variables(development: &Development)

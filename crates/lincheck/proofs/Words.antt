@@ -12,7 +12,7 @@ use Rattle.clap.specs.declared.parser.matches.Found.{Found}
 use Rattle.clap.proofs.WalkLemmas.{first_value-rows}
 use Rattle.lincheck.specs.declared.command_line.Request.{Request}
 use Rattle.clap.proofs.OnLiterals.{clap_on_literals}
-use Rattle.lincheck.specs.CommandLine.{AreWrong, AskForHelp, AsksForText, HasPlainPaths, Reads, Task, CheckFormula, JudgeHistory, ShowDevelopment, ListConditions, CheckCertificate, one_file_task, two_file_task, task_in_command, program_app, task_in, task_of, words_for}
+use Rattle.lincheck.specs.CommandLine.{AreWrong, AskForHelp, AsksForText, HasPlainPaths, Reads, Task, CheckFormula, JudgeHistory, CheckCertificate, one_file_task, two_file_task, task_in_command, program_app, task_in, task_of, words_for}
 
 is_other : (b : ℕ) → not (b == 45) ≡ true → (b == 45) ≡ false
 is_other b plain = by (b == 45) refl plain
@@ -40,10 +40,6 @@ task_is_read name (JudgeHistory [] (c ∷ other)) plain = let f = is_other c pla
 task_is_read name (JudgeHistory (b ∷ path) (c ∷ other)) plain =
     let e = is_other b plain.0 in
     let f = is_other c plain.1 in simp (e, f) (refl {a = Some (JudgeHistory (b ∷ path) (c ∷ other))})
-task_is_read name (ShowDevelopment []) plain = refl {a = Some (ShowDevelopment [])}
-task_is_read name (ShowDevelopment (b ∷ path)) plain = let e = is_other b plain in simp e (refl {a = Some (ShowDevelopment (b ∷ path))})
-task_is_read name (ListConditions []) plain = refl {a = Some (ListConditions [])}
-task_is_read name (ListConditions (b ∷ path)) plain = let e = is_other b plain in simp e (refl {a = Some (ListConditions (b ∷ path))})
 task_is_read name (CheckCertificate [] []) plain = refl {a = Some (CheckCertificate [] [])}
 task_is_read name (CheckCertificate (b ∷ path) []) plain = let e = is_other b plain.0 in simp e (refl {a = Some (CheckCertificate (b ∷ path) [])})
 task_is_read name (CheckCertificate [] (c ∷ other)) plain = let f = is_other c plain.1 in simp f (refl {a = Some (CheckCertificate [] (c ∷ other))})
@@ -62,10 +58,6 @@ words_are_taken name (JudgeHistory [] (c ∷ other)) plain = let f = is_other c 
 words_are_taken name (JudgeHistory (b ∷ path) (c ∷ other)) plain =
     let e = is_other b plain.0 in
     let f = is_other c plain.1 in simp (e, f) (refl {a = true})
-words_are_taken name (ShowDevelopment []) plain = refl {a = true}
-words_are_taken name (ShowDevelopment (b ∷ path)) plain = let e = is_other b plain in simp e (refl {a = true})
-words_are_taken name (ListConditions []) plain = refl {a = true}
-words_are_taken name (ListConditions (b ∷ path)) plain = let e = is_other b plain in simp e (refl {a = true})
 words_are_taken name (CheckCertificate [] []) plain = refl {a = true}
 words_are_taken name (CheckCertificate (b ∷ path) []) plain = let e = is_other b plain.0 in simp e (refl {a = true})
 words_are_taken name (CheckCertificate [] (c ∷ other)) plain = let f = is_other c plain.1 in simp f (refl {a = true})
@@ -156,21 +148,13 @@ asks_formula name rows e = simp e refl
 pub asks_judge : (name : Text) (rows : List Row) → bytes_eq name (codes "formula") ≡ false → bytes_eq name (codes "judge") ≡ true → two_file_task JudgeHistory (codes "HISTORY") rows ≡ task_in_command (name, rows)
 asks_judge name rows e f = simp (e, f) refl
 
-pub asks_show : (name : Text) (rows : List Row) → bytes_eq name (codes "formula") ≡ false → bytes_eq name (codes "judge") ≡ false → bytes_eq name (codes "show") ≡ true
-    → one_file_task ShowDevelopment (codes "DEV") rows ≡ task_in_command (name, rows)
-asks_show name rows e f g = simp (e, f, g) refl
-
-pub asks_conditions : (name : Text) (rows : List Row) → bytes_eq name (codes "formula") ≡ false → bytes_eq name (codes "judge") ≡ false → bytes_eq name (codes "show") ≡ false → bytes_eq name (codes "conditions") ≡ true
-    → one_file_task ListConditions (codes "DEV") rows ≡ task_in_command (name, rows)
-asks_conditions name rows e f g h = simp (e, f, g, h) refl
-
-pub asks_check : (name : Text) (rows : List Row) → bytes_eq name (codes "formula") ≡ false → bytes_eq name (codes "judge") ≡ false → bytes_eq name (codes "show") ≡ false → bytes_eq name (codes "conditions") ≡ false → bytes_eq name (codes "check") ≡ true
+pub asks_check : (name : Text) (rows : List Row) → bytes_eq name (codes "formula") ≡ false → bytes_eq name (codes "judge") ≡ false → bytes_eq name (codes "check") ≡ true
     → two_file_task CheckCertificate (codes "CERT") rows ≡ task_in_command (name, rows)
-asks_check name rows e f g h i = simp (e, f, g, h, i) refl
+asks_check name rows e f g = simp (e, f, g) refl
 
-pub asks_nothing : (name : Text) (rows : List Row) → bytes_eq name (codes "formula") ≡ false → bytes_eq name (codes "judge") ≡ false → bytes_eq name (codes "show") ≡ false → bytes_eq name (codes "conditions") ≡ false → bytes_eq name (codes "check") ≡ false
+pub asks_nothing : (name : Text) (rows : List Row) → bytes_eq name (codes "formula") ≡ false → bytes_eq name (codes "judge") ≡ false → bytes_eq name (codes "check") ≡ false
     → None ≡ task_in_command (name, rows)
-asks_nothing name rows e f g h i = simp (e, f, g, h, i) refl
+asks_nothing name rows e f g = simp (e, f, g) refl
 
 -- the task of one path, and of two, where clap finds them
 pub one_found : (task : List ℕ → Task) (name : Text) (f : Found) (file : Option Text) → file ≡ first_value f name → option_map task file ≡ one_file_task task name (rows_of f)

@@ -4,6 +4,5 @@ pub mod Answers
 pub mod Reading
 pub mod Formula
 pub mod Judge
-pub mod Developments
-pub mod Printing
+pub mod Check
 pub mod Execution

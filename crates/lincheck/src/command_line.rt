@@ -3,7 +3,7 @@ ghost use Rattle.std.specs.Prelude.{◌≡◌, ◌⊎◌, ℕ, List, codes, IfOk
 ghost use Rattle.clap.specs.Words.{app_of, found_of, kind_of, rows_of, rule_of, subcommand_rows_of};
 ghost use Rattle.clap.specs.declared.builder.command.Command.TheViews.{out-Command};
 ghost use Rattle.clap.specs.declared.error.kind.ErrorKind.TheVariants.{OutOfMemory};
-ghost use Rattle.lincheck.specs.CommandLine.{AreWrong, AskForHelp, AsksForText, HasPlainPaths, CheckCertificate, CheckFormula, JudgeHistory, ListConditions, Reads, ShowDevelopment, Task, check_app, conditions_app, file_rule, formula_app, judge_app, one_file_task, program_app, show_app, task_in, task_of, texts_of, two_file_task, words_for};
+ghost use Rattle.lincheck.specs.CommandLine.{AreWrong, AskForHelp, AsksForText, HasPlainPaths, CheckCertificate, CheckFormula, JudgeHistory, Reads, Task, check_app, file_rule, formula_app, judge_app, one_file_task, program_app, task_in, task_of, texts_of, two_file_task, words_for};
 
 use clap::error::ErrorKind;
 use clap::{Arg, ArgAction, ArgMatches, Command, Error};
@@ -19,10 +19,6 @@ pub enum Request<'a> {
         development: &'a str,
         history: &'a str,
     },
-    /// Print the development in the file at this path.
-    Show(&'a str),
-    /// Print the conditions of the development in the file at this path.
-    Conditions(&'a str),
     /// Check the certificate in a file against the development in another.
     Check {
         development: &'a str,
@@ -101,33 +97,6 @@ Example:
 static DEVELOPMENT: &str =
     "A development: a specification, the object's code, and what is claimed of it";
 
-static SHOW: &str = "Prints a development as it was read";
-
-static SHOW_ANSWER: &str = "\
-Reads DEV and prints it on two lines, the specification and the object, without comments, with one space between items;
-names that quantifiers bind are b0, b1, and so on. Else it prints one line:
-  refused 1 OFFSET  the byte there makes DEV no s-expressions
-  refused 2 ITEM    the item does not fit the grammar
-  refused 3 ITEM    the name is not declared
-  refused 4 ITEM    the name is declared twice, or reserved
-  refused 5 ITEM    the code reads a column that is not its own
-  refused 6 ITEM    a number or a count is beyond a limit
-
-Example:
-  lincheck show examples/counter.lc
-      prints the counter's specification and its object";
-
-static CONDITIONS: &str = "Prints what has to be proved of a development";
-
-static CONDITIONS_ANSWER: &str = "\
-Reads DEV and prints a line for each of its conditions, and then `total` with their number:
-  (condition K KIND POINT EDGE PATH NUM (vars V) (hyps F ..) (goal F))
-Where all of them are valid, the object is linearizable. A DEV that is no development is refused as by `show`.
-
-Example:
-  lincheck conditions examples/counter.lc
-      prints 59 conditions, and `total 59`";
-
 static CHECK: &str = "Checks that a certificate proves a development";
 
 static CERTIFICATE_FILE: &str =
@@ -136,8 +105,13 @@ static CERTIFICATE_FILE: &str =
 static CHECK_ANSWER: &str = "\
 Reads DEV and, where it is a development, CERT. Prints `accepted NAME COUNT`, the name of the object and how many
 conditions it has, if CERT has a proof for each of them and each step holds. Then for every number of clients, however
-their steps come between each other, the history of their calls and returns is linearizable. Else it prints one line. A DEV
-that is no development is refused as by `show`, and then:
+their steps come between each other, the history of their calls and returns is linearizable. Else it prints one line:
+  refused 1 OFFSET      the byte there makes DEV no s-expressions
+  refused 2 ITEM        the item of DEV does not fit the grammar
+  refused 3 ITEM        the name is not declared
+  refused 4 ITEM        the name is declared twice, or reserved
+  refused 5 ITEM        the code reads a column that is not its own
+  refused 6 ITEM        a number or a count is beyond a limit
   refused 7 OFFSET      the byte there makes CERT no s-expressions
   refused 8 ITEM        the item of CERT does not fit
   refused 9 K           condition K has no proof
@@ -181,26 +155,6 @@ fn judge_command<'a>(alloc: Global) -> Result<Command<'a>, AllocError>
         .arg(file(alloc, "HISTORY", JUDGE_HISTORY))
 }
 
-fn show_command<'a>(alloc: Global) -> Result<Command<'a>, AllocError>
-    ensures app { IfOk result (λ command. app_of command ≡ show_app) }
-    ensures local { IfOk result (λ command. (out-Command command).has_globals ≡ false) }
-{
-    Command::new(alloc, "show")
-        .about(SHOW)
-        .after_help(SHOW_ANSWER)
-        .arg(file(alloc, "DEV", DEVELOPMENT))
-}
-
-fn conditions_command<'a>(alloc: Global) -> Result<Command<'a>, AllocError>
-    ensures app { IfOk result (λ command. app_of command ≡ conditions_app) }
-    ensures local { IfOk result (λ command. (out-Command command).has_globals ≡ false) }
-{
-    Command::new(alloc, "conditions")
-        .about(CONDITIONS)
-        .after_help(CONDITIONS_ANSWER)
-        .arg(file(alloc, "DEV", DEVELOPMENT))
-}
-
 fn check_command<'a>(alloc: Global) -> Result<Command<'a>, AllocError>
     ensures app { IfOk result (λ command. app_of command ≡ check_app) }
     ensures local { IfOk result (λ command. (out-Command command).has_globals ≡ false) }
@@ -221,8 +175,6 @@ fn program<'a>(alloc: Global) -> Result<Command<'a>, AllocError>
         .subcommand_required(true)
         .subcommand(formula_command(alloc)?)?
         .subcommand(judge_command(alloc)?)?
-        .subcommand(show_command(alloc)?)?
-        .subcommand(conditions_command(alloc)?)?
         .subcommand(check_command(alloc)?)
 }
 
@@ -244,20 +196,6 @@ fn judge_request<'a>(command: &ArgMatches<'a>) -> Option<Request<'a>>
     })
 }
 
-fn show_request<'a>(command: &ArgMatches<'a>) -> Option<Request<'a>>
-    ensures { option_map task_of result ≡ one_file_task ShowDevelopment (codes "DEV") (rows_of (found_of command.now)) }
-{
-    let development = command.get_str("DEV")?;
-    Some(Request::Show(development))
-}
-
-fn conditions_request<'a>(command: &ArgMatches<'a>) -> Option<Request<'a>>
-    ensures { option_map task_of result ≡ one_file_task ListConditions (codes "DEV") (rows_of (found_of command.now)) }
-{
-    let development = command.get_str("DEV")?;
-    Some(Request::Conditions(development))
-}
-
 fn check_request<'a>(command: &ArgMatches<'a>) -> Option<Request<'a>>
     ensures { option_map task_of result ≡ two_file_task CheckCertificate (codes "CERT") (rows_of (found_of command.now)) }
 {
@@ -277,8 +215,6 @@ fn request_of<'a>(matches: &ArgMatches<'a>) -> Option<Request<'a>>
     match name {
         "formula" => formula_request(command),
         "judge" => judge_request(command),
-        "show" => show_request(command),
-        "conditions" => conditions_request(command),
         "check" => check_request(command),
         _ => None,
     }

@@ -2,15 +2,13 @@
 #![tactic(auto)]
 
 mod answer;
+mod check;
 mod command_line;
-mod conditions;
-mod development;
 mod disk;
 mod files;
 mod formula;
 mod judge;
 pub mod laws;
-mod printing;
 mod program;
 mod reading;
 
