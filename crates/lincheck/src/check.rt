@@ -1,9 +1,9 @@
 //! The command `check`.
-ghost use Rattle.std.specs.Prelude.{◌≡◌, IfOk, IfSome, IsErr};
+ghost use Rattle.std.specs.Prelude.{◌≡◌, ℕ, List, IfOk, IfSome, IsErr};
 ghost use Rattle.lc_outline.specs.DevelopmentView.{development_shown};
-ghost use Rattle.lc_check.specs.VerdictView.{IsVerdictOn};
+ghost use Rattle.lc_check.specs.VerdictView.{development_in};
 ghost use Rattle.lincheck.specs.CommandLine.{CheckCertificate};
-ghost use Rattle.lincheck.specs.Check.{AnswersCertificate, AnswersCheck, OpensAs, TellsVerdict};
+ghost use Rattle.lincheck.specs.Check.{AnswersCertificate, AnswersCheck, OpensAs, TellsVerdict, accepted_line};
 ghost use Rattle.lincheck.specs.Execution.{IsUnread};
 
 use crate::answer::{Answer, Failure, SUCCESS, told_fault};
