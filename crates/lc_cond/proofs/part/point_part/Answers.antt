@@ -1,4 +1,4 @@
-use Rattle.std.proofs.Common.{◌+◌, ◌-◌, Some, None, [], ◌∷◌, ◌++◌, length, slice_get, ap, sym, ◌∙◌, arith}
+use Rattle.std.proofs.Common.{◌≡◌, ◌+◌, Some, [], ◌∷◌, ◌++◌, length, slice_get, ap, sym, ◌∙◌, arith}
 use Rattle.lc_term.specs.Lists.{numbered}
 use Rattle.lc_object.specs.View.{point_of}
 use Rattle.lc_cond.specs.Conditions as S
