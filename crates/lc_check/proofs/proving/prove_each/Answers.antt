@@ -1,4 +1,4 @@
-use Rattle.std.proofs.Common.{◌+◌, Err, refl, sym, ap, ◌∙◌, subst, map}
+use Rattle.std.proofs.Common.{◌+◌, Ok, Err, refl, sym, ap, ◌∙◌, subst, map}
 use Rattle.std.proofs.lemmas.Result.{err_from_is_err_and}
 use Rattle.lc_term.proofs.Later.{kept_on}
 use Rattle.lc_kernel.specs.View.{proof_of}
@@ -31,7 +31,7 @@ returns-in_err-prove_one-clause-exactly c =
     let p = err_from_is_err_and c.from_residual.result c.from_residual.ensures.1 in
     subst (ProvesEach es k (map (condition_in t0) c.args.list.now)) (sym (p.1 ∙ ap Err p.2))
     (one_not t0 es c.args.list.now k i x c.in_err-prove_one.field-0.0 c.loop-place-test.true c.index-list-place.is c.loop-place.invariant.1
-    (seen_as (k + i) (k + i) _ _ _ _ _ refl still c.proof.ensures c.in_err-prove_one.ensures.exactly))
+    (seen_as (k + i) (k + i) _ _ _ _ (Err c.in_err-prove_one.field-0.0) refl still c.proof.ensures c.in_err-prove_one.ensures.exactly))
 
 pub loop-place-preserved : goal.loop-place-preserved
 loop-place-preserved c =
@@ -43,5 +43,5 @@ loop-place-preserved c =
     let still = still_at t0 t1 c.args.list.now i x c.requires.known c.loop-place.invariant.0 c.loop-place-test.true c.index-list-place.is in (
       kept_on t0 t1 c.prove_one.new.terms c.loop-place.invariant.0 c.in_ok-prove_one.ensures.kept,
       one_more t0 (entries_in c.args.certificate.now) c.args.list.now k i x _ c.loop-place-test.true c.index-list-place.is c.loop-place.invariant.1
-      (seen_as (k + i) (k + i) _ _ _ _ _ refl still c.proof.ensures c.in_ok-prove_one.ensures.exactly),
+      (seen_as (k + i) (k + i) _ _ _ _ (Ok tt) refl still c.proof.ensures c.in_ok-prove_one.ensures.exactly),
     )
