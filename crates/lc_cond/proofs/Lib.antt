@@ -12,3 +12,8 @@ pub mod Entered
 pub mod Crossed
 pub mod Names
 pub mod Lines
+pub mod Parted
+pub mod Streamed
+pub mod Stored
+pub mod Counts
+pub mod Sized

@@ -8,3 +8,6 @@ pub mod Adding
 pub mod Heads
 pub mod Scenes
 pub mod Crossings
+pub mod PartView
+pub mod Stream
+pub mod Sizes

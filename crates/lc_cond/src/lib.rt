@@ -13,14 +13,17 @@ mod lookup;
 mod making;
 mod matching;
 mod naming;
+mod part;
 mod paths;
 mod scene;
 mod stability;
 mod start;
+mod stream;
 mod telling;
 mod text;
 mod variables;
 
 pub use condition::{Condition, Kind, Passage, Place, Which};
 pub use list::conditions;
+pub use stream::ConditionStream;
 pub use text::condition_text;
