@@ -1,5 +1,4 @@
 pub mod PartsList
-pub mod Printed
 pub mod Adding
 pub mod Made
 pub mod Replacing
@@ -17,3 +16,10 @@ pub mod Streamed
 pub mod Stored
 pub mod Counts
 pub mod Sized
+pub mod VariableCounts
+pub mod Elements
+pub mod Below
+pub mod BelowStores
+pub mod BelowPaths
+pub mod BelowCode
+pub mod BelowConditions

@@ -1,8 +1,7 @@
 pub mod Conditions
+pub mod Uses
 pub mod Listed
-pub mod ConditionText
 pub mod Counter
-pub mod CounterLines
 pub mod ConditionView
 pub mod Adding
 pub mod Heads
@@ -11,3 +10,4 @@ pub mod Crossings
 pub mod PartView
 pub mod Stream
 pub mod Sizes
+pub mod VariableCounts

@@ -12,7 +12,6 @@ mod list;
 mod lookup;
 mod making;
 mod matching;
-mod naming;
 mod part;
 mod paths;
 mod scene;
@@ -20,10 +19,8 @@ mod stability;
 mod start;
 mod stream;
 mod telling;
-mod text;
 mod variables;
 
 pub use condition::{Condition, Kind, Passage, Place, Which};
 pub use list::conditions;
 pub use stream::ConditionStream;
-pub use text::condition_text;
