@@ -9,8 +9,6 @@ pub mod Columned
 pub mod Counted
 pub mod Entered
 pub mod Crossed
-pub mod Names
-pub mod Lines
 pub mod Parted
 pub mod Streamed
 pub mod Stored

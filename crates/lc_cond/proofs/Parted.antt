@@ -1,6 +1,6 @@
 -- Which part stands at a place, and what is left behind it.
 use Rattle.std.proofs.Common.{◌≡◌, ℕ, zero, suc, ◌+◌, ◌-◌, ◌<◌, ◌≤◌, Option, Some, None, List, [], ◌∷◌, ◌++◌, map, drop, length, get_or, slice_get, refl, sym, ap, ◌∙◌, arith, add-zero}
-use Rattle.std.proofs.lemmas.Option.{none-some, same_Some}
+use Rattle.std.proofs.lemmas.Option.{none-some, same_Some, slice_get_past}
 use Rattle.lc_term.specs.Lists.{numbered}
 
 module _ {A B C : Type 0} (view : C → A) where
@@ -38,3 +38,17 @@ drop_past [] zero at = refl
 drop_past [] (suc k) at = refl
 drop_past (y ∷ xs) zero at = absurd (none-some y (sym at))
 drop_past (y ∷ xs) (suc k) at = drop_past xs k at
+
+-- one behind the others, and none behind it
+pub only_first : {A : Type 0} (x : A) (k n : ℕ) → k ≡ n → slice_get (x ∷ []) (k - n) ≡ Some x
+only_first x k n is = (let e : k - n ≡ 0 = omega (arith, is) in ap (slice_get (x ∷ [])) e)
+
+past : (k n : ℕ) → n ≤ k → (k ≡ n → ⊥) → 1 ≤ k - n
+past k n h other = by (k - n) refl
+  where
+    by : (m : ℕ) → k - n ≡ m → 1 ≤ k - n
+    by zero e = absurd (other (omega (arith, e, h)))
+    by (suc m) e = omega (arith, e)
+
+pub none_behind : {A : Type 0} (x : A) (k n : ℕ) → n ≤ k → (k ≡ n → ⊥) → slice_get (x ∷ []) (k - n) ≡ None
+none_behind x k n h other = slice_get_past (x ∷ []) (k - n) (past k n h other)

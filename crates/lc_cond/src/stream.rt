@@ -1,5 +1,5 @@
 //! The list of the conditions of a development, part by part.
-ghost use Rattle.std.specs.Prelude.{◌≡◌};
+ghost use Rattle.std.specs.Prelude.{◌≡◌, ◌+◌, suc, length, IfOk};
 
 use crate::condition::Condition;
 use crate::list::edges_of;
@@ -31,6 +31,21 @@ impl Drop for ConditionStream<'_> {
             given: _,
         } = self;
     }
+}
+
+// The next place.
+fn place_behind(place: usize) -> Result<usize, OutOfMemory>
+    ensures { IfOk result (λ next. next ≡ suc place) }
+{
+    place.checked_add(1).ok_or(OutOfMemory)
+}
+
+// How many conditions were given, with these.
+fn given_with(given: u64, conditions: &Vec<Condition>) -> Result<u64, OutOfMemory>
+    ensures { IfOk result (λ count. count ≡ given + length conditions.now.items) }
+{
+    let count = conditions.len() as u64;
+    given.checked_add(count).ok_or(OutOfMemory)
 }
 
 impl<'d> ConditionStream<'d> {
@@ -77,9 +92,8 @@ impl<'d> ConditionStream<'d> {
         };
         let mut conditions = Vec::new(self.alloc);
         push_part(self.alloc, terms, self.development, part, &mut conditions)?;
-        let place = self.place.checked_add(1).ok_or(OutOfMemory)?;
-        let count = conditions.len() as u64;
-        let given = self.given.checked_add(count).ok_or(OutOfMemory)?;
+        let place = place_behind(self.place)?;
+        let given = given_with(self.given, &conditions)?;
         self.place = place;
         self.given = given;
         Ok(Some(conditions))
