@@ -18,7 +18,7 @@ use Rattle.lc_cert.specs.Readings.{certificate_reading}
 use Rattle.lc_cert.specs.Certificates.{proof_at}
 use Rattle.lc_cond.specs.Conditions.{Condition, conditions}
 use Rattle.lc_check.proofs.LeastExtra.{extra_or_none}
-use Rattle.lc_check.specs.Verdicts.{IsProved, IsUnproved, flaw_told, AreProved, IsFirstUnproved, IsExtra, HasNoExtra, IsFirstExtra, ProvesAll, IsProofRefusal, IsAccepted, IsCertificateRefusal, IsRefused}
+use Rattle.lc_check.specs.Verdicts.{IsProved, IsUnproved, flaw_told, AreProved, IsFirstUnproved, IsExtra, HasNoExtra, IsFirstExtra, ProvesAll, IsProofRefusal, IsProvenBy, IsAccepted, IsCertificateRefusal, IsRefused}
 
 -- ---- a condition
 
@@ -95,12 +95,12 @@ proofs_once es cs r s (inr (p, h)) (inr (q, g)) = extra_once (length cs) es r s 
 -- ---- a certificate file
 
 by_proofs : (D : Development) (cert : List ℕ) (es : List Entry) → Certifies D cert es → ProvesAll es (conditions D) ⊎ ((r : Refusal) × IsProofRefusal es (conditions D) r)
-    → ((es : List Entry) × Certifies D cert es × ProvesAll es (conditions D)) ⊎ ((r : Refusal) × IsCertificateRefusal D cert r)
+    → IsProvenBy D cert ⊎ ((r : Refusal) × IsCertificateRefusal D cert r)
 by_proofs D cert es says (inl h) = inl (es, says, h)
 by_proofs D cert es says (inr (r, h)) = inr (r, inr (es, says, h))
 
 by_certificate : (D : Development) (cert : List ℕ) → ((es : List Entry) × Certifies D cert es) ⊎ ((r : Refusal) × C.IsFirstRefusal D cert r)
-    → ((es : List Entry) × Certifies D cert es × ProvesAll es (conditions D)) ⊎ ((r : Refusal) × IsCertificateRefusal D cert r)
+    → IsProvenBy D cert ⊎ ((r : Refusal) × IsCertificateRefusal D cert r)
 by_certificate D cert (inl (es, says)) =
     by_proofs D cert es says (by_conditions es (conditions D) (all_proved_or_not es 0 (conditions D)) (extra_or_none (length (conditions D)) es (certificate_rises D cert es says)))
 by_certificate D cert (inr (r, first)) = inr (r, inl first)
@@ -108,7 +108,7 @@ by_certificate D cert (inr (r, first)) = inr (r, inl first)
 one_certificate : (D : Development) (cert : List ℕ) (es fs : List Entry) → Certifies D cert es → Certifies D cert fs → es ≡ fs
 one_certificate D = says_one (certificate_reading D)
 
-not_certified_and_refused : (D : Development) (cert : List ℕ) (r : Refusal) → ((es : List Entry) × Certifies D cert es × ProvesAll es (conditions D)) → IsCertificateRefusal D cert r → ⊥
+not_certified_and_refused : (D : Development) (cert : List ℕ) (r : Refusal) → IsProvenBy D cert → IsCertificateRefusal D cert r → ⊥
 not_certified_and_refused D cert r (es, says, h) (inl first) = R.not_read_and_refused D cert es r says first
 not_certified_and_refused D cert r (es, says, h) (inr (fs, other, u)) =
     not_all_and_refused fs (conditions D) r (subst (λ l. ProvesAll l (conditions D)) (one_certificate D cert es fs says other) h) u
@@ -125,7 +125,7 @@ certificate_once D cert r s (inr (es, says, h)) (inr (fs, other, g)) =
 one_development : (dev : List ℕ) (D E : Development) → Says file_reading dev D → Says file_reading dev E → D ≡ E
 one_development = says_one file_reading
 
-of_certificate : (dev cert : List ℕ) (D : Development) → Says file_reading dev D → ((es : List Entry) × Certifies D cert es × ProvesAll es (conditions D)) ⊎ ((r : Refusal) × IsCertificateRefusal D cert r)
+of_certificate : (dev cert : List ℕ) (D : Development) → Says file_reading dev D → IsProvenBy D cert ⊎ ((r : Refusal) × IsCertificateRefusal D cert r)
     → ((D : Development) × IsAccepted dev cert D) ⊎ ((r : Refusal) × IsRefused dev cert r)
 of_certificate dev cert D says (inl h) = inl (D, (says, h))
 of_certificate dev cert D says (inr (r, h)) = inr (r, inr (D, says, h))

@@ -70,9 +70,13 @@ IsProofRefusal es cs refusal = IsFirstUnproved es 0 cs refusal ⊎ (AreProved es
 
 -- ---- the verdict
 
--- the files are accepted: a development, and a certificate of it that proves all its conditions and nothing else
+-- the file is a certificate of this development that proves all its conditions and nothing else
+abbrev pub IsProvenBy : Development → List ℕ → Type 0
+IsProvenBy D cert = (es : List Entry) × Certifies D cert es × ProvesAll es (conditions D)
+
+-- the files are accepted: a development, and a certificate that proves it
 abbrev pub IsAccepted : List ℕ → List ℕ → Development → Type 0
-IsAccepted dev cert D = Says file_reading dev D × ((es : List Entry) × Certifies D cert es × ProvesAll es (conditions D))
+IsAccepted dev cert D = Says file_reading dev D × IsProvenBy D cert
 
 -- the first refusal of a file where a certificate of this development is due: of its text, of its items, of its proofs
 abbrev pub IsCertificateRefusal : Development → List ℕ → Refusal → Type 0

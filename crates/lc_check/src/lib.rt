@@ -7,5 +7,5 @@ pub mod laws;
 mod proving;
 mod verdict;
 
-pub use checking::check;
+pub use checking::{check, check_certificate};
 pub use verdict::{Accepted, Verdict};

@@ -21,3 +21,5 @@ pub mod BelowStores
 pub mod BelowPaths
 pub mod BelowCode
 pub mod BelowConditions
+pub mod Parted
+pub mod Streamed

@@ -11,3 +11,5 @@ pub mod PartView
 pub mod Stream
 pub mod Sizes
 pub mod VariableCounts
+pub mod PartView
+pub mod Stream

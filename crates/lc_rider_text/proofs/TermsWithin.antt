@@ -10,7 +10,7 @@ use Rattle.lc_outline.specs.Resolved.{variables_below, IsTermBelow, term_is_belo
 use Rattle.lc_reading.proofs.Holding.{Holds, anything, weaker, both_holds, limited_holds, if_holds, listed_holds, behind_holds, each_holds, counted_holds, and_true}
 use Rattle.lc_reading.specs.Readings.{wrong, two_of}
 use Rattle.lc_reading.specs.declared.pass.Pass.TheVariants.{Shape}
-use Rattle.lc_term.specs.Places.{term_passes, column_passes}
+use Rattle.lc_term.specs.Places.{column_passes}
 use Rattle.lc_term.specs.Syntax.{Term, Column}
 use Rattle.lc_text.proofs.ReadHolds.{OfUsable, Kept, term_holds}
 use Rattle.lc_text.specs.Heads.{operation_of}
