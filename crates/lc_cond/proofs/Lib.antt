@@ -21,5 +21,4 @@ pub mod BelowStores
 pub mod BelowPaths
 pub mod BelowCode
 pub mod BelowConditions
-pub mod Parted
-pub mod Streamed
+pub mod CounterCount

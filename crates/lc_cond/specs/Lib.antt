@@ -11,5 +11,4 @@ pub mod PartView
 pub mod Stream
 pub mod Sizes
 pub mod VariableCounts
-pub mod PartView
-pub mod Stream
+pub mod CounterCount

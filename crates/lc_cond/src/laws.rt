@@ -1,4 +1,5 @@
 //! Laws of the definitions: functions without effect, whose contracts are the laws.
+ghost use Rattle.lc_cond.specs.CounterCount.{CounterIsCounted};
 ghost use Rattle.lc_cond.specs.Listed.{PartsMakeTheList};
 ghost use Rattle.lc_cond.specs.Sizes.{AreCounted};
 ghost use Rattle.lc_cond.specs.Uses.{AllUseTheirVariables};
@@ -29,4 +30,9 @@ pub fn conditions_have_few_variables(development: &Development)
 /// and of the columns in which is stored, without the conditions themselves.
 pub fn conditions_are_counted(development: &Development)
     ensures { AreCounted (development_shown development.now) }
+{}
+
+/// The counter has 59 conditions, in its list and by its sizes.
+pub fn the_counter_has_fifty_nine_conditions()
+    ensures { CounterIsCounted }
 {}
