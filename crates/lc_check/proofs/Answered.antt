@@ -31,7 +31,7 @@ not_all_proved D cert es (Refused r) certifies h = inr (es, certifies, h)
 not_all_proved D cert es OutOfMemory certifies h = tt
 
 pub all_proved : (D : Development) (cert : List ℕ) (es : List Entry) (n : ℕ) (a : Accepted) → development_in a ≡ D → Certifies D cert es → CountsAll es (conditions D) (Ok n) → IsAnswerOn D cert (Ok a)
-all_proved D cert es n a is certifies h = (is, (es, (certifies, h.1)))
+all_proved D cert es n a is certifies h = (is, (es, certifies, h.1))
 
 pub counted_derived : (D : Development) (es : List Entry) (n : ℕ) → AllUseTheirVariables D → CountsAll es (conditions D) (Ok n) → AreDerived D
 counted_derived D es n uses h = all_derived es 0 (conditions D) uses h.1.0

@@ -125,10 +125,10 @@ all_before ts es cs k i u all before = subst (λ l. AreProved es k (map (conditi
 -- a proof of a certificate has few steps
 few_of : (es : List Entry) (k : ℕ) (p : Proof) → HaveFewSteps es → proof_at es k ≡ Some p → size p ≤ 16777216
 few_of [] k p few is = absurd cc
-few_of (e ∷ es) k p few is = by_number (e.number == k) is where
-  by_number : (b : Bool) → cond b (Some e.proof) (proof_at es k) ≡ Some p → size p ≤ 16777216
-  by_number true at = subst (λ q. size q ≤ 16777216) (same_Some e.proof p at) few.0
-  by_number false at = few_of es k p few.1 at
+few_of (e ∷ es) k p few is = by_number (e.number == k) (few_of es k p few.1) is where
+  by_number : (b : Bool) → (proof_at es k ≡ Some p → size p ≤ 16777216) → cond b (Some e.proof) (proof_at es k) ≡ Some p → size p ≤ 16777216
+  by_number true next at = subst (λ q. size q ≤ 16777216) (same_Some e.proof p at) few.0
+  by_number false next at = next at
 
 pub few_at : {A : Type 0} (view : A → Proof) (es : List Entry) (k : ℕ) (o : Option A) → HaveFewSteps es → option_map view o ≡ proof_at es k → IfSome o (λ p. size (view p) ≤ 16777216)
 few_at view es k None few is = tt

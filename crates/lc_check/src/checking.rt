@@ -25,7 +25,7 @@ fn derived_is_linearizable(development: &Development)
 
 /// What is accepted of a development and a certificate file, if they are.
 fn proven(alloc: Global, development: Development, cert: &[u8]) -> Result<Accepted, Fault>
-    ensures exactly { IsAnswerOn (development_shown development.entry) cert.now result }
+    ensures exactly { IsAnswerOn (development_shown development) cert.now result }
     ensures linearizable { IfOk result (λ a. IsLinearizableObject (development_in a).specification (development_in a).object) }
 {
     let certificate = certificate_of(alloc, &development, cert)?;
@@ -46,7 +46,7 @@ pub fn check_certificate(
     development: Development,
     cert: &[u8],
 ) -> Result<Verdict, OutOfMemory>
-    ensures exactly { IfOk result (IsVerdictOn (development_shown development.entry) cert.now) }
+    ensures exactly { IfOk result (IsVerdictOn (development_shown development) cert.now) }
     ensures linearizable { IfAccepted result (λ D. IsLinearizableObject D.specification D.object) }
 {
     match proven(alloc, development, cert) {

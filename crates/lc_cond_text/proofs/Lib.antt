@@ -1,3 +1,5 @@
 pub mod Names
 pub mod Lines
+pub mod LinesFrom
 pub mod Printed
+pub mod Recalled

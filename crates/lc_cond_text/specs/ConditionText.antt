@@ -1,5 +1,5 @@
 -- The line of a condition.
-use Rattle.std.specs.Prelude.{ℕ, suc, codes, List, [], ◌∷◌, ◌++◌, Option, Some, None, slice_index_or, map}
+use Rattle.std.specs.Prelude.{ℕ, suc, ◌+◌, length, codes, List, [], ◌∷◌, ◌++◌, Option, Some, None, slice_index_or, map}
 use Rattle.std.specs.Fmt.{decimal}
 use Rattle.lc_text.specs.Spelling.{Spelled}
 use Rattle.lc_term.specs.Syntax.{Formula}
@@ -13,7 +13,7 @@ use Rattle.lc_rider.specs.Paths.{Owing, Pending, Named, Enabled, Observing}
 use Rattle.lc_action.specs.Action.{Action}
 use Rattle.lc_outline.specs.Development.{Development, all_actions}
 use Rattle.lc_cond.specs.Conditions.{Kind, Init, InitIdle, Entry, First, Owed, Reply, Invariant, NextKind, Guard, ColumnKind, Stable}
-use Rattle.lc_cond.specs.Conditions.{Passage, NoPassage, ByEdge, ByAction, Which, Alone, Numbered, OfColumn, Condition}
+use Rattle.lc_cond.specs.Conditions.{Passage, NoPassage, ByEdge, ByAction, Which, Alone, Numbered, OfColumn, Condition, conditions}
 
 abbrev pub duty_word : Owing → List ℕ
 duty_word Pending = codes "pend"
@@ -88,3 +88,15 @@ condition_text d k c =
 abbrev pub lines_from : Development → ℕ → List Condition → List ℕ
 lines_from d k [] = []
 lines_from d k (c ∷ cs) = condition_text d k c ++ 10 ∷ lines_from d (suc k) cs
+
+-- the line of a count
+abbrev pub total_line : ℕ → List ℕ
+total_line n = codes "total " ++ decimal n ++ codes "\n"
+
+-- the lines of conditions that are left, of which the first has this number, and that of how many there are together
+abbrev pub text_from : Development → ℕ → List Condition → List ℕ
+text_from d k cs = lines_from d k cs ++ total_line (k + length cs)
+
+-- a line for each condition, and that of how many there are
+abbrev pub conditions_text : Development → List ℕ
+conditions_text d = text_from d 0 (conditions d)

@@ -1,2 +1,4 @@
 pub mod ConditionText
 pub mod CounterLines
+pub mod Recalled
+pub mod LinesView

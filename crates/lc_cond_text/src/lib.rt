@@ -2,7 +2,12 @@
 #![tactic(auto)]
 
 pub mod laws;
+mod lines;
 mod naming;
+mod nodes;
 mod text;
+mod texts;
 
-pub use text::condition_text;
+pub use lines::ConditionLines;
+pub use text::{condition_text, push_condition};
+pub use texts::{FormulaTexts, no_texts};

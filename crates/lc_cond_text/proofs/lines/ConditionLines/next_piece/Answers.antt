@@ -1,0 +1,22 @@
+use Rattle.std.proofs.Common.{Bool}
+use Rattle.lc_outline.specs.DevelopmentView.{development_shown}
+use Rattle.lc_cond_text.specs.LinesView.{GoesOn, Passes}
+use Rattle.lc_cond_text.proofs.lines.ConditionLines.next_piece.Goals as goal
+use Rattle.lc_cond_text.proofs.lines.ConditionLines.next_piece.Goals.{then-more, else-more}
+use Rattle.std.proofs.Common.{subst}
+
+pub fill-requires-clause-recalls : goal.fill-requires-clause-recalls
+fill-requires-clause-recalls c = (c.self.invariant c.in-Going.is).1
+
+pub invariant_of-self-2 : goal.invariant_of-self-2
+invariant_of-self-2 c =
+    let d = development_shown c.self.inside.development.now in
+    let old = c.new-piece.result.items in
+    let new = c.fill.new.piece.items in
+    elim c.if-more.branch [
+      | then-more w ↦ λ going.
+          let goes : GoesOn d old c.self.inside.stream new c.fill.new.stream c.fill.new.terms c.fill.new.texts =
+          subst (λ (b : Bool). Passes d old c.self.inside.stream new c.fill.new.stream c.fill.new.terms c.fill.new.texts b) w.if-more.true c.in_ok-more.ensures in
+          (goes.of, goes.recalls)
+      | else-more w ↦ λ going. absurd (cc)
+    ]

@@ -1,0 +1,145 @@
+//! The texts of formulas that stand in many lines: each is made once, and then copied.
+ghost use Rattle.std.specs.Prelude.{◌≡◌, ◌++◌, ◌<◌, ℕ, length, Some, slice_get, IfOk, IfSome, OnOk};
+ghost use Rattle.lc_term.specs.NodeTables.{Table};
+ghost use Rattle.lc_term.specs.Tables.{formula_in, IsFormula};
+ghost use Rattle.lc_text.specs.Spelling.{Spelled};
+ghost use Rattle.lc_text.specs.Spelled.{spelled_formula};
+ghost use Rattle.lc_outline.specs.DevelopmentView.{development_shown};
+ghost use Rattle.lc_cond_text.specs.ConditionText.{spelled};
+ghost use Rattle.lc_cond_text.specs.Recalled.{LiesAt, Recalls};
+
+use crate::nodes::push_formula;
+use lc_base::OutOfMemory;
+use lc_outline::Development;
+use lc_term::{FormulaId, Terms};
+use std::alloc::Global;
+
+// Where a text lies.
+#[derive(Clone, Copy)]
+struct Place {
+    start: usize,
+    end: usize,
+}
+
+/// Texts of formulas, by the formulas' numbers: they serve one development and one table, which may grow, so that what
+/// stands in many lines is spelled once. After an error they are to be let go.
+pub struct FormulaTexts {
+    bytes: Vec<u8>,
+    places: Vec<Option<Place>>,
+}
+
+impl Drop for FormulaTexts {
+    fn drop(self) {
+        let FormulaTexts {
+            bytes: _,
+            places: _,
+        } = self;
+    }
+}
+
+/// No formula is spelled yet.
+pub fn no_texts(alloc: Global) -> FormulaTexts
+    ensures { (by : Spelled) (ts : Table) → Recalls by ts result }
+{
+    FormulaTexts {
+        bytes: Vec::new(alloc),
+        places: Vec::new(alloc),
+    }
+}
+
+// Room for a place at this number.
+fn make_room(places: &mut Vec<Option<Place>>, number: usize) -> Result<(), OutOfMemory>
+    ensures room { OnOk result (number < length places.new.items) }
+    ensures before { (k : ℕ) (p : Place) → slice_get places.new.items k ≡ Some (Some p) → slice_get places.old.items k ≡ Some (Some p) }
+{
+    while places.len() <= number {
+        places.push(None)?;
+    }
+    Ok(())
+}
+
+// Where the text of a formula lies, if it was spelled.
+fn place_of(texts: &FormulaTexts, formula: FormulaId) -> Option<Place>
+    ensures { IfSome result (λ p. slice_get texts.now.places.items formula.0 ≡ Some (Some p)) }
+{
+    *texts.places.get(formula.0 as usize)?
+}
+
+// Spells a formula, which lies there from then on.
+fn spell(
+    texts: &mut FormulaTexts,
+    terms: &Terms,
+    development: &Development,
+    formula: FormulaId,
+) -> Result<Place, OutOfMemory>
+    requires formula { IsFormula terms.now formula }
+    requires recalls { Recalls (spelled (development_shown development.now)) terms.now texts.old }
+    ensures place { IfOk result (LiesAt (spelled_formula (spelled (development_shown development.now)) 0 (formula_in terms.now formula)) texts.new.bytes.items) }
+    ensures recalls { OnOk result (Recalls (spelled (development_shown development.now)) terms.now texts.new) }
+{
+    let number = formula.0 as usize;
+    make_room(&mut texts.places, number)?;
+    let start = texts.bytes.len();
+    push_formula(&mut texts.bytes, terms, development, 0, formula)?;
+    let end = texts.bytes.len();
+    let place = Place { start, end };
+    texts.places[number] = Some(place);
+    Ok(place)
+}
+
+// Where the text of a formula lies.
+fn spelled_place(
+    texts: &mut FormulaTexts,
+    terms: &Terms,
+    development: &Development,
+    formula: FormulaId,
+) -> Result<Place, OutOfMemory>
+    requires formula { IsFormula terms.now formula }
+    requires recalls { Recalls (spelled (development_shown development.now)) terms.now texts.old }
+    ensures place { IfOk result (LiesAt (spelled_formula (spelled (development_shown development.now)) 0 (formula_in terms.now formula)) texts.new.bytes.items) }
+    ensures recalls { OnOk result (Recalls (spelled (development_shown development.now)) terms.now texts.new) }
+{
+    match place_of(texts, formula) {
+        Some(place) => Ok(place),
+        None => spell(texts, terms, development, formula),
+    }
+}
+
+/// A formula that stands in many lines, behind what is there.
+pub(crate) fn push_repeated(
+    out: &mut Vec<u8>,
+    texts: &mut FormulaTexts,
+    terms: &Terms,
+    development: &Development,
+    formula: FormulaId,
+) -> Result<(), OutOfMemory>
+    requires formula { IsFormula terms.now formula }
+    requires recalls { Recalls (spelled (development_shown development.now)) terms.now texts.old }
+    ensures text { OnOk result (out.new.items ≡ out.old.items ++ spelled_formula (spelled (development_shown development.now)) 0 (formula_in terms.now formula)) }
+    ensures recalls { OnOk result (Recalls (spelled (development_shown development.now)) terms.now texts.new) }
+{
+    let place = spelled_place(texts, terms, development, formula)?;
+    out.extend_from_slice(&texts.bytes[place.start..place.end])?;
+    Ok(())
+}
+
+/// A formula that stands in few lines, behind what is there: its text is copied where it is kept, and not kept else.
+pub(crate) fn push_once(
+    out: &mut Vec<u8>,
+    texts: &FormulaTexts,
+    terms: &Terms,
+    development: &Development,
+    formula: FormulaId,
+) -> Result<(), OutOfMemory>
+    requires formula { IsFormula terms.now formula }
+    requires recalls { Recalls (spelled (development_shown development.now)) terms.now texts.now }
+    ensures { OnOk result (out.new.items ≡ out.old.items ++ spelled_formula (spelled (development_shown development.now)) 0 (formula_in terms.now formula)) }
+{
+    match place_of(texts, formula) {
+        Some(place) => {
+            out.extend_from_slice(&texts.bytes[place.start..place.end])?;
+            Ok(())
+        }
+        None => push_formula(out, terms, development, 0, formula),
+    }
+}
