@@ -1,5 +1,5 @@
 pub mod Names
-pub mod Lines
+pub mod Joined
 pub mod LinesFrom
 pub mod Printed
 pub mod Recalled

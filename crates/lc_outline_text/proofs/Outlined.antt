@@ -76,7 +76,7 @@ outline_holds known columns others own edges i t m ts =
     (and_holds (λ ons. list_all (arguments_are_below count) ons ≡ true) (HasOns known ts) (ons_reading known names own edges m ts) (ons_within columns others known own edges m ts)
     (and_holds (Every (IsOnKnown known)) (AreFound known.actions (forms_in (codes "on") ts)) (ons_reading known names own edges m ts) (ons_known known names own edges m ts)
     (all_kinds (λ kind ons. list_any (acts known.actions (edge_word kind)) (forms_in (codes "on") ts) ≡ true → _) (ons_reading known names own edges m ts) (λ kind. on_found known names own edges kind m ts))))
-    (λ fs ons h g. (h, g))
+    (λ fs ons h g. (h, g.0, g.1))
 
 never : (o : ℕ) (name : Reading (List ℕ)) (f : _) → Holds (λ q. ⊥) (both (point_of o) name (flawed f))
 never o (fine w) f = tt
@@ -103,9 +103,9 @@ beside_holds known columns others own n o code name (fine i) h m (t ▸ ts) = by
       (λ q x g k. record {
         operation = g.0;
         asserts = k.0;
-        arguments = k.1.0;
-        named = k.1.1.0;
-        met = subst (λ j. IsMet j x.ons) (sym g.1) (met known.actions (code_word code) (forms_in (codes "on") ts) x.ons i h e k.1.1.1);
+        arguments = k.1;
+        named = k.2.0;
+        met = subst (λ j. IsMet j x.ons) (sym g.1) (met known.actions (code_word code) (forms_in (codes "on") ts) x.ons i h e k.2.1);
       })
 
 -- ---- a body

@@ -86,15 +86,20 @@ room n h = grind (arith, nat_tests)
 three_at_most : (n : ℕ) → n ≤ 3 → nat_le n 3 ≡ true
 three_at_most n h = grind (arith, nat_tests)
 
+-- a name that is declared behind others finds room
+abbrev HasRoom : List (List ℕ) → Unit {0} → Type 0
+HasRoom before u = length before < 3
+
+within_room : (before : List (List ℕ)) (n : ℕ) (w : List ℕ) (b : Bool) → nat_le 3 (length before) ≡ b → Holds (HasRoom before) (cond b (wrong Bound n) (within n w tt))
+within_room before n w true e = tt
+within_room before n w false e = if_holds (HasRoom before) (is_long w) (wrong Bound n) (fine tt) tt (room (length before) e)
+
 name_has_room : (before : List (List ℕ)) (n : ℕ) (w : List ℕ) → Holds (λ v. length before < 3) (name_reading (Some 3) before n (atom w))
 name_has_room before n w =
-    mapped_holds (λ u. length before < 3) (λ v. length before < 3) (λ u. w) (declaration_reading (Some 3) before n (atom w))
-    (if_holds (λ u. length before < 3) (is_name w) _ (wrong Shape n)
-    (if_holds (λ u. length before < 3) (is_reserved w || list_any (is w) before) (wrong Repeated n) _ tt (by_test (nat_le 3 (length before)) refl)) tt)
-    (λ u h. h) where
-      by_test : (b : Bool) → nat_le 3 (length before) ≡ b → Holds (λ u. length before < 3) (cond b (wrong Bound n) (within n w tt))
-      by_test true e = tt
-      by_test false e = if_holds (λ u. length before < 3) (is_long w) (wrong Bound n) (fine tt) tt (room (length before) e)
+    mapped_holds (HasRoom before) (λ v. length before < 3) (λ u. w) (declaration_reading (Some 3) before n (atom w))
+    (if_holds (HasRoom before) (is_name w) _ (wrong Shape n)
+    (if_holds (HasRoom before) (is_reserved w || list_any (is w) before) (wrong Repeated n) _ tt (within_room before n w (nat_le 3 (length before)) refl)) tt)
+    (λ u h. h)
 
 -- the names behind others, with them
 abbrev AreFew : List (List ℕ) → List (List ℕ) → Type 0
@@ -109,6 +114,9 @@ names_few before m (atom w ▸ ts) =
     (name_has_room before m w) (names_few (before ++ w ∷ []) (m + item_count (atom w)) ts)
     (λ v ws h g few. let size = length-append before (w ∷ []) in let all = g (omega (arith, size, h)) in omega (arith, size, all))
 
+few_at_most : (ws : List (List ℕ)) → AreFew [] ws → nat_le (length ws) 3 ≡ true
+few_at_most ws h = let all = h (omega arith) in three_at_most (length ws) (omega (arith, all))
+
 abbrev AreParameters : Tree → List (List ℕ) → Type 0
 AreParameters t ws = (length ws ≡ tree_count (items_within t)) × (nat_le (length ws) 3 ≡ true)
 
@@ -116,7 +124,7 @@ parameters_counted : (n : ℕ) (t : Tree) → Holds (AreParameters t) (parameter
 parameters_counted n (atom w) = tt
 parameters_counted n (list ts) =
     and_holds (λ ws. length ws ≡ tree_count ts) (λ ws. nat_le (length ws) 3 ≡ true) (declared_reading (name_reading (Some 3)) declared_by [] (n + 1) ts) (names_counted [] (n + 1) ts)
-    (weaker (AreFew []) (λ ws. nat_le (length ws) 3 ≡ true) (declared_reading (name_reading (Some 3)) declared_by [] (n + 1) ts) (λ ws h. three_at_most (length ws) (h (omega arith))) (names_few [] (n + 1) ts))
+    (weaker (AreFew []) (λ ws. nat_le (length ws) 3 ≡ true) (declared_reading (name_reading (Some 3)) declared_by [] (n + 1) ts) few_at_most (names_few [] (n + 1) ts))
 
 -- an action has three parameters at most, and stores in columns that there are
 abbrev pub has_bounds : Known → Action → Bool

@@ -5,7 +5,7 @@ use Rattle.lc_text.specs.Spelled.{spaced, spelled_formula}
 use Rattle.lc_outline.specs.DevelopmentView.{development_shown}
 use Rattle.lc_cond.specs.ConditionView.{condition_in}
 use Rattle.lc_cond_text.specs.ConditionText.{kind_word, or_hyphen, name_at, point_names, passage_text, which_text, spelled, formulas_text}
-use Rattle.lc_cond_text.proofs.Lines.{line_joined}
+use Rattle.lc_cond_text.proofs.Joined.{line_joined}
 use Rattle.lc_cond_text.proofs.text.push_condition.Goals as goal
 
 pub returns-clause-text : goal.returns-clause-text

@@ -4,7 +4,7 @@ use Rattle.std.proofs.lemmas.Result.{on_ok_weaker}
 use Rattle.lc_text.specs.Spelled.{spaced}
 use Rattle.lc_cond.specs.ConditionView.{kind_of}
 use Rattle.lc_cond_text.specs.ConditionText.{kind_word}
-use Rattle.lc_cond_text.proofs.Lines.{joined_four}
+use Rattle.lc_cond_text.proofs.Joined.{joined_four}
 use Rattle.lc_cond_text.proofs.text.push_head.Goals as goal
 
 pub returns : goal.returns
