@@ -5,5 +5,4 @@ pub mod OneAnswer
 pub mod Taken
 pub mod Words
 pub mod Endings
-pub mod Opened
 pub mod OneHistory

@@ -4,5 +4,4 @@ pub mod Answers
 pub mod Reading
 pub mod Formula
 pub mod Judge
-pub mod Check
 pub mod Execution

@@ -2,7 +2,6 @@
 #![tactic(auto)]
 
 mod answer;
-mod check;
 mod command_line;
 mod disk;
 mod files;
