@@ -109,7 +109,7 @@ pub one_not : (ts : Table) (es : List Entry) (cs : List Condition) (k i : ℕ) (
 one_not ts es cs k i x OutOfMemory lt is before h = tt
 one_not ts es cs k i x (Refused r) lt is before h =
     let all : (first_of ts i cs ++ condition_in ts x ∷ []) ++ map (condition_in ts) (drop (i + 1) cs) ≡ map (condition_in ts) cs =
-        ap (λ l. l ++ map (condition_in ts) (drop (i + 1) cs)) (sym (seen_more ts cs i x lt is)) ∙ seen_all ts cs (i + 1) in
+    ap (λ l. l ++ map (condition_in ts) (drop (i + 1) cs)) (sym (seen_more ts cs i x lt is)) ∙ seen_all ts cs (i + 1) in
     subst (λ l. IsFirstUnproved es k l r) all
     (unproved_behind es k (first_of ts i cs) (map (condition_in ts) (drop (i + 1) cs)) (condition_in ts x) r before
     (subst (λ n. IsUnproved n (condition_in ts x) (proof_at es n) r) (sym (seen_count ts cs k i lt)) h))

@@ -43,5 +43,5 @@ loop-place-preserved c =
     let still = still_at t0 t1 c.args.list.now i x c.requires.known c.loop-place.invariant.0 c.loop-place-test.true c.index-list-place.is in (
       kept_on t0 t1 c.prove_one.new.terms c.loop-place.invariant.0 c.in_ok-prove_one.ensures.kept,
       one_more t0 (entries_in c.args.certificate.now) c.args.list.now k i x _ c.loop-place-test.true c.index-list-place.is c.loop-place.invariant.1
-      (seen_as (k + i) (k + i) _ _ _ _ (Ok tt) refl still c.proof.ensures c.in_ok-prove_one.ensures.exactly),
+          (seen_as (k + i) (k + i) _ _ _ _ (Ok tt) refl still c.proof.ensures c.in_ok-prove_one.ensures.exactly),
     )
