@@ -9,6 +9,11 @@ pub mod Columned
 pub mod Counted
 pub mod Entered
 pub mod Crossed
+pub mod Parted
+pub mod Streamed
+pub mod Stored
+pub mod Counts
+pub mod Sized
 pub mod VariableCounts
 pub mod Elements
 pub mod Below
@@ -16,5 +21,4 @@ pub mod BelowStores
 pub mod BelowPaths
 pub mod BelowCode
 pub mod BelowConditions
-pub mod Parted
-pub mod Streamed
+pub mod CounterCount

@@ -1,5 +1,5 @@
 -- The next part of a list that is given part by part.
-use Rattle.std.proofs.Common.{◌≡◌, ℕ, suc, ◌+◌, Option, Some, None, List, [], ◌∷◌, ◌++◌, map, option_map, length, slice_get, drop, refl, sym, subst, ap, ap₂, ◌∙◌}
+use Rattle.std.proofs.Common.{◌≡◌, ℕ, suc, Option, Some, None, List, [], ◌∷◌, ◌++◌, map, option_map, length, slice_get, drop, refl, sym, ap, ◌∙◌}
 use Rattle.lc_term.specs.Lists.{concat_map}
 use Rattle.lc_term.specs.NodeTables.{Table}
 use Rattle.lc_outline.specs.Development.{Development}

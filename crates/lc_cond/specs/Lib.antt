@@ -7,6 +7,8 @@ pub mod Adding
 pub mod Heads
 pub mod Scenes
 pub mod Crossings
-pub mod VariableCounts
 pub mod PartView
 pub mod Stream
+pub mod Sizes
+pub mod VariableCounts
+pub mod CounterCount

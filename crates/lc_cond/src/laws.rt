@@ -1,5 +1,7 @@
 //! Laws of the definitions: functions without effect, whose contracts are the laws.
+ghost use Rattle.lc_cond.specs.CounterCount.{CounterIsCounted};
 ghost use Rattle.lc_cond.specs.Listed.{PartsMakeTheList};
+ghost use Rattle.lc_cond.specs.Sizes.{AreCounted};
 ghost use Rattle.lc_cond.specs.Uses.{AllUseTheirVariables};
 ghost use Rattle.lc_cond.specs.VariableCounts.{AllHaveFewVariables};
 ghost use Rattle.lc_outline.specs.DevelopmentView.{development_shown};
@@ -22,4 +24,15 @@ pub fn conditions_use_their_variables(development: &Development)
 /// and behind them another client and the parameters of its action.
 pub fn conditions_have_few_variables(development: &Development)
     ensures { AllHaveFewVariables (development_shown development.now) }
+{}
+
+/// A development has as many conditions as its sizes come to: counts of what is asserted, of the ways in which riders are passed
+/// and of the columns in which is stored, without the conditions themselves.
+pub fn conditions_are_counted(development: &Development)
+    ensures { AreCounted (development_shown development.now) }
+{}
+
+/// The counter has 59 conditions, in its list and by its sizes.
+pub fn the_counter_has_fifty_nine_conditions()
+    ensures { CounterIsCounted }
 {}

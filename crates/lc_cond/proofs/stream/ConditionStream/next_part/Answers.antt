@@ -1,4 +1,4 @@
-use Rattle.std.proofs.Common.{Some, map, option_map, slice_get, refl, sym, subst, ap, ◌∙◌}
+use Rattle.std.proofs.Common.{map, option_map, slice_get, refl, sym, subst, ap, ◌∙◌}
 use Rattle.lc_object.specs.EdgeView.{edge_of}
 use Rattle.lc_outline.specs.DevelopmentView.{development_shown}
 use Rattle.lc_cond.specs.Adding.{Adds}
