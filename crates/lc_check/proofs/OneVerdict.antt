@@ -1,5 +1,5 @@
 -- Two files have one verdict.
-use Rattle.std.proofs.Common.{◌≡◌, ℕ, suc, ◌≤◌, ◌⊎◌, inl, inr, List, [], ◌∷◌, ◌++◌, length, Option, Some, None, refl, sym, subst, ap, ap₂, ◌∙◌, arith}
+use Rattle.std.proofs.Common.{◌≡◌, ℕ, suc, ◌⊎◌, inl, inr, List, [], ◌∷◌, ◌++◌, length, Option, Some, None, refl, sym, subst, ap, ap₂, ◌∙◌, arith}
 use Rattle.lc_base.specs.declared.refusal.Refusal.{Refusal}
 use Rattle.lc_base.specs.declared.refusal.Refusal.TheVariants.{Missing, Extra}
 use Rattle.lc_term.specs.Syntax.{Not}
@@ -18,7 +18,7 @@ use Rattle.lc_cert.specs.Readings.{certificate_reading}
 use Rattle.lc_cert.specs.Certificates.{proof_at}
 use Rattle.lc_cond.specs.Conditions.{Condition, conditions}
 use Rattle.lc_check.proofs.LeastExtra.{extra_or_none}
-use Rattle.lc_check.specs.Verdicts.{IsProved, IsUnproved, flaw_told, AreProved, IsFirstUnproved, IsExtra, HasNoExtra, IsFirstExtra, ProvesAll, IsProofRefusal, IsProvenBy, IsAccepted, IsCertificateRefusal, IsRefused}
+use Rattle.lc_check.specs.Verdicts.{IsProved, IsUnproved, flaw_told, AreProved, IsFirstUnproved, HasNoExtra, IsFirstExtra, ProvesAll, IsProofRefusal, IsProvenBy, IsAccepted, IsCertificateRefusal, IsRefused}
 
 -- ---- a condition
 
