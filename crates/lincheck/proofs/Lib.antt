@@ -5,4 +5,5 @@ pub mod OneAnswer
 pub mod Taken
 pub mod Words
 pub mod Endings
+pub mod Opened
 pub mod OneHistory

@@ -83,7 +83,7 @@ within bytes offset long fault = elim (either 16777216 offset) [
 ]
 
 -- the first fault of the beginning is that of the file
-fault_of_whole : (n : ℕ) (bytes : List ℕ) (offset : ℕ) → n ≡ 16777217 → IsFirstFault (take n bytes) offset → IsFirstFault bytes offset
+pub fault_of_whole : (n : ℕ) (bytes : List ℕ) (offset : ℕ) → n ≡ 16777217 → IsFirstFault (take n bytes) offset → IsFirstFault bytes offset
 fault_of_whole n bytes offset e fault = elim (either (length bytes) n) [
   | inl h ↦ subst (λ l. IsFirstFault l offset) (take_all n bytes (omega arith)) fault
   | inr h ↦
@@ -97,7 +97,7 @@ fault_of_whole n bytes offset e fault = elim (either (length bytes) n) [
 ]
 
 -- what the beginning reads as is what the file reads as
-reading_of_whole : (n : ℕ) (bytes : List ℕ) (trees : Trees) → n ≡ 16777217 → ReadsAs (take n bytes) trees → ReadsAs bytes trees
+pub reading_of_whole : (n : ℕ) (bytes : List ℕ) (trees : Trees) → n ≡ 16777217 → ReadsAs (take n bytes) trees → ReadsAs bytes trees
 reading_of_whole n bytes trees e reads =
     let short : length bytes ≤ n = omega (arith, length-take n bytes, reads.size) in
     subst (λ l. ReadsAs l trees) (take_all n bytes short) reads

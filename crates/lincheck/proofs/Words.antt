@@ -12,7 +12,7 @@ use Rattle.clap.specs.declared.parser.matches.Found.{Found}
 use Rattle.clap.proofs.WalkLemmas.{first_value-rows}
 use Rattle.lincheck.specs.declared.command_line.Request.{Request}
 use Rattle.clap.proofs.OnLiterals.{clap_on_literals}
-use Rattle.lincheck.specs.CommandLine.{AreWrong, AskForHelp, AsksForText, HasPlainPaths, Reads, Task, CheckFormula, JudgeHistory, formula_task, judge_task, task_in_command, program_app, task_in, task_of, words_for}
+use Rattle.lincheck.specs.CommandLine.{AreWrong, AskForHelp, AsksForText, HasPlainPaths, Reads, Task, CheckFormula, JudgeHistory, CheckCertificate, one_file_task, two_file_task, task_in_command, program_app, task_in, task_of, words_for}
 
 is_other : (b : ℕ) → not (b == 45) ≡ true → (b == 45) ≡ false
 is_other b plain = by (b == 45) refl plain
@@ -40,6 +40,12 @@ task_is_read name (JudgeHistory [] (c ∷ other)) plain = let f = is_other c pla
 task_is_read name (JudgeHistory (b ∷ path) (c ∷ other)) plain =
     let e = is_other b plain.0 in
     let f = is_other c plain.1 in simp (e, f) (refl {a = Some (JudgeHistory (b ∷ path) (c ∷ other))})
+task_is_read name (CheckCertificate [] []) plain = refl {a = Some (CheckCertificate [] [])}
+task_is_read name (CheckCertificate (b ∷ path) []) plain = let e = is_other b plain.0 in simp e (refl {a = Some (CheckCertificate (b ∷ path) [])})
+task_is_read name (CheckCertificate [] (c ∷ other)) plain = let f = is_other c plain.1 in simp f (refl {a = Some (CheckCertificate [] (c ∷ other))})
+task_is_read name (CheckCertificate (b ∷ path) (c ∷ other)) plain =
+    let e = is_other b plain.0 in
+    let f = is_other c plain.1 in simp (e, f) (refl {a = Some (CheckCertificate (b ∷ path) (c ∷ other))})
 
 -- nothing is wrong in the words
 pub words_are_taken : (name : List ℕ) (task : Task) → HasPlainPaths task → takes program_app (words_for name task) ≡ true
@@ -50,6 +56,12 @@ words_are_taken name (JudgeHistory [] []) plain = refl {a = true}
 words_are_taken name (JudgeHistory (b ∷ path) []) plain = let e = is_other b plain.0 in simp e (refl {a = true})
 words_are_taken name (JudgeHistory [] (c ∷ other)) plain = let f = is_other c plain.1 in simp f (refl {a = true})
 words_are_taken name (JudgeHistory (b ∷ path) (c ∷ other)) plain =
+    let e = is_other b plain.0 in
+    let f = is_other c plain.1 in simp (e, f) (refl {a = true})
+words_are_taken name (CheckCertificate [] []) plain = refl {a = true}
+words_are_taken name (CheckCertificate (b ∷ path) []) plain = let e = is_other b plain.0 in simp e (refl {a = true})
+words_are_taken name (CheckCertificate [] (c ∷ other)) plain = let f = is_other c plain.1 in simp f (refl {a = true})
+words_are_taken name (CheckCertificate (b ∷ path) (c ∷ other)) plain =
     let e = is_other b plain.0 in
     let f = is_other c plain.1 in simp (e, f) (refl {a = true})
 
@@ -129,26 +141,30 @@ asked m name f task named rows is =
     let parts : subcommand_rows_of m ≡ Some (name, rows_of f) = by_parts (subcommand_rows_of m) name (rows_of f) (named ∙ name_by_rows m) rows in
     is ∙ sym (ap task_in parts)
 
-pub asks_formula : (name : Text) (rows : List Row) → bytes_eq name (codes "formula") ≡ true → formula_task rows ≡ task_in_command (name, rows)
-asks_formula name rows is = sym (ap (λ t. if t then formula_task rows else (if bytes_eq name (codes "judge") then judge_task rows else None)) is)
+-- which command a name asks for
+pub asks_formula : (name : Text) (rows : List Row) → bytes_eq name (codes "formula") ≡ true → one_file_task CheckFormula (codes "FILE") rows ≡ task_in_command (name, rows)
+asks_formula name rows e = simp e refl
 
-pub asks_judge : (name : Text) (rows : List Row) → bytes_eq name (codes "formula") ≡ false → bytes_eq name (codes "judge") ≡ true → judge_task rows ≡ task_in_command (name, rows)
-asks_judge name rows other is =
-    sym (ap (λ t. if t then formula_task rows else (if bytes_eq name (codes "judge") then judge_task rows else None)) other ∙ ap (λ t. if t then judge_task rows else None) is)
+pub asks_judge : (name : Text) (rows : List Row) → bytes_eq name (codes "formula") ≡ false → bytes_eq name (codes "judge") ≡ true → two_file_task JudgeHistory (codes "HISTORY") rows ≡ task_in_command (name, rows)
+asks_judge name rows e f = simp (e, f) refl
 
-pub asks_nothing : (name : Text) (rows : List Row) → bytes_eq name (codes "formula") ≡ false → bytes_eq name (codes "judge") ≡ false → None ≡ task_in_command (name, rows)
-asks_nothing name rows other is =
-    sym (ap (λ t. if t then formula_task rows else (if bytes_eq name (codes "judge") then judge_task rows else None)) other ∙ ap (λ t. if t then judge_task rows else None) is)
+pub asks_check : (name : Text) (rows : List Row) → bytes_eq name (codes "formula") ≡ false → bytes_eq name (codes "judge") ≡ false → bytes_eq name (codes "check") ≡ true
+    → two_file_task CheckCertificate (codes "CERT") rows ≡ task_in_command (name, rows)
+asks_check name rows e f g = simp (e, f, g) refl
+
+pub asks_nothing : (name : Text) (rows : List Row) → bytes_eq name (codes "formula") ≡ false → bytes_eq name (codes "judge") ≡ false → bytes_eq name (codes "check") ≡ false
+    → None ≡ task_in_command (name, rows)
+asks_nothing name rows e f g = simp (e, f, g) refl
 
 -- the task of one path, and of two, where clap finds them
-pub formula_found : (f : Found) (file : Option Text) → file ≡ first_value f (codes "FILE") → option_map CheckFormula file ≡ formula_task (rows_of f)
-formula_found f file is = ap (option_map CheckFormula) (is ∙ first_value-rows f (codes "FILE"))
+pub one_found : (task : List ℕ → Task) (name : Text) (f : Found) (file : Option Text) → file ≡ first_value f name → option_map task file ≡ one_file_task task name (rows_of f)
+one_found task name f file is = ap (option_map task) (is ∙ first_value-rows f name)
 
-pub judge_found : (f : Found) (development history : Option Text) → development ≡ first_value f (codes "DEV") → history ≡ first_value f (codes "HISTORY")
-    → option_and_then (λ d. option_map (JudgeHistory d) history) development ≡ judge_task (rows_of f)
-judge_found f development history is is' =
-    ap₂ (λ x y. option_and_then (λ d. option_map (JudgeHistory d) y) x) (is ∙ first_value-rows f (codes "DEV")) (is' ∙ first_value-rows f (codes "HISTORY"))
+pub two_found : (task : List ℕ → List ℕ → Task) (name : Text) (f : Found) (development other : Option Text) → development ≡ first_value f (codes "DEV") → other ≡ first_value f name
+    → option_and_then (λ d. option_map (task d) other) development ≡ two_file_task task name (rows_of f)
+two_found task name f development other is is' =
+    ap₂ (λ x y. option_and_then (λ d. option_map (task d) y) x) (is ∙ first_value-rows f (codes "DEV")) (is' ∙ first_value-rows f name)
 
--- without a development nothing is judged
-pub judge_unfound : (f : Found) → None ≡ first_value f (codes "DEV") → None ≡ judge_task (rows_of f)
-judge_unfound f is = ap (λ x. option_and_then (λ d. option_map (JudgeHistory d) (first_of (codes "HISTORY") (rows_of f))) x) (is ∙ first_value-rows f (codes "DEV"))
+-- without a development nothing is asked for
+pub two_unfound : (task : List ℕ → List ℕ → Task) (name : Text) (f : Found) → None ≡ first_value f (codes "DEV") → None ≡ two_file_task task name (rows_of f)
+two_unfound task name f is = ap (λ x. option_and_then (λ d. option_map (task d) (first_of name (rows_of f))) x) (is ∙ first_value-rows f (codes "DEV"))

@@ -7,7 +7,7 @@ use Rattle.clap.specs.declared.builder.action.ArgAction.TheVariants.{Set}
 use Rattle.clap.specs.declared.error.kind.ErrorKind.{ErrorKind}
 use Rattle.clap.specs.declared.error.kind.ErrorKind.TheVariants.{DisplayHelp, DisplayVersion}
 use Rattle.lincheck.specs.declared.command_line.Request.{Request}
-use Rattle.lincheck.specs.declared.command_line.Request.TheVariants.{Formula, Judge}
+use Rattle.lincheck.specs.declared.command_line.Request.TheVariants.{Formula, Judge, Check}
 
 -- a required argument that names a file
 abbrev pub file_rule : Text → Rule
@@ -21,39 +21,51 @@ formula_app = with_rule (new_app (codes "formula")) (file_rule (codes "FILE"))
 abbrev pub judge_app : App
 judge_app = with_rule (with_rule (new_app (codes "judge")) (file_rule (codes "DEV"))) (file_rule (codes "HISTORY"))
 
+-- `check DEV CERT`
+abbrev pub check_app : App
+check_app = with_rule (with_rule (new_app (codes "check")) (file_rule (codes "DEV"))) (file_rule (codes "CERT"))
+
 -- a command of this name that needs a subcommand
 abbrev pub needs_subcommand : Text → App
 needs_subcommand name = record { top = record (new_app name).top { subcommand_required = true }; subs = [] }
 
+-- the program with the commands that read no certificate
+abbrev pub first_app : App
+first_app = with_subcommand (with_subcommand (needs_subcommand (codes "lincheck")) formula_app.top) judge_app.top
+
 -- the program and its commands
 abbrev pub program_app : App
-program_app = with_subcommand (with_subcommand (needs_subcommand (codes "lincheck")) formula_app.top) judge_app.top
+program_app = with_subcommand first_app check_app.top
 
--- What may be asked for: that the proof in the file at a path is checked, or that the history in one file is judged by
--- the specification in another
+-- What may be asked for: that the proof in the file at a path is checked; that the history in one file is judged by the
+-- specification in another; or that the certificate in one file is checked against the development in another
 pub data Task : Type 0 where
   CheckFormula : (path : List ℕ) → Task
   JudgeHistory : (development history : List ℕ) → Task
+  CheckCertificate : (development certificate : List ℕ) → Task
 
 -- the task of a request
 abbrev pub task_of : Request → Task
 task_of (Formula path) = CheckFormula path.now
 task_of (Judge development history) = JudgeHistory development.now history.now
+task_of (Check development certificate) = CheckCertificate development.now certificate.now
 
--- the task of the command `formula` with these arguments
-abbrev pub formula_task : List Row → Option Task
-formula_task rows = option_map CheckFormula (first_of (codes "FILE") rows)
+-- the task with the file that these arguments name so
+abbrev pub one_file_task : (List ℕ → Task) → Text → List Row → Option Task
+one_file_task task name rows = option_map task (first_of name rows)
 
--- the task of the command `judge` with these arguments
-abbrev pub judge_task : List Row → Option Task
-judge_task rows = option_and_then (λ development. option_map (JudgeHistory development) (first_of (codes "HISTORY") rows)) (first_of (codes "DEV") rows)
+-- the task with a development and the file that these arguments name so
+abbrev pub two_file_task : (List ℕ → List ℕ → Task) → Text → List Row → Option Task
+two_file_task task name rows = option_and_then (λ development. option_map (task development) (first_of name rows)) (first_of (codes "DEV") rows)
 
 -- the task of a command with its arguments
 abbrev pub task_in_command : Text × List Row → Option Task
 task_in_command c =
     if bytes_eq c.0 (codes "formula")
-    then formula_task c.1
-    else (if bytes_eq c.0 (codes "judge") then judge_task c.1 else None)
+    then one_file_task CheckFormula (codes "FILE") c.1
+    else (if bytes_eq c.0 (codes "judge")
+    then two_file_task JudgeHistory (codes "HISTORY") c.1
+    else (if bytes_eq c.0 (codes "check") then two_file_task CheckCertificate (codes "CERT") c.1 else None))
 
 -- the task of a command with its arguments, if there is one
 abbrev pub task_in : Option (Text × List Row) → Option Task
@@ -92,12 +104,18 @@ formula_words name path = name ∷ codes "formula" ∷ path ∷ []
 abbrev pub judge_words : List ℕ → List ℕ → List ℕ → List Text
 judge_words name development history = name ∷ codes "judge" ∷ development ∷ history ∷ []
 
+-- `NAME check PATH PATH`
+abbrev pub check_words : List ℕ → List ℕ → List ℕ → List Text
+check_words name development certificate = name ∷ codes "check" ∷ development ∷ certificate ∷ []
+
 -- the words that ask for a task
 abbrev pub words_for : List ℕ → Task → List Text
 words_for name (CheckFormula path) = formula_words name path
 words_for name (JudgeHistory development history) = judge_words name development history
+words_for name (CheckCertificate development certificate) = check_words name development certificate
 
 -- none of its paths begins with a hyphen
 abbrev pub HasPlainPaths : Task → Type 0
 HasPlainPaths (CheckFormula path) = is_plain path ≡ true
 HasPlainPaths (JudgeHistory development history) = (is_plain development ≡ true) × (is_plain history ≡ true)
+HasPlainPaths (CheckCertificate development certificate) = (is_plain development ≡ true) × (is_plain certificate ≡ true)

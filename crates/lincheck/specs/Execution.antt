@@ -4,7 +4,10 @@ use Rattle.std.specs.Io.KnownBytes.{Keeps, Appends}
 use Rattle.lc_reading.specs.Files.{Says}
 use Rattle.lc_spec_text.specs.Specifications.{first_reading}
 use Rattle.lc_seq.specs.Specification.{Specification}
-use Rattle.lincheck.specs.CommandLine.{Task, CheckFormula, JudgeHistory}
+use Rattle.lc_outline.specs.Development.{Development}
+use Rattle.lc_outline_text.specs.Developments.{file_reading}
+use Rattle.lincheck.specs.Check.{AnswersCheck}
+use Rattle.lincheck.specs.CommandLine.{Task, CheckFormula, JudgeHistory, CheckCertificate}
 use Rattle.lincheck.specs.Formula.{AnswersFormula}
 use Rattle.lincheck.specs.Judge.{AnswersJudge}
 
@@ -13,13 +16,18 @@ abbrev pub AnswersTask : (List ℕ → Option (List ℕ)) → Task → List ℕ 
 AnswersTask bytes_at (CheckFormula path) text status = IfSome (bytes_at path) (λ file. AnswersFormula file text status)
 AnswersTask bytes_at (JudgeHistory development history) text status =
     IfSome (bytes_at development) (λ file. AnswersJudge file (bytes_at history) text status)
+AnswersTask bytes_at (CheckCertificate development certificate) text status =
+    IfSome (bytes_at development) (λ file. AnswersCheck file (bytes_at certificate) text status)
 
--- A file that a task needs cannot be opened: the only one or the development; or the history, where the development is read
+-- A file that a task needs cannot be opened: the only one or the development; or the other, where the development is read
 abbrev pub IsUnread : (List ℕ → Type 0) → (List ℕ → Option (List ℕ)) → Task → Type 0
 IsUnread CannotOpen bytes_at (CheckFormula path) = CannotOpen path
 IsUnread CannotOpen bytes_at (JudgeHistory development history) =
     CannotOpen development
     ⊎ ((file : List ℕ) × (spec : Specification) × (bytes_at development ≡ Some file) × Says first_reading file spec × CannotOpen history)
+IsUnread CannotOpen bytes_at (CheckCertificate development certificate) =
+    CannotOpen development
+    ⊎ ((file : List ℕ) × (D : Development) × (bytes_at development ≡ Some file) × Says file_reading file D × CannotOpen certificate)
 
 -- The program ends: with a fault of reading, or for want of memory, and nothing is printed; or with an answer of which
 -- this holds, which is printed behind what stood on standard output, unless there is a fault of writing

@@ -4,4 +4,5 @@ pub mod Answers
 pub mod Reading
 pub mod Formula
 pub mod Judge
+pub mod Check
 pub mod Execution

@@ -1,9 +1,9 @@
 //! The command line: its commands, and what each says of itself when it is asked for help.
-ghost use Rattle.std.specs.Prelude.{◌≡◌, ◌⊎◌, ℕ, List, IfOk, IfErr, IsErrAnd, true, false, option_map};
+ghost use Rattle.std.specs.Prelude.{◌≡◌, ◌⊎◌, ℕ, List, codes, IfOk, IfErr, IsErrAnd, true, false, option_map};
 ghost use Rattle.clap.specs.Words.{app_of, found_of, kind_of, rows_of, rule_of, subcommand_rows_of};
 ghost use Rattle.clap.specs.declared.builder.command.Command.TheViews.{out-Command};
 ghost use Rattle.clap.specs.declared.error.kind.ErrorKind.TheVariants.{OutOfMemory};
-ghost use Rattle.lincheck.specs.CommandLine.{AreWrong, AskForHelp, AsksForText, HasPlainPaths, Reads, Task, file_rule, formula_app, formula_task, judge_app, judge_task, program_app, task_in, task_of, texts_of, words_for};
+ghost use Rattle.lincheck.specs.CommandLine.{AreWrong, AskForHelp, AsksForText, HasPlainPaths, CheckCertificate, CheckFormula, JudgeHistory, Reads, Task, check_app, file_rule, first_app, formula_app, judge_app, one_file_task, program_app, task_in, task_of, texts_of, two_file_task, words_for};
 
 use clap::error::ErrorKind;
 use clap::{Arg, ArgAction, ArgMatches, Command, Error};
@@ -18,6 +18,11 @@ pub enum Request<'a> {
     Judge {
         development: &'a str,
         history: &'a str,
+    },
+    /// Check the certificate in a file against the development in another.
+    Check {
+        development: &'a str,
+        certificate: &'a str,
     },
 }
 
@@ -37,7 +42,9 @@ Examples:
   lincheck formula examples/first.formula
       reads a statement with its proof, and prints `proved`
   lincheck judge examples/counter.spec examples/linearizable.json
-      reads how two clients counted at the same time, and prints `linearizable`";
+      reads how two clients counted at the same time, and prints `linearizable`
+  lincheck check examples/counter.lc examples/counter.cert
+      reads what is claimed of a counter, with the proofs, and prints `accepted counter 59`";
 
 static FORMULA: &str = "Checks the proof of one formula";
 
@@ -87,6 +94,35 @@ Example:
   lincheck judge examples/counter.spec examples/linearizable.json
       reads how two clients counted at the same time, and prints `linearizable`";
 
+static DEVELOPMENT: &str =
+    "A development: a specification, the object's code, and what is claimed of it";
+
+static CHECK: &str = "Checks that a certificate proves a development";
+
+static CERTIFICATE_FILE: &str =
+    "A certificate: one form with a proof for each condition, by its number";
+
+static CHECK_ANSWER: &str = "\
+Reads DEV and, where it is a development, CERT. Prints `accepted NAME COUNT`, the name of the object and how many
+conditions it has, if CERT has a proof for each of them and each step holds. Then for every number of clients, however
+their steps come between each other, the history of their calls and returns is linearizable. Else it prints one line:
+  refused 1 OFFSET      the byte there makes DEV no s-expressions
+  refused 2 ITEM        the item of DEV does not fit the grammar
+  refused 3 ITEM        the name is not declared
+  refused 4 ITEM        the name is declared twice, or reserved
+  refused 5 ITEM        the code reads a column that is not its own
+  refused 6 ITEM        a number or a count is beyond a limit
+  refused 7 OFFSET      the byte there makes CERT no s-expressions
+  refused 8 ITEM        the item of CERT does not fit
+  refused 9 K           condition K has no proof
+  refused 10 K          there is no condition K
+  refused 11 K STEP R   the step of the proof of condition K does not hold, for reason R
+  refused 12 K STEP     the arithmetic of the step leaves 128 bits
+
+Example:
+  lincheck check examples/counter.lc examples/counter.cert
+      prints `accepted counter 59`";
+
 /// An argument that names a file.
 fn file<'a>(alloc: Global, name: &'a str, help: &'a str) -> Arg<'a>
     ensures rule { rule_of result ≡ file_rule name.entry.now }
@@ -119,8 +155,20 @@ fn judge_command<'a>(alloc: Global) -> Result<Command<'a>, AllocError>
         .arg(file(alloc, "HISTORY", JUDGE_HISTORY))
 }
 
-fn program<'a>(alloc: Global) -> Result<Command<'a>, AllocError>
-    ensures { IfOk result (λ command. app_of command ≡ program_app) }
+fn check_command<'a>(alloc: Global) -> Result<Command<'a>, AllocError>
+    ensures app { IfOk result (λ command. app_of command ≡ check_app) }
+    ensures local { IfOk result (λ command. (out-Command command).has_globals ≡ false) }
+{
+    Command::new(alloc, "check")
+        .about(CHECK)
+        .after_help(CHECK_ANSWER)
+        .arg(file(alloc, "DEV", DEVELOPMENT))?
+        .arg(file(alloc, "CERT", CERTIFICATE_FILE))
+}
+
+/// The program with the commands that read no certificate.
+fn first_commands<'a>(alloc: Global) -> Result<Command<'a>, AllocError>
+    ensures { IfOk result (λ command. app_of command ≡ first_app) }
 {
     Command::new(alloc, "lincheck")
         .about(ABOUT)
@@ -130,21 +178,38 @@ fn program<'a>(alloc: Global) -> Result<Command<'a>, AllocError>
         .subcommand(judge_command(alloc)?)
 }
 
+fn program<'a>(alloc: Global) -> Result<Command<'a>, AllocError>
+    ensures { IfOk result (λ command. app_of command ≡ program_app) }
+{
+    first_commands(alloc)?.subcommand(check_command(alloc)?)
+}
+
 fn formula_request<'a>(command: &ArgMatches<'a>) -> Option<Request<'a>>
-    ensures { option_map task_of result ≡ formula_task (rows_of (found_of command.now)) }
+    ensures { option_map task_of result ≡ one_file_task CheckFormula (codes "FILE") (rows_of (found_of command.now)) }
 {
     let file = command.get_str("FILE")?;
     Some(Request::Formula(file))
 }
 
 fn judge_request<'a>(command: &ArgMatches<'a>) -> Option<Request<'a>>
-    ensures { option_map task_of result ≡ judge_task (rows_of (found_of command.now)) }
+    ensures { option_map task_of result ≡ two_file_task JudgeHistory (codes "HISTORY") (rows_of (found_of command.now)) }
 {
     let development = command.get_str("DEV")?;
     let history = command.get_str("HISTORY")?;
     Some(Request::Judge {
         development,
         history,
+    })
+}
+
+fn check_request<'a>(command: &ArgMatches<'a>) -> Option<Request<'a>>
+    ensures { option_map task_of result ≡ two_file_task CheckCertificate (codes "CERT") (rows_of (found_of command.now)) }
+{
+    let development = command.get_str("DEV")?;
+    let certificate = command.get_str("CERT")?;
+    Some(Request::Check {
+        development,
+        certificate,
     })
 }
 
@@ -156,6 +221,7 @@ fn request_of<'a>(matches: &ArgMatches<'a>) -> Option<Request<'a>>
     match name {
         "formula" => formula_request(command),
         "judge" => judge_request(command),
+        "check" => check_request(command),
         _ => None,
     }
 }

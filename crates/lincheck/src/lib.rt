@@ -2,6 +2,7 @@
 #![tactic(auto)]
 
 mod answer;
+mod check;
 mod command_line;
 mod disk;
 mod files;

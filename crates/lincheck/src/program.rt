@@ -1,13 +1,15 @@
 ghost use Rattle.std.specs.Prelude.{◌≡◌, ◌⊎◌, ℕ, List, true, IfOk, IfSome, IsErr, OnOk};
 ghost use Rattle.std.specs.Io.KnownBytes.{Appends};
 ghost use Rattle.clap.specs.Words.{kind_of};
-ghost use Rattle.lincheck.specs.CommandLine.{AreWrong, AskForHelp, AsksForText, HasPlainPaths, Task, formula_words, is_plain, judge_words, task_of, texts_of, words_for};
+ghost use Rattle.lincheck.specs.CommandLine.{AreWrong, AskForHelp, AsksForText, HasPlainPaths, Task, check_words, formula_words, is_plain, judge_words, task_of, texts_of, words_for};
+ghost use Rattle.lincheck.specs.Check.{AnswersCheck};
 ghost use Rattle.lincheck.specs.Execution.{AnswersTask, Ends, IsUnread};
 ghost use Rattle.lincheck.specs.Formula.{AnswersFormula};
 ghost use Rattle.lincheck.specs.Judge.{AnswersJudge};
 ghost use Rattle.lincheck.specs.Status.{status_of};
 
 use crate::answer::{Answer, COMMAND_LINE_FAULT, Failure, SUCCESS};
+use crate::check::answer_check;
 use crate::command_line::{Request, read_words};
 use crate::files::Files;
 use crate::formula::answer_formula;
@@ -32,6 +34,10 @@ fn answer<'a, F: Files>(
             development,
             history,
         } => answer_judge(alloc, files, development, history),
+        Request::Check {
+            development,
+            certificate,
+        } => answer_check(alloc, files, development, certificate),
     }
 }
 
@@ -98,6 +104,8 @@ pub fn execute<F: Files, O: Write, E: Write>(
         → Ends (λ text status. IfSome (F.bytes_at files.old path) (λ file. AnswersFormula file text status)) (O.contents out.old) (O.contents out.new) result }
     ensures judge { (name development history : List ℕ) → texts_of words.now ≡ judge_words name development history → is_plain development ≡ true → is_plain history ≡ true
         → Ends (λ text status. IfSome (F.bytes_at files.old development) (λ file. AnswersJudge file (F.bytes_at files.old history) text status)) (O.contents out.old) (O.contents out.new) result }
+    ensures check { (name development certificate : List ℕ) → texts_of words.now ≡ check_words name development certificate → is_plain development ≡ true → is_plain certificate ≡ true
+        → Ends (λ text status. IfSome (F.bytes_at files.old development) (λ file. AnswersCheck file (F.bytes_at files.old certificate) text status)) (O.contents out.old) (O.contents out.new) result }
     ensures unread { (name : List ℕ) (task : Task) → texts_of words.now ≡ words_for name task → HasPlainPaths task → IsUnread (F.CannotOpen files.old) (F.bytes_at files.old) task
         → ((result ≡ 3) ⊎ (result ≡ 4)) × (out.new ≡ out.old) }
     ensures help { AskForHelp (texts_of words.now) → ((result ≡ 0) ⊎ ((result ≡ 3) ⊎ (result ≡ 4))) × (files.new ≡ files.old) }

@@ -1,10 +1,11 @@
-use Rattle.std.proofs.Common.{None, Some}
+use Rattle.std.proofs.Common.{None, Some, codes}
 use Rattle.clap.specs.Words.{found_of}
-use Rattle.lincheck.proofs.Words.{formula_found}
+use Rattle.lincheck.specs.CommandLine.{CheckFormula}
+use Rattle.lincheck.proofs.Words.{one_found}
 use Rattle.lincheck.proofs.command_line.formula_request.Goals as goal
 
 pub returns-in_err-file : goal.returns-in_err-file
-returns-in_err-file c = rw c.from_residual.ensures (formula_found (found_of c.args.command.now) None c.in_err-file.ensures)
+returns-in_err-file c = rw c.from_residual.ensures (one_found CheckFormula (codes "FILE") (found_of c.args.command.now) None c.in_err-file.ensures)
 
 pub returns : goal.returns
-returns c = formula_found (found_of c.args.command.now) (Some c.in_ok-file.file.now) c.in_ok-file.ensures
+returns c = one_found CheckFormula (codes "FILE") (found_of c.args.command.now) (Some c.in_ok-file.file.now) c.in_ok-file.ensures

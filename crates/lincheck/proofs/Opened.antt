@@ -1,0 +1,94 @@
+-- What a development's file and a certificate's are answered, from the beginnings of them that are read.
+use Rattle.std.proofs.Common.{◌≡◌, ℕ, List, codes, Option, Some, None, IfSome, IfOk, Result, Ok, Err, refl, sym, ap, subst, ◌∙◌, inl, inr}
+use Rattle.std.specs.Prelude.{IsErr}
+use Rattle.lc_base.specs.declared.refusal.Fault.{Fault}
+use Rattle.lc_base.specs.declared.refusal.Fault.TheVariants.{Refused, OutOfMemory}
+use Rattle.lc_base.specs.declared.refusal.Refusal.{Refusal}
+use Rattle.lc_cert.specs.Certificates.{Entry}
+use Rattle.lc_cert.specs.Files as C
+use Rattle.lc_cert.specs.Readings.{certificate_reading}
+use Rattle.lc_check.specs.Verdicts.{IsProvenBy, IsCertificateRefusal}
+use Rattle.lc_check.specs.VerdictView.{IsVerdictOn, development_in}
+use Rattle.lc_check.specs.declared.verdict.Verdict.{Verdict}
+use Rattle.lc_check.specs.declared.verdict.Verdict.TheVariants.{Accepted, Refused as IsRefused}
+use Rattle.lc_outline.specs.Development as S
+use Rattle.lc_outline.specs.DevelopmentView.{development_shown}
+use Rattle.lc_outline.specs.declared.development.Development.{Development}
+use Rattle.lc_outline_text.specs.Developments.{file_reading}
+use Rattle.lc_reading.proofs.Files.{says_not_refused}
+use Rattle.lc_reading.specs.Files.{Says, IsFirstRefusal, IsAnswerTo}
+use Rattle.lincheck.specs.Answers.{ToldFault}
+use Rattle.lincheck.specs.CommandLine.{CheckCertificate}
+use Rattle.lincheck.specs.Check.{TellsRefusal, OpensAs, AnswersCertificate, AnswersCheck, TellsVerdict, accepted_line}
+use Rattle.lincheck.specs.Execution.{IsUnread}
+use Rattle.lincheck.specs.Reading.{within_limit}
+use Rattle.lincheck.specs.declared.answer.Answer.{Answer}
+use Rattle.lincheck.specs.declared.answer.Failure.{Failure}
+use Rattle.lincheck.proofs.Truncated.{said_of_whole, refusal_of_whole, fault_of_whole, reading_of_whole}
+
+-- what is read of a file says what the file says, or is refused as the file is
+pub opened : (known : Option (List ℕ)) (bytes seen : List ℕ) (d : Development) → IfSome known (λ file. bytes ≡ within_limit file) → seen ≡ bytes → Says file_reading seen (development_shown d)
+    → IfSome known (λ file. Says file_reading file (development_shown d))
+opened None bytes seen d read same says = tt
+opened (Some file) bytes seen d read same says = said_of_whole file_reading file (development_shown d) (subst (λ b. Says file_reading b (development_shown d)) (same ∙ read) says)
+
+pub refused : (known : Option (List ℕ)) (bytes seen : List ℕ) (fault : Fault) (text : List ℕ) (status : ℕ) → IfSome known (λ file. bytes ≡ within_limit file) → seen ≡ bytes
+    → IsAnswerTo development_shown file_reading seen (Err fault) → ToldFault fault text status → IfSome known (λ file. TellsRefusal file text status)
+refused None bytes seen fault text status read same is told = tt
+refused (Some file) bytes seen (Refused refusal) text status read same is told =
+    (refusal, refusal_of_whole file_reading file refusal (subst (λ b. IsFirstRefusal file_reading b refusal) (same ∙ read) is), told)
+refused (Some file) bytes seen OutOfMemory text status read same is told = absurd told
+
+-- ---- a certificate
+
+-- what the beginning of a file proves and is refused for, so is the file
+proven_of_whole : (D : S.Development) (file : List ℕ) → IsProvenBy D (within_limit file) → IsProvenBy D file
+proven_of_whole D file (es, certifies, proves) = (es, said_of_whole (certificate_reading D) file es certifies, proves)
+
+certificate_of_whole : (D : S.Development) (file : List ℕ) (refusal : Refusal) → C.IsFirstRefusal D (within_limit file) refusal → C.IsFirstRefusal D file refusal
+certificate_of_whole D file refusal (inl (offset, is, fault)) = inl (offset, is, fault_of_whole 16777217 file offset refl fault)
+certificate_of_whole D file refusal (inr (ts, flaw, reads, flawed, is)) = inr (ts, flaw, reading_of_whole 16777217 file ts refl reads, flawed, is)
+
+refusal_of_certificate : (D : S.Development) (file : List ℕ) (refusal : Refusal) → IsCertificateRefusal D (within_limit file) refusal → IsCertificateRefusal D file refusal
+refusal_of_certificate D file refusal (inl first) = inl (certificate_of_whole D file refusal first)
+refusal_of_certificate D file refusal (inr (es, certifies, refuses)) = inr (es, said_of_whole (certificate_reading D) file es certifies, refuses)
+
+-- the verdict on what is read of it, told, answers the file
+verdict_told : (D : S.Development) (file : List ℕ) (verdict : Verdict) (text : List ℕ) (status : ℕ) → IsVerdictOn D (within_limit file) verdict → TellsVerdict verdict text status → AnswersCertificate D file text status
+verdict_told D file (Accepted accepted) text status (same, proven) (is, zero) = inl (proven_of_whole D file proven, is ∙ ap accepted_line same, zero)
+verdict_told D file (IsRefused refusal) text status refuses told = inr (refusal, refusal_of_certificate D file refusal refuses, told)
+
+pub certificate_answered : (D : S.Development) (known : Option (List ℕ)) (bytes seen : List ℕ) (verdict : Verdict) (text : List ℕ) (status : ℕ)
+    → IfSome known (λ file. bytes ≡ within_limit file) → seen ≡ bytes → IsVerdictOn D seen verdict → TellsVerdict verdict text status
+    → IfSome known (λ file. AnswersCertificate D file text status)
+certificate_answered D None bytes seen verdict text status read same is told = tt
+certificate_answered D (Some file) bytes seen verdict text status read same is told =
+    verdict_told D file verdict text status (subst (λ b. IsVerdictOn D b verdict) (same ∙ read) is) told
+
+-- ---- both files
+
+pub check_refused : (known certificate : Option (List ℕ)) (text : List ℕ) (status : ℕ) → IfSome known (λ file. TellsRefusal file text status)
+    → IfSome known (λ file. AnswersCheck file certificate text status)
+check_refused None certificate text status tells = tt
+check_refused (Some file) certificate text status tells = inl tells
+
+pub check_answered : (known certificate certificate' : Option (List ℕ)) (D : S.Development) (result : Result Answer Failure) → IfSome known (λ file. Says file_reading file D) → certificate' ≡ certificate
+    → IfOk result (λ answer. IfSome certificate' (λ file. AnswersCertificate D file answer.text.items answer.status))
+    → IfOk result (λ answer. IfSome known (λ file. AnswersCheck file certificate answer.text.items answer.status))
+check_answered None certificate certificate' D (Ok answer) says keeps answers = tt
+check_answered (Some file) certificate certificate' D (Ok answer) says keeps answers =
+    inr (D, says, subst (λ c. IfSome c (λ f. AnswersCertificate D f answer.text.items answer.status)) keeps answers)
+check_answered known certificate certificate' D (Err failure) says keeps answers = tt
+
+-- where a file that is needed cannot be opened, there is no answer: a development that is refused says nothing
+pub check_unread : {T E : Type 0} (CannotOpen : List ℕ → Type 0) (bytes_at : List ℕ → Option (List ℕ)) (development certificate : List ℕ) (result : Result T E)
+    → (CannotOpen development → ⊥) → (CannotOpen certificate → IsErr result) → IsUnread CannotOpen bytes_at (CheckCertificate development certificate) → IsErr result
+check_unread CannotOpen bytes_at development certificate result opens none (inl closed) = absurd (opens closed)
+check_unread CannotOpen bytes_at development certificate result opens none (inr (file, D, known, says, closed)) = none closed
+
+pub refused_opens : (CannotOpen : List ℕ → Type 0) (bytes_at : List ℕ → Option (List ℕ)) (development certificate : List ℕ) (text : List ℕ) (status : ℕ)
+    → (CannotOpen development → ⊥) → IfSome (bytes_at development) (λ file. TellsRefusal file text status) → IsUnread CannotOpen bytes_at (CheckCertificate development certificate) → ⊥
+refused_opens CannotOpen bytes_at development certificate text status opens tells (inl closed) = opens closed
+refused_opens CannotOpen bytes_at development certificate text status opens tells (inr (file, D, known, says, closed)) =
+    let refuses : TellsRefusal file text status = subst (λ o. IfSome o (λ f. TellsRefusal f text status)) known tells in
+    says_not_refused file_reading file D refuses.0 says refuses.1

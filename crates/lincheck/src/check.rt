@@ -1,0 +1,89 @@
+//! The command `check`.
+ghost use Rattle.std.specs.Prelude.{◌≡◌, ℕ, List, IfOk, IfSome, IsErr};
+ghost use Rattle.lc_outline.specs.DevelopmentView.{development_shown};
+ghost use Rattle.lc_check.specs.VerdictView.{development_in};
+ghost use Rattle.lincheck.specs.CommandLine.{CheckCertificate};
+ghost use Rattle.lincheck.specs.Check.{AnswersCertificate, AnswersCheck, OpensAs, TellsVerdict, accepted_line};
+ghost use Rattle.lincheck.specs.Execution.{IsUnread};
+
+use crate::answer::{Answer, Failure, SUCCESS, told_fault};
+use crate::files::Files;
+use crate::reading::read_file;
+use lc_base::{Fault, OutOfMemory, write_line};
+use lc_check::{Accepted, Verdict, check_certificate};
+use lc_outline::Development;
+use lc_outline_text::development_of;
+use std::alloc::Global;
+
+/// The development in the file at a path; else the answer that tells its first refusal.
+pub fn open_development<'a, F: Files>(
+    alloc: Global,
+    files: &mut F,
+    path: &'a str,
+) -> Result<Result<Development, Answer>, Failure<'a>>
+    ensures keeps { (other : List ℕ) → F.bytes_at files.new other ≡ F.bytes_at files.old other }
+    ensures closed { (other : List ℕ) → F.CannotOpen files.old other → F.CannotOpen files.new other }
+    ensures unread { F.CannotOpen files.old path.now → IsErr result }
+    ensures opens { IfOk result (λ opened. IfSome (F.bytes_at files.old path.now) (λ file. OpensAs file opened)) }
+{
+    let bytes = read_file(alloc, files, path)?;
+    match development_of(alloc, &bytes) {
+        Ok(development) => Ok(Ok(development)),
+        Err(fault) => Ok(Err(told_fault(alloc, fault)?)),
+    }
+}
+
+/// The line `accepted`, with the name of the object and the number of the conditions.
+fn accepted_line(alloc: Global, accepted: &Accepted) -> Result<Vec<u8>, OutOfMemory>
+    ensures { IfOk result (λ line. line.items ≡ accepted_line (development_in accepted.now)) }
+{
+    let mut word = String::new(alloc);
+    word.push_str("accepted ")?;
+    word.push_str(accepted.name())?;
+    write_line(alloc, &word, &[accepted.count()])
+}
+
+/// A verdict, told by its line and status.
+fn tell_verdict(alloc: Global, verdict: &Verdict) -> Result<Answer, OutOfMemory>
+    ensures { IfOk result (λ answer. TellsVerdict verdict.now answer.text.items answer.status) }
+{
+    match verdict {
+        Verdict::Accepted(accepted) => Ok(Answer {
+            text: accepted_line(alloc, accepted)?,
+            status: SUCCESS,
+        }),
+        Verdict::Refused(refusal) => told_fault(alloc, Fault::Refused(*refusal)),
+    }
+}
+
+/// The answer to the certificate at a path, of a development.
+fn answer_certificate<'a, F: Files>(
+    alloc: Global,
+    files: &mut F,
+    development: Development,
+    path: &'a str,
+) -> Result<Answer, Failure<'a>>
+    ensures unread { F.CannotOpen files.old path.now → IsErr result }
+    ensures answers { IfOk result (λ answer. IfSome (F.bytes_at files.old path.now) (λ file. AnswersCertificate (development_shown development) file answer.text.items answer.status)) }
+{
+    let bytes = read_file(alloc, files, path)?;
+    let verdict = check_certificate(alloc, development, &bytes)?;
+    Ok(tell_verdict(alloc, &verdict)?)
+}
+
+/// The answer of the command `check` to the development and the certificate at two paths. Where the development is refused,
+/// the certificate is not opened.
+pub fn answer_check<'a, F: Files>(
+    alloc: Global,
+    files: &mut F,
+    development: &'a str,
+    certificate: &'a str,
+) -> Result<Answer, Failure<'a>>
+    ensures unread { IsUnread (F.CannotOpen files.old) (F.bytes_at files.old) (CheckCertificate development.now certificate.now) → IsErr result }
+    ensures answers { IfOk result (λ answer. IfSome (F.bytes_at files.old development.now) (λ file. AnswersCheck file (F.bytes_at files.old certificate.now) answer.text.items answer.status)) }
+{
+    match open_development(alloc, files, development)? {
+        Ok(development) => answer_certificate(alloc, files, development, certificate),
+        Err(answer) => Ok(answer),
+    }
+}
