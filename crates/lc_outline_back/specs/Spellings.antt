@@ -2,6 +2,7 @@
 use Rattle.std.specs.Prelude.{◌≡◌, ℕ, false, List, Some}
 use Rattle.lc_base.specs.declared.ids.ColId.{ColId}
 use Rattle.lc_text.specs.Names.{Names}
+use Rattle.lc_text.specs.Spelled.{binder}
 use Rattle.lc_text.specs.Spelling.{Spelled}
 use Rattle.lc_text.specs.declared.scope.ColumnUse.TheVariants.{Usable}
 use Rattle.lc_text.specs.declared.scope.Extra.TheVariants.{BuiltColumns, NumberedVariables}
@@ -12,3 +13,7 @@ pub record IsSpelledSo (names : Names) (by : Spelled) : Type 0 where
   pub columns : (w : List ℕ) (c : ColId) → names.column w ≡ Usable c → by.column c.0 ≡ w
   pub unnumbered : names.allows NumberedVariables ≡ false
   pub unbuilt : names.allows BuiltColumns ≡ false
+
+-- no variable is named as one that is printed of a quantifier
+abbrev pub AreUnbound : Names → Type 0
+AreUnbound names = (w : List ℕ) (k d : ℕ) → names.variable w ≡ Some k → w ≡ binder d → ⊥

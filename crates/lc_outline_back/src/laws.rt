@@ -1,5 +1,5 @@
 //! What holds of printed text. Each function is a law: it does nothing, and its contract is the law.
-ghost use Rattle.std.specs.Prelude.{◌≡◌, ℕ, ℤ, false, []};
+ghost use Rattle.std.specs.Prelude.{◌≡◌, ◌≤◌, ◌^◌, ℕ, ℤ, false, List, [], ◌++◌, map};
 ghost use Rattle.std.specs.Fmt.{signed_decimal};
 ghost use Rattle.lc_reading.specs.Readings.{fine};
 ghost use Rattle.lc_sexp.specs.Trees.{Tree, atom, item_count};
@@ -10,7 +10,15 @@ ghost use Rattle.lc_text.specs.SpelledTree.{formula_tree, term_tree};
 ghost use Rattle.lc_text.specs.Spelling.{Spelled};
 ghost use Rattle.lc_text.specs.Terms.{number_reading, term_reading};
 ghost use Rattle.lc_text.specs.declared.scope.Extra.TheVariants.{Quantifiers};
-ghost use Rattle.lc_outline_back.specs.Spellings.{IsSpelledSo};
+ghost use Rattle.lc_seq.specs.Specification.{Column, Specification};
+ghost use Rattle.lc_spec_text.specs.Specifications.{specification_reading};
+ghost use Rattle.lc_object.specs.Syntax.{Instr, Object};
+ghost use Rattle.lc_object_text.specs.CodeNames.{CodeNames};
+ghost use Rattle.lc_object_text.specs.Instructions.{instruction_reading};
+ghost use Rattle.lc_outline_back.specs.Instructions.{instruction_tree};
+ghost use Rattle.lc_outline_back.specs.Specifications.{specification_tree};
+ghost use Rattle.lc_outline_back.specs.CodeSpelled.{AreCodeNames};
+ghost use Rattle.lc_outline_back.specs.Spellings.{IsSpelledSo, AreUnbound};
 
 /// A number is printed as it stood.
 pub fn numbers_are_printed_as_they_stood()
@@ -24,4 +32,22 @@ pub fn formulas_are_printed_as_they_stood()
         formula_reading names [] n t ≡ fine f → formula_tree by 0 f ≡ t }
     ensures items { (names : Names) (by : Spelled) (n : ℕ) (t : Tree) (f : Formula) → IsSpelledSo names by → formula_reading names [] n t ≡ fine f →
         item_count (formula_tree by 0 f) ≡ item_count t }
+{}
+
+/// What is printed of a formula that is read reads as the same formula, where no variable is named as one of a quantifier is printed.
+pub fn printed_formulas_read_back()
+    ensures { (names : Names) (by : Spelled) (n : ℕ) (t : Tree) (f : Formula) → IsSpelledSo names by → AreUnbound names → item_count t ≤ 2 ^ 32 →
+        formula_reading names [] n t ≡ fine f → formula_reading names [] n (formula_tree by 0 f) ≡ fine f }
+{}
+
+/// A specification is printed as it stood, where the names of its columns are the first of those that columns are printed by.
+pub fn specifications_are_printed_as_they_stood()
+    ensures { (others names rest : List (List ℕ)) (n : ℕ) (t : Tree) (s : Specification) → specification_reading others n t ≡ fine s →
+        names ≡ map (λ (c : Column). c.name) s.columns ++ rest → specification_tree names s ≡ t }
+{}
+
+/// An instruction is printed as it stood, where its names are printed as they are read.
+pub fn instructions_are_printed_as_they_stood()
+    ensures { (names : Names) (code : CodeNames) (by : Spelled) (object : Object) (n : ℕ) (t : Tree) (i : Instr) → AreCodeNames names code by object →
+        instruction_reading names code n t ≡ fine i → instruction_tree object by i ≡ t }
 {}
