@@ -8,3 +8,4 @@ pub mod Behind
 pub mod Written
 pub mod Spelled
 pub mod Kept
+pub mod Sized

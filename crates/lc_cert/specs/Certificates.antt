@@ -1,6 +1,7 @@
 -- Certificates: proofs by numbers that rise.
-use Rattle.std.specs.Prelude.{ℕ, Bool, true, ◌&&◌, ◌==◌, nat_lt, if◌then◌else◌, List, [], ◌∷◌, Option, Some, None}
-use Rattle.lc_kernel.specs.Proofs.{Proof}
+use Rattle.std.specs.Prelude.{ℕ, ◌≤◌, Bool, true, ◌&&◌, ◌==◌, nat_lt, if◌then◌else◌, List, [], ◌∷◌, Option, Some, None}
+use Rattle.lc_term.specs.Lists.{Every}
+use Rattle.lc_kernel.specs.Proofs.{Proof, size}
 
 -- a proof, and the number of the condition that it is to prove
 pub record Entry : Type 0 where
@@ -21,3 +22,7 @@ is_rising last (e ∷ es) = is_above last e.number && is_rising (Some e.number) 
 abbrev pub proof_at : List Entry → ℕ → Option Proof
 proof_at [] k = None
 proof_at (e ∷ es) k = if e.number == k then Some e.proof else proof_at es k
+
+-- no proof has more steps than a file has bytes
+abbrev pub HaveFewSteps : List Entry → Type 0
+HaveFewSteps es = Every (λ (e : Entry). size e.proof ≤ 16777216) es

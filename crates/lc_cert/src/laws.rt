@@ -3,18 +3,19 @@ ghost use Rattle.std.specs.Prelude.{◌≡◌, ◌⊎◌, ℕ, true, None, List}
 ghost use Rattle.lc_base.specs.declared.refusal.Refusal.{Refusal};
 ghost use Rattle.lc_outline.specs.Development.{Development};
 ghost use Rattle.lc_term.specs.Lists.{Every};
-ghost use Rattle.lc_cert.specs.Certificates.{Entry, is_rising};
+ghost use Rattle.lc_cert.specs.Certificates.{Entry, is_rising, HaveFewSteps};
 ghost use Rattle.lc_cert.specs.Files.{Certifies, IsFirstRefusal};
 ghost use Rattle.lc_cert.specs.Printed.{certificate_line, EntryReadsBack, IsPrintable};
 
 /// All bytes are a certificate of a development, with one list of entries, or they have one first refusal; and never both.
-/// The numbers of its entries rise.
+/// The numbers of its entries rise, and no proof has more steps than a file has bytes.
 pub fn a_certificate_is_read_or_refused()
     ensures one { (D : Development) (bytes : List ℕ) → ((es : List Entry) × Certifies D bytes es) ⊎ ((refusal : Refusal) × IsFirstRefusal D bytes refusal) }
     ensures not_both { (D : Development) (bytes : List ℕ) (es : List Entry) (refusal : Refusal) → Certifies D bytes es → IsFirstRefusal D bytes refusal → ⊥ }
     ensures one_certificate { (D : Development) (bytes : List ℕ) (es fs : List Entry) → Certifies D bytes es → Certifies D bytes fs → es ≡ fs }
     ensures one_refusal { (D : Development) (bytes : List ℕ) (r s : Refusal) → IsFirstRefusal D bytes r → IsFirstRefusal D bytes s → r ≡ s }
     ensures rising { (D : Development) (bytes : List ℕ) (es : List Entry) → Certifies D bytes es → is_rising None es ≡ true }
+    ensures few_steps { (D : Development) (bytes : List ℕ) (es : List Entry) → Certifies D bytes es → HaveFewSteps es }
 {}
 
 /// What is printed of a certificate is, within the limits of nesting and size, a certificate of the same development with the

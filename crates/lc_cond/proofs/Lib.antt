@@ -1,5 +1,4 @@
 pub mod PartsList
-pub mod Printed
 pub mod Adding
 pub mod Made
 pub mod Replacing
@@ -10,5 +9,12 @@ pub mod Columned
 pub mod Counted
 pub mod Entered
 pub mod Crossed
-pub mod Names
-pub mod Lines
+pub mod VariableCounts
+pub mod Elements
+pub mod Below
+pub mod BelowStores
+pub mod BelowPaths
+pub mod BelowCode
+pub mod BelowConditions
+pub mod Parted
+pub mod Streamed

@@ -1,10 +1,12 @@
 pub mod Conditions
+pub mod Uses
 pub mod Listed
-pub mod ConditionText
 pub mod Counter
-pub mod CounterLines
 pub mod ConditionView
 pub mod Adding
 pub mod Heads
 pub mod Scenes
 pub mod Crossings
+pub mod VariableCounts
+pub mod PartView
+pub mod Stream

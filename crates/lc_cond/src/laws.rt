@@ -1,6 +1,10 @@
 //! Laws of the definitions: functions without effect, whose contracts are the laws.
-ghost use Rattle.lc_cond.specs.CounterLines.{CounterIsPrinted, HelpersAreNamed, NotesObserve};
 ghost use Rattle.lc_cond.specs.Listed.{PartsMakeTheList};
+ghost use Rattle.lc_cond.specs.Uses.{AllUseTheirVariables};
+ghost use Rattle.lc_cond.specs.VariableCounts.{AllHaveFewVariables};
+ghost use Rattle.lc_outline.specs.DevelopmentView.{development_shown};
+
+use lc_outline::Development;
 
 /// The list of a development's conditions is that of its parts, one after another: the start, the calls that begin, the edges
 /// of the code, the points, and idle.
@@ -8,10 +12,14 @@ pub fn parts_make_the_list()
     ensures { PartsMakeTheList }
 {}
 
-/// The conditions of the counter are these 59 lines, in this order. With a mark of another client's call there are 60, one of
-/// which asks which operation that client is in; with a note one asks that its branch stores nothing.
-pub fn counter_conditions()
-    ensures lines { CounterIsPrinted }
-    ensures named { HelpersAreNamed }
-    ensures observing { NotesObserve }
+/// Each condition of a development uses no variables but those that it counts: the free variables of its hypotheses and of
+/// its goal have numbers below that count.
+pub fn conditions_use_their_variables(development: &Development)
+    ensures { AllUseTheirVariables (development_shown development.now) }
+{}
+
+/// No condition of a development has more than 26 variables: the number of clients, a client, three arguments and 16 locals,
+/// and behind them another client and the parameters of its action.
+pub fn conditions_have_few_variables(development: &Development)
+    ensures { AllHaveFewVariables (development_shown development.now) }
 {}

@@ -12,15 +12,15 @@ mod list;
 mod lookup;
 mod making;
 mod matching;
-mod naming;
+mod part;
 mod paths;
 mod scene;
 mod stability;
 mod start;
+mod stream;
 mod telling;
-mod text;
 mod variables;
 
 pub use condition::{Condition, Kind, Passage, Place, Which};
 pub use list::conditions;
-pub use text::condition_text;
+pub use stream::ConditionStream;

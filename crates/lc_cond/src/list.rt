@@ -25,20 +25,22 @@ use lc_outline::Development;
 use lc_term::Terms;
 use std::alloc::Global;
 
-// The operations, the points and the edges of the object.
-fn operations_of(development: &Development) -> &[Operation]
+/// The operations of the object.
+pub(crate) fn operations_of(development: &Development) -> &[Operation]
     ensures { map operation_of result.now ≡ (development_shown development.now).object.operations }
 {
     &development.parts().object.parts().operations
 }
 
-fn points_of(development: &Development) -> &[Point]
+/// The points of the object.
+pub(crate) fn points_of(development: &Development) -> &[Point]
     ensures { map point_of result.now ≡ (development_shown development.now).object.points }
 {
     &development.parts().object.parts().points
 }
 
-fn edges_of(alloc: Global, development: &Development) -> Result<Vec<Edge>, OutOfMemory>
+/// The edges of the object.
+pub(crate) fn edges_of(alloc: Global, development: &Development) -> Result<Vec<Edge>, OutOfMemory>
     ensures { IfOk result (λ es. map edge_of es.items ≡ edges (development_shown development.now).object) }
 {
     edges(alloc, &development.parts().object)
@@ -125,8 +127,8 @@ fn push_stay(
     )
 }
 
-// The assertions at a point stay.
-fn push_point(
+/// The assertions at a point stay.
+pub(crate) fn push_point(
     alloc: Global,
     terms: &mut Terms,
     development: &Development,
@@ -169,9 +171,9 @@ fn push_points(
     Ok(())
 }
 
-// What holds of idle clients stays.
+/// What holds of idle clients stays.
 #[tactic(auto, using(lc_term::proofs::Later::kept_on))]
-fn push_idle(
+pub(crate) fn push_idle(
     alloc: Global,
     terms: &mut Terms,
     development: &Development,

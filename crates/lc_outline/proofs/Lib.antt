@@ -1,2 +1,3 @@
+pub mod Chosen
 pub mod Matched
 pub mod Resolving

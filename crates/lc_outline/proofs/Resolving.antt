@@ -1,5 +1,5 @@
 -- What the test of a development tells.
-use Rattle.std.proofs.Common.{◌≡◌, ℕ, zero, suc, ◌+◌, ◌<◌, ◌≤◌, Bool, true, false, ◌&&◌, ◌==◌, List, [], ◌∷◌, Some, None, Option, length, refl, sym, ap, ◌∙◌, subst, inl, inr, arith}
+use Rattle.std.proofs.Common.{◌≡◌, ℕ, zero, suc, ◌+◌, ◌<◌, ◌≤◌, Bool, true, ◌&&◌, ◌==◌, List, [], ◌∷◌, Some, None, Option, length, refl, ap, ◌∙◌, subst, inl, inr, arith}
 use Rattle.std.specs.Prelude.{slice_get, nat_le, nat_lt}
 use Rattle.std.specs.List.{list_all}
 use Rattle.std.proofs.lemmas.Bool.Decides.{nat_tests}
@@ -17,9 +17,9 @@ use Rattle.lc_object.specs.Places.{operation_at}
 use Rattle.lc_object.specs.WellFormed.{is_object, variable_count}
 use Rattle.lc_rider.specs.Rider.{Deed, Assign, Marks, Rider}
 use Rattle.lc_action.specs.Action.{Action}
-use Rattle.lc_outline.specs.Development.{Development, On, first_system, invariant_of, on_at, asserts_at}
-use Rattle.lc_outline.specs.Resolved.{IsBelow, IsNonempty, AreMatched, IsAuxiliary, IsDeedResolved, IsConditionResolved, IsRiderResolved, IsOnResolved, IsResolved, variables_at}
-use Rattle.lc_outline.specs.Resolved.{is_below, is_empty, has_some, is_matched, are_matched, is_auxiliary, deed_is_resolved, condition_is_resolved, rider_is_resolved, takes, on_is_resolved, action_is_resolved, edge_is_resolved, asserts_are_resolved, code_is_resolved, formulas_are_resolved, is_resolved}
+use Rattle.lc_outline.specs.Development.{Development, On, first_system, invariant_of, ons_at, on_at, asserts_at}
+use Rattle.lc_outline.specs.Resolved.{IsBelow, IsTermBelow, AreArgumentsBelow, IsNonempty, AreMatched, IsAuxiliary, IsDeedResolved, IsConditionResolved, IsRiderResolved, IsOnResolved, IsResolved, variables_at}
+use Rattle.lc_outline.specs.Resolved.{is_below, term_is_below, arguments_are_below, arguments_are_resolved, is_empty, has_some, is_matched, are_matched, is_auxiliary, deed_is_resolved, condition_is_resolved, rider_is_resolved, takes, on_is_resolved, action_is_resolved, edge_is_resolved, asserts_are_resolved, code_is_resolved, formulas_are_resolved, is_resolved}
 
 -- ---- lists
 
@@ -42,6 +42,9 @@ nonempty (x ∷ xs) h = tt
 
 same : (m n : ℕ) → (m == n) ≡ true → m ≡ n
 same m n h = grind (arith, nat_tests)
+
+at_most : (m n : ℕ) → nat_le m n ≡ true → m ≤ n
+at_most m n h = grind (arith, nat_tests)
 
 -- ---- operations
 
@@ -114,10 +117,35 @@ module _ (D : Development) where
   asserted_here : asserts_are_resolved D 0 D.object.points ≡ true → (k : ℕ) (point : O.Point) → slice_get D.object.points k ≡ Some point → list_all (is_below (variables point)) (asserts_at D k) ≡ true
   asserted_here h k point e = subst (λ j. list_all (is_below (variables point)) (asserts_at D j) ≡ true) (omega arith) (asserted 0 D.object.points h k point e)
 
+  -- ---- arguments
+
+  terms : (n : ℕ) (x : On) → arguments_are_below n x ≡ true → AreArgumentsBelow n x
+  terms n x h = every (IsTermBelow n) (term_is_below n) (λ t e. e) x.arguments h
+
+  called : (p : ℕ) (points : List O.Point) → arguments_are_resolved D p points ≡ true →
+      (k : ℕ) (point : O.Point) → slice_get points k ≡ Some point → list_all (arguments_are_below (variables point)) (ons_at D (p + k)) ≡ true
+  called p [] h k point e = absurd cc
+  called p (x ∷ points) h zero point e =
+      subst (λ (y : O.Point). list_all (arguments_are_below (variables y)) (ons_at D (p + 0)) ≡ true) (same_Some x point e)
+      (subst (λ j. list_all (arguments_are_below (variables x)) (ons_at D j) ≡ true) (omega arith) (left_true (list_all (arguments_are_below (variables x)) (ons_at D p)) (arguments_are_resolved D (suc p) points) h))
+  called p (x ∷ points) h (suc k) point e =
+      subst (λ j. list_all (arguments_are_below (variables point)) (ons_at D j) ≡ true) (omega arith)
+      (called (suc p) points (right_true (list_all (arguments_are_below (variables x)) (ons_at D p)) (arguments_are_resolved D (suc p) points) h) k point e)
+
+  called_here : arguments_are_resolved D 0 D.object.points ≡ true → (k : ℕ) (point : O.Point) → slice_get D.object.points k ≡ Some point → Every (AreArgumentsBelow (variables point)) (ons_at D k)
+  called_here h k point e =
+      every (AreArgumentsBelow (variables point)) (arguments_are_below (variables point)) (terms (variables point)) (ons_at D k)
+      (subst (λ j. list_all (arguments_are_below (variables point)) (ons_at D j) ≡ true) (omega arith) (called 0 D.object.points h k point e))
+
   -- ---- actions
 
   action : (a : Action) → action_is_resolved D a ≡ true → Every (λ (u : Update). u.column < column_count (first_system D)) a.updates
-  action a h = every (λ (u : Update). u.column < column_count (first_system D)) (λ (u : Update). nat_lt u.column (column_count (first_system D))) (λ u e. grind (arith, nat_tests)) a.updates h
+  action a h =
+      every (λ (u : Update). u.column < column_count (first_system D)) (λ (u : Update). nat_lt u.column (column_count (first_system D))) (λ u e. grind (arith, nat_tests)) a.updates
+      (right_true (nat_le (length a.parameters) 3) (list_all (λ (u : Update). nat_lt u.column (column_count (first_system D))) a.updates) h)
+
+  three_at_most : (a : Action) → action_is_resolved D a ≡ true → length a.parameters ≤ 3
+  three_at_most a h = at_most (length a.parameters) 3 (left_true (nat_le (length a.parameters) 3) (list_all (λ (u : Update). nat_lt u.column (column_count (first_system D))) a.updates) h)
 
   -- ---- together
 
@@ -157,6 +185,7 @@ module _ (D : Development) where
     formulas : formulas_are_resolved D ≡ true
     actions : list_all (action_is_resolved D) D.actions ≡ true
     edges : list_all (edge_is_resolved D) (edges D.object) ≡ true
+    arguments : arguments_are_resolved D 0 D.object.points ≡ true
 
   all : is_resolved D ≡ true → AreAllResolved
   all h =
@@ -164,11 +193,14 @@ module _ (D : Development) where
       let b = formulas_are_resolved D in
       let c = list_all (action_is_resolved D) D.actions in
       let d = list_all (edge_is_resolved D) (edges D.object) in
+      let e = arguments_are_resolved D 0 D.object.points in
+      let four = left_true (a && b && c && d) e h in
       record {
-        code = left_true a b (left_true (a && b) c (left_true (a && b && c) d h));
-        formulas = right_true a b (left_true (a && b) c (left_true (a && b && c) d h));
-        actions = right_true (a && b) c (left_true (a && b && c) d h);
-        edges = right_true (a && b && c) d h;
+        code = left_true a b (left_true (a && b) c (left_true (a && b && c) d four));
+        formulas = right_true a b (left_true (a && b) c (left_true (a && b && c) d four));
+        actions = right_true (a && b) c (left_true (a && b && c) d four);
+        edges = right_true (a && b && c) d four;
+        arguments = right_true (a && b && c && d) e h;
       }
 
   at_operation : (point : O.Point) (o : O.Operation) → slice_get D.object.operations point.operation ≡ Some o → variables point ≡ variable_count o
@@ -188,6 +220,8 @@ resolved D h =
       invariant = below D 1 (invariant_of D) said.invariant;
       idle = below D 2 D.idle said.idle;
       actions = every (λ (a : Action). Every (λ (u : Update). u.column < column_count (first_system D)) a.updates) (action_is_resolved D) (action D) D.actions whole.actions;
+      parameters = every (λ (a : Action). length a.parameters ≤ 3) (action_is_resolved D) (three_at_most D) D.actions whole.actions;
       asserts = λ p point o here is. subst (λ n. Every (IsBelow n) (asserts_at D p)) (at_operation D point o is) (below D (variables D point) (asserts_at D p) (asserted_here D said.asserts p point here));
+      arguments = λ p point o here is. subst (λ n. Every (AreArgumentsBelow n) (ons_at D p)) (at_operation D point o is) (called_here D whole.arguments p point here);
       ons = λ e i. among (λ (x : Edge). IsOnResolved D (operation_at D.object x.point) x (on_at D x.point x.kind)) (edge_is_resolved D) (λ x. on D (operation_at D.object x.point) x (on_at D x.point x.kind)) (edges D.object) whole.edges e i;
     }

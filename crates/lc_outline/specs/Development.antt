@@ -75,6 +75,9 @@ abbrev pub asserts_in : Option Outline → List Formula
 asserts_in None = []
 asserts_in (Some x) = x.asserts
 
+abbrev pub ons_at : Development → ℕ → List On
+ons_at D p = ons_in (slice_get D.outlines p)
+
 abbrev pub on_at : Development → ℕ → EdgeKind → Option On
 on_at D p kind = on_for (ons_in (slice_get D.outlines p)) kind
 

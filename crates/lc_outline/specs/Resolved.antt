@@ -1,9 +1,9 @@
 -- What a development's type keeps: names are resolved, and who may write what.
-use Rattle.std.specs.Prelude.{◌≡◌, ℕ, zero, suc, ◌+◌, ◌<◌, ◌≤◌, Bool, true, false, ◌&&◌, ◌==◌, nat_le, nat_lt, List, [], ◌∷◌, Option, Some, None, length, slice_get}
+use Rattle.std.specs.Prelude.{◌≡◌, ℕ, suc, ◌+◌, ◌<◌, ◌≤◌, Bool, true, false, ◌&&◌, ◌==◌, nat_le, nat_lt, List, [], ◌∷◌, Option, Some, None, length, slice_get}
 use Rattle.std.specs.List.{list_all}
 use Rattle.lc_term.specs.Updates.{Update}
-use Rattle.lc_term.specs.Syntax.{Formula}
-use Rattle.lc_term.specs.Places.{Test, passes}
+use Rattle.lc_term.specs.Syntax.{Term, Formula}
+use Rattle.lc_term.specs.Places.{Test, term_passes, passes}
 use Rattle.lc_term.specs.Truth.{is_ground}
 use Rattle.lc_seq.specs.Specification as Q
 use Rattle.lc_seq.specs.Specification.{operation_is_resolved}
@@ -18,7 +18,7 @@ use Rattle.lc_term.specs.SystemColumns.{column_count}
 use Rattle.lc_rider.specs.Rider.{Deed, Assign, Marks, Rider}
 use Rattle.lc_action.specs.Action.{Action}
 use Rattle.lc_rider.specs.Paths.{marked_op}
-use Rattle.lc_outline.specs.Development.{Development, On, first_system, invariant_of, on_at, asserts_at}
+use Rattle.lc_outline.specs.Development.{Development, On, first_system, invariant_of, ons_at, on_at, asserts_at}
 
 -- free variables below n
 abbrev pub variables_below : ℕ → Test
@@ -26,6 +26,9 @@ variables_below n = record { columns = λ c. true; variables = λ k. nat_lt k n;
 
 abbrev pub IsBelow : ℕ → Formula → Type 0
 IsBelow n f = passes (λ k. variables_below n) 0 f ≡ true
+
+abbrev pub IsTermBelow : ℕ → Term → Type 0
+IsTermBelow n t = term_passes (variables_below n) t ≡ true
 
 -- there is one at least
 abbrev pub IsNonempty : {A : Type 0} → List A → Type 0
@@ -59,6 +62,10 @@ abbrev pub IsOnResolved : Development → ℕ → Edge → Option On → Type 0
 IsOnResolved D o e None = e.updates ≡ []
 IsOnResolved D o e (Some x) = ((a : Action) × (slice_get D.actions x.action ≡ Some a) × (length x.arguments ≡ length a.parameters)) × Every (IsRiderResolved D o) x.riders
 
+-- the arguments of the action at an edge
+abbrev pub AreArgumentsBelow : ℕ → On → Type 0
+AreArgumentsBelow n x = Every (IsTermBelow n) x.arguments
+
 abbrev pub variables_at : O.Object → Option O.Operation → ℕ
 variables_at object None = 0
 variables_at object (Some o) = variable_count o
@@ -71,13 +78,18 @@ pub record IsResolved (D : Development) : Type 0 where
   pub invariant : Every (IsBelow 1) (invariant_of D)
   pub idle : Every (IsBelow 2) D.idle
   pub actions : Every (λ (a : Action). Every (λ (u : Update). u.column < column_count (first_system D)) a.updates) D.actions
+  pub parameters : Every (λ (a : Action). length a.parameters ≤ 3) D.actions
   pub asserts : (p : ℕ) (point : O.Point) (o : O.Operation) → slice_get D.object.points p ≡ Some point → slice_get D.object.operations point.operation ≡ Some o → Every (IsBelow (variable_count o)) (asserts_at D p)
+  pub arguments : (p : ℕ) (point : O.Point) (o : O.Operation) → slice_get D.object.points p ≡ Some point → slice_get D.object.operations point.operation ≡ Some o → Every (AreArgumentsBelow (variable_count o)) (ons_at D p)
   pub ons : (e : Edge) → IsIn e (edges D.object) → IsOnResolved D (operation_at D.object e.point) e (on_at D e.point e.kind)
 
 -- ---- the same as a test
 
 abbrev pub is_below : ℕ → Formula → Bool
 is_below n f = passes (λ k. variables_below n) 0 f
+
+abbrev pub term_is_below : ℕ → Term → Bool
+term_is_below n t = term_passes (variables_below n) t
 
 abbrev pub is_empty : {A : Type 0} → List A → Bool
 is_empty [] = true
@@ -119,9 +131,9 @@ abbrev pub on_is_resolved : Development → ℕ → Edge → Option On → Bool
 on_is_resolved D o e None = is_empty e.updates
 on_is_resolved D o e (Some x) = takes (slice_get D.actions x.action) (length x.arguments) && list_all (rider_is_resolved D o) x.riders
 
--- the actions store in columns that there are
+-- an action has three parameters at most, and stores in columns that there are
 abbrev pub action_is_resolved : Development → Action → Bool
-action_is_resolved D a = list_all (λ (u : Update). nat_lt u.column (column_count (first_system D))) a.updates
+action_is_resolved D a = nat_le (length a.parameters) 3 && list_all (λ (u : Update). nat_lt u.column (column_count (first_system D))) a.updates
 
 abbrev pub edge_is_resolved : Development → Edge → Bool
 edge_is_resolved D e = on_is_resolved D (operation_at D.object e.point) e (on_at D e.point e.kind)
@@ -131,6 +143,15 @@ abbrev pub asserts_are_resolved : Development → ℕ → List O.Point → Bool
 asserts_are_resolved D p [] = true
 asserts_are_resolved D p (point ∷ points) =
     list_all (is_below (variables_at D.object (slice_get D.object.operations point.operation))) (asserts_at D p) && asserts_are_resolved D (suc p) points
+
+abbrev pub arguments_are_below : ℕ → On → Bool
+arguments_are_below n x = list_all (term_is_below n) x.arguments
+
+-- the arguments at the edges of the points from the number p on speak of the variables that there are
+abbrev pub arguments_are_resolved : Development → ℕ → List O.Point → Bool
+arguments_are_resolved D p [] = true
+arguments_are_resolved D p (point ∷ points) =
+    list_all (arguments_are_below (variables_at D.object (slice_get D.object.operations point.operation))) (ons_at D p) && arguments_are_resolved D (suc p) points
 
 -- specification and object agree
 abbrev pub code_is_resolved : Development → Bool
@@ -147,6 +168,7 @@ formulas_are_resolved D =
 abbrev pub is_resolved : Development → Bool
 is_resolved D =
     code_is_resolved D && formulas_are_resolved D && list_all (action_is_resolved D) D.actions && list_all (edge_is_resolved D) (edges D.object)
+    && arguments_are_resolved D 0 D.object.points
 
 -- what passes is resolved
 abbrev pub WhatPassesIsResolved : Type 0

@@ -19,10 +19,10 @@ use Rattle.lc_object.specs.declared.instr.EdgeKind.{EdgeKind}
 use Rattle.lc_object.specs.declared.instr.EdgeKind.TheVariants.{Next, Then}
 use Rattle.lc_object_text.proofs.BodiesHold.{IsOperationOf, AreOperationsOf}
 use Rattle.lc_object_text.specs.ObjectNames.{Body, first_text}
-use Rattle.lc_outline.specs.Development.{Development, On, Outline, first_system, same_kind, on_for, ons_in, asserts_in, on_at, asserts_at}
-use Rattle.lc_outline.specs.Resolved.{has_some, is_empty, is_below, variables_at, is_matched, are_matched, deed_is_resolved, condition_is_resolved, rider_is_resolved, takes, on_is_resolved, action_is_resolved, edge_is_resolved, asserts_are_resolved}
+use Rattle.lc_outline.specs.Development.{Development, On, Outline, first_system, same_kind, on_for, ons_in, asserts_in, ons_at, on_at, asserts_at}
+use Rattle.lc_outline.specs.Resolved.{has_some, is_empty, is_below, variables_at, is_matched, are_matched, deed_is_resolved, condition_is_resolved, rider_is_resolved, takes, on_is_resolved, action_is_resolved, edge_is_resolved, asserts_are_resolved, arguments_are_below, arguments_are_resolved}
 use Rattle.lc_rider.specs.Rider.{Deed, Assign, Marks, Own, Other, Note, Rider}
-use Rattle.lc_rider_text.proofs.ActionsKnown.{stores_below}
+use Rattle.lc_rider_text.proofs.ActionsKnown.{has_bounds}
 use Rattle.lc_rider_text.proofs.FormulasWithin.{variable_total}
 use Rattle.lc_rider_text.proofs.RidersKnown.{deed_is_known, rider_is_known, IsOnKnown}
 use Rattle.lc_rider_text.specs.Known.{Known}
@@ -38,7 +38,7 @@ AreActionsOf known [] [] = Unit {0}
 AreActionsOf known [] (a ∷ actions) = ⊥
 AreActionsOf known (f ∷ forms) [] = ⊥
 AreActionsOf known (f ∷ forms) (a ∷ actions) =
-    ((length a.parameters ≡ parameter_count f) × (list_all (stores_below known) a.updates ≡ true)) × AreActionsOf known forms actions
+    ((length a.parameters ≡ parameter_count f) × (has_bounds known a ≡ true)) × AreActionsOf known forms actions
 
 -- a development of what is declared
 pub record Fits (d : Declarations) (D : Development) (ps : List (Point × Outline)) : Type 0 where
@@ -109,7 +109,7 @@ actions_stored known D [] (x ∷ actions) e h = absurd h
 actions_stored known D (t ∷ forms) [] e h = absurd h
 actions_stored known D (t ∷ forms) (x ∷ actions) e h =
     and_true (action_is_resolved D x) (list_all (action_is_resolved D) actions)
-    (subst (λ n. list_all (λ (u : Update). nat_lt u.column (column_count n)) x.updates ≡ true) (sym e) h.0.1)
+    (subst (λ n. (nat_le (length x.parameters) 3 && list_all (λ (u : Update). nat_lt u.column (column_count n)) x.updates) ≡ true) (sym e) h.0.1)
     (actions_stored known D forms actions e h.1)
 
 pub actions_resolved : (d : Declarations) (D : Development) (ps : List (Point × Outline)) → Fits d D ps → list_all (action_is_resolved D) D.actions ≡ true
@@ -199,15 +199,18 @@ variables b o h = omega (arith, length-append b.call.arguments b.locals, h.argum
 -- what is said at a point
 pub record IsGood (D : Development) (k : ℕ) (p : Point × Outline) : Type 0 where
   asserts : list_all (is_below (variables_at D.object (slice_get D.object.operations p.0.operation))) (asserts_at D k) ≡ true
+  arguments : list_all (arguments_are_below (variables_at D.object (slice_get D.object.operations p.0.operation))) (ons_at D k) ≡ true
   edges : list_all (edge_is_resolved D) (edges_at D.object k p.0.instruction) ≡ true
 
 good : (d : Declarations) (D : Development) (ps : List (Point × Outline)) (k : ℕ) (p : Point × Outline) → Fits d D ps → IsAPoint d p → IsThere D k p → IsGood D k p
 good d D ps k p h (b, e, g) at =
     let (o, f, fit) = found d.declared.bodies D.object.operations p.0.operation b h.operations e in
     let some = matched_some D.object.operations D.specification.operations p.0.operation o h.matched f in
+    let count = variable_total (Some (b.call.arguments ++ b.locals)) in
+    let same : count ≡ variables_at D.object (slice_get D.object.operations p.0.operation) = variables b o fit ∙ sym (ap (variables_at D.object) f) in
     record {
-      asserts = subst (λ n. list_all (is_below n) (asserts_at D k) ≡ true) (variables b o fit ∙ sym (ap (variables_at D.object) f))
-          (subst (λ fs. list_all (is_below (variable_total (Some (b.call.arguments ++ b.locals)))) fs ≡ true) (sym (ap asserts_in at.outline)) g.asserts);
+      asserts = subst (λ n. list_all (is_below n) (asserts_at D k) ≡ true) same (subst (λ fs. list_all (is_below count) fs ≡ true) (sym (ap asserts_in at.outline)) g.asserts);
+      arguments = subst (λ n. list_all (arguments_are_below n) (ons_at D k) ≡ true) same (subst (λ ons. list_all (arguments_are_below count) ons ≡ true) (sym (ap ons_in at.outline)) g.arguments);
       edges = placed_edges d D ps k p.0.operation p.1.ons (edges_at D.object k p.0.instruction) h some g.named (ap operation_in at.code, λ kind. ap (λ x. on_for (ons_in x) kind) at.outline)
           (edges_of_point D.object k p.0.instruction p.1.ons g.met);
     }
@@ -222,6 +225,13 @@ asserts_from d D ps before (p ∷ rest) k h e n g =
     let ok = good d D ps k p h g.0 (there d D ps before rest k p h e n) in
     and_true _ _ ok.asserts (asserts_from d D ps (before ++ p ∷ []) rest (suc k) h (one_behind before rest p ps e) (omega (arith, n, length-append before (p ∷ []))) g.1)
 
+arguments_from : (d : Declarations) (D : Development) (ps before rest : List (Point × Outline)) (k : ℕ) → Fits d D ps → ps ≡ before ++ rest → length before ≡ k → Every (IsAPoint d) rest
+    → arguments_are_resolved D k (map (λ p. p.0) rest) ≡ true
+arguments_from d D ps before [] k h e n g = refl
+arguments_from d D ps before (p ∷ rest) k h e n g =
+    let ok = good d D ps k p h g.0 (there d D ps before rest k p h e n) in
+    and_true _ _ ok.arguments (arguments_from d D ps (before ++ p ∷ []) rest (suc k) h (one_behind before rest p ps e) (omega (arith, n, length-append before (p ∷ []))) g.1)
+
 edges_resolved_from : (d : Declarations) (D : Development) (ps before rest : List (Point × Outline)) (k : ℕ) → Fits d D ps → ps ≡ before ++ rest → length before ≡ k → Every (IsAPoint d) rest
     → list_all (edge_is_resolved D) (edges_from D.object k (map (λ p. p.0) rest)) ≡ true
 edges_resolved_from d D ps before [] k h e n g = refl
@@ -232,6 +242,9 @@ edges_resolved_from d D ps before (p ∷ rest) k h e n g =
 
 pub asserts_resolved : (d : Declarations) (D : Development) (ps : List (Point × Outline)) → Fits d D ps → asserts_are_resolved D 0 D.object.points ≡ true
 asserts_resolved d D ps h = subst (λ qs. asserts_are_resolved D 0 qs ≡ true) (sym h.points) (asserts_from d D ps [] ps 0 h refl refl h.known)
+
+pub arguments_resolved : (d : Declarations) (D : Development) (ps : List (Point × Outline)) → Fits d D ps → arguments_are_resolved D 0 D.object.points ≡ true
+arguments_resolved d D ps h = subst (λ qs. arguments_are_resolved D 0 qs ≡ true) (sym h.points) (arguments_from d D ps [] ps 0 h refl refl h.known)
 
 pub edges_resolved : (d : Declarations) (D : Development) (ps : List (Point × Outline)) → Fits d D ps → list_all (edge_is_resolved D) (edges_from D.object 0 D.object.points) ≡ true
 edges_resolved d D ps h = subst (λ qs. list_all (edge_is_resolved D) (edges_from D.object 0 qs) ≡ true) (sym h.points) (edges_resolved_from d D ps [] ps 0 h refl refl h.known)

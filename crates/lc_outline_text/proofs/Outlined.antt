@@ -20,9 +20,10 @@ use Rattle.lc_object_text.specs.Points.{Beside, is_shaped, point_of, point_name_
 use Rattle.lc_object_text.specs.Rows.{cons, placed_reading}
 use Rattle.lc_object_text.specs.Sections.{forms_in}
 use Rattle.lc_outline.specs.Development.{On, Outline}
-use Rattle.lc_outline.specs.Resolved.{is_below}
+use Rattle.lc_outline.specs.Resolved.{is_below, arguments_are_below}
 use Rattle.lc_rider_text.proofs.FormulasWithin.{variable_total, formula_within}
 use Rattle.lc_rider_text.proofs.RidersKnown.{IsOnKnown, ons_known}
+use Rattle.lc_rider_text.proofs.TermsWithin.{ons_within}
 use Rattle.lc_rider_text.specs.Known.{Known}
 use Rattle.lc_rider_text.specs.Ons.{ons_reading}
 use Rattle.lc_rider_text.specs.Scopes.{beside_names}
@@ -46,11 +47,12 @@ formulas_below word columns others n t =
 
 -- ---- a point
 
--- Its operation has this number, its assertions speak of so many variables, what is done at its edges is known, and an edge that
--- stores has an `on`
+-- Its operation has this number, its assertions and the arguments at its edges speak of so many variables, what is done at its
+-- edges is known, and an edge that stores has an `on`
 pub record IsOutlined (known : Known) (v o : ℕ) (p : Point × Outline) : Type 0 where
   pub operation : p.0.operation ≡ o
   pub asserts : list_all (is_below v) p.1.asserts ≡ true
+  pub arguments : list_all (arguments_are_below v) p.1.ons ≡ true
   pub named : Every (IsOnKnown known) p.1.ons
   pub met : IsMet p.0.instruction p.1.ons
 
@@ -62,16 +64,18 @@ abbrev HasOns : Known → Trees → List On → Type 0
 HasOns known ts ons = Every (IsOnKnown known) ons × AreFound known.actions (forms_in (codes "on") ts) ons
 
 abbrev HasOutline : Known → ℕ → Trees → Outline → Type 0
-HasOutline known v ts o = (list_all (is_below v) o.asserts ≡ true) × HasOns known ts o.ons
+HasOutline known v ts o = (list_all (is_below v) o.asserts ≡ true) × (list_all (arguments_are_below v) o.ons ≡ true) × HasOns known ts o.ons
 
 outline_holds : (known : Known) (columns : List (List ℕ)) (others : Option (List (List ℕ))) (own : ℕ) (edges : Edges) (i : ℕ) (t : Tree) (m : ℕ) (ts : Trees)
     → Holds (HasOutline known (variable_total others) ts) (outline_reading known (beside_names columns others) own edges i t m ts)
 outline_holds known columns others own edges i t m ts =
     let names = beside_names columns others in
-    both_holds (λ fs. list_all (is_below (variable_total others)) fs ≡ true) (HasOns known ts) (HasOutline known (variable_total others) ts) outline_of _ (ons_reading known names own edges m ts)
+    let count = variable_total others in
+    both_holds (λ fs. list_all (is_below count) fs ≡ true) (λ ons. (list_all (arguments_are_below count) ons ≡ true) × HasOns known ts ons) (HasOutline known count ts) outline_of _ (ons_reading known names own edges m ts)
     (formulas_below (codes "assert") columns others i t)
+    (and_holds (λ ons. list_all (arguments_are_below count) ons ≡ true) (HasOns known ts) (ons_reading known names own edges m ts) (ons_within columns others known own edges m ts)
     (and_holds (Every (IsOnKnown known)) (AreFound known.actions (forms_in (codes "on") ts)) (ons_reading known names own edges m ts) (ons_known known names own edges m ts)
-    (all_kinds (λ kind ons. list_any (acts known.actions (edge_word kind)) (forms_in (codes "on") ts) ≡ true → _) (ons_reading known names own edges m ts) (λ kind. on_found known names own edges kind m ts)))
+    (all_kinds (λ kind ons. list_any (acts known.actions (edge_word kind)) (forms_in (codes "on") ts) ≡ true → _) (ons_reading known names own edges m ts) (λ kind. on_found known names own edges kind m ts))))
     (λ fs ons h g. (h, g))
 
 never : (o : ℕ) (name : Reading (List ℕ)) (f : _) → Holds (λ q. ⊥) (both (point_of o) name (flawed f))
@@ -99,8 +103,9 @@ beside_holds known columns others own n o code name (fine i) h m (t ▸ ts) = by
       (λ q x g k. record {
         operation = g.0;
         asserts = k.0;
-        named = k.1.0;
-        met = subst (λ j. IsMet j x.ons) (sym g.1) (met known.actions (code_word code) (forms_in (codes "on") ts) x.ons i h e k.1.1);
+        arguments = k.1.0;
+        named = k.1.1.0;
+        met = subst (λ j. IsMet j x.ons) (sym g.1) (met known.actions (code_word code) (forms_in (codes "on") ts) x.ons i h e k.1.1.1);
       })
 
 -- ---- a body

@@ -20,7 +20,7 @@ use Rattle.lc_object_text.specs.Rows.{cons, placed_reading, lists_reading}
 use Rattle.lc_object_text.specs.Objects.{first_reading}
 use Rattle.lc_object_text.specs.Sections.{Sections, parts_in, parts_of_fit, before_others, forms_in, behind_first}
 use Rattle.lc_outline.specs.Resolved.{is_below}
-use Rattle.lc_rider_text.proofs.ActionsKnown.{stores_below, action_known}
+use Rattle.lc_rider_text.proofs.ActionsKnown.{has_bounds, action_known}
 use Rattle.lc_rider_text.proofs.FormulasWithin.{conjunct_within}
 use Rattle.lc_rider_text.specs.Actions.{action_reading}
 use Rattle.lc_rider_text.specs.Columns.{column_reading}
@@ -53,7 +53,7 @@ auxiliaries_counted d s n m (t ▸ ts) e =
 -- ---- actions
 
 abbrev IsForm : Known → Trees → Action → Type 0
-IsForm known ts a = (length a.parameters ≡ parameter_count ts) × (list_all (stores_below known) a.updates ≡ true)
+IsForm known ts a = (length a.parameters ≡ parameter_count ts) × (has_bounds known a ≡ true)
 
 actions_hold : (known : Known) (i m : ℕ) (ts : Trees) → Holds (AreActionsOf known (forms_in (codes "action") ts)) (lists_reading (codes "action") (action_reading known) i m ts)
 actions_hold known i m none = tt

@@ -78,7 +78,7 @@ more_sized false m i j p ps h g = both_fine (λ q. size q ≤ i) (λ qs. size_of
 
 mutual
   -- a proof has no more steps than its text has items
-  proof_sized : (names : Names) (n : ℕ) (t : Tree) → IfFine (proof_reading names n t) (λ p. size p ≤ item_count t)
+  pub proof_sized : (names : Names) (n : ℕ) (t : Tree) → IfFine (proof_reading names n t) (λ p. size p ≤ item_count t)
   proof_sized names n (atom w) = tt
   proof_sized names n (list none) = tt
   proof_sized names n (list (list us ▸ ts)) = tt

@@ -5,3 +5,4 @@ pub mod Ground
 pub mod Parts
 pub mod PathsCounted
 pub mod RidersKnown
+pub mod TermsWithin

@@ -7,8 +7,8 @@ use Rattle.lc_object.specs.Syntax.{Point, Operation}
 use Rattle.lc_object.specs.Edges.{Edge, edges}
 use Rattle.lc_object.specs.WellFormed.{variable_count}
 use Rattle.lc_object.specs.Places.{operation_at}
-use Rattle.lc_outline.specs.Development.{Development, on_at, asserts_at}
-use Rattle.lc_outline.specs.Resolved.{IsBelow, IsResolved, IsOnResolved}
+use Rattle.lc_outline.specs.Development.{Development, ons_at, on_at, asserts_at}
+use Rattle.lc_outline.specs.Resolved.{IsBelow, AreArgumentsBelow, IsResolved, IsOnResolved}
 use Rattle.lc_sound.specs.Examples.{AreResolved}
 use Rattle.lc_cond.specs.Counter.{counter, racy, add_action, look_action}
 
@@ -28,6 +28,14 @@ asserted (suc (suc zero)) = fits counter 2 _ _ refl refl (refl, (refl, tt))
 asserted (suc (suc (suc zero))) = fits counter 3 _ _ refl refl (refl, tt)
 asserted (suc (suc (suc (suc zero)))) = fits counter 4 _ _ refl refl (refl, (refl, tt))
 asserted (suc (suc (suc (suc (suc p))))) = λ point o here code. absurd (cc here)
+
+called : (p n : ℕ) → Every (AreArgumentsBelow n) (ons_at counter p)
+called zero n = tt
+called (suc zero) n = (tt, tt)
+called (suc (suc zero)) n = tt
+called (suc (suc (suc zero))) n = (tt, tt)
+called (suc (suc (suc (suc zero)))) n = tt
+called (suc (suc (suc (suc (suc p))))) n = tt
 
 abbrev Fine : Edge → Type 0
 Fine e = IsOnResolved counter (operation_at counter.object e.point) e (on_at counter e.point e.kind)
@@ -50,7 +58,9 @@ counter_resolved = record {
   invariant = (refl, tt);
   idle = tt;
   actions = ((omega arith, (omega arith, (omega arith, (omega arith, tt)))), ((omega arith, (omega arith, tt)), tt));
+  parameters = (omega arith, (omega arith, tt));
   asserts = asserted;
+  arguments = λ p point o at is. called p (variable_count o);
   ons = at_edges;
 }
 
@@ -63,6 +73,14 @@ asserted_racy (suc (suc zero)) = fits racy 2 _ _ refl refl (refl, (refl, tt))
 asserted_racy (suc (suc (suc zero))) = fits racy 3 _ _ refl refl (refl, tt)
 asserted_racy (suc (suc (suc (suc zero)))) = fits racy 4 _ _ refl refl (refl, (refl, tt))
 asserted_racy (suc (suc (suc (suc (suc p))))) = λ point o here code. absurd (cc here)
+
+called_racy : (p n : ℕ) → Every (AreArgumentsBelow n) (ons_at racy p)
+called_racy zero n = tt
+called_racy (suc zero) n = (tt, tt)
+called_racy (suc (suc zero)) n = tt
+called_racy (suc (suc (suc zero))) n = (tt, tt)
+called_racy (suc (suc (suc (suc zero)))) n = tt
+called_racy (suc (suc (suc (suc (suc p))))) n = tt
 
 abbrev FineRacy : Edge → Type 0
 FineRacy e = IsOnResolved racy (operation_at racy.object e.point) e (on_at racy e.point e.kind)
@@ -84,7 +102,9 @@ racy_resolved = record {
   invariant = (refl, tt);
   idle = tt;
   actions = ((omega arith, (omega arith, (omega arith, (omega arith, tt)))), ((omega arith, (omega arith, tt)), tt));
+  parameters = (omega arith, (omega arith, tt));
   asserts = asserted_racy;
+  arguments = λ p point o at is. called_racy p (variable_count o);
   ons = at_racy;
 }
 

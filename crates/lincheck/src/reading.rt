@@ -26,13 +26,16 @@ pub enum ReadFault {
 /// The bytes of a file, or its first 16,777,217 bytes where it has more.
 ///
 /// A read that answers `Interrupted` is tried again. Any other fault, and 33,554,432 reads that did not come to the
-/// end, are `Unreadable`.
+/// end, are `Unreadable`. Room for the longest file is asked for at once.
 pub fn read_to_limit<R: Read>(alloc: Global, reader: &mut R) -> Result<Vec<u8>, ReadFault>
     ensures bound { IfOk result (λ bytes. vec_len bytes ≤ MOST_BYTES) }
     ensures bytes { IfOk result (λ bytes. Consumes (R.remaining reader.old) (R.remaining reader.new) bytes.items) }
     ensures end { IfOk result (λ bytes. vec_len bytes + 1 ≤ MOST_BYTES → IsAtEnd (R.remaining reader.new)) }
 {
-    let mut bytes = Vec::new(alloc);
+    // Room that is never written to costs no memory, and a vector that grows holds its bytes twice.
+    let Ok(mut bytes) = Vec::with_capacity(alloc, MOST_BYTES) else {
+        return Err(ReadFault::OutOfMemory);
+    };
     let mut piece = [0u8; PIECE];
     for _turn in 0..MOST_READS {
         let room = (MOST_BYTES - bytes.len()).min(PIECE);

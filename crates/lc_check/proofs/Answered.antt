@@ -1,0 +1,47 @@
+-- The verdict from the answers to the files and to the proofs.
+use Rattle.std.proofs.Common.{◌≡◌, ℕ, inl, inr, List, Ok, Err, sym, subst}
+use Rattle.std.specs.Prelude.{Result, IfOk}
+use Rattle.lc_base.specs.declared.refusal.Fault.{Fault}
+use Rattle.lc_base.specs.declared.refusal.Fault.TheVariants.{Refused, OutOfMemory}
+use Rattle.lc_reading.specs.Files.{Says}
+use Rattle.lc_outline.specs.Development.{Development}
+use Rattle.lc_outline_text.specs.Developments.{file_reading}
+use Rattle.lc_cert.specs.Certificates.{Entry}
+use Rattle.lc_cert.specs.Files as C
+use Rattle.lc_cert.specs.Files.{Certifies}
+use Rattle.lc_cond.specs.Conditions.{conditions}
+use Rattle.lc_cond.specs.Uses.{AllUseTheirVariables}
+use Rattle.lc_sound.specs.Derived.{AreDerived}
+use Rattle.lc_check.proofs.EachProved.{all_derived}
+use Rattle.lc_check.specs.Answers.{CountsAll}
+use Rattle.lc_check.specs.VerdictView.{development_in, IsVerdictOn, IsVerdict, IsAnswerOn}
+use Rattle.lc_check.specs.Verdicts.{IsAccepted}
+use Rattle.lc_check.specs.declared.verdict.Accepted.{Accepted}
+use Rattle.lc_check.specs.declared.verdict.Verdict.{Verdict}
+use Rattle.lc_check.specs.declared.verdict.Verdict.TheVariants.{Accepted as Accepts, Refused as Refuses}
+
+-- ---- a development and a certificate file
+
+pub no_certificate : (D : Development) (cert : List ℕ) (fault : Fault) → C.IsAnswerTo D cert (Err fault) → IsAnswerOn D cert (Err fault)
+no_certificate D cert (Refused r) h = inl h
+no_certificate D cert OutOfMemory h = tt
+
+pub not_all_proved : (D : Development) (cert : List ℕ) (es : List Entry) (fault : Fault) → Certifies D cert es → CountsAll es (conditions D) (Err fault) → IsAnswerOn D cert (Err fault)
+not_all_proved D cert es (Refused r) certifies h = inr (es, certifies, h)
+not_all_proved D cert es OutOfMemory certifies h = tt
+
+pub all_proved : (D : Development) (cert : List ℕ) (es : List Entry) (n : ℕ) (a : Accepted) → development_in a ≡ D → Certifies D cert es → CountsAll es (conditions D) (Ok n) → IsAnswerOn D cert (Ok a)
+all_proved D cert es n a is certifies h = (is, (es, (certifies, h.1)))
+
+pub counted_derived : (D : Development) (es : List Entry) (n : ℕ) → AllUseTheirVariables D → CountsAll es (conditions D) (Ok n) → AreDerived D
+counted_derived D es n uses h = all_derived es 0 (conditions D) uses h.1.0
+
+-- ---- two files
+
+verdict_on : (dev cert : List ℕ) (D : Development) (v : Verdict) → Says file_reading dev D → IsVerdictOn D cert v → IsVerdict dev cert v
+verdict_on dev cert D (Accepts a) says h = subst (IsAccepted dev cert) (sym h.0) (says, h.1)
+verdict_on dev cert D (Refuses r) says h = inr (D, says, h)
+
+pub on_development : {E : Type 0} (dev cert : List ℕ) (D : Development) (result : Result Verdict E) → Says file_reading dev D → IfOk result (IsVerdictOn D cert) → IfOk result (IsVerdict dev cert)
+on_development dev cert D (Ok v) says h = verdict_on dev cert D v says h
+on_development dev cert D (Err e) says h = tt

@@ -1,0 +1,4 @@
+pub mod LeastExtra
+pub mod OneVerdict
+pub mod EachProved
+pub mod Answered

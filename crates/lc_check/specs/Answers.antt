@@ -1,0 +1,47 @@
+-- What the code answers of the proofs of a certificate.
+use Rattle.std.specs.Prelude.{◌≡◌, ℕ, List, length, Option, Result, Ok, Err}
+use Rattle.lc_base.specs.declared.refusal.Fault.{Fault}
+use Rattle.lc_base.specs.declared.refusal.Fault.TheVariants.{Refused, OutOfMemory}
+use Rattle.lc_kernel.specs.Proofs.{Proof}
+use Rattle.lc_kernel.specs.declared.fault.ProofFault.{ProofFault}
+use Rattle.lc_kernel.specs.declared.fault.ProofFault.TheVariants.{Bad as NotHolding, Large as TooLarge, OutOfMemory as NoMore}
+use Rattle.lc_kernel.specs.declared.reason.Flaw.TheVariants.{Bad, Large}
+use Rattle.lc_cert.specs.Certificates.{Entry}
+use Rattle.lc_cond.specs.Conditions.{Condition}
+use Rattle.lc_cond.specs.Uses.{UsesItsVariables}
+use Rattle.lc_cond.specs.VariableCounts.{HasFewVariables}
+use Rattle.lc_check.specs.Verdicts.{IsProved, IsUnproved, AreProved, IsFirstUnproved, ProvesAll, IsProofRefusal, flaw_told}
+
+-- it uses no variables but those that it counts, and they are few
+abbrev pub IsBounded : Condition → Type 0
+IsBounded c = UsesItsVariables c × HasFewVariables c
+
+-- the fault of the proof of condition k
+abbrev pub fault_of : ℕ → ProofFault → Fault
+fault_of k (NotHolding step reason) = Refused (flaw_told k step (Bad reason))
+fault_of k (TooLarge step) = Refused (flaw_told k step Large)
+fault_of k NoMore = OutOfMemory
+
+-- condition k is proved, or it is told why not; for want of memory nothing
+abbrev pub ProvesOne : ℕ → Condition → Option Proof → Result (Unit {0}) Fault → Type 0
+ProvesOne k c o (Ok u) = IsProved c o
+ProvesOne k c o (Err (Refused refusal)) = IsUnproved k c o refusal
+ProvesOne k c o (Err OutOfMemory) = Unit {0}
+
+-- the same of conditions from number k on
+abbrev pub ProvesEach : List Entry → ℕ → List Condition → Result (Unit {0}) Fault → Type 0
+ProvesEach es k cs (Ok u) = AreProved es k cs
+ProvesEach es k cs (Err (Refused refusal)) = IsFirstUnproved es k cs refusal
+ProvesEach es k cs (Err OutOfMemory) = Unit {0}
+
+-- the same of all, with how many they are
+abbrev pub CountsProved : List Entry → List Condition → Result ℕ Fault → Type 0
+CountsProved es cs (Ok n) = (n ≡ length cs) × AreProved es 0 cs
+CountsProved es cs (Err (Refused refusal)) = IsFirstUnproved es 0 cs refusal
+CountsProved es cs (Err OutOfMemory) = Unit {0}
+
+-- the same, where there is no other proof
+abbrev pub CountsAll : List Entry → List Condition → Result ℕ Fault → Type 0
+CountsAll es cs (Ok n) = (n ≡ length cs) × ProvesAll es cs
+CountsAll es cs (Err (Refused refusal)) = IsProofRefusal es cs refusal
+CountsAll es cs (Err OutOfMemory) = Unit {0}

@@ -1,0 +1,4 @@
+pub mod Verdicts
+pub mod Numbers
+pub mod Answers
+pub mod VerdictView

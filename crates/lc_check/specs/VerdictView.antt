@@ -1,0 +1,36 @@
+-- What verdicts of the code say.
+use Rattle.std.specs.Prelude.{◌≡◌, ℕ, List, Result, Ok, Err}
+use Rattle.lc_base.specs.declared.refusal.Fault.{Fault}
+use Rattle.lc_base.specs.declared.refusal.Fault.TheVariants.{Refused as IsRefusedAs, OutOfMemory}
+use Rattle.lc_outline.specs.Development.{Development}
+use Rattle.lc_outline.specs.DevelopmentView.{development_shown}
+use Rattle.lc_check.specs.Verdicts.{IsProvenBy, IsCertificateRefusal, IsAccepted, IsRefused}
+use Rattle.lc_check.specs.declared.verdict.Accepted.{Accepted}
+use Rattle.lc_check.specs.declared.verdict.Verdict.{Verdict}
+use Rattle.lc_check.specs.declared.verdict.Verdict.TheVariants.{Accepted as Accepts, Refused as Refuses}
+
+-- the development that is accepted
+abbrev pub development_in : Accepted → Development
+development_in a = development_shown a.development
+
+-- the verdict on a development and a certificate file
+abbrev pub IsVerdictOn : Development → List ℕ → Verdict → Type 0
+IsVerdictOn D cert (Accepts accepted) = (development_in accepted ≡ D) × IsProvenBy D cert
+IsVerdictOn D cert (Refuses refusal) = IsCertificateRefusal D cert refusal
+
+-- the verdict on a development file and a certificate file
+abbrev pub IsVerdict : List ℕ → List ℕ → Verdict → Type 0
+IsVerdict dev cert (Accepts accepted) = IsAccepted dev cert (development_in accepted)
+IsVerdict dev cert (Refuses refusal) = IsRefused dev cert refusal
+
+-- something holds of the development, if one is accepted
+abbrev pub IfAccepted : {E : Type 0} → Result Verdict E → (Development → Type 0) → Type 0
+IfAccepted (Ok (Accepts accepted)) P = P (development_in accepted)
+IfAccepted (Ok (Refuses refusal)) P = Unit {0}
+IfAccepted (Err e) P = Unit {0}
+
+-- what is accepted of a development and a certificate file; or it is told why not; for want of memory nothing
+abbrev pub IsAnswerOn : Development → List ℕ → Result Accepted Fault → Type 0
+IsAnswerOn D cert (Ok accepted) = (development_in accepted ≡ D) × IsProvenBy D cert
+IsAnswerOn D cert (Err (IsRefusedAs refusal)) = IsCertificateRefusal D cert refusal
+IsAnswerOn D cert (Err OutOfMemory) = Unit {0}

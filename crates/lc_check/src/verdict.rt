@@ -1,0 +1,64 @@
+ghost use Rattle.std.specs.Prelude.{◌≡◌, length};
+ghost use Rattle.lc_outline.specs.DevelopmentView.{development_shown};
+ghost use Rattle.lc_cond.specs.Conditions.{conditions};
+ghost use Rattle.lc_sound.specs.Derived.{AreDerived};
+
+use lc_base::Refusal;
+use lc_outline::Development;
+
+/// What is said of a development file and a certificate file.
+#[derive(Drop)]
+pub enum Verdict {
+    /// The certificate has a derivation of each condition of the development, and no other proof.
+    Accepted(Accepted),
+    /// The first refusal of the files.
+    Refused(Refusal),
+}
+
+/// A development each of whose conditions has a derivation.
+#[derive(Drop)]
+pub struct Accepted {
+    development: Development,
+    count: u64,
+    ghost derived: { ∥ AreDerived (development_shown development) ∥₁ },
+    ghost counted: { count ≡ length (conditions (development_shown development)) },
+}
+
+impl Accepted {
+    ghost use Rattle.std.specs.Prelude.{◌≡◌, length};
+    ghost use Rattle.lc_outline.specs.DevelopmentView.{development_shown};
+    ghost use Rattle.lc_cond.specs.Conditions.{conditions};
+    ghost use Rattle.lc_sound.specs.Derived.{AreDerived};
+    ghost use Rattle.lc_check.specs.VerdictView.{development_in};
+
+    /// The development, each of whose conditions has a derivation, and which has so many.
+    pub(crate) fn new(development: Development, count: u64) -> Accepted
+        requires derived { ∥ AreDerived (development_shown development) ∥₁ }
+        requires counted { count ≡ length (conditions (development_shown development)) }
+        ensures { development_in result ≡ development_shown development }
+    {
+        Accepted { development, count }
+    }
+
+    /// The development.
+    pub fn development(&self) -> &Development
+        ensures shown { development_shown result.now ≡ development_in self.now }
+        ensures derived { ∥ AreDerived (development_in self.now) ∥₁ }
+    {
+        &self.development
+    }
+
+    /// The name of its object.
+    pub fn name(&self) -> &str
+        ensures { result.now ≡ (development_in self.now).object.name }
+    {
+        self.development.parts().object.parts().name.as_str()
+    }
+
+    /// How many conditions it has.
+    pub fn count(&self) -> u64
+        ensures { result ≡ length (conditions (development_in self.now)) }
+    {
+        self.count
+    }
+}

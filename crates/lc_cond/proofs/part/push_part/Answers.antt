@@ -1,0 +1,11 @@
+use Rattle.std.proofs.Common.{OnOk, sym, subst}
+use Rattle.lc_outline.specs.DevelopmentView.{development_shown}
+use Rattle.lc_cond.specs.Adding.{Adds}
+use Rattle.lc_cond.specs.Conditions.{conditions_in}
+use Rattle.lc_cond.specs.PartView.{part_of}
+use Rattle.lc_cond.proofs.part.push_part.Goals as goal
+
+pub returns-in-Begin-clause-list : goal.returns-in-Begin-clause-list
+returns-in-Begin-clause-list c =
+    subst (λ p. OnOk c.push_entry.result (Adds c.args.conditions.now.items c.push_entry.new.terms c.push_entry.new.conditions.items (conditions_in (development_shown c.args.development.now) (part_of p))))
+    (sym c.in-Begin.is) c.push_entry.ensures.list

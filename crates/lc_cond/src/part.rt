@@ -1,0 +1,120 @@
+//! The parts of the list, each of which can be made by itself: the start, a call that begins, an edge, a point, and idle.
+ghost use Rattle.std.specs.Prelude.{◌≡◌, ◌++◌, ◌∷◌, [], map, option_map, slice_get, IfOk, OnOk};
+ghost use Rattle.lc_term.specs.Lists.{numbered};
+ghost use Rattle.lc_term.specs.Tables.{Keeps};
+ghost use Rattle.lc_object.specs.EdgeView.{edge_of};
+ghost use Rattle.lc_outline.specs.DevelopmentView.{development_shown};
+ghost use Rattle.lc_cond.specs.Adding.{Adds};
+ghost use Rattle.lc_cond.specs.Conditions as S;
+ghost use Rattle.lc_cond.specs.Conditions.{conditions_in};
+ghost use Rattle.lc_cond.specs.PartView.{part_of, parts_along};
+
+use crate::condition::Condition;
+use crate::entries::push_entry;
+use crate::list::{operations_of, points_of, push_idle, push_point};
+use crate::lookup::count_of;
+use crate::paths::push_edge;
+use crate::start::push_start;
+use lc_base::{OpId, OutOfMemory, PointId};
+use lc_object::{Edge, Operation, Point};
+use lc_outline::Development;
+use lc_term::Terms;
+use std::alloc::Global;
+
+/// A part of the list.
+#[derive(Clone, Copy)]
+pub(crate) enum Part<'a> {
+    Start,
+    Begin(OpId, &'a Operation),
+    Pass(&'a Edge),
+    Stay(PointId, &'a Point),
+    StayIdle,
+}
+
+// The part at this place from the first point on: a point, or idle behind the points.
+fn point_part(development: &Development, place: usize) -> Result<Option<Part<'_>>, OutOfMemory>
+    ensures { let d = development_shown development.now in
+        IfOk result (λ part. option_map part_of part ≡ slice_get (numbered S.Stay 0 d.object.points ++ S.StayIdle ∷ []) place) }
+{
+    let points = points_of(development);
+    if place < points.len() {
+        let number = PointId(count_of(place)?);
+        return Ok(Some(Part::Stay(number, &points[place])));
+    }
+    if place == points.len() {
+        return Ok(Some(Part::StayIdle));
+    }
+    Ok(None)
+}
+
+// The part at this place from the first edge on.
+fn edge_part<'a>(
+    development: &'a Development,
+    edges: &'a [Edge],
+    place: usize,
+) -> Result<Option<Part<'a>>, OutOfMemory>
+    ensures { let d = development_shown development.now in
+        IfOk result (λ part. option_map part_of part
+        ≡ slice_get (map S.Pass (map edge_of edges.now) ++ (numbered S.Stay 0 d.object.points ++ S.StayIdle ∷ [])) place) }
+{
+    if place < edges.len() {
+        return Ok(Some(Part::Pass(&edges[place])));
+    }
+    point_part(development, place - edges.len())
+}
+
+// The part at this place from the first operation on.
+fn entry_part<'a>(
+    development: &'a Development,
+    edges: &'a [Edge],
+    place: usize,
+) -> Result<Option<Part<'a>>, OutOfMemory>
+    ensures { let d = development_shown development.now in
+        IfOk result (λ part. option_map part_of part
+        ≡ slice_get (numbered S.Begin 0 d.object.operations ++ (map S.Pass (map edge_of edges.now) ++ (numbered S.Stay 0 d.object.points ++ S.StayIdle ∷ []))) place) }
+{
+    let operations = operations_of(development);
+    if place < operations.len() {
+        let number = OpId(count_of(place)?);
+        return Ok(Some(Part::Begin(number, &operations[place])));
+    }
+    edge_part(development, edges, place - operations.len())
+}
+
+/// The part at this place, if there is one, where these are the edges.
+pub(crate) fn part_at<'a>(
+    development: &'a Development,
+    edges: &'a [Edge],
+    place: usize,
+) -> Result<Option<Part<'a>>, OutOfMemory>
+    ensures { IfOk result (λ part. option_map part_of part ≡ slice_get (parts_along (development_shown development.now) (map edge_of edges.now)) place) }
+{
+    if place == 0 {
+        return Ok(Some(Part::Start));
+    }
+    entry_part(development, edges, place - 1)
+}
+
+/// The conditions of a part.
+pub(crate) fn push_part(
+    alloc: Global,
+    terms: &mut Terms,
+    development: &Development,
+    part: Part<'_>,
+    conditions: &mut Vec<Condition>,
+) -> Result<(), OutOfMemory>
+    ensures list { OnOk result (Adds conditions.old.items terms.new conditions.new.items (conditions_in (development_shown development.now) (part_of part.entry))) }
+    ensures kept { Keeps terms.old terms.new }
+{
+    match part {
+        Part::Start => push_start(alloc, terms, development, conditions),
+        Part::Begin(number, body) => {
+            push_entry(alloc, terms, development, number, body, conditions)
+        }
+        Part::Pass(edge) => push_edge(alloc, terms, development, edge, conditions),
+        Part::Stay(number, point) => {
+            push_point(alloc, terms, development, number, point, conditions)
+        }
+        Part::StayIdle => push_idle(alloc, terms, development, conditions),
+    }
+}

@@ -1,0 +1,2 @@
+pub mod ConditionText
+pub mod CounterLines
