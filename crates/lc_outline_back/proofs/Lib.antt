@@ -6,3 +6,6 @@ pub mod Formulas
 pub mod Columns
 pub mod Specifications
 pub mod Instructions
+pub mod Riders
+pub mod Again
+pub mod Sides

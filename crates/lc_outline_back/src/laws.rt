@@ -2,7 +2,7 @@
 ghost use Rattle.std.specs.Prelude.{◌≡◌, ◌≤◌, ◌^◌, ℕ, ℤ, false, List, [], ◌++◌, map};
 ghost use Rattle.std.specs.Fmt.{signed_decimal};
 ghost use Rattle.lc_reading.specs.Readings.{fine};
-ghost use Rattle.lc_sexp.specs.Trees.{Tree, atom, item_count};
+ghost use Rattle.lc_sexp.specs.Trees.{Tree, Trees, atom, list, none, ◌▸◌, row, item_count};
 ghost use Rattle.lc_term.specs.Syntax.{Formula, Term};
 ghost use Rattle.lc_text.specs.Formulas.{formula_reading};
 ghost use Rattle.lc_text.specs.Names.{Names};
@@ -10,6 +10,15 @@ ghost use Rattle.lc_text.specs.SpelledTree.{formula_tree, term_tree};
 ghost use Rattle.lc_text.specs.Spelling.{Spelled};
 ghost use Rattle.lc_text.specs.Terms.{number_reading, term_reading};
 ghost use Rattle.lc_text.specs.declared.scope.Extra.TheVariants.{Quantifiers};
+ghost use Rattle.lc_action.specs.Action.{Action};
+ghost use Rattle.lc_tie.specs.Tie.{Conjunct};
+ghost use Rattle.lc_outline.specs.Development.{On};
+ghost use Rattle.lc_rider_text.specs.Conjuncts.{conjunct_reading};
+ghost use Rattle.lc_rider_text.specs.Known.{Known};
+ghost use Rattle.lc_rider_text.specs.Ons.{ons_reading};
+ghost use Rattle.lc_rider_text.specs.declared.edges.Edges.{Edges};
+ghost use Rattle.lc_outline_back.specs.Beside.{on_tree};
+ghost use Rattle.lc_outline_back.specs.KnownSpelled.{AreKnown};
 ghost use Rattle.lc_seq.specs.Specification.{Column, Specification};
 ghost use Rattle.lc_spec_text.specs.Specifications.{specification_reading};
 ghost use Rattle.lc_object.specs.Syntax.{Instr, Object};
@@ -50,4 +59,16 @@ pub fn specifications_are_printed_as_they_stood()
 pub fn instructions_are_printed_as_they_stood()
     ensures { (names : Names) (code : CodeNames) (by : Spelled) (object : Object) (n : ℕ) (t : Tree) (i : Instr) → AreCodeNames names code by object →
         instruction_reading names code n t ≡ fine i → instruction_tree object by i ≡ t }
+{}
+
+/// What is done at the edges of a point is printed as it stood, where its names are printed as they are read.
+pub fn edges_are_printed_as_they_stood()
+    ensures { (known : Known) (names : Names) (by : Spelled) (object : Object) (actions : List Action) (own : ℕ) (edges : Edges) (m : ℕ) (ts : Trees) (xs : List On) →
+        AreKnown known names by object actions → ons_reading known names own edges m ts ≡ fine xs → row (map (on_tree object actions by) xs) ≡ ts }
+{}
+
+/// What is printed of a conjunct that is read reads as the same conjunct, where no variable is named as one of a quantifier is printed.
+pub fn printed_conjuncts_read_back()
+    ensures { (names : Names) (by : Spelled) (n : ℕ) (t : Tree) (c : Conjunct) → IsSpelledSo names by → AreUnbound names → item_count t ≤ 2 ^ 32 →
+        conjunct_reading names n t ≡ fine c → conjunct_reading names n (list (atom c.name ▸ formula_tree by 0 c.formula ▸ none)) ≡ fine c }
 {}
