@@ -1,7 +1,9 @@
 //! What holds of printed text. Each function is a law: it does nothing, and its contract is the law.
-ghost use Rattle.std.specs.Prelude.{◌≡◌, ◌≤◌, ◌^◌, ℕ, ℤ, false, List, [], ◌++◌, map};
+ghost use Rattle.std.specs.Prelude.{◌≡◌, ◌≤◌, ◌^◌, ℕ, ℤ, false, true, List, [], ◌++◌, map};
 ghost use Rattle.std.specs.Fmt.{signed_decimal};
-ghost use Rattle.lc_reading.specs.Readings.{fine};
+ghost use Rattle.lc_reading.specs.Readings.{fine, behind_reading};
+ghost use Rattle.lc_reading.specs.Rows.{each_reading};
+ghost use Rattle.lc_reading.specs.Words.{is};
 ghost use Rattle.lc_sexp.specs.Trees.{Tree, Trees, atom, list, none, ◌▸◌, row, item_count};
 ghost use Rattle.lc_term.specs.Syntax.{Formula, Term};
 ghost use Rattle.lc_text.specs.Formulas.{formula_reading};
@@ -13,7 +15,10 @@ ghost use Rattle.lc_text.specs.declared.scope.Extra.TheVariants.{Quantifiers};
 ghost use Rattle.lc_action.specs.Action.{Action};
 ghost use Rattle.lc_tie.specs.Tie.{Conjunct};
 ghost use Rattle.lc_outline.specs.Development.{On};
+ghost use Rattle.lc_term.specs.Updates.{Update};
+ghost use Rattle.lc_rider_text.specs.Actions.{effect_reading};
 ghost use Rattle.lc_rider_text.specs.Conjuncts.{conjunct_reading};
+ghost use Rattle.lc_outline_back.specs.Parts.{update_trees};
 ghost use Rattle.lc_rider_text.specs.Known.{Known};
 ghost use Rattle.lc_rider_text.specs.Ons.{ons_reading};
 ghost use Rattle.lc_rider_text.specs.declared.edges.Edges.{Edges};
@@ -71,4 +76,18 @@ pub fn edges_are_printed_as_they_stood()
 pub fn printed_conjuncts_read_back()
     ensures { (names : Names) (by : Spelled) (n : ℕ) (t : Tree) (c : Conjunct) → IsSpelledSo names by → AreUnbound names → item_count t ≤ 2 ^ 32 →
         conjunct_reading names n t ≡ fine c → conjunct_reading names n (list (atom c.name ▸ formula_tree by 0 c.formula ▸ none)) ≡ fine c }
+{}
+
+/// A list of formulas behind a word is printed so that it reads as the same formulas.
+pub fn printed_lists_of_formulas_read_back()
+    ensures { (names : Names) (by : Spelled) (word : List ℕ) (n : ℕ) (t : Tree) (fs : List Formula) → IsSpelledSo names by → AreUnbound names → item_count t ≤ 2 ^ 32 → is word word ≡ true →
+        behind_reading word (λ n. each_reading (formula_reading names [])) n t ≡ fine fs →
+        behind_reading word (λ n. each_reading (formula_reading names [])) n (list (atom word ▸ row (map (formula_tree by 0) fs))) ≡ fine fs }
+{}
+
+/// The guard of an action is printed so that it reads as the same, and its updates as they stood.
+pub fn printed_effects_read_back()
+    ensures { (known : Known) (names : Names) (by : Spelled) (object : Object) (actions : List Action) (m n : ℕ) (f : Tree) (us : Trees) (p : Formula × List Update) →
+        AreKnown known names by object actions → AreUnbound names → item_count f ≤ 2 ^ 32 → effect_reading known names m f n us ≡ fine p →
+        (update_trees by p.1 ≡ us) × (effect_reading known names m (formula_tree by 0 p.0) n us ≡ fine p) }
 {}
