@@ -15,11 +15,14 @@ use crate::extras::first_behind;
 use lc_base::{Fault, Refusal};
 use lc_cert::Certificate;
 use lc_cond::laws::{conditions_have_few_variables, conditions_use_their_variables};
-use lc_cond::{Condition, conditions};
+use lc_cond::{Condition, ConditionStream};
 use lc_kernel::{Proof, ProofFault, prove};
 use lc_outline::Development;
 use lc_term::Terms;
 use std::alloc::Global;
+
+/// So many entries a table of formulas has where the next part of the conditions is given a new one.
+const TABLE_LIMIT: usize = 65_536;
 
 /// The fault of the proof of the condition of this number.
 fn fault_of(number: u64, fault: ProofFault) -> Fault
@@ -81,7 +84,8 @@ fn prove_each(
     Ok(())
 }
 
-/// How many conditions a development has, each of which has a proof that derives it; else why the least one is refused.
+/// How many conditions a development has, each of which has a proof that derives it; else why the least one is refused. No
+/// more than one part of them is kept at a time.
 fn prove_conditions(
     alloc: Global,
     development: &Development,
@@ -92,10 +96,20 @@ fn prove_conditions(
 {
     conditions_use_their_variables(development);
     conditions_have_few_variables(development);
+    let mut stream = ConditionStream::new(alloc, development)?;
     let mut terms = Terms::new(alloc);
-    let list = conditions(alloc, &mut terms, development)?;
-    prove_each(alloc, &mut terms, 0, &list, certificate)?;
-    Ok(list.len() as u64)
+    let mut first = 0;
+    'parts: loop {
+        let Some(part) = stream.next_part(&mut terms)? else {
+            return Ok(first);
+        };
+        let behind = stream.first_number();
+        prove_each(alloc, &mut terms, first, &part, certificate)?;
+        first = behind;
+        if terms.len() > TABLE_LIMIT {
+            terms = Terms::new(alloc);
+        }
+    }
 }
 
 /// The same, where there are no other proofs; else the least number of one.
