@@ -84,7 +84,7 @@ fn write_outline<S: Spelling>(
     spelling: &S,
     outline: Option<&Outline>,
 ) -> Result<(), OutOfMemory>
-    ensures { OnOk result (string_bytes out.new ≡ string_bytes out.old ++ printed_others (outline_trees (parts_shown parts.now) (S.spelled spelling.now) (option_map (λ outline. outline_of outline.now) outline))) }
+    ensures { OnOk result (string_bytes out.new ≡ string_bytes out.old ++ printed_others (outline_trees (parts_shown parts.now) (S.spelled spelling.now) (option_map (λ outline. outline_of outline.now) outline.entry))) }
 {
     out.push_str(" (assert")?;
     match outline {
@@ -112,7 +112,7 @@ fn write_point<S: Spelling>(
     point: &Point,
     outline: Option<&Outline>,
 ) -> Result<(), OutOfMemory>
-    ensures { OnOk result (string_bytes out.new ≡ string_bytes out.old ++ codes " " ++ printed_tree (point_tree (parts_shown parts.now) (S.spelled spelling.now) (point_of point.now) (option_map (λ outline. outline_of outline.now) outline))) }
+    ensures { OnOk result (string_bytes out.new ≡ string_bytes out.old ++ codes " " ++ printed_tree (point_tree (parts_shown parts.now) (S.spelled spelling.now) (point_of point.now) (option_map (λ outline. outline_of outline.now) outline.entry))) }
 {
     out.push_str(" (point ")?;
     out.push_str(point.name.as_str())?;
@@ -121,6 +121,13 @@ fn write_point<S: Spelling>(
     write_outline(out, parts, spelling, outline)?;
     out.push_str(")")?;
     Ok(())
+}
+
+/// What stands beside the code of the point of this number.
+fn outline_at(parts: &Parts, number: usize) -> Option<&Outline>
+    ensures { option_map (λ outline. outline_of outline.now) result ≡ slice_get (parts_shown parts.now).outlines number }
+{
+    parts.outlines.get(number)
 }
 
 /// Writes `POINT+`, of the body of this operation, each behind a space.
@@ -135,7 +142,7 @@ fn write_points<S: Spelling>(
 {
     for (number, point) in points.iter().enumerate() {
         if point.operation.0 as usize == operation {
-            write_point(out, parts, spelling, point, parts.outlines.get(number))?;
+            write_point(out, parts, spelling, point, outline_at(parts, number))?;
         }
     }
     Ok(())
