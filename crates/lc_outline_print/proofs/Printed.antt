@@ -25,10 +25,10 @@ all_assigned by rs ts text all none_left is =
     sym (append-nil text) ∙ (ap (λ w. text ++ printed_others w) (sym (nothing_assigned by rs) ∙ ap (λ ts. assignment_trees by rs ts) (sym none_left)) ∙ is)
 
 -- a word, two parts behind it, and a bracket
-pub written_mark : (old a b c d t n : List ℕ) → a ≡ old ++ codes "(lin-other" → b ≡ a ++ (codes " " ++ t) → c ≡ b ++ (codes " " ++ n) → d ≡ c ++ codes ")"
+pub written_mark : (old a b c d t n : List ℕ) → a ≡ old ++ codes "(lin-other" → b ≡ a ++ codes " " ++ t → c ≡ b ++ codes " " ++ n → d ≡ c ++ codes ")"
     → d ≡ old ++ (codes "(lin-other " ++ ((t ++ (32 ∷ (n ++ []))) ++ codes ")"))
 written_mark old a b c d t n opened first second closed =
-    closed ∙ ap (λ w. w ++ codes ")") (second ∙ ap (λ w. w ++ (32 ∷ n)) (first ∙ ap (λ w. w ++ (32 ∷ t)) opened))
+    closed ∙ ap (λ w. w ++ codes ")") (second ∙ append_assoc b (codes " ") n ∙ ap (λ w. w ++ (32 ∷ n)) (first ∙ append_assoc a (codes " ") t ∙ ap (λ w. w ++ (32 ∷ t)) opened))
     ∙ ap (λ w. w ++ codes ")") (append_assoc (old ++ codes "(lin-other") (32 ∷ t) (32 ∷ n))
     ∙ append_assoc (old ++ codes "(lin-other") (32 ∷ (t ++ (32 ∷ n))) (codes ")")
     ∙ append_assoc old (codes "(lin-other") (32 ∷ ((t ++ (32 ∷ n)) ++ codes ")"))
