@@ -1,14 +1,50 @@
 use Rattle.std.proofs.Common.{◌≡◌, ap, ap₂, sym, ◌∙◌, Some, rules, refl, slice_get}
 use Rattle.lc_term.specs.Syntax as S
-use Rattle.lc_term.specs.Nodes.{term as term_part, column as column_part}
+use Rattle.lc_term.specs.Nodes.{part_of, term as term_part, column as column_part}
 use Rattle.lc_term.specs.Tables.{parts, term_in, column_in, IsTerm}
-use Rattle.lc_term.specs.NodeReplacement.{part_in, replaced_part}
+use Rattle.lc_term.specs.NodeReplacement.{as_part, part_in, replaced_part}
 use Rattle.lc_term.proofs.Later.{kept_on, same_store, is_column_later}
 use Rattle.lc_term.proofs.NodeReplacement.{one_term, first_term, second_term, later_term, first_column}
 use Rattle.lc_term.specs.Replacement.{under_many}
 use Rattle.lc_term.proofs.Remembered.{stands_later, term_remembered, column_remembered, term_noted, column_noted}
 use Rattle.std.proofs.lemmas.Result.{IfOk-weaker}
 use Rattle.lc_term.proofs.table.Terms.+replaced_part.Goals as goal
+
+pub replaced_part-replaced_variable-requires-clause-there : goal.replaced_part-replaced_variable-requires-clause-there
+replaced_part-replaced_variable-requires-clause-there g t c = c.part_node.ensures.tree ∙ ap (λ n. Some (part_of (parts c.args.self.now) n)) c.in-Variable.is
+
+pub replaced_part-replaced_variable-requires-clause-put : goal.replaced_part-replaced_variable-requires-clause-put
+replaced_part-replaced_variable-requires-clause-put g t c = c.requires.done.filled
+
+pub replaced_part-returns-in-Variable-clause-id : goal.replaced_part-returns-in-Variable-clause-id
+replaced_part-returns-in-Variable-clause-id g t c =
+    let r = under_many c.args.depth g.R.Filled.replacement in
+    let at = c.part_node.ensures.tree ∙ ap (λ n. Some (part_of (parts c.args.self.now) n)) c.in-Variable.is in
+    IfOk-weaker c.replaced_variable.result _ _ (λ k h. h ∙ ap (λ o. Some (replaced_part r (as_part o))) (sym at)) c.replaced_variable.ensures.id
+
+pub replaced_part-replaced_base-requires-clause-there : goal.replaced_part-replaced_base-requires-clause-there
+replaced_part-replaced_base-requires-clause-there g t c = c.part_node.ensures.tree ∙ ap (λ n. Some (part_of (parts c.args.self.now) n)) c.in-Base.is
+
+pub replaced_part-replaced_base-requires-clause-put : goal.replaced_part-replaced_base-requires-clause-put
+replaced_part-replaced_base-requires-clause-put g t c = c.requires.done.filled
+
+pub replaced_part-returns-in-Base-clause-id : goal.replaced_part-returns-in-Base-clause-id
+replaced_part-returns-in-Base-clause-id g t c =
+    let r = under_many c.args.depth g.R.Filled.replacement in
+    let at = c.part_node.ensures.tree ∙ ap (λ n. Some (part_of (parts c.args.self.now) n)) c.in-Base.is in
+    IfOk-weaker c.replaced_base.result _ _ (λ k h. h ∙ ap (λ o. Some (replaced_part r (as_part o))) (sym at)) c.replaced_base.ensures.id
+
+pub replaced_part-replaced_bound-requires-clause-there : goal.replaced_part-replaced_bound-requires-clause-there
+replaced_part-replaced_bound-requires-clause-there g t c = c.part_node.ensures.tree ∙ ap (λ n. Some (part_of (parts c.args.self.now) n)) c.in-Bound.is
+
+pub replaced_part-replaced_bound-requires-clause-put : goal.replaced_part-replaced_bound-requires-clause-put
+replaced_part-replaced_bound-requires-clause-put g t c = c.requires.done.filled
+
+pub replaced_part-returns-in-Bound-clause-id : goal.replaced_part-returns-in-Bound-clause-id
+replaced_part-returns-in-Bound-clause-id g t c =
+    let r = under_many c.args.depth g.R.Filled.replacement in
+    let at = c.part_node.ensures.tree ∙ ap (λ n. Some (part_of (parts c.args.self.now) n)) c.in-Bound.is in
+    IfOk-weaker c.replaced_bound.result _ _ (λ k h. h ∙ ap (λ o. Some (replaced_part r (as_part o))) (sym at)) c.replaced_bound.ensures.id
 
 pub replaced_part-returns-in-Variable-clause-done : goal.replaced_part-returns-in-Variable-clause-done
 replaced_part-returns-in-Variable-clause-done g t c = IfOk-weaker c.replaced_variable.result _ _ (λ k h. stands_later g.R.Filled.replacement c.args.put.now _ _ _ c.requires.done c.replaced_variable.ensures.kept) c.replaced_variable.ensures.id
