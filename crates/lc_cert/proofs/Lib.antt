@@ -9,3 +9,5 @@ pub mod Written
 pub mod Spelled
 pub mod Kept
 pub mod Sized
+pub mod FormSteps
+pub mod Pieces

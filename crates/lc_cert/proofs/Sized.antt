@@ -1,5 +1,5 @@
 -- The proofs of a certificate that is read have no more steps than the file has bytes.
-use Rattle.std.proofs.Common.{◌≡◌, ℕ, ◌+◌, ◌≤◌, List, ◌∷◌, Option, None, arith}
+use Rattle.std.proofs.Common.{ℕ, ◌+◌, ◌≤◌, List, ◌∷◌, Option, None, arith}
 use Rattle.std.specs.Prelude.{codes}
 use Rattle.lc_sexp.proofs.Items.{items_fit_lem}
 use Rattle.lc_sexp.specs.Trees.{Tree, Trees, none, ◌▸◌, item_count, item_count_of_all}
@@ -18,7 +18,7 @@ use Rattle.lc_cert.specs.Files.{Certifies}
 use Rattle.lc_cert.specs.Readings.{place_reading, entry, parts_reading, entry_reading, last_behind, entries_reading, name_due, named_reading, form_reading, certificate_reading}
 
 -- no more steps than so many items
-abbrev IsSized : ℕ → Entry → Type 0
+abbrev pub IsSized : ℕ → Entry → Type 0
 IsSized n e = size e.proof ≤ n
 
 abbrev AreSized : ℕ → List Entry → Type 0
@@ -34,7 +34,7 @@ parts_sized names last n m (t ▸ u ▸ ts) =
     two_fine (λ k. Unit {0}) (λ p. size p ≤ item_count u) (IsSized (item_count_of_all (t ▸ u ▸ ts))) entry m t u ts (place_reading last m t) (proof_reading names (m + item_count t) u)
     (anything (place_reading last m t)) (proof_sized names (m + item_count t) u) (λ k p a b. omega (arith, b))
 
-entry_sized : (names : Names) (last : Option ℕ) (n : ℕ) (t : Tree) → IfFine (entry_reading names last n t) (IsSized (item_count t))
+pub entry_sized : (names : Names) (last : Option ℕ) (n : ℕ) (t : Tree) → IfFine (entry_reading names last n t) (IsSized (item_count t))
 entry_sized names last n t =
     behind_fine (IsSized (item_count t)) (codes "proof") (parts_reading names last) n t
     (λ m ts few. weaker (IsSized (item_count_of_all ts)) (IsSized (item_count t)) (parts_reading names last n m ts) (λ e a. omega (arith, a, few)) (parts_sized names last n m ts))

@@ -6,3 +6,4 @@ pub mod Readings
 pub mod Answers
 pub mod Files
 pub mod Printed
+pub mod Pieces

@@ -1,14 +1,17 @@
 //! Certificates: proofs by the numbers of the conditions that they are to prove, their text, and how it is read.
 #![tactic(auto)]
 
+mod cert_reader;
 mod certificate;
 mod column_names;
 mod entry;
+mod form_reader;
 pub mod laws;
 mod printing;
 mod reading;
 mod scope;
 
+pub use cert_reader::CertReader;
 pub use certificate::Certificate;
 pub use entry::Entry;
 pub use printing::certificate_text;

@@ -79,7 +79,7 @@ fn read_parts(
 }
 
 /// `(proof K P)`
-fn read_entry(
+pub(crate) fn read_entry(
     alloc: Global,
     columns: &NameTable<'_>,
     last: Option<u64>,
@@ -123,7 +123,7 @@ fn read_entries(
 }
 
 /// What is wrong in the item where this name is due.
-fn read_due(name: &str, part: Part<'_>) -> Result<(), ReadFault>
+pub(crate) fn read_due(name: &str, part: Part<'_>) -> Result<(), ReadFault>
     ensures { IsReading (λ u. u) (name_due name.now (place_of part.entry) (tree_of part.entry)) result }
 {
     match part.item() {
@@ -176,7 +176,7 @@ fn read_file(
 }
 
 /// What a fault of text is in a certificate.
-fn text_told(fault: Fault) -> Fault
+pub(crate) fn text_told(fault: Fault) -> Fault
     ensures { result ≡ text_told fault }
 {
     match fault {
@@ -186,7 +186,7 @@ fn text_told(fault: Fault) -> Fault
 }
 
 /// What a flaw is in a certificate: its least item, in whatever pass.
-fn trees_told(fault: ReadFault) -> Fault
+pub(crate) fn trees_told(fault: ReadFault) -> Fault
     ensures { result ≡ trees_told fault }
 {
     match fault {

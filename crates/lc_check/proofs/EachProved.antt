@@ -1,5 +1,5 @@
 -- Conditions that are proved one after another, in a table that grows.
-use Rattle.std.proofs.Common.{◌≡◌, ℕ, Bool, true, false, cond, zero, suc, ◌+◌, ◌<◌, ◌≤◌, inl, inr, List, [], ◌∷◌, ◌++◌, map, take, drop, length, get_or, Option, Some, None, refl, sym, ap, ap₂, ◌∙◌, subst, arith, add-zero}
+use Rattle.std.proofs.Common.{◌≡◌, ℕ, Bool, true, false, cond, zero, suc, ◌+◌, ◌<◌, ◌≤◌, inl, inr, List, [], ◌∷◌, ◌++◌, map, take, drop, length, length-append, get_or, Option, Some, None, refl, sym, ap, ap₂, ◌∙◌, subst, arith, add-zero}
 use Rattle.std.proofs.lemmas.List.{map-append, take_more, take-append-drop, length-map, length-take-le}
 use Rattle.std.proofs.lemmas.Option.{same_Some}
 use Rattle.std.specs.Prelude.{Result, Ok, Err, ◌==◌, option_map, IfSome}
@@ -8,6 +8,7 @@ use Rattle.lc_base.specs.declared.refusal.Fault.TheVariants.{Refused, OutOfMemor
 use Rattle.lc_base.specs.declared.refusal.Refusal.{Refusal}
 use Rattle.lc_base.specs.declared.refusal.Refusal.TheVariants.{Extra}
 use Rattle.lc_term.proofs.Later.{formula_still, formulas_still, is_formula_still, are_formulas_still}
+use Rattle.lc_term.proofs.Stores.{Every_left, Every_right}
 use Rattle.lc_term.specs.Lists.{Every}
 use Rattle.lc_term.specs.NodeTables.{Table}
 use Rattle.lc_term.specs.Tables.{Keeps}
@@ -141,13 +142,6 @@ pub all_bounded : (cs : List S.Condition) → Every UsesItsVariables cs → Ever
 all_bounded [] h g = tt
 all_bounded (c ∷ cs) h g = ((h.0, g.0), all_bounded cs h.1 g.1)
 
-pub counted : (es : List Entry) (cs : List S.Condition) (n : ℕ) (u : Unit {0}) → n ≡ length cs → ProvesEach es 0 cs (Ok u) → CountsProved es cs (Ok n)
-counted es cs n u is h = (is, h)
-
-pub not_counted : (es : List Entry) (cs : List S.Condition) (fault : Fault) → ProvesEach es 0 cs (Err fault) → CountsProved es cs (Err fault)
-not_counted es cs (Refused r) h = h
-not_counted es cs OutOfMemory h = tt
-
 pub no_other : (es : List Entry) (cs : List S.Condition) (n : ℕ) → CountsProved es cs (Ok n) → None ≡ first_behind n es → CountsAll es cs (Ok n)
 no_other es cs n h none = (h.0, (h.1, subst (λ m. HasNoExtra m es) h.0 (none_behind n es (sym none))))
 
@@ -159,6 +153,60 @@ another es cs n k rises h found =
 pub not_all : (es : List Entry) (cs : List S.Condition) (fault : Fault) → CountsProved es cs (Err fault) → CountsAll es cs (Err fault)
 not_all es cs (Refused r) h = inl h
 not_all es cs OutOfMemory h = tt
+
+-- ---- conditions part by part
+
+-- What is left, from number n on, of conditions the first of which is 0: where it is proved they all are, and its refusal is theirs
+pub record LeadsTo (es : List Entry) (n : ℕ) (left cs : List S.Condition) : Type 0 where
+  pub count : n + length left ≡ length cs
+  pub bounded : Every IsBounded left
+  pub proved : AreProved es n left → AreProved es 0 cs
+  pub unproved : (r : Refusal) → IsFirstUnproved es n left r → IsFirstUnproved es 0 cs r
+
+pub leads_at_first : (es : List Entry) (left cs : List S.Condition) → left ≡ cs → Every IsBounded cs → LeadsTo es 0 left cs
+leads_at_first es left cs same bounded = subst (λ l. LeadsTo es 0 l cs) (sym same) (record { count = omega arith; bounded = bounded; proved = λ h. h; unproved = λ r h. h })
+
+both_proved : (es : List Entry) (k : ℕ) (cs ds : List S.Condition) → AreProved es k cs → AreProved es (k + length cs) ds → AreProved es k (cs ++ ds)
+both_proved es k [] ds h g = subst (λ n. AreProved es n ds) (add-zero k) g
+both_proved es k (c ∷ cs) ds h g =
+    let e : k + length (c ∷ cs) ≡ suc k + length cs = omega arith in
+    (h.0, both_proved es (suc k) cs ds h.1 (subst (λ n. AreProved es n ds) e g))
+
+later_unproved : (es : List Entry) (k : ℕ) (cs ds : List S.Condition) (r : Refusal) → AreProved es k cs → IsFirstUnproved es (k + length cs) ds r → IsFirstUnproved es k (cs ++ ds) r
+later_unproved es k [] ds r h g = subst (λ n. IsFirstUnproved es n ds r) (add-zero k) g
+later_unproved es k (c ∷ cs) ds r h g =
+    let e : k + length (c ∷ cs) ≡ suc k + length cs = omega arith in
+    inr (h.0, later_unproved es (suc k) cs ds r h.1 (subst (λ n. IsFirstUnproved es n ds r) e g))
+
+sooner_unproved : (es : List Entry) (k : ℕ) (cs ds : List S.Condition) (r : Refusal) → IsFirstUnproved es k cs r → IsFirstUnproved es k (cs ++ ds) r
+sooner_unproved es k [] ds r h = absurd h
+sooner_unproved es k (c ∷ cs) ds r (inl h) = inl h
+sooner_unproved es k (c ∷ cs) ds r (inr (p, h)) = inr (p, sooner_unproved es (suc k) cs ds r h)
+
+module _ (es : List Entry) (n : ℕ) (left part behind cs : List S.Condition) (leads : LeadsTo es n left cs) (split : left ≡ part ++ behind) where
+  here : LeadsTo es n (part ++ behind) cs
+  here = subst (λ l. LeadsTo es n l cs) split leads
+
+  pub part_bounded : Every IsBounded part
+  part_bounded = Every_left IsBounded part behind here.bounded
+
+  pub part_not : (fault : Fault) → ProvesEach es n part (Err fault) → CountsProved es cs (Err fault)
+  part_not (Refused r) h = here.unproved r (sooner_unproved es n part behind r h)
+  part_not OutOfMemory h = tt
+
+  pub leads_on : (m : ℕ) → m ≡ n + length part → AreProved es n part → LeadsTo es m behind cs
+  leads_on m is h = record {
+    count = (let all = here.count in let size = length-append part behind in omega (arith, all, is, size));
+    bounded = Every_right IsBounded part behind here.bounded;
+    proved = λ g. here.proved (both_proved es n part behind h (subst (λ k. AreProved es k behind) is g));
+    unproved = λ r g. here.unproved r (later_unproved es n part behind r h (subst (λ k. IsFirstUnproved es k behind r) is g));
+  }
+
+pub all_counted : (es : List Entry) (n : ℕ) (left cs : List S.Condition) → LeadsTo es n left cs → left ≡ [] → CountsProved es cs (Ok n)
+all_counted es n left cs leads none =
+    let here = subst (λ l. LeadsTo es n l cs) none leads in
+    let all = here.count in
+    (omega (arith, all), here.proved tt)
 
 -- ---- derived
 

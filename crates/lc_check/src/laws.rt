@@ -2,6 +2,7 @@
 ghost use Rattle.std.specs.Prelude.{◌≡◌, ◌⊎◌, ℕ, List};
 ghost use Rattle.lc_base.specs.declared.refusal.Refusal.{Refusal};
 ghost use Rattle.lc_outline.specs.Development.{Development};
+ghost use Rattle.lc_sound.specs.Linearizable.{IsLinearizableObject};
 ghost use Rattle.lc_check.specs.Verdicts.{IsAccepted, IsRefused};
 
 /// Each pair of files has one verdict: a development of theirs is accepted, or they have one first refusal; and never both.
@@ -10,4 +11,10 @@ pub fn two_files_have_one_verdict()
     ensures not_both { (dev cert : List ℕ) (D : Development) (refusal : Refusal) → IsAccepted dev cert D → IsRefused dev cert refusal → ⊥ }
     ensures one_development { (dev cert : List ℕ) (D E : Development) → IsAccepted dev cert D → IsAccepted dev cert E → D ≡ E }
     ensures one_refusal { (dev cert : List ℕ) (r s : Refusal) → IsRefused dev cert r → IsRefused dev cert s → r ≡ s }
+{}
+
+/// Where two files are accepted, for every number of clients and every list of single-access steps of the development's
+/// object the history of calls and returns is linearizable by its specification.
+pub fn what_is_accepted_is_linearizable()
+    ensures { (dev cert : List ℕ) (D : Development) → IsAccepted dev cert D → IsLinearizableObject D.specification D.object }
 {}

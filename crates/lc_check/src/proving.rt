@@ -15,7 +15,7 @@ use crate::extras::first_behind;
 use lc_base::{Fault, Refusal};
 use lc_cert::Certificate;
 use lc_cond::laws::{conditions_have_few_variables, conditions_use_their_variables};
-use lc_cond::{Condition, conditions};
+use lc_cond::{Condition, ConditionStream};
 use lc_kernel::{Proof, ProofFault, prove};
 use lc_outline::Development;
 use lc_term::Terms;
@@ -81,7 +81,8 @@ fn prove_each(
     Ok(())
 }
 
-/// How many conditions a development has, each of which has a proof that derives it; else why the least one is refused.
+/// How many conditions a development has, each of which has a proof that derives it; else why the least one is refused. No
+/// more than one part of them is kept at a time.
 fn prove_conditions(
     alloc: Global,
     development: &Development,
@@ -92,10 +93,19 @@ fn prove_conditions(
 {
     conditions_use_their_variables(development);
     conditions_have_few_variables(development);
-    let mut terms = Terms::new(alloc);
-    let list = conditions(alloc, &mut terms, development)?;
-    prove_each(alloc, &mut terms, 0, &list, certificate)?;
-    Ok(list.len() as u64)
+    let mut stream = ConditionStream::new(alloc, development)?;
+    let mut first = 0;
+    'parts: loop {
+        // Each part has a table of its own, so that what its proofs made is let go with it. A part enters all its formulas,
+        // whether or not they are in the table already, so the time stays in proportion to what the conditions say.
+        let mut terms = Terms::new(alloc);
+        let Some(part) = stream.next_part(&mut terms)? else {
+            return Ok(first);
+        };
+        let behind = stream.first_number();
+        prove_each(alloc, &mut terms, first, &part, certificate)?;
+        first = behind;
+    }
 }
 
 /// The same, where there are no other proofs; else the least number of one.

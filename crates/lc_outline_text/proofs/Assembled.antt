@@ -2,12 +2,12 @@
 use Rattle.std.proofs.Common.{◌≡◌, ℕ, zero, suc, ◌+◌, ◌≤◌, ◌<◌, true, ◌==◌, List, [], ◌∷◌, ◌++◌, map, length, length-append, refl, sym, ap, ◌∙◌, subst, arith}
 use Rattle.std.proofs.lemmas.List.{length-map}
 use Rattle.std.specs.List.{list_all}
-use Rattle.std.specs.Prelude.{codes}
+use Rattle.std.specs.Prelude.{codes, nat_lt}
 use Rattle.lc_sexp.specs.Parts.{fits, form_fit}
 use Rattle.lc_sexp.specs.TreeCode.{tree_count}
 use Rattle.lc_sexp.specs.Trees.{Tree, Trees, none, ◌▸◌, item_count}
-use Rattle.lc_reading.proofs.Holding.{Holds, held, anything, both_holds, ended_holds, and_true, weaker, and_holds}
-use Rattle.lc_reading.specs.Readings.{fine}
+use Rattle.lc_reading.proofs.Holding.{Holds, held, anything, both_holds, ended_holds, limited_holds, and_true, weaker, and_holds}
+use Rattle.lc_reading.specs.Readings.{Reading, fine, flawed, limited}
 use Rattle.lc_text.specs.Terms.{pair}
 use Rattle.lc_object.specs.Syntax.{Point}
 use Rattle.lc_object.specs.WellFormed.{is_object}
@@ -27,6 +27,7 @@ use Rattle.lc_seq.specs.SpecView.{column_of, operations_of}
 use Rattle.lc_seq.specs.Specification.{Specification, operation_is_resolved, names_differ}
 use Rattle.lc_seq.specs.TextView.{specification_of}
 use Rattle.lc_seq.specs.declared.specification.TextSpec.{TextSpec}
+use Rattle.lc_spec_text.proofs.Resolved.{specification_resolved}
 use Rattle.lc_spec_text.specs.Specifications as Q
 use Rattle.lc_outline_text.proofs.Agreed.{IsSpecificationSaid, specification_said, AreSame, same, matched, branched}
 use Rattle.lc_outline_text.proofs.Fitting.{Fits, left, same_number, actions_resolved, asserts_resolved, arguments_resolved, edges_resolved}
@@ -34,9 +35,10 @@ use Rattle.lc_outline_text.proofs.ObjectOf.{IsObjectOf, objects, object_is_one}
 use Rattle.lc_outline_text.proofs.Outlined.{AreBodiesOf, bodies_outlined, all_points, each_point, code_points, outline_points}
 use Rattle.lc_outline_text.proofs.SidesHold.{AreSides, sides_hold}
 use Rattle.lc_outline_text.specs.Bodies.{bodies_reading}
-use Rattle.lc_outline_text.specs.Declarations.{declarations_in, declarations_of}
-use Rattle.lc_outline_text.specs.Developments.{Parts, specification_reading, tables_reading, object_reading, second_form_reading, code_of, development_of, forms_reading}
+use Rattle.lc_outline_text.specs.Declarations.{Declarations, declarations_in, declarations_of}
+use Rattle.lc_outline_text.specs.Developments.{Parts, specification_reading, tables_reading, object_reading, second_form_reading, code_of, development_of, forms_reading, condition_limit, file_reading}
 use Rattle.lc_outline_text.specs.Sides.{Sides, sides_reading}
+use Rattle.lc_outline_text.specs.Sizes.{condition_count}
 
 -- ---- the specification
 
@@ -176,3 +178,29 @@ pub text_is_resolved : (q : TextSpec) → list_all (operation_is_resolved (lengt
 text_is_resolved q =
     let operations = operations_of q.operations.items in
     subst (λ n. list_all (operation_is_resolved n) operations ≡ true) (sym (length-map q.columns.items column_of)) (left (list_all (operation_is_resolved (length q.columns.items)) operations) (names_differ operations) q.is_resolved)
+
+-- ---- what a file says
+
+abbrev IsSpecified : Development → Type 0
+IsSpecified D = list_all (operation_is_resolved (length D.specification.columns)) D.specification.operations ≡ true
+
+specified : (d : Declarations) (s : Sections) (n : ℕ) (ts : Trees) → Holds IsSpecified (forms_reading d s n ts)
+specified d s n none = tt
+specified d s n (t ▸ ts) =
+    let P = λ (q : Specification). list_all (operation_is_resolved (length q.columns)) q.operations ≡ true in
+    both_holds (λ (p : O.SpecificationText × Specification). P p.1) (λ o. Unit {0}) IsSpecified development_of (specification_reading d n t) (second_form_reading d s (n + item_count t) ts)
+    (both_holds (λ (p : O.SpecificationText). Unit {0}) P (λ (p : O.SpecificationText × Specification). P p.1) pair (O.specification_reading d.declared n t) (Q.specification_reading d.declared.columns n t)
+    (anything (O.specification_reading d.declared n t)) (specification_resolved d.declared.columns n t) (λ p q u h. h))
+    (anything (second_form_reading d s (n + item_count t) ts)) (λ p o h u. h)
+
+reads_itself : {X : Type 0} (r : Reading X) → Holds (λ x. r ≡ fine x) r
+reads_itself (fine x) = refl
+reads_itself (flawed f) = tt
+
+-- the development that a file says is resolved
+pub says_resolved : (ts : Trees) (D : Development) → file_reading ts ≡ fine D → is_resolved D ≡ true
+says_resolved ts D e =
+    let forms = forms_reading (declarations_of ts) (sections_of ts) 0 ts in
+    let within = nat_lt condition_limit (condition_count (declarations_of ts) (sections_of ts)) in
+    let read = held (λ (E : Development). forms ≡ fine E) (limited within 0 forms) D (limited_holds (λ (E : Development). forms ≡ fine E) within 0 forms (reads_itself forms)) e in
+    development_is_resolved ts D read (held IsSpecified forms D (specified (declarations_of ts) (sections_of ts) 0 ts) read)

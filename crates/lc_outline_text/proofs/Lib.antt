@@ -1,5 +1,5 @@
 mod Agreed
-mod Assembled
+pub mod Assembled
 mod CodeAlone
 mod Counting
 mod FileReads

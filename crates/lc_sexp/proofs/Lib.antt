@@ -20,3 +20,4 @@ pub mod Takings
 pub mod Tokens
 pub mod Unique
 pub mod Walks
+pub mod Whole

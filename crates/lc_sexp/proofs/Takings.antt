@@ -13,21 +13,21 @@ use Rattle.lc_sexp.specs.declared.part.Part.{Part}
 use Rattle.lc_sexp.proofs.Rows.{entries_joined, tokens_joined, count_joined}
 
 -- parts by the numbers of the first
-in_at : (f g i j : ℕ) (ts : Trees) → f ≡ g → i ≡ j → parts_in f i ts ≡ parts_in g j ts
+pub in_at : (f g i j : ℕ) (ts : Trees) → f ≡ g → i ≡ j → parts_in f i ts ≡ parts_in g j ts
 in_at f g i j ts d e = ap (λ n. parts_in n i ts) d ∙ ap (λ n. parts_in g n ts) e
 
 from_at : (f g i j : ℕ) (ts : Trees) → f ≡ g → i ≡ j → parts_from f i ts ≡ parts_from g j ts
 from_at f g i j ts d e = ap (λ n. parts_from n i ts) d ∙ ap (λ n. parts_from g n ts) e
 
 -- parts of trees one behind another
-in_joined : (f i : ℕ) (ts us : Trees) → parts_in f i (joined_rows ts us) ≡ parts_in f i ts ++ parts_in f (i + item_count_of_all ts) us
+pub in_joined : (f i : ℕ) (ts us : Trees) → parts_in f i (joined_rows ts us) ≡ parts_in f i ts ++ parts_in f (i + item_count_of_all ts) us
 in_joined f i none us = in_at f f i (i + 0) us refl (omega arith)
 in_joined f i (t ▸ ts) us =
     ap (λ ps. record { form = f; item = i; sexp = t } ∷ ps)
     (in_joined f (i + item_count t) ts us
     ∙ ap (λ ps. parts_in f (i + item_count t) ts ++ ps) (in_at f f (i + item_count t + item_count_of_all ts) (i + (item_count t + item_count_of_all ts)) us refl (omega arith)))
 
-from_joined : (f i : ℕ) (ts us : Trees) → parts_from f i (joined_rows ts us) ≡ parts_from f i ts ++ parts_from (f + tree_count ts) (i + item_count_of_all ts) us
+pub from_joined : (f i : ℕ) (ts us : Trees) → parts_from f i (joined_rows ts us) ≡ parts_from f i ts ++ parts_from (f + tree_count ts) (i + item_count_of_all ts) us
 from_joined f i none us = from_at f (f + 0) i (i + 0) us (omega arith) (omega arith)
 from_joined f i (atom w ▸ ts) us =
     from_joined (f + 1) (i + 1) ts us

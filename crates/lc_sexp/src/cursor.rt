@@ -70,6 +70,28 @@ impl<'a> Cursor<'a> {
         }
     }
 
+    /// A cursor at the first of these, whose number is this one, where what stands behind them has that one.
+    #[tactic(auto, unfolding(crate::specs::Shown::rest_of))]
+    pub(crate) fn numbered(
+        nodes: &'a [Node],
+        text: &'a [u8],
+        number: u64,
+        behind: u64,
+    ) -> Cursor<'a>
+        requires flat { IsFlat text.now nodes.now }
+        requires counted { number + item_count_of_all (trees_of text.now nodes.now) ≡ behind }
+        ensures rest { rest_of result ≡ trees_of text.now nodes.now }
+        ensures number { number_of result ≡ number }
+        ensures owner { owner_of result ≡ number + item_count_of_all (trees_of text.now nodes.now) }
+    {
+        Cursor {
+            nodes,
+            text,
+            number,
+            owner: behind,
+        }
+    }
+
     /// A cursor with nothing left.
     #[tactic(auto, unfolding(crate::specs::Shown::rest_of, crate::specs::Flat::trees_of))]
     pub fn empty() -> Cursor<'a>

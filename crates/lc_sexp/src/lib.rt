@@ -22,8 +22,8 @@ mod splitter;
 pub use cursor::{Atom, Cursor, Item};
 pub use forms::Forms;
 pub use laws::{
-    items_are_counted, items_fit, one_first_fault, one_reading, printed_is_read, read_has_atoms,
-    reading_excludes_fault, reading_or_fault,
+    all_parts_end, items_are_counted, items_fit, one_first_fault, one_reading, printed_is_read,
+    read_has_atoms, reading_excludes_fault, reading_or_fault, taken_parts_are_the_first,
 };
 pub use machine::{DEPTH_LIMIT, FILE_LIMIT};
 pub use misfit::Misfit;

@@ -39,7 +39,7 @@ impl Model for Sexp {
 }
 
 impl Sexp {
-    ghost use Rattle.std.specs.Prelude.{◌≡◌, ◌++◌, true, IfOk, OnOk};
+    ghost use Rattle.std.specs.Prelude.{◌≡◌, ◌+◌, ◌++◌, true, IfOk, OnOk};
     ghost use Rattle.lc_sexp.specs.Trees.{atom, list, none, ◌▸◌, row, item_count};
     ghost use Rattle.lc_sexp.specs.TreeCode.{head_tree};
     ghost use Rattle.lc_sexp.specs.Entries.{entries_of};
@@ -100,6 +100,20 @@ impl Sexp {
     {
         let count = self.nodes.len();
         Cursor::new(&self.nodes, &self.text, count as u64)
+    }
+
+    /// The same where its items are numbered from this one on, as in the file of which it is a part. `OutOfMemory` is
+    /// answered where their numbers have more than 64 bits, as in no file.
+    pub fn cursor_from(&self, number: u64) -> Result<Cursor<'_>, OutOfMemory>
+        ensures rest { IfOk result (λ cursor. rest_of cursor ≡ self.now ▸ none) }
+        ensures number { IfOk result (λ cursor. number_of cursor ≡ number) }
+        ensures owner { IfOk result (λ cursor. owner_of cursor ≡ number + item_count self.now) }
+    {
+        let count = self.nodes.len();
+        let Some(behind) = number.checked_add(count as u64) else {
+            return Err(OutOfMemory);
+        };
+        Ok(Cursor::numbered(&self.nodes, &self.text, number, behind))
     }
 
     /// Puts a copy of its items behind others.

@@ -9,6 +9,7 @@ use Rattle.std.specs.List.{list_all}
 use Rattle.lc_sexp.specs.Numerals.{integer_of}
 use Rattle.lc_sexp.specs.Parts.{fits, beyond, fits_i64, integer_within}
 use Rattle.lc_sexp.specs.Trees.{Tree, Trees, atom, list, none, ◌▸◌, item_count}
+use Rattle.lc_term.proofs.Tests.{left_true}
 use Rattle.lc_term.specs.Places.{known, term_passes, column_passes, is_known, are_known}
 use Rattle.lc_term.specs.Syntax.{Term, Column, Formula, Formulas}
 use Rattle.lc_term.specs.Truth.{is_ground, are_ground}
@@ -38,7 +39,7 @@ use Rattle.lc_spec_text.proofs.Places.{placed_below}
 use Rattle.lc_spec_text.specs.Scopes.{Columns, client, branch_names}
 use Rattle.lc_spec_text.specs.Branches.{stored, written_reading, the_update, update_parts_reading, update_reading, updates_reading, replies_reading, the_branch, branch_parts_reading, branch_reading}
 use Rattle.lc_spec_text.specs.Operations.{natural, few, count_reading, count_in, fitting_natural, arguments_reading, variables_in, operation_parts_reading, the_operation, operation_reading}
-use Rattle.lc_spec_text.specs.Specifications.{the_column, column_reading, columns_reading, columns_in, specification_parts_reading}
+use Rattle.lc_spec_text.specs.Specifications.{the_column, column_reading, columns_reading, columns_in, specification_parts_reading, the_specification, specification_reading}
 
 -- columns and variables of a term are below these counts
 abbrev pub TermKnown : ℕ → ℕ → Term → Type 0
@@ -325,6 +326,13 @@ parts_hold others n m (t ▸ u ▸ o ▸ os) =
     (declared_holds test (operation_reading columns) second_name (operation_holds columns) [] (m + item_count t + item_count u) (o ▸ os))
     (operations_differ columns (m + item_count t + item_count u) (o ▸ os))))
     (λ w ds os u e g. subst (λ n. are_resolved n os ≡ true) (sym e) g)
+
+-- what a text says is resolved
+pub specification_resolved : (others : List (List ℕ)) (n : ℕ) (t : Tree) → Holds (λ (s : Specification). list_all (operation_is_resolved (length s.columns)) s.operations ≡ true) (specification_reading others n t)
+specification_resolved others n t =
+    mapped_holds IsResolved (λ (s : Specification). list_all (operation_is_resolved (length s.columns)) s.operations ≡ true) the_specification _
+    (behind_holds IsResolved (codes "spec") (specification_parts_reading others) n t (parts_hold others))
+    (λ p h. left_true (list_all (operation_is_resolved (length p.0.1)) p.1) (names_differ p.1) h)
 
 -- what is read of the parts is resolved
 pub parts_resolved : (others : List (List ℕ)) (n m : ℕ) (ts : Trees) (a : Result ((Name × Vec ColumnValue Global) × Vec OperationValue Global) ReadFault) → IsReading specification_parts (specification_parts_reading others n m ts) a

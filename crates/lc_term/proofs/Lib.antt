@@ -27,3 +27,4 @@ pub mod Copied
 pub mod NodeReplacement
 pub mod Entries
 pub mod Remembered
+pub mod Filled

@@ -1,5 +1,5 @@
 -- What is remembered of a replacement stays so in later tables, and is added to.
-use Rattle.std.proofs.Common.{◌≡◌, ℕ, ◌+◌, ◌<◌, Bool, true, false, ◌==◌, List, [], ◌∷◌, ◌++◌, length, map, take, get_or, slice_get, Some, cond, refl, sym, ap, ◌∙◌, subst}
+use Rattle.std.proofs.Common.{◌≡◌, ℕ, ◌+◌, ◌<◌, Bool, true, false, ◌==◌, List, [], ◌∷◌, ◌++◌, length, map, take, get_or, slice_get, Some, cond, inl, inr, ◌⊎◌, refl, sym, ap, ◌∙◌, subst}
 use Rattle.std.proofs.lemmas.List.{map-append}
 use Rattle.std.specs.Map.{lookup}
 use Rattle.std.proofs.lemmas.Bool.{and_parts}
@@ -12,16 +12,17 @@ use Rattle.lc_term.specs.declared.put.ReplacedNodes.{ReplacedNodes}
 use Rattle.lc_term.specs.Nodes.{term, column}
 use Rattle.lc_term.specs.NodeTables.{Table}
 use Rattle.lc_term.specs.NodeReplacement.{as_part, part_in, replaced_part}
-use Rattle.lc_term.specs.Put.{occurrence_eq, AreRemembered, Remembers}
+use Rattle.lc_term.specs.declared.filling.Filling.{Filling}
+use Rattle.lc_term.specs.declared.filling.Filling.TheVariants.{Put, Variable, Opening, Shift}
+use Rattle.lc_term.specs.Filling.{IsFilled, Stands}
+use Rattle.lc_term.specs.Put.{occurrence_eq, AreRemembered, Remembers, Notes}
 use Rattle.lc_term.specs.Replacement.{Replacement, replace, replace_all, replace_term, replace_column, under_many}
 use Rattle.lc_term.specs.Rows.{Extends}
 use Rattle.lc_term.specs.Syntax as S
-use Rattle.lc_term.specs.Syntax.{Bound}
 use Rattle.lc_term.specs.Tables.{parts, formulas, term_in, column_in, formula_in, formulas_in, HasTerm, HasColumn, HasFormula, IsTerm, IsColumn, IsFormula, Keeps}
 use Rattle.lc_term.proofs.Rows.{kept_left}
 use Rattle.lc_term.proofs.TermNodes.{term-there, column-there}
 use Rattle.lc_term.proofs.FormulaNodes.{formula-there}
-use Rattle.lc_term.proofs.Under.{under_many-bounds}
 use Rattle.lc_term.proofs.Later.{term_later, column_later, formula_later, formula_is, formula_still}
 use Rattle.lc_term.proofs.Listed.{formulas_in-more}
 
@@ -48,11 +49,15 @@ remembers_later r old new done h kept = record {
   formulas_done = remembered_later (λ n. replace (under_many n r)) (formulas old) (formulas new) done.formulas.entries h.formulas_done kept.formulas_kept;
 }
 
--- a bound variable stays below quantifiers
-pub bound_stays : (r : Replacement) → ((k : ℕ) → r.bounds k ≡ Bound k) → (d : ℕ) (ts : Table) (k n : ℕ) → slice_get (parts ts) k ≡ Some (term (Bound n))
-    → slice_get (parts ts) k ≡ Some (replaced_part (under_many d r) (part_in ts k))
-bound_stays r bounds d ts k n at =
-    at ∙ ap (λ t. Some (term t)) (sym (under_many-bounds d r bounds n)) ∙ ap (λ o. Some (replaced_part (under_many d r) (as_part o))) (sym at)
+-- what is put in by number stays there
+pub filled_later : (put : Filling) (old new : Table) (r : Replacement) → IsFilled put old r → Keeps old new → IsFilled put new r
+filled_later (Put p) old new r h kept = h
+filled_later (Variable v k) old new r h kept = (h.0, term_later old new k h.0 h.1 kept, h.2)
+filled_later (Opening k) old new r h kept = (h.0, term_later old new k h.0 h.1 kept, h.2)
+filled_later (Shift a c) old new r h kept = h
+
+pub stands_later : (r : Replacement) (put : Filling) (old new : Table) (done : ReplacedNodes) → Stands r old put done → Keeps old new → Stands r new put done
+stands_later r put old new done h kept = record { filled = filled_later put old new r h.filled kept; remembers = remembers_later r old new done h.remembers kept }
 
 -- what is found
 found_at : {T : Type 0} (f : ℕ → T → T) (ts : List T) (es : List (Occurrence × ℕ)) (k : Occurrence) (v : ℕ) (t : T) → AreRemembered f ts es → lookup (occurrence_eq k) es ≡ Some v
@@ -78,48 +83,58 @@ formula_remembered r ts done k d v h is found =
 
 -- one occurrence more
 noted : {T : Type 0} (f : ℕ → T → T) (ts : List T) (es fs : List (Occurrence × ℕ)) (k : Occurrence) (v : ℕ) (t : T) → AreRemembered f ts es
-    → slice_get ts k.number ≡ Some t → slice_get ts v ≡ Some (f k.depth t)
-    → ((q : Occurrence) → lookup (occurrence_eq q) fs ≡ cond (occurrence_eq k q) (Some v) (lookup (occurrence_eq q) es)) → AreRemembered f ts fs
-noted {T} f ts es fs k v t h there here now q w found = by (occurrence_eq k q) refl
+    → slice_get ts k.number ≡ Some t → slice_get ts v ≡ Some (f k.depth t) → Notes k v es fs → AreRemembered f ts fs
+noted {T} f ts es fs k v t h there here now q w found = elim (now q w found) [
+  | inl old ↦ h q w old
+  | inr same ↦
+      subst (λ (o : Occurrence). (x : T) × (slice_get ts o.number ≡ Some x) × (slice_get ts w ≡ Some (f o.depth x))) (sym same.0) (t, there, ap (slice_get ts) same.1 ∙ here)
+]
+
+-- what is added by a map's insertion, and what is not
+pub notes_inserted : (es fs : List (Occurrence × ℕ)) (k : Occurrence) (v : ℕ) → ((q : Occurrence) → lookup (occurrence_eq q) fs ≡ cond (occurrence_eq k q) (Some v) (lookup (occurrence_eq q) es)) → Notes k v es fs
+notes_inserted es fs k v now q w found = by (occurrence_eq k q) refl
   where
-    by : (b : Bool) → occurrence_eq k q ≡ b → (x : T) × (slice_get ts q.number ≡ Some x) × (slice_get ts w ≡ Some (f q.depth x))
-    by true e =
-        let same : w ≡ v = some_same w v (sym found ∙ now q ∙ ap (λ b. cond b (Some v) (lookup (occurrence_eq q) es)) e) in
-        subst (λ (o : Occurrence). (x : T) × (slice_get ts o.number ≡ Some x) × (slice_get ts w ≡ Some (f o.depth x))) (same_occurrence k q e)
-        (t, there, ap (slice_get ts) same ∙ here)
-    by false e = h q w (sym (ap (λ b. cond b (Some v) (lookup (occurrence_eq q) es)) e) ∙ sym (now q) ∙ found)
+    by : (b : Bool) → occurrence_eq k q ≡ b → (lookup (occurrence_eq q) es ≡ Some w) ⊎ ((q ≡ k) × (w ≡ v))
+    by true e = inr (sym (same_occurrence k q e), some_same w v (sym found ∙ now q ∙ ap (λ b. cond b (Some v) (lookup (occurrence_eq q) es)) e))
+    by false e = inl (sym (ap (λ b. cond b (Some v) (lookup (occurrence_eq q) es)) e) ∙ sym (now q) ∙ found)
 
-pub term_noted : (r : Replacement) (t0 ts : Table) (old new : ReplacedNodes) (k : TermId) (d v : ℕ) → IsTerm t0 k → Keeps t0 ts → Remembers r ts old
+pub term_noted : (r : Replacement) (t0 ts : Table) (put : Filling) (old new : ReplacedNodes) (k : TermId) (d v : ℕ) → IsTerm t0 k → Keeps t0 ts → Stands r ts put old
     → slice_get (parts ts) v ≡ Some (replaced_part (under_many d r) (part_in t0 k.0))
-    → ((q : Occurrence) → lookup (occurrence_eq q) new.parts.entries ≡ cond (occurrence_eq (record { number = k.0; depth = d }) q) (Some v) (lookup (occurrence_eq q) old.parts.entries))
-    → new.formulas ≡ old.formulas → Remembers r ts new
-term_noted r t0 ts old new k d v is kept h at now rest = record {
-  parts_done =
-      noted (λ n. replaced_part (under_many n r)) (parts ts) old.parts.entries new.parts.entries (record { number = k.0; depth = d }) v (term (term_in t0 k)) h.parts_done
-      (term_later t0 ts k _ (term-there (parts t0) k is) kept) (at ∙ ap (λ o. Some (replaced_part (under_many d r) (as_part o))) (term-there (parts t0) k is)) now;
-  formulas_done = subst (λ m. AreRemembered (λ n. replace (under_many n r)) (formulas ts) m.entries) (sym rest) h.formulas_done;
+    → Notes (record { number = k.0; depth = d }) v old.parts.entries new.parts.entries → new.formulas ≡ old.formulas → Stands r ts put new
+term_noted r t0 ts put old new k d v is kept h at now rest = record {
+  filled = h.filled;
+  remembers = record {
+    parts_done =
+        noted (λ n. replaced_part (under_many n r)) (parts ts) old.parts.entries new.parts.entries (record { number = k.0; depth = d }) v (term (term_in t0 k)) h.remembers.parts_done
+        (term_later t0 ts k _ (term-there (parts t0) k is) kept) (at ∙ ap (λ o. Some (replaced_part (under_many d r) (as_part o))) (term-there (parts t0) k is)) now;
+    formulas_done = subst (λ m. AreRemembered (λ n. replace (under_many n r)) (formulas ts) m.entries) (sym rest) h.remembers.formulas_done;
+  };
 }
 
-pub column_noted : (r : Replacement) (t0 ts : Table) (old new : ReplacedNodes) (k : ColExprId) (d v : ℕ) → IsColumn t0 k → Keeps t0 ts → Remembers r ts old
+pub column_noted : (r : Replacement) (t0 ts : Table) (put : Filling) (old new : ReplacedNodes) (k : ColExprId) (d v : ℕ) → IsColumn t0 k → Keeps t0 ts → Stands r ts put old
     → slice_get (parts ts) v ≡ Some (replaced_part (under_many d r) (part_in t0 k.0))
-    → ((q : Occurrence) → lookup (occurrence_eq q) new.parts.entries ≡ cond (occurrence_eq (record { number = k.0; depth = d }) q) (Some v) (lookup (occurrence_eq q) old.parts.entries))
-    → new.formulas ≡ old.formulas → Remembers r ts new
-column_noted r t0 ts old new k d v is kept h at now rest = record {
-  parts_done =
-      noted (λ n. replaced_part (under_many n r)) (parts ts) old.parts.entries new.parts.entries (record { number = k.0; depth = d }) v (column (column_in t0 k)) h.parts_done
-      (column_later t0 ts k _ (column-there (parts t0) k is) kept) (at ∙ ap (λ o. Some (replaced_part (under_many d r) (as_part o))) (column-there (parts t0) k is)) now;
-  formulas_done = subst (λ m. AreRemembered (λ n. replace (under_many n r)) (formulas ts) m.entries) (sym rest) h.formulas_done;
+    → Notes (record { number = k.0; depth = d }) v old.parts.entries new.parts.entries → new.formulas ≡ old.formulas → Stands r ts put new
+column_noted r t0 ts put old new k d v is kept h at now rest = record {
+  filled = h.filled;
+  remembers = record {
+    parts_done =
+        noted (λ n. replaced_part (under_many n r)) (parts ts) old.parts.entries new.parts.entries (record { number = k.0; depth = d }) v (column (column_in t0 k)) h.remembers.parts_done
+        (column_later t0 ts k _ (column-there (parts t0) k is) kept) (at ∙ ap (λ o. Some (replaced_part (under_many d r) (as_part o))) (column-there (parts t0) k is)) now;
+    formulas_done = subst (λ m. AreRemembered (λ n. replace (under_many n r)) (formulas ts) m.entries) (sym rest) h.remembers.formulas_done;
+  };
 }
 
-pub formula_noted : (r : Replacement) (t0 ts : Table) (old new : ReplacedNodes) (k v : FormulaId) (d : ℕ) → IsFormula t0 k → Keeps t0 ts → Remembers r ts old
+pub formula_noted : (r : Replacement) (t0 ts : Table) (put : Filling) (old new : ReplacedNodes) (k v : FormulaId) (d : ℕ) → IsFormula t0 k → Keeps t0 ts → Stands r ts put old
     → HasFormula ts v (replace (under_many d r) (formula_in t0 k))
-    → ((q : Occurrence) → lookup (occurrence_eq q) new.formulas.entries ≡ cond (occurrence_eq (record { number = k.0; depth = d }) q) (Some v.0) (lookup (occurrence_eq q) old.formulas.entries))
-    → new.parts ≡ old.parts → Remembers r ts new
-formula_noted r t0 ts old new k v d is kept h at now rest = record {
-  parts_done = subst (λ m. AreRemembered (λ n. replaced_part (under_many n r)) (parts ts) m.entries) (sym rest) h.parts_done;
-  formulas_done =
-      noted (λ n. replace (under_many n r)) (formulas ts) old.formulas.entries new.formulas.entries (record { number = k.0; depth = d }) v.0 (formula_in t0 k) h.formulas_done
-      (formula_later t0 ts k _ (formula-there (formulas t0) k is) kept) at now;
+    → Notes (record { number = k.0; depth = d }) v.0 old.formulas.entries new.formulas.entries → new.parts ≡ old.parts → Stands r ts put new
+formula_noted r t0 ts put old new k v d is kept h at now rest = record {
+  filled = h.filled;
+  remembers = record {
+    parts_done = subst (λ m. AreRemembered (λ n. replaced_part (under_many n r)) (parts ts) m.entries) (sym rest) h.remembers.parts_done;
+    formulas_done =
+        noted (λ n. replace (under_many n r)) (formulas ts) old.formulas.entries new.formulas.entries (record { number = k.0; depth = d }) v.0 (formula_in t0 k) h.remembers.formulas_done
+        (formula_later t0 ts k _ (formula-there (formulas t0) k is) kept) at now;
+  };
 }
 
 -- ---- a formula, from its parts, which are replaced one after another

@@ -51,7 +51,7 @@ under_many-shifting-outside a c (suc n) (suc k) h =
 -- ---- a term raised by one quantifier after another is shifted
 
 mutual
-  shifted_none : (t : Term) → shifted_term 0 0 t ≡ t
+  pub shifted_none : (t : Term) → shifted_term 0 0 t ≡ t
   shifted_none (Number n) = refl
   shifted_none (Variable k) = refl
   shifted_none (Bound k) = shifting-outside 0 0 k (omega arith) ∙ ap Bound (omega arith)

@@ -4,6 +4,7 @@ pub mod Copies
 pub mod Counter
 pub mod Equal
 pub mod EqualLaws
+pub mod Filling
 pub mod Hash
 pub mod Lists
 pub mod Meaning

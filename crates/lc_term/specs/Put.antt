@@ -1,5 +1,5 @@
 -- What is put in for columns and variables at once, and what of a table is known to have it in.
-use Rattle.std.specs.Prelude.{◌≡◌, ℕ, ◌==◌, ◌&&◌, Bool, if◌then◌else◌, List, [], ◌∷◌, map, pos, Some, slice_get, slice_index_or}
+use Rattle.std.specs.Prelude.{◌≡◌, ℕ, ◌==◌, ◌&&◌, Bool, if◌then◌else◌, List, [], ◌∷◌, map, pos, Some, slice_get, slice_index_or, ◌⊎◌}
 use Rattle.std.specs.Map.{lookup}
 use Rattle.lc_base.specs.declared.ids.ColId.{ColId}
 use Rattle.lc_term.specs.Syntax as S
@@ -54,6 +54,10 @@ occurrence_eq a b = (a.number == b.number) && (a.depth == b.depth)
 abbrev pub AreRemembered : {T : Type 0} → (ℕ → T → T) → List T → List (Occurrence × ℕ) → Type 0
 AreRemembered {T} replaced ts es =
     (k : Occurrence) (v : ℕ) → lookup (occurrence_eq k) es ≡ Some v → (t : T) × (slice_get ts k.number ≡ Some t) × (slice_get ts v ≡ Some (replaced k.depth t))
+
+-- nothing is remembered beside what was, but it be v of k
+abbrev pub Notes : Occurrence → ℕ → List (Occurrence × ℕ) → List (Occurrence × ℕ) → Type 0
+Notes k v old new = (q : Occurrence) (w : ℕ) → lookup (occurrence_eq q) new ≡ Some w → (lookup (occurrence_eq q) old ≡ Some w) ⊎ ((q ≡ k) × (w ≡ v))
 
 -- what is remembered is so replaced in this table
 pub record Remembers (r : Replacement) (ts : Table) (done : ReplacedNodes) : Type 0 where

@@ -5,6 +5,7 @@ mod building;
 mod copying;
 mod entering;
 mod evaluation;
+mod filling;
 mod formula;
 mod ground;
 mod hash;

@@ -1,16 +1,23 @@
 //! Columns and variables of a table's terms and formulas replaced, all at once. What is shared is replaced once.
 ghost use Rattle.std.specs.Prelude.{◌≡◌, suc, IfOk, OnOk, map, slice_get, Some, is_some, true};
 ghost use Rattle.lc_term.specs.NodeReplacement.{part_in, replaced_part};
+ghost use Rattle.lc_term.specs.Filling.{IsFilled, Stands};
+ghost use Rattle.lc_term.specs.Nodes.{term, column};
 ghost use Rattle.lc_term.specs.Put.{columns_put, columns_in, variables_put, replacement_of, Remembers};
 ghost use Rattle.lc_term.specs.Replacement.{replace, replace_term, replace_column, under_many};
+ghost use Rattle.lc_term.specs.Substitution.{shifted_term};
+ghost use Rattle.lc_term.specs.Syntax as S;
 ghost use Rattle.lc_term.specs.Tables.{parts, term_in, column_in, formula_in, formulas_in, IsTerm, IsColumn, IsFormula, AreFormulas, HasTerm, HasColumn, HasFormula, Keeps};
 
+use crate::filling::{Filled, Filling};
 use crate::node::{ColExprId, FormulaId, FormulaNode, TermId, TermNode};
 use crate::put::{Occurrence, Put, PutColumns, PutVariables, ReplacedNodes};
 use crate::table::Terms;
 use crate::term::ColExpr;
 use lc_base::{ColId, OutOfMemory};
 use std::alloc::Global;
+use std::cmp::Ordering;
+use std::marker::Brand;
 
 impl Terms {
     /// The term with what is put in for its columns and variables. `OutOfMemory` is answered also where the number of a
@@ -28,7 +35,7 @@ impl Terms {
         ensures kept { Keeps self.old self.new }
         ensures done { OnOk result (Remembers (replacement_of put.now) self.new done.new) }
     {
-        self.replaced_term(alloc, put, done, term, 0)
+        self.replaced_term::<Brand>(alloc, &Filling::Put(*put), done, term, 0)
     }
 
     /// The column expression with what is put in.
@@ -45,7 +52,7 @@ impl Terms {
         ensures kept { Keeps self.old self.new }
         ensures done { OnOk result (Remembers (replacement_of put.now) self.new done.new) }
     {
-        self.replaced_column(alloc, put, done, column, 0)
+        self.replaced_column::<Brand>(alloc, &Filling::Put(*put), done, column, 0)
     }
 
     /// The formula with what is put in. A formula in which nothing is replaced keeps its number.
@@ -62,7 +69,7 @@ impl Terms {
         ensures kept { Keeps self.old self.new }
         ensures done { OnOk result (Remembers (replacement_of put.now) self.new done.new) }
     {
-        self.replaced_formula(alloc, put, done, formula, 0)
+        self.replaced_formula::<Brand>(alloc, &Filling::Put(*put), done, formula, 0)
     }
 
     // The first entry of a column; the column itself where it has none.
@@ -148,6 +155,15 @@ impl Terms {
         ensures kept { Keeps self.old self.new }
     {
         let term = self.enter_put_variable(put.variables, number)?;
+        self.raised(alloc, term, depth)
+    }
+
+    // A term below as many further quantifiers as `depth` counts.
+    fn raised(&mut self, alloc: Global, term: TermId, depth: u32) -> Result<TermId, OutOfMemory>
+        requires { IsTerm self.old term }
+        ensures id { IfOk result (λ k. HasTerm self.new k (shifted_term depth 0 (term_in self.old term))) }
+        ensures kept { Keeps self.old self.new }
+    {
         if depth == 0 {
             Ok(term)
         } else {
@@ -155,198 +171,279 @@ impl Terms {
         }
     }
 
-    #[cycle(replaced_part)]
-    #[tactic(auto, using(crate::proofs::NodeReplacement::term_at, crate::proofs::Copied::term_stands))]
-    fn replaced_term(
+    // What is put in for a column, which stands at the number `part`.
+    fn replaced_base<R: Filled>(
         &mut self,
         alloc: Global,
-        put: &Put<'_>,
+        put: &Filling<'_>,
+        part: u32,
+        number: ColId,
+        depth: u32,
+    ) -> Result<u32, OutOfMemory>
+        requires there { slice_get (parts self.old) part ≡ Some (column (S.Base number.0)) }
+        requires put { IsFilled put.now self.old R.replacement }
+        ensures id { IfOk result (λ k. slice_get (parts self.new) k ≡ Some (column ((under_many depth R.replacement).columns number.0))) }
+        ensures kept { Keeps self.old self.new }
+    {
+        match put {
+            Filling::Put(put) => Ok(self.column_below(alloc, put, number, depth)?.0),
+            Filling::Variable(_, _) | Filling::Opening(_) | Filling::Shift(_, _) => Ok(part),
+        }
+    }
+
+    // What is put in for a free variable, which stands at the number `part`.
+    fn replaced_variable<R: Filled>(
+        &mut self,
+        alloc: Global,
+        put: &Filling<'_>,
+        part: u32,
+        number: u32,
+        depth: u32,
+    ) -> Result<u32, OutOfMemory>
+        requires there { slice_get (parts self.old) part ≡ Some (term (S.Variable number)) }
+        requires put { IsFilled put.now self.old R.replacement }
+        ensures id { IfOk result (λ k. slice_get (parts self.new) k ≡ Some (term ((under_many depth R.replacement).variables number))) }
+        ensures kept { Keeps self.old self.new }
+    {
+        match put {
+            Filling::Put(put) => Ok(self.variable_below(alloc, put, number, depth)?.0),
+            Filling::Variable(variable, term) => {
+                if number == *variable {
+                    Ok(self.raised(alloc, *term, depth)?.0)
+                } else {
+                    Ok(part)
+                }
+            }
+            Filling::Opening(_) | Filling::Shift(_, _) => Ok(part),
+        }
+    }
+
+    // What is put in for a bound variable, which stands at the number `part`.
+    fn replaced_bound<R: Filled>(
+        &mut self,
+        alloc: Global,
+        put: &Filling<'_>,
+        part: u32,
+        number: u32,
+        depth: u32,
+    ) -> Result<u32, OutOfMemory>
+        requires there { slice_get (parts self.old) part ≡ Some (term (S.Bound number)) }
+        requires put { IsFilled put.now self.old R.replacement }
+        ensures id { IfOk result (λ k. slice_get (parts self.new) k ≡ Some (term ((under_many depth R.replacement).bounds number))) }
+        ensures kept { Keeps self.old self.new }
+    {
+        match put {
+            Filling::Put(_) | Filling::Variable(_, _) => Ok(part),
+            Filling::Opening(term) => match number.cmp(&depth) {
+                Ordering::Less => Ok(part),
+                Ordering::Equal => Ok(self.raised(alloc, *term, depth)?.0),
+                Ordering::Greater => Ok(self.bound(number - 1)?.0),
+            },
+            Filling::Shift(added, cutoff) => {
+                if u64::from(number) < u64::from(*cutoff) + u64::from(depth) {
+                    Ok(part)
+                } else {
+                    let number = number.checked_add(*added).ok_or(OutOfMemory)?;
+                    Ok(self.bound(number)?.0)
+                }
+            }
+        }
+    }
+
+    #[cycle(replaced_part)]
+    #[tactic(auto, using(crate::proofs::NodeReplacement::term_at, crate::proofs::Copied::term_stands))]
+    fn replaced_term<R: Filled>(
+        &mut self,
+        alloc: Global,
+        put: &Filling<'_>,
         done: &mut ReplacedNodes,
         term: TermId,
         depth: u32,
     ) -> Result<TermId, OutOfMemory>
         requires there { IsTerm self.old term }
-        requires done { Remembers (replacement_of put.now) self.old done.old }
-        ensures id { IfOk result (λ k. HasTerm self.new k (replace_term (under_many depth (replacement_of put.now)) (term_in self.old term))) }
+        requires done { Stands R.replacement self.old put.now done.old }
+        ensures id { IfOk result (λ k. HasTerm self.new k (replace_term (under_many depth R.replacement) (term_in self.old term))) }
         ensures kept { Keeps self.old self.new }
-        ensures done { OnOk result (Remembers (replacement_of put.now) self.new done.new) }
+        ensures done { OnOk result (Stands R.replacement self.new put.now done.new) }
     {
         let occurrence = Occurrence {
             number: term.0,
             depth,
         };
-        if let Some(number) = done.parts.get(&occurrence) {
-            return Ok(TermId(*number));
+        if let Some(number) = done.part(occurrence) {
+            return Ok(TermId(number));
         }
-        let number = self.replaced_part(alloc, put, done, term.0, depth)?;
-        done.parts.insert(occurrence, number)?;
+        let number = self.replaced_part::<R>(alloc, put, done, term.0, depth)?;
+        done.note_part(occurrence, number)?;
         Ok(TermId(number))
     }
 
     #[cycle(replaced_part)]
     #[tactic(auto, using(crate::proofs::NodeReplacement::column_at, crate::proofs::Copied::column_stands))]
-    fn replaced_column(
+    fn replaced_column<R: Filled>(
         &mut self,
         alloc: Global,
-        put: &Put<'_>,
+        put: &Filling<'_>,
         done: &mut ReplacedNodes,
         column: ColExprId,
         depth: u32,
     ) -> Result<ColExprId, OutOfMemory>
         requires there { IsColumn self.old column }
-        requires done { Remembers (replacement_of put.now) self.old done.old }
-        ensures id { IfOk result (λ k. HasColumn self.new k (replace_column (under_many depth (replacement_of put.now)) (column_in self.old column))) }
+        requires done { Stands R.replacement self.old put.now done.old }
+        ensures id { IfOk result (λ k. HasColumn self.new k (replace_column (under_many depth R.replacement) (column_in self.old column))) }
         ensures kept { Keeps self.old self.new }
-        ensures done { OnOk result (Remembers (replacement_of put.now) self.new done.new) }
+        ensures done { OnOk result (Stands R.replacement self.new put.now done.new) }
     {
         let occurrence = Occurrence {
             number: column.0,
             depth,
         };
-        if let Some(number) = done.parts.get(&occurrence) {
-            return Ok(ColExprId(*number));
+        if let Some(number) = done.part(occurrence) {
+            return Ok(ColExprId(number));
         }
-        let number = self.replaced_part(alloc, put, done, column.0, depth)?;
-        done.parts.insert(occurrence, number)?;
+        let number = self.replaced_part::<R>(alloc, put, done, column.0, depth)?;
+        done.note_part(occurrence, number)?;
         Ok(ColExprId(number))
     }
 
     // What stands at a number, replaced, which is not replaced yet.
     #[cycle(replaced_part)]
     #[tactic(auto, using(crate::proofs::Later::kept_on, crate::proofs::Later::keeps_itself, crate::proofs::Later::is_term_later, crate::proofs::Later::is_column_later, crate::proofs::Later::is_term_still, crate::proofs::NodeReplacement::part_there))]
-    fn replaced_part(
+    fn replaced_part<R: Filled>(
         &mut self,
         alloc: Global,
-        put: &Put<'_>,
+        put: &Filling<'_>,
         done: &mut ReplacedNodes,
         part: u32,
         depth: u32,
     ) -> Result<u32, OutOfMemory>
         requires there { is_some (slice_get (parts self.old) part) ≡ true }
-        requires done { Remembers (replacement_of put.now) self.old done.old }
-        ensures id { IfOk result (λ k. slice_get (parts self.new) k ≡ Some (replaced_part (under_many depth (replacement_of put.now)) (part_in self.old part))) }
+        requires done { Stands R.replacement self.old put.now done.old }
+        ensures id { IfOk result (λ k. slice_get (parts self.new) k ≡ Some (replaced_part (under_many depth R.replacement) (part_in self.old part))) }
         ensures kept { Keeps self.old self.new }
-        ensures done { OnOk result (Remembers (replacement_of put.now) self.new done.new) }
+        ensures done { OnOk result (Stands R.replacement self.new put.now done.new) }
     {
         match self.part_node(part) {
-            TermNode::Variable(number) => Ok(self.variable_below(alloc, put, number, depth)?.0),
-            TermNode::Base(column) => Ok(self.column_below(alloc, put, column, depth)?.0),
-            TermNode::Bound(_) => Ok(part),
+            TermNode::Variable(number) => {
+                self.replaced_variable::<R>(alloc, put, part, number, depth)
+            }
+            TermNode::Base(column) => self.replaced_base::<R>(alloc, put, part, column, depth),
+            TermNode::Bound(number) => { self.replaced_bound::<R>(alloc, put, part, number, depth) }
             TermNode::Number(_) | TermNode::Affine(_, _) => Ok(part),
             TermNode::Add(left, right) => {
-                let left = self.replaced_term(alloc, put, done, left, depth)?;
-                let right = self.replaced_term(alloc, put, done, right, depth)?;
+                let left = self.replaced_term::<R>(alloc, put, done, left, depth)?;
+                let right = self.replaced_term::<R>(alloc, put, done, right, depth)?;
                 Ok(self.add(left, right)?.0)
             }
             TermNode::Subtract(left, right) => {
-                let left = self.replaced_term(alloc, put, done, left, depth)?;
-                let right = self.replaced_term(alloc, put, done, right, depth)?;
+                let left = self.replaced_term::<R>(alloc, put, done, left, depth)?;
+                let right = self.replaced_term::<R>(alloc, put, done, right, depth)?;
                 Ok(self.subtract(left, right)?.0)
             }
             TermNode::Multiply(factor, term) => {
-                let term = self.replaced_term(alloc, put, done, term, depth)?;
+                let term = self.replaced_term::<R>(alloc, put, done, term, depth)?;
                 Ok(self.multiply(factor, term)?.0)
             }
             TermNode::Read(column, index) => {
-                let column = self.replaced_column(alloc, put, done, column, depth)?;
-                let index = self.replaced_term(alloc, put, done, index, depth)?;
+                let column = self.replaced_column::<R>(alloc, put, done, column, depth)?;
+                let index = self.replaced_term::<R>(alloc, put, done, index, depth)?;
                 Ok(self.read(column, index)?.0)
             }
             TermNode::Store(column, index, value) => {
-                let column = self.replaced_column(alloc, put, done, column, depth)?;
-                let index = self.replaced_term(alloc, put, done, index, depth)?;
-                let value = self.replaced_term(alloc, put, done, value, depth)?;
+                let column = self.replaced_column::<R>(alloc, put, done, column, depth)?;
+                let index = self.replaced_term::<R>(alloc, put, done, index, depth)?;
+                let value = self.replaced_term::<R>(alloc, put, done, value, depth)?;
                 Ok(self.store(column, index, value)?.0)
             }
         }
     }
 
     #[cycle(replaced_formula)]
-    fn replaced_formula(
+    fn replaced_formula<R: Filled>(
         &mut self,
         alloc: Global,
-        put: &Put<'_>,
+        put: &Filling<'_>,
         done: &mut ReplacedNodes,
         formula: FormulaId,
         depth: u32,
     ) -> Result<FormulaId, OutOfMemory>
         requires there { IsFormula self.old formula }
-        requires done { Remembers (replacement_of put.now) self.old done.old }
-        ensures id { IfOk result (λ k. HasFormula self.new k (replace (under_many depth (replacement_of put.now)) (formula_in self.old formula))) }
+        requires done { Stands R.replacement self.old put.now done.old }
+        ensures id { IfOk result (λ k. HasFormula self.new k (replace (under_many depth R.replacement) (formula_in self.old formula))) }
         ensures kept { Keeps self.old self.new }
-        ensures done { OnOk result (Remembers (replacement_of put.now) self.new done.new) }
+        ensures done { OnOk result (Stands R.replacement self.new put.now done.new) }
     {
         let occurrence = Occurrence {
             number: formula.0,
             depth,
         };
-        if let Some(number) = done.formulas.get(&occurrence) {
-            return Ok(FormulaId(*number));
+        if let Some(number) = done.formula(occurrence) {
+            return Ok(FormulaId(number));
         }
-        let number = self.replaced_formula_node(alloc, put, done, formula, depth)?;
-        done.formulas.insert(occurrence, number.0)?;
+        let number = self.replaced_formula_node::<R>(alloc, put, done, formula, depth)?;
+        done.note_formula(occurrence, number.0)?;
         Ok(number)
     }
 
     // A formula, replaced, which is not replaced yet.
     #[cycle(replaced_formula)]
     #[tactic(auto, using(crate::proofs::Later::kept_on, crate::proofs::Later::keeps_itself, crate::proofs::Later::is_term_later, crate::proofs::Later::is_term_still, crate::proofs::Later::is_formula_later, crate::proofs::Later::is_formula_still))]
-    fn replaced_formula_node(
+    pub(crate) fn replaced_formula_node<R: Filled>(
         &mut self,
         alloc: Global,
-        put: &Put<'_>,
+        put: &Filling<'_>,
         done: &mut ReplacedNodes,
         formula: FormulaId,
         depth: u32,
     ) -> Result<FormulaId, OutOfMemory>
         requires there { IsFormula self.old formula }
-        requires done { Remembers (replacement_of put.now) self.old done.old }
-        ensures id { IfOk result (λ k. HasFormula self.new k (replace (under_many depth (replacement_of put.now)) (formula_in self.old formula))) }
+        requires done { Stands R.replacement self.old put.now done.old }
+        ensures id { IfOk result (λ k. HasFormula self.new k (replace (under_many depth R.replacement) (formula_in self.old formula))) }
         ensures kept { Keeps self.old self.new }
-        ensures done { OnOk result (Remembers (replacement_of put.now) self.new done.new) }
+        ensures done { OnOk result (Stands R.replacement self.new put.now done.new) }
     {
         match self.formula_node(formula) {
             FormulaNode::Le(left, right) => {
                 let (left, right) = (*left, *right);
-                let left = self.replaced_term(alloc, put, done, left, depth)?;
-                let right = self.replaced_term(alloc, put, done, right, depth)?;
+                let left = self.replaced_term::<R>(alloc, put, done, left, depth)?;
+                let right = self.replaced_term::<R>(alloc, put, done, right, depth)?;
                 self.le(left, right)
             }
             FormulaNode::Eq(left, right) => {
                 let (left, right) = (*left, *right);
-                let left = self.replaced_term(alloc, put, done, left, depth)?;
-                let right = self.replaced_term(alloc, put, done, right, depth)?;
+                let left = self.replaced_term::<R>(alloc, put, done, left, depth)?;
+                let right = self.replaced_term::<R>(alloc, put, done, right, depth)?;
                 self.eq(left, right)
             }
             FormulaNode::Not(formula) => {
                 let formula = *formula;
-                let formula = self.replaced_formula(alloc, put, done, formula, depth)?;
+                let formula = self.replaced_formula::<R>(alloc, put, done, formula, depth)?;
                 self.not(formula)
             }
             FormulaNode::And(parts) => {
                 let parts = Vec::from_slice(alloc, parts)?;
-                let parts = self.replaced_formulas(alloc, put, done, &parts, depth)?;
+                let parts = self.replaced_formulas::<R>(alloc, put, done, &parts, depth)?;
                 self.and(parts)
             }
             FormulaNode::Or(parts) => {
                 let parts = Vec::from_slice(alloc, parts)?;
-                let parts = self.replaced_formulas(alloc, put, done, &parts, depth)?;
+                let parts = self.replaced_formulas::<R>(alloc, put, done, &parts, depth)?;
                 self.or(parts)
             }
             FormulaNode::Implies(left, right) => {
                 let (left, right) = (*left, *right);
-                let left = self.replaced_formula(alloc, put, done, left, depth)?;
-                let right = self.replaced_formula(alloc, put, done, right, depth)?;
+                let left = self.replaced_formula::<R>(alloc, put, done, left, depth)?;
+                let right = self.replaced_formula::<R>(alloc, put, done, right, depth)?;
                 self.implies(left, right)
             }
             FormulaNode::Forall(body) => {
                 let body = *body;
-                let body = self.replaced_formula(alloc, put, done, body, below(depth)?)?;
+                let body = self.replaced_formula::<R>(alloc, put, done, body, below(depth)?)?;
                 self.forall(body)
             }
             FormulaNode::Exists(body) => {
                 let body = *body;
-                let body = self.replaced_formula(alloc, put, done, body, below(depth)?)?;
+                let body = self.replaced_formula::<R>(alloc, put, done, body, below(depth)?)?;
                 self.exists(body)
             }
         }
@@ -354,24 +451,24 @@ impl Terms {
 
     #[cycle(replaced_formula)]
     #[tactic(auto, using(crate::proofs::Later::kept_on, crate::proofs::Later::keeps_itself))]
-    fn replaced_formulas(
+    fn replaced_formulas<R: Filled>(
         &mut self,
         alloc: Global,
-        put: &Put<'_>,
+        put: &Filling<'_>,
         done: &mut ReplacedNodes,
         formulas: &[FormulaId],
         depth: u32,
     ) -> Result<Vec<FormulaId>, OutOfMemory>
         requires there { AreFormulas self.old formulas.now }
-        requires done { Remembers (replacement_of put.now) self.old done.old }
+        requires done { Stands R.replacement self.old put.now done.old }
         ensures are { IfOk result (λ ks. AreFormulas self.new ks.items) }
-        ensures trees { IfOk result (λ ks. formulas_in self.new ks.items ≡ map (replace (under_many depth (replacement_of put.now))) (formulas_in self.old formulas.now)) }
+        ensures trees { IfOk result (λ ks. formulas_in self.new ks.items ≡ map (replace (under_many depth R.replacement)) (formulas_in self.old formulas.now)) }
         ensures kept { Keeps self.old self.new }
-        ensures done { OnOk result (Remembers (replacement_of put.now) self.new done.new) }
+        ensures done { OnOk result (Stands R.replacement self.new put.now done.new) }
     {
         let mut entered = Vec::with_capacity(alloc, formulas.len())?;
         for formula in formulas {
-            entered.push(self.replaced_formula(alloc, put, done, *formula, depth)?)?;
+            entered.push(self.replaced_formula::<R>(alloc, put, done, *formula, depth)?)?;
         }
         Ok(entered)
     }

@@ -1,8 +1,10 @@
 -- How the program ends.
-use Rattle.std.proofs.Common.{◌≡◌, ℕ, ◌⊎◌, inl, inr, List, Option, Some, None, refl, sym, subst, ◌∙◌}
+use Rattle.std.proofs.Common.{◌≡◌, ℕ, ◌⊎◌, inl, inr, List, [], ◌++◌, Option, Some, None, Result, Ok, Err, IfOk, IfErr, OnOk, false, true≢false, refl, sym, subst, ap, ◌∙◌, append-nil, append_assoc}
+use Rattle.std.specs.Result.{is_err}
 use Rattle.std.specs.Io.KnownBytes.{Keeps, Appends}
 use Rattle.lincheck.specs.CommandLine.{Task}
-use Rattle.lincheck.specs.Execution.{AnswersTask, Ends}
+use Rattle.lincheck.specs.Execution.{AnswersTask, Ends, EndsInPieces}
+use Rattle.lincheck.specs.Printing.{LeavesOf, PrintsText, IsInPieces, Leaves}
 use Rattle.lincheck.specs.Status.{status_of}
 use Rattle.lincheck.specs.declared.answer.Failure.{Failure}
 use Rattle.lincheck.specs.declared.answer.Failure.TheVariants.{CannotRead, CannotWrite, OutOfMemory}
@@ -18,18 +20,125 @@ Appends-flushed (Some xs) None after text appends keeps = absurd appends
 Appends-flushed (Some xs) (Some ys) None text appends keeps = absurd keeps
 Appends-flushed (Some xs) (Some ys) (Some zs) text appends keeps = keeps ∙ appends
 
--- a failure ends it with nothing printed
-pub ends_failed : (IsAnswer : List ℕ → ℕ → Type 0) (before : Option (List ℕ)) (failure : Failure) → Ends IsAnswer before before (status_of failure)
-ends_failed IsAnswer before (CannotRead path) = inl (inl refl, Keeps-same before)
-ends_failed IsAnswer before CannotWrite = inl (inl refl, Keeps-same before)
-ends_failed IsAnswer before OutOfMemory = inl (inr refl, Keeps-same before)
+-- nothing was written
+pub Appends-none : (known : Option (List ℕ)) → Appends known known []
+Appends-none None = tt
+Appends-none (Some xs) = sym (append-nil xs)
 
--- so does want of memory for the command line
-pub ends_unread : (IsAnswer : List ℕ → ℕ → Type 0) (before after : Option (List ℕ)) (status : ℕ) → status ≡ 4 → after ≡ before → Ends IsAnswer before after status
-ends_unread IsAnswer before after status four same = inl (inr four, subst (λ a. Keeps before a) (sym same) (Keeps-same before))
+-- one text is written behind another
+pub Appends-more : (before written after : Option (List ℕ)) (done more : List ℕ) → Appends before written done → Appends written after more → Appends before after (done ++ more)
+Appends-more None written after done more first second = tt
+Appends-more (Some xs) None after done more first second = absurd first
+Appends-more (Some xs) (Some ys) None done more first second = absurd second
+Appends-more (Some xs) (Some ys) (Some zs) done more first second = second ∙ ap (λ l. l ++ more) first ∙ append_assoc xs done more
 
--- an answer to the task of the request, told, is one to the task that is asked for
-pub ends_told : (bytes_at : List ℕ → Option (List ℕ)) (asked task : Task) (text : List ℕ) (said status : ℕ) (before after : Option (List ℕ)) → asked ≡ task
-    → AnswersTask bytes_at asked text said → (status ≡ 3) ⊎ ((status ≡ said) × Appends before after text) → Ends (AnswersTask bytes_at task) before after status
-ends_told bytes_at asked task text said status before after is answers told =
-    inr (text, said, subst (λ (t : Task). AnswersTask bytes_at t text said) is answers, told)
+-- ---- a text in pieces
+
+-- at first all of it is left
+pub leaves_all : (known : Option (List ℕ)) (text : List ℕ) → LeavesOf known known text text
+leaves_all known text = ([], refl, Appends-none known)
+
+-- a piece more is printed
+pub leaves_less : {E : Type 0} (before written after : Option (List ℕ)) (left piece seen rest text : List ℕ) (r : Result (Unit {0}) E) → LeavesOf before written left text → left ≡ piece ++ rest → seen ≡ piece
+    → is_err r ≡ false → OnOk r (Appends written after seen) → LeavesOf before after rest text
+leaves_less before written after left piece seen rest text (Err e) leaves cut same none appends = absurd (true≢false none)
+leaves_less before written after left piece seen rest text (Ok u) (done, is, first) cut same none appends =
+    (done ++ piece, is ∙ ap (λ l. done ++ l) cut ∙ sym (append_assoc done piece rest), Appends-more before written after done piece first (subst (λ p. Appends written after p) same appends))
+
+-- where nothing is left, all of it is printed
+pub leaves_none : (before written after : Option (List ℕ)) (left text : List ℕ) → LeavesOf before written left text → left ≡ [] → Keeps written after → Appends before after text
+leaves_none before written after left text (done, is, first) none keeps =
+    subst (λ t. Appends before after t) (sym (is ∙ ap (λ l. done ++ l) none ∙ append-nil done)) (Appends-flushed before written after done first keeps)
+
+-- for want of memory nothing is printed at first, and a beginning later
+pub prints_nothing : (known : Option (List ℕ)) (text : List ℕ) → PrintsText known known text (Err OutOfMemory)
+prints_nothing known text = (text, leaves_all known text)
+
+pub prints_beginning : (before after : Option (List ℕ)) (left text : List ℕ) → LeavesOf before after left text → PrintsText before after text (Err OutOfMemory)
+prints_beginning before after left text leaves = (left, leaves)
+
+-- ---- what a task leaves
+
+-- nothing is printed where it fails
+pub leaves_kept : (task : Task) (IsAnswer : List ℕ → ℕ → Type 0) (before : Option (List ℕ)) (failure : Failure) → Leaves task IsAnswer before before (Err failure)
+leaves_kept task IsAnswer before (CannotRead path) = Keeps-same before
+leaves_kept task IsAnswer before CannotWrite = inl (Keeps-same before)
+leaves_kept task IsAnswer before OutOfMemory = inl (Keeps-same before)
+
+-- an answer is printed at once
+pub leaves_printed : (task : Task) (IsAnswer : List ℕ → ℕ → Type 0) (before after : Option (List ℕ)) (text : List ℕ) (said : ℕ) (r : Result ℕ Failure) → IsAnswer text said
+    → IfOk r (λ status. (status ≡ said) × Appends before after text) → IfErr r (λ failure. failure ≡ CannotWrite) → Leaves task IsAnswer before after r
+leaves_printed task IsAnswer before after text said (Ok status) is (same, appends) fails = (text, subst (λ n. IsAnswer text n) (sym same) is, appends)
+leaves_printed task IsAnswer before after text said (Err failure) is prints fails =
+    subst (λ f. Leaves task IsAnswer before after (Err f)) (sym fails) (inr (text, said, is))
+
+-- an answer was to be printed in pieces
+pub leaves_broken : (task : Task) (IsAnswer : List ℕ → ℕ → Type 0) (before after : Option (List ℕ)) (text : List ℕ) (said : ℕ) (failure : Failure) → IsInPieces task → IsAnswer text said
+    → PrintsText before after text (Err failure) → Leaves task IsAnswer before after (Err failure)
+leaves_broken task IsAnswer before after text said (CannotRead path) pieces is prints = absurd prints
+leaves_broken task IsAnswer before after text said CannotWrite pieces is prints = inr (text, said, is)
+leaves_broken task IsAnswer before after text said OutOfMemory pieces is prints = inr (pieces, (text, said, is, prints))
+
+-- what the task of the request leaves is what the task leaves that is asked for
+leaves_asked : (bytes_at : List ℕ → Option (List ℕ)) (asked task : Task) (before after : Option (List ℕ)) (r : Result ℕ Failure) → asked ≡ task
+    → Leaves asked (AnswersTask bytes_at asked) before after r → Leaves task (AnswersTask bytes_at task) before after r
+leaves_asked bytes_at asked task before after r same leaves = subst (λ (t : Task). Leaves t (AnswersTask bytes_at t) before after r) same leaves
+
+-- ---- how the program ends
+
+-- for want of memory for the command line
+pub ends_unread : (IsAnswer : List ℕ → ℕ → Type 0) (before after : Option (List ℕ)) (status : ℕ) → (status ≡ 4) × (after ≡ before) → Ends IsAnswer before after status
+ends_unread IsAnswer before after status (four, same) = inl (inr four, subst (λ a. Keeps before a) (sym same) (Keeps-same before))
+
+pub pieces_unread : (IsAnswer : List ℕ → ℕ → Type 0) (before after : Option (List ℕ)) (status : ℕ) → (status ≡ 4) × (after ≡ before) → EndsInPieces IsAnswer before after status
+pieces_unread IsAnswer before after status (four, same) = inl (inr four, subst (λ a. Keeps before a) (sym same) (Keeps-same before))
+
+-- with an answer
+ok_ends : (task : Task) (IsAnswer : List ℕ → ℕ → Type 0) (before after : Option (List ℕ)) (status : ℕ) → Leaves task IsAnswer before after (Ok status) → Ends IsAnswer before after status
+ok_ends task IsAnswer before after status (text, is, appends) = inr (text, status, is, inr (refl, appends))
+
+ok_in_pieces : (task : Task) (IsAnswer : List ℕ → ℕ → Type 0) (before after : Option (List ℕ)) (status : ℕ) → Leaves task IsAnswer before after (Ok status) → EndsInPieces IsAnswer before after status
+ok_in_pieces task IsAnswer before after status (text, is, appends) = inr (text, status, is, inr (inr (refl, appends)))
+
+pub ends_ok : (bytes_at : List ℕ → Option (List ℕ)) (asked task : Task) (before after : Option (List ℕ)) (status : ℕ) → asked ≡ task
+    → Leaves asked (AnswersTask bytes_at asked) before after (Ok status) → Ends (AnswersTask bytes_at task) before after status
+ends_ok bytes_at asked task before after status same leaves =
+    ok_ends task (AnswersTask bytes_at task) before after status (leaves_asked bytes_at asked task before after (Ok status) same leaves)
+
+pub pieces_ok : (bytes_at : List ℕ → Option (List ℕ)) (asked task : Task) (before after : Option (List ℕ)) (status : ℕ) → asked ≡ task
+    → Leaves asked (AnswersTask bytes_at asked) before after (Ok status) → EndsInPieces (AnswersTask bytes_at task) before after status
+pieces_ok bytes_at asked task before after status same leaves =
+    ok_in_pieces task (AnswersTask bytes_at task) before after status (leaves_asked bytes_at asked task before after (Ok status) same leaves)
+
+-- with a failure
+failed_ends : (task : Task) (IsAnswer : List ℕ → ℕ → Type 0) (before after : Option (List ℕ)) (failure : Failure) (status : ℕ) → (IsInPieces task → ⊥) → status ≡ status_of failure
+    → Leaves task IsAnswer before after (Err failure) → Ends IsAnswer before after status
+failed_ends task IsAnswer before after (CannotRead path) status whole is keeps = inl (inl is, keeps)
+failed_ends task IsAnswer before after CannotWrite status whole is (inl keeps) = inl (inl is, keeps)
+failed_ends task IsAnswer before after CannotWrite status whole is (inr (text, said, answers)) = inr (text, said, answers, inl is)
+failed_ends task IsAnswer before after OutOfMemory status whole is (inl keeps) = inl (inr is, keeps)
+failed_ends task IsAnswer before after OutOfMemory status whole is (inr (pieces, begun)) = absurd (whole pieces)
+
+failed_in_pieces : (task : Task) (IsAnswer : List ℕ → ℕ → Type 0) (before after : Option (List ℕ)) (failure : Failure) (status : ℕ) → status ≡ status_of failure
+    → Leaves task IsAnswer before after (Err failure) → EndsInPieces IsAnswer before after status
+failed_in_pieces task IsAnswer before after (CannotRead path) status is keeps = inl (inl is, keeps)
+failed_in_pieces task IsAnswer before after CannotWrite status is (inl keeps) = inl (inl is, keeps)
+failed_in_pieces task IsAnswer before after CannotWrite status is (inr (text, said, answers)) = inr (text, said, answers, inl is)
+failed_in_pieces task IsAnswer before after OutOfMemory status is (inl keeps) = inl (inr is, keeps)
+failed_in_pieces task IsAnswer before after OutOfMemory status is (inr (pieces, (text, said, answers, begins))) = inr (text, said, answers, inr (inl (is, begins)))
+
+pub ends_failed : (bytes_at : List ℕ → Option (List ℕ)) (asked task : Task) (before after : Option (List ℕ)) (failure : Failure) (status : ℕ) → asked ≡ task → (IsInPieces task → ⊥)
+    → status ≡ status_of failure → Leaves asked (AnswersTask bytes_at asked) before after (Err failure) → Ends (AnswersTask bytes_at task) before after status
+ends_failed bytes_at asked task before after failure status same whole is leaves =
+    failed_ends task (AnswersTask bytes_at task) before after failure status whole is (leaves_asked bytes_at asked task before after (Err failure) same leaves)
+
+pub pieces_failed : (bytes_at : List ℕ → Option (List ℕ)) (asked task : Task) (before after : Option (List ℕ)) (failure : Failure) (status : ℕ) → asked ≡ task
+    → status ≡ status_of failure → Leaves asked (AnswersTask bytes_at asked) before after (Err failure) → EndsInPieces (AnswersTask bytes_at task) before after status
+pieces_failed bytes_at asked task before after failure status same is leaves =
+    failed_in_pieces task (AnswersTask bytes_at task) before after failure status is (leaves_asked bytes_at asked task before after (Err failure) same leaves)
+
+-- a failure has status 3 or 4
+pub failed_status : (failure : Failure) (status : ℕ) → status ≡ status_of failure → (status ≡ 3) ⊎ (status ≡ 4)
+failed_status (CannotRead path) status is = inl is
+failed_status CannotWrite status is = inl is
+failed_status OutOfMemory status is = inr is

@@ -7,3 +7,4 @@ pub mod Words
 pub mod Endings
 pub mod Opened
 pub mod OneHistory
+pub mod OneCheck

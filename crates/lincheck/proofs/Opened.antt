@@ -1,14 +1,13 @@
 -- What a development's file and a certificate's are answered, from the beginnings of them that are read.
-use Rattle.std.proofs.Common.{◌≡◌, ℕ, List, codes, Option, Some, None, IfSome, IfOk, Result, Ok, Err, refl, sym, ap, subst, ◌∙◌, inl, inr}
+use Rattle.std.proofs.Common.{◌≡◌, ℕ, List, Option, Some, None, IfSome, IfOk, Result, Ok, Err, refl, ap, subst, ◌∙◌, inl, inr}
 use Rattle.std.specs.Prelude.{IsErr}
 use Rattle.lc_base.specs.declared.refusal.Fault.{Fault}
 use Rattle.lc_base.specs.declared.refusal.Fault.TheVariants.{Refused, OutOfMemory}
 use Rattle.lc_base.specs.declared.refusal.Refusal.{Refusal}
-use Rattle.lc_cert.specs.Certificates.{Entry}
 use Rattle.lc_cert.specs.Files as C
 use Rattle.lc_cert.specs.Readings.{certificate_reading}
 use Rattle.lc_check.specs.Verdicts.{IsProvenBy, IsCertificateRefusal}
-use Rattle.lc_check.specs.VerdictView.{IsVerdictOn, development_in}
+use Rattle.lc_check.specs.VerdictView.{IsVerdictOn}
 use Rattle.lc_check.specs.declared.verdict.Verdict.{Verdict}
 use Rattle.lc_check.specs.declared.verdict.Verdict.TheVariants.{Accepted, Refused as IsRefused}
 use Rattle.lc_outline.specs.Development as S
@@ -19,7 +18,7 @@ use Rattle.lc_reading.proofs.Files.{says_not_refused}
 use Rattle.lc_reading.specs.Files.{Says, IsFirstRefusal, IsAnswerTo}
 use Rattle.lincheck.specs.Answers.{ToldFault}
 use Rattle.lincheck.specs.CommandLine.{CheckCertificate}
-use Rattle.lincheck.specs.Check.{TellsRefusal, OpensAs, AnswersCertificate, AnswersCheck, TellsVerdict, accepted_line}
+use Rattle.lincheck.specs.Check.{TellsRefusal, AnswersDevelopment, AnswersCertificate, AnswersCheck, TellsVerdict, accepted_line}
 use Rattle.lincheck.specs.Execution.{IsUnread}
 use Rattle.lincheck.specs.Reading.{within_limit}
 use Rattle.lincheck.specs.declared.answer.Answer.{Answer}
@@ -38,6 +37,17 @@ refused None bytes seen fault text status read same is told = tt
 refused (Some file) bytes seen (Refused refusal) text status read same is told =
     (refusal, refusal_of_whole file_reading file refusal (subst (λ b. IsFirstRefusal file_reading b refusal) (same ∙ read) is), told)
 refused (Some file) bytes seen OutOfMemory text status read same is told = absurd told
+
+-- a text of a development that is read answers its file, and so does a refusal that is told
+pub shown : (text_of : S.Development → List ℕ) (known : Option (List ℕ)) (D : S.Development) (text : List ℕ) → IfSome known (λ file. Says file_reading file D) → text ≡ text_of D
+    → IfSome known (λ file. AnswersDevelopment text_of file text 0)
+shown text_of None D text says is = tt
+shown text_of (Some file) D text says is = inr (D, says, is, refl)
+
+pub told_refused : (text_of : S.Development → List ℕ) (known : Option (List ℕ)) (text : List ℕ) (status : ℕ) → IfSome known (λ file. TellsRefusal file text status)
+    → IfSome known (λ file. AnswersDevelopment text_of file text status)
+told_refused text_of None text status tells = tt
+told_refused text_of (Some file) text status tells = inl tells
 
 -- ---- a certificate
 

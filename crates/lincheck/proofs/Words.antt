@@ -1,18 +1,15 @@
 -- What clap reads in plain words.
 use Rattle.std.proofs.Common.{◌≡◌, ℕ, ◌==◌, ◌⊎◌, inl, inr, Bool, true, false, not, true≢false, codes, List, [], ◌∷◌, Option, Some, None, refl, sym, ◌∙◌, ap, ap₂, subst}
-use Rattle.std.specs.Prelude.{Result, Ok, Err, IfErr, option_map, option_and_then, if◌then◌else◌}
-use Rattle.std.specs.Box.{box_value}
-use Rattle.std.specs.Str.{bytes_eq}
-use Rattle.clap.specs.Words.{App, HasKind, HasMatchesOf, Row, Text, fault_of, first_of, first_value, found_of, is_simple, is_simple_and_free, kind_of, rows_of, subcommand_name_of, subcommand_of, subcommand_rows_of, takes}
+use Rattle.std.specs.Prelude.{Result, Ok, Err, IfErr, option_map, option_and_then}
+use Rattle.clap.specs.Words.{App, HasKind, HasMatchesOf, Text, fault_of, first_of, first_value, is_simple, is_simple_and_free, kind_of, rows_of, subcommand_of, subcommand_rows_of, takes}
 use Rattle.clap.specs.declared.error.Error.{Error}
 use Rattle.clap.specs.declared.error.kind.ErrorKind.TheVariants.{OutOfMemory}
 use Rattle.clap.specs.declared.parser.matches.ArgMatches.{ArgMatches}
-use Rattle.clap.specs.declared.parser.matches.ArgMatches.TheViews.{out-ArgMatches, out-SubCommand}
 use Rattle.clap.specs.declared.parser.matches.Found.{Found}
 use Rattle.clap.proofs.WalkLemmas.{first_value-rows}
 use Rattle.lincheck.specs.declared.command_line.Request.{Request}
 use Rattle.clap.proofs.OnLiterals.{clap_on_literals}
-use Rattle.lincheck.specs.CommandLine.{AreWrong, AskForHelp, AsksForText, HasPlainPaths, Reads, Task, CheckFormula, JudgeHistory, CheckCertificate, one_file_task, two_file_task, task_in_command, program_app, task_in, task_of, words_for}
+use Rattle.lincheck.specs.CommandLine.{AreWrong, AskForHelp, AsksForText, HasPlainPaths, Reads, Task, CheckFormula, JudgeHistory, ShowDevelopment, ListConditions, CheckCertificate, one_file_task, two_file_task, program_app, task_in, task_of, words_for}
 
 is_other : (b : ℕ) → not (b == 45) ≡ true → (b == 45) ≡ false
 is_other b plain = by (b == 45) refl plain
@@ -40,6 +37,10 @@ task_is_read name (JudgeHistory [] (c ∷ other)) plain = let f = is_other c pla
 task_is_read name (JudgeHistory (b ∷ path) (c ∷ other)) plain =
     let e = is_other b plain.0 in
     let f = is_other c plain.1 in simp (e, f) (refl {a = Some (JudgeHistory (b ∷ path) (c ∷ other))})
+task_is_read name (ShowDevelopment []) plain = refl {a = Some (ShowDevelopment [])}
+task_is_read name (ShowDevelopment (b ∷ path)) plain = let e = is_other b plain in simp e (refl {a = Some (ShowDevelopment (b ∷ path))})
+task_is_read name (ListConditions []) plain = refl {a = Some (ListConditions [])}
+task_is_read name (ListConditions (b ∷ path)) plain = let e = is_other b plain in simp e (refl {a = Some (ListConditions (b ∷ path))})
 task_is_read name (CheckCertificate [] []) plain = refl {a = Some (CheckCertificate [] [])}
 task_is_read name (CheckCertificate (b ∷ path) []) plain = let e = is_other b plain.0 in simp e (refl {a = Some (CheckCertificate (b ∷ path) [])})
 task_is_read name (CheckCertificate [] (c ∷ other)) plain = let f = is_other c plain.1 in simp f (refl {a = Some (CheckCertificate [] (c ∷ other))})
@@ -58,6 +59,10 @@ words_are_taken name (JudgeHistory [] (c ∷ other)) plain = let f = is_other c 
 words_are_taken name (JudgeHistory (b ∷ path) (c ∷ other)) plain =
     let e = is_other b plain.0 in
     let f = is_other c plain.1 in simp (e, f) (refl {a = true})
+words_are_taken name (ShowDevelopment []) plain = refl {a = true}
+words_are_taken name (ShowDevelopment (b ∷ path)) plain = let e = is_other b plain in simp e (refl {a = true})
+words_are_taken name (ListConditions []) plain = refl {a = true}
+words_are_taken name (ListConditions (b ∷ path)) plain = let e = is_other b plain in simp e (refl {a = true})
 words_are_taken name (CheckCertificate [] []) plain = refl {a = true}
 words_are_taken name (CheckCertificate (b ∷ path) []) plain = let e = is_other b plain.0 in simp e (refl {a = true})
 words_are_taken name (CheckCertificate [] (c ∷ other)) plain = let f = is_other c plain.1 in simp f (refl {a = true})
@@ -119,42 +124,6 @@ plain_err words (Err e) never = λ name task w plain. absurd (never name task w 
 pub request_is : (words : List Text) (request : Request) (name : List ℕ) (task : Task) → Reads words request → words ≡ words_for name task → HasPlainPaths task → task_of request ≡ task
 request_is words request name task reads w plain =
     let e : Some (task_of request) ≡ Some task = sym reads ∙ ap (λ x. task_in (subcommand_of program_app x)) w ∙ task_is_read name task plain in cc
-
-maps : {A B C : Type 0} (f : A → B) (g : B → C) (o : Option A) → option_map (λ a. g (f a)) o ≡ option_map g (option_map f o)
-maps f g None = refl
-maps f g (Some a) = refl
-
-name_by_rows : (m : ArgMatches) → subcommand_name_of m ≡ option_map (λ p. p.0) (subcommand_rows_of m)
-name_by_rows m = maps (λ b. ((out-SubCommand (box_value b)).name.now, rows_of (found_of (out-SubCommand (box_value b)).matches))) (λ p. p.0) (out-ArgMatches m).subcommand
-
-by_parts : (o : Option (Text × List Row)) (name : Text) (rows : List Row) → Some name ≡ option_map (λ p. p.0) o → Some rows ≡ option_map (λ p. p.1) o → o ≡ Some (name, rows)
-by_parts None name rows h g = absurd (cc)
-by_parts (Some (x, y)) name rows h g =
-    let e : x ≡ name = cc in
-    let d : y ≡ rows = cc in
-    ap₂ (λ a b. Some (a, b)) e d
-
--- what is asked for is what the command asks for with its arguments
-pub asked : (m : ArgMatches) (name : Text) (f : Found) (task : Option Task) → Some name ≡ subcommand_name_of m → Some (rows_of f) ≡ option_map (λ p. p.1) (subcommand_rows_of m)
-    → task ≡ task_in_command (name, rows_of f) → task ≡ task_in (subcommand_rows_of m)
-asked m name f task named rows is =
-    let parts : subcommand_rows_of m ≡ Some (name, rows_of f) = by_parts (subcommand_rows_of m) name (rows_of f) (named ∙ name_by_rows m) rows in
-    is ∙ sym (ap task_in parts)
-
--- which command a name asks for
-pub asks_formula : (name : Text) (rows : List Row) → bytes_eq name (codes "formula") ≡ true → one_file_task CheckFormula (codes "FILE") rows ≡ task_in_command (name, rows)
-asks_formula name rows e = simp e refl
-
-pub asks_judge : (name : Text) (rows : List Row) → bytes_eq name (codes "formula") ≡ false → bytes_eq name (codes "judge") ≡ true → two_file_task JudgeHistory (codes "HISTORY") rows ≡ task_in_command (name, rows)
-asks_judge name rows e f = simp (e, f) refl
-
-pub asks_check : (name : Text) (rows : List Row) → bytes_eq name (codes "formula") ≡ false → bytes_eq name (codes "judge") ≡ false → bytes_eq name (codes "check") ≡ true
-    → two_file_task CheckCertificate (codes "CERT") rows ≡ task_in_command (name, rows)
-asks_check name rows e f g = simp (e, f, g) refl
-
-pub asks_nothing : (name : Text) (rows : List Row) → bytes_eq name (codes "formula") ≡ false → bytes_eq name (codes "judge") ≡ false → bytes_eq name (codes "check") ≡ false
-    → None ≡ task_in_command (name, rows)
-asks_nothing name rows e f g = simp (e, f, g) refl
 
 -- the task of one path, and of two, where clap finds them
 pub one_found : (task : List ℕ → Task) (name : Text) (f : Found) (file : Option Text) → file ≡ first_value f name → option_map task file ≡ one_file_task task name (rows_of f)

@@ -1,4 +1,4 @@
--- The answer to a development's file and a certificate's.
+-- The answers to a development's file, and to a development's file and a certificate's.
 use Rattle.std.specs.Prelude.{◌≡◌, ℕ, ◌⊎◌, List, [], ◌∷◌, ◌++◌, codes, length, Option, IfSome, Result, Ok, Err}
 use Rattle.lc_base.specs.Line.{line_of}
 use Rattle.lc_base.specs.declared.refusal.Fault.TheVariants.{Refused}
@@ -24,6 +24,11 @@ TellsRefusal file text status = (refusal : Refusal) × IsFirstRefusal file_readi
 abbrev pub OpensAs : List ℕ → Result Development Answer → Type 0
 OpensAs file (Ok development) = Says file_reading file (development_shown development)
 OpensAs file (Err answer) = TellsRefusal file answer.text.items answer.status
+
+-- The answer to a development's file, of which this text is printed: that text and status 0; or its first refusal
+abbrev pub AnswersDevelopment : (S.Development → List ℕ) → List ℕ → List ℕ → ℕ → Type 0
+AnswersDevelopment text_of file text status =
+    TellsRefusal file text status ⊎ ((D : S.Development) × Says file_reading file D × (text ≡ text_of D) × (status ≡ 0))
 
 -- the line `accepted`, with the name of the object and the number of the conditions
 abbrev pub accepted_line : S.Development → List ℕ

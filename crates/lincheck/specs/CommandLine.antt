@@ -7,7 +7,7 @@ use Rattle.clap.specs.declared.builder.action.ArgAction.TheVariants.{Set}
 use Rattle.clap.specs.declared.error.kind.ErrorKind.{ErrorKind}
 use Rattle.clap.specs.declared.error.kind.ErrorKind.TheVariants.{DisplayHelp, DisplayVersion}
 use Rattle.lincheck.specs.declared.command_line.Request.{Request}
-use Rattle.lincheck.specs.declared.command_line.Request.TheVariants.{Formula, Judge, Check}
+use Rattle.lincheck.specs.declared.command_line.Request.TheVariants.{Formula, Judge, Show, Conditions, Check}
 
 -- a required argument that names a file
 abbrev pub file_rule : Text → Rule
@@ -21,6 +21,14 @@ formula_app = with_rule (new_app (codes "formula")) (file_rule (codes "FILE"))
 abbrev pub judge_app : App
 judge_app = with_rule (with_rule (new_app (codes "judge")) (file_rule (codes "DEV"))) (file_rule (codes "HISTORY"))
 
+-- `show DEV`
+abbrev pub show_app : App
+show_app = with_rule (new_app (codes "show")) (file_rule (codes "DEV"))
+
+-- `conditions DEV`
+abbrev pub conditions_app : App
+conditions_app = with_rule (new_app (codes "conditions")) (file_rule (codes "DEV"))
+
 -- `check DEV CERT`
 abbrev pub check_app : App
 check_app = with_rule (with_rule (new_app (codes "check")) (file_rule (codes "DEV"))) (file_rule (codes "CERT"))
@@ -29,25 +37,34 @@ check_app = with_rule (with_rule (new_app (codes "check")) (file_rule (codes "DE
 abbrev pub needs_subcommand : Text → App
 needs_subcommand name = record { top = record (new_app name).top { subcommand_required = true }; subs = [] }
 
--- the program with the commands that read no certificate
+-- the program with its first two commands
 abbrev pub first_app : App
 first_app = with_subcommand (with_subcommand (needs_subcommand (codes "lincheck")) formula_app.top) judge_app.top
 
+-- the program with all commands but the last
+abbrev pub further_app : App
+further_app = with_subcommand (with_subcommand first_app show_app.top) conditions_app.top
+
 -- the program and its commands
 abbrev pub program_app : App
-program_app = with_subcommand first_app check_app.top
+program_app = with_subcommand further_app check_app.top
 
 -- What may be asked for: that the proof in the file at a path is checked; that the history in one file is judged by the
--- specification in another; or that the certificate in one file is checked against the development in another
+-- specification in another; that the development in a file is shown, or its conditions are listed; or that the certificate in
+-- one file is checked against the development in another
 pub data Task : Type 0 where
   CheckFormula : (path : List ℕ) → Task
   JudgeHistory : (development history : List ℕ) → Task
+  ShowDevelopment : (development : List ℕ) → Task
+  ListConditions : (development : List ℕ) → Task
   CheckCertificate : (development certificate : List ℕ) → Task
 
 -- the task of a request
 abbrev pub task_of : Request → Task
 task_of (Formula path) = CheckFormula path.now
 task_of (Judge development history) = JudgeHistory development.now history.now
+task_of (Show development) = ShowDevelopment development.now
+task_of (Conditions development) = ListConditions development.now
 task_of (Check development certificate) = CheckCertificate development.now certificate.now
 
 -- the task with the file that these arguments name so
@@ -65,7 +82,11 @@ task_in_command c =
     then one_file_task CheckFormula (codes "FILE") c.1
     else (if bytes_eq c.0 (codes "judge")
     then two_file_task JudgeHistory (codes "HISTORY") c.1
-    else (if bytes_eq c.0 (codes "check") then two_file_task CheckCertificate (codes "CERT") c.1 else None))
+    else (if bytes_eq c.0 (codes "show")
+    then one_file_task ShowDevelopment (codes "DEV") c.1
+    else (if bytes_eq c.0 (codes "conditions")
+    then one_file_task ListConditions (codes "DEV") c.1
+    else (if bytes_eq c.0 (codes "check") then two_file_task CheckCertificate (codes "CERT") c.1 else None))))
 
 -- the task of a command with its arguments, if there is one
 abbrev pub task_in : Option (Text × List Row) → Option Task
@@ -104,6 +125,14 @@ formula_words name path = name ∷ codes "formula" ∷ path ∷ []
 abbrev pub judge_words : List ℕ → List ℕ → List ℕ → List Text
 judge_words name development history = name ∷ codes "judge" ∷ development ∷ history ∷ []
 
+-- `NAME show PATH`
+abbrev pub show_words : List ℕ → List ℕ → List Text
+show_words name development = name ∷ codes "show" ∷ development ∷ []
+
+-- `NAME conditions PATH`
+abbrev pub conditions_words : List ℕ → List ℕ → List Text
+conditions_words name development = name ∷ codes "conditions" ∷ development ∷ []
+
 -- `NAME check PATH PATH`
 abbrev pub check_words : List ℕ → List ℕ → List ℕ → List Text
 check_words name development certificate = name ∷ codes "check" ∷ development ∷ certificate ∷ []
@@ -112,10 +141,14 @@ check_words name development certificate = name ∷ codes "check" ∷ developmen
 abbrev pub words_for : List ℕ → Task → List Text
 words_for name (CheckFormula path) = formula_words name path
 words_for name (JudgeHistory development history) = judge_words name development history
+words_for name (ShowDevelopment development) = show_words name development
+words_for name (ListConditions development) = conditions_words name development
 words_for name (CheckCertificate development certificate) = check_words name development certificate
 
 -- none of its paths begins with a hyphen
 abbrev pub HasPlainPaths : Task → Type 0
 HasPlainPaths (CheckFormula path) = is_plain path ≡ true
 HasPlainPaths (JudgeHistory development history) = (is_plain development ≡ true) × (is_plain history ≡ true)
+HasPlainPaths (ShowDevelopment development) = is_plain development ≡ true
+HasPlainPaths (ListConditions development) = is_plain development ≡ true
 HasPlainPaths (CheckCertificate development certificate) = (is_plain development ≡ true) × (is_plain certificate ≡ true)

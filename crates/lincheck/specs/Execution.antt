@@ -4,18 +4,25 @@ use Rattle.std.specs.Io.KnownBytes.{Keeps, Appends}
 use Rattle.lc_reading.specs.Files.{Says}
 use Rattle.lc_spec_text.specs.Specifications.{first_reading}
 use Rattle.lc_seq.specs.Specification.{Specification}
+use Rattle.lc_cond_text.specs.ConditionText.{conditions_text}
 use Rattle.lc_outline.specs.Development.{Development}
+use Rattle.lc_outline_print.specs.Developments.{development_printed}
 use Rattle.lc_outline_text.specs.Developments.{file_reading}
-use Rattle.lincheck.specs.Check.{AnswersCheck}
-use Rattle.lincheck.specs.CommandLine.{Task, CheckFormula, JudgeHistory, CheckCertificate}
+use Rattle.lincheck.specs.Check.{AnswersDevelopment, AnswersCheck}
+use Rattle.lincheck.specs.CommandLine.{Task, CheckFormula, JudgeHistory, ShowDevelopment, ListConditions, CheckCertificate}
 use Rattle.lincheck.specs.Formula.{AnswersFormula}
 use Rattle.lincheck.specs.Judge.{AnswersJudge}
+use Rattle.lincheck.specs.Printing.{Begins}
 
 -- the answer to a task, where the files that it names are known
 abbrev pub AnswersTask : (List ℕ → Option (List ℕ)) → Task → List ℕ → ℕ → Type 0
 AnswersTask bytes_at (CheckFormula path) text status = IfSome (bytes_at path) (λ file. AnswersFormula file text status)
 AnswersTask bytes_at (JudgeHistory development history) text status =
     IfSome (bytes_at development) (λ file. AnswersJudge file (bytes_at history) text status)
+AnswersTask bytes_at (ShowDevelopment development) text status =
+    IfSome (bytes_at development) (λ file. AnswersDevelopment development_printed file text status)
+AnswersTask bytes_at (ListConditions development) text status =
+    IfSome (bytes_at development) (λ file. AnswersDevelopment conditions_text file text status)
 AnswersTask bytes_at (CheckCertificate development certificate) text status =
     IfSome (bytes_at development) (λ file. AnswersCheck file (bytes_at certificate) text status)
 
@@ -25,6 +32,8 @@ IsUnread CannotOpen bytes_at (CheckFormula path) = CannotOpen path
 IsUnread CannotOpen bytes_at (JudgeHistory development history) =
     CannotOpen development
     ⊎ ((file : List ℕ) × (spec : Specification) × (bytes_at development ≡ Some file) × Says first_reading file spec × CannotOpen history)
+IsUnread CannotOpen bytes_at (ShowDevelopment development) = CannotOpen development
+IsUnread CannotOpen bytes_at (ListConditions development) = CannotOpen development
 IsUnread CannotOpen bytes_at (CheckCertificate development certificate) =
     CannotOpen development
     ⊎ ((file : List ℕ) × (D : Development) × (bytes_at development ≡ Some file) × Says file_reading file D × CannotOpen certificate)
@@ -35,3 +44,10 @@ abbrev pub Ends : (List ℕ → ℕ → Type 0) → Option (List ℕ) → Option
 Ends IsAnswer before after status =
     (((status ≡ 3) ⊎ (status ≡ 4)) × Keeps before after)
     ⊎ ((text : List ℕ) × (said : ℕ) × IsAnswer text said × ((status ≡ 3) ⊎ ((status ≡ said) × Appends before after text)))
+
+-- The same for a text that is printed as it is made: where memory is refused, a beginning of it may stand there
+abbrev pub EndsInPieces : (List ℕ → ℕ → Type 0) → Option (List ℕ) → Option (List ℕ) → ℕ → Type 0
+EndsInPieces IsAnswer before after status =
+    (((status ≡ 3) ⊎ (status ≡ 4)) × Keeps before after)
+    ⊎ ((text : List ℕ) × (said : ℕ) × IsAnswer text said
+    × ((status ≡ 3) ⊎ (((status ≡ 4) × Begins before after text) ⊎ ((status ≡ said) × Appends before after text))))

@@ -5,4 +5,5 @@ pub mod Reading
 pub mod Formula
 pub mod Judge
 pub mod Check
+pub mod Printing
 pub mod Execution

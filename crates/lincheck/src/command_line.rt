@@ -3,7 +3,7 @@ ghost use Rattle.std.specs.Prelude.{◌≡◌, ◌⊎◌, ℕ, List, codes, IfOk
 ghost use Rattle.clap.specs.Words.{app_of, found_of, kind_of, rows_of, rule_of, subcommand_rows_of};
 ghost use Rattle.clap.specs.declared.builder.command.Command.TheViews.{out-Command};
 ghost use Rattle.clap.specs.declared.error.kind.ErrorKind.TheVariants.{OutOfMemory};
-ghost use Rattle.lincheck.specs.CommandLine.{AreWrong, AskForHelp, AsksForText, HasPlainPaths, CheckCertificate, CheckFormula, JudgeHistory, Reads, Task, check_app, file_rule, first_app, formula_app, judge_app, one_file_task, program_app, task_in, task_of, texts_of, two_file_task, words_for};
+ghost use Rattle.lincheck.specs.CommandLine.{AreWrong, AskForHelp, AsksForText, HasPlainPaths, CheckCertificate, CheckFormula, JudgeHistory, ListConditions, Reads, ShowDevelopment, Task, check_app, conditions_app, file_rule, first_app, formula_app, further_app, judge_app, one_file_task, program_app, show_app, task_in, task_of, texts_of, two_file_task, words_for};
 
 use clap::error::ErrorKind;
 use clap::{Arg, ArgAction, ArgMatches, Command, Error};
@@ -19,6 +19,10 @@ pub enum Request<'a> {
         development: &'a str,
         history: &'a str,
     },
+    /// Print the development in the file at this path.
+    Show(&'a str),
+    /// List the conditions of the development in the file at this path.
+    Conditions(&'a str),
     /// Check the certificate in a file against the development in another.
     Check {
         development: &'a str,
@@ -32,7 +36,7 @@ static EXIT_STATUS: &str = "\
 A file that is not accepted is answered by one line on standard output: `refused`, a code, and numbers.
 
 Exit status:
-  0  accepted, or help was asked for
+  0  accepted, or what was asked for is printed
   1  refused
   2  the command line is wrong, and nothing was read
   3  a file cannot be read, or the answer cannot be written
@@ -97,6 +101,29 @@ Example:
 static DEVELOPMENT: &str =
     "A development: a specification, the object's code, and what is claimed of it";
 
+static SHOW: &str = "Prints a development as it was read";
+
+static SHOW_ANSWER: &str = "\
+Reads DEV and prints it on two lines, the specification and the object, without comments, with one space between items; the
+names that quantifiers bind are b0, b1, and so on, counted from the outermost. A DEV that is no development is refused as by
+`check`.
+
+Example:
+  lincheck show examples/counter.lc
+      prints the counter's specification and its object";
+
+static CONDITIONS: &str = "Prints what has to be proved of a development";
+
+static CONDITIONS_ANSWER: &str = "\
+Reads DEV and prints a line for each of its conditions, and then `total` with their number:
+  (condition K KIND POINT EDGE PATH NUM (vars V) (hyps F ..) (goal F))
+Where the goal of each follows from its hypotheses, in every state and for all numbers of its variables, the object is
+linearizable. Lines are printed as they are made. A DEV that is no development is refused as by `check`.
+
+Example:
+  lincheck conditions examples/counter.lc
+      prints 59 conditions, and `total 59`";
+
 static CHECK: &str = "Checks that a certificate proves a development";
 
 static CERTIFICATE_FILE: &str =
@@ -155,6 +182,26 @@ fn judge_command<'a>(alloc: Global) -> Result<Command<'a>, AllocError>
         .arg(file(alloc, "HISTORY", JUDGE_HISTORY))
 }
 
+fn show_command<'a>(alloc: Global) -> Result<Command<'a>, AllocError>
+    ensures app { IfOk result (λ command. app_of command ≡ show_app) }
+    ensures local { IfOk result (λ command. (out-Command command).has_globals ≡ false) }
+{
+    Command::new(alloc, "show")
+        .about(SHOW)
+        .after_help(SHOW_ANSWER)
+        .arg(file(alloc, "DEV", DEVELOPMENT))
+}
+
+fn conditions_command<'a>(alloc: Global) -> Result<Command<'a>, AllocError>
+    ensures app { IfOk result (λ command. app_of command ≡ conditions_app) }
+    ensures local { IfOk result (λ command. (out-Command command).has_globals ≡ false) }
+{
+    Command::new(alloc, "conditions")
+        .about(CONDITIONS)
+        .after_help(CONDITIONS_ANSWER)
+        .arg(file(alloc, "DEV", DEVELOPMENT))
+}
+
 fn check_command<'a>(alloc: Global) -> Result<Command<'a>, AllocError>
     ensures app { IfOk result (λ command. app_of command ≡ check_app) }
     ensures local { IfOk result (λ command. (out-Command command).has_globals ≡ false) }
@@ -166,7 +213,7 @@ fn check_command<'a>(alloc: Global) -> Result<Command<'a>, AllocError>
         .arg(file(alloc, "CERT", CERTIFICATE_FILE))
 }
 
-/// The program with the commands that read no certificate.
+/// The program with its first two commands.
 fn first_commands<'a>(alloc: Global) -> Result<Command<'a>, AllocError>
     ensures { IfOk result (λ command. app_of command ≡ first_app) }
 {
@@ -178,10 +225,19 @@ fn first_commands<'a>(alloc: Global) -> Result<Command<'a>, AllocError>
         .subcommand(judge_command(alloc)?)
 }
 
+/// The program with all commands but the last.
+fn further_commands<'a>(alloc: Global) -> Result<Command<'a>, AllocError>
+    ensures { IfOk result (λ command. app_of command ≡ further_app) }
+{
+    first_commands(alloc)?
+        .subcommand(show_command(alloc)?)?
+        .subcommand(conditions_command(alloc)?)
+}
+
 fn program<'a>(alloc: Global) -> Result<Command<'a>, AllocError>
     ensures { IfOk result (λ command. app_of command ≡ program_app) }
 {
-    first_commands(alloc)?.subcommand(check_command(alloc)?)
+    further_commands(alloc)?.subcommand(check_command(alloc)?)
 }
 
 fn formula_request<'a>(command: &ArgMatches<'a>) -> Option<Request<'a>>
@@ -200,6 +256,20 @@ fn judge_request<'a>(command: &ArgMatches<'a>) -> Option<Request<'a>>
         development,
         history,
     })
+}
+
+fn show_request<'a>(command: &ArgMatches<'a>) -> Option<Request<'a>>
+    ensures { option_map task_of result ≡ one_file_task ShowDevelopment (codes "DEV") (rows_of (found_of command.now)) }
+{
+    let development = command.get_str("DEV")?;
+    Some(Request::Show(development))
+}
+
+fn conditions_request<'a>(command: &ArgMatches<'a>) -> Option<Request<'a>>
+    ensures { option_map task_of result ≡ one_file_task ListConditions (codes "DEV") (rows_of (found_of command.now)) }
+{
+    let development = command.get_str("DEV")?;
+    Some(Request::Conditions(development))
 }
 
 fn check_request<'a>(command: &ArgMatches<'a>) -> Option<Request<'a>>
@@ -221,6 +291,8 @@ fn request_of<'a>(matches: &ArgMatches<'a>) -> Option<Request<'a>>
     match name {
         "formula" => formula_request(command),
         "judge" => judge_request(command),
+        "show" => show_request(command),
+        "conditions" => conditions_request(command),
         "check" => check_request(command),
         _ => None,
     }

@@ -6,6 +6,10 @@ ghost use Rattle.lc_hist.specs.History.{Event, Entry};
 ghost use Rattle.lc_hist.specs.JsonHistories.{SaysHistory};
 ghost use Rattle.lc_spec_text.specs.Specifications.{first_reading};
 ghost use Rattle.lc_seq.specs.Specification.{Specification};
+ghost use Rattle.lc_outline.specs.Development.{Development};
+ghost use Rattle.lc_outline_text.specs.Developments as Outline;
+ghost use Rattle.lc_sound.specs.Linearizable.{IsLinearizableObject};
+ghost use Rattle.lincheck.specs.Check.{AnswersCheck};
 ghost use Rattle.lincheck.specs.Formula.{AnswersFormula, IsTrueClaim};
 ghost use Rattle.lincheck.specs.Judge.{AnswersJudge, IsSpecified};
 
@@ -32,4 +36,19 @@ pub fn a_history_has_one_answer()
 pub fn what_is_accepted_is_linearizable()
     ensures { (development history text : List ℕ) → AnswersJudge development (Some history) text 0 →
         (spec : Specification) (events : List Event) (order : List Entry) → Says first_reading development spec → SaysHistory spec.operations history events order → IsSpecified spec events }
+{}
+
+/// A development's file and a certificate's have one answer at most: what is printed and the status are determined by their
+/// bytes.
+pub fn a_check_has_one_answer()
+    ensures { (development certificate text text' : List ℕ) (status status' : ℕ) →
+        AnswersCheck development (Some certificate) text status → AnswersCheck development (Some certificate) text' status' → (text ≡ text') × (status ≡ status') }
+{}
+
+/// Where the answer to a development's file and a certificate's has the status 0, the file says a development, and for every
+/// number of clients and every list of single-access steps of its object the history of calls and returns is linearizable by
+/// its specification.
+pub fn a_checked_object_is_linearizable()
+    ensures { (development certificate text : List ℕ) → AnswersCheck development (Some certificate) text 0 →
+        (D : Development) × Says Outline.file_reading development D × IsLinearizableObject D.specification D.object }
 {}

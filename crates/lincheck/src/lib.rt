@@ -4,13 +4,16 @@
 mod answer;
 mod check;
 mod command_line;
+mod conditions;
 mod disk;
 mod files;
 mod formula;
 mod judge;
 pub mod laws;
+mod printing;
 mod program;
 mod reading;
+mod show;
 
 pub use answer::{COMMAND_LINE_FAULT, OUT_OF_MEMORY};
 pub use disk::Disk;

@@ -1,43 +1,52 @@
-ghost use Rattle.std.specs.Prelude.{◌≡◌, ◌⊎◌, ℕ, List, true, IfOk, IfSome, IsErr, OnOk};
-ghost use Rattle.std.specs.Io.KnownBytes.{Appends};
+ghost use Rattle.std.specs.Prelude.{◌≡◌, ◌⊎◌, ℕ, List, true, IfSome, IsErr};
 ghost use Rattle.clap.specs.Words.{kind_of};
-ghost use Rattle.lincheck.specs.CommandLine.{AreWrong, AskForHelp, AsksForText, HasPlainPaths, Task, check_words, formula_words, is_plain, judge_words, task_of, texts_of, words_for};
-ghost use Rattle.lincheck.specs.Check.{AnswersCheck};
-ghost use Rattle.lincheck.specs.Execution.{AnswersTask, Ends, IsUnread};
+ghost use Rattle.lc_cond_text.specs.ConditionText.{conditions_text};
+ghost use Rattle.lc_outline_print.specs.Developments.{development_printed};
+ghost use Rattle.lincheck.specs.CommandLine.{AreWrong, AskForHelp, AsksForText, HasPlainPaths, Task, check_words, conditions_words, formula_words, is_plain, judge_words, show_words, task_of, texts_of, words_for};
+ghost use Rattle.lincheck.specs.Check.{AnswersCheck, AnswersDevelopment};
+ghost use Rattle.lincheck.specs.Execution.{AnswersTask, Ends, EndsInPieces, IsUnread};
 ghost use Rattle.lincheck.specs.Formula.{AnswersFormula};
 ghost use Rattle.lincheck.specs.Judge.{AnswersJudge};
+ghost use Rattle.lincheck.specs.Printing.{Leaves};
 ghost use Rattle.lincheck.specs.Status.{status_of};
 
-use crate::answer::{Answer, COMMAND_LINE_FAULT, Failure, SUCCESS};
+use crate::answer::{COMMAND_LINE_FAULT, Failure, SUCCESS};
 use crate::check::answer_check;
 use crate::command_line::{Request, read_words};
+use crate::conditions::list_conditions;
 use crate::files::Files;
 use crate::formula::answer_formula;
 use crate::judge::answer_judge;
+use crate::printing::print_answer;
+use crate::show::answer_show;
 use clap::error::ErrorKind;
 use std::alloc::Global;
 use std::io;
 use std::io::Write;
 
-/// Files are opened, read and judged in the order of the command, so that none is opened behind a refusal.
-fn answer<'a, F: Files>(
+/// Does what is asked for, prints the answer, and answers its status. Files are opened, read and judged in the order of the
+/// command, so that none is opened behind a refusal.
+fn carry_out<'a, F: Files, O: Write>(
     alloc: Global,
     request: Request<'a>,
     files: &mut F,
-) -> Result<Answer, Failure<'a>>
-    ensures unread { IsUnread (F.CannotOpen files.old) (F.bytes_at files.old) (task_of request.entry) → IsErr result }
-    ensures answers { IfOk result (λ answer. AnswersTask (F.bytes_at files.old) (task_of request.entry) answer.text.items answer.status) }
+    out: &mut O,
+) -> Result<u8, Failure<'a>>
+    ensures unread { IsUnread (F.CannotOpen files.old) (F.bytes_at files.old) (task_of request.entry) → IsErr result × (out.new ≡ out.old) }
+    ensures leaves { Leaves (task_of request.entry) (AnswersTask (F.bytes_at files.old) (task_of request.entry)) (O.contents out.old) (O.contents out.new) result }
 {
     match request {
-        Request::Formula(path) => answer_formula(alloc, files, path),
+        Request::Formula(path) => print_answer(out, &answer_formula(alloc, files, path)?),
         Request::Judge {
             development,
             history,
-        } => answer_judge(alloc, files, development, history),
+        } => print_answer(out, &answer_judge(alloc, files, development, history)?),
+        Request::Show(development) => print_answer(out, &answer_show(alloc, files, development)?),
+        Request::Conditions(development) => list_conditions(alloc, files, development, out),
         Request::Check {
             development,
             certificate,
-        } => answer_check(alloc, files, development, certificate),
+        } => print_answer(out, &answer_check(alloc, files, development, certificate)?),
     }
 }
 
@@ -49,26 +58,9 @@ fn complain<E: Write>(err: &mut E, failure: &Failure<'_>) -> u8
     failure.status()
 }
 
-fn print<O: Write>(out: &mut O, text: &[u8]) -> io::Result<()>
-    ensures { OnOk result (Appends (O.contents out.old) (O.contents out.new) text.now) }
-{
-    out.write_all(text)?;
-    out.flush()
-}
-
 fn print_help<O: Write>(out: &mut O, help: &clap::Error) -> io::Result<()> {
     write!(out, "{help}")?;
     out.flush()
-}
-
-/// Prints an answer, and answers the status of the program.
-fn tell<O: Write, E: Write>(answer: &Answer, out: &mut O, err: &mut E) -> u8
-    ensures { (result ≡ 3) ⊎ ((result ≡ answer.now.status) × Appends (O.contents out.old) (O.contents out.new) answer.now.text.items) }
-{
-    match print(out, answer.text.as_slice()) {
-        Ok(()) => answer.status,
-        Err(_) => complain(err, &Failure::CannotWrite),
-    }
 }
 
 /// Shows what `clap` has to say: help on standard output, faults on standard error.
@@ -92,7 +84,8 @@ fn tell_usage<O: Write, E: Write>(error: &clap::Error, out: &mut O, err: &mut E)
 
 /// Runs the program on the words of its command line, and answers its exit status.
 ///
-/// Answers and help are written to `out`, all else to `err`.
+/// Answers and help are written to `out`, all else to `err`. The lines of `conditions` are written as they are made: where
+/// memory is refused, a beginning of them may stand there.
 pub fn execute<F: Files, O: Write, E: Write>(
     alloc: Global,
     words: &[String],
@@ -104,6 +97,10 @@ pub fn execute<F: Files, O: Write, E: Write>(
         → Ends (λ text status. IfSome (F.bytes_at files.old path) (λ file. AnswersFormula file text status)) (O.contents out.old) (O.contents out.new) result }
     ensures judge { (name development history : List ℕ) → texts_of words.now ≡ judge_words name development history → is_plain development ≡ true → is_plain history ≡ true
         → Ends (λ text status. IfSome (F.bytes_at files.old development) (λ file. AnswersJudge file (F.bytes_at files.old history) text status)) (O.contents out.old) (O.contents out.new) result }
+    ensures show { (name development : List ℕ) → texts_of words.now ≡ show_words name development → is_plain development ≡ true
+        → Ends (λ text status. IfSome (F.bytes_at files.old development) (λ file. AnswersDevelopment development_printed file text status)) (O.contents out.old) (O.contents out.new) result }
+    ensures conditions { (name development : List ℕ) → texts_of words.now ≡ conditions_words name development → is_plain development ≡ true
+        → EndsInPieces (λ text status. IfSome (F.bytes_at files.old development) (λ file. AnswersDevelopment conditions_text file text status)) (O.contents out.old) (O.contents out.new) result }
     ensures check { (name development certificate : List ℕ) → texts_of words.now ≡ check_words name development certificate → is_plain development ≡ true → is_plain certificate ≡ true
         → Ends (λ text status. IfSome (F.bytes_at files.old development) (λ file. AnswersCheck file (F.bytes_at files.old certificate) text status)) (O.contents out.old) (O.contents out.new) result }
     ensures unread { (name : List ℕ) (task : Task) → texts_of words.now ≡ words_for name task → HasPlainPaths task → IsUnread (F.CannotOpen files.old) (F.bytes_at files.old) task
@@ -114,8 +111,8 @@ pub fn execute<F: Files, O: Write, E: Write>(
     match read_words(alloc, words) {
         Err(error) => tell_usage(&error, out, err),
         Ok(request) => {
-            match answer(alloc, request, files) {
-                Ok(answer) => tell(&answer, out, err),
+            match carry_out(alloc, request, files, out) {
+                Ok(status) => status,
                 Err(failure) => complain(err, &failure),
             }
         }

@@ -1,5 +1,5 @@
 //! Runs the program on command lines over the files of the system, and prints what it did. What has to be printed was
-//! worked out by hand.
+//! worked out by hand or by an independent program.
 //!
 //! A line of the file `runs` has the words of a command line, with a space between two. What is printed of it is the
 //! line behind a `$`, what the program wrote on standard output, then what it wrote on standard error, and its status.

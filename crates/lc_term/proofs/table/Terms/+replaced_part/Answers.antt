@@ -2,44 +2,78 @@ use Rattle.std.proofs.Common.{◌≡◌, ap, ap₂, sym, ◌∙◌, Some, rules,
 use Rattle.lc_term.specs.Syntax as S
 use Rattle.lc_term.specs.Nodes.{part_of, term as term_part, column as column_part}
 use Rattle.lc_term.specs.Tables.{parts, term_in, column_in, IsTerm}
-use Rattle.lc_term.specs.NodeReplacement.{part_in, replaced_part}
+use Rattle.lc_term.specs.NodeReplacement.{as_part, part_in, replaced_part}
 use Rattle.lc_term.proofs.Later.{kept_on, same_store, is_column_later}
 use Rattle.lc_term.proofs.NodeReplacement.{one_term, first_term, second_term, later_term, first_column}
-use Rattle.lc_term.specs.Put.{replacement_of}
 use Rattle.lc_term.specs.Replacement.{under_many}
-use Rattle.lc_term.proofs.Remembered.{remembers_later, bound_stays, term_remembered, column_remembered, term_noted, column_noted}
-use Rattle.std.specs.Prelude.{option_copied}
+use Rattle.lc_term.proofs.Remembered.{stands_later, term_remembered, column_remembered, term_noted, column_noted}
+use Rattle.std.proofs.lemmas.Result.{IfOk-weaker}
 use Rattle.lc_term.proofs.table.Terms.+replaced_part.Goals as goal
 
-pub replaced_part-returns-in_ok-variable_below-in-Variable-clause-done : goal.replaced_part-returns-in_ok-variable_below-in-Variable-clause-done
-replaced_part-returns-in_ok-variable_below-in-Variable-clause-done t c = remembers_later (replacement_of c.args.put.now) _ _ _ c.requires.done c.in_ok-variable_below-in-Variable.ensures.kept
+pub replaced_part-replaced_variable-requires-clause-there : goal.replaced_part-replaced_variable-requires-clause-there
+replaced_part-replaced_variable-requires-clause-there g t c = c.part_node.ensures.tree ∙ ap (λ n. Some (part_of (parts c.args.self.now) n)) c.in-Variable.is
 
-pub replaced_part-returns-in_ok-column_below-in-Base-clause-done : goal.replaced_part-returns-in_ok-column_below-in-Base-clause-done
-replaced_part-returns-in_ok-column_below-in-Base-clause-done t c = remembers_later (replacement_of c.args.put.now) _ _ _ c.requires.done c.in_ok-column_below-in-Base.ensures.kept
+pub replaced_part-replaced_variable-requires-clause-put : goal.replaced_part-replaced_variable-requires-clause-put
+replaced_part-replaced_variable-requires-clause-put g t c = c.requires.done.filled
+
+pub replaced_part-returns-in-Variable-clause-id : goal.replaced_part-returns-in-Variable-clause-id
+replaced_part-returns-in-Variable-clause-id g t c =
+    let r = under_many c.args.depth g.R.Filled.replacement in
+    let at = c.part_node.ensures.tree ∙ ap (λ n. Some (part_of (parts c.args.self.now) n)) c.in-Variable.is in
+    IfOk-weaker c.replaced_variable.result _ _ (λ k h. h ∙ ap (λ o. Some (replaced_part r (as_part o))) (sym at)) c.replaced_variable.ensures.id
+
+pub replaced_part-replaced_base-requires-clause-there : goal.replaced_part-replaced_base-requires-clause-there
+replaced_part-replaced_base-requires-clause-there g t c = c.part_node.ensures.tree ∙ ap (λ n. Some (part_of (parts c.args.self.now) n)) c.in-Base.is
+
+pub replaced_part-replaced_base-requires-clause-put : goal.replaced_part-replaced_base-requires-clause-put
+replaced_part-replaced_base-requires-clause-put g t c = c.requires.done.filled
+
+pub replaced_part-returns-in-Base-clause-id : goal.replaced_part-returns-in-Base-clause-id
+replaced_part-returns-in-Base-clause-id g t c =
+    let r = under_many c.args.depth g.R.Filled.replacement in
+    let at = c.part_node.ensures.tree ∙ ap (λ n. Some (part_of (parts c.args.self.now) n)) c.in-Base.is in
+    IfOk-weaker c.replaced_base.result _ _ (λ k h. h ∙ ap (λ o. Some (replaced_part r (as_part o))) (sym at)) c.replaced_base.ensures.id
+
+pub replaced_part-replaced_bound-requires-clause-there : goal.replaced_part-replaced_bound-requires-clause-there
+replaced_part-replaced_bound-requires-clause-there g t c = c.part_node.ensures.tree ∙ ap (λ n. Some (part_of (parts c.args.self.now) n)) c.in-Bound.is
+
+pub replaced_part-replaced_bound-requires-clause-put : goal.replaced_part-replaced_bound-requires-clause-put
+replaced_part-replaced_bound-requires-clause-put g t c = c.requires.done.filled
 
 pub replaced_part-returns-in-Bound-clause-id : goal.replaced_part-returns-in-Bound-clause-id
-replaced_part-returns-in-Bound-clause-id t c =
-    bound_stays (replacement_of c.args.put.now) (λ k. refl) c.args.depth c.args.self.now c.args.part _ (c.part_node.ensures.tree ∙ ap (λ n. Some (part_of (parts c.args.self.now) n)) c.in-Bound.is)
+replaced_part-returns-in-Bound-clause-id g t c =
+    let r = under_many c.args.depth g.R.Filled.replacement in
+    let at = c.part_node.ensures.tree ∙ ap (λ n. Some (part_of (parts c.args.self.now) n)) c.in-Bound.is in
+    IfOk-weaker c.replaced_bound.result _ _ (λ k h. h ∙ ap (λ o. Some (replaced_part r (as_part o))) (sym at)) c.replaced_bound.ensures.id
+
+pub replaced_part-returns-in-Variable-clause-done : goal.replaced_part-returns-in-Variable-clause-done
+replaced_part-returns-in-Variable-clause-done g t c = IfOk-weaker c.replaced_variable.result _ _ (λ k h. stands_later g.R.Filled.replacement c.args.put.now _ _ _ c.requires.done c.replaced_variable.ensures.kept) c.replaced_variable.ensures.id
+
+pub replaced_part-returns-in-Base-clause-done : goal.replaced_part-returns-in-Base-clause-done
+replaced_part-returns-in-Base-clause-done g t c = IfOk-weaker c.replaced_base.result _ _ (λ k h. stands_later g.R.Filled.replacement c.args.put.now _ _ _ c.requires.done c.replaced_base.ensures.kept) c.replaced_base.ensures.id
+
+pub replaced_part-returns-in-Bound-clause-done : goal.replaced_part-returns-in-Bound-clause-done
+replaced_part-returns-in-Bound-clause-done g t c = IfOk-weaker c.replaced_bound.result _ _ (λ k h. stands_later g.R.Filled.replacement c.args.put.now _ _ _ c.requires.done c.replaced_bound.ensures.kept) c.replaced_bound.ensures.id
 
 pub replaced_part-returns-in_ok-add-in-Add-clause-done : goal.replaced_part-returns-in_ok-add-in-Add-clause-done
-replaced_part-returns-in_ok-add-in-Add-clause-done t c = remembers_later (replacement_of c.args.put.now) _ _ _ c.in_ok-right-in-Add.ensures.done c.in_ok-add-in-Add.ensures.kept
+replaced_part-returns-in_ok-add-in-Add-clause-done g t c = stands_later g.R.Filled.replacement c.args.put.now _ _ _ c.in_ok-right-in-Add.ensures.done c.in_ok-add-in-Add.ensures.kept
 
 pub replaced_part-returns-in_ok-subtract-in-Subtract-clause-done : goal.replaced_part-returns-in_ok-subtract-in-Subtract-clause-done
-replaced_part-returns-in_ok-subtract-in-Subtract-clause-done t c = remembers_later (replacement_of c.args.put.now) _ _ _ c.in_ok-right-in-Subtract.ensures.done c.in_ok-subtract-in-Subtract.ensures.kept
+replaced_part-returns-in_ok-subtract-in-Subtract-clause-done g t c = stands_later g.R.Filled.replacement c.args.put.now _ _ _ c.in_ok-right-in-Subtract.ensures.done c.in_ok-subtract-in-Subtract.ensures.kept
 
 pub replaced_part-returns-in_ok-multiply-in-Multiply-clause-done : goal.replaced_part-returns-in_ok-multiply-in-Multiply-clause-done
-replaced_part-returns-in_ok-multiply-in-Multiply-clause-done t c = remembers_later (replacement_of c.args.put.now) _ _ _ c.in_ok-term-in-Multiply.ensures.done c.in_ok-multiply-in-Multiply.ensures.kept
+replaced_part-returns-in_ok-multiply-in-Multiply-clause-done g t c = stands_later g.R.Filled.replacement c.args.put.now _ _ _ c.in_ok-term-in-Multiply.ensures.done c.in_ok-multiply-in-Multiply.ensures.kept
 
 pub replaced_part-returns-in_ok-read-in-Read-clause-done : goal.replaced_part-returns-in_ok-read-in-Read-clause-done
-replaced_part-returns-in_ok-read-in-Read-clause-done t c = remembers_later (replacement_of c.args.put.now) _ _ _ c.in_ok-index-in-Read.ensures.done c.in_ok-read-in-Read.ensures.kept
+replaced_part-returns-in_ok-read-in-Read-clause-done g t c = stands_later g.R.Filled.replacement c.args.put.now _ _ _ c.in_ok-index-in-Read.ensures.done c.in_ok-read-in-Read.ensures.kept
 
 pub replaced_part-returns-in_ok-store-in-Store-clause-done : goal.replaced_part-returns-in_ok-store-in-Store-clause-done
-replaced_part-returns-in_ok-store-in-Store-clause-done t c = remembers_later (replacement_of c.args.put.now) _ _ _ c.in_ok-value-in-Store.ensures.done c.in_ok-store-in-Store.ensures.kept
+replaced_part-returns-in_ok-store-in-Store-clause-done g t c = stands_later g.R.Filled.replacement c.args.put.now _ _ _ c.in_ok-value-in-Store.ensures.done c.in_ok-store-in-Store.ensures.kept
 
 pub replaced_part-returns-in_ok-add-in-Add-clause-id : goal.replaced_part-returns-in_ok-add-in-Add-clause-id
-replaced_part-returns-in_ok-add-in-Add-clause-id t c =
+replaced_part-returns-in_ok-add-in-Add-clause-id g t c =
     let t0 = c.args.self.now in
-    let r = under_many c.args.depth (replacement_of c.args.put.now) in
+    let r = under_many c.args.depth g.R.Filled.replacement in
     let t1 = c.replaced_term.new.self in
     let t2 = c.replaced_term-in-Add.new.self in
     let k1 = c.in_ok-left-in-Add.ensures.kept in
@@ -50,9 +84,9 @@ replaced_part-returns-in_ok-add-in-Add-clause-id t c =
     c.in_ok-add-in-Add.ensures.id ∙ ap (λ x. Some (term_part x)) (ap₂ S.Add left right) ∙ ap (λ p. Some (replaced_part r p)) (sym there)
 
 pub replaced_part-returns-in_ok-subtract-in-Subtract-clause-id : goal.replaced_part-returns-in_ok-subtract-in-Subtract-clause-id
-replaced_part-returns-in_ok-subtract-in-Subtract-clause-id t c =
+replaced_part-returns-in_ok-subtract-in-Subtract-clause-id g t c =
     let t0 = c.args.self.now in
-    let r = under_many c.args.depth (replacement_of c.args.put.now) in
+    let r = under_many c.args.depth g.R.Filled.replacement in
     let t1 = c.replaced_term-in-Subtract.new.self in
     let t2 = c.replaced_term-in-Subtract-2.new.self in
     let k1 = c.in_ok-left-in-Subtract.ensures.kept in
@@ -63,9 +97,9 @@ replaced_part-returns-in_ok-subtract-in-Subtract-clause-id t c =
     c.in_ok-subtract-in-Subtract.ensures.id ∙ ap (λ x. Some (term_part x)) (ap₂ S.Subtract left right) ∙ ap (λ p. Some (replaced_part r p)) (sym there)
 
 pub replaced_part-returns-in_ok-multiply-in-Multiply-clause-id : goal.replaced_part-returns-in_ok-multiply-in-Multiply-clause-id
-replaced_part-returns-in_ok-multiply-in-Multiply-clause-id t c =
+replaced_part-returns-in_ok-multiply-in-Multiply-clause-id g t c =
     let t0 = c.args.self.now in
-    let r = under_many c.args.depth (replacement_of c.args.put.now) in
+    let r = under_many c.args.depth g.R.Filled.replacement in
     let t1 = c.replaced_term-in-Multiply.new.self in
     let there : part_in t0 c.args.part ≡ term_part (S.Multiply c.in-Multiply.factor (term_in t0 c.in-Multiply.term)) = search rules in
     let inner = one_term r t0 t1 c.in-Multiply.term c.in_ok-term-in-Multiply.term c.in_ok-term-in-Multiply.ensures.id in
@@ -73,9 +107,9 @@ replaced_part-returns-in_ok-multiply-in-Multiply-clause-id t c =
     made ∙ ap (λ x. Some (term_part (S.Multiply c.in-Multiply.factor x))) inner ∙ ap (λ p. Some (replaced_part r p)) (sym there)
 
 pub replaced_part-returns-in_ok-read-in-Read-clause-id : goal.replaced_part-returns-in_ok-read-in-Read-clause-id
-replaced_part-returns-in_ok-read-in-Read-clause-id t c =
+replaced_part-returns-in_ok-read-in-Read-clause-id g t c =
     let t0 = c.args.self.now in
-    let r = under_many c.args.depth (replacement_of c.args.put.now) in
+    let r = under_many c.args.depth g.R.Filled.replacement in
     let t1 = c.replaced_column.new.self in
     let t2 = c.replaced_term-in-Read.new.self in
     let k1 = c.in_ok-column-in-Read.ensures.kept in
@@ -86,9 +120,9 @@ replaced_part-returns-in_ok-read-in-Read-clause-id t c =
     c.in_ok-read-in-Read.ensures.id ∙ ap (λ x. Some (term_part x)) (ap₂ S.Read column index) ∙ ap (λ p. Some (replaced_part r p)) (sym there)
 
 pub replaced_part-returns-in_ok-store-in-Store-clause-id : goal.replaced_part-returns-in_ok-store-in-Store-clause-id
-replaced_part-returns-in_ok-store-in-Store-clause-id t c =
+replaced_part-returns-in_ok-store-in-Store-clause-id g t c =
     let t0 = c.args.self.now in
-    let r = under_many c.args.depth (replacement_of c.args.put.now) in
+    let r = under_many c.args.depth g.R.Filled.replacement in
     let t1 = c.replaced_column-in-Store.new.self in
     let t2 = c.replaced_term-in-Store.new.self in
     let t3 = c.replaced_term-in-Store-2.new.self in
@@ -105,7 +139,7 @@ replaced_part-returns-in_ok-store-in-Store-clause-id t c =
     c.in_ok-store-in-Store.ensures.id ∙ ap (λ x. Some (column_part x)) (same_store _ _ _ _ _ _ column index value) ∙ ap (λ p. Some (replaced_part r p)) (sym there)
 
 pub replaced_part-store-requires-clause-column : goal.replaced_part-store-requires-clause-column
-replaced_part-store-requires-clause-column t c =
+replaced_part-store-requires-clause-column g t c =
     let t1 = c.replaced_column-in-Store.new.self in
     let t2 = c.replaced_term-in-Store.new.self in
     let t3 = c.replaced_term-in-Store-2.new.self in
@@ -115,19 +149,19 @@ replaced_part-store-requires-clause-column t c =
     is_column_later t1 t3 c.in_ok-column-in-Store.column _ c.in_ok-column-in-Store.ensures.id (kept_on t1 t2 t3 k2 k3)
 
 pub replaced_term-returns-in-Some-clause-id : goal.replaced_term-returns-in-Some-clause-id
-replaced_term-returns-in-Some-clause-id t c =
-    term_remembered (replacement_of c.args.put.now) c.args.self.now c.args.done.now c.args.term c.args.depth _ c.requires.done c.requires.there (sym c.get.ensures.value ∙ ap option_copied c.in-Some.is)
+replaced_term-returns-in-Some-clause-id g t c =
+    term_remembered g.R.Filled.replacement c.args.self.now c.args.done.now c.args.term c.args.depth _ c.requires.done.remembers c.requires.there c.in-Some.ensures
 
 pub replaced_term-returns-clause-done : goal.replaced_term-returns-clause-done
-replaced_term-returns-clause-done t c =
-    term_noted (replacement_of c.args.put.now) c.args.self.now c.replaced_part.new.self c.replaced_part.new.done (record { parts = c.insert.new.self; formulas = c.replaced_part.new.done.formulas }) c.args.term c.args.depth _ c.requires.there c.in_ok-number.ensures.kept c.in_ok-number.ensures.done
-    c.in_ok-number.ensures.id c.in_ok-insert.ensures.updates.0 refl
+replaced_term-returns-clause-done g t c =
+    term_noted g.R.Filled.replacement c.args.self.now c.replaced_part.new.self c.args.put.now c.replaced_part.new.done c.note_part.new.self c.args.term c.args.depth _ c.requires.there c.in_ok-number.ensures.kept c.in_ok-number.ensures.done
+    c.in_ok-number.ensures.id c.in_ok-note_part.ensures.parts c.in_ok-note_part.ensures.formulas
 
 pub replaced_column-returns-in-Some-clause-id : goal.replaced_column-returns-in-Some-clause-id
-replaced_column-returns-in-Some-clause-id t c =
-    column_remembered (replacement_of c.args.put.now) c.args.self.now c.args.done.now c.args.column c.args.depth _ c.requires.done c.requires.there (sym c.get.ensures.value ∙ ap option_copied c.in-Some.is)
+replaced_column-returns-in-Some-clause-id g t c =
+    column_remembered g.R.Filled.replacement c.args.self.now c.args.done.now c.args.column c.args.depth _ c.requires.done.remembers c.requires.there c.in-Some.ensures
 
 pub replaced_column-returns-clause-done : goal.replaced_column-returns-clause-done
-replaced_column-returns-clause-done t c =
-    column_noted (replacement_of c.args.put.now) c.args.self.now c.replaced_part.new.self c.replaced_part.new.done (record { parts = c.insert.new.self; formulas = c.replaced_part.new.done.formulas }) c.args.column c.args.depth _ c.requires.there c.in_ok-number.ensures.kept c.in_ok-number.ensures.done
-    c.in_ok-number.ensures.id c.in_ok-insert.ensures.updates.0 refl
+replaced_column-returns-clause-done g t c =
+    column_noted g.R.Filled.replacement c.args.self.now c.replaced_part.new.self c.args.put.now c.replaced_part.new.done c.note_part.new.self c.args.column c.args.depth _ c.requires.there c.in_ok-number.ensures.kept c.in_ok-number.ensures.done
+    c.in_ok-number.ensures.id c.in_ok-note_part.ensures.parts c.in_ok-note_part.ensures.formulas

@@ -7,10 +7,10 @@ use Rattle.lc_term.proofs.Later.{term_is}
 use Rattle.lc_term.proofs.Under.{under_many-variable}
 use Rattle.lc_term.proofs.table.Terms.variable_below.Goals as goal
 
-pub returns-else-depth-eq0-clause-id : goal.returns-else-depth-eq0-clause-id
-returns-else-depth-eq0-clause-id c =
+pub returns-clause-id : goal.returns-clause-id
+returns-clause-id c =
     let r = replacement_of c.args.put.now in
     let put = term_is c.enter_put_variable.new.self _ _ c.in_ok-term.ensures.id in
-    IfOk-weaker c.shift.result _ _
+    IfOk-weaker c.raised.result _ _
     (λ k h. h ∙ ap (λ x. Some (term_part (shifted_term c.args.depth 0 x))) put ∙ ap (λ x. Some (term_part x)) (sym (under_many-variable c.args.depth r c.args.number)))
-    c.shift.ensures.id
+    c.raised.ensures.id

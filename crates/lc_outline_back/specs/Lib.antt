@@ -1,0 +1,4 @@
+pub mod Spellings
+pub mod CodeSpelled
+pub mod KnownSpelled
+pub mod ReadsBack

@@ -1,0 +1,46 @@
+use Rattle.std.proofs.Common.{sym, subst}
+use Rattle.lincheck.specs.CommandLine.{task_of}
+use Rattle.lincheck.specs.Execution.{AnswersTask}
+use Rattle.lincheck.specs.declared.command_line.Request.{Request}
+use Rattle.lincheck.specs.Printing.{Leaves}
+use Rattle.lincheck.proofs.Endings.{leaves_printed}
+use Rattle.lincheck.proofs.program.carry_out.Goals as goal
+
+pub returns-in_ok-answer_formula-in-Formula-clause-leaves : goal.returns-in_ok-answer_formula-in-Formula-clause-leaves
+returns-in_ok-answer_formula-in-Formula-clause-leaves g c =
+    let answer = c.in_ok-answer_formula-in-Formula.field-0 in
+    leaves_printed (task_of c.args.request) (AnswersTask (g.F.Files.bytes_at c.args.files.now) (task_of c.args.request)) (g.O.Write.contents c.args.out.now)
+    (g.O.Write.contents c.print_answer.new.out) answer.text.items answer.status c.print_answer.result
+    (subst (λ (r : Request). AnswersTask (g.F.Files.bytes_at c.args.files.now) (task_of r) answer.text.items answer.status) (sym c.in-Formula.is) c.in_ok-answer_formula-in-Formula.ensures.answers)
+    c.print_answer.ensures.prints c.print_answer.ensures.fails
+
+pub returns-in_ok-answer_judge-in-Judge-clause-leaves : goal.returns-in_ok-answer_judge-in-Judge-clause-leaves
+returns-in_ok-answer_judge-in-Judge-clause-leaves g c =
+    let answer = c.in_ok-answer_judge-in-Judge.field-0 in
+    leaves_printed (task_of c.args.request) (AnswersTask (g.F.Files.bytes_at c.args.files.now) (task_of c.args.request)) (g.O.Write.contents c.args.out.now)
+    (g.O.Write.contents c.print_answer-in-Judge.new.out) answer.text.items answer.status c.print_answer-in-Judge.result
+    (subst (λ (r : Request). AnswersTask (g.F.Files.bytes_at c.args.files.now) (task_of r) answer.text.items answer.status) (sym c.in-Judge.is) c.in_ok-answer_judge-in-Judge.ensures.answers)
+    c.print_answer-in-Judge.ensures.prints c.print_answer-in-Judge.ensures.fails
+
+pub returns-in_ok-answer_show-in-Show-clause-leaves : goal.returns-in_ok-answer_show-in-Show-clause-leaves
+returns-in_ok-answer_show-in-Show-clause-leaves g c =
+    let answer = c.in_ok-answer_show-in-Show.field-0 in
+    leaves_printed (task_of c.args.request) (AnswersTask (g.F.Files.bytes_at c.args.files.now) (task_of c.args.request)) (g.O.Write.contents c.args.out.now)
+    (g.O.Write.contents c.print_answer-in-Show.new.out) answer.text.items answer.status c.print_answer-in-Show.result
+    (subst (λ (r : Request). AnswersTask (g.F.Files.bytes_at c.args.files.now) (task_of r) answer.text.items answer.status) (sym c.in-Show.is) c.in_ok-answer_show-in-Show.ensures.answers)
+    c.print_answer-in-Show.ensures.prints c.print_answer-in-Show.ensures.fails
+
+pub returns-in_ok-answer_check-in-Check-clause-leaves : goal.returns-in_ok-answer_check-in-Check-clause-leaves
+returns-in_ok-answer_check-in-Check-clause-leaves g c =
+    let answer = c.in_ok-answer_check-in-Check.field-0 in
+    leaves_printed (task_of c.args.request) (AnswersTask (g.F.Files.bytes_at c.args.files.now) (task_of c.args.request)) (g.O.Write.contents c.args.out.now)
+    (g.O.Write.contents c.print_answer-in-Check.new.out) answer.text.items answer.status c.print_answer-in-Check.result
+    (subst (λ (r : Request). AnswersTask (g.F.Files.bytes_at c.args.files.now) (task_of r) answer.text.items answer.status) (sym c.in-Check.is) c.in_ok-answer_check-in-Check.ensures.answers)
+    c.print_answer-in-Check.ensures.prints c.print_answer-in-Check.ensures.fails
+
+pub returns-in-Conditions-clause-leaves : goal.returns-in-Conditions-clause-leaves
+returns-in-Conditions-clause-leaves g c =
+    subst
+    (λ (r : Request). Leaves (task_of r) (AnswersTask (g.F.Files.bytes_at c.args.files.now) (task_of r)) (g.O.Write.contents c.args.out.now) (g.O.Write.contents c.list_conditions.new.out)
+    c.list_conditions.result)
+    (sym c.in-Conditions.is) c.list_conditions.ensures.leaves

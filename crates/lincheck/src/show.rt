@@ -1,0 +1,28 @@
+//! The command `show`.
+ghost use Rattle.std.specs.Prelude.{◌≡◌, IfOk, IfSome, IsErr};
+ghost use Rattle.lc_outline_print.specs.Developments.{development_printed};
+ghost use Rattle.lincheck.specs.Check.{AnswersDevelopment};
+
+use crate::answer::{Answer, Failure, SUCCESS};
+use crate::check::open_development;
+use crate::files::Files;
+use lc_outline_print::development_text;
+use std::alloc::Global;
+
+/// The answer of the command `show` to the file at a path: the text of the development that it says.
+pub fn answer_show<'a, F: Files>(
+    alloc: Global,
+    files: &mut F,
+    path: &'a str,
+) -> Result<Answer, Failure<'a>>
+    ensures unread { F.CannotOpen files.old path.now → IsErr result }
+    ensures answers { IfOk result (λ answer. IfSome (F.bytes_at files.old path.now) (λ file. AnswersDevelopment development_printed file answer.text.items answer.status)) }
+{
+    match open_development(alloc, files, path)? {
+        Ok(development) => Ok(Answer {
+            text: development_text(alloc, &development)?,
+            status: SUCCESS,
+        }),
+        Err(answer) => Ok(answer),
+    }
+}
