@@ -101,13 +101,13 @@ def files(name, points, actions, storing, width):
 
 
 def claims():
-    """Actions that leave alone what is claimed: the shortest proofs, some 4 MB."""
+    """Actions that leave alone what is claimed: the shortest proofs, some 3 MB."""
     return files("claims", 255, 60, 0, 6)
 
 
-def stores():
-    """Actions that store in a column of which something is claimed: some 8 MB of proofs."""
-    return files("stores", 255, 60, 60, 6)
+def stored_claims():
+    """Actions that store in a column of which something is claimed: some 6 MB of proofs."""
+    return files("stored_claims", 255, 60, 60, 6)
 
 
-CERTIFICATES = {it.__name__: it for it in (claims, stores)}
+CERTIFICATES = {it.__name__: it for it in (claims, stored_claims)}
