@@ -2,3 +2,10 @@ pub mod Rows
 pub mod Ways
 pub mod Updates
 pub mod Branches
+pub mod Riders
+pub mod Instructions
+pub mod Points
+pub mod Sides
+pub mod Arrays
+pub mod Sums
+pub mod Edges
