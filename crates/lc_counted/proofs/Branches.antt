@@ -1,5 +1,5 @@
 -- The branches of a specification store in the columns that its text names.
-use Rattle.std.proofs.Common.{◌≡◌, ℕ, ◌+◌, Bool, true, false, cond, List, [], ◌∷◌, ◌++◌, append_assoc, length, Option, Some, None, refl, sym, ap, ap₂, ◌∙◌, subst}
+use Rattle.std.proofs.Common.{◌≡◌, ℕ, ◌+◌, Bool, true, false, cond, List, [], ◌∷◌, ◌++◌, length, Option, Some, None, refl, sym, ap₂, subst}
 use Rattle.std.specs.List.{list_any}
 use Rattle.std.specs.Prelude.{ℤ, codes, ◌||◌}
 use Rattle.lc_base.specs.NameText.{is_name}
@@ -8,8 +8,8 @@ use Rattle.lc_sexp.specs.TreeCode.{tree_count}
 use Rattle.lc_sexp.specs.Trees.{Tree, Trees, atom, list, none, ◌▸◌, item_count}
 use Rattle.lc_reading.proofs.Holding.{Holds, anything, mapped_holds, both_holds, three_holds, ended_holds, limited_holds, if_holds, weaker}
 use Rattle.lc_reading.specs.Listed.{place_of}
-use Rattle.lc_reading.specs.Naming.{within, is_full, name_reading}
-use Rattle.lc_reading.specs.Readings.{Reading, fine, wrong, listed_reading}
+use Rattle.lc_reading.specs.Naming.{is_full, name_reading}
+use Rattle.lc_reading.specs.Readings.{fine, wrong, listed_reading}
 use Rattle.lc_reading.specs.Reserved.{is_system_column}
 use Rattle.lc_reading.specs.Rows.{each_reading, first_name, second_name, all_declared, declared_reading}
 use Rattle.lc_reading.specs.Words.{is, is_long}
@@ -20,17 +20,17 @@ use Rattle.lc_text.specs.DeclaredColumn.{column_parts_reading, declared_column_r
 use Rattle.lc_text.specs.Formulas.{formula_reading}
 use Rattle.lc_text.specs.Names.{Names}
 use Rattle.lc_text.specs.Terms.{pair, triple, number_reading, term_reading}
-use Rattle.lc_seq.specs.Specification.{Column, Branch, Operation, Specification}
+use Rattle.lc_seq.specs.Specification.{Branch, Operation}
 use Rattle.lc_spec_text.specs.Branches.{stored, written_reading, the_update, update_parts_reading, update_reading, updates_reading, replies_reading, the_branch, branch_parts_reading, branch_reading}
 use Rattle.lc_spec_text.specs.Operations.{count_in, variables_in, signature_reading, the_operation, operation_parts_reading, operation_reading}
 use Rattle.lc_spec_text.specs.Scopes.{Columns, branch_names}
 use Rattle.lc_spec_text.specs.Specifications.{the_column, column_reading, columns_reading, columns_in, operations_reading, the_specification, specification_parts_reading, specification_reading}
 use Rattle.lc_object_text.proofs.Holding.{form_holds}
-use Rattle.lc_object_text.specs.ObjectNames.{text_in, first_text, items_within, within_first, later, parts_in_first, names_of_columns}
+use Rattle.lc_object_text.specs.ObjectNames.{text_in, first_text, items_within, later, parts_in_first, names_of_columns}
 use Rattle.lc_object_text.specs.Sections.{parts_of_fit, parts_in, some_forms_in}
 use Rattle.lc_cond.specs.Sizes.{columns_of}
 use Rattle.lc_outline_text.specs.Declarations.{branches_in}
-use Rattle.lc_outline_text.specs.Sizes.{column_named, columns_stored}
+use Rattle.lc_outline_text.specs.Sizes.{columns_stored}
 use Rattle.lc_counted.proofs.Rows.{Alike, Along, each_along, declared_along, counted_count, IsForm, some_alike, for_all}
 use Rattle.lc_counted.proofs.Updates.{IsColumn, Leads, IsBranchOf}
 

@@ -1,21 +1,21 @@
 -- The edges of a point have as many conditions as are counted from its text.
-use Rattle.std.proofs.Common.{◌≡◌, ℕ, zero, suc, ◌+◌, ◌<◌, true, false, cond, List, [], ◌∷◌, ◌++◌, map, length, append-nil, Option, Some, None, refl, sym, ap, ap₂, ◌∙◌, subst, arith}
+use Rattle.std.proofs.Common.{◌≡◌, ℕ, zero, suc, ◌+◌, ◌<◌, true, false, cond, List, [], ◌∷◌, ◌++◌, map, length, append-nil, Some, None, refl, sym, ap, ap₂, ◌∙◌, subst, arith}
 use Rattle.std.proofs.lemmas.List.{length-map}
 use Rattle.std.proofs.lemmas.List.Sums.{sum_by-cons}
-use Rattle.std.specs.Prelude.{codes, option_map, slice_get, slice_index_or, sum_by}
+use Rattle.std.specs.Prelude.{codes, slice_get, slice_index_or, sum_by}
 use Rattle.lc_sexp.specs.Trees.{Trees}
 use Rattle.lc_reading.proofs.Places.{place_below}
 use Rattle.lc_reading.specs.Listed.{place_of}
-use Rattle.lc_term.specs.Syntax.{Term, Formula, Not, And, formulas}
+use Rattle.lc_term.specs.Syntax.{Term, Not, And, formulas}
 use Rattle.lc_term.specs.Lists.{concat_map}
 use Rattle.lc_term.specs.SystemColumns.{pend}
-use Rattle.lc_object.specs.Edges.{Edge, columns_in, array_columns, reads, row_updates, row_facts, edges_at}
+use Rattle.lc_object.specs.Edges.{Edge, array_columns, reads, row_updates, row_facts, edges_at}
 use Rattle.lc_object.specs.Syntax as S
 use Rattle.lc_object.specs.Syntax.{Instr, Operation, Point}
 use Rattle.lc_object.specs.declared.instr.EdgeKind.{EdgeKind}
 use Rattle.lc_object.specs.declared.instr.EdgeKind.TheVariants.{Next, Then, Else}
 use Rattle.lc_object_text.proofs.BodyHolds.{shifted}
-use Rattle.lc_object_text.specs.ObjectNames.{Body, first_text, within_first, later, points_in, row_at, body_names}
+use Rattle.lc_object_text.specs.ObjectNames.{Body, first_text, within_first, later, row_at, body_names}
 use Rattle.lc_outline.specs.Development.{Development, Outline, first_system, invariant_of, asserts_in, asserts_at, ons_in, on_for, on_at}
 use Rattle.lc_cond.specs.Conditions.{asserts_to, in_operation, in_body}
 use Rattle.lc_cond.specs.Sizes.{columns_of, EdgeSize, way_count, edge_count, columns_acted, rider_ways, returned, ended_columns, edge_size, edge_sizes}
@@ -27,7 +27,7 @@ use Rattle.lc_outline_text.specs.Sizes.{Totals, assert_count, ons_of, count_at, 
 use Rattle.lc_counted.proofs.Instructions.{IsCoded}
 use Rattle.lc_counted.proofs.Points.{IsPointOf}
 use Rattle.lc_counted.proofs.Riders.{Agrees, on_found, edge_counted}
-use Rattle.lc_counted.proofs.Rows.{Alike, alike_at}
+use Rattle.lc_counted.proofs.Rows.{Alike}
 use Rattle.lc_counted.proofs.Sums.{point_edges, sum_one, sum_two, IsThere, Stand, there}
 
 -- a development has these totals, and the columns that are declared

@@ -1,5 +1,5 @@
 -- An instruction has the arrays and the labels that its text names.
-use Rattle.std.proofs.Common.{◌≡◌, ℕ, ◌+◌, Bool, true, false, cond, List, [], ◌∷◌, length, Option, Some, None, refl, sym, ap, ◌∙◌, subst}
+use Rattle.std.proofs.Common.{◌≡◌, ℕ, ◌+◌, Bool, true, false, cond, List, [], length, Option, Some, None, refl, sym, ap, ◌∙◌, subst}
 use Rattle.std.specs.Prelude.{codes, option_map}
 use Rattle.lc_base.specs.NameText.{is_name}
 use Rattle.lc_sexp.specs.TreeCode.{tree_count}

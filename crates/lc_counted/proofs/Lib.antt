@@ -1,11 +1,14 @@
-pub mod Rows
-pub mod Ways
-pub mod Updates
-pub mod Branches
-pub mod Riders
-pub mod Instructions
-pub mod Points
-pub mod Sides
-pub mod Arrays
-pub mod Sums
-pub mod Edges
+mod Arrays
+mod Bodies
+mod Branches
+mod Edges
+mod Instructions
+mod Limit
+mod Points
+mod Riders
+mod Rows
+mod Sides
+mod Sums
+mod Updates
+mod Ways
+mod Whole

@@ -1,5 +1,5 @@
 -- The points of bodies assert and do what their texts say.
-use Rattle.std.proofs.Common.{◌≡◌, ℕ, suc, ◌+◌, ◌≤◌, Bool, List, [], length, Option, Some, None, refl, arith}
+use Rattle.std.proofs.Common.{◌≡◌, ℕ, ◌+◌, ◌≤◌, Bool, List, [], length, Option, Some, None, refl, arith}
 use Rattle.std.specs.Prelude.{codes, slice_get}
 use Rattle.lc_sexp.specs.TreeCode.{tree_count}
 use Rattle.lc_sexp.specs.Trees.{Tree, Trees, none, ◌▸◌, item_count}
@@ -11,19 +11,18 @@ use Rattle.lc_text.specs.Formulas.{formula_reading}
 use Rattle.lc_text.specs.Names.{Names}
 use Rattle.lc_text.specs.Terms.{pair}
 use Rattle.lc_reading.specs.Rows.{each_reading}
-use Rattle.lc_object.specs.Syntax.{Instr, Point}
+use Rattle.lc_object.specs.Syntax.{Point}
 use Rattle.lc_object_text.proofs.Holding.{Each, placed_holds, form_holds}
 use Rattle.lc_object_text.specs.Instructions.{instruction_reading}
 use Rattle.lc_object_text.specs.ObjectNames.{Body, within_first, later, points_in, code_names, body_names}
 use Rattle.lc_object_text.specs.Points.{Beside, BodyText, is_shaped, point_of, point_name_reading, point_parts, point_reading, points_reading, body_of, locals_reading, is_of_another, body_parts, body_reading}
 use Rattle.lc_object_text.specs.Sections.{parts_in, forms_in, some_forms_in}
-use Rattle.lc_outline.specs.Development.{On, Outline}
-use Rattle.lc_rider_text.specs.Known.{Known}
+use Rattle.lc_outline.specs.Development.{Outline}
 use Rattle.lc_rider_text.specs.Ons.{ons_reading}
 use Rattle.lc_rider_text.specs.declared.edges.Edges.{Edges}
 use Rattle.lc_outline_text.specs.Bodies.{names_in, due_reading, ith_reading, bodies_reading}
 use Rattle.lc_outline_text.specs.Declarations.{Declarations, known_of, own_branches}
-use Rattle.lc_outline_text.specs.Needs.{code_word, edges_of, lacks_on}
+use Rattle.lc_outline_text.specs.Needs.{code_word, edges_of}
 use Rattle.lc_outline_text.specs.Points.{formulas_in_reading, outline_of, outline_reading, beside}
 use Rattle.lc_outline_text.specs.Sizes.{assert_count, ons_of}
 use Rattle.lc_counted.proofs.Instructions.{IsCoded, instruction_said}

@@ -24,13 +24,13 @@ use Rattle.lc_object.specs.declared.instr.EdgeKind.TheVariants.{Next, Then, Else
 use Rattle.lc_object_text.proofs.Holding.{form_holds}
 use Rattle.lc_object_text.specs.ObjectNames.{text_in, first_text, items_within, within_first, later}
 use Rattle.lc_object_text.specs.Rows.{cons, placed_reading}
-use Rattle.lc_object_text.specs.Sections.{before_others, parts_in, forms_in}
+use Rattle.lc_object_text.specs.Sections.{before_others, forms_in}
 use Rattle.lc_rider.specs.Rider.{Marking, Deed, Assign, Marks, Rider, Own, Other, Note}
 use Rattle.lc_outline.specs.Development.{Development, On, first_system, same_kind, on_for, riders_in}
 use Rattle.lc_rider_text.specs.Edges.{edge_of, edge_in, found_edge, is_refused, without}
 use Rattle.lc_rider_text.specs.Heads.{head_of, kind_of}
 use Rattle.lc_rider_text.specs.Known.{Known}
-use Rattle.lc_rider_text.specs.Ons.{action_use, call_parts_reading, call_reading, the_on, on_parts_reading, on_reading, ons_reading}
+use Rattle.lc_rider_text.specs.Ons.{action_use, call_reading, the_on, on_parts_reading, on_reading, ons_reading}
 use Rattle.lc_rider_text.specs.Riders.{other_reading, mark_of, deed_with, deed_reading, when_reading, always, where_holds, rider_reading, ith_rider_reading, riders_reading}
 use Rattle.lc_rider_text.specs.Scopes.{quiet}
 use Rattle.lc_rider_text.specs.declared.edges.Edges.{Edges}

@@ -1,5 +1,5 @@
 -- The invariant, what holds of idle clients, and the actions of a development are those of its text.
-use Rattle.std.proofs.Common.{◌≡◌, ℕ, ◌+◌, ◌<◌, Bool, true, false, cond, List, [], ◌∷◌, map, length, Option, Some, None, refl, sym, ap, ap₂, ◌∙◌, subst}
+use Rattle.std.proofs.Common.{◌≡◌, ℕ, ◌+◌, ◌<◌, Bool, true, false, cond, List, [], ◌∷◌, map, length, Some, None, sym, ap, ◌∙◌, subst}
 use Rattle.std.proofs.lemmas.List.{length-map}
 use Rattle.std.specs.Prelude.{codes, option_map, slice_get}
 use Rattle.lc_sexp.specs.Parts.{fits, misshapen}
@@ -34,7 +34,7 @@ use Rattle.lc_outline_text.specs.Points.{formulas_in_reading}
 use Rattle.lc_outline_text.specs.Sides.{auxiliaries_reading, actions_reading, invariant_reading, conditions_reading, Sides, sides_of, sides_reading}
 use Rattle.lc_outline_text.specs.Sizes.{columns_stored, columns_acted}
 use Rattle.lc_counted.proofs.Points.{formulas_said}
-use Rattle.lc_counted.proofs.Rows.{Alike, AreAt, alike_at, each_count}
+use Rattle.lc_counted.proofs.Rows.{Alike, alike_at, each_count}
 use Rattle.lc_counted.proofs.Updates.{updates_said}
 
 -- ---- actions

@@ -72,11 +72,13 @@ all_stand : (D : Development) (ps before rest : List (Point × Outline)) (p : �
 all_stand D ps before [] p e f same long = tt
 all_stand D ps before (x ∷ rest) p e f same long =
     let next : before ++ x ∷ rest ≡ (before ++ x ∷ []) ++ rest = sym (append_assoc before (x ∷ []) rest) in
-    let more : length (before ++ x ∷ []) ≡ suc p = (let both = length-append before (x ∷ []) in omega (arith, both, long)) in
-    (record {
-      code = ap₂ slice_get (e ∙ ap (map (λ (y : Point × Outline). y.0)) same) (sym long) ∙ first_there (λ (y : Point × Outline). y.0) before rest x;
-      outline = ap₂ slice_get (f ∙ ap (map (λ (y : Point × Outline). y.1)) same) (sym long) ∙ first_there (λ (y : Point × Outline). y.1) before rest x;
-    }, all_stand D ps (before ++ x ∷ []) rest (suc p) e f (same ∙ next) more)
+    let more : length (before ++ x ∷ []) ≡ suc p = (let both = length-append before (x ∷ []) in omega (arith, both, long)) in (
+      record {
+        code = ap₂ slice_get (e ∙ ap (map (λ (y : Point × Outline). y.0)) same) (sym long) ∙ first_there (λ (y : Point × Outline). y.0) before rest x;
+        outline = ap₂ slice_get (f ∙ ap (map (λ (y : Point × Outline). y.1)) same) (sym long) ∙ first_there (λ (y : Point × Outline). y.1) before rest x;
+      },
+      all_stand D ps (before ++ x ∷ []) rest (suc p) e f (same ∙ next) more,
+    )
 
 pub stand : (D : Development) (ps : List (Point × Outline)) → D.object.points ≡ map (λ x. x.0) ps → D.outlines ≡ map (λ x. x.1) ps → Stand D 0 ps
 stand D ps e f = all_stand D ps [] ps 0 e f refl refl

@@ -1,9 +1,5 @@
-use Rattle.lc_counted.proofs.Points.{bodies_said}
-use Rattle.lc_counted.proofs.Sides.{sides_said}
-use Rattle.lc_counted.proofs.Arrays.{array_said}
-use Rattle.lc_counted.proofs.Riders.{edge_counted}
-use Rattle.lc_counted.proofs.Edges.{point_counted}
+use Rattle.lc_counted.proofs.Limit.{text_counted}
 use Rattle.lc_counted.proofs.laws.conditions_are_counted_from_the_text.Goals as goal
 
 pub returns : goal.returns
-returns c = ?
+returns c = text_counted
