@@ -18,7 +18,6 @@ use Rattle.lc_object_text.proofs.ArrayHolds.{HaveSpans, spans_have}
 use Rattle.lc_object_text.proofs.Holding.{Each}
 use Rattle.lc_object_text.specs.ObjectNames.{first_text, later, call_of, parts_in_first, names_of_columns, columns_of_arrays, spans_from, bodies_due, abstracts_in, arrays_in, auxiliaries_in, operations_in, declared_in_sections}
 use Rattle.lc_object_text.specs.Objects as O
-use Rattle.lc_object_text.specs.Objects.{arrays_from}
 use Rattle.lc_object_text.specs.Sections.{Sections, items_of_fit, items_in, behind_item, behind_first, parts_in, some_forms_in, sections_of}
 use Rattle.lc_rider.specs.Rider.{Marking}
 use Rattle.lc_outline.specs.Development.{Development, Outline, first_system}
