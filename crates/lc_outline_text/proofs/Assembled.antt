@@ -44,11 +44,11 @@ use Rattle.lc_outline_text.specs.Sizes.{condition_count}
 
 -- what is read of a specification fits what is declared, both as its object sees it and as it is
 pub record SpecificationHolds (s : Sections) (p : O.SpecificationText × Specification) : Type 0 where
-  fit : SpecificationFits (declared_in_sections s) s p.0
+  pub fit : SpecificationFits (declared_in_sections s) s p.0
   columns : length p.0.abstracts ≡ length p.1.columns
   operations : AreSame p.0.signatures p.1.operations
 
-specification_of_text : (t u : Tree) (ts : Trees) → Holds (SpecificationHolds (sections_of (t ▸ u ▸ ts))) (specification_reading (declarations_of (t ▸ u ▸ ts)) 0 t)
+pub specification_of_text : (t u : Tree) (ts : Trees) → Holds (SpecificationHolds (sections_of (t ▸ u ▸ ts))) (specification_reading (declarations_of (t ▸ u ▸ ts)) 0 t)
 specification_of_text t u ts =
     let s = sections_of (t ▸ u ▸ ts) in
     let d = declared_in_sections s in
@@ -64,7 +64,7 @@ specification_of_text t u ts =
 -- ---- the object
 
 pub record ObjectHolds (s : Sections) (p : Parts) : Type 0 where
-  fit : ObjectFits (declared_in_sections s) s (p.0.0, map code_of p.1)
+  pub fit : ObjectFits (declared_in_sections s) s (p.0.0, map code_of p.1)
   sides : AreSides (declarations_in s) s p.0.1
   bodies : AreBodiesOf (declarations_in s) 0 p.1
 
@@ -78,7 +78,7 @@ outlines_read s n =
     (both_holds (λ x. Unit {0}) (AreSides d s) (λ (x : O.Tables × Sides). AreSides d s x.1) pair (O.tables_reading d.declared s n) (sides_reading d s n) (anything (O.tables_reading d.declared s n)) (sides_hold d s n) (λ a b h g. g))
     (bodies_outlined d n s.bodies.number s.bodies.trees) (λ a b h g. (h, g))
 
-object_of_text : (s : Sections) (n : ℕ) → Holds (ObjectHolds s) (object_reading (declarations_in s) s n)
+pub object_of_text : (s : Sections) (n : ℕ) → Holds (ObjectHolds s) (object_reading (declarations_in s) s n)
 object_of_text s n =
     let d = declarations_in s in
     let r = object_reading d s n in
@@ -122,7 +122,7 @@ all_columns s p o h g =
 
 -- ---- the whole
 
-fits_declared : (s : Sections) (p : O.SpecificationText × Specification) (o : Parts) → SpecificationHolds s p → ObjectHolds s o → Fits (declarations_in s) (development_of p o) (all_points o.1)
+pub fits_declared : (s : Sections) (p : O.SpecificationText × Specification) (o : Parts) → SpecificationHolds s p → ObjectHolds s o → Fits (declarations_in s) (development_of p o) (all_points o.1)
 fits_declared s p o h g =
     let d = declarations_in s in
     let bs = map code_of o.1 in
@@ -197,10 +197,14 @@ reads_itself : {X : Type 0} (r : Reading X) → Holds (λ x. r ≡ fine x) r
 reads_itself (fine x) = refl
 reads_itself (flawed f) = tt
 
--- the development that a file says is resolved
+-- the development that forms say is resolved
+pub forms_resolved : (ts : Trees) (D : Development) → forms_reading (declarations_of ts) (sections_of ts) 0 ts ≡ fine D → is_resolved D ≡ true
+forms_resolved ts D read =
+    development_is_resolved ts D read (held IsSpecified (forms_reading (declarations_of ts) (sections_of ts) 0 ts) D (specified (declarations_of ts) (sections_of ts) 0 ts) read)
+
+-- the same of a file
 pub says_resolved : (ts : Trees) (D : Development) → file_reading ts ≡ fine D → is_resolved D ≡ true
 says_resolved ts D e =
     let forms = forms_reading (declarations_of ts) (sections_of ts) 0 ts in
     let within = nat_lt condition_limit (condition_count (declarations_of ts) (sections_of ts)) in
-    let read = held (λ (E : Development). forms ≡ fine E) (limited within 0 forms) D (limited_holds (λ (E : Development). forms ≡ fine E) within 0 forms (reads_itself forms)) e in
-    development_is_resolved ts D read (held IsSpecified forms D (specified (declarations_of ts) (sections_of ts) 0 ts) read)
+    forms_resolved ts D (held (λ (E : Development). forms ≡ fine E) (limited within 0 forms) D (limited_holds (λ (E : Development). forms ≡ fine E) within 0 forms (reads_itself forms)) e)

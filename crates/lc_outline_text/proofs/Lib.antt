@@ -3,11 +3,11 @@ pub mod Assembled
 mod CodeAlone
 mod Counting
 mod FileReads
-mod Fitting
+pub mod Fitting
 mod MadeBodies
 mod Needed
 mod ObjectOf
-mod Outlined
+pub mod Outlined
 mod PlacedReads
 mod SidesHold
 mod Walks

@@ -1,0 +1,14 @@
+mod Arrays
+mod Bodies
+mod Branches
+mod Edges
+mod Instructions
+mod Limit
+mod Points
+mod Riders
+mod Rows
+mod Sides
+mod Sums
+mod Updates
+mod Ways
+mod Whole
