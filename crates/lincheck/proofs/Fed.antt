@@ -37,9 +37,12 @@ module _ {S : Type 0} (WasFed : S → List ℕ → Type 0) where
   -- one piece more
   pub fed_more : (old sink new : S) (before mid after : Option (List ℕ)) (left n : ℕ) (piece : List ℕ) → IsFedSoFar WasFed old sink before mid left
       → Consumes mid after piece → length piece ≡ n → n ≤ left → IsFedOn WasFed sink new piece → IsFedSoFar WasFed old new before after (left - n)
-  fed_more old sink new before mid after left n piece (bytes, count, read, fed) more is most on =
-      (bytes ++ piece, omega (arith, count, is, most, length-append bytes piece), Consumes-trans before mid after bytes piece read more,
-      λ first h. subst (WasFed new) (append_assoc first bytes piece) (on (first ++ bytes) (fed first h)))
+  fed_more old sink new before mid after left n piece (bytes, count, read, fed) more is most on = (
+    bytes ++ piece,
+    omega (arith, count, is, most, length-append bytes piece),
+    Consumes-trans before mid after bytes piece read more,
+    λ first h. subst (WasFed new) (append_assoc first bytes piece) (on (first ++ bytes) (fed first h)),
+  )
 
   -- a read that gave nothing
   pub fed_kept : (old new : S) (before mid after : Option (List ℕ)) (left : ℕ) → IsFedSoFar WasFed old new before mid left → Keeps mid after → IsFedSoFar WasFed old new before after left
