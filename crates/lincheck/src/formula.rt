@@ -1,7 +1,7 @@
 //! The command `formula`.
 ghost use Rattle.std.specs.Prelude.{◌≡◌, ℕ, List, IfOk, IfSome, IsErr};
 ghost use Rattle.lc_sexp.specs.Reads.{ReadsAs};
-ghost use Rattle.lc_sexp.specs.Reading.{IsAfter};
+ghost use Rattle.lc_sexp.specs.Pieces.{WasFed};
 ghost use Rattle.lincheck.specs.Formula.{IsVerdict, AnswersFormula, fault_of};
 
 use crate::answer::{Answer, Failure, told};
@@ -10,7 +10,7 @@ use crate::reading::feed_file;
 use lc_base::{Fault, Refusal};
 use lc_kernel::{ProofFault, prove};
 use lc_proof_text::formula_in;
-use lc_sexp::{Forms, Reader};
+use lc_sexp::{Forms, FormsReader};
 use std::alloc::Global;
 
 /// The number of the only condition that a formula file has.
@@ -53,9 +53,9 @@ pub fn check_formula(alloc: Global, bytes: &[u8]) -> Result<(), Fault>
 }
 
 /// The same of the file that a reader has been fed.
-fn check_fed(alloc: Global, reader: Reader) -> Result<(), Fault>
-    requires { (bytes : List ℕ) × IsAfter bytes reader }
-    ensures { (bytes : List ℕ) → IsAfter bytes reader → IsVerdict bytes result }
+fn check_fed(alloc: Global, reader: FormsReader) -> Result<(), Fault>
+    requires { (bytes : List ℕ) × WasFed reader bytes }
+    ensures { (bytes : List ℕ) → WasFed reader bytes → IsVerdict bytes result }
 {
     let forms = reader.finish()?;
     check_forms(alloc, forms)
@@ -70,7 +70,7 @@ pub fn answer_formula<'a, F: Files>(
     ensures unread { F.CannotOpen files.old path.now → IsErr result }
     ensures answers { IfOk result (λ answer. IfSome (F.bytes_at files.old path.now) (λ file. AnswersFormula file answer.text.items answer.status)) }
 {
-    let mut reader = Reader::new(alloc);
+    let mut reader = FormsReader::new(alloc);
     feed_file(files, path, &mut reader)?;
     let verdict = check_fed(alloc, reader);
     Ok(told(alloc, "proved", verdict)?)

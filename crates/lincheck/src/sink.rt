@@ -1,9 +1,8 @@
 //! What takes the bytes of a file as they are read.
 ghost use Rattle.std.specs.Prelude.{◌≡◌};
-ghost use Rattle.lc_sexp.specs.Reading.{IsAfter};
 
 use lc_base::OutOfMemory;
-use lc_sexp::Reader;
+use lc_sexp::FormsReader;
 
 /// Takes a file piece by piece.
 pub trait Sink {
@@ -29,10 +28,12 @@ impl Sink for Vec<u8> {
 }
 
 /// Their forms.
-impl Sink for Reader {
-    ghost WasFed = { λ reader fed. IsAfter fed reader };
+impl Sink for FormsReader {
+    ghost use Rattle.lc_sexp.specs.Pieces.{WasFed as HasRead};
+
+    ghost WasFed = { HasRead };
 
     fn feed(&mut self, piece: &[u8]) -> Result<(), OutOfMemory> {
-        Reader::feed(self, piece)
+        FormsReader::feed(self, piece)
     }
 }
