@@ -1,4 +1,5 @@
-ghost use Rattle.std.specs.Prelude.{◌≡◌, ◌+◌, ◌<◌, ◌^◌, IfOk, IsTrue, []};
+ghost use Rattle.std.specs.Prelude.{◌≡◌, ◌+◌, ◌<◌, ◌^◌, ℕ, List, IfOk, IsTrue, []};
+ghost use Rattle.lc_sexp.specs.Reads.{ReadsAs};
 ghost use Rattle.lc_sexp.specs.Shown.{rest_of, number_of, owner_of};
 ghost use Rattle.lc_sexp.specs.Trees.{item_count, item_count_of_all};
 ghost use Rattle.lc_term.specs.Tables.{formula_in, formulas_in};
@@ -150,6 +151,20 @@ fn read_file(alloc: Global, forms: Cursor<'_>) -> Result<ClaimTrees, ReadFault>
     ended(read_form(alloc, form), rest)
 }
 
+/// The goal and the proof of the formula file of which these are the forms, with a table in which the goal's formulas
+/// stand. Where it is none, `Refused` has its first refusal, as in `formula_of`.
+pub fn formula_in(alloc: Global, forms: Forms) -> Result<FormulaFile, Fault>
+    requires { (bytes : List ℕ) × ReadsAs bytes forms }
+    ensures answer { (bytes : List ℕ) → ReadsAs bytes forms → IsAnswerTo claim_in file_reading bytes result }
+    ensures numbers { IfOk result AreEntered }
+    ensures hypotheses { IfOk result (λ file. IsTrue (all_below file.goal.vars (formulas_in file.terms file.goal.hypotheses.items))) }
+    ensures goal { IfOk result (λ file. IsTrue (formula_below file.goal.vars (formula_in file.terms file.goal.goal))) }
+    ensures steps { IfOk result (λ file. file.goal.vars + size (proof_of file.proof) < 2 ^ 32) }
+{
+    let claim = read_file(alloc, forms.cursor())?;
+    Ok(entered(alloc, claim)?)
+}
+
 /// The goal and the proof of a formula file, with a table in which the goal's formulas stand:
 /// `(formula (vars NAME*) (cols NAME*) (hyps F*) (goal F) (proof P))`.
 ///
@@ -164,6 +179,5 @@ pub fn formula_of(alloc: Global, bytes: &[u8]) -> Result<FormulaFile, Fault>
     ensures steps { IfOk result (λ file. file.goal.vars + size (proof_of file.proof) < 2 ^ 32) }
 {
     let forms = Forms::read(alloc, bytes)?;
-    let claim = read_file(alloc, forms.cursor())?;
-    Ok(entered(alloc, claim)?)
+    formula_in(alloc, forms)
 }

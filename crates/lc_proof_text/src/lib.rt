@@ -13,6 +13,6 @@ pub mod read_back;
 mod step;
 
 pub use claim::FormulaFile;
-pub use formula::formula_of;
+pub use formula::{formula_in, formula_of};
 pub use printing::write_proof;
 pub use proof::read_proof;

@@ -6,6 +6,7 @@ pub mod Cuts
 pub mod Exists
 pub mod Faults
 pub mod Fed
+pub mod FedForms
 pub mod Fills
 pub mod Flats
 pub mod Items

@@ -8,6 +8,7 @@ pub mod Misfit
 pub mod NaturalValue
 pub mod Numerals
 pub mod Parts
+pub mod Pieces
 pub mod Printed
 pub mod Printing
 pub mod Progress

@@ -6,6 +6,7 @@ mod class;
 mod cursor;
 mod filling;
 mod forms;
+mod forms_reader;
 mod laws;
 mod machine;
 mod misfit;
@@ -21,6 +22,7 @@ mod splitter;
 
 pub use cursor::{Atom, Cursor, Item};
 pub use forms::Forms;
+pub use forms_reader::FormsReader;
 pub use laws::{
     all_parts_end, items_are_counted, items_fit, one_first_fault, one_reading, printed_is_read,
     read_has_atoms, reading_excludes_fault, reading_or_fault, taken_parts_are_the_first,

@@ -8,3 +8,4 @@ pub mod Endings
 pub mod Opened
 pub mod OneHistory
 pub mod OneCheck
+pub mod Fed

@@ -1,5 +1,6 @@
 -- A verdict from the answers to the file and to its proof, and from the beginning of a file.
 use Rattle.std.proofs.Common.{◌≡◌, ℕ, List, codes, Option, Some, None, IfSome, Result, Ok, Err, refl, sym, subst, ◌∙◌, inl, inr}
+use Rattle.std.specs.Result.{IsErrAnd}
 use Rattle.lc_base.specs.declared.refusal.Fault.{Fault}
 use Rattle.lc_base.specs.declared.refusal.Fault.TheVariants.{Refused, OutOfMemory}
 use Rattle.lc_kernel.proofs.Views.{parts_formulas}
@@ -11,7 +12,10 @@ use Rattle.lc_kernel.specs.declared.fault.ProofFault.TheVariants.{Bad, Large as 
 use Rattle.lc_kernel.specs.declared.reason.Flaw.TheVariants.{Bad as BadFlaw, Large as LargeFlaw}
 use Rattle.lc_proof_text.specs.Files.{claim_in, file_reading}
 use Rattle.lc_proof_text.specs.declared.claim.FormulaFile.{FormulaFile}
+use Rattle.lc_reading.proofs.Files.{text_fault}
 use Rattle.lc_reading.specs.Files.{Says, IsAnswerTo}
+use Rattle.lc_sexp.specs.Answers.{IsTextFault}
+use Rattle.lc_sexp.specs.Reads.{IsFirstFault}
 use Rattle.lc_term.specs.Syntax as T
 use Rattle.lc_term.specs.Tables.{formula_in, formulas_in}
 use Rattle.lincheck.specs.Answers.{Told}
@@ -44,6 +48,13 @@ not_proved bytes a NoMore says fails = tt
 pub not_read : (bytes : List ℕ) (fault : Fault) → IsAnswerTo claim_in file_reading bytes (Err fault) → IsVerdict bytes (Err fault)
 not_read bytes (Refused refusal) first = inl first
 not_read bytes OutOfMemory h = tt
+
+-- a fault of the text is the verdict
+pub text_not_read : (bytes : List ℕ) (fault : Fault) (verdict : Result (Unit {0}) Fault) → IsTextFault fault (IsFirstFault bytes) → IsErrAnd verdict (λ f. f ≡ fault) → IsVerdict bytes verdict
+text_not_read bytes fault (Ok u) h told = absurd told
+text_not_read bytes fault (Err f) h told =
+    let same : f ≡ fault = told in
+    rw same (not_read bytes fault (text_fault claim_in file_reading bytes fault (Err fault) h refl))
 
 -- the verdict on what is read of a file is the verdict on the file
 pub verdict_of_whole : (file : List ℕ) (verdict : Result (Unit {0}) Fault) → IsVerdict (within_limit file) verdict → IsVerdict file verdict

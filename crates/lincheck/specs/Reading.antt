@@ -1,6 +1,15 @@
--- How much is read of a file.
-use Rattle.std.specs.Prelude.{ℕ, List, take}
+-- How much is read of a file, and into what.
+use Rattle.std.specs.Prelude.{ℕ, ◌≤◌, ◌<◌, List, ◌++◌, length, take, Option}
+use Rattle.std.specs.Io.KnownBytes.{Consumes, IsAtEnd}
 
 -- a file, or its beginning where it is beyond the file limit
 abbrev pub within_limit : List ℕ → List ℕ
 within_limit file = take 16777217 file
+
+-- these bytes were read of what was left to read: all of it, or as many as are read of a file
+abbrev pub ReadsToLimit : Option (List ℕ) → Option (List ℕ) → List ℕ → Type 0
+ReadsToLimit before after bytes = Consumes before after bytes × (length bytes ≤ 16777217) × (length bytes < 16777217 → IsAtEnd after)
+
+-- whatever it was fed before, behind that it was fed these bytes
+abbrev pub IsFedOn : {S : Type 0} → (S → List ℕ → Type 0) → S → S → List ℕ → Type 0
+IsFedOn WasFed before after bytes = (fed : List ℕ) → WasFed before fed → WasFed after (fed ++ bytes)

@@ -1,13 +1,16 @@
 //! The command `formula`.
-ghost use Rattle.std.specs.Prelude.{◌≡◌, IfOk, IfSome, IsErr};
+ghost use Rattle.std.specs.Prelude.{◌≡◌, ℕ, List, IfOk, IfSome, IsErr};
+ghost use Rattle.lc_sexp.specs.Reads.{ReadsAs};
+ghost use Rattle.lc_sexp.specs.Pieces.{WasFed};
 ghost use Rattle.lincheck.specs.Formula.{IsVerdict, AnswersFormula, fault_of};
 
 use crate::answer::{Answer, Failure, told};
 use crate::files::Files;
-use crate::reading::read_file;
+use crate::reading::feed_file;
 use lc_base::{Fault, Refusal};
 use lc_kernel::{ProofFault, prove};
-use lc_proof_text::formula_of;
+use lc_proof_text::formula_in;
+use lc_sexp::{Forms, FormsReader};
 use std::alloc::Global;
 
 /// The number of the only condition that a formula file has.
@@ -29,18 +32,36 @@ fn fault_of(fault: ProofFault) -> Fault
     }
 }
 
-/// Whether the proof in a formula file derives what the file claims; else the first refusal.
-pub fn check_formula(alloc: Global, bytes: &[u8]) -> Result<(), Fault>
-    ensures { IsVerdict bytes.now result }
+/// Whether the proof in the formula file of which these are the forms derives what the file claims; else the first refusal.
+fn check_forms(alloc: Global, forms: Forms) -> Result<(), Fault>
+    requires { (bytes : List ℕ) × ReadsAs bytes forms }
+    ensures { (bytes : List ℕ) → ReadsAs bytes forms → IsVerdict bytes result }
 {
-    let mut file = formula_of(alloc, bytes)?;
+    let mut file = formula_in(alloc, forms)?;
     match prove(&mut file.terms, alloc, &file.goal, &file.proof) {
         Ok(()) => Ok(()),
         Err(fault) => Err(fault_of(fault)),
     }
 }
 
-/// The answer of the command `formula` to the file at a path.
+/// Whether the proof in a formula file derives what the file claims; else the first refusal.
+pub fn check_formula(alloc: Global, bytes: &[u8]) -> Result<(), Fault>
+    ensures { IsVerdict bytes.now result }
+{
+    let forms = Forms::read(alloc, bytes)?;
+    check_forms(alloc, forms)
+}
+
+/// The same of the file that a reader has been fed.
+fn check_fed(alloc: Global, reader: FormsReader) -> Result<(), Fault>
+    requires { (bytes : List ℕ) × WasFed reader bytes }
+    ensures { (bytes : List ℕ) → WasFed reader bytes → IsVerdict bytes result }
+{
+    let forms = reader.finish()?;
+    check_forms(alloc, forms)
+}
+
+/// The answer of the command `formula` to the file at a path, which is read in pieces and never held whole.
 pub fn answer_formula<'a, F: Files>(
     alloc: Global,
     files: &mut F,
@@ -49,7 +70,8 @@ pub fn answer_formula<'a, F: Files>(
     ensures unread { F.CannotOpen files.old path.now → IsErr result }
     ensures answers { IfOk result (λ answer. IfSome (F.bytes_at files.old path.now) (λ file. AnswersFormula file answer.text.items answer.status)) }
 {
-    let bytes = read_file(alloc, files, path)?;
-    let verdict = check_formula(alloc, &bytes);
+    let mut reader = FormsReader::new(alloc);
+    feed_file(files, path, &mut reader)?;
+    let verdict = check_fed(alloc, reader);
     Ok(told(alloc, "proved", verdict)?)
 }

@@ -14,6 +14,7 @@ mod printing;
 mod program;
 mod reading;
 mod show;
+mod sink;
 
 pub use answer::{COMMAND_LINE_FAULT, OUT_OF_MEMORY};
 pub use disk::Disk;

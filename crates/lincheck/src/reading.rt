@@ -1,10 +1,9 @@
-ghost use Rattle.std.specs.Prelude.{◌≡◌, ◌+◌, ◌≤◌, ℕ, List, vec_len, IfOk, IfSome, IsErr};
-ghost use Rattle.std.specs.Io.KnownBytes.{Consumes, IsAtEnd};
-ghost use Rattle.lincheck.specs.Reading.{within_limit};
+ghost use Rattle.std.specs.Prelude.{◌≡◌, ℕ, List, OnOk, IfOk, IfSome, IsErr};
+ghost use Rattle.lincheck.specs.Reading.{ReadsToLimit, IsFedOn, within_limit};
 
 use crate::answer::Failure;
 use crate::files::Files;
-use lc_base::OutOfMemory;
+use crate::sink::Sink;
 use std::alloc::Global;
 use std::io::{ErrorKind, Read};
 
@@ -23,31 +22,27 @@ pub enum ReadFault {
     OutOfMemory,
 }
 
-/// The bytes of a file, or its first 16,777,217 bytes where it has more.
+/// Feeds the bytes of a file, or its first 16,777,217 bytes where it has more, in pieces.
 ///
 /// A read that answers `Interrupted` is tried again. Any other fault, and 33,554,432 reads that did not come to the
-/// end, are `Unreadable`. Room for the longest file is asked for at once.
-pub fn read_to_limit<R: Read>(alloc: Global, reader: &mut R) -> Result<Vec<u8>, ReadFault>
-    ensures bound { IfOk result (λ bytes. vec_len bytes ≤ MOST_BYTES) }
-    ensures bytes { IfOk result (λ bytes. Consumes (R.remaining reader.old) (R.remaining reader.new) bytes.items) }
-    ensures end { IfOk result (λ bytes. vec_len bytes + 1 ≤ MOST_BYTES → IsAtEnd (R.remaining reader.new)) }
+/// end, are `Unreadable`.
+pub fn feed_to_limit<R: Read, S: Sink>(reader: &mut R, sink: &mut S) -> Result<(), ReadFault>
+    ensures { OnOk result ((bytes : List ℕ) × ReadsToLimit (R.remaining reader.old) (R.remaining reader.new) bytes × IsFedOn S.WasFed sink.old sink.new bytes) }
 {
-    // Room that is never written to costs no memory, and a vector that grows holds its bytes twice.
-    let Ok(mut bytes) = Vec::with_capacity(alloc, MOST_BYTES) else {
-        return Err(ReadFault::OutOfMemory);
-    };
+    let mut left = MOST_BYTES;
     let mut piece = [0u8; PIECE];
     for _turn in 0..MOST_READS {
-        let room = (MOST_BYTES - bytes.len()).min(PIECE);
+        let room = left.min(PIECE);
         if room == 0 {
-            return Ok(bytes);
+            return Ok(());
         }
         match reader.read(&mut piece[..room]) {
-            Ok(0) => return Ok(bytes),
+            Ok(0) => return Ok(()),
             Ok(n) => {
-                if bytes.extend_from_slice(&piece[..n]).is_err() {
+                if sink.feed(&piece[..n]).is_err() {
                     return Err(ReadFault::OutOfMemory);
                 }
+                left -= n;
             }
             Err(error) => {
                 if error.kind() != ErrorKind::Interrupted {
@@ -59,7 +54,29 @@ pub fn read_to_limit<R: Read>(alloc: Global, reader: &mut R) -> Result<Vec<u8>, 
     Err(ReadFault::Unreadable)
 }
 
-/// The bytes of the file at a path, or its first 16,777,217 bytes where it has more.
+/// Feeds the bytes of the file at a path, or its first 16,777,217 bytes where it has more, in pieces.
+pub fn feed_file<'a, F: Files, S: Sink>(
+    files: &mut F,
+    path: &'a str,
+    sink: &mut S,
+) -> Result<(), Failure<'a>>
+    ensures keeps { (other : List ℕ) → F.bytes_at files.new other ≡ F.bytes_at files.old other }
+    ensures closed { (other : List ℕ) → F.CannotOpen files.old other → F.CannotOpen files.new other }
+    ensures unread { F.CannotOpen files.old path.now → IsErr result }
+    ensures fed { OnOk result ((bytes : List ℕ) × IsFedOn S.WasFed sink.old sink.new bytes × IfSome (F.bytes_at files.old path.now) (λ file. bytes ≡ within_limit file)) }
+{
+    let Ok(mut reader) = files.open(path) else {
+        return Err(Failure::CannotRead(path));
+    };
+    match feed_to_limit(&mut reader, sink) {
+        Ok(()) => Ok(()),
+        Err(ReadFault::Unreadable) => Err(Failure::CannotRead(path)),
+        Err(ReadFault::OutOfMemory) => Err(Failure::OutOfMemory),
+    }
+}
+
+/// The bytes of the file at a path, or its first 16,777,217 bytes where it has more. Room for the longest file is asked for
+/// at once.
 pub fn read_file<'a, F: Files>(
     alloc: Global,
     files: &mut F,
@@ -70,12 +87,10 @@ pub fn read_file<'a, F: Files>(
     ensures unread { F.CannotOpen files.old path.now → IsErr result }
     ensures bytes { IfOk result (λ bytes. IfSome (F.bytes_at files.old path.now) (λ file. bytes.items ≡ within_limit file)) }
 {
-    let Ok(mut reader) = files.open(path) else {
-        return Err(Failure::CannotRead(path));
+    // Room that is never written to costs no memory, and a vector that grows holds its bytes twice.
+    let Ok(mut bytes) = Vec::with_capacity(alloc, MOST_BYTES) else {
+        return Err(Failure::OutOfMemory);
     };
-    match read_to_limit(alloc, &mut reader) {
-        Ok(bytes) => Ok(bytes),
-        Err(ReadFault::Unreadable) => Err(Failure::CannotRead(path)),
-        Err(ReadFault::OutOfMemory) => Err(Failure::OutOfMemory),
-    }
+    feed_file(files, path, &mut bytes)?;
+    Ok(bytes)
 }

@@ -1,11 +1,12 @@
-use Rattle.std.proofs.Common.{◌+◌, ◌≤◌, arith}
-use Rattle.lincheck.proofs.Taken.{taken}
+use Rattle.std.proofs.Common.{◌≡◌, ℕ, List, [], Option, None, Some, IfSome, sym, ◌∙◌}
+use Rattle.lincheck.specs.Reading.{within_limit}
 use Rattle.lincheck.proofs.reading.read_file.Goals as goal
 
-pub returns-in-Ok-read_to_limit-clause-bytes : goal.returns-in-Ok-read_to_limit-clause-bytes
-returns-in-Ok-read_to_limit-clause-bytes g c =
-    let bytes = c.in-Ok-read_to_limit.bytes in
-    let read = c.in-Ok-read_to_limit.ensures in
-    let bound : bytes.len ≤ 16777217 = read.bound in
-    taken (g.F.Files.bytes_at c.args.files.now c.args.path.now) _ _ bytes.items 16777217 c.in-Ok.ensures.reads read.bytes (omega (arith, bytes.ok.0, bound))
-    (λ h. let less : bytes.len + 1 ≤ 16777217 = omega (arith, bytes.ok.0, h) in read.end less)
+same : (known : Option (List ℕ)) (items bytes : List ℕ) → items ≡ bytes → IfSome known (λ file. bytes ≡ within_limit file) → IfSome known (λ file. items ≡ within_limit file)
+same None items bytes e h = tt
+same (Some file) items bytes e h = e ∙ h
+
+pub returns-clause-bytes : goal.returns-clause-bytes
+returns-clause-bytes g c =
+    let fed = c.in_ok-feed_file.ensures.fed in
+    same (g.F.Files.bytes_at c.args.files.now c.args.path.now) c.feed_file.new.sink.items fed.0 (fed.1 [] c.in-Ok.ensures.items) fed.2

@@ -1,0 +1,49 @@
+-- What a sink is fed of a file.
+use Rattle.std.proofs.Common.{◌≡◌, ℕ, ◌+◌, ◌-◌, ◌≤◌, min, List, [], ◌++◌, length, take, drop, Option, Result, Ok, Err, OnOk, is_err, false, refl, sym, ◌∙◌, subst, arith, append_assoc, append-nil}
+use Rattle.std.proofs.KnownBytes.{Consumes-nil, Consumes-trans, Consumes-kept}
+use Rattle.std.proofs.lemmas.List.{length-append, length-drop, length-take-le, take-append-le}
+use Rattle.std.proofs.Math.Nat.{min-le_left, min-le_right}
+use Rattle.std.specs.Io.KnownBytes.{Consumes, Keeps}
+use Rattle.lincheck.specs.Reading.{IsFedOn}
+
+-- as it stood in between: so many bytes of the limit are left, and a sink was fed those that were read
+abbrev pub IsFedSoFar : {S : Type 0} → (S → List ℕ → Type 0) → S → S → Option (List ℕ) → Option (List ℕ) → ℕ → Type 0
+IsFedSoFar WasFed old new before after left =
+    (bytes : List ℕ) × (length bytes + left ≡ 16777217) × Consumes before after bytes × IsFedOn WasFed old new bytes
+
+-- there is as much room as is left, and as the buffer has, which keeps its length where its front is filled
+pub filled : (front piece : List ℕ) (room left : ℕ) → room ≡ min left 4096 → length piece ≡ 4096 → length front ≡ length (take room piece)
+    → (room ≤ left) × (length front ≡ room) × (length (front ++ drop room piece) ≡ 4096)
+filled front piece room left is whole same =
+    let least : room ≤ left = rw is (min-le_left left 4096) in
+    let most : room ≤ 4096 = rw is (min-le_right left 4096) in
+    let front_is : length front ≡ room = same ∙ length-take-le room piece (omega (arith, most, whole)) in
+    (least, front_is, omega (arith, front_is, most, whole, length-append front (drop room piece), length-drop room piece))
+
+-- what a read gave is the front of the buffer
+pub front_given : (n : ℕ) (front rest : List ℕ) → n ≤ length front → take n (front ++ rest) ≡ take n front
+front_given n front rest h = take-append-le n front rest h
+
+-- what holds where a call succeeds holds where it did not fail
+pub fed_on : {T E : Type 0} (result : Result T E) (P : Type 0) → false ≡ is_err result → OnOk result P → P
+fed_on (Ok x) P e h = h
+fed_on (Err x) P e h = absurd (cc)
+
+module _ {S : Type 0} (WasFed : S → List ℕ → Type 0) where
+  -- nothing was fed
+  pub fed_none : (sink : S) (known : Option (List ℕ)) → IsFedSoFar WasFed sink sink known known 16777217
+  fed_none sink known = ([], refl, Consumes-nil known, λ fed h. subst (WasFed sink) (sym (append-nil fed)) h)
+
+  -- one piece more
+  pub fed_more : (old sink new : S) (before mid after : Option (List ℕ)) (left n : ℕ) (piece : List ℕ) → IsFedSoFar WasFed old sink before mid left
+      → Consumes mid after piece → length piece ≡ n → n ≤ left → IsFedOn WasFed sink new piece → IsFedSoFar WasFed old new before after (left - n)
+  fed_more old sink new before mid after left n piece (bytes, count, read, fed) more is most on = (
+    bytes ++ piece,
+    omega (arith, count, is, most, length-append bytes piece),
+    Consumes-trans before mid after bytes piece read more,
+    λ first h. subst (WasFed new) (append_assoc first bytes piece) (on (first ++ bytes) (fed first h)),
+  )
+
+  -- a read that gave nothing
+  pub fed_kept : (old new : S) (before mid after : Option (List ℕ)) (left : ℕ) → IsFedSoFar WasFed old new before mid left → Keeps mid after → IsFedSoFar WasFed old new before after left
+  fed_kept old new before mid after left (bytes, count, read, fed) kept = (bytes, count, Consumes-kept before mid after bytes read kept, fed)

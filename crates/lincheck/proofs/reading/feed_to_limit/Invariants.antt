@@ -1,0 +1,7 @@
+use Rattle.std.proofs.Common.{◌≡◌, length}
+use Rattle.lincheck.proofs.Fed.{IsFedSoFar}
+use Rattle.lincheck.proofs.reading.feed_to_limit.Given as goal
+
+abbrev pub invariant-loop-turn : goal.invariant-loop-turn
+invariant-loop-turn g l =
+    (length l.piece ≡ 4096) × IsFedSoFar g.S.Sink.WasFed l.fn.sink l.sink (g.R.Read.remaining l.fn.reader) (g.R.Read.remaining l.reader) l.left

@@ -1,0 +1,39 @@
+//! What takes the bytes of a file as they are read.
+ghost use Rattle.std.specs.Prelude.{◌≡◌};
+
+use lc_base::OutOfMemory;
+use lc_sexp::FormsReader;
+
+/// Takes a file piece by piece.
+pub trait Sink {
+    ghost use Rattle.std.specs.Prelude.{ℕ, List, OnOk};
+    ghost use Rattle.lincheck.specs.Reading.{IsFedOn};
+
+    // It has been fed these bytes.
+    ghost WasFed: { Self → List ℕ → Type 0 };
+
+    /// Takes the bytes that come next.
+    fn feed(&mut self, piece: &[u8]) -> Result<(), OutOfMemory>
+        ensures { OnOk result (IsFedOn WasFed self.old self.new piece.now) };
+}
+
+/// The bytes themselves.
+impl Sink for Vec<u8> {
+    ghost WasFed = { λ bytes fed. bytes.items ≡ fed };
+
+    fn feed(&mut self, piece: &[u8]) -> Result<(), OutOfMemory> {
+        self.extend_from_slice(piece)?;
+        Ok(())
+    }
+}
+
+/// Their forms.
+impl Sink for FormsReader {
+    ghost use Rattle.lc_sexp.specs.Pieces.{WasFed as HasRead};
+
+    ghost WasFed = { HasRead };
+
+    fn feed(&mut self, piece: &[u8]) -> Result<(), OutOfMemory> {
+        FormsReader::feed(self, piece)
+    }
+}
