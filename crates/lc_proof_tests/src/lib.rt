@@ -1,8 +1,6 @@
-//! What no contract says of linear forms, axioms, derivations and formula files.
+//! What no contract says of linear forms, derivations and formula files, and no case of the program `lc_cases`.
 #![tactic(auto)]
 
-#[cfg(test)]
-mod array_tests;
 #[cfg(test)]
 mod kernel_tests;
 #[cfg(test)]

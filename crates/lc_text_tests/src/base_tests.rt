@@ -1,5 +1,12 @@
 use lc_base::{Fault, Name, OutOfMemory, Refusal, code, is_name, refusal_line, write_line};
+use std::alloc::Global;
 use std::test::Fail;
+
+/// Whether a refusal has this code and is told in this line.
+fn is_told(alloc: Global, refusal: &Refusal, number: u8, line: &str) -> Result<bool, OutOfMemory> {
+    let written = refusal_line(alloc, refusal)?;
+    Ok((code(refusal) == number) & (written.as_slice() == line.as_bytes()))
+}
 
 #[test]
 fn codes_and_lines(rt: HostRuntime) -> Result<(), Fail> {
@@ -24,20 +31,25 @@ fn codes_and_lines(rt: HostRuntime) -> Result<(), Fail> {
         (Refusal::Order(1, 3), 14, "refused 14 1 3\n"),
     ];
     for (refusal, number, line) in table {
-        let written = refusal_line(rt.alloc(), &refusal)?;
-        let is_told = (code(&refusal) == number) & (written.as_slice() == line.as_bytes());
-        assert!(rt; is_told, "{line}");
+        assert!(rt; is_told(rt.alloc(), &refusal, number, line)?, "{line}");
     }
     Ok(())
 }
 
+/// Whether a word and numbers are told in this line.
+fn is_line(alloc: Global, word: &str, numbers: &[u64], line: &str) -> Result<bool, OutOfMemory> {
+    Ok(write_line(alloc, word, numbers)?.as_slice() == line.as_bytes())
+}
+
 #[test]
 fn a_line_of_a_word_and_numbers(rt: HostRuntime) -> Result<(), Fail> {
-    let accepted = write_line(rt.alloc(), "accepted counter", &[59])?;
-    let proved = write_line(rt.alloc(), "proved", &[])?;
-    let with_number = accepted.as_slice() == b"accepted counter 59\n".as_slice();
-    let without = proved.as_slice() == b"proved\n".as_slice();
-    assert!(rt; with_number & without);
+    let with_number = is_line(
+        rt.alloc(),
+        "accepted counter",
+        &[59],
+        "accepted counter 59\n",
+    )?;
+    assert!(rt; with_number & is_line(rt.alloc(), "proved", &[], "proved\n")?);
     Ok(())
 }
 
@@ -65,9 +77,7 @@ fn names(rt: HostRuntime) {
 
 #[test]
 fn faults_of_memory_and_of_input(rt: HostRuntime) {
-    assert_eq!(rt; Fault::from(OutOfMemory), Fault::OutOfMemory);
-    assert_eq!(rt;
-        Fault::from(Refusal::Text(0)),
-        Fault::Refused(Refusal::Text(0))
-    );
+    let of_memory = Fault::from(OutOfMemory) == Fault::OutOfMemory;
+    let of_input = Fault::from(Refusal::Text(0)) == Fault::Refused(Refusal::Text(0));
+    assert!(rt; of_memory & of_input);
 }

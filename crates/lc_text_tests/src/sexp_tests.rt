@@ -1,92 +1,11 @@
-use lc_base::{Fault, Refusal};
+use lc_base::{Fault, OutOfMemory, Refusal};
 use lc_sexp::{Cursor, Forms, Misfit, Reader, Sexp, is_atom, print, read};
 use std::alloc::Global;
 use std::test::Fail;
 
-/// The offset of the fault with which a text is refused.
-fn fault_of(alloc: Global, text: &[u8]) -> Option<u64> {
-    match Forms::read(alloc, text) {
-        Err(Fault::Refused(Refusal::Text(offset))) => Some(offset),
-        _ => None,
-    }
-}
-
-/// How many forms a text reads as.
-fn form_count(alloc: Global, text: &[u8]) -> Option<usize> {
-    Some(Forms::read(alloc, text).ok()?.cursor().len())
-}
-
-#[test]
-fn lists_nested_too_deep(rt: HostRuntime) -> Result<(), Fail> {
-    let nested = vec![in rt.alloc(); b'('; 1001]?;
-    assert_eq!(rt; fault_of(rt.alloc(), &nested), Some(1000));
-    let open = vec![in rt.alloc(); b'('; 1000]?;
-    assert_eq!(rt; fault_of(rt.alloc(), &open), Some(1000));
-    Ok(())
-}
-
-#[test]
-fn texts_without_forms(rt: HostRuntime) {
-    for text in ["", ";x", " \t\n\r", ";\u{e9} ) (\n", ";\r)"] {
-        assert_eq!(rt; form_count(rt.alloc(), text.as_bytes()), Some(0), "{text}");
-    }
-}
-
-#[test]
-fn the_file_limit(rt: HostRuntime) -> Result<(), Fail> {
-    let mut spaces = vec![in rt.alloc(); b' '; 16_777_216]?;
-    assert_eq!(rt; form_count(rt.alloc(), &spaces), Some(0));
-    spaces.push(b' ')?;
-    assert_eq!(rt; fault_of(rt.alloc(), &spaces), Some(16_777_216));
-    Ok(())
-}
-
-#[test]
-fn each_byte_alone(rt: HostRuntime) {
-    let white = b" \t\n\r;";
-    let letters = b"abcdefghijklmnopqrstuvwxyzABCDEFGHIJKLMNOPQRSTUVWXYZ0123456789+-*/<>=_.?";
-    for byte in 0..=255u8 {
-        let forms = form_count(rt.alloc(), &[byte]);
-        let fault = fault_of(rt.alloc(), &[byte]);
-        if white.contains(&byte) {
-            assert_eq!(rt; forms, Some(0), "byte {byte}");
-        } else if letters.contains(&byte) {
-            assert_eq!(rt; forms, Some(1), "byte {byte}");
-        } else if byte == b'(' {
-            assert_eq!(rt; fault, Some(1), "byte {byte}");
-        } else {
-            assert_eq!(rt; fault, Some(0), "byte {byte}");
-        }
-    }
-}
-
-#[test]
-fn prints_what_it_read(rt: HostRuntime) -> Result<(), Fail> {
-    let forms = read(rt.alloc(), b"(a(b c) ()d)e;x\nf;")?;
-    let text = print(rt.alloc(), &forms)?;
-    assert_eq!(rt; text.as_slice(), b"(a (b c) () d)\ne\nf\n".as_slice());
-    let again = read(rt.alloc(), &text)?;
-    let twice = print(rt.alloc(), &again)?;
-    assert_eq!(rt; twice.as_slice(), text.as_slice());
-    Ok(())
-}
-
-#[test]
-fn prints_what_was_made(rt: HostRuntime) -> Result<(), Fail> {
-    assert!(rt; is_atom(b"rd"));
-    assert!(rt; is_atom(b"a-name-of-more-than-sixteen-bytes"));
-    let mut items = Vec::new(rt.alloc());
-    items.push(Sexp::atom(rt.alloc(), "rd")?)?;
-    items.push(Sexp::atom(rt.alloc(), "a-name-of-more-than-sixteen-bytes")?)?;
-    assert!(rt; items.len() == 2);
-    assert_eq!(rt; is_atom(b""), false);
-    assert_eq!(rt; is_atom(b"a b"), false);
-    let text = print(rt.alloc(), &items)?;
-    assert_eq!(rt;
-        text.as_slice(),
-        b"rd\na-name-of-more-than-sixteen-bytes\n".as_slice()
-    );
-    Ok(())
+/// Whether a text is refused with a fault at this offset.
+fn is_refused(alloc: Global, text: &[u8], offset: u64) -> bool {
+    matches!(Forms::read(alloc, text), Err(Fault::Refused(Refusal::Text(at))) if at == offset)
 }
 
 /// What a text prints as, once it was read in pieces of this many bytes.
@@ -98,16 +17,99 @@ fn read_in_pieces(alloc: Global, text: &[u8], size: usize) -> Result<Vec<u8>, Fa
     Ok(print(alloc, &reader.finish()?.parts(alloc)?)?)
 }
 
+/// Whether a text that is read at once prints as this.
+fn prints_as(alloc: Global, text: &[u8], want: &[u8]) -> Result<bool, Fault> {
+    Ok(read_in_pieces(alloc, text, text.len())?.as_slice() == want)
+}
+
 #[test]
-fn pieces_read_as_the_whole(rt: HostRuntime) -> Result<(), Fail> {
-    for text in ["(ab (cd) ;x y\n efg)hi", "(ab", "ab)", "a;", ""] {
-        let whole = read_in_pieces(rt.alloc(), text.as_bytes(), 100);
-        for size in [1, 2, 7] {
-            let pieces = read_in_pieces(rt.alloc(), text.as_bytes(), size);
-            assert_eq!(rt; pieces, whole, "{text} by {size}");
-        }
+fn texts_without_forms(rt: HostRuntime) -> Result<(), Fail> {
+    for text in ["", ";x", " \t\n\r", ";\u{e9} ) (\n", ";\r)"] {
+        assert!(rt; prints_as(rt.alloc(), text.as_bytes(), b"")?, "{text}");
     }
     Ok(())
+}
+
+#[test]
+fn the_file_limit(rt: HostRuntime) -> Result<(), Fail> {
+    let mut spaces = vec![in rt.alloc(); b' '; 16_777_216]?;
+    let is_read = prints_as(rt.alloc(), &spaces, b"")?;
+    spaces.push(b' ')?;
+    assert!(rt; is_read & is_refused(rt.alloc(), &spaces, 16_777_216));
+    Ok(())
+}
+
+/// Whether the text of a byte alone is an atom, nothing, or refused, as the byte says.
+fn is_read_alone(alloc: Global, byte: u8) -> Result<bool, Fault> {
+    match byte {
+        b' ' | b'\t' | b'\n' | b'\r' | b';' => prints_as(alloc, &[byte], b""),
+        b'a'..=b'z' | b'A'..=b'Z' | b'0'..=b'9' => prints_as(alloc, &[byte], &[byte, b'\n']),
+        b'+' | b'-' | b'*' | b'/' | b'<' | b'>' | b'=' | b'_' | b'.' | b'?' => {
+            prints_as(alloc, &[byte], &[byte, b'\n'])
+        }
+        b'(' => Ok(is_refused(alloc, &[byte], 1)),
+        _ => Ok(is_refused(alloc, &[byte], 0)),
+    }
+}
+
+#[test]
+fn each_byte_alone(rt: HostRuntime) -> Result<(), Fail> {
+    for byte in 0..=255u8 {
+        assert!(rt; is_read_alone(rt.alloc(), byte)?, "byte {byte}");
+    }
+    Ok(())
+}
+
+#[test]
+fn prints_what_it_read(rt: HostRuntime) -> Result<(), Fail> {
+    let want = b"(a (b c) () d)\ne\nf\n";
+    let once = prints_as(rt.alloc(), b"(a(b c) ()d)e;x\nf;", want)?;
+    assert!(rt; once & prints_as(rt.alloc(), want, want)?);
+    Ok(())
+}
+
+/// What an atom prints as; nothing where there is no such atom.
+fn printed_atom(alloc: Global, text: &str) -> Result<Vec<u8>, OutOfMemory> {
+    if !is_atom(text.as_bytes()) {
+        return Ok(Vec::new(alloc));
+    }
+    let atom = Sexp::atom(alloc, text)?;
+    print(alloc, &[atom])
+}
+
+/// Whether an atom prints as this.
+fn is_printed(alloc: Global, text: &str, want: &str) -> Result<bool, OutOfMemory> {
+    Ok(printed_atom(alloc, text)?.as_slice() == want.as_bytes())
+}
+
+#[test]
+fn prints_what_was_made(rt: HostRuntime) -> Result<(), Fail> {
+    for (text, want) in [
+        ("rd", "rd\n"),
+        (
+            "a-name-of-more-than-sixteen-bytes",
+            "a-name-of-more-than-sixteen-bytes\n",
+        ),
+        ("", ""),
+        ("a b", ""),
+    ] {
+        assert!(rt; is_printed(rt.alloc(), text, want)?, "{text}");
+    }
+    Ok(())
+}
+
+/// Whether a text reads in pieces of this many bytes as it does at once.
+fn reads_alike(alloc: Global, text: &str, size: usize) -> bool {
+    let pieces = read_in_pieces(alloc, text.as_bytes(), size);
+    pieces == read_in_pieces(alloc, text.as_bytes(), 100)
+}
+
+#[test]
+fn pieces_read_as_the_whole(rt: HostRuntime) {
+    for text in ["(ab (cd) ;x y\n efg)hi", "(ab", "ab)", "a;", ""] {
+        let by_one_or_two = reads_alike(rt.alloc(), text, 1) & reads_alike(rt.alloc(), text, 2);
+        assert!(rt; by_one_or_two & reads_alike(rt.alloc(), text, 7), "{text}");
+    }
 }
 
 /// `(<= -3 9223372036854775808)`, whose last item is item 5.
@@ -139,34 +141,30 @@ fn walks_a_file(file: &mut Cursor<'_>) -> Result<bool, Misfit> {
     Ok(owner & other_form & three_parts & inside)
 }
 
-#[test]
-fn walks_a_formula(rt: HostRuntime) -> Result<(), Fail> {
-    let forms = Forms::read(rt.alloc(), b"(goal (<= -3 9223372036854775808) ?4 x) y")?;
-    let mut file = forms.cursor();
-    assert!(rt; file.len() == 2);
-    let walked = walks_a_file(&mut file)?;
+/// `(goal ..) y`, from its beginning to its end.
+fn walks_to_the_last(file: &mut Cursor<'_>) -> Result<bool, Misfit> {
+    let two = file.len() == 2;
+    let walked = walks_a_file(file)?;
     let no_end = file.end().err() == Some(Misfit::Shape(8));
     let last = file.atom()?.text() == "y";
     let no_more = file.item().err() == Some(Misfit::Shape(9));
-    assert!(rt; walked & no_end & last & no_more);
+    Ok(two & walked & no_end & last & no_more)
+}
+
+#[test]
+fn walks_a_formula(rt: HostRuntime) -> Result<(), Fail> {
+    let forms = Forms::read(rt.alloc(), b"(goal (<= -3 9223372036854775808) ?4 x) y")?;
+    assert!(rt; walks_to_the_last(&mut forms.cursor())?);
     Ok(())
 }
 
 #[test]
-fn numbers_as_they_are_written(rt: HostRuntime) -> Result<(), Fail> {
+fn integers_as_they_are_written(rt: HostRuntime) -> Result<(), Fail> {
     let text =
-        "0 -1 9223372036854775807 -9223372036854775808 -0 01 -01 - +1 1a 9223372036854775808 -9223372036854775809 99999999999999999999999 ?0 ?4294967295 ?4294967296 ?00 ? ?-1";
+        "0 -1 9223372036854775807 -9223372036854775808 -0 01 -01 - +1 1a 9223372036854775808 -9223372036854775809 99999999999999999999999";
     let forms = Forms::read(rt.alloc(), text.as_bytes())?;
-    let mut numbers = Vec::new(rt.alloc());
-    let mut variables = Vec::new(rt.alloc());
     let mut cursor = forms.cursor();
-    assert!(rt; cursor.len() == 19);
-    for _ in 0..cursor.len() {
-        let atom = cursor.atom()?;
-        numbers.push(atom.integer())?;
-        variables.push(atom.variable())?;
-    }
-    let want = [
+    for want in [
         Ok(0),
         Ok(-1),
         Ok(9223372036854775807),
@@ -180,32 +178,50 @@ fn numbers_as_they_are_written(rt: HostRuntime) -> Result<(), Fail> {
         Err(Misfit::Bound(10)),
         Err(Misfit::Bound(11)),
         Err(Misfit::Bound(12)),
-    ];
-    assert_eq!(rt; numbers.get(..13), Some(want.as_slice()));
-    let want = [
+    ] {
+        assert!(rt; cursor.atom()?.integer() == want);
+    }
+    assert!(rt; cursor.len() == 0);
+    Ok(())
+}
+
+#[test]
+fn variables_as_they_are_written(rt: HostRuntime) -> Result<(), Fail> {
+    let forms = Forms::read(rt.alloc(), b"?0 ?4294967295 ?4294967296 ?00 ? ?-1")?;
+    let mut cursor = forms.cursor();
+    for want in [
         Ok(0),
         Ok(4294967295),
-        Err(Misfit::Bound(15)),
-        Err(Misfit::Shape(16)),
-        Err(Misfit::Shape(17)),
-        Err(Misfit::Shape(18)),
-    ];
-    assert_eq!(rt; variables.get(13..), Some(want.as_slice()));
+        Err(Misfit::Bound(2)),
+        Err(Misfit::Shape(3)),
+        Err(Misfit::Shape(4)),
+        Err(Misfit::Shape(5)),
+    ] {
+        assert!(rt; cursor.atom()?.variable() == want);
+    }
+    assert!(rt; cursor.len() == 0);
     Ok(())
+}
+
+/// Whether a list has copies of its parts.
+fn is_listed(alloc: Global, parts: &[Sexp]) -> Result<bool, OutOfMemory> {
+    let list = Sexp::list(alloc, parts)?;
+    let seven = list.item_count() == 7;
+    Ok(seven & (print(alloc, &[list])?.as_slice() == b"((a (b)) c ())\n".as_slice()))
+}
+
+/// Whether a row has copies of its forms.
+fn is_in_a_row(alloc: Global, parts: &[Sexp]) -> Result<bool, OutOfMemory> {
+    let row = Forms::of(alloc, parts)?;
+    let mut cursor = row.cursor();
+    let owner = cursor.owner() == 6;
+    Ok(owner & cursor.item().is_ok_and(|item| item.parts().len() == 2))
 }
 
 #[test]
 fn lists_are_made_of_copies(rt: HostRuntime) -> Result<(), Fail> {
     let parts = read(rt.alloc(), b"(a (b)) c ()")?;
-    let list = Sexp::list(rt.alloc(), &parts)?;
-    assert_eq!(rt; list.item_count(), 7);
-    let mut around = Vec::new(rt.alloc());
-    around.push(list)?;
-    let text = print(rt.alloc(), &around)?;
-    assert_eq!(rt; text.as_slice(), b"((a (b)) c ())\n".as_slice());
-    let row = Forms::of(rt.alloc(), &parts)?;
-    assert_eq!(rt; row.cursor().owner(), 6);
-    assert_eq!(rt; row.cursor().item()?.parts().len(), 2);
+    assert!(rt; is_listed(rt.alloc(), &parts)? & is_in_a_row(rt.alloc(), &parts)?);
     Ok(())
 }
 
@@ -218,7 +234,7 @@ fn deep_lists(rt: HostRuntime) -> Result<(), Fail> {
         deep.clear();
         deep.push(list)?;
     }
-    assert_eq!(rt; print(rt.alloc(), &deep)?.len(), 2201);
+    assert!(rt; print(rt.alloc(), &deep)?.len() == 2201);
     Ok(())
 }
 
@@ -226,13 +242,12 @@ fn deep_lists(rt: HostRuntime) -> Result<(), Fail> {
 #[test]
 fn memory_refused(rt: HostRuntime) {
     let text = b"(ab (a-name-of-more-than-sixteen-bytes) () c) d";
-    match read_in_pieces(rt.alloc(), text, 3) {
-        Ok(printed) => assert_eq!(rt;
-            printed.as_slice(),
-            b"(ab (a-name-of-more-than-sixteen-bytes) () c)\nd\n".as_slice()
-        ),
-        Err(fault) => assert_eq!(rt; fault, Fault::OutOfMemory),
-    }
+    let want = b"(ab (a-name-of-more-than-sixteen-bytes) () c)\nd\n";
+    let is_answered = match read_in_pieces(rt.alloc(), text, 3) {
+        Ok(printed) => printed.as_slice() == want.as_slice(),
+        Err(fault) => fault == Fault::OutOfMemory,
+    };
+    assert!(rt; is_answered);
 }
 
 /// After a refused allocation a reader answers nothing else any more.

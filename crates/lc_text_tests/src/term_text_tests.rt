@@ -1,46 +1,14 @@
-//! What texts read as, and their flaws, are cases of the program `lc_cases`.
+//! What texts read as and print as, and their flaws, are cases of the program `lc_cases`.
 ghost use Rattle.std.specs.Prelude.{IfOk};
 ghost use Rattle.lc_term.specs.Tables.{IsTerm};
 
 use lc_base::{ColId, OutOfMemory};
-use lc_reading::{Flaw, Pass, ReadFault, next_part};
-use lc_sexp::{Forms, Item};
 use lc_term::{
     ColExpr, Formula, Put, PutColumns, PutVariables, Term, TermId, Terms, nothing_replaced,
 };
-use lc_text::{
-    ColumnUse, Extra, Scope, Spelling, read_formulas, write_column, write_formula, write_term,
-};
+use lc_text::{Spelling, write_formula};
 use std::alloc::Global;
 use std::test::Fail;
-
-/// The variable `x`, and no column.
-#[derive(Clone, Copy)]
-struct Place;
-
-impl Scope for Place {
-    ghost use Rattle.std.specs.Prelude.{codes, Some, None, false, if◌then◌else◌};
-    ghost use Rattle.lc_reading.specs.Words.{is};
-    ghost use Rattle.lc_text.specs.declared.scope.ColumnUse.TheVariants.{Undeclared};
-
-    ghost names = { λ _. record {
-      variable = λ w. (if is w (codes "x") then Some 0 else None);
-      column = λ w. Undeclared;
-      allows = λ _. false;
-    } };
-
-    fn variable(&self, name: &str) -> Option<u32> {
-        if name == "x" { Some(0) } else { None }
-    }
-
-    fn column(&self, _: &str) -> ColumnUse {
-        ColumnUse::Undeclared
-    }
-
-    fn allows(&self, _: Extra) -> bool {
-        false
-    }
-}
 
 /// Variables as `?k`, and columns by their numbers behind a letter.
 #[derive(Clone, Copy)]
@@ -67,61 +35,6 @@ impl Spelling for Numbers {
     }
 }
 
-#[test]
-fn prints_terms_and_formulas(rt: HostRuntime) -> Result<(), Fail> {
-    let alloc = rt.alloc();
-    let store = ColExpr::Store(
-        Box::new(alloc, ColExpr::Base(ColId(4)))?,
-        Box::new(alloc, Term::Variable(1))?,
-        Box::new(alloc, Term::Number(-2))?,
-    );
-    let mut text = String::new(alloc);
-    write_column(&mut text, &Numbers, 0, &store)?;
-    assert_eq!(rt; text.as_str(), "(store c4 ?1 -2)");
-    let read = Term::Read(store, Box::new(alloc, Term::Bound(0))?);
-    let mut text = String::new(alloc);
-    write_term(&mut text, &Numbers, 2, &read)?;
-    assert_eq!(rt; text.as_str(), "(rd (store c4 ?1 -2) b1)");
-    let affine = Term::Read(ColExpr::Affine(2, 3), Box::new(alloc, Term::Bound(1))?);
-    let inner = Formula::Exists(Box::new(alloc, Formula::Le(read, affine))?);
-    let outer = Formula::Forall(Box::new(alloc, inner)?);
-    let none = Formula::Not(Box::new(alloc, Formula::Or(Vec::new(alloc)))?);
-    let both = Formula::And(vec![in alloc; outer, none]?);
-    let mut text = String::new(alloc);
-    write_formula(&mut text, &Numbers, 0, &both)?;
-    let want =
-        "(and (forall b0 (exists b1 (<= (rd (store c4 ?1 -2) b1) (rd (affine 2 3) b0)))) (not (or)))";
-    assert_eq!(rt; text.as_str(), want);
-    Ok(())
-}
-
-/// How many formulas a list reads as.
-fn formula_count(alloc: Global, text: &str) -> Result<usize, ReadFault> {
-    let Ok(forms) = Forms::read(alloc, text.as_bytes()) else {
-        return Err(ReadFault::OutOfMemory);
-    };
-    let Item::List(list) = next_part(&mut forms.cursor())?.item() else {
-        return Err(ReadFault::OutOfMemory);
-    };
-    Ok(read_formulas(alloc, &Place, list)?.len())
-}
-
-#[test]
-fn reads_formulas_in_a_row(rt: HostRuntime) -> Result<(), Fail> {
-    assert_eq!(rt; formula_count(rt.alloc(), "()")?, 0);
-    assert_eq!(rt; formula_count(rt.alloc(), "((<= x 0) (and) (or))")?, 3);
-    let flaw = Flaw {
-        pass: Pass::Shape,
-        item: 3,
-        least: 3,
-    };
-    assert_eq!(rt;
-        formula_count(rt.alloc(), "((and) x)").err(),
-        Some(ReadFault::Flawed(flaw))
-    );
-    Ok(())
-}
-
 /// `(forall b1 (<= (rd c0 b1) ?0))` and `(<= (rd c0 ?1) ?0)`, below one quantifier.
 fn comparisons(alloc: Global) -> Result<Formula, OutOfMemory> {
     let cell = Term::Read(ColExpr::Base(ColId(0)), Box::new(alloc, Term::Bound(0))?);
@@ -142,30 +55,38 @@ fn replaced_text(alloc: Global, formula: &Formula, put: &Put<'_>) -> Result<Stri
     Ok(text)
 }
 
-#[test]
-fn replaces_columns_and_variables_at_once(rt: HostRuntime) -> Result<(), Fail> {
-    let alloc = rt.alloc();
-    let store = ColExpr::Store(
-        Box::new(alloc, ColExpr::Base(ColId(0)))?,
-        Box::new(alloc, Term::Variable(0))?,
-        Box::new(alloc, Term::Number(7))?,
-    );
-    let stored = Vec::from_array(alloc, [(ColId(0), store)])?;
-    let terms = Vec::from_array(alloc, [Term::Bound(0)])?;
+/// `(store c0 ?0 7)`
+fn stored_column(alloc: Global) -> Result<ColExpr, OutOfMemory> {
+    let column = Box::new(alloc, ColExpr::Base(ColId(0)))?;
+    let index = Box::new(alloc, Term::Variable(0))?;
+    Ok(ColExpr::Store(column, index, Box::new(alloc, Term::Number(7))?))
+}
+
+/// Column 0 is stored in, and variable 0 is what the quantifier binds.
+fn is_replaced(alloc: Global, formula: &Formula) -> Result<bool, OutOfMemory> {
+    let columns = [(ColId(0), stored_column(alloc)?)];
     let put = Put {
-        columns: PutColumns::Stored(&stored),
-        variables: PutVariables::Terms(&terms),
+        columns: PutColumns::Stored(&columns),
+        variables: PutVariables::Terms(&[Term::Bound(0)]),
     };
-    let text = replaced_text(alloc, &comparisons(alloc)?, &put)?;
     let want = "(and (forall b1 (<= (rd (store c0 ?0 7) b1) b0)) (<= (rd (store c0 ?0 7) 0) b0))";
-    assert_eq!(rt; text.as_str(), want);
+    Ok(replaced_text(alloc, formula, &put)?.as_str() == want)
+}
+
+/// No column is given.
+fn is_without_columns(alloc: Global, formula: &Formula) -> Result<bool, OutOfMemory> {
     let put = Put {
         columns: PutColumns::All(&[]),
         variables: PutVariables::Own,
     };
-    let text = replaced_text(alloc, &comparisons(alloc)?, &put)?;
     let want = "(and (forall b1 (<= (rd (affine 0 0) b1) ?0)) (<= (rd (affine 0 0) ?1) ?0))";
-    assert_eq!(rt; text.as_str(), want);
+    Ok(replaced_text(alloc, formula, &put)?.as_str() == want)
+}
+
+#[test]
+fn replaces_columns_and_variables_at_once(rt: HostRuntime) -> Result<(), Fail> {
+    let formula = comparisons(rt.alloc())?;
+    assert!(rt; is_replaced(rt.alloc(), &formula)? & is_without_columns(rt.alloc(), &formula)?);
     Ok(())
 }
 
