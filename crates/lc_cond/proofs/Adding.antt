@@ -2,11 +2,10 @@
 use Rattle.std.proofs.Common.{◌≡◌, ℕ, zero, suc, take, List, [], ◌∷◌, ◌++◌, map, refl, sym, subst, ap, ap₂, ◌∙◌, append_assoc, append-nil, is_some}
 use Rattle.std.proofs.lemmas.List.{map-append, take-map}
 use Rattle.lc_term.specs.Syntax.{Formula}
-use Rattle.lc_term.specs.Lists.{Every}
 use Rattle.lc_term.specs.NodeTables.{Table}
 use Rattle.lc_term.specs.Tables.{Keeps, formula_in, formulas_in, HasFormula, AreFormulas}
 use Rattle.lc_term.specs.declared.node.FormulaId.{FormulaId}
-use Rattle.lc_term.proofs.Later.{are_formulas_still, formulas_still, is_formula_still, formula_still, formula_is, keeps_itself, are_formulas_pushed, formulas_pushed}
+use Rattle.lc_term.proofs.Later.{are_formulas_still, formulas_still, is_formula_still, formula_still, formula_is, are_formulas_pushed, formulas_pushed}
 use Rattle.lc_cond.specs.Conditions as S
 use Rattle.lc_cond.specs.ConditionView.{kind_of, place_of, condition_in, IsCondition, AreConditions}
 use Rattle.lc_cond.specs.Adding.{HasFormulas, Adds}

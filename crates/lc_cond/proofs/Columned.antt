@@ -1,11 +1,15 @@
 -- The conditions of columns, one after another, and columns below a quantifier.
-use Rattle.std.proofs.Common.{◌≡◌, ℕ, zero, suc, ◌+◌, ◌&&◌, List, [], ◌∷◌, ◌++◌, if◌then◌else◌, refl, sym, subst, ap, ap₂, ◌∙◌, arith, append_assoc, append-nil, add-zero, add-one, false, nat_lt}
+use Rattle.std.proofs.Common.{◌≡◌, ℕ, zero, suc, ◌+◌, ◌&&◌, List, [], ◌∷◌, ◌++◌, if◌then◌else◌, refl, sym, subst, ap, ap₂, ◌∙◌, arith, append_assoc, append-nil, add-zero, add-one, false, nat_lt, pos}
+use Rattle.std.specs.Prelude.{IsTrue}
+use Rattle.std.proofs.lemmas.Bool.{and_from}
 use Rattle.std.proofs.lemmas.Bool.Decides.{nat_tests}
-use Rattle.lc_term.specs.Syntax.{Column, Formula, Variable, Base, Bound}
-use Rattle.lc_term.specs.Replacement.{raising}
+use Rattle.lc_term.specs.Places.{no_bounds, column_passes}
+use Rattle.lc_term.specs.Syntax.{Term, Column, Formula, Number, Variable, Add, Subtract, Multiply, Read, Base, Bound}
+use Rattle.lc_term.specs.Replacement.{raising, replace_column}
 use Rattle.lc_term.specs.Substitution.{shifting}
 use Rattle.lc_term.specs.NodeTables.{Table}
 use Rattle.lc_term.specs.Tables.{Keeps}
+use Rattle.lc_term.proofs.Closed.{shifted_closed}
 use Rattle.lc_cond.specs.Adding.{Adds}
 use Rattle.lc_cond.specs.declared.condition.Condition as M
 use Rattle.lc_cond.proofs.Adding.{adds_on}
@@ -35,6 +39,21 @@ bound_raised k =
 
 pub raising_is : shifting 1 0 ≡ raising
 raising_is = λ i. record { columns = Base; variables = Variable; bounds = λ k. bound_raised k i }
+
+-- the column that a term reads
+column_read : Term → Column
+column_read (Number n) = Base 0
+column_read (Variable k) = Base 0
+column_read (Bound k) = Base 0
+column_read (Add t u) = Base 0
+column_read (Subtract t u) = Base 0
+column_read (Multiply n t) = Base 0
+column_read (Read c i) = c
+
+-- a column in which no bound variable stands is the same there
+pub raised_closed : (c : Column) → IsTrue (column_passes no_bounds c) → replace_column raising c ≡ c
+unfolding column_read
+raised_closed c closed = ap (λ r. replace_column r c) (sym raising_is) ∙ ap column_read (shifted_closed 1 0 (Read c (Number (pos 0))) (and_from _ _ closed refl))
 
 pub columns_step : (made : ℕ → Formula → Condition) (σ π : ℕ → Column) (n k : ℕ) (x y : Column) (a b c : List M.Condition) (old new : Table) → k ≡ n → x ≡ σ k → y ≡ π k →
     Adds a old b (column_conditions made 0 n σ π) → Keeps old new → Adds b new c (if is_base k x && is_base k y then [] else made k (same_column x y) ∷ []) →

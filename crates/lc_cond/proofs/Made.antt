@@ -1,10 +1,10 @@
 -- One more condition of those that are made together.
-use Rattle.std.proofs.Common.{◌≡◌, ℕ, zero, suc, ◌+◌, ◌<◌, List, [], ◌∷◌, ◌++◌, map, take, length, refl, sym, subst, ap, ap₂, ◌∙◌, arith, get_or, add-zero, zero-add}
+use Rattle.std.proofs.Common.{◌≡◌, ℕ, suc, ◌+◌, ◌<◌, List, [], ◌∷◌, ◌++◌, map, take, length, sym, subst, ap, ◌∙◌, arith, get_or, add-zero, zero-add}
 use Rattle.std.proofs.lemmas.List.{map-append, take_more, length-map, length-take-le}
 use Rattle.lc_term.specs.Syntax.{Formula}
 use Rattle.lc_term.specs.Lists.{numbered}
 use Rattle.lc_term.specs.NodeTables.{Table}
-use Rattle.lc_term.specs.Tables.{HasFormula, formula_in, formulas_in, AreFormulas, IsFormula}
+use Rattle.lc_term.specs.Tables.{formula_in, formulas_in, AreFormulas, IsFormula}
 use Rattle.lc_term.specs.declared.node.FormulaId.{FormulaId}
 use Rattle.lc_term.proofs.Later.{formula_has}
 use Rattle.lc_cond.specs.Conditions as S

@@ -1,7 +1,6 @@
 -- Formulas of a table with what is put in, one after another.
 use Rattle.std.proofs.Common.{◌≡◌, ℕ, ◌+◌, ◌<◌, List, [], ◌∷◌, ◌++◌, map, take, length, sym, subst, ap, ◌∙◌, get_or}
 use Rattle.std.proofs.lemmas.List.{map-append, take_more}
-use Rattle.lc_term.specs.Syntax.{Formula}
 use Rattle.lc_term.specs.Replacement.{Replacement, replace}
 use Rattle.lc_term.specs.NodeTables.{Table}
 use Rattle.lc_term.specs.Tables.{Keeps, formula_in, formulas_in, AreFormulas, IsFormula, HasFormula}

@@ -7,7 +7,7 @@ use Rattle.lc_term.specs.Syntax.{Column, Formula, Variable, Number}
 use Rattle.lc_term.specs.NodeTables.{Table}
 use Rattle.lc_term.specs.Said.{put, term_at}
 use Rattle.lc_term.specs.Replacement.{replacing, replace}
-use Rattle.lc_term.specs.Tables.{Keeps, HasFormula, formula_in, formulas_in}
+use Rattle.lc_term.specs.Tables.{Keeps, formula_in, formulas_in}
 use Rattle.lc_term.specs.View.{term_of, formula_of}
 use Rattle.lc_term.specs.declared.node.FormulaId.{FormulaId}
 use Rattle.lc_term.specs.declared.term.Term.{Term}

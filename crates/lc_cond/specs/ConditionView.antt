@@ -1,5 +1,5 @@
 -- What conditions of the code stand for, in a table that has their formulas.
-use Rattle.std.specs.Prelude.{ℕ, List, map, option_map}
+use Rattle.std.specs.Prelude.{List, option_map}
 use Rattle.lc_term.specs.Lists.{Every}
 use Rattle.lc_term.specs.NodeTables.{Table}
 use Rattle.lc_term.specs.Tables.{formula_in, formulas_in, IsFormula, AreFormulas}

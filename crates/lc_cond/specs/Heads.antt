@@ -1,5 +1,5 @@
 -- Conditions that are made together, of formulas whatever table has them.
-use Rattle.std.specs.Prelude.{ℕ, List, [], ◌∷◌, option_map}
+use Rattle.std.specs.Prelude.{List, [], ◌∷◌, option_map}
 use Rattle.lc_term.specs.Syntax.{Formula}
 use Rattle.lc_term.specs.NodeTables.{Table}
 use Rattle.lc_term.specs.Tables.{HasFormula}

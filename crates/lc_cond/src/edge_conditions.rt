@@ -8,7 +8,11 @@ ghost use Rattle.lc_rider.specs.DutyView.{owing_of};
 ghost use Rattle.lc_rider.specs.PathView.{path_of};
 ghost use Rattle.lc_cond.specs.Adding.{HasFormulas, Adds, Under};
 ghost use Rattle.lc_cond.specs.Conditions as S;
-ghost use Rattle.lc_cond.specs.Conditions.{at_end, path_place};
+ghost use Rattle.lc_cond.specs.Conditions.{path_place};
+ghost use Rattle.lc_term.specs.Said.{put};
+ghost use Rattle.lc_term.specs.Syntax.{Variable, Number};
+ghost use Rattle.lc_term.specs.SystemColumns.{pend};
+ghost use Rattle.std.specs.Prelude.{pos};
 ghost use Rattle.lc_cond.specs.Scenes.{IsScene, code_in, duty_conditions, reply_conditions, next_conditions};
 
 use crate::condition::{Condition, Kind, Passage, Which};
@@ -153,23 +157,20 @@ pub(crate) fn push_next(
     )
 }
 
-/// The columns behind a path, where a return has stored that no call is pending.
-pub(crate) fn at_end(
+/// The columns behind a path of a return, which stores that no call is pending.
+pub(crate) fn at_return(
     alloc: Global,
     scene: &Scene<'_>,
     path: &Path,
 ) -> Result<Vec<(ColId, ColExpr)>, OutOfMemory>
-    ensures { IfOk result (λ columns. columns_in columns.items ≡ at_end (first_of scene.now.system) (code_in scene.now).next (path_of path.now).columns) }
+    ensures { IfOk result (λ columns. columns_in columns.items ≡ put (path_of path.now).columns (record { column = pend (first_of scene.now.system); index = Variable 1; value = Number (pos 0) })) }
 {
     let columns = copy_columns(alloc, path.columns())?;
-    match scene.code.next {
-        Some(_) => Ok(columns),
-        None => store(
-            alloc,
-            columns,
-            scene.system.pend(),
-            Term::Variable(1),
-            Term::Number(0),
-        ),
-    }
+    store(
+        alloc,
+        columns,
+        scene.system.pend(),
+        Term::Variable(1),
+        Term::Number(0),
+    )
 }

@@ -1,9 +1,10 @@
 //! The conditions that an edge is the action that stands beside it.
 ghost use Rattle.std.specs.Prelude.{◌≡◌, ◌&&◌, [], ◌∷◌, map, if◌then◌else◌, Some, IfOk, OnOk};
+ghost use Rattle.lc_term.specs.Places.{no_bounds, column_passes};
 ghost use Rattle.lc_term.specs.Replacement.{raising, replace_column};
-ghost use Rattle.lc_term.specs.Syntax.{Variable, Bound, Read};
+ghost use Rattle.lc_term.specs.Syntax.{Variable, Bound, Read, Base};
 ghost use Rattle.lc_term.specs.SystemColumns.{column_count};
-ghost use Rattle.lc_term.specs.Tables.{HasTerm, HasFormula, Keeps};
+ghost use Rattle.lc_term.specs.Tables.{HasTerm, HasColumn, HasFormula, Keeps};
 ghost use Rattle.lc_term.specs.View.{term_of, column_of};
 ghost use Rattle.lc_action.specs.Action.{acting_variables, guard_for};
 ghost use Rattle.lc_action.specs.ActionView.{action_of, first_of};
@@ -18,11 +19,12 @@ use crate::edge_conditions::on_path;
 use crate::lookup::{action_at, count_of};
 use crate::making::{Head, push_one};
 use crate::scene::Scene;
-use lc_action::{Action, SystemColumns, column_after, post_columns};
+use lc_action::{Action, SystemColumns, post_columns};
 use lc_base::{ColId, OutOfMemory};
 use lc_outline::On;
 use lc_term::{
-    ColExpr, FormulaId, Put, PutColumns, PutVariables, Term, TermId, Terms, nothing_replaced,
+    ColExpr, ColExprId, FormulaId, Put, PutColumns, PutVariables, Term, TermId, Terms, is_closed,
+    nothing_replaced,
 };
 use std::alloc::Global;
 
@@ -43,14 +45,38 @@ fn is_unwritten(left: &ColExpr, right: &ColExpr, column: ColId) -> bool
     is_base(left, column) && is_base(right, column)
 }
 
+// Whether no bound variable stands in a column expression.
+fn is_closed_column(column: &ColExpr) -> bool
+    ensures { result ≡ column_passes no_bounds (column_of column.now) }
+{
+    match column {
+        ColExpr::Base(_) | ColExpr::Affine(..) => true,
+        ColExpr::Store(column, index, value) => {
+            is_closed_column(column) && is_closed(index) && is_closed(value)
+        }
+    }
+}
+
+// A column expression below one more quantifier, entered.
+#[tactic(auto, using(lc_term::proofs::Later::kept_on))]
+fn raised(alloc: Global, terms: &mut Terms, column: &ColExpr) -> Result<ColExprId, OutOfMemory>
+    ensures id { IfOk result (λ k. HasColumn terms.new k (replace_column raising (column_of column.now))) }
+    ensures kept { Keeps terms.old terms.new }
+{
+    let entered = terms.enter_column(column)?;
+    if is_closed_column(column) {
+        return Ok(entered);
+    }
+    terms.shift_column(alloc, entered, 1, 0)
+}
+
 // What stands in a cell of a column, where the cell is the variable of one more quantifier.
 #[tactic(auto, using(lc_term::proofs::Later::kept_on))]
 fn raised_cell(alloc: Global, terms: &mut Terms, column: &ColExpr) -> Result<TermId, OutOfMemory>
     ensures id { IfOk result (λ k. HasTerm terms.new k (Read (replace_column raising (column_of column.now)) (Bound 0))) }
     ensures kept { Keeps terms.old terms.new }
 {
-    let entered = terms.enter_column(column)?;
-    let raised = terms.shift_column(alloc, entered, 1, 0)?;
+    let raised = raised(alloc, terms, column)?;
     let index = terms.bound(0)?;
     terms.read(raised, index)
 }
@@ -95,6 +121,19 @@ fn push_column(
     push_one(alloc, head, Which::Column(column), known, goal, conditions)
 }
 
+// What stands in a column after stores; `base`, the column itself, where nothing is stored in it.
+fn stored_or<'a>(columns: &'a [(ColId, ColExpr)], column: ColId, base: &'a ColExpr) -> &'a ColExpr
+    requires { column_of base.now ≡ Base column.0 }
+    ensures { column_of result.now ≡ columns_in columns.now column.0 }
+{
+    for entry in columns {
+        if entry.0 == column {
+            return &entry.1;
+        }
+    }
+    base
+}
+
 // The conditions of the columns, so many.
 fn push_columns(
     alloc: Global,
@@ -113,9 +152,10 @@ fn push_columns(
     for number in 0..count {
         let place = count_of(number)?;
         let column = ColId(place);
-        let left = column_after(alloc, columns, column)?;
-        let right = column_after(alloc, action, column)?;
-        push_column(alloc, terms, head, known, column, &left, &right, conditions)?;
+        let base = ColExpr::Base(column);
+        let left = stored_or(columns, column, &base);
+        let right = stored_or(action, column, &base);
+        push_column(alloc, terms, head, known, column, left, right, conditions)?;
     }
     Ok(())
 }

@@ -1,27 +1,48 @@
 //! The conditions of the paths of an edge.
-ghost use Rattle.std.specs.Prelude.{map, OnOk};
+ghost use Rattle.std.specs.Prelude.{◌++◌, map, OnOk};
 ghost use Rattle.lc_term.specs.Lists.{concat_places};
 ghost use Rattle.lc_term.specs.Tables.{formulas_in, Keeps};
 ghost use Rattle.lc_object.specs.EdgeView.{edge_of};
 ghost use Rattle.lc_object.specs.View.{operation_of};
+ghost use Rattle.lc_action.specs.Telling.{columns_in};
 ghost use Rattle.lc_outline.specs.DevelopmentView.{development_shown};
 ghost use Rattle.lc_rider.specs.PathView.{path_of};
 ghost use Rattle.lc_cond.specs.Adding.{Adds, Under};
 ghost use Rattle.lc_cond.specs.Conditions.{edge_conditions, edge_conditions_in};
-ghost use Rattle.lc_cond.specs.Scenes.{IsScene, outcome_conditions, path_conditions_in};
+ghost use Rattle.lc_cond.specs.Scenes.{IsScene, next_conditions, on_conditions_in, outcome_conditions, path_conditions_in};
 
 use crate::condition::Condition;
-use crate::edge_conditions::{at_end, known_with, push_duties, push_next, push_reply};
+use crate::edge_conditions::{at_return, known_with, push_duties, push_next, push_reply};
 use crate::entering::entered;
 use crate::lookup::{body_at, operation_at, riders_in};
 use crate::matching::push_on;
 use crate::scene::{Scene, set_scene};
-use lc_base::{OpId, OutOfMemory};
+use lc_base::{ColId, OpId, OutOfMemory};
 use lc_object::{Edge, Operation};
 use lc_outline::Development;
 use lc_rider::{Path, paths};
-use lc_term::{FormulaId, Terms};
+use lc_term::{ColExpr, FormulaId, Terms};
 use std::alloc::Global;
+
+// What is asked in the columns behind a path: of what holds there, and of the action that stands beside the edge.
+#[tactic(auto, using(lc_term::proofs::Later::kept_on))]
+fn push_behind(
+    alloc: Global,
+    terms: &mut Terms,
+    scene: &Scene<'_>,
+    number: usize,
+    columns: &[(ColId, ColExpr)],
+    known: &[FormulaId],
+    conditions: &mut Vec<Condition>,
+) -> Result<(), OutOfMemory>
+    requires { IsScene terms.old scene.now }
+    ensures list { OnOk result (Under terms.old known.now (λ hs. Adds conditions.old.items terms.new conditions.new.items
+        (next_conditions scene.now number hs (columns_in columns.now) ++ on_conditions_in scene.now number hs (columns_in columns.now)))) }
+    ensures kept { Keeps terms.old terms.new }
+{
+    push_next(alloc, terms, scene, number, columns, known, conditions)?;
+    push_on(alloc, terms, scene, number, columns, known, conditions)
+}
 
 // What is asked behind a path, besides what its marks ask for.
 #[tactic(auto, using(lc_term::proofs::Later::kept_on))]
@@ -39,18 +60,15 @@ fn push_outcome(
         (outcome_conditions scene.now number hs (path_of path.now)))) }
     ensures kept { Keeps terms.old terms.new }
 {
-    push_reply(
-        alloc,
-        terms,
-        scene,
-        number,
-        path.columns(),
-        known,
-        conditions,
-    )?;
-    let columns = at_end(alloc, scene, path)?;
-    push_next(alloc, terms, scene, number, &columns, known, conditions)?;
-    push_on(alloc, terms, scene, number, &columns, known, conditions)
+    let columns = path.columns();
+    push_reply(alloc, terms, scene, number, columns, known, conditions)?;
+    match scene.code.next {
+        Some(_) => push_behind(alloc, terms, scene, number, columns, known, conditions),
+        None => {
+            let columns = at_return(alloc, scene, path)?;
+            push_behind(alloc, terms, scene, number, &columns, known, conditions)
+        }
+    }
 }
 
 // The conditions of a path.

@@ -198,14 +198,15 @@ fn push_known(
 // What is to be proved, and the end of the line.
 fn push_claim(
     out: &mut Vec<u8>,
-    texts: &FormulaTexts,
+    texts: &mut FormulaTexts,
     terms: &Terms,
     development: &Development,
     claim: FormulaId,
 ) -> Result<(), OutOfMemory>
     requires formula { IsFormula terms.now claim }
-    requires recalls { Recalls (spelled (development_shown development.now)) terms.now texts.now }
-    ensures { OnOk result (out.new.items ≡ out.old.items ++ (codes ") (goal" ++ spaced (spelled_formula (spelled (development_shown development.now)) 0 (formula_in terms.now claim)) ++ codes "))")) }
+    requires recalls { Recalls (spelled (development_shown development.now)) terms.now texts.old }
+    ensures text { OnOk result (out.new.items ≡ out.old.items ++ (codes ") (goal" ++ spaced (spelled_formula (spelled (development_shown development.now)) 0 (formula_in terms.now claim)) ++ codes "))")) }
+    ensures recalls { OnOk result (Recalls (spelled (development_shown development.now)) terms.now texts.new) }
 {
     push_text(out, ") (goal ")?;
     push_once(out, texts, terms, development, claim)?;

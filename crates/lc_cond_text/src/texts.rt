@@ -26,6 +26,8 @@ struct Place {
 pub struct FormulaTexts {
     bytes: Vec<u8>,
     places: Vec<Option<Place>>,
+    // Whether a formula was met already that is kept only where it is met again.
+    met: Vec<bool>,
 }
 
 impl Drop for FormulaTexts {
@@ -33,6 +35,7 @@ impl Drop for FormulaTexts {
         let FormulaTexts {
             bytes: _,
             places: _,
+            met: _,
         } = self;
     }
 }
@@ -44,6 +47,7 @@ pub fn no_texts(alloc: Global) -> FormulaTexts
     FormulaTexts {
         bytes: Vec::new(alloc),
         places: Vec::new(alloc),
+        met: Vec::new(alloc),
     }
 }
 
@@ -123,23 +127,32 @@ pub(crate) fn push_repeated(
     Ok(())
 }
 
-/// A formula that stands in few lines, behind what is there: its text is copied where it is kept, and not kept else.
+// Whether the formula of this number was met before. From now on it was.
+fn meet(met: &mut Vec<bool>, number: usize) -> Result<bool, OutOfMemory> {
+    while met.len() <= number {
+        met.push(false)?;
+    }
+    let before = met[number];
+    met[number] = true;
+    Ok(before)
+}
+
+/// A formula that may stand in one line alone, behind what is there: its text is kept once it is met again.
 pub(crate) fn push_once(
     out: &mut Vec<u8>,
-    texts: &FormulaTexts,
+    texts: &mut FormulaTexts,
     terms: &Terms,
     development: &Development,
     formula: FormulaId,
 ) -> Result<(), OutOfMemory>
     requires formula { IsFormula terms.now formula }
-    requires recalls { Recalls (spelled (development_shown development.now)) terms.now texts.now }
-    ensures { OnOk result (out.new.items ≡ out.old.items ++ spelled_formula (spelled (development_shown development.now)) 0 (formula_in terms.now formula)) }
+    requires recalls { Recalls (spelled (development_shown development.now)) terms.now texts.old }
+    ensures text { OnOk result (out.new.items ≡ out.old.items ++ spelled_formula (spelled (development_shown development.now)) 0 (formula_in terms.now formula)) }
+    ensures recalls { OnOk result (Recalls (spelled (development_shown development.now)) terms.now texts.new) }
 {
-    match place_of(texts, formula) {
-        Some(place) => {
-            out.extend_from_slice(&texts.bytes[place.start..place.end])?;
-            Ok(())
-        }
-        None => push_formula(out, terms, development, 0, formula),
+    if meet(&mut texts.met, formula.0 as usize)? {
+        push_repeated(out, texts, terms, development, formula)
+    } else {
+        push_formula(out, terms, development, 0, formula)
     }
 }

@@ -3,8 +3,10 @@ use Rattle.std.proofs.Common.{◌≡◌, ℕ, zero, suc, ◌+◌, ◌≤◌, Lis
 use Rattle.std.proofs.lemmas.List.{take-append-le, map-append}
 use Rattle.lc_term.specs.Lists.{Every, concat_map}
 use Rattle.lc_term.specs.Syntax.{Term, Variable, Column, Formula}
-use Rattle.lc_term.specs.Said.{put, puts, said, after, variables_from}
+use Rattle.lc_term.specs.Said.{put, puts, variables_from}
 use Rattle.lc_term.specs.Updates.{Update}
+use Rattle.lc_term.specs.UpdateView.{update_of, updates_of}
+use Rattle.lc_term.specs.declared.update.Update as M
 use Rattle.lc_seq.specs.Specification.{Operation}
 use Rattle.lc_rider.specs.Rider.{Rider}
 use Rattle.lc_rider.specs.Paths.{Path, Duty, rider_paths, paths}
@@ -24,18 +26,14 @@ duties_kept fs f (d ∷ ds) h =
 
 -- ---- columns
 
-pub puts-append : (σ : ℕ → Column) (us vs : List Update) → puts σ (us ++ vs) ≡ puts (puts σ us) vs
+puts-append : (σ : ℕ → Column) (us vs : List Update) → puts σ (us ++ vs) ≡ puts (puts σ us) vs
 puts-append σ [] vs = refl
 puts-append σ (u ∷ us) vs = puts-append (put σ u) us vs
 
--- updates in two steps more
-pub stored_twice : (σ ρ : ℕ → Column) (τ : List Term) (vs ws : List Update) →
-    puts (puts ρ (map (said σ τ) vs)) (map (said σ τ) ws) ≡ puts ρ (map (said σ τ) (vs ++ ws))
-stored_twice σ ρ τ vs ws = sym (ap (puts ρ) (map-append (said σ τ) vs ws) ∙ puts-append ρ (map (said σ τ) vs) (map (said σ τ) ws))
-
-pub stored_thrice : (σ : ℕ → Column) (τ : List Term) (us vs ws : List Update) →
-    puts (puts (after σ τ us) (map (said σ τ) vs)) (map (said σ τ) ws) ≡ after σ τ (us ++ (vs ++ ws))
-stored_thrice σ τ us vs ws = stored_twice σ (after σ τ us) τ vs ws ∙ stored_twice σ σ τ us (vs ++ ws)
+-- one update more, behind the others
+pub stored_last : (σ ρ new : ℕ → Column) (us : List M.Update) (u : M.Update) → ρ ≡ puts σ (updates_of us) → new ≡ put ρ (update_of u) → new ≡ puts σ (updates_of (us ++ u ∷ []))
+stored_last σ ρ new us u before is =
+    is ∙ ap (λ (τ : ℕ → Column). put τ (update_of u)) before ∙ sym (puts-append σ (updates_of us) (update_of u ∷ [])) ∙ ap (puts σ) (sym (map-append update_of us (u ∷ [])))
 
 -- ---- variables
 

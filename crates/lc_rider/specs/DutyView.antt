@@ -1,5 +1,5 @@
 -- What the duties of the code stand for.
-use Rattle.std.specs.Prelude.{ℕ, ◌≤◌, List, [], ◌∷◌, take, length}
+use Rattle.std.specs.Prelude.{ℕ, ◌≤◌, List, [], ◌∷◌, take}
 use Rattle.std.proofs.Props.{props}
 use Rattle.lc_term.specs.Lists.{Every}
 use Rattle.lc_term.specs.Syntax.{Formula}

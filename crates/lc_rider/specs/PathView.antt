@@ -1,5 +1,5 @@
 -- What the paths of the code stand for.
-use Rattle.std.specs.Prelude.{ℕ, List, [], ◌∷◌, ◌++◌, map}
+use Rattle.std.specs.Prelude.{ℕ, [], ◌∷◌, ◌++◌, map}
 use Rattle.lc_term.specs.Syntax.{Column, Formula}
 use Rattle.lc_term.specs.View.{formulas_of}
 use Rattle.lc_action.specs.Telling.{columns_in}

@@ -6,7 +6,7 @@ mod edge;
 mod edge_paths;
 pub mod laws;
 mod mark_paths;
-mod marked_columns;
+mod marked_updates;
 mod marking;
 mod path;
 mod rider;

@@ -11,7 +11,7 @@ ghost use Rattle.lc_rider.specs.Paths.{is_empty, named_duty, mark_variables, mar
 ghost use Rattle.lc_rider.specs.PathView.{path_of};
 
 use crate::duty::Owing;
-use crate::marked_columns::marked_columns;
+use crate::marked_updates::marked_updates;
 use crate::marking::{
     Mark, Marking, call_variables, cell_is, guard_on, negation, operation_branches, some_guard,
 };
@@ -77,15 +77,15 @@ fn taken(
     branch: &Branch,
     guard: Formula,
     variables: &[Term],
-    path: &Path,
+    path: Path,
 ) -> Result<Path, OutOfMemory>
     ensures { IfOk result (λ r. path_of r ≡
         branch_path (specification_of mark.entry.specification.now).operations (first_of mark.entry.system) mark.entry.rider
-        (marking_of mark.entry.marking (term_of mark.entry.client.now)) (map term_of variables.now) (branch_of branch.now) (formula_of guard) (path_of path.now)) }
+        (marking_of mark.entry.marking (term_of mark.entry.client.now)) (map term_of variables.now) (branch_of branch.now) (formula_of guard) (path_of path)) }
 {
-    let columns = marked_columns(alloc, mark, path, variables, branch)?;
-    let copy = path.copy_with(alloc, columns)?;
-    let known = copy.with_fact(guard)?;
+    let updates = marked_updates(alloc, mark, &path, variables, branch)?;
+    let behind = path.with_stores(alloc, updates)?;
+    let known = behind.with_fact(guard)?;
     let Marking::Note = mark.marking else {
         return Ok(known);
     };
@@ -110,10 +110,15 @@ fn branch_paths(
         branch_paths (specification_of mark.entry.specification.now).operations (first_of mark.entry.system) mark.entry.rider mark.entry.operation.0
         (marking_of mark.entry.marking c) c (branches_of branches.now) (path_of path)) }
 {
-    for branch in branches {
+    for (number, branch) in branches.iter().enumerate() {
         let guard = guard_on(alloc, &path, variables, branch)?;
+        if number + 1 == branches.len() {
+            paths.push(taken(alloc, mark, branch, guard, variables, path)?)?;
+            return Ok(());
+        }
         let holds = guard.try_clone(alloc)?;
-        let behind = taken(alloc, mark, branch, holds, variables, &path)?;
+        let copy = path.try_clone(alloc)?;
+        let behind = taken(alloc, mark, branch, holds, variables, copy)?;
         paths.push(behind)?;
         let fails = negation(alloc, guard)?;
         path = path.with_fact(fails)?;

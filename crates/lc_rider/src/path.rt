@@ -1,11 +1,33 @@
-ghost use Rattle.std.specs.Prelude.{length};
+ghost use Rattle.std.specs.Prelude.{◌≡◌, IfOk, length};
+ghost use Rattle.lc_term.specs.Said.{puts};
+ghost use Rattle.lc_term.specs.UpdateView.{updates_of};
+ghost use Rattle.lc_action.specs.Telling.{columns_in};
 ghost use Rattle.lc_rider.specs.DutyView.{AreKnown, known_once};
 
 use crate::duty::{Duty, Owing, copy_duties};
 use lc_action::{Before, copy_columns, said, store, told};
 use lc_base::{ColId, OutOfMemory};
-use lc_term::{ColExpr, Formula, Term, copy_formulas};
+use lc_term::{ColExpr, Formula, Term, Update, copy_formulas};
 use std::alloc::Global;
+
+// The columns after these updates, one after another.
+fn stored(
+    alloc: Global,
+    mut columns: Vec<(ColId, ColExpr)>,
+    updates: Vec<Update>,
+) -> Result<Vec<(ColId, ColExpr)>, OutOfMemory>
+    ensures { IfOk result (λ after. columns_in after.items ≡ puts (columns_in columns.items) (updates_of updates.items)) }
+{
+    for update in updates {
+        let Update {
+            column,
+            index,
+            value,
+        } = update;
+        columns = store(alloc, columns, column, index, value)?;
+    }
+    Ok(columns)
+}
 
 /// One way in which the riders of an edge may go, said of the state before the edge: the facts that tell it from the
 /// others, the columns behind the riders, and what the marks on it ask for.
@@ -29,7 +51,8 @@ impl Drop for Path {
 impl Path {
     ghost use Rattle.std.specs.Prelude.{◌≡◌, [], true, IfOk, length, map};
     ghost use Rattle.lc_term.specs.Replacement.{replacing, replace_term};
-    ghost use Rattle.lc_term.specs.Said.{put, term_at, told};
+    ghost use Rattle.lc_term.specs.Said.{put, puts, term_at, told};
+    ghost use Rattle.lc_term.specs.UpdateView.{updates_of};
     ghost use Rattle.lc_term.specs.Truth.{is_ground};
     ghost use Rattle.lc_term.specs.View.{term_of, formula_of, formulas_of};
     ghost use Rattle.lc_action.specs.Telling.{columns_in};
@@ -99,26 +122,15 @@ impl Path {
         }
     }
 
-    // A copy with other columns.
-    pub(crate) fn copy_with(
-        &self,
-        alloc: Global,
-        columns: Vec<(ColId, ColExpr)>,
-    ) -> Result<Path, OutOfMemory>
-        ensures { IfOk result (λ path. path_of path ≡ with_columns (path_of self.now) (columns_in columns.items)) }
-    {
-        Ok(Path {
-            facts: copy_formulas(alloc, &self.facts)?,
-            columns,
-            marks: copy_duties(alloc, &self.marks)?,
-        })
-    }
-
     // The same path, in memory of its own.
     pub(crate) fn try_clone(&self, alloc: Global) -> Result<Path, OutOfMemory>
         ensures { IfOk result (λ path. path_of path ≡ path_of self.now) }
     {
-        self.copy_with(alloc, copy_columns(alloc, &self.columns)?)
+        Ok(Path {
+            facts: copy_formulas(alloc, &self.facts)?,
+            columns: copy_columns(alloc, &self.columns)?,
+            marks: copy_duties(alloc, &self.marks)?,
+        })
     }
 
     // One more fact, behind the others.
@@ -183,6 +195,27 @@ impl Path {
             marks,
         } = self;
         let columns = store(alloc, columns, column, index, value)?;
+        Ok(Path {
+            facts,
+            columns,
+            marks,
+        })
+    }
+
+    // Values are stored by these updates, one after another.
+    pub(crate) fn with_stores(
+        self,
+        alloc: Global,
+        updates: Vec<Update>,
+    ) -> Result<Path, OutOfMemory>
+        ensures { IfOk result (λ path. path_of path ≡ with_columns (path_of self) (puts (path_of self).columns (updates_of updates.items))) }
+    {
+        let Path {
+            facts,
+            columns,
+            marks,
+        } = self;
+        let columns = stored(alloc, columns, updates)?;
         Ok(Path {
             facts,
             columns,

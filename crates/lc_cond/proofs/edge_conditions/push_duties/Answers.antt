@@ -1,8 +1,7 @@
-use Rattle.std.proofs.Common.{◌++◌, take, subst, sym, ◌∙◌}
+use Rattle.std.proofs.Common.{◌++◌, take, ◌∙◌}
 use Rattle.lc_term.specs.Tables.{formulas_in}
 use Rattle.lc_term.proofs.Later.{kept_on, keeps_itself}
 use Rattle.lc_rider.specs.PathView.{path_of}
-use Rattle.lc_cond.specs.Adding.{HasFormulas}
 use Rattle.lc_cond.proofs.Adding.{formulas_are, first_formulas, formulas_behind, formulas_later}
 use Rattle.lc_cond.proofs.Scening.{duties_more}
 use Rattle.lc_cond.proofs.edge_conditions.push_duties.Goals as goal

@@ -1,6 +1,5 @@
-use Rattle.std.proofs.Common.{◌≡◌, Some, map, ap, sym, subst, ◌∙◌, [], ◌∷◌}
+use Rattle.std.proofs.Common.{Some, map, ap, subst, ◌∙◌}
 use Rattle.std.proofs.lemmas.Result.{on_ok_weaker}
-use Rattle.lc_term.specs.Replacement.{replace}
 use Rattle.lc_term.specs.View.{term_of}
 use Rattle.lc_action.specs.Telling.{columns_in}
 use Rattle.lc_outline.specs.Development.{first_system}

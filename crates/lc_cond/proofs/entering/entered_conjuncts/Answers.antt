@@ -1,6 +1,4 @@
-use Rattle.std.proofs.Common.{rules, ◌≡◌, ◌++◌, [], ◌∷◌, map, take, subst, sym}
-use Rattle.lc_tie.specs.Tie.{formulas_of}
-use Rattle.lc_tie.specs.TieView.{conjunct_of}
+use Rattle.std.proofs.Common.{rules, ◌≡◌, ◌++◌, [], ◌∷◌, subst, sym}
 use Rattle.lc_term.proofs.Later.{kept_on}
 use Rattle.lc_cond.specs.Adding.{HasFormulas}
 use Rattle.lc_cond.proofs.Adding.{formulas_put}

@@ -1,4 +1,4 @@
-use Rattle.std.proofs.Common.{take, subst}
+use Rattle.std.proofs.Common.{subst}
 use Rattle.std.proofs.lemmas.List.{take_all}
 use Rattle.lc_cond.proofs.Made.{MadeBelow, made_more, made_all}
 use Rattle.lc_cond.proofs.making.push_each.Goals as goal

@@ -1,4 +1,4 @@
-use Rattle.std.proofs.Common.{◌≡◌, subst, sym, arith, ◌∙◌}
+use Rattle.std.proofs.Common.{◌≡◌, subst, arith}
 use Rattle.lc_term.proofs.Later.{kept_on}
 use Rattle.lc_action.specs.Telling.{columns_in}
 use Rattle.lc_cond.specs.Adding.{Adds}
@@ -15,7 +15,7 @@ loop-number-preserved c =
     let kept = c.in_ok-push_column.ensures.kept in (
       kept_on c.args.terms.now t1 t2 c.loop-number.invariant.0 kept,
       λ hs has. columns_step (λ k goal. condition_made c.args.head (OfColumn k) hs goal) (columns_in c.args.columns.now) (columns_in c.args.action.now) c.loop-number.number c.in_ok-place.place _ _
-          c.args.conditions.now.items c.loop-number.conditions.items c.push_column.new.conditions.items t1 t2 c.in_ok-place.ensures c.in_ok-left.ensures c.in_ok-right.ensures
+          c.args.conditions.now.items c.loop-number.conditions.items c.push_column.new.conditions.items t1 t2 c.in_ok-place.ensures c.stored_or-left.ensures c.stored_or-right.ensures
           (c.loop-number.invariant.1 hs has) kept (c.in_ok-push_column.ensures.list hs (formulas_later c.args.terms.now t1 c.args.known.now hs has c.loop-number.invariant.0)),
     )
 

@@ -1,15 +1,12 @@
-use Rattle.std.proofs.Common.{ap₂, subst, ◌∙◌}
+use Rattle.std.proofs.Common.{ap₂, subst}
 use Rattle.std.proofs.lemmas.Result.{IfOk-weaker}
 use Rattle.lc_term.specs.Syntax.{Read}
-use Rattle.lc_term.specs.Replacement.{replace_column}
 use Rattle.lc_term.specs.Tables.{HasTerm}
 use Rattle.lc_term.proofs.Later.{column_is, column_later, term_is}
-use Rattle.lc_cond.proofs.Columned.{raising_is}
 use Rattle.lc_cond.proofs.matching.raised_cell.Goals as goal
 
 pub returns-clause-id : goal.returns-clause-id
 returns-clause-id c =
-    let t3 = c.bound.new.self in
-    let column = column_is t3 c.in_ok-raised.raised _ (column_later c.shift_column.new.self t3 c.in_ok-raised.raised _ c.in_ok-raised.ensures.id c.in_ok-index.ensures.kept)
-    ∙ ap₂ replace_column raising_is (column_is c.enter_column.new.self c.in_ok-entered.entered _ c.in_ok-entered.ensures.id) in
-    IfOk-weaker c.read.result _ _ (λ k h. subst (HasTerm c.read.new.self k) (ap₂ Read column (term_is t3 c.in_ok-index.index _ c.in_ok-index.ensures.id)) h) c.read.ensures.id
+    let t2 = c.bound.new.self in
+    let column = column_is t2 c.in_ok-raised.raised _ (column_later c.raised.new.terms t2 c.in_ok-raised.raised _ c.in_ok-raised.ensures.id c.in_ok-index.ensures.kept) in
+    IfOk-weaker c.read.result _ _ (λ k h. subst (HasTerm c.read.new.self k) (ap₂ Read column (term_is t2 c.in_ok-index.index _ c.in_ok-index.ensures.id)) h) c.read.ensures.id

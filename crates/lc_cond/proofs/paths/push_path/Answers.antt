@@ -1,7 +1,7 @@
-use Rattle.std.proofs.Common.{◌++◌, ap, sym, subst, ◌∙◌}
+use Rattle.std.proofs.Common.{◌++◌, ap, subst, ◌∙◌}
 use Rattle.std.proofs.lemmas.Result.{on_ok_weaker}
 use Rattle.lc_term.specs.Tables.{formulas_in}
-use Rattle.lc_term.proofs.Later.{kept_on, are_formulas_still, formulas_still, keeps_itself}
+use Rattle.lc_term.proofs.Later.{kept_on, are_formulas_still, formulas_still}
 use Rattle.lc_rider.specs.PathView.{path_of}
 use Rattle.lc_cond.specs.Adding.{HasFormulas, Adds}
 use Rattle.lc_cond.specs.Scenes.{duty_conditions}

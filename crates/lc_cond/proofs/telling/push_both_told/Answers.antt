@@ -1,4 +1,4 @@
-use Rattle.std.proofs.Common.{map, ap, subst}
+use Rattle.std.proofs.Common.{map, subst}
 use Rattle.std.proofs.lemmas.Result.{on_ok_weaker}
 use Rattle.lc_term.specs.Put.{replacement_of}
 use Rattle.lc_term.specs.Replacement.{replace}

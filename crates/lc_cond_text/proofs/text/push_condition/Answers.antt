@@ -16,4 +16,4 @@ returns-clause-text c =
     (λ last. line_joined (codes "(condition ") (decimal c.args.number) (spaced (kind_word x.kind)) (spaced (or_hyphen (name_at (point_names d)) x.place.point)) (spaced (passage_text d x.place.passage))
     (spaced (or_hyphen decimal x.place.path)) (spaced (which_text d x.place.which)) (codes " (vars ") (decimal x.variables) (codes ") (hyps") (formulas_text (spelled d) x.hypotheses) (codes ") (goal")
     (spaced (spelled_formula (spelled d) 0 x.goal)) (codes "))") c.args.out.now.items c.push_head.new.out.items c.push_known.new.out.items c.push_claim.new.out.items
-    c.in_ok-push_head.ensures c.in_ok-push_known.ensures.text last) c.push_claim.ensures
+    c.in_ok-push_head.ensures c.in_ok-push_known.ensures.text last) c.push_claim.ensures.text
