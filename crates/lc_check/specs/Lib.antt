@@ -1,4 +1,6 @@
 pub mod Verdicts
-pub mod Numbers
 pub mod Answers
 pub mod VerdictView
+pub mod Progress
+pub mod Stages
+pub mod Sessions
