@@ -33,8 +33,8 @@ proved_behind k (e ∷ es) more [] ds h g = absurd h
 proved_behind k (e ∷ es) more (c ∷ cs) ds h g =
     let is = h.0 in
     let later : k + length (c ∷ cs) ≡ suc k + length cs = omega arith in (
-      subst (IsProved c) (sym (at_first e (es ++ more) k is)) h.1.0,
-      skip_proved e (es ++ more) (suc k) (cs ++ ds) (omega (arith, is)) (proved_behind (suc k) es more cs ds h.1.1 (subst (λ n. AreProved more n ds) later g)),
+      subst (IsProved c) (sym (at_first e (es ++ more) k is)) h.1,
+      skip_proved e (es ++ more) (suc k) (cs ++ ds) (omega (arith, is)) (proved_behind (suc k) es more cs ds h.2 (subst (λ n. AreProved more n ds) later g)),
     )
 
 -- one behind is the first that is not
@@ -46,8 +46,8 @@ unproved_behind k (e ∷ es) more (c ∷ cs) ds r h g =
     let is = h.0 in
     let later : k + length (c ∷ cs) ≡ suc k + length cs = omega arith in
     inr (
-      subst (IsProved c) (sym (at_first e (es ++ more) k is)) h.1.0,
-      skip_unproved e (es ++ more) (suc k) (cs ++ ds) r (omega (arith, is)) (unproved_behind (suc k) es more cs ds r h.1.1 (subst (λ n. IsFirstUnproved more n ds r) later g)),
+      subst (IsProved c) (sym (at_first e (es ++ more) k is)) h.1,
+      skip_unproved e (es ++ more) (suc k) (cs ++ ds) r (omega (arith, is)) (unproved_behind (suc k) es more cs ds r h.2 (subst (λ n. IsFirstUnproved more n ds r) later g)),
     )
 
 -- an extra number stands behind
@@ -58,7 +58,7 @@ extra_behind k n (e ∷ es) more [] j h is x = absurd h
 extra_behind k n (e ∷ es) more (c ∷ cs) j h is x =
     let at = h.0 in
     let le = x.behind in
-    extra_behind (suc k) n es more cs j h.1.1 (omega (arith, is)) (extra_later n j e (es ++ more) (λ same. omega (arith, same, at, le, is)) x)
+    extra_behind (suc k) n es more cs j h.2 (omega (arith, is)) (extra_later n j e (es ++ more) (λ same. omega (arith, same, at, le, is)) x)
 
 pub extra_from : (k n : ℕ) (es more : List Entry) (cs : List Condition) (j : ℕ) → ProveInTurn k es cs → n ≡ k + length cs → IsExtra n more j → IsExtra n (es ++ more) j
 extra_from k n [] more [] j h is x = x
@@ -67,7 +67,7 @@ extra_from k n (e ∷ es) more [] j h is x = absurd h
 extra_from k n (e ∷ es) more (c ∷ cs) j h is x =
     let at = h.0 in
     let le = x.behind in
-    extra_before n j e (es ++ more) (λ same. omega (arith, same, at, le, is)) (extra_from (suc k) n es more cs j h.1.1 (omega (arith, is)) x)
+    extra_before n j e (es ++ more) (λ same. omega (arith, same, at, le, is)) (extra_from (suc k) n es more cs j h.2 (omega (arith, is)) x)
 
 -- numbers that rise are not below the conditions that are proved
 pub rises_behind : (k : ℕ) (last : Option ℕ) (es : List Entry) (e : Entry) (more : List Entry) (cs : List Condition) → ProveInTurn k es cs → ((n : ℕ) → is_above last n ≡ true → k ≤ n) → is_rising last (es ++ e ∷ more) ≡ true
@@ -81,16 +81,16 @@ rises_behind k last (t ∷ ts) e more [] h above rises = absurd h
 rises_behind k last (t ∷ ts) e more (c ∷ cs) h above rises =
     let parts = and_parts (is_above last t.number) (is_rising (Some t.number) (ts ++ e ∷ more)) rises in
     let is = h.0 in
-    let later = rises_behind (suc k) (Some t.number) ts e more cs h.1.1 (λ n b. (let lt = ltb-true t.number n b in omega (arith, lt, is))) parts.1 in
+    let later = rises_behind (suc k) (Some t.number) ts e more cs h.2 (λ n b. (let lt = ltb-true t.number n b in omega (arith, lt, is))) parts.1 in
     let le = later.0 in
     (omega (arith, le), later.1)
 
 -- one more
 pub in_turn_more : (k : ℕ) (es : List Entry) (cs : List Condition) (e : Entry) (c : Condition) → ProveInTurn k es cs → e.number ≡ k + length cs → IsProved c (Some e.proof) → ProveInTurn k (es ++ e ∷ []) (cs ++ c ∷ [])
-in_turn_more k [] [] e c h is p = (omega (arith, is), (p, tt))
+in_turn_more k [] [] e c h is p = (omega (arith, is), p, tt)
 in_turn_more k [] (d ∷ ds) e c h is p = absurd h
 in_turn_more k (t ∷ ts) [] e c h is p = absurd h
-in_turn_more k (t ∷ ts) (d ∷ ds) e c h is p = (h.0, (h.1.0, in_turn_more (suc k) ts ds e c h.1.1 (omega (arith, is)) p))
+in_turn_more k (t ∷ ts) (d ∷ ds) e c h is p = (h.0, h.1, in_turn_more (suc k) ts ds e c h.2 (omega (arith, is)) p)
 
 -- ---- a number that was left out
 

@@ -10,6 +10,11 @@ use Rattle.lc_term.proofs.Stores.{Every_right}
 use Rattle.lc_term.specs.Lists.{Every}
 use Rattle.lc_term.specs.NodeTables.{Table}
 use Rattle.lc_term.specs.Tables.{Keeps}
+use Rattle.lc_kernel.specs.Answers.{Proves}
+use Rattle.lc_kernel.specs.Proofs.{Proof}
+use Rattle.lc_kernel.specs.declared.fault.ProofFault.{ProofFault}
+use Rattle.lc_kernel.specs.declared.fault.ProofFault.TheVariants.{Bad as NotHolding, Large as TooLarge, OutOfMemory as NoMore}
+use Rattle.lc_kernel.specs.declared.reason.Flaw.TheVariants.{Bad, Large}
 use Rattle.lc_outline.specs.Development.{Development}
 use Rattle.lc_cert.specs.Certificates.{Entry, is_rising, proof_at}
 use Rattle.lc_cond.specs.Conditions as S
@@ -19,12 +24,21 @@ use Rattle.lc_cond.specs.Stream.{conditions_left}
 use Rattle.lc_cond.specs.Uses.{UsesItsVariables}
 use Rattle.lc_cond.specs.VariableCounts.{HasFewVariables}
 use Rattle.lc_cond.specs.declared.condition.Condition.{Condition}
+use Rattle.lc_cond.specs.declared.stream.ConditionStream.{ConditionStream}
 use Rattle.lc_check.proofs.InTurn.{proved_behind, unproved_behind, extra_behind, extra_from, rises_behind, in_turn_more, left_out}
 use Rattle.lc_check.proofs.LeastExtra.{at_first, not_below}
-use Rattle.lc_check.specs.Answers.{IsBounded, CountsAll}
+use Rattle.lc_check.specs.Answers.{IsBounded, fault_of, ProvesOne, CountsAll}
 use Rattle.lc_check.specs.Progress.{conditions_due, IsKnown, IsInTurn, IsCertain, IsAtDue}
 use Rattle.lc_check.specs.Verdicts.{IsProved, IsUnproved, AreProved, IsFirstUnproved, IsExtra, IsProofRefusal}
 use Rattle.lc_check.specs.declared.progress.Progress.{Progress}
+
+-- ---- one proof
+
+-- it was not found to hold
+pub not_proved : (k : ℕ) (c : S.Condition) (p : Proof) (fault : ProofFault) → Proves c.variables c.hypotheses c.goal p (Err fault) → ProvesOne k c p (Err (fault_of k fault))
+not_proved k c p (NotHolding step reason) h = (step, Bad reason, h, refl)
+not_proved k c p (TooLarge step) h = (step, Large, h, refl)
+not_proved k c p NoMore h = tt
 
 -- ---- the table grows
 
@@ -50,6 +64,22 @@ all_bounded (c ∷ cs) h g = ((h.0, g.0), all_bounded cs h.1 g.1)
 -- the first that is left of a part
 pub first_left : (cs : List Condition) (i : ℕ) (x : Condition) → i < length cs → x ≡ get_or cs i x → drop i cs ≡ x ∷ drop (i + 1) cs
 first_left cs i x lt is = drop_more cs i x lt ∙ ap (λ y. y ∷ drop (i + 1) cs) (sym is)
+
+-- no more of a list is left past its end
+pub past : {A : Type 0} (xs : List A) (i : ℕ) → length xs ≤ i → drop i xs ≡ []
+past [] zero le = refl
+past [] (suc i) le = refl
+past (x ∷ xs) zero le = absurd (omega (arith, le))
+past (x ∷ xs) (suc i) le = past xs i (omega (arith, le))
+
+-- nothing is left of a part, so what is due stands behind it
+pub due_past : (d : Development) (p : Progress) → length p.part.items ≤ p.place → conditions_due d p ≡ conditions_left d p.stream
+due_past d p le = ap (λ l. map (condition_in p.terms) l ++ conditions_left d p.stream) (past p.part.items p.place le)
+
+-- the part behind is at hand
+pub due_in_part : (d : Development) (before : Progress) (ts : Table) (cs : List Condition) (stream : ConditionStream) → length before.part.items ≤ before.place
+    → conditions_left d before.stream ≡ map (condition_in ts) cs ++ conditions_left d stream → map (condition_in ts) cs ++ conditions_left d stream ≡ conditions_due d before
+due_in_part d before ts cs stream le left = sym (due_past d before le ∙ left)
 
 -- what is due behind it
 abbrev pub due_behind : Development → Table → List Condition → Progress → List S.Condition
@@ -136,13 +166,9 @@ extra_certain d taken p e h due more rises =
       proved,
       (
         e.number,
-        (
-          extra_from 0 n taken (e ∷ more) h.done e.number h.proved is here,
-          (
-            λ j x. (let there = extra_behind 0 n taken (e ∷ more) h.done j h.proved is x in not_below n e more j later there (e.number == j) refl there.stands),
-            refl,
-          ),
-        ),
+        extra_from 0 n taken (e ∷ more) h.done e.number h.proved is here,
+        λ j x. (let there = extra_behind 0 n taken (e ∷ more) h.done j h.proved is x in not_below n e more j later there (e.number == j) refl there.stands),
+        refl,
       ),
     ))
 
