@@ -1,7 +1,8 @@
 -- One proof more.
-use Rattle.std.proofs.Common.{◌≡◌, ℕ, zero, suc, ◌+◌, ◌<◌, ◌≤◌, inl, inr, true, List, [], ◌∷◌, ◌++◌, map, drop, length, length-append, append_assoc, append-nil, get_or, Some, None, refl, sym, ap, ap₂, ◌∙◌, subst, arith}
+use Rattle.std.proofs.Common.{◌≡◌, ℕ, zero, suc, ◌+◌, ◌<◌, ◌≤◌, inl, inr, true, false, List, [], ◌∷◌, ◌++◌, map, drop, length, length-append, append_assoc, append-nil, get_or, Option, Some, None, refl, sym, ap, ap₂, ◌∙◌, subst, arith}
 use Rattle.std.proofs.lemmas.List.{drop_more}
-use Rattle.std.specs.Prelude.{Ok, Err, ◌==◌}
+use Rattle.std.specs.Option.{is_some}
+use Rattle.std.specs.Prelude.{Result, Ok, Err, ◌==◌, OnOk}
 use Rattle.lc_base.specs.declared.refusal.Fault.TheVariants.{Refused}
 use Rattle.lc_base.specs.declared.refusal.Refusal.{Refusal}
 use Rattle.lc_base.specs.declared.refusal.Refusal.TheVariants.{Missing, Extra}
@@ -28,7 +29,7 @@ use Rattle.lc_cond.specs.declared.stream.ConditionStream.{ConditionStream}
 use Rattle.lc_check.proofs.InTurn.{proved_behind, unproved_behind, extra_behind, extra_from, rises_behind, in_turn_more, left_out}
 use Rattle.lc_check.proofs.LeastExtra.{at_first, not_below}
 use Rattle.lc_check.specs.Answers.{IsBounded, fault_of, ProvesOne, CountsAll}
-use Rattle.lc_check.specs.Progress.{conditions_due, IsKnown, IsInTurn, IsCertain, IsAtDue}
+use Rattle.lc_check.specs.Progress.{conditions_due, IsKnown, IsInTurn, IsCertain, IsProgressTelling, IsProgress, IsAtDue}
 use Rattle.lc_check.specs.Verdicts.{IsProved, IsUnproved, AreProved, IsFirstUnproved, IsExtra, IsProofRefusal}
 use Rattle.lc_check.specs.declared.progress.Progress.{Progress}
 
@@ -145,10 +146,10 @@ pub missing_certain : (d : Development) (taken : List Entry) (p : Progress) (c :
     → IsCertain d (taken ++ e ∷ []) (Missing p.next)
 missing_certain d taken p c cs e h due other =
     unproved_certain d taken p c cs e (Missing p.next) h due (λ more rises. (
-      let (le, later) = risen d taken p e more h rises in
-      let before = h.count in
-      let none = left_out e more p.next other (omega (arith, le, before)) later in
-      subst (λ o. IsUnproved p.next c o (Missing p.next)) (sym none) refl
+    let (le, later) = risen d taken p e more h rises in
+    let before = h.count in
+    let none = left_out e more p.next other (omega (arith, le, before)) later in
+    subst (λ o. IsUnproved p.next c o (Missing p.next)) (sym none) refl
     ))
 
 pub extra_certain : (d : Development) (taken : List Entry) (p : Progress) (e : Entry) → IsInTurn d taken p → conditions_due d p ≡ [] → IsCertain d (taken ++ e ∷ []) (Extra e.number)
@@ -208,3 +209,49 @@ all_in_turn d taken p h due =
         λ j x. nothing_extra (length (conditions d)) j (extra_behind 0 (length (conditions d)) taken [] h.done j h.proved is (subst (λ l. IsExtra (length (conditions d)) l j) (sym (append-nil taken)) x)),
       ),
     )
+
+-- ---- what is told so far
+
+pub none_of : (o : Option Refusal) → false ≡ is_some o → o ≡ None
+none_of None h = refl
+none_of (Some r) h = absurd (let f : false ≡ true = h in cc)
+
+pub none_if : (o : Option Refusal) → ((r : Refusal) → o ≡ Some r → ⊥) → o ≡ None
+none_if None h = refl
+none_if (Some r) h = absurd (h r refl)
+
+pub untold : (d : Development) (taken : List Entry) (p : Progress) → p.told ≡ None → IsProgress d taken p → IsInTurn d taken p
+untold d taken p is h = subst (IsProgressTelling d taken p) is h
+
+pub told_so : (d : Development) (taken : List Entry) (p : Progress) (r : Refusal) → p.told ≡ Some r → IsProgress d taken p → IsCertain d taken r
+told_so d taken p r is h = subst (IsProgressTelling d taken p) is h
+
+still_told : (d : Development) (taken es : List Entry) (p : Progress) (o : Option Refusal) → true ≡ is_some o → IsProgressTelling d taken p o → IsProgressTelling d (taken ++ es) p o
+still_told d taken es p None h told = absurd (let f : true ≡ false = h in cc)
+still_told d taken es p (Some r) h told = certain_on d taken es r told
+
+pub told_on : (d : Development) (taken es : List Entry) (p : Progress) → true ≡ is_some p.told → IsProgress d taken p → IsProgress d (taken ++ es) p
+told_on d taken es p h told = still_told d taken es p p.told h told
+
+-- ---- where a condition is due
+
+some_left : (cs : List Condition) (i : ℕ) → i < length cs → (x : Condition) × (rest : List Condition) × (drop i cs ≡ x ∷ rest)
+some_left [] i lt = absurd (omega (arith, lt))
+some_left (x ∷ xs) zero lt = (x, xs, refl)
+some_left (x ∷ xs) (suc i) lt = some_left xs i (omega (arith, lt))
+
+pub missing_at : (d : Development) (taken : List Entry) (p : Progress) (e : Entry) → p.place < length p.part.items → IsInTurn d taken p → (e.number ≡ p.next → ⊥) → IsCertain d (taken ++ e ∷ []) (Missing p.next)
+missing_at d taken p e lt h other =
+    let (x, rest, is) = some_left p.part.items p.place lt in
+    missing_certain d taken p (condition_in p.terms x) (due_behind d p.terms rest p) e h (next_due d p x rest is) other
+
+pub missing_at_last : (d : Development) (taken : List Entry) (p : Progress) → p.place < length p.part.items → IsInTurn d taken p → IsProofRefusal taken (conditions d) (Missing p.next)
+missing_at_last d taken p lt h =
+    let (x, rest, is) = some_left p.part.items p.place lt in
+    missing_last d taken p (condition_in p.terms x) (due_behind d p.terms rest p) h (next_due d p x rest is)
+
+-- ---- where it went on
+
+pub on_ok : {A E : Type 0} (result : Result A E) (P Q : Type 0) → (P → Q) → OnOk result P → OnOk result Q
+on_ok (Ok x) P Q f h = f h
+on_ok (Err e) P Q f h = tt
