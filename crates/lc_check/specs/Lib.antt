@@ -2,5 +2,6 @@ pub mod Verdicts
 pub mod Answers
 pub mod VerdictView
 pub mod Progress
+pub mod UpTo
 pub mod Stages
 pub mod Sessions

@@ -1,10 +1,9 @@
 //! A certificate of a development that was read, checked in pieces.
-ghost use Rattle.std.specs.Prelude.{◌++◌, ℕ, List, IfOk, OnOk};
+ghost use Rattle.std.specs.Prelude.{◌++◌, ℕ, List, OnOk};
 ghost use Rattle.lc_outline.specs.DevelopmentView.{development_shown};
 ghost use Rattle.lc_sound.specs.Derived.{AreDerived};
 ghost use Rattle.lc_sound.specs.Linearizable.{IsLinearizableObject};
-ghost use Rattle.lc_check.specs.Stages.{IsUpTo};
-ghost use Rattle.lc_check.specs.VerdictView.{development_in, IsAnswerOn};
+ghost use Rattle.lc_check.specs.UpTo.{IsUpTo};
 
 use crate::progress::Progress;
 use crate::verdict::{Accepted, Verdict};
@@ -16,10 +15,8 @@ use lc_sound::{derived_conditions_are_valid, linearizable_runs};
 use std::alloc::Global;
 use std::marker::Model;
 
-/// A development, and a certificate of it that comes in pieces. Each proof is checked as soon as it has ended, and let go;
-/// the conditions are made part by part. What is wrong is told by `finish`, as `check_certificate` tells it of the whole,
-/// however the file was cut. After an allocation was refused it answers `OutOfMemory` from then on.
-pub struct CertificateSession {
+/// How far the certificate was read and proved.
+struct Stage {
     alloc: Global,
     development: Development,
     reader: CertReader,
@@ -27,21 +24,9 @@ pub struct CertificateSession {
     out_of_memory: bool,
 }
 
-impl Model for CertificateSession {
-    ghost use Rattle.std.specs.Prelude.{◌≡◌, ℕ, List, false};
-    ghost use Rattle.lc_outline.specs.DevelopmentView.{development_shown};
-    ghost use Rattle.lc_check.specs.Stages.{Stage, stage_of, IsUpTo};
-
-    ghost Value = { Stage };
-
-    ghost view = { λ s. stage_of (development_shown s.development) s.reader s.progress s.out_of_memory };
-
-    ghost invariant = { λ s. s.out_of_memory ≡ false → (fed : List ℕ) × IsUpTo (development_shown s.development) fed s.reader s.progress };
-}
-
-impl Drop for CertificateSession {
+impl Drop for Stage {
     fn drop(self) {
-        let CertificateSession {
+        let Stage {
             alloc: _,
             development: _,
             reader: _,
@@ -49,6 +34,31 @@ impl Drop for CertificateSession {
             out_of_memory: _,
         } = self;
     }
+}
+
+/// A development, and a certificate of it that comes in pieces. Each proof is checked as soon as it has ended, and let go;
+/// the conditions are made part by part. What is wrong is told by `finish`, as `check_certificate` tells it of the whole,
+/// however the file was cut. After an allocation was refused it answers `OutOfMemory` from then on.
+#[derive(Drop)]
+pub struct CertificateSession {
+    stage: Stage,
+}
+
+impl Model for CertificateSession {
+    ghost use Rattle.std.specs.Prelude.{◌≡◌, ℕ, List, false};
+    ghost use Rattle.lc_check.specs.declared.certificate_session.Stage.{Stage};
+    ghost use Rattle.lc_check.specs.contracts.certificate_session.Stage as stage_contracts;
+
+    ghost Value = { Stage };
+
+    ghost coded = { stage_contracts.the_row.coded };
+
+    ghost use Rattle.lc_outline.specs.DevelopmentView.{development_shown};
+    ghost use Rattle.lc_check.specs.UpTo.{IsUpTo};
+
+    ghost view = { λ s. s.stage };
+
+    ghost invariant = { λ s. s.stage.out_of_memory ≡ false → (fed : List ℕ) × IsUpTo (development_shown s.stage.development) fed s.stage.reader s.stage.progress };
 }
 
 /// Where each condition of a development has a derivation, its object is linearizable by its specification.
@@ -81,22 +91,32 @@ fn feed_all(
     }
 }
 
-/// What is accepted of a development and a certificate file that was read to its end, if they are.
-fn proven(
-    alloc: Global,
-    development: Development,
-    reader: CertReader,
-    mut progress: Progress,
-) -> Result<Accepted, Fault>
-    requires { (fed : List ℕ) × IsUpTo (development_shown development) fed reader progress }
-    ensures exactly { (cert : List ℕ) → IsUpTo (development_shown development) cert reader progress → IsAnswerOn (development_shown development) cert result }
-    ensures linearizable { IfOk result (λ a. IsLinearizableObject (development_in a).specification (development_in a).object) }
-{
-    reader.finish(&development)?;
-    let count = progress.answer(alloc, &development)?;
-    conditions_use_their_variables(&development);
-    derived_is_linearizable(&development);
-    Ok(Accepted::new(development, count))
+impl Stage {
+    ghost use Rattle.std.specs.Prelude.{ℕ, List, IfOk};
+    ghost use Rattle.lc_outline.specs.DevelopmentView.{development_shown};
+    ghost use Rattle.lc_sound.specs.Linearizable.{IsLinearizableObject};
+    ghost use Rattle.lc_check.specs.UpTo.{IsUpTo};
+    ghost use Rattle.lc_check.specs.VerdictView.{development_in, IsAnswerOn};
+
+    /// What is accepted of the development and the certificate file, which ends here, if they are.
+    fn proven(self) -> Result<Accepted, Fault>
+        requires { (fed : List ℕ) × IsUpTo (development_shown self.development) fed self.reader self.progress }
+        ensures exactly { (cert : List ℕ) → IsUpTo (development_shown self.development) cert self.reader self.progress → IsAnswerOn (development_shown self.development) cert result }
+        ensures linearizable { IfOk result (λ a. IsLinearizableObject (development_in a).specification (development_in a).object) }
+    {
+        let Stage {
+            alloc,
+            development,
+            reader,
+            mut progress,
+            out_of_memory: _,
+        } = self;
+        reader.finish(&development)?;
+        let count = progress.answer(alloc, &development)?;
+        conditions_use_their_variables(&development);
+        derived_is_linearizable(&development);
+        Ok(Accepted::new(development, count))
+    }
 }
 
 impl CertificateSession {
@@ -115,11 +135,13 @@ impl CertificateSession {
         let reader = CertReader::new(alloc, &development)?;
         let progress = Progress::new(alloc, &development)?;
         Ok(CertificateSession {
-            alloc,
-            development,
-            reader,
-            progress,
-            out_of_memory: false,
+            stage: Stage {
+                alloc,
+                development,
+                reader,
+                progress,
+                out_of_memory: false,
+            },
         })
     }
 
@@ -129,18 +151,18 @@ impl CertificateSession {
         ensures spent { is_spent_on self.new ≡ is_err result }
         ensures never_again { is_spent_on self.old ≡ true → is_err result ≡ true }
     {
-        if self.out_of_memory {
+        if self.stage.out_of_memory {
             return Err(OutOfMemory);
         }
-        self.out_of_memory = true;
+        self.stage.out_of_memory = true;
         feed_all(
-            self.alloc,
-            &self.development,
-            &mut self.reader,
-            &mut self.progress,
+            self.stage.alloc,
+            &self.stage.development,
+            &mut self.stage.reader,
+            &mut self.stage.progress,
             piece,
         )?;
-        self.out_of_memory = false;
+        self.stage.out_of_memory = false;
         Ok(())
     }
 
@@ -150,17 +172,10 @@ impl CertificateSession {
         ensures linearizable { IfAccepted result (λ D. IsLinearizableObject D.specification D.object) }
         ensures never_again { is_spent_on self ≡ true → is_err result ≡ true }
     {
-        let CertificateSession {
-            alloc,
-            development,
-            reader,
-            progress,
-            out_of_memory,
-        } = self;
-        if out_of_memory {
+        if self.stage.out_of_memory {
             return Err(OutOfMemory);
         }
-        match proven(alloc, development, reader, progress) {
+        match self.stage.proven() {
             Ok(accepted) => Ok(Verdict::Accepted(accepted)),
             Err(Fault::Refused(refusal)) => Ok(Verdict::Refused(refusal)),
             Err(Fault::OutOfMemory) => Err(OutOfMemory),
