@@ -12,7 +12,7 @@ use Rattle.lc_cert.specs.Files.{Certifies}
 use Rattle.lc_cond.specs.Conditions.{conditions}
 use Rattle.lc_cond.specs.Uses.{AllUseTheirVariables}
 use Rattle.lc_sound.specs.Derived.{AreDerived}
-use Rattle.lc_check.proofs.EachProved.{all_derived}
+use Rattle.lc_check.proofs.Derived.{all_derived}
 use Rattle.lc_check.specs.Answers.{CountsAll}
 use Rattle.lc_check.specs.VerdictView.{development_in, IsVerdictOn, IsVerdict, IsAnswerOn}
 use Rattle.lc_check.specs.Verdicts.{IsAccepted}
