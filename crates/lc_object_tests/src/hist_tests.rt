@@ -1,3 +1,4 @@
+//! The reasons for which an order is refused are cases of the program `lc_cases`.
 use lc_base::{OpId, OutOfMemory};
 use lc_hist::{CLIENT_LIMIT, Done, Event, History, HistoryFault, JudgeFault, Reason, judge};
 use lc_seq::{SeqFault, SeqObject};
@@ -119,8 +120,7 @@ fn called(alloc: Global, client: u32, op: u32) -> Event {
 }
 
 fn replied(alloc: Global, client: u32, number: i64) -> Result<Event, OutOfMemory> {
-    let mut numbers = Vec::new(alloc);
-    numbers.push(number)?;
+    let numbers = Vec::from_array(alloc, [number])?;
     Ok(Event::Respond { client, numbers })
 }
 
@@ -140,152 +140,79 @@ fn got(client: u32, reply: i64) -> Done<CounterCall, i64> {
     }
 }
 
-// What the judge answers for a counter that starts at 0.
-fn answer(
-    alloc: Global,
-    events: Vec<Event>,
-    order: &[Done<CounterCall, i64>],
-) -> Result<Result<(), JudgeFault>, HistoryFault> {
-    let history = History::new(alloc, events)?;
-    Ok(judge(alloc, &Counter { start: 0 }, &history, order))
+/// The history in which client 0 increments and does not return.
+fn pending(alloc: Global) -> Result<History, Fail> {
+    Ok(History::new(alloc, Vec::from_array(alloc, [called(alloc, 0, 0)])?)?)
 }
 
-fn refused(place: u64, reason: Reason) -> Result<(), JudgeFault> {
-    Err(JudgeFault::Order { place, reason })
+/// Whether a counter at the greatest number overflows, whatever the reply is said to be.
+fn overflows(alloc: Global, history: &History) -> bool {
+    let full = Counter { start: i64::MAX };
+    let same = judge(alloc, &full, history, &[incremented(0, i64::MAX)]);
+    let other = judge(alloc, &full, history, &[incremented(0, 5)]);
+    (same == Err(JudgeFault::Overflow)) & (other == Err(JudgeFault::Overflow))
 }
 
-#[test]
-fn two_increments_in_turn(rt: HostRuntime) -> Result<(), Fail> {
-    let alloc = rt.alloc();
-    let events = vec![in alloc;
-        called(alloc, 0, 0),
-        replied(alloc, 0, 0)?,
-        called(alloc, 1, 0),
-        replied(alloc, 1, 1)?,
-    ]?;
-    let order = [incremented(0, 0), incremented(1, 1)];
-    assert_eq!(rt; answer(alloc, events, &order)?, Ok(()));
-    Ok(())
-}
-
-// Client 0 gets the number and then client 1 does.
-fn two_reads(alloc: Global) -> Result<Vec<Event>, OutOfMemory> {
-    Ok(vec![in alloc;
-        called(alloc, 0, 1),
-        replied(alloc, 0, 0)?,
-        called(alloc, 1, 1),
-        replied(alloc, 1, 0)?,
-    ]?)
-}
-
-#[test]
-fn each_reason_is_told(rt: HostRuntime) -> Result<(), Fail> {
-    let alloc = rt.alloc();
-    let swapped = answer(alloc, two_reads(alloc)?, &[got(1, 0), got(0, 0)])?;
-    assert_eq!(rt; swapped, refused(0, Reason::Preceded));
-    let missing = answer(alloc, two_reads(alloc)?, &[got(0, 0)])?;
-    assert_eq!(rt; missing, refused(1, Reason::MissingCall));
-    let other_reply = answer(alloc, two_reads(alloc)?, &[got(0, 1), got(1, 0)])?;
-    assert_eq!(rt; other_reply, refused(0, Reason::OtherReply));
-    let too_many = answer(alloc, two_reads(alloc)?, &[got(0, 0), got(1, 0), got(1, 0)])?;
-    assert_eq!(rt; too_many, refused(2, Reason::OtherCall));
-    let other_call = answer(alloc, two_reads(alloc)?, &[incremented(0, 0), got(1, 0)])?;
-    assert_eq!(rt; other_call, refused(0, Reason::OtherCall));
-    let unknown = answer(alloc, two_reads(alloc)?, &[got(7, 0)])?;
-    assert_eq!(rt; unknown, refused(0, Reason::OtherCall));
-    Ok(())
-}
-
-// Client 0 increments and does not return; client 1 gets 1.
-fn helped(alloc: Global) -> Result<Vec<Event>, OutOfMemory> {
-    Ok(vec![in alloc;
-        called(alloc, 0, 0),
-        called(alloc, 1, 1),
-        replied(alloc, 1, 1)?,
-    ]?)
-}
-
-#[test]
-fn a_pending_call_may_have_an_entry(rt: HostRuntime) -> Result<(), Fail> {
-    let alloc = rt.alloc();
-    let with = answer(alloc, helped(alloc)?, &[incremented(0, 0), got(1, 1)])?;
-    assert_eq!(rt; with, Ok(()));
-    let without = answer(alloc, helped(alloc)?, &[got(1, 1)])?;
-    assert_eq!(rt; without, refused(0, Reason::NoStep));
-    let nothing = answer(alloc, Vec::new(alloc), &[])?;
-    assert_eq!(rt; nothing, Ok(()));
-    let pending = answer(alloc, vec![in alloc; called(alloc, 0, 0)]?, &[])?;
-    assert_eq!(rt; pending, Ok(()));
-    Ok(())
+/// Whether an entry of another call is refused.
+fn is_refused(alloc: Global, history: &History) -> bool {
+    let fault = JudgeFault::Order {
+        place: 0,
+        reason: Reason::OtherCall,
+    };
+    judge(alloc, &Counter { start: 0 }, history, &[got(0, 0)]) == Err(fault)
 }
 
 #[test]
 fn an_overflow_is_told_before_the_reply_is_compared(rt: HostRuntime) -> Result<(), Fail> {
-    let alloc = rt.alloc();
-    let history = History::new(alloc, vec![in alloc; called(alloc, 0, 0)]?)?;
-    let full = Counter { start: i64::MAX };
-    assert_eq!(rt;
-        judge(alloc, &full, &history, &[incremented(0, i64::MAX)]),
-        Err(JudgeFault::Overflow)
-    );
-    assert_eq!(rt;
-        judge(alloc, &full, &history, &[incremented(0, 5)]),
-        Err(JudgeFault::Overflow)
-    );
+    let history = pending(rt.alloc())?;
+    assert!(rt; overflows(rt.alloc(), &history) & is_refused(rt.alloc(), &history));
     Ok(())
+}
+
+/// Whether the event at this place is the first out of turn.
+fn is_out_of_turn(alloc: Global, events: [Event; 2], place: u64) -> Result<bool, OutOfMemory> {
+    let events = Vec::from_array(alloc, events)?;
+    Ok(History::new(alloc, events).err() == Some(HistoryFault::OutOfTurn(place)))
 }
 
 #[test]
 fn events_out_of_turn_are_no_history(rt: HostRuntime) -> Result<(), Fail> {
     let alloc = rt.alloc();
-    let twice = vec![in alloc;
-        called(alloc, 0, 0),
-        called(alloc, 1, 0),
-        called(alloc, 0, 0),
-    ]?;
-    assert_eq!(rt;
-        History::new(alloc, twice).err(),
-        Some(HistoryFault::OutOfTurn(2))
-    );
-    let return_first = vec![in alloc; replied(alloc, 0, 0)?]?;
-    assert_eq!(rt;
-        History::new(alloc, return_first).err(),
-        Some(HistoryFault::OutOfTurn(0))
-    );
-    let far = vec![in alloc;
+    let twice = [called(alloc, 0, 0), called(alloc, 0, 0)];
+    let far = [
         called(alloc, CLIENT_LIMIT, 0),
         called(alloc, CLIENT_LIMIT + 1, 0),
-    ]?;
-    assert_eq!(rt;
-        History::new(alloc, far).err(),
-        Some(HistoryFault::OutOfTurn(1))
-    );
+    ];
+    assert!(rt; is_out_of_turn(alloc, twice, 1)? & is_out_of_turn(alloc, far, 1)?);
     Ok(())
 }
 
-// Clients in turn increment: each calls before the one before it returns.
-#[test]
-fn a_long_history_is_judged(rt: HostRuntime) -> Result<(), Fail> {
-    let alloc = rt.alloc();
+/// Clients in turn increment: each calls before the one before it returns.
+fn long_history(alloc: Global) -> Result<Vec<Event>, OutOfMemory> {
     let mut events = Vec::new(alloc);
-    let mut order = Vec::new(alloc);
     for call in 0..100_000_u32 {
         events.push(called(alloc, call % 64, 0))?;
         if call >= 32 {
             let earlier = call - 32;
             events.push(replied(alloc, earlier % 64, i64::from(earlier))?)?;
         }
+    }
+    Ok(events)
+}
+
+/// The calls of the long history in the order in which they are made.
+fn long_order(alloc: Global) -> Result<Vec<Done<CounterCall, i64>>, OutOfMemory> {
+    let mut order = Vec::new(alloc);
+    for call in 0..100_000_u32 {
         order.push(incremented(call % 64, i64::from(call)))?;
     }
-    assert_eq!(rt; answer(alloc, events, &order)?, Ok(()));
-    Ok(())
+    Ok(order)
 }
 
 #[test]
-fn reasons_have_their_numbers(rt: HostRuntime) {
-    assert_eq!(rt; Reason::OtherCall.code(), 1);
-    assert_eq!(rt; Reason::OtherReply.code(), 2);
-    assert_eq!(rt; Reason::MissingCall.code(), 3);
-    assert_eq!(rt; Reason::NoStep.code(), 4);
-    assert_eq!(rt; Reason::Preceded.code(), 5);
+fn a_long_history_is_judged(rt: HostRuntime) -> Result<(), Fail> {
+    let history = History::new(rt.alloc(), long_history(rt.alloc())?)?;
+    let order = long_order(rt.alloc())?;
+    assert!(rt; judge(rt.alloc(), &Counter { start: 0 }, &history, &order) == Ok(()));
+    Ok(())
 }

@@ -1,91 +1,46 @@
 //! What texts say and which are refused are cases of the program `lc_cases`.
-use lc_base::{Fault, Name, OpId, Refusal};
+use lc_base::{Fault, OpId, Refusal};
 use lc_hist::{Event, History, history_from_json, history_to_json};
-use lc_seq::{Operation, TextSpec};
+use lc_seq::TextSpec;
+use lc_spec_text::spec_of;
 use std::alloc::Global;
 use std::test::Fail;
 
-fn name(text: &str) -> Result<Name, Fail> {
-    Ok(Name::new(text).ok_or("no name")?)
+const CELL: &str = "(spec cell (abstract) (op inc () 1 (branch (and) () (0))))";
+
+/// Whether this item of a text is its first wrong one.
+fn is_wrong_at(alloc: Global, spec: &TextSpec, text: &[u8], item: u64) -> bool {
+    matches!(history_from_json(alloc, spec, text), Err(Fault::Refused(Refusal::HistoryShape(at))) if at == item)
 }
 
-fn operation(
-    alloc: Global,
-    text: &str,
-    arguments: Vec<Name>,
-    replies: u32,
-) -> Result<Operation, Fail> {
-    Ok(Operation {
-        name: name(text)?,
-        arguments,
-        replies,
-        branches: Vec::new(alloc),
-    })
-}
-
-/// `inc` and `get` take nothing and reply once; `put` takes a number and replies nothing.
-fn cell(alloc: Global) -> Result<TextSpec, Fail> {
-    let argument = vec![in alloc; name("x")?]?;
-    let operations = vec![in alloc;
-        operation(alloc, "inc", Vec::new(alloc), 1)?,
-        operation(alloc, "get", Vec::new(alloc), 1)?,
-        operation(alloc, "put", argument, 0)?,
-    ]?;
-    let spec = TextSpec::new(name("cell")?, Vec::new(alloc), operations);
-    Ok(spec.ok_or("not resolved")?)
-}
-
-/// The first wrong item of a text; none where it is read.
-fn wrong_item(alloc: Global, text: &[u8]) -> Result<Option<u64>, Fail> {
-    match history_from_json(alloc, &cell(alloc)?, text) {
-        Ok(_) => Ok(None),
-        Err(Fault::Refused(Refusal::HistoryShape(item))) => Ok(Some(item)),
-        Err(fault) => Err(fault.into()),
-    }
-}
-
-#[test]
-fn an_operation_that_is_not_there_is_not_read(rt: HostRuntime) -> Result<(), Fail> {
-    let alloc = rt.alloc();
+/// What is written of a call of an operation that is not there.
+fn unknown_call(alloc: Global, spec: &TextSpec) -> Result<Vec<u8>, Fail> {
     let unknown = Event::Invoke {
         client: 0,
         op: OpId(9),
         numbers: Vec::new(alloc),
     };
-    let history = History::new(alloc, vec![in alloc; unknown]?)?;
-    let text = history_to_json(alloc, &cell(alloc)?, &history, &[])?;
-    let want = "{\"events\":[[0,\"call\",null,[]]],\"order\":[]}";
-    assert!(rt; text.as_slice() == want.as_bytes());
-    assert_eq!(rt; wrong_item(alloc, &text)?, Some(1));
-    Ok(())
-}
-
-/// So many lists, one in the other, as the events.
-fn nested(alloc: Global, depth: usize) -> Result<Vec<u8>, Fail> {
-    let mut text = Vec::from_slice(alloc, b"{\"events\":")?;
-    for _ in 0..depth {
-        text.push(b'[')?;
-    }
-    for _ in 0..depth {
-        text.push(b']')?;
-    }
-    text.extend_from_slice(b",\"order\":[]}")?;
-    Ok(text)
+    let history = History::new(alloc, Vec::from_array(alloc, [unknown])?)?;
+    Ok(history_to_json(alloc, spec, &history, &[])?)
 }
 
 #[test]
-fn at_most_127_values_nest(rt: HostRuntime) -> Result<(), Fail> {
-    assert_eq!(rt; wrong_item(rt.alloc(), &nested(rt.alloc(), 126)?)?, Some(1));
-    assert_eq!(rt; wrong_item(rt.alloc(), &nested(rt.alloc(), 127)?)?, Some(0));
+fn an_operation_that_is_not_there_is_not_read(rt: HostRuntime) -> Result<(), Fail> {
+    let spec = spec_of(rt.alloc(), CELL.as_bytes())?;
+    let text = unknown_call(rt.alloc(), &spec)?;
+    let want = "{\"events\":[[0,\"call\",null,[]]],\"order\":[]}";
+    let is_written = text.as_slice() == want.as_bytes();
+    assert!(rt; is_written & is_wrong_at(rt.alloc(), &spec, &text, 1));
     Ok(())
 }
 
 #[test]
 fn a_file_has_at_most_16777216_bytes(rt: HostRuntime) -> Result<(), Fail> {
+    let spec = spec_of(rt.alloc(), CELL.as_bytes())?;
     let mut text = Vec::from_slice(rt.alloc(), b"{\"events\":[],\"order\":[]}")?;
     text.resize(16_777_216, b' ')?;
-    assert_eq!(rt; wrong_item(rt.alloc(), &text)?, None);
+    let is_read = history_from_json(rt.alloc(), &spec, &text).is_ok();
     text.push(b' ')?;
-    assert_eq!(rt; wrong_item(rt.alloc(), &text)?, Some(0));
+    assert!(rt; is_read & is_wrong_at(rt.alloc(), &spec, &text, 0));
     Ok(())
 }

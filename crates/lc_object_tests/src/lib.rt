@@ -11,5 +11,3 @@ mod machine_tests;
 mod object_tests;
 #[cfg(test)]
 mod seq_tests;
-#[cfg(test)]
-mod spec_tests;

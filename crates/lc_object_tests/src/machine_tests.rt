@@ -101,15 +101,11 @@ fn one_of_two_swaps(bare: &mut Bare<'_>) -> bool {
     first_loads & second_loads & second_swaps & first_begins_again
 }
 
-#[test]
-fn two_clients_count(rt: HostRuntime) -> Result<(), Fail> {
-    let counter = object(rt.alloc(), COUNTER)?;
-    let mut bare = Bare::new(rt.alloc(), &counter, 2)?;
-    let swapped = one_of_two_swaps(&mut bare) & returns(&mut bare, 1, 0);
+fn two_clients_count(bare: &mut Bare<'_>) -> bool {
+    let swapped = one_of_two_swaps(bare) & returns(bare, 1, 0);
     let is_idle = matches!(bare.advance(1), Err(StepFault::Idle));
     let is_missing = bare.invoke(2, OpId(0), &[]) == Err(StepFault::NoClient);
-    assert!(rt; swapped & is_idle & is_missing & has(&bare, 1, 0, 1));
-    Ok(())
+    swapped & is_idle & is_missing & has(bare, 1, 0, 1)
 }
 
 /// A call that is wrong in several ways has the first fault, and a client in a call is busy before all else.
@@ -121,48 +117,67 @@ fn calls_are_refused_in_order(bare: &mut Bare<'_>) -> bool {
     no_client & no_operation & wrong_numbers & is_busy
 }
 
-#[test]
-fn faults_come_in_their_order(rt: HostRuntime) -> Result<(), Fail> {
-    let counter = object(rt.alloc(), FULL_COUNTER)?;
-    let mut bare = Bare::new(rt.alloc(), &counter, 1)?;
-    let refused = calls_are_refused_in_order(&mut bare) & goes(&mut bare, 0, 1, EdgeKind::Next);
+fn faults_come_in_their_order(bare: &mut Bare<'_>) -> bool {
+    let refused = calls_are_refused_in_order(bare) & goes(bare, 0, 1, EdgeKind::Next);
     // The new row is one more than the greatest number, again and again.
-    let too_large = overflows(&mut bare, 0) & overflows(&mut bare, 0);
-    assert!(rt; refused & too_large & has(&bare, 0, 0, i64::MAX));
-    Ok(())
+    let too_large = overflows(bare, 0) & overflows(bare, 0);
+    refused & too_large & has(bare, 0, 0, i64::MAX)
 }
 
-#[test]
-fn a_compare_and_swap_compares_the_whole_row(rt: HostRuntime) -> Result<(), Fail> {
-    let pair = object(rt.alloc(), SWAP)?;
-    let mut bare = Bare::new(rt.alloc(), &pair, 1)?;
-    let differs = calls(&mut bare, 0) & goes(&mut bare, 0, 1, EdgeKind::Else);
-    let stays = has(&bare, 0, 0, 0) & has(&bare, 1, 0, 5);
-    let is_too_far = cell(&bare, 1, 2) == Some(Err(EvalFault::Overflow));
-    assert!(rt; differs & stays & is_too_far);
-    Ok(())
+fn a_compare_and_swap_compares_the_whole_row(bare: &mut Bare<'_>) -> bool {
+    let differs = calls(bare, 0) & goes(bare, 0, 1, EdgeKind::Else);
+    let stays = has(bare, 0, 0, 0) & has(bare, 1, 0, 5);
+    let is_too_far = cell(bare, 1, 2) == Some(Err(EvalFault::Overflow));
+    differs & stays & is_too_far
 }
 
-#[test]
-fn a_comparison_stops_at_the_first_difference(rt: HostRuntime) -> Result<(), Fail> {
-    let pair = object(rt.alloc(), FAR_SWAP)?;
-    let mut bare = Bare::new(rt.alloc(), &pair, 1)?;
+fn a_comparison_stops_at_the_first_difference(bare: &mut Bare<'_>) -> bool {
     // The cell beyond the difference leaves 64 bits, and is not reached; a load reaches it.
-    let differs = calls(&mut bare, 0) & goes(&mut bare, 0, 1, EdgeKind::Else);
-    assert!(rt; differs & overflows(&mut bare, 0));
-    Ok(())
+    calls(bare, 0) & goes(bare, 0, 1, EdgeKind::Else) & overflows(bare, 0)
+}
+
+fn locals_are_set_at_once(bare: &mut Bare<'_>) -> bool {
+    let set = calls(bare, 1) & goes(bare, 1, 1, EdgeKind::Next);
+    let turned = goes(bare, 1, 2, EdgeKind::Next) & goes(bare, 1, 3, EdgeKind::Next);
+    let tested = goes(bare, 1, 4, EdgeKind::Else);
+    let returned = matches!(bare.advance(1), Ok(Moved::Returned(_)));
+    let stored = has(bare, 0, 1, 4) & has(bare, 1, 1, 3) & has(bare, 0, 0, 0);
+    set & turned & tested & returned & stored
+}
+
+#[derive(Clone, Copy)]
+enum Scene {
+    Counting,
+    FullCounter,
+    Swap,
+    FarSwap,
+    Exchange,
+}
+
+/// Whether a scene is as it should be, with so many clients on the object of a text.
+fn is_played(alloc: Global, scene: Scene, text: &str, clients: u32) -> Result<bool, Fail> {
+    let object = object(alloc, text)?;
+    let mut bare = Bare::new(alloc, &object, clients)?;
+    Ok(match scene {
+        Scene::Counting => two_clients_count(&mut bare),
+        Scene::FullCounter => faults_come_in_their_order(&mut bare),
+        Scene::Swap => a_compare_and_swap_compares_the_whole_row(&mut bare),
+        Scene::FarSwap => a_comparison_stops_at_the_first_difference(&mut bare),
+        Scene::Exchange => locals_are_set_at_once(&mut bare),
+    })
 }
 
 #[test]
-fn locals_are_set_at_once(rt: HostRuntime) -> Result<(), Fail> {
-    let pair = object(rt.alloc(), EXCHANGE)?;
-    let mut bare = Bare::new(rt.alloc(), &pair, 2)?;
-    let set = calls(&mut bare, 1) & goes(&mut bare, 1, 1, EdgeKind::Next);
-    let turned = goes(&mut bare, 1, 2, EdgeKind::Next) & goes(&mut bare, 1, 3, EdgeKind::Next);
-    let tested = goes(&mut bare, 1, 4, EdgeKind::Else);
-    let returned = matches!(bare.advance(1), Ok(Moved::Returned(_)));
-    let stored = has(&bare, 0, 1, 4) & has(&bare, 1, 1, 3) & has(&bare, 0, 0, 0);
-    assert!(rt; set & turned & tested & returned & stored);
+fn clients_take_their_steps(rt: HostRuntime) -> Result<(), Fail> {
+    for (scene, text, clients) in [
+        (Scene::Counting, COUNTER, 2),
+        (Scene::FullCounter, FULL_COUNTER, 1),
+        (Scene::Swap, SWAP, 1),
+        (Scene::FarSwap, FAR_SWAP, 1),
+        (Scene::Exchange, EXCHANGE, 2),
+    ] {
+        assert!(rt; is_played(rt.alloc(), scene, text, clients)?, "{text}");
+    }
     Ok(())
 }
 

@@ -2,120 +2,149 @@ use lc_base::{ColId, Name, OpId, OutOfMemory, PointId};
 use lc_object::{
     Array, ArrayId, Column, EdgeKind, Instr, LocalId, Object, Operation, Parts, Point, edges,
 };
-use lc_term::{ColExpr, Formula, Term};
+use lc_term::{ColExpr, Term};
 use std::alloc::Global;
 use std::test::Fail;
 
-fn name(text: &str) -> Result<Name, OutOfMemory> {
-    Name::new(text).ok_or(OutOfMemory)
+/// The entry, and behind it the return of 7.
+fn points(alloc: Global, name: Name, entry: Instr) -> Result<Vec<Point>, OutOfMemory> {
+    let first = Point {
+        name,
+        operation: OpId(0),
+        instruction: entry,
+    };
+    let last = Point {
+        name,
+        operation: OpId(0),
+        instruction: returns(alloc, Term::Number(7))?,
+    };
+    Ok(Vec::from_array(alloc, [first, last])?)
 }
 
-// One operation with one local, which is variable 2, on an array of one column. The last instruction is the entry.
-fn parts(alloc: Global, instructions: Vec<Instr>) -> Result<Parts, OutOfMemory> {
-    let mut points = Vec::new(alloc);
-    for instruction in instructions {
-        let point = Point {
-            name: name("p")?,
-            operation: OpId(0),
-            instruction,
-        };
-        points.insert(0, point)?;
-    }
-    Ok(Parts {
-        name: name("counter")?,
-        abstracts: vec![in alloc; name("v")?]?,
-        concretes: vec![in alloc;
-            Column {
-                name: name("c")?,
-                slope: 0,
-                start: 0,
-            },
-        ]?,
+/// One array of the column 0.
+fn arrays(alloc: Global, name: Name) -> Result<Vec<Array>, OutOfMemory> {
+    let columns = Vec::from_array(alloc, [ColId(0)])?;
+    Ok(Vec::from_array(alloc, [Array { name, columns }])?)
+}
+
+/// One operation that replies once, with one local, which is variable 2.
+fn operations(alloc: Global, name: Name) -> Result<Vec<Operation>, OutOfMemory> {
+    let operation = Operation {
+        name,
+        arguments: Vec::new(alloc),
+        replies: 1,
+        locals: Vec::from_array(alloc, [name])?,
+        entry: PointId(0),
+    };
+    Ok(Vec::from_array(alloc, [operation])?)
+}
+
+/// An object whose entry has this instruction.
+fn object(alloc: Global, entry: Instr) -> Result<Option<Object>, OutOfMemory> {
+    let name = Name::new("p").ok_or(OutOfMemory)?;
+    let points = points(alloc, name, entry)?;
+    let column = Column {
+        name,
+        slope: 0,
+        start: 0,
+    };
+    let concretes = Vec::from_array(alloc, [column])?;
+    let arrays = arrays(alloc, name)?;
+    Ok(Object::new(Parts {
+        name,
+        abstracts: Vec::new(alloc),
+        concretes,
         auxiliaries: Vec::new(alloc),
-        arrays: vec![in alloc;
-            Array {
-                name: name("cell")?,
-                columns: vec![in alloc; ColId(1)]?,
-            },
-        ]?,
-        operations: vec![in alloc;
-            Operation {
-                name: name("inc")?,
-                arguments: Vec::new(alloc),
-                replies: 1,
-                locals: vec![in alloc; name("x")?]?,
-                entry: PointId(0),
-            },
-        ]?,
+        arrays,
+        operations: operations(alloc, name)?,
         points,
-    })
+    }))
+}
+
+/// Whether the return of a value is an instruction of an object.
+fn is_returned(alloc: Global, value: Term) -> Result<bool, OutOfMemory> {
+    Ok(object(alloc, returns(alloc, value)?)?.is_some())
 }
 
 fn returns(alloc: Global, value: Term) -> Result<Instr, OutOfMemory> {
     Ok(Instr::Return {
-        values: vec![in alloc; value]?,
+        values: Vec::from_array(alloc, [value])?,
     })
 }
 
 fn swap(alloc: Global, label: u32) -> Result<Instr, OutOfMemory> {
+    let old = Vec::from_array(alloc, [Term::Variable(2)])?;
     Ok(Instr::Cas {
         array: ArrayId(0),
         index: Term::Number(0),
-        old: vec![in alloc; Term::Variable(2)]?,
-        new: vec![in alloc; Term::Number(7)]?,
+        old,
+        new: Vec::from_array(alloc, [Term::Number(7)])?,
         equal: PointId(1),
         different: PointId(label),
     })
 }
 
-fn is_object(alloc: Global, instructions: Vec<Instr>) -> Result<bool, OutOfMemory> {
-    Ok(Object::new(parts(alloc, instructions)?).is_some())
+/// The label of a point, and that of none.
+fn labels_are_looked_up(alloc: Global) -> Result<bool, OutOfMemory> {
+    let there = object(alloc, swap(alloc, 0)?)?.is_some();
+    Ok(there & object(alloc, swap(alloc, 2)?)?.is_none())
 }
 
-#[test]
-fn instructions_name_what_is_there(rt: HostRuntime) -> Result<(), Fail> {
-    let alloc = rt.alloc();
-    let end = returns(alloc, Term::Variable(2))?;
-    assert!(rt; is_object(alloc, vec![in alloc; end, swap(alloc, 0)?]?)?);
-    // A label of no point, a variable that is not there, the number of clients, and a column.
-    let end = returns(alloc, Term::Variable(2))?;
-    assert!(rt; !is_object(alloc, vec![in alloc; end, swap(alloc, 2)?]?)?);
-    let end = returns(alloc, Term::Variable(3))?;
-    assert!(rt; !is_object(alloc, vec![in alloc; end]?)?);
-    let end = returns(alloc, Term::Variable(0))?;
-    assert!(rt; !is_object(alloc, vec![in alloc; end]?)?);
-    let read = Term::Read(ColExpr::Base(ColId(1)), Box::new(alloc, Term::Number(0))?);
-    assert!(rt; !is_object(alloc, vec![in alloc; returns(alloc, read)?]?)?);
-    // Too few replies, a target twice, and a row that is too wide.
-    let end = Instr::Return {
-        values: Vec::new(alloc),
-    };
-    assert!(rt; !is_object(alloc, vec![in alloc; end]?)?);
-    let twice = Instr::Set {
-        targets: vec![in alloc; LocalId(2), LocalId(2)]?,
-        values: vec![in alloc; Term::Number(1), Term::Number(2)]?,
-        next: PointId(0),
-    };
-    assert!(rt; !is_object(alloc, vec![in alloc; twice]?)?);
+/// A local, a variable that is not there, the number of clients, and a column.
+fn terms_are_those_of_code(alloc: Global) -> Result<bool, OutOfMemory> {
+    let local = is_returned(alloc, Term::Variable(2))?;
+    let none = is_returned(alloc, Term::Variable(3))?;
+    let clients = is_returned(alloc, Term::Variable(0))?;
+    let index = Box::new(alloc, Term::Number(0))?;
+    let column = is_returned(alloc, Term::Read(ColExpr::Base(ColId(0)), index))?;
+    Ok(local & !none & !clients & !column)
+}
+
+/// Too few replies, and a row that is too wide.
+fn rows_have_their_width(alloc: Global) -> Result<bool, OutOfMemory> {
+    let values = Vec::new(alloc);
+    let replies = object(alloc, Instr::Return { values })?.is_none();
     let wide = Instr::Load {
         array: ArrayId(0),
         index: Term::Number(0),
         targets: Vec::new(alloc),
         next: PointId(0),
     };
-    assert!(rt; !is_object(alloc, vec![in alloc; wide]?)?);
+    Ok(replies & object(alloc, wide)?.is_none())
+}
+
+/// A target twice.
+fn targets_differ(alloc: Global) -> Result<bool, OutOfMemory> {
+    let targets = Vec::from_array(alloc, [LocalId(2), LocalId(2)])?;
+    let twice = Instr::Set {
+        targets,
+        values: Vec::from_array(alloc, [Term::Number(1), Term::Number(2)])?,
+        next: PointId(0),
+    };
+    Ok(object(alloc, twice)?.is_none())
+}
+
+#[test]
+fn instructions_name_what_is_there(rt: HostRuntime) -> Result<(), Fail> {
+    let alloc = rt.alloc();
+    let names = labels_are_looked_up(alloc)? & terms_are_those_of_code(alloc)?;
+    assert!(rt; names & rows_have_their_width(alloc)? & targets_differ(alloc)?);
     Ok(())
+}
+
+/// Whether a swap has its two edges and then the return its one.
+fn are_in_order(alloc: Global, object: &Object) -> Result<bool, OutOfMemory> {
+    let table = edges(alloc, object)?;
+    let first = table
+        .first()
+        .is_some_and(|edge| edge.kind == EdgeKind::Then);
+    let last = table.last().is_some_and(|edge| edge.next.is_none());
+    Ok(first & last & (table.len() == 3))
 }
 
 #[test]
 fn the_table_has_the_edges_in_order(rt: HostRuntime) -> Result<(), Fail> {
-    let alloc = rt.alloc();
-    let end = returns(alloc, Term::Variable(2))?;
-    let parts = parts(alloc, vec![in alloc; end, swap(alloc, 0)?]?)?;
-    let object = Object::new(parts).expect(&rt, "it is an object");
-    let table = edges(alloc, &object)?;
-    assert_eq!(rt; table.len(), 3);
-    assert!(rt; matches!(table.first(), Some(edge) if edge.kind == EdgeKind::Then));
-    assert!(rt; matches!(table.last(), Some(edge) if edge.next.is_none()));
+    let object = object(rt.alloc(), swap(rt.alloc(), 0)?)?.ok_or("it is no object")?;
+    assert!(rt; are_in_order(rt.alloc(), &object)?);
     Ok(())
 }

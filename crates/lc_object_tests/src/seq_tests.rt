@@ -1,86 +1,30 @@
+//! Refusals of specifications, replies and overflows of whole histories are cases of the program `lc_cases`.
 ghost use Rattle.std.specs.Prelude.{length};
 ghost use Rattle.lc_seq.specs.TextView.{IsStateOf};
 
-use lc_base::{ColId, Name, OpId, OutOfMemory};
-use lc_seq::{
-    Branch, Column, Operation, SeqFault, SeqObject, TextCall, TextSpec, TextState, Update,
-};
-use lc_term::{ColExpr, Formula, Term};
+use lc_base::{Name, OpId, OutOfMemory};
+use lc_seq::{Branch, Operation, SeqFault, SeqObject, TextCall, TextSpec, TextState};
+use lc_spec_text::spec_of;
+use lc_term::{Formula, Term};
 use std::alloc::Global;
 use std::test::Fail;
 
-fn name(text: &str) -> Result<Name, Fail> {
-    Ok(Name::new(text).ok_or("no name")?)
-}
+const COUNTER: &str = "(spec counter (abstract (v 0 5))
+  (op add () 1 (branch (and) ((v 0 (+ (rd v 0) 1))) ((rd v 0))))
+  (op get () 1 (branch (and) () ((rd v self)))))
+  (nonsense)";
 
-fn read(alloc: Global, column: u32, index: Term) -> Result<Term, OutOfMemory> {
-    Ok(Term::Read(ColExpr::Base(ColId(column)), Box::new(alloc, index)?))
-}
+/// The same, below the greatest number.
+const NEARLY_FULL: &str = "(spec counter (abstract (v 0 9223372036854775806))
+  (op add () 1 (branch (and) ((v 0 (+ (rd v 0) 1))) ((rd v 0)))))";
 
-fn always(alloc: Global) -> Formula {
-    Formula::And(Vec::new(alloc))
-}
+/// By client 2 it adds 10; else it adds 100 where the argument is 5.
+const GUARDED: &str = "(spec counter (abstract (v 0 0))
+  (op add (x) 1
+    (branch (= self 2) ((v 0 (+ (rd v 0) 10))) ((rd v 0)))
+    (branch (= x 5) ((v 0 (+ (rd v 0) 100))) ((rd v 0)))))";
 
-// A branch that reads the cell 0 of the column 0, and stores it with a number added.
-fn adding(alloc: Global, guard: Formula, number: i64) -> Result<Branch, OutOfMemory> {
-    let sum = Term::Add(
-        Box::new(alloc, read(alloc, 0, Term::Number(0))?)?,
-        Box::new(alloc, Term::Number(number))?,
-    );
-    let update = Update {
-        column: ColId(0),
-        index: Term::Number(0),
-        value: sum,
-    };
-    Ok(Branch {
-        guard,
-        updates: vec![in alloc; update]?,
-        replies: vec![in alloc; read(alloc, 0, Term::Number(0))?]?,
-    })
-}
-
-// A column `v`, and an operation that takes so many numbers and replies once.
-fn specification(
-    alloc: Global,
-    start: i64,
-    arguments: Vec<Name>,
-    branches: Vec<Branch>,
-) -> Result<Option<TextSpec>, Fail> {
-    let column = Column {
-        name: name("v")?,
-        slope: 0,
-        start,
-    };
-    let operation = Operation {
-        name: name("add")?,
-        arguments,
-        replies: 1,
-        branches,
-    };
-    let columns = vec![in alloc; column]?;
-    let operations = vec![in alloc; operation]?;
-    Ok(TextSpec::new(name("counter")?, columns, operations))
-}
-
-fn counter(alloc: Global, start: i64) -> Result<TextSpec, Fail> {
-    let branches = vec![in alloc; adding(alloc, always(alloc), 1)?]?;
-    let spec = specification(alloc, start, Vec::new(alloc), branches)?;
-    Ok(spec.ok_or("not resolved")?)
-}
-
-// By client 2 it adds 10; else it adds 100 where the argument is 5.
-fn guarded(alloc: Global) -> Result<TextSpec, Fail> {
-    let is_client_two = Formula::Eq(Term::Variable(1), Term::Number(2));
-    let is_five = Formula::Eq(Term::Variable(2), Term::Number(5));
-    let branches = vec![in alloc;
-        adding(alloc, is_client_two, 10)?,
-        adding(alloc, is_five, 100)?,
-    ]?;
-    let spec = specification(alloc, 0, vec![in alloc; name("x")?]?, branches)?;
-    Ok(spec.ok_or("not resolved")?)
-}
-
-// The first number that is replied to a call with these numbers.
+/// The first number that is replied to a call with these numbers.
 fn reply(
     alloc: Global,
     spec: &TextSpec,
@@ -101,83 +45,108 @@ fn reply(
     }
 }
 
+/// A call with too many numbers is no step.
+fn counts(alloc: Global, spec: &TextSpec) -> Result<bool, OutOfMemory> {
+    let mut state = spec.initial(alloc)?;
+    let first = reply(alloc, spec, &mut state, 0, &[]) == Ok(Some(5));
+    let second = reply(alloc, spec, &mut state, 3, &[]) == Ok(Some(6));
+    let no_step = reply(alloc, spec, &mut state, 0, &[1]) == Ok(None);
+    Ok(first & second & no_step & (reply(alloc, spec, &mut state, 3, &[]) == Ok(Some(7))))
+}
+
+fn takes_the_first_enabled(alloc: Global, spec: &TextSpec) -> Result<bool, OutOfMemory> {
+    let mut state = spec.initial(alloc)?;
+    let second = reply(alloc, spec, &mut state, 0, &[5]) == Ok(Some(0));
+    let first = reply(alloc, spec, &mut state, 2, &[5]) == Ok(Some(100));
+    let none = reply(alloc, spec, &mut state, 0, &[6]) == Ok(None);
+    Ok(first & second & none & (reply(alloc, spec, &mut state, 2, &[6]) == Ok(Some(110))))
+}
+
+fn overflows_again(alloc: Global, spec: &TextSpec) -> Result<bool, OutOfMemory> {
+    let mut state = spec.initial(alloc)?;
+    let fits = reply(alloc, spec, &mut state, 0, &[]) == Ok(Some(i64::MAX - 1));
+    let once = reply(alloc, spec, &mut state, 0, &[]) == Err(SeqFault::Overflow);
+    Ok(fits & once & (reply(alloc, spec, &mut state, 0, &[]) == Err(SeqFault::Overflow)))
+}
+
 #[test]
 fn a_counter_counts(rt: HostRuntime) -> Result<(), Fail> {
-    let alloc = rt.alloc();
-    let spec = counter(alloc, 5)?;
-    let mut state = spec.initial(alloc)?;
-    assert_eq!(rt; reply(alloc, &spec, &mut state, 0, &[])?, Some(5));
-    assert_eq!(rt; reply(alloc, &spec, &mut state, 3, &[])?, Some(6));
-    assert_eq!(rt; reply(alloc, &spec, &mut state, 0, &[1])?, None);
-    assert_eq!(rt; reply(alloc, &spec, &mut state, 3, &[])?, Some(7));
+    let spec = spec_of(rt.alloc(), COUNTER.as_bytes())?;
+    assert!(rt; counts(rt.alloc(), &spec)?);
     Ok(())
 }
 
 #[test]
 fn the_first_branch_that_is_enabled_is_taken(rt: HostRuntime) -> Result<(), Fail> {
-    let alloc = rt.alloc();
-    let spec = guarded(alloc)?;
-    let mut state = spec.initial(alloc)?;
-    assert_eq!(rt; reply(alloc, &spec, &mut state, 0, &[5])?, Some(0));
-    assert_eq!(rt; reply(alloc, &spec, &mut state, 2, &[5])?, Some(100));
-    assert_eq!(rt; reply(alloc, &spec, &mut state, 0, &[6])?, None);
-    assert_eq!(rt; reply(alloc, &spec, &mut state, 2, &[6])?, Some(110));
+    let spec = spec_of(rt.alloc(), GUARDED.as_bytes())?;
+    assert!(rt; takes_the_first_enabled(rt.alloc(), &spec)?);
     Ok(())
 }
 
 #[test]
 fn an_overflow_leaves_the_state(rt: HostRuntime) -> Result<(), Fail> {
-    let alloc = rt.alloc();
-    let spec = counter(alloc, i64::MAX - 1)?;
-    let mut state = spec.initial(alloc)?;
-    assert_eq!(rt;
-        reply(alloc, &spec, &mut state, 0, &[])?,
-        Some(i64::MAX - 1)
-    );
-    assert_eq!(rt;
-        reply(alloc, &spec, &mut state, 0, &[]),
-        Err(SeqFault::Overflow)
-    );
-    assert_eq!(rt;
-        reply(alloc, &spec, &mut state, 0, &[]),
-        Err(SeqFault::Overflow)
-    );
+    let spec = spec_of(rt.alloc(), NEARLY_FULL.as_bytes())?;
+    assert!(rt; overflows_again(rt.alloc(), &spec)?);
     Ok(())
+}
+
+/// Whether an operation is called with these numbers.
+fn is_called(
+    alloc: Global,
+    spec: &TextSpec,
+    op: u32,
+    numbers: &[i64],
+) -> Result<bool, OutOfMemory> {
+    Ok(spec.call_of(alloc, op, numbers)?.is_some())
+}
+
+fn has_its_parts(spec: &TextSpec) -> bool {
+    let starts = match spec.columns().first() {
+        Some(column) => (column.slope == 0) & (column.start == 5),
+        None => false,
+    };
+    let one_and_two = (spec.columns().len() == 1) & (spec.operations().len() == 2);
+    starts & one_and_two & (spec.name().as_str() == "counter")
 }
 
 #[test]
-fn calls_are_those_of_operations(rt: HostRuntime) -> Result<(), Fail> {
+fn the_parts_and_calls_of_a_specification(rt: HostRuntime) -> Result<(), Fail> {
     let alloc = rt.alloc();
-    let spec = counter(alloc, 0)?;
-    assert!(rt; spec.call_of(alloc, 0, &[])?.is_some());
-    assert!(rt; spec.call_of(alloc, 0, &[1])?.is_none());
-    assert!(rt; spec.call_of(alloc, 1, &[])?.is_none());
+    let spec = spec_of(alloc, COUNTER.as_bytes())?;
+    let last = is_called(alloc, &spec, 1, &[])? & !is_called(alloc, &spec, 2, &[])?;
+    let first = is_called(alloc, &spec, 0, &[])? & !is_called(alloc, &spec, 0, &[1])?;
+    assert!(rt; has_its_parts(&spec) & first & last);
     Ok(())
 }
 
-#[test]
-fn the_parts_of_a_specification(rt: HostRuntime) -> Result<(), Fail> {
-    let alloc = rt.alloc();
-    let spec = counter(alloc, 0)?;
-    assert_eq!(rt; spec.name().as_str(), "counter");
-    assert_eq!(rt; spec.columns().len(), 1);
-    assert_eq!(rt; spec.operations().len(), 1);
-    Ok(())
+/// Whether an operation with this guard, on no columns and without an argument, is a specification.
+fn is_resolved(alloc: Global, guard: Formula) -> Result<bool, OutOfMemory> {
+    let name = Name::new("counter").ok_or(OutOfMemory)?;
+    let branch = Branch {
+        guard,
+        updates: Vec::new(alloc),
+        replies: Vec::new(alloc),
+    };
+    let operation = Operation {
+        name,
+        arguments: Vec::new(alloc),
+        replies: 0,
+        branches: Vec::from_array(alloc, [branch])?,
+    };
+    let operations = Vec::from_array(alloc, [operation])?;
+    Ok(TextSpec::new(name, Vec::new(alloc), operations).is_some())
 }
 
-// Whether a counter with this guard is a specification.
-fn is_resolved(alloc: Global, guard: Formula) -> Result<bool, Fail> {
-    let branches = vec![in alloc; adding(alloc, guard, 1)?]?;
-    Ok(specification(alloc, 0, Vec::new(alloc), branches)?.is_some())
+fn is_quantified_resolved(alloc: Global) -> Result<bool, OutOfMemory> {
+    let always = Formula::And(Vec::new(alloc));
+    is_resolved(alloc, Formula::Forall(Box::new(alloc, always)?))
 }
 
 #[test]
 fn what_is_not_declared_is_not_resolved(rt: HostRuntime) -> Result<(), Fail> {
     let alloc = rt.alloc();
-    assert!(rt; is_resolved(alloc, always(alloc))?);
-    let other_variable = Formula::Eq(Term::Variable(2), Term::Number(2));
-    assert!(rt; !is_resolved(alloc, other_variable)?);
-    let quantified = Formula::Forall(Box::new(alloc, always(alloc))?);
-    assert!(rt; !is_resolved(alloc, quantified)?);
+    let always = is_resolved(alloc, Formula::And(Vec::new(alloc)))?;
+    let other = is_resolved(alloc, Formula::Eq(Term::Variable(2), Term::Number(2)))?;
+    assert!(rt; always & !other & !is_quantified_resolved(alloc)?);
     Ok(())
 }
