@@ -1,4 +1,4 @@
-use Rattle.std.proofs.Common.{◌≡◌, ℕ, List, [], Option, None, Some, IfSome, sym, ◌∙◌}
+use Rattle.std.proofs.Common.{◌≡◌, ℕ, List, [], Option, None, Some, IfSome, ◌∙◌}
 use Rattle.lincheck.specs.Reading.{within_limit}
 use Rattle.lincheck.proofs.reading.read_file.Goals as goal
 
