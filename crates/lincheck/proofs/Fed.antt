@@ -7,7 +7,7 @@ use Rattle.std.specs.Io.KnownBytes.{Consumes, Keeps}
 use Rattle.lincheck.specs.Reading.{IsFedOn}
 
 -- as it stood in between: so many bytes of the limit are left, and a sink was fed those that were read
-abbrev pub IsFedSoFar : {S : Type 0} → (S → List ℕ → Type 0) → S → S → Option (List ℕ) → Option (List ℕ) → ℕ → Type 0
+abbrev pub IsFedSoFar : {S X : Type 0} → (S → X → List ℕ → Type 0) → S → S → Option (List ℕ) → Option (List ℕ) → ℕ → Type 0
 IsFedSoFar WasFed old new before after left =
     (bytes : List ℕ) × (length bytes + left ≡ 16777217) × Consumes before after bytes × IsFedOn WasFed old new bytes
 
@@ -29,10 +29,10 @@ pub fed_on : {T E : Type 0} (result : Result T E) (P : Type 0) → false ≡ is_
 fed_on (Ok x) P e h = h
 fed_on (Err x) P e h = absurd (cc)
 
-module _ {S : Type 0} (WasFed : S → List ℕ → Type 0) where
+module _ {S X : Type 0} (WasFed : S → X → List ℕ → Type 0) where
   -- nothing was fed
   pub fed_none : (sink : S) (known : Option (List ℕ)) → IsFedSoFar WasFed sink sink known known 16777217
-  fed_none sink known = ([], refl, Consumes-nil known, λ fed h. subst (WasFed sink) (sym (append-nil fed)) h)
+  fed_none sink known = ([], refl, Consumes-nil known, λ about fed h. subst (WasFed sink about) (sym (append-nil fed)) h)
 
   -- one piece more
   pub fed_more : (old sink new : S) (before mid after : Option (List ℕ)) (left n : ℕ) (piece : List ℕ) → IsFedSoFar WasFed old sink before mid left
@@ -41,7 +41,7 @@ module _ {S : Type 0} (WasFed : S → List ℕ → Type 0) where
     bytes ++ piece,
     omega (arith, count, is, most, length-append bytes piece),
     Consumes-trans before mid after bytes piece read more,
-    λ first h. subst (WasFed new) (append_assoc first bytes piece) (on (first ++ bytes) (fed first h)),
+    λ about first h. subst (WasFed new about) (append_assoc first bytes piece) (on about (first ++ bytes) (fed about first h)),
   )
 
   -- a read that gave nothing

@@ -10,6 +10,6 @@ within_limit file = take 16777217 file
 abbrev pub ReadsToLimit : Option (List ℕ) → Option (List ℕ) → List ℕ → Type 0
 ReadsToLimit before after bytes = Consumes before after bytes × (length bytes ≤ 16777217) × (length bytes < 16777217 → IsAtEnd after)
 
--- whatever it was fed before, behind that it was fed these bytes
-abbrev pub IsFedOn : {S : Type 0} → (S → List ℕ → Type 0) → S → S → List ℕ → Type 0
-IsFedOn WasFed before after bytes = (fed : List ℕ) → WasFed before fed → WasFed after (fed ++ bytes)
+-- whatever it was fed before, and about what, behind that it was fed these bytes
+abbrev pub IsFedOn : {S X : Type 0} → (S → X → List ℕ → Type 0) → S → S → List ℕ → Type 0
+IsFedOn {S} {X} WasFed before after bytes = (about : X) → (fed : List ℕ) → WasFed before about fed → WasFed after about (fed ++ bytes)

@@ -9,8 +9,11 @@ pub trait Sink {
     ghost use Rattle.std.specs.Prelude.{ℕ, List, OnOk};
     ghost use Rattle.lincheck.specs.Reading.{IsFedOn};
 
+    // What the bytes are about, as a certificate is about a development.
+    ghost About: { Type 0 };
+
     // It has been fed these bytes.
-    ghost WasFed: { Self → List ℕ → Type 0 };
+    ghost WasFed: { Self → About → List ℕ → Type 0 };
 
     /// Takes the bytes that come next.
     fn feed(&mut self, piece: &[u8]) -> Result<(), OutOfMemory>
@@ -19,7 +22,9 @@ pub trait Sink {
 
 /// The bytes themselves.
 impl Sink for Vec<u8> {
-    ghost WasFed = { λ bytes fed. bytes.items ≡ fed };
+    ghost About = { Unit {0} };
+
+    ghost WasFed = { λ bytes _ fed. bytes.items ≡ fed };
 
     fn feed(&mut self, piece: &[u8]) -> Result<(), OutOfMemory> {
         self.extend_from_slice(piece)?;
@@ -31,7 +36,9 @@ impl Sink for Vec<u8> {
 impl Sink for FormsReader {
     ghost use Rattle.lc_sexp.specs.Pieces.{WasFed as HasRead};
 
-    ghost WasFed = { HasRead };
+    ghost About = { Unit {0} };
+
+    ghost WasFed = { λ reader _ fed. HasRead reader fed };
 
     fn feed(&mut self, piece: &[u8]) -> Result<(), OutOfMemory> {
         FormsReader::feed(self, piece)
