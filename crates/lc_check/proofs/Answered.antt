@@ -1,30 +1,38 @@
 -- The verdict from the answers to the files and to the proofs.
-use Rattle.std.proofs.Common.{◌≡◌, ℕ, inl, inr, List, Ok, Err, sym, subst}
+use Rattle.std.proofs.Common.{◌≡◌, ℕ, inl, inr, List, ◌++◌, Ok, Err, sym, ap, ◌∙◌, subst, append-nil}
 use Rattle.std.specs.Prelude.{Result, IfOk}
 use Rattle.lc_base.specs.declared.refusal.Fault.{Fault}
 use Rattle.lc_base.specs.declared.refusal.Fault.TheVariants.{Refused, OutOfMemory}
+use Rattle.lc_base.specs.declared.refusal.Refusal.{Refusal}
 use Rattle.lc_reading.specs.Files.{Says}
 use Rattle.lc_outline.specs.Development.{Development}
 use Rattle.lc_outline_text.specs.Developments.{file_reading}
 use Rattle.lc_cert.specs.Certificates.{Entry}
-use Rattle.lc_cert.specs.Files as C
 use Rattle.lc_cert.specs.Files.{Certifies}
+use Rattle.lc_cert.specs.Pieces.{IsAnswerOf, waiting}
+use Rattle.lc_cert.specs.declared.cert_reader.CertReader.{CertReader}
 use Rattle.lc_cond.specs.Conditions.{conditions}
 use Rattle.lc_cond.specs.Uses.{AllUseTheirVariables}
 use Rattle.lc_sound.specs.Derived.{AreDerived}
 use Rattle.lc_check.proofs.Derived.{all_derived}
 use Rattle.lc_check.specs.Answers.{CountsAll}
+use Rattle.lc_check.specs.UpTo.{IsUpTo}
 use Rattle.lc_check.specs.VerdictView.{development_in, IsVerdictOn, IsVerdict, IsAnswerOn}
 use Rattle.lc_check.specs.Verdicts.{IsAccepted}
+use Rattle.lc_check.specs.declared.progress.Progress.{Progress}
 use Rattle.lc_check.specs.declared.verdict.Accepted.{Accepted}
 use Rattle.lc_check.specs.declared.verdict.Verdict.{Verdict}
 use Rattle.lc_check.specs.declared.verdict.Verdict.TheVariants.{Accepted as Accepts, Refused as Refuses}
 
 -- ---- a development and a certificate file
 
-pub no_certificate : (D : Development) (cert : List ℕ) (fault : Fault) → C.IsAnswerTo D cert (Err fault) → IsAnswerOn D cert (Err fault)
-no_certificate D cert (Refused r) h = inl h
-no_certificate D cert OutOfMemory h = tt
+pub not_read : (D : Development) (cert : List ℕ) (es : List Entry) (fault : Fault) → IsAnswerOf D cert es (Err fault) → IsAnswerOn D cert (Err fault)
+not_read D cert es (Refused r) h = inl h
+not_read D cert es OutOfMemory h = tt
+
+-- all its proofs were taken
+pub read_all : (D : Development) (cert : List ℕ) (r : CertReader) (p : Progress) (u : Unit {0}) (h : IsUpTo D cert r p) → IsAnswerOf D cert (h.taken ++ waiting r) (Ok u) → Certifies D cert h.taken
+read_all D cert r p u h answer = subst (Certifies D cert) (ap (λ es. h.taken ++ es) h.none ∙ append-nil h.taken) answer
 
 pub not_all_proved : (D : Development) (cert : List ℕ) (es : List Entry) (fault : Fault) → Certifies D cert es → CountsAll es (conditions D) (Err fault) → IsAnswerOn D cert (Err fault)
 not_all_proved D cert es (Refused r) certifies h = inr (es, certifies, h)
@@ -35,6 +43,13 @@ all_proved D cert es n a is certifies h = (is, (es, certifies, h.1))
 
 pub counted_derived : (D : Development) (es : List Entry) (n : ℕ) → AllUseTheirVariables D → CountsAll es (conditions D) (Ok n) → AreDerived D
 counted_derived D es n uses h = all_derived es 0 (conditions D) uses h.1.0
+
+-- the verdict on a development is that on what it shows
+pub verdict_of : (D E : Development) (cert : List ℕ) (a : Accepted) → D ≡ E → IsAnswerOn D cert (Ok a) → IsVerdictOn E cert (Accepts a)
+verdict_of D E cert a e h = subst (λ d. IsVerdictOn d cert (Accepts a)) e h
+
+pub refused_of : (D E : Development) (cert : List ℕ) (r : Refusal) → D ≡ E → IsAnswerOn D cert (Err (Refused r)) → IsVerdictOn E cert (Refuses r)
+refused_of D E cert r e h = subst (λ d. IsVerdictOn d cert (Refuses r)) e h
 
 -- ---- two files
 
