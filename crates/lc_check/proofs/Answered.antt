@@ -3,7 +3,6 @@ use Rattle.std.proofs.Common.{◌≡◌, ℕ, inl, inr, List, ◌++◌, Ok, Err,
 use Rattle.std.specs.Prelude.{Result, IfOk}
 use Rattle.lc_base.specs.declared.refusal.Fault.{Fault}
 use Rattle.lc_base.specs.declared.refusal.Fault.TheVariants.{Refused, OutOfMemory}
-use Rattle.lc_base.specs.declared.refusal.Refusal.{Refusal}
 use Rattle.lc_reading.specs.Files.{Says}
 use Rattle.lc_outline.specs.Development.{Development}
 use Rattle.lc_outline_text.specs.Developments.{file_reading}
@@ -44,12 +43,10 @@ all_proved D cert es n a is certifies h = (is, (es, certifies, h.1))
 pub counted_derived : (D : Development) (es : List Entry) (n : ℕ) → AllUseTheirVariables D → CountsAll es (conditions D) (Ok n) → AreDerived D
 counted_derived D es n uses h = all_derived es 0 (conditions D) uses h.1.0
 
--- the verdict on a development is that on what it shows
-pub verdict_of : (D E : Development) (cert : List ℕ) (a : Accepted) → D ≡ E → IsAnswerOn D cert (Ok a) → IsVerdictOn E cert (Accepts a)
-verdict_of D E cert a e h = subst (λ d. IsVerdictOn d cert (Accepts a)) e h
-
-pub refused_of : (D E : Development) (cert : List ℕ) (r : Refusal) → D ≡ E → IsAnswerOn D cert (Err (Refused r)) → IsVerdictOn E cert (Refuses r)
-refused_of D E cert r e h = subst (λ d. IsVerdictOn d cert (Refuses r)) e h
+-- what is answered of a development that is known otherwise
+pub answered_of : (D E : Development) (cert : List ℕ) (r : CertReader) (p : Progress) (result : Result Accepted Fault) → D ≡ E → IsUpTo E cert r p → ((fed : List ℕ) → IsUpTo D fed r p → IsAnswerOn D fed result)
+    → IsAnswerOn E cert result
+answered_of D E cert r p result e up f = subst (λ d. IsAnswerOn d cert result) e (f cert (subst (λ d. IsUpTo d cert r p) (sym e) up))
 
 -- ---- two files
 
