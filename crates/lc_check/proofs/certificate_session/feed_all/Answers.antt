@@ -31,9 +31,9 @@ pub entries-preserved : goal.entries-preserved
 entries-preserved c = record {
   lives = c.in-Some.ensures.spent ∙ c.entries.invariant.lives;
   goes = λ fed h. (
-    let d = development_shown c.args.development.now in
-    let e = entry_of c.in-Some.entry in
-    let (taken, read, progress) = c.entries.invariant.goes fed h in
-    (taken ++ e ∷ [], c.in-Some.ensures.entry d (fed ++ c.args.piece.now) taken read, c.in_ok-take.ensures taken progress)
-  );
+      let d = development_shown c.args.development.now in
+      let e = entry_of c.in-Some.entry in
+      let (taken, read, progress) = c.entries.invariant.goes fed h in
+      (taken ++ e ∷ [], c.in-Some.ensures.entry d (fed ++ c.args.piece.now) taken read, c.in_ok-take.ensures taken progress)
+      );
 }

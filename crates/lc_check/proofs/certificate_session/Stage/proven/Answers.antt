@@ -1,4 +1,4 @@
-use Rattle.std.proofs.Common.{Ok, Err, sym, ap, ◌∙◌, subst, ◌++◌}
+use Rattle.std.proofs.Common.{Err, sym, ap, ◌∙◌, subst, ◌++◌}
 use Rattle.std.proofs.lemmas.Result.{err_from_is_err_and}
 use Rattle.lc_outline.specs.Development.{Development}
 use Rattle.lc_outline.specs.DevelopmentView.{development_shown}

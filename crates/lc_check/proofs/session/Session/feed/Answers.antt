@@ -14,7 +14,7 @@ returns-in-UnderWay-clause-fed c =
     on_ok c.feed.result ((D : Development) → (fed : List ℕ) → IsFedOn D fed old → IsFedOn D (fed ++ piece) new)
     ((dev : List ℕ) → (fed : List ℕ) → IsFed dev fed c.args.self.now → IsStateFed dev (fed ++ piece) (UnderWay new))
     (λ f dev fed h. (
-      let under : IsStateFed dev fed (UnderWay old) = subst (IsStateFed dev fed) c.in-UnderWay.is h in
-      (under.0, under.1, f under.0 fed under.2)
+    let under : IsStateFed dev fed (UnderWay old) = subst (IsStateFed dev fed) c.in-UnderWay.is h in
+    (under.0, under.1, f under.0 fed under.2)
     ))
     c.feed.ensures.fed
