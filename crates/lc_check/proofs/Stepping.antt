@@ -12,12 +12,12 @@ use Rattle.lc_term.specs.Lists.{Every}
 use Rattle.lc_term.specs.NodeTables.{Table}
 use Rattle.lc_term.specs.Tables.{Keeps}
 use Rattle.lc_kernel.specs.Answers.{Proves}
-use Rattle.lc_kernel.specs.Proofs.{Proof}
+use Rattle.lc_kernel.specs.Proofs.{Proof, size}
 use Rattle.lc_kernel.specs.declared.fault.ProofFault.{ProofFault}
 use Rattle.lc_kernel.specs.declared.fault.ProofFault.TheVariants.{Bad as NotHolding, Large as TooLarge, OutOfMemory as NoMore}
 use Rattle.lc_kernel.specs.declared.reason.Flaw.TheVariants.{Bad, Large}
 use Rattle.lc_outline.specs.Development.{Development}
-use Rattle.lc_cert.specs.Certificates.{Entry, is_rising, proof_at}
+use Rattle.lc_cert.specs.Certificates.{Entry, is_rising, proof_at, HaveFewSteps}
 use Rattle.lc_cond.specs.Conditions as S
 use Rattle.lc_cond.specs.Conditions.{conditions}
 use Rattle.lc_cond.specs.ConditionView.{kind_of, place_of, condition_in, AreConditions}
@@ -255,3 +255,7 @@ missing_at_last d taken p lt h =
 pub on_ok : {A E : Type 0} (result : Result A E) (P Q : Type 0) → (P → Q) → OnOk result P → OnOk result Q
 on_ok (Ok x) P Q f h = f h
 on_ok (Err e) P Q f h = tt
+
+-- the last of proofs that have few steps
+pub last_few : (taken : List Entry) (e : Entry) → HaveFewSteps (taken ++ e ∷ []) → size e.proof ≤ 16777216
+last_few taken e h = (Every_right (λ (x : Entry). size x.proof ≤ 16777216) taken (e ∷ []) h).0

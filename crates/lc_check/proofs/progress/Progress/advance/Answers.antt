@@ -1,10 +1,10 @@
-use Rattle.std.proofs.Common.{Option, refl, sym, ◌∙◌, subst, arith}
+use Rattle.std.proofs.Common.{Option, ◌∙◌, subst, arith}
 use Rattle.std.specs.Prelude.{Vec}
 use Rattle.std.specs.declared.alloc.Global.{Global}
 use Rattle.lc_outline.specs.DevelopmentView.{development_shown}
-use Rattle.lc_cond.specs.Stream.{IsNextPart, IsPart, IsEnd}
+use Rattle.lc_cond.specs.Stream.{IsNextPart, IsPart}
 use Rattle.lc_cond.specs.declared.condition.Condition.{Condition}
-use Rattle.lc_check.proofs.Stepping.{due_past, due_in_part}
+use Rattle.lc_check.proofs.Stepping.{due_in_part}
 use Rattle.lc_check.proofs.progress.Progress.advance.Goals as goal
 
 pub parts-preserved : goal.parts-preserved

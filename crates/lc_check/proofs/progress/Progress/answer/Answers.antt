@@ -1,4 +1,4 @@
-use Rattle.std.proofs.Common.{Bool, Ok, true, false, sym, subst}
+use Rattle.std.proofs.Common.{Ok, true, false, sym, subst}
 use Rattle.lc_outline.specs.DevelopmentView.{development_shown}
 use Rattle.lc_cond.specs.Conditions.{conditions}
 use Rattle.lc_check.proofs.Stepping.{none_if, untold, told_so, went_on, certain_last, missing_at_last, all_in_turn}

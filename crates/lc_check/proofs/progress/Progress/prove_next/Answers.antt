@@ -1,9 +1,8 @@
-use Rattle.std.proofs.Common.{◌+◌, ◌≡◌, [], ◌∷◌, ◌++◌, List, drop, Some, Err, refl, sym, ap, ◌∙◌, subst}
+use Rattle.std.proofs.Common.{◌+◌, [], ◌∷◌, ◌++◌, drop, Err, refl, sym, ap, ◌∙◌, subst}
 use Rattle.lc_kernel.specs.View.{proof_of}
 use Rattle.lc_outline.specs.DevelopmentView.{development_shown}
 use Rattle.lc_cert.specs.Certificates.{Entry}
 use Rattle.lc_cond.specs.ConditionView.{condition_in, AreConditions}
-use Rattle.lc_cond.specs.declared.condition.Condition.{Condition}
 use Rattle.lc_check.proofs.Stepping.{first_left, due_behind, next_due, next_bounded, still_known, still_due, one_proved, refused_certain}
 use Rattle.lc_check.specs.Answers.{ProvesOne}
 use Rattle.lc_check.specs.Progress.{IsProgressTelling}

@@ -1,4 +1,4 @@
-use Rattle.std.proofs.Common.{[], ◌∷◌, ◌++◌, List, true, false, sym, ◌∙◌, subst}
+use Rattle.std.proofs.Common.{[], ◌∷◌, ◌++◌, List, true, false, sym, subst}
 use Rattle.lc_kernel.specs.View.{proof_of}
 use Rattle.lc_outline.specs.DevelopmentView.{development_shown}
 use Rattle.lc_cert.specs.Certificates.{Entry}
