@@ -1,3 +1,4 @@
+//! Numbers and variables as they are written are cases of the program `lc_cases`.
 use lc_base::{Fault, OutOfMemory, Refusal};
 use lc_sexp::{Cursor, Forms, Misfit, Reader, Sexp, is_atom, print, read};
 use std::alloc::Global;
@@ -20,14 +21,6 @@ fn read_in_pieces(alloc: Global, text: &[u8], size: usize) -> Result<Vec<u8>, Fa
 /// Whether a text that is read at once prints as this.
 fn prints_as(alloc: Global, text: &[u8], want: &[u8]) -> Result<bool, Fault> {
     Ok(read_in_pieces(alloc, text, text.len())?.as_slice() == want)
-}
-
-#[test]
-fn texts_without_forms(rt: HostRuntime) -> Result<(), Fail> {
-    for text in ["", ";x", " \t\n\r", ";\u{e9} ) (\n", ";\r)"] {
-        assert!(rt; prints_as(rt.alloc(), text.as_bytes(), b"")?, "{text}");
-    }
-    Ok(())
 }
 
 #[test]
@@ -62,9 +55,20 @@ fn each_byte_alone(rt: HostRuntime) -> Result<(), Fail> {
 
 #[test]
 fn prints_what_it_read(rt: HostRuntime) -> Result<(), Fail> {
-    let want = b"(a (b c) () d)\ne\nf\n";
-    let once = prints_as(rt.alloc(), b"(a(b c) ()d)e;x\nf;", want)?;
-    assert!(rt; once & prints_as(rt.alloc(), want, want)?);
+    for (text, want) in [
+        ("", ""),
+        (";x", ""),
+        (" \t\n\r", ""),
+        (";\u{e9} ) (\n", ""),
+        (";\r)", ""),
+        ("(a(b c) ()d)e;x\nf;", "(a (b c) () d)\ne\nf\n"),
+        ("(a (b c) () d)\ne\nf\n", "(a (b c) () d)\ne\nf\n"),
+    ] {
+        assert!(rt;
+            prints_as(rt.alloc(), text.as_bytes(), want.as_bytes())?,
+            "{text}"
+        );
+    }
     Ok(())
 }
 
@@ -155,51 +159,6 @@ fn walks_to_the_last(file: &mut Cursor<'_>) -> Result<bool, Misfit> {
 fn walks_a_formula(rt: HostRuntime) -> Result<(), Fail> {
     let forms = Forms::read(rt.alloc(), b"(goal (<= -3 9223372036854775808) ?4 x) y")?;
     assert!(rt; walks_to_the_last(&mut forms.cursor())?);
-    Ok(())
-}
-
-#[test]
-fn integers_as_they_are_written(rt: HostRuntime) -> Result<(), Fail> {
-    let text =
-        "0 -1 9223372036854775807 -9223372036854775808 -0 01 -01 - +1 1a 9223372036854775808 -9223372036854775809 99999999999999999999999";
-    let forms = Forms::read(rt.alloc(), text.as_bytes())?;
-    let mut cursor = forms.cursor();
-    for want in [
-        Ok(0),
-        Ok(-1),
-        Ok(9223372036854775807),
-        Ok(-9223372036854775808),
-        Err(Misfit::Shape(4)),
-        Err(Misfit::Shape(5)),
-        Err(Misfit::Shape(6)),
-        Err(Misfit::Shape(7)),
-        Err(Misfit::Shape(8)),
-        Err(Misfit::Shape(9)),
-        Err(Misfit::Bound(10)),
-        Err(Misfit::Bound(11)),
-        Err(Misfit::Bound(12)),
-    ] {
-        assert!(rt; cursor.atom()?.integer() == want);
-    }
-    assert!(rt; cursor.len() == 0);
-    Ok(())
-}
-
-#[test]
-fn variables_as_they_are_written(rt: HostRuntime) -> Result<(), Fail> {
-    let forms = Forms::read(rt.alloc(), b"?0 ?4294967295 ?4294967296 ?00 ? ?-1")?;
-    let mut cursor = forms.cursor();
-    for want in [
-        Ok(0),
-        Ok(4294967295),
-        Err(Misfit::Bound(2)),
-        Err(Misfit::Shape(3)),
-        Err(Misfit::Shape(4)),
-        Err(Misfit::Shape(5)),
-    ] {
-        assert!(rt; cursor.atom()?.variable() == want);
-    }
-    assert!(rt; cursor.len() == 0);
     Ok(())
 }
 

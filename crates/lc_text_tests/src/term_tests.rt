@@ -93,14 +93,6 @@ fn is_instantiated(alloc: Global) -> Result<bool, OutOfMemory> {
     }
 }
 
-#[test]
-fn terms_are_put_for_variables(rt: HostRuntime) -> Result<(), Fail> {
-    let alloc = rt.alloc();
-    let substituted = is_substituted(alloc)? & is_substituted_below(alloc)?;
-    assert!(rt; substituted & is_instantiated(alloc)?);
-    Ok(())
-}
-
 /// What is closed stays as it is.
 fn is_left(alloc: Global) -> Result<bool, OutOfMemory> {
     let variable = Box::new(alloc, Term::Variable(0))?;
@@ -126,9 +118,10 @@ fn is_moved_below(alloc: Global) -> Result<bool, OutOfMemory> {
 }
 
 #[test]
-fn shift_moves_what_points_beyond_the_cutoff(rt: HostRuntime) -> Result<(), Fail> {
+fn terms_are_put_for_variables_and_shifted(rt: HostRuntime) -> Result<(), Fail> {
     let alloc = rt.alloc();
-    assert!(rt; is_left(alloc)? & is_moved(alloc)? & is_moved_below(alloc)?);
+    let put = is_substituted(alloc)? & is_substituted_below(alloc)? & is_instantiated(alloc)?;
+    assert!(rt; put & is_left(alloc)? & is_moved(alloc)? & is_moved_below(alloc)?);
     Ok(())
 }
 
