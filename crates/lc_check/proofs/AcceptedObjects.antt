@@ -12,7 +12,7 @@ use Rattle.lc_cond.specs.Conditions.{conditions}
 use Rattle.lc_sound.proofs.Lifted.{proved}
 use Rattle.lc_sound.proofs.Proven.{derived_are_valid}
 use Rattle.lc_sound.specs.Linearizable.{IsLinearizableObject}
-use Rattle.lc_check.proofs.EachProved.{all_derived}
+use Rattle.lc_check.proofs.Derived.{all_derived}
 use Rattle.lc_check.specs.Verdicts.{AreProved, IsAccepted}
 
 said_is_resolved : (dev : List ℕ) (D : Development) → Says file_reading dev D → IsResolved D

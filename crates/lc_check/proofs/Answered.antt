@@ -1,5 +1,5 @@
 -- The verdict from the answers to the files and to the proofs.
-use Rattle.std.proofs.Common.{◌≡◌, ℕ, inl, inr, List, Ok, Err, sym, subst}
+use Rattle.std.proofs.Common.{◌≡◌, ℕ, inl, inr, List, ◌++◌, Ok, Err, sym, ap, ◌∙◌, subst, append-nil}
 use Rattle.std.specs.Prelude.{Result, IfOk}
 use Rattle.lc_base.specs.declared.refusal.Fault.{Fault}
 use Rattle.lc_base.specs.declared.refusal.Fault.TheVariants.{Refused, OutOfMemory}
@@ -7,24 +7,31 @@ use Rattle.lc_reading.specs.Files.{Says}
 use Rattle.lc_outline.specs.Development.{Development}
 use Rattle.lc_outline_text.specs.Developments.{file_reading}
 use Rattle.lc_cert.specs.Certificates.{Entry}
-use Rattle.lc_cert.specs.Files as C
 use Rattle.lc_cert.specs.Files.{Certifies}
+use Rattle.lc_cert.specs.Pieces.{IsAnswerOf, waiting}
+use Rattle.lc_cert.specs.declared.cert_reader.CertReader.{CertReader}
 use Rattle.lc_cond.specs.Conditions.{conditions}
 use Rattle.lc_cond.specs.Uses.{AllUseTheirVariables}
 use Rattle.lc_sound.specs.Derived.{AreDerived}
-use Rattle.lc_check.proofs.EachProved.{all_derived}
+use Rattle.lc_check.proofs.Derived.{all_derived}
 use Rattle.lc_check.specs.Answers.{CountsAll}
+use Rattle.lc_check.specs.UpTo.{IsUpTo}
 use Rattle.lc_check.specs.VerdictView.{development_in, IsVerdictOn, IsVerdict, IsAnswerOn}
 use Rattle.lc_check.specs.Verdicts.{IsAccepted}
+use Rattle.lc_check.specs.declared.progress.Progress.{Progress}
 use Rattle.lc_check.specs.declared.verdict.Accepted.{Accepted}
 use Rattle.lc_check.specs.declared.verdict.Verdict.{Verdict}
 use Rattle.lc_check.specs.declared.verdict.Verdict.TheVariants.{Accepted as Accepts, Refused as Refuses}
 
 -- ---- a development and a certificate file
 
-pub no_certificate : (D : Development) (cert : List ℕ) (fault : Fault) → C.IsAnswerTo D cert (Err fault) → IsAnswerOn D cert (Err fault)
-no_certificate D cert (Refused r) h = inl h
-no_certificate D cert OutOfMemory h = tt
+pub not_read : (D : Development) (cert : List ℕ) (es : List Entry) (fault : Fault) → IsAnswerOf D cert es (Err fault) → IsAnswerOn D cert (Err fault)
+not_read D cert es (Refused r) h = inl h
+not_read D cert es OutOfMemory h = tt
+
+-- all its proofs were taken
+pub read_all : (D : Development) (cert : List ℕ) (r : CertReader) (p : Progress) (u : Unit {0}) (h : IsUpTo D cert r p) → IsAnswerOf D cert (h.taken ++ waiting r) (Ok u) → Certifies D cert h.taken
+read_all D cert r p u h answer = subst (Certifies D cert) (ap (λ es. h.taken ++ es) h.none ∙ append-nil h.taken) answer
 
 pub not_all_proved : (D : Development) (cert : List ℕ) (es : List Entry) (fault : Fault) → Certifies D cert es → CountsAll es (conditions D) (Err fault) → IsAnswerOn D cert (Err fault)
 not_all_proved D cert es (Refused r) certifies h = inr (es, certifies, h)
@@ -35,6 +42,11 @@ all_proved D cert es n a is certifies h = (is, (es, certifies, h.1))
 
 pub counted_derived : (D : Development) (es : List Entry) (n : ℕ) → AllUseTheirVariables D → CountsAll es (conditions D) (Ok n) → AreDerived D
 counted_derived D es n uses h = all_derived es 0 (conditions D) uses h.1.0
+
+-- what is answered of a development that is known otherwise
+pub answered_of : (D E : Development) (cert : List ℕ) (r : CertReader) (p : Progress) (result : Result Accepted Fault) → D ≡ E → IsUpTo E cert r p → ((fed : List ℕ) → IsUpTo D fed r p → IsAnswerOn D fed result)
+    → IsAnswerOn E cert result
+answered_of D E cert r p result e up f = subst (λ d. IsAnswerOn d cert result) e (f cert (subst (λ d. IsUpTo d cert r p) (sym e) up))
 
 -- ---- two files
 

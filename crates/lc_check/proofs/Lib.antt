@@ -1,5 +1,7 @@
 pub mod LeastExtra
 pub mod OneVerdict
-pub mod EachProved
+pub mod InTurn
+pub mod Stepping
+pub mod Derived
 pub mod Answered
 pub mod AcceptedObjects

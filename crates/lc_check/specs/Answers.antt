@@ -1,5 +1,5 @@
 -- What the code answers of the proofs of a certificate.
-use Rattle.std.specs.Prelude.{◌≡◌, ℕ, List, length, Option, Result, Ok, Err}
+use Rattle.std.specs.Prelude.{◌≡◌, ℕ, List, length, Some, Result, Ok, Err}
 use Rattle.lc_base.specs.declared.refusal.Fault.{Fault}
 use Rattle.lc_base.specs.declared.refusal.Fault.TheVariants.{Refused, OutOfMemory}
 use Rattle.lc_kernel.specs.Proofs.{Proof}
@@ -10,7 +10,7 @@ use Rattle.lc_cert.specs.Certificates.{Entry}
 use Rattle.lc_cond.specs.Conditions.{Condition}
 use Rattle.lc_cond.specs.Uses.{UsesItsVariables}
 use Rattle.lc_cond.specs.VariableCounts.{HasFewVariables}
-use Rattle.lc_check.specs.Verdicts.{IsProved, IsUnproved, AreProved, IsFirstUnproved, ProvesAll, IsProofRefusal, flaw_told}
+use Rattle.lc_check.specs.Verdicts.{IsProved, IsUnproved, ProvesAll, IsProofRefusal, flaw_told}
 
 -- it uses no variables but those that it counts, and they are few
 abbrev pub IsBounded : Condition → Type 0
@@ -22,25 +22,13 @@ fault_of k (NotHolding step reason) = Refused (flaw_told k step (Bad reason))
 fault_of k (TooLarge step) = Refused (flaw_told k step Large)
 fault_of k NoMore = OutOfMemory
 
--- condition k is proved, or it is told why not; for want of memory nothing
-abbrev pub ProvesOne : ℕ → Condition → Option Proof → Result (Unit {0}) Fault → Type 0
-ProvesOne k c o (Ok u) = IsProved c o
-ProvesOne k c o (Err (Refused refusal)) = IsUnproved k c o refusal
-ProvesOne k c o (Err OutOfMemory) = Unit {0}
+-- condition k is proved by this proof, or it is told why not; for want of memory nothing
+abbrev pub ProvesOne : ℕ → Condition → Proof → Result (Unit {0}) Fault → Type 0
+ProvesOne k c p (Ok u) = IsProved c (Some p)
+ProvesOne k c p (Err (Refused refusal)) = IsUnproved k c (Some p) refusal
+ProvesOne k c p (Err OutOfMemory) = Unit {0}
 
--- the same of conditions from number k on
-abbrev pub ProvesEach : List Entry → ℕ → List Condition → Result (Unit {0}) Fault → Type 0
-ProvesEach es k cs (Ok u) = AreProved es k cs
-ProvesEach es k cs (Err (Refused refusal)) = IsFirstUnproved es k cs refusal
-ProvesEach es k cs (Err OutOfMemory) = Unit {0}
-
--- the same of all, with how many they are
-abbrev pub CountsProved : List Entry → List Condition → Result ℕ Fault → Type 0
-CountsProved es cs (Ok n) = (n ≡ length cs) × AreProved es 0 cs
-CountsProved es cs (Err (Refused refusal)) = IsFirstUnproved es 0 cs refusal
-CountsProved es cs (Err OutOfMemory) = Unit {0}
-
--- the same, where there is no other proof
+-- all conditions are proved, and so many they are, and there is no other proof; or it is told why not; for want of memory nothing
 abbrev pub CountsAll : List Entry → List Condition → Result ℕ Fault → Type 0
 CountsAll es cs (Ok n) = (n ≡ length cs) × ProvesAll es cs
 CountsAll es cs (Err (Refused refusal)) = IsProofRefusal es cs refusal

@@ -1,4 +1,7 @@
 pub mod Verdicts
-pub mod Numbers
 pub mod Answers
 pub mod VerdictView
+pub mod Progress
+pub mod UpTo
+pub mod Stages
+pub mod Sessions

@@ -1,39 +1,15 @@
+//! The verdict on whole files: sessions of one piece.
 ghost use Rattle.std.specs.Prelude.{IfOk};
 ghost use Rattle.lc_outline.specs.DevelopmentView.{development_shown};
-ghost use Rattle.lc_sound.specs.Derived.{AreDerived};
 ghost use Rattle.lc_sound.specs.Linearizable.{IsLinearizableObject};
-ghost use Rattle.lc_check.specs.VerdictView.{development_in, IsVerdictOn, IsVerdict, IfAccepted, IsAnswerOn};
+ghost use Rattle.lc_check.specs.VerdictView.{IsVerdictOn, IsVerdict, IfAccepted};
 
-use crate::proving::prove_all;
-use crate::verdict::{Accepted, Verdict};
-use lc_base::{Fault, OutOfMemory};
-use lc_cert::certificate_of;
-use lc_cond::laws::conditions_use_their_variables;
+use crate::certificate_session::CertificateSession;
+use crate::session::Session;
+use crate::verdict::Verdict;
+use lc_base::OutOfMemory;
 use lc_outline::Development;
-use lc_outline_text::development_of;
-use lc_sound::{derived_conditions_are_valid, linearizable_runs};
 use std::alloc::Global;
-
-/// Where each condition of a development has a derivation, its object is linearizable by its specification.
-fn derived_is_linearizable(development: &Development)
-    requires { AreDerived (development_shown development.now) }
-    ensures { IsLinearizableObject (development_shown development.now).specification (development_shown development.now).object }
-{
-    derived_conditions_are_valid(development);
-    linearizable_runs(development);
-}
-
-/// What is accepted of a development and a certificate file, if they are.
-fn proven(alloc: Global, development: Development, cert: &[u8]) -> Result<Accepted, Fault>
-    ensures exactly { IsAnswerOn (development_shown development) cert.now result }
-    ensures linearizable { IfOk result (λ a. IsLinearizableObject (development_in a).specification (development_in a).object) }
-{
-    let certificate = certificate_of(alloc, &development, cert)?;
-    let count = prove_all(alloc, &development, &certificate)?;
-    conditions_use_their_variables(&development);
-    derived_is_linearizable(&development);
-    Ok(Accepted::new(development, count))
-}
 
 /// The verdict on a development and a certificate file.
 ///
@@ -49,11 +25,9 @@ pub fn check_certificate(
     ensures exactly { IfOk result (IsVerdictOn (development_shown development) cert.now) }
     ensures linearizable { IfAccepted result (λ D. IsLinearizableObject D.specification D.object) }
 {
-    match proven(alloc, development, cert) {
-        Ok(accepted) => Ok(Verdict::Accepted(accepted)),
-        Err(Fault::Refused(refusal)) => Ok(Verdict::Refused(refusal)),
-        Err(Fault::OutOfMemory) => Err(OutOfMemory),
-    }
+    let mut session = CertificateSession::new(alloc, development)?;
+    session.feed(cert)?;
+    session.finish()
 }
 
 /// The verdict on a development file and a certificate file.
@@ -67,9 +41,7 @@ pub fn check(alloc: Global, dev: &[u8], cert: &[u8]) -> Result<Verdict, OutOfMem
     ensures exactly { IfOk result (IsVerdict dev.now cert.now) }
     ensures linearizable { IfAccepted result (λ D. IsLinearizableObject D.specification D.object) }
 {
-    match development_of(alloc, dev) {
-        Ok(development) => check_certificate(alloc, development, cert),
-        Err(Fault::Refused(refusal)) => Ok(Verdict::Refused(refusal)),
-        Err(Fault::OutOfMemory) => Err(OutOfMemory),
-    }
+    let mut session = Session::new(alloc, dev)?;
+    session.feed(cert)?;
+    session.finish()
 }

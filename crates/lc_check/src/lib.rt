@@ -1,11 +1,15 @@
 //! The verdict on a development file and a certificate file: where they are accepted, the development's object is linearizable.
 #![tactic(auto)]
 
+mod certificate_session;
 mod checking;
-mod extras;
 pub mod laws;
+mod progress;
 mod proving;
+mod session;
 mod verdict;
 
+pub use certificate_session::CertificateSession;
 pub use checking::{check, check_certificate};
+pub use session::Session;
 pub use verdict::{Accepted, Verdict};

@@ -10,27 +10,16 @@ use lc_outline::Development;
 use lc_term::Terms;
 use std::alloc::Global;
 
-/// The conditions of a development in their order, of which only one part at a time is kept.
-pub struct ConditionStream<'d> {
+/// The conditions of a development in their order, of which only one part at a time is kept. Each call is given the same
+/// development.
+#[derive(Drop)]
+pub struct ConditionStream {
     alloc: Global,
-    development: &'d Development,
     edges: Vec<Edge>,
     /// How many parts were given.
     place: usize,
     /// How many conditions were given.
     given: u64,
-}
-
-impl Drop for ConditionStream<'_> {
-    fn drop(self) {
-        let ConditionStream {
-            alloc: _,
-            development: _,
-            edges: _,
-            place: _,
-            given: _,
-        } = self;
-    }
 }
 
 // The next place.
@@ -48,26 +37,22 @@ fn given_with(given: u64, conditions: &Vec<Condition>) -> Result<u64, OutOfMemor
     given.checked_add(count).ok_or(OutOfMemory)
 }
 
-impl<'d> ConditionStream<'d> {
+impl ConditionStream {
     ghost use Rattle.std.specs.Prelude.{◌≡◌, IfOk};
     ghost use Rattle.lc_term.specs.Tables.{Keeps};
     ghost use Rattle.lc_outline.specs.DevelopmentView.{development_shown};
     ghost use Rattle.lc_cond.specs.Conditions.{conditions};
-    ghost use Rattle.lc_cond.specs.Stream.{stream_development, conditions_left, next_number, IsNextPart};
+    ghost use Rattle.lc_cond.specs.Stream.{conditions_left, next_number, IsNextPart};
 
     /// All conditions of a development, of which none was given.
-    pub fn new(
-        alloc: Global,
-        development: &'d Development,
-    ) -> Result<ConditionStream<'d>, OutOfMemory>
-        ensures left { IfOk result (λ s. conditions_left s ≡ conditions (development_shown development.now)) }
-        ensures of { IfOk result (λ s. stream_development s ≡ development_shown development.now) }
+    pub fn new(alloc: Global, development: &Development) -> Result<ConditionStream, OutOfMemory>
+        ensures left { let d = development_shown development.now in
+            IfOk result (λ s. conditions_left d s ≡ conditions d) }
         ensures number { IfOk result (λ s. next_number s ≡ 0) }
     {
         let edges = edges_of(alloc, development)?;
         Ok(ConditionStream {
             alloc,
-            development,
             edges,
             place: 0,
             given: 0,
@@ -83,15 +68,19 @@ impl<'d> ConditionStream<'d> {
 
     /// The conditions of the next part, whose formulas are entered in the table; nothing where no part is left. A part may have
     /// no conditions. The table may be another one at each call.
-    pub fn next_part(&mut self, terms: &mut Terms) -> Result<Option<Vec<Condition>>, OutOfMemory>
-        ensures next { IfOk result (λ part. IsNextPart terms.new self.old self.new part) }
+    pub fn next_part(
+        &mut self,
+        development: &Development,
+        terms: &mut Terms,
+    ) -> Result<Option<Vec<Condition>>, OutOfMemory>
+        ensures next { IfOk result (λ part. IsNextPart (development_shown development.now) terms.new self.old self.new part) }
         ensures kept { Keeps terms.old terms.new }
     {
-        let Some(part) = part_at(self.development, &self.edges, self.place)? else {
+        let Some(part) = part_at(development, &self.edges, self.place)? else {
             return Ok(None);
         };
         let mut conditions = Vec::new(self.alloc);
-        push_part(self.alloc, terms, self.development, part, &mut conditions)?;
+        push_part(self.alloc, terms, development, part, &mut conditions)?;
         let place = place_behind(self.place)?;
         let given = given_with(self.given, &conditions)?;
         self.place = place;

@@ -21,12 +21,12 @@ text_from-append d k cs ds =
     ∙ append_assoc (lines_from d k cs) (lines_from d (k + length cs) ds) (total_line (k + length cs + length ds))
 
 -- what was left before a part is its lines and what is left behind it
-pub part_passes : (d e later : Development) (n m : ℕ) (left cs rest : List Condition) (old new : List ℕ) → e ≡ d → later ≡ e → left ≡ cs ++ rest → m ≡ n + length cs → new ≡ old ++ lines_from d n cs
-    → old ++ text_from e n left ≡ new ++ text_from later m rest
-part_passes d e later n m left cs rest old new of after is number written =
-    ap (λ x. old ++ text_from x n left) of ∙ ap (λ l. old ++ text_from d n l) is ∙ ap (λ t. old ++ t) (text_from-append d n cs rest)
+pub part_passes : (d : Development) (n m : ℕ) (left cs rest : List Condition) (old new : List ℕ) → left ≡ cs ++ rest → m ≡ n + length cs → new ≡ old ++ lines_from d n cs
+    → old ++ text_from d n left ≡ new ++ text_from d m rest
+part_passes d n m left cs rest old new is number written =
+    ap (λ l. old ++ text_from d n l) is ∙ ap (λ t. old ++ t) (text_from-append d n cs rest)
     ∙ sym (append_assoc old (lines_from d n cs) (text_from d (n + length cs) rest)) ∙ ap (λ l. l ++ text_from d (n + length cs) rest) (sym written)
-    ∙ ap (λ k. new ++ text_from d k rest) (sym number) ∙ ap (λ x. new ++ text_from x m rest) (sym (after ∙ of))
+    ∙ ap (λ k. new ++ text_from d k rest) (sym number)
 
 -- where nothing is left the text is the line of the count
 pub total_passes : (d : Development) (n : ℕ) (left : List Condition) (old new : List ℕ) → left ≡ [] → new ≡ old ++ total_line n → new ≡ old ++ text_from d n left

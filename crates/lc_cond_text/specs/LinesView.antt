@@ -1,7 +1,7 @@
 -- What is left of the text of the conditions, and how a piece of it is handed out.
 use Rattle.std.specs.Prelude.{◌≡◌, ℕ, zero, suc, ◌≤◌, List, [], ◌++◌, Option, Some, None, Vec, Bool, true, false}
 use Rattle.std.specs.declared.alloc.Global.{Global}
-use Rattle.lc_cond.specs.Stream.{stream_development, conditions_left, parts_left, next_number}
+use Rattle.lc_cond.specs.Stream.{conditions_left, parts_left, next_number}
 use Rattle.lc_cond.specs.declared.stream.ConditionStream.{ConditionStream}
 use Rattle.lc_outline.specs.Development.{Development}
 use Rattle.lc_term.specs.NodeTables.{Table}
@@ -23,14 +23,14 @@ abbrev pub pieces_left : LinesLeft → ℕ
 pieces_left l = l.pieces
 
 -- the text of the conditions that a stream has left
-abbrev pub stream_text : ConditionStream → List ℕ
-stream_text s = text_from (stream_development s) (next_number s) (conditions_left s)
+abbrev pub stream_text : Development → ConditionStream → List ℕ
+stream_text d s = text_from d (next_number s) (conditions_left d s)
 
 -- what is left in each state, where the stream has this left
-abbrev pub left_in : State → ConditionStream → LinesLeft
-left_in Going s = record { text = stream_text s; pieces = suc (parts_left s) }
-left_in Ended s = record { text = []; pieces = 0 }
-left_in Failed s = record { text = []; pieces = 0 }
+abbrev pub left_in : Development → State → ConditionStream → LinesLeft
+left_in d Going s = record { text = stream_text d s; pieces = suc (parts_left d s) }
+left_in d Ended s = record { text = []; pieces = 0 }
+left_in d Failed s = record { text = []; pieces = 0 }
 
 -- a piece is the beginning of what is left; there is none exactly where nothing is left
 abbrev pub IsNextPiece : LinesLeft → LinesLeft → Option (Vec ℕ Global) → Type 0
@@ -40,11 +40,10 @@ IsNextPiece before after (Some piece) = (text_left before ≡ piece.items ++ tex
 -- Lines of parts are written behind what was there, and with what is left they are all that was left; where there was no
 -- more, with the line of the count
 pub record GoesOn (d : Development) (old : List ℕ) (before : ConditionStream) (new : List ℕ) (after : ConditionStream) (ts : Table) (texts : FormulaTexts) : Type 0 where
-  pub text : old ++ stream_text before ≡ new ++ stream_text after
-  pub fewer : suc (parts_left after) ≤ parts_left before
-  pub of : stream_development after ≡ d
+  pub text : old ++ stream_text d before ≡ new ++ stream_text d after
+  pub fewer : suc (parts_left d after) ≤ parts_left d before
   pub recalls : Recalls (spelled d) ts texts
 
 abbrev pub Passes : Development → List ℕ → ConditionStream → List ℕ → ConditionStream → Table → FormulaTexts → Bool → Type 0
 Passes d old before new after ts texts true = GoesOn d old before new after ts texts
-Passes d old before new after ts texts false = new ≡ old ++ stream_text before
+Passes d old before new after ts texts false = new ≡ old ++ stream_text d before

@@ -1,7 +1,7 @@
 //! The lines of the conditions of a development, in pieces.
 ghost use Rattle.std.specs.Prelude.{◌≡◌, ◌++◌, ℕ, suc, ◌≤◌, map, true, false, if◌then◌else◌, IfOk, OnOk};
 ghost use Rattle.lc_cond.specs.ConditionView.{condition_in, AreConditions};
-ghost use Rattle.lc_cond.specs.Stream.{stream_development, parts_left};
+ghost use Rattle.lc_cond.specs.Stream.{parts_left};
 ghost use Rattle.lc_text.specs.Spelling.{Spelled};
 ghost use Rattle.lc_outline.specs.DevelopmentView.{development_shown};
 ghost use Rattle.lc_cond_text.specs.ConditionText.{spelled, lines_from, total_line, conditions_text};
@@ -38,7 +38,7 @@ enum State {
 pub struct ConditionLines<'d> {
     alloc: Global,
     development: &'d Development,
-    stream: ConditionStream<'d>,
+    stream: ConditionStream,
     terms: Terms,
     texts: FormulaTexts,
     state: State,
@@ -46,7 +46,6 @@ pub struct ConditionLines<'d> {
 
 impl<'d> Model for ConditionLines<'d> {
     ghost use Rattle.std.specs.Prelude.{◌≡◌};
-    ghost use Rattle.lc_cond.specs.Stream.{stream_development};
     ghost use Rattle.lc_outline.specs.DevelopmentView.{development_shown};
     ghost use Rattle.lc_cond_text.specs.ConditionText.{spelled};
     ghost use Rattle.lc_cond_text.specs.Recalled.{Recalls};
@@ -55,9 +54,9 @@ impl<'d> Model for ConditionLines<'d> {
 
     ghost Value = { LinesLeft };
 
-    ghost view = { λ l. left_in l.state l.stream };
+    ghost view = { λ l. left_in (development_shown l.development.now) l.state l.stream };
 
-    ghost invariant = { λ l. l.state ≡ Going → (stream_development l.stream ≡ development_shown l.development.now) × Recalls (spelled (development_shown l.development.now)) l.terms l.texts };
+    ghost invariant = { λ l. l.state ≡ Going → Recalls (spelled (development_shown l.development.now)) l.terms l.texts };
 }
 
 impl Drop for ConditionLines<'_> {
@@ -122,14 +121,13 @@ fn push_part(
     texts: &mut FormulaTexts,
     terms: &mut Terms,
     development: &Development,
-    stream: &mut ConditionStream<'_>,
+    stream: &mut ConditionStream,
 ) -> Result<bool, OutOfMemory>
-    requires of { stream_development stream.old ≡ development_shown development.now }
     requires recalls { Recalls (spelled (development_shown development.now)) terms.old texts.old }
     ensures { IfOk result (λ more. Passes (development_shown development.now) piece.old.items stream.old piece.new.items stream.new terms.new texts.new more) }
 {
     let number = stream.first_number();
-    match stream.next_part(terms)? {
+    match stream.next_part(development, terms)? {
         Some(part) => {
             push_lines(piece, texts, terms, development, number, &part)?;
             Ok(true)
@@ -148,9 +146,8 @@ fn fill(
     texts: &mut FormulaTexts,
     terms: &mut Terms,
     development: &Development,
-    stream: &mut ConditionStream<'_>,
+    stream: &mut ConditionStream,
 ) -> Result<bool, OutOfMemory>
-    requires of { stream_development stream.old ≡ development_shown development.now }
     requires recalls { Recalls (spelled (development_shown development.now)) terms.old texts.old }
     ensures { IfOk result (λ more. Passes (development_shown development.now) piece.old.items stream.old piece.new.items stream.new terms.new texts.new more) }
 {

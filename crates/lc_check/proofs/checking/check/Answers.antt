@@ -1,7 +1,5 @@
-use Rattle.lc_outline.specs.DevelopmentView.{development_shown}
-use Rattle.lc_check.proofs.Answered.{on_development}
+use Rattle.std.proofs.Common.{[]}
 use Rattle.lc_check.proofs.checking.check.Goals as goal
 
-pub returns-in-Ok-clause-exactly : goal.returns-in-Ok-clause-exactly
-returns-in-Ok-clause-exactly c =
-    on_development c.args.dev.now c.args.cert.now (development_shown c.in-Ok.development) c.check_certificate.result c.in-Ok.ensures c.check_certificate.ensures.exactly
+pub returns-clause-exactly : goal.returns-clause-exactly
+returns-clause-exactly c = c.finish.ensures.exactly c.args.dev.now c.args.cert.now (c.in_ok-feed.ensures.fed c.args.dev.now [] c.in_ok-session.ensures.start)

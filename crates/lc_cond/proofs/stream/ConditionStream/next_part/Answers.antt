@@ -10,7 +10,7 @@ use Rattle.lc_cond.proofs.stream.ConditionStream.next_part.Goals as goal
 pub returns-in_default-clause-next : goal.returns-in_default-clause-next
 returns-in_default-clause-next c =
     let before = c.args.self.now in
-    let D = development_shown before.development.now in
+    let D = development_shown c.args.development.now in
     let ps = parts_along D (map edge_of before.edges.items) in
     let at = c.in_ok-part.ensures ∙ ap (λ l. slice_get (parts_along D (map edge_of l)) before.place) c.deref.ensures.value in
     let (nothing, none) = none_left D ps before.place (ended c.in_ok-part.field-0 (slice_get ps before.place) c.in_default.not-Some at) in
@@ -19,7 +19,7 @@ returns-in_default-clause-next c =
 pub returns-clause-next : goal.returns-clause-next
 returns-clause-next c =
     let before = c.args.self.now in
-    let D = development_shown before.development.now in
+    let D = development_shown c.args.development.now in
     let ps = parts_along D (map edge_of before.edges.items) in
     let part = part_of c.in-Some.part in
     let ts = c.push_part.new.terms in
@@ -28,4 +28,4 @@ returns-clause-next c =
     let adds = subst (λ l. Adds l ts now (conditions_in D part)) c.new-conditions.ensures.items c.in_ok-push_part.ensures.list in
     let (are, rest) = part_given D ps before.place c.in_ok-place.place part ts now (sym at ∙ ap (option_map part_of) c.in-Some.is) c.in_ok-place.ensures adds in
     let (left, fewer) = rest in
-    record { are = are; left = left; fewer = fewer; number = c.in_ok-given.ensures; of = refl }
+    record { are = are; left = left; fewer = fewer; number = c.in_ok-given.ensures }

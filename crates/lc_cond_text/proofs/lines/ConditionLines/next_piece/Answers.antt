@@ -5,8 +5,8 @@ use Rattle.lc_cond_text.proofs.lines.ConditionLines.next_piece.Goals as goal
 use Rattle.lc_cond_text.proofs.lines.ConditionLines.next_piece.Goals.{then-more, else-more}
 use Rattle.std.proofs.Common.{subst}
 
-pub fill-requires-clause-recalls : goal.fill-requires-clause-recalls
-fill-requires-clause-recalls c = (c.self.invariant c.in-Going.is).1
+pub fill-requires : goal.fill-requires
+fill-requires c = record { recalls = c.self.invariant c.in-Going.is }
 
 pub invariant_of-self-2 : goal.invariant_of-self-2
 invariant_of-self-2 c =
@@ -17,6 +17,6 @@ invariant_of-self-2 c =
       | then-more w ↦ λ going.
           let goes : GoesOn d old c.self.inside.stream new c.fill.new.stream c.fill.new.terms c.fill.new.texts =
           subst (λ (b : Bool). Passes d old c.self.inside.stream new c.fill.new.stream c.fill.new.terms c.fill.new.texts b) w.if-more.true c.in_ok-more.ensures in
-          (goes.of, goes.recalls)
+          goes.recalls
       | else-more w ↦ λ going. absurd (cc)
     ]

@@ -1,0 +1,11 @@
+use Rattle.std.proofs.Common.{sym, subst}
+use Rattle.lc_check.proofs.Answered.{on_development}
+use Rattle.lc_check.specs.Sessions.{IsStateFed}
+use Rattle.lc_check.specs.Stages.{IsFedOn}
+use Rattle.lc_check.specs.declared.session.State.TheVariants.{UnderWay}
+use Rattle.lc_check.proofs.session.Session.finish.Goals as goal
+
+pub returns-in-UnderWay-clause-exactly : goal.returns-in-UnderWay-clause-exactly
+returns-in-UnderWay-clause-exactly c = λ dev cert h.
+    let under : IsStateFed dev cert (UnderWay c.in-UnderWay.session) = subst (IsStateFed dev cert) c.in-UnderWay.is h in
+    on_development dev cert under.0 c.finish.result under.1 (c.finish.ensures.exactly under.0 cert (subst (IsFedOn under.0 cert) (sym c.in-UnderWay.session-is) under.2))
