@@ -8,9 +8,9 @@ ghost use Rattle.lincheck.specs.Execution.{IsUnread};
 
 use crate::answer::{Answer, Failure, SUCCESS, told_fault};
 use crate::files::Files;
-use crate::reading::read_file;
+use crate::reading::{feed_file, read_file};
 use lc_base::{Fault, OutOfMemory, write_line};
-use lc_check::{Accepted, Verdict, check_certificate};
+use lc_check::{Accepted, CertificateSession, Verdict};
 use lc_outline::Development;
 use lc_outline_text::development_of;
 use std::alloc::Global;
@@ -56,7 +56,7 @@ fn tell_verdict(alloc: Global, verdict: &Verdict) -> Result<Answer, OutOfMemory>
     }
 }
 
-/// The answer to the certificate at a path, of a development.
+/// The answer to the certificate at a path, of a development. Its proofs are checked as they are read.
 fn answer_certificate<'a, F: Files>(
     alloc: Global,
     files: &mut F,
@@ -66,8 +66,9 @@ fn answer_certificate<'a, F: Files>(
     ensures unread { F.CannotOpen files.old path.now → IsErr result }
     ensures answers { IfOk result (λ answer. IfSome (F.bytes_at files.old path.now) (λ file. AnswersCertificate (development_shown development) file answer.text.items answer.status)) }
 {
-    let bytes = read_file(alloc, files, path)?;
-    let verdict = check_certificate(alloc, development, &bytes)?;
+    let mut session = CertificateSession::new(alloc, development)?;
+    feed_file(files, path, &mut session)?;
+    let verdict = session.finish()?;
     Ok(tell_verdict(alloc, &verdict)?)
 }
 

@@ -2,6 +2,7 @@
 ghost use Rattle.std.specs.Prelude.{◌≡◌};
 
 use lc_base::OutOfMemory;
+use lc_check::CertificateSession;
 use lc_sexp::FormsReader;
 
 /// Takes a file piece by piece.
@@ -42,5 +43,19 @@ impl Sink for FormsReader {
 
     fn feed(&mut self, piece: &[u8]) -> Result<(), OutOfMemory> {
         FormsReader::feed(self, piece)
+    }
+}
+
+/// A certificate's proofs, each checked as soon as it has ended.
+impl Sink for CertificateSession {
+    ghost use Rattle.lc_outline.specs.Development.{Development};
+    ghost use Rattle.lc_check.specs.Stages.{IsFedOn as IsSessionFed};
+
+    ghost About = { Development };
+
+    ghost WasFed = { λ session development fed. IsSessionFed development fed session };
+
+    fn feed(&mut self, piece: &[u8]) -> Result<(), OutOfMemory> {
+        CertificateSession::feed(self, piece)
     }
 }
