@@ -13,19 +13,20 @@ const FORMULA: [&str; 3] = ["lincheck", "formula", "a"];
 
 const JUDGE: [&str; 4] = ["lincheck", "judge", "a", "b"];
 
-/// Whether `formula` answers this to so many spaces.
-fn is_told_of_spaces(alloc: Global, count: usize, out: &str) -> Result<bool, AllocError> {
+/// What `formula` answers to so many spaces.
+fn check_spaces(alloc: Global, count: usize) -> Result<Ended, AllocError> {
     let spaces = vec![in alloc; b' '; count]?;
     let mut files = Everywhere {
         bytes: spaces.as_slice(),
     };
-    Ok(run(alloc, FORMULA.as_slice(), &mut files)?.is(1, out, ""))
+    run(alloc, FORMULA.as_slice(), &mut files)
 }
 
 /// A file of 16,777,216 bytes is read, and one byte more is one too many.
 fn limit_is_kept(alloc: Global) -> Result<bool, AllocError> {
-    let longest = is_told_of_spaces(alloc, 16_777_216, "refused 2 0\n")?;
-    Ok(longest & is_told_of_spaces(alloc, 16_777_217, "refused 1 16777216\n")?)
+    let longest = check_spaces(alloc, 16_777_216)?;
+    let too_long = check_spaces(alloc, 16_777_217)?;
+    Ok(longest.is(1, "refused 2 0\n", "") & too_long.is(1, "refused 1 16777216\n", ""))
 }
 
 #[test]
@@ -39,30 +40,31 @@ fn check_file(alloc: Global, file: File<'_>) -> Result<Ended, AllocError> {
     run(alloc, FORMULA.as_slice(), &mut Folder::of(Some(file)))
 }
 
-/// Whether a text that ends so is told to be unreadable.
-fn is_unreadable(alloc: Global, text: &str, end: End) -> Result<bool, AllocError> {
-    let ended = check_file(alloc, File::new(text, end))?;
-    Ok(ended.is(3, "", "lincheck: cannot read a\n"))
+fn is_unreadable(ended: &Ended) -> bool {
+    ended.is(3, "", "lincheck: cannot read a\n")
 }
 
 /// A read may fail in the middle of a text, or behind a text that has its answer already, or be interrupted for ever.
 fn failed_reads_are_told(alloc: Global) -> Result<bool, AllocError> {
-    let in_the_middle = is_unreadable(alloc, "(formula (", End::Fails)?;
-    let at_the_end = is_unreadable(alloc, FIRST, End::Fails)?;
-    Ok(in_the_middle & at_the_end & is_unreadable(alloc, FIRST, End::IsInterrupted)?)
-}
-
-/// A read that is interrupted is tried again.
-fn interrupted_reads_are_tried_again(alloc: Global) -> Result<bool, AllocError> {
-    let mut file = File::new(FIRST, End::Ends);
-    file.interruptions = 1000;
-    Ok(check_file(alloc, file)?.is(0, "proved\n", ""))
+    let in_the_middle = check_file(alloc, File::new("(formula (", End::Fails))?;
+    let at_the_end = check_file(alloc, File::new(FIRST, End::Fails))?;
+    let for_ever = check_file(alloc, File::new(FIRST, End::IsInterrupted))?;
+    Ok(is_unreadable(&in_the_middle) & is_unreadable(&at_the_end) & is_unreadable(&for_ever))
 }
 
 #[test]
-fn reads_that_fail_or_are_interrupted(rt: HostRuntime) -> Result<(), Fail> {
-    let told = failed_reads_are_told(rt.alloc())?;
-    assert!(rt; told & interrupted_reads_are_tried_again(rt.alloc())?);
+fn reads_that_fail(rt: HostRuntime) -> Result<(), Fail> {
+    assert!(rt; failed_reads_are_told(rt.alloc())?);
+    Ok(())
+}
+
+/// A read that is interrupted is tried again.
+#[test]
+fn reads_that_are_interrupted(rt: HostRuntime) -> Result<(), Fail> {
+    let mut file = File::new(FIRST, End::Ends);
+    file.interruptions = 1000;
+    let ended = check_file(rt.alloc(), file)?;
+    assert!(rt; ended.is(0, "proved\n", ""));
     Ok(())
 }
 
