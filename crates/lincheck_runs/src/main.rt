@@ -3,11 +3,20 @@
 //!
 //! A line of the file `runs` has the words of a command line, with a space between two. What is printed of it is the
 //! line behind a `$`, what the program wrote on standard output, then what it wrote on standard error, and its status.
+//!
+//! A line of the file `pieces` has a development and a certificate, with a space between them. What is printed of it is the
+//! line, then the verdict where the certificate comes in pieces of 1 byte, of 2, of 7, and whole.
 #![tactic(auto)]
 
+use anyhow::Context;
+use lc_check::{Session, Verdict};
 use lincheck::{Disk, execute};
 use std::alloc::{AllocError, Global};
+use std::slice::Chunks;
 use std::{fs, str};
+
+/// More bytes than a file has.
+const WHOLE: usize = 16_777_217;
 
 fn words_of(alloc: Global, line: &str) -> Result<Vec<String>, AllocError> {
     let mut words = Vec::new(alloc);
@@ -35,12 +44,56 @@ fn run_line(rt: &HostRuntime, line: &str) -> anyhow::Result<()> {
     Ok(())
 }
 
-fn main(rt: HostRuntime) -> anyhow::Result<()> {
-    let lines = fs::read_to_string(&rt, "runs")?;
+/// Prints the verdict on a development file and a certificate file that comes in these pieces.
+fn check_pieces(rt: &HostRuntime, dev: &[u8], pieces: Chunks<'_, u8>) -> anyhow::Result<()> {
+    let mut session = Session::new(rt.alloc(), dev)?;
+    for piece in pieces {
+        session.feed(piece)?;
+    }
+    match session.finish()? {
+        Verdict::Accepted(accepted) => {
+            println!(rt; "accepted {} {}", accepted.name(), accepted.count())?;
+        }
+        Verdict::Refused(refusal) => println!(rt; "{refusal}")?,
+    }
+    Ok(())
+}
+
+/// Checks the two files of a line.
+fn check_line(rt: &HostRuntime, line: &str) -> anyhow::Result<()> {
+    let (development, certificate) = line
+        .split_once(' ')
+        .context("a line has two files, with a space between them")?;
+    let dev = fs::read(rt, development)?;
+    let cert = fs::read(rt, certificate)?;
+    println!(rt; "pieces {line}")?;
+    check_pieces(rt, &dev, cert.chunks(1))?;
+    check_pieces(rt, &dev, cert.chunks(2))?;
+    check_pieces(rt, &dev, cert.chunks(7))?;
+    check_pieces(rt, &dev, cert.chunks(WHOLE))
+}
+
+fn run_lines(rt: &HostRuntime) -> anyhow::Result<()> {
+    let lines = fs::read_to_string(rt, "runs")?;
     for line in lines.as_str().split('\n') {
         if !line.is_empty() {
-            run_line(&rt, line)?;
+            run_line(rt, line)?;
         }
     }
     Ok(())
+}
+
+fn check_lines(rt: &HostRuntime) -> anyhow::Result<()> {
+    let lines = fs::read_to_string(rt, "pieces")?;
+    for line in lines.as_str().split('\n') {
+        if !line.is_empty() {
+            check_line(rt, line)?;
+        }
+    }
+    Ok(())
+}
+
+fn main(rt: HostRuntime) -> anyhow::Result<()> {
+    run_lines(&rt)?;
+    check_lines(&rt)
 }
