@@ -110,4 +110,10 @@ def stored_claims():
     return files("stored_claims", 255, 60, 60, 6)
 
 
-CERTIFICATES = {it.__name__: it for it in (claims, stored_claims)}
+def spread_claims():
+    """The same certificate with a line for each step of a proof, some 16 MB."""
+    development, certificate = stored_claims()
+    return [development, certificate.replace(b" (", b"\n" + b" " * 19 + b"(")]
+
+
+CERTIFICATES = {it.__name__: it for it in (claims, stored_claims, spread_claims)}
