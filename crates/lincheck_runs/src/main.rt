@@ -8,11 +8,12 @@
 //! line, then the verdict where the certificate comes in pieces of 1 byte, of 2, of 7, and whole.
 #![tactic(auto)]
 
+ghost use Rattle.std.specs.Prelude.{◌≤◌};
+
 use anyhow::Context;
 use lc_check::{Session, Verdict};
 use lincheck::{Disk, execute};
 use std::alloc::{AllocError, Global};
-use std::slice::Chunks;
 use std::{fs, str};
 
 /// More bytes than a file has.
@@ -44,10 +45,12 @@ fn run_line(rt: &HostRuntime, line: &str) -> anyhow::Result<()> {
     Ok(())
 }
 
-/// Prints the verdict on a development file and a certificate file that comes in these pieces.
-fn check_pieces(rt: &HostRuntime, dev: &[u8], pieces: Chunks<'_, u8>) -> anyhow::Result<()> {
+/// Prints the verdict on a development file and a certificate file that comes in pieces of so many bytes.
+fn check_pieces(rt: &HostRuntime, dev: &[u8], cert: &[u8], size: usize) -> anyhow::Result<()>
+    requires { 1 ≤ size }
+{
     let mut session = Session::new(rt.alloc(), dev)?;
-    for piece in pieces {
+    for piece in cert.chunks(size) {
         session.feed(piece)?;
     }
     match session.finish()? {
@@ -67,10 +70,10 @@ fn check_line(rt: &HostRuntime, line: &str) -> anyhow::Result<()> {
     let dev = fs::read(rt, development)?;
     let cert = fs::read(rt, certificate)?;
     println!(rt; "pieces {line}")?;
-    check_pieces(rt, &dev, cert.chunks(1))?;
-    check_pieces(rt, &dev, cert.chunks(2))?;
-    check_pieces(rt, &dev, cert.chunks(7))?;
-    check_pieces(rt, &dev, cert.chunks(WHOLE))
+    check_pieces(rt, &dev, &cert, 1)?;
+    check_pieces(rt, &dev, &cert, 2)?;
+    check_pieces(rt, &dev, &cert, 7)?;
+    check_pieces(rt, &dev, &cert, WHOLE)
 }
 
 fn run_lines(rt: &HostRuntime) -> anyhow::Result<()> {
