@@ -6,8 +6,9 @@ use Rattle.std.proofs.lemmas.List.{length-map, take-append-drop, take-map, drop-
 use Rattle.std.proofs.lemmas.List.Folds.{list_all-append}
 use Rattle.lc_sexp.specs.Trees.{Trees, list, item_count_of_all, Token, open_list, close_list, word, tokens_of, tokens_of_all}
 use Rattle.lc_sexp.specs.Text.{are_letters, begins_word, lexed}
-use Rattle.lc_sexp.specs.Entries.{Entry, hole, entries_of_all, first_row, later_rows, laid, holes_from, rows_tokens}
-use Rattle.lc_sexp.specs.Flat.{entry_of, entries, is_within, is_rooted, IsFlat, IsUnderWay}
+use Rattle.lc_sexp.specs.Entries.{Entry, branch, hole, entries_of_all, first_row, later_rows, laid, holes_from, rows_tokens}
+use Rattle.lc_sexp.specs.TreeCode.{head_tree}
+use Rattle.lc_sexp.specs.Flat.{entry_of, entries, is_within, is_rooted, trees_of, IsFlat, IsOne, IsUnderWay}
 use Rattle.lc_sexp.specs.Progress.{told, told_tokens}
 use Rattle.lc_sexp.specs.declared.node.Node.{Node}
 use Rattle.lc_sexp.specs.declared.node.Node.TheVariants.{Atom, List as ListOf, Open}
@@ -15,6 +16,7 @@ use Rattle.lc_sexp.proofs.Tokens.{and_parts}
 use Rattle.lc_sexp.proofs.Rows.{entries_all_counted, first_laid, later_laid, place_least}
 use Rattle.lc_sexp.proofs.Nodes.{within_more, word_lexed}
 use Rattle.lc_sexp.proofs.Flats.{flat_from}
+use Rattle.lc_sexp.proofs.Builds.{one_from}
 
 -- nodes of which there are none
 pub told_none : (text : List ℕ) (nodes : List Node) (tokens : List Token) → nodes ≡ [] → told_tokens text nodes tokens ≡ tokens
@@ -153,6 +155,20 @@ list_cut text start at nodes holes e end letters h =
           ∙ regroup (tokens_of_all t) (tokens_of_all u) tokens open_list close_list
           ∙ sym (ap (λ x. rows_tokens t x ++ (close_list ∷ tokens)) one.1);
     }
+
+-- the nodes of the list that is open, where it stands first, and ends
+one_given : (text : List ℕ) (start : ℕ) (nodes : List Node) (n : ℕ) (cut : IsCut text start 0 nodes) → n + 1 ≡ length nodes → are_letters text ≡ true
+    → IsOne text (set nodes 0 (ListOf n)) × (head_tree (trees_of text (set nodes 0 (ListOf n))) ≡ list cut.trees)
+one_given text start [] n cut e l = absurd (omega (arith, e))
+one_given text start (x ∷ nodes) n cut e l =
+    let count : n ≡ item_count_of_all cut.trees = omega (arith, e, cut.counted) in
+    one_from text (ListOf n ∷ nodes) (list cut.trees) (ap (λ es. branch n ∷ es) cut.shown ∙ ap (λ k. branch k ∷ entries_of_all cut.trees) count) cut.inside.within l
+
+pub list_given : (text text' : List ℕ) (start : ℕ) (nodes nodes' : List Node) (n : ℕ) (cut : IsCut text start 0 nodes) → text' ≡ text → nodes' ≡ nodes → n + 1 ≡ length nodes → are_letters text ≡ true
+    → IsOne text' (set nodes' 0 (ListOf n)) × (head_tree (trees_of text' (set nodes' 0 (ListOf n))) ≡ list cut.trees)
+list_given text text' start nodes nodes' n cut e f count l =
+    subst (λ t. IsOne t (set nodes' 0 (ListOf n)) × (head_tree (trees_of t (set nodes' 0 (ListOf n))) ≡ list cut.trees)) (sym e)
+    (subst (λ ns. IsOne text (set ns 0 (ListOf n)) × (head_tree (trees_of text (set ns 0 (ListOf n))) ≡ list cut.trees)) (sym f) (one_given text start nodes n cut count l))
 
 -- the nodes of a part of a slice
 pub flat_slice : (text text' : List ℕ) (nodes nodes' : List Node) (n : ℕ) → text' ≡ text → nodes' ≡ nodes → IsFlat text (drop n nodes) → IsFlat text' (take (length nodes' - n) (drop n nodes'))

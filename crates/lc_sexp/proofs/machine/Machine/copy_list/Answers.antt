@@ -5,7 +5,7 @@ use Rattle.lc_sexp.specs.Built.{entries_in}
 use Rattle.lc_sexp.proofs.Builds.{list_built}
 use Rattle.lc_sexp.proofs.Cuts.{list_cut, IsCut, flat_slice, entries_slice, under_way_at}
 use Rattle.lc_sexp.specs.declared.machine.Machine.{Machine}
-use Rattle.lc_sexp.proofs.machine.Machine.cut_list.Goals as goal
+use Rattle.lc_sexp.proofs.machine.Machine.copy_list.Goals as goal
 
 cut : (m : Machine) (at : ℕ) → m.holes.items ≡ at ∷ [] → m.start ≡ vec_len m.text → IsCut m.text.items m.start at m.nodes.items
 cut m at e f = list_cut m.text.items m.start at m.nodes.items m.holes.items e (let k = m.text.ok.0 in omega (arith, k, f)) m.letters m.under_way
