@@ -186,7 +186,13 @@ impl Terms {
         ensures kept { Keeps self.old self.new }
     {
         match put {
-            Filling::Put(put) => Ok(self.column_below(alloc, put, number, depth)?.0),
+            Filling::Put(put) => {
+                if column_stays(put, number) {
+                    Ok(part)
+                } else {
+                    Ok(self.column_below(alloc, put, number, depth)?.0)
+                }
+            }
             Filling::Variable(_, _) | Filling::Opening(_) | Filling::Shift(_, _) => Ok(part),
         }
     }
@@ -206,7 +212,10 @@ impl Terms {
         ensures kept { Keeps self.old self.new }
     {
         match put {
-            Filling::Put(put) => Ok(self.variable_below(alloc, put, number, depth)?.0),
+            Filling::Put(put) => match put.variables {
+                PutVariables::Own => Ok(part),
+                PutVariables::Terms(_) => Ok(self.variable_below(alloc, put, number, depth)?.0),
+            },
             Filling::Variable(variable, term) => {
                 if number == *variable {
                     Ok(self.raised(alloc, *term, depth)?.0)
@@ -479,4 +488,26 @@ fn below(depth: u32) -> Result<u32, OutOfMemory>
     ensures { IfOk result (λ n. n ≡ suc depth) }
 {
     depth.checked_add(1).ok_or(OutOfMemory)
+}
+
+// Whether a column has no entry, so that it stays.
+fn is_absent(columns: &[(ColId, ColExpr)], column: ColId) -> bool
+    ensures { result ≡ true → columns_in columns.now column.0 ≡ S.Base column.0 }
+{
+    for entry in columns {
+        if entry.0 == column {
+            return false;
+        }
+    }
+    true
+}
+
+// Whether nothing is put in for a column.
+fn column_stays(put: &Put<'_>, column: ColId) -> bool
+    ensures { result ≡ true → columns_put put.now.columns column.0 ≡ S.Base column.0 }
+{
+    match put.columns {
+        PutColumns::Stored(columns) => is_absent(columns, column),
+        PutColumns::All(_) => false,
+    }
 }

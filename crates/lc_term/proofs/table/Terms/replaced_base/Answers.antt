@@ -1,4 +1,7 @@
-use Rattle.lc_term.proofs.Filled.{column_unput}
+use Rattle.std.proofs.Common.{subst}
+use Rattle.lc_term.specs.Filling.{IsFilled}
+use Rattle.lc_term.specs.Put.{replacement_of}
+use Rattle.lc_term.proofs.Filled.{column_unput, column_stays}
 use Rattle.lc_term.proofs.table.Terms.replaced_base.Goals as goal
 
 pub returns-in-Variable-clause-id : goal.returns-in-Variable-clause-id
@@ -9,3 +12,8 @@ returns-in-Variable-2-clause-id g c = column_unput c.args.put.now g.R.Filled.rep
 
 pub returns-in-Variable-3-clause-id : goal.returns-in-Variable-3-clause-id
 returns-in-Variable-3-clause-id g c = column_unput c.args.put.now g.R.Filled.replacement c.args.depth c.args.self.now c.args.part c.args.number.0 c.in-Variable.is c.requires.put c.requires.there
+
+pub returns-then-column_stays-clause-id : goal.returns-then-column_stays-clause-id
+returns-then-column_stays-clause-id g c =
+    let filled = subst (λ p. IsFilled p c.args.self.now g.R.Filled.replacement) c.in-Put.is c.requires.put in
+    column_stays g.R.Filled.replacement (replacement_of c.in-Put.put) c.args.depth c.args.self.now c.args.part c.args.number.0 filled (c.column_stays.ensures c.if-column_stays.true) c.requires.there

@@ -1,7 +1,8 @@
-use Rattle.std.proofs.Common.{◌≡◌, subst, arith}
+use Rattle.std.proofs.Common.{◌≡◌, ap, subst, arith}
 use Rattle.std.specs.Prelude.{◌≢◌}
 use Rattle.lc_term.specs.Filling.{IsFilled}
-use Rattle.lc_term.proofs.Filled.{variable_unput, putting_here, putting_elsewhere}
+use Rattle.lc_term.specs.Put.{replacement_of, variables_put}
+use Rattle.lc_term.proofs.Filled.{variable_unput, variable_stays, putting_here, putting_elsewhere}
 use Rattle.lc_term.proofs.table.Terms.replaced_variable.Goals as goal
 
 pub returns-in_ok-raised-in-Variable-clause-id : goal.returns-in_ok-raised-in-Variable-clause-id
@@ -22,3 +23,8 @@ returns-in-Opening-clause-id g c = variable_unput c.args.put.now g.R.Filled.repl
 
 pub returns-in-Opening-2-clause-id : goal.returns-in-Opening-2-clause-id
 returns-in-Opening-2-clause-id g c = variable_unput c.args.put.now g.R.Filled.replacement c.args.depth c.args.self.now c.args.part c.args.number c.in-Opening.is c.requires.put c.requires.there
+
+pub returns-in-Own-clause-id : goal.returns-in-Own-clause-id
+returns-in-Own-clause-id g c =
+    let filled = subst (λ p. IsFilled p c.args.self.now g.R.Filled.replacement) c.in-Put.is c.requires.put in
+    variable_stays g.R.Filled.replacement (replacement_of c.in-Put.put) c.args.depth c.args.self.now c.args.part c.args.number filled (ap (λ v. variables_put v c.args.number) c.in-Own.is) c.requires.there
