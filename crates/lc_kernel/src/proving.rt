@@ -15,6 +15,10 @@ use lc_base::OutOfMemory;
 use lc_term::{FormulaId, Terms};
 use std::alloc::Global;
 
+// How many formulas a list of hypotheses has room for behind those of the goal: the negated goal, and what the first steps
+// of a proof add. So most proofs are checked without a longer list.
+const ROOM: usize = 8;
+
 /// The hypotheses of a goal and, as the last of them, the negated goal.
 #[tactic(auto, using(lc_term::proofs::Later::formulas_pushed, lc_term::proofs::Later::are_formulas_pushed, lc_term::proofs::Later::kept_on, lc_term::proofs::Later::keeps_itself))]
 fn assumed(terms: &mut Terms, alloc: Global, goal: &Goal) -> Result<Vec<FormulaId>, OutOfMemory>
@@ -25,7 +29,9 @@ fn assumed(terms: &mut Terms, alloc: Global, goal: &Goal) -> Result<Vec<FormulaI
     ensures kept { Keeps terms.old terms.new }
 {
     let negated = terms.not(goal.goal)?;
-    let mut formulas = Vec::from_slice(alloc, &goal.hypotheses)?;
+    let room = goal.hypotheses.len().saturating_add(ROOM);
+    let mut formulas = Vec::with_capacity(alloc, room)?;
+    formulas.extend_from_slice(&goal.hypotheses)?;
     formulas.push(negated)?;
     Ok(formulas)
 }

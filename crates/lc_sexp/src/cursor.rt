@@ -385,13 +385,10 @@ pub(crate) fn letters_at(text: &[u8], start: u32, length: u32) -> &[u8]
     &text[start..start + length as usize]
 }
 
-/// Letters as text.
+/// Letters as text. They are ASCII, which is proved here and not tested.
 fn as_text(letters: &[u8]) -> &str
     requires { are_letters letters.now ≡ true }
     ensures { result.now ≡ letters.now }
 {
-    match str::from_utf8(letters) {
-        Ok(text) => text,
-        Err(_) => unreachable!(),
-    }
+    unsafe { str::from_utf8_unchecked(letters) }
 }
