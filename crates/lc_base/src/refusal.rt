@@ -8,7 +8,7 @@ use std::fmt;
 
 /// Why a file or an order is refused. Offsets count bytes and items count in preorder, both from 0.
 /// It is printed as `refused`, its code and its numbers.
-#[derive(Clone, Copy, Debug, PartialEq, Eq, Hash)]
+#[derive(Clone, Copy, Debug, PartialEq, Eq)]
 pub enum Refusal {
     /// The bytes are no s-expressions. The number is the offset of the first fault.
     Text(u64),
@@ -72,7 +72,7 @@ impl fmt::Display for Refusal {
 impl Error for Refusal {}
 
 /// What a reader answers in place of a value.
-#[derive(Clone, Copy, Debug, PartialEq, Eq, Hash, thiserror::Error)]
+#[derive(Clone, Copy, Debug, PartialEq, Eq, thiserror::Error)]
 pub enum Fault {
     /// The input is refused.
     #[error("{0}")]

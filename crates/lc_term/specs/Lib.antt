@@ -5,7 +5,6 @@ pub mod Counter
 pub mod Equal
 pub mod EqualLaws
 pub mod Filling
-pub mod Hash
 pub mod Lists
 pub mod Meaning
 pub mod NodeReplacement

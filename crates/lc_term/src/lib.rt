@@ -8,7 +8,6 @@ mod evaluation;
 mod filling;
 mod formula;
 mod ground;
-mod hash;
 pub mod laws;
 mod node;
 mod node_replacement;
