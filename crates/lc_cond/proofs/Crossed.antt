@@ -1,5 +1,5 @@
 -- Actions of other clients, one after another.
-use Rattle.std.proofs.Common.{◌≡◌, ℕ, zero, suc, ◌+◌, ◌<◌, Some, List, [], ◌∷◌, ◌++◌, map, take, length, get_or, refl, sym, subst, ap, ap₂, ◌∙◌, arith, zero-add}
+use Rattle.std.proofs.Common.{◌≡◌, ℕ, zero, suc, ◌+◌, ◌<◌, Some, List, [], ◌∷◌, ◌++◌, map, take, length, get_or, refl, sym, subst, ap, ◌∙◌, arith, zero-add}
 use Rattle.std.specs.Prelude.{Option, None, option_map, slice_get}
 use Rattle.std.proofs.lemmas.Option.{slice_get-get_or}
 use Rattle.std.proofs.lemmas.List.{map-append, take_more, take_all, length-map, length-take-le}
@@ -10,23 +10,31 @@ use Rattle.lc_term.specs.Syntax as T
 use Rattle.lc_term.specs.Syntax.{Formula}
 use Rattle.lc_term.specs.Tables.{Keeps, HasFormula, formula_in, formulas_in, AreFormulas}
 use Rattle.lc_term.specs.declared.node.FormulaId.{FormulaId}
-use Rattle.lc_term.proofs.Later.{formula_has}
-use Rattle.lc_term.proofs.Listed.{are_formulas-get}
+use Rattle.lc_term.proofs.Later.{formula_has, are_formulas_still}
 use Rattle.lc_action.specs.Action.{Action}
 use Rattle.lc_outline.specs.Development.{Development}
-use Rattle.lc_cond.specs.Adding.{HasFormulas, Adds}
+use Rattle.lc_cond.specs.Adding.{Adds}
 use Rattle.lc_cond.specs.Conditions as S
 use Rattle.lc_cond.specs.Conditions.{stable_under, stable_goal}
-use Rattle.lc_cond.specs.Crossings.{IsCrossing, AreCrossings, HaveGoals, MakesStable, MakesAllStable}
+use Rattle.lc_cond.specs.Crossings.{IsGiven, IsCrossing, AreCrossings, HaveGoals, MakesStable, MakesAllStable}
 use Rattle.lc_cond.specs.Heads.{MakesOne}
 use Rattle.lc_cond.specs.declared.condition.Kind.TheVariants as K
 use Rattle.lc_cond.specs.declared.condition.Passage.TheVariants as P
 use Rattle.lc_cond.specs.declared.condition.Which.TheVariants as W
 use Rattle.lc_cond.specs.declared.condition.Condition.{Condition}
 use Rattle.lc_cond.specs.declared.stability.Crossing.{Crossing}
+use Rattle.lc_cond.specs.declared.stability.Given.{Given}
 use Rattle.lc_cond.proofs.Adding.{formulas_later, adds_both, adds_nothing}
 use Rattle.lc_cond.proofs.Made.{numbered-snoc}
 use Rattle.lc_cond.proofs.Ridden.{concat_places-snoc}
+
+pub given_later : (old new : Table) (D : Development) (g : Given) → IsGiven old D g → Keeps old new → IsGiven new D g
+given_later old new D g h kept = record {
+  clients = formulas_later old new g.clients.now _ h.clients kept;
+  known = are_formulas_still old new g.known.now h.known kept;
+  invariant = formulas_later old new g.invariant.now _ h.invariant kept;
+  asserts = are_formulas_still old new g.asserts.now h.asserts kept;
+}
 
 crossing_later : (old new : Table) (D : Development) (n : ℕ) (hs fs : List Formula) (a : Action) (c : Crossing) → IsCrossing old D n hs fs a c → Keeps old new → IsCrossing new D n hs fs a c
 crossing_later old new D n hs fs a c h kept = record {

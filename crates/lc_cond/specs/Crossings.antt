@@ -3,14 +3,27 @@ use Rattle.std.specs.Prelude.{◌≡◌, ℕ, suc, ◌+◌, List, [], ◌∷◌,
 use Rattle.lc_base.specs.declared.ids.PointId.{PointId}
 use Rattle.lc_term.specs.Lists.{numbered, concat_places}
 use Rattle.lc_term.specs.NodeTables.{Table}
-use Rattle.lc_term.specs.Syntax.{Formula}
+use Rattle.lc_term.specs.Syntax.{Variable, Formula, Eq, Not}
+use Rattle.lc_term.specs.Tables.{AreFormulas}
 use Rattle.lc_term.specs.declared.node.FormulaId.{FormulaId}
 use Rattle.lc_action.specs.Action.{Action}
-use Rattle.lc_outline.specs.Development.{Development}
+use Rattle.lc_outline.specs.Development.{Development, invariant_of}
 use Rattle.lc_cond.specs.Adding.{HasFormulas, Adds}
-use Rattle.lc_cond.specs.Conditions.{stable_hypotheses, stable_goal, stable_under}
+use Rattle.lc_cond.specs.Conditions.{range, stable_hypotheses, stable_goal, stable_under}
 use Rattle.lc_cond.specs.declared.condition.Condition.{Condition}
 use Rattle.lc_cond.specs.declared.stability.Crossing.{Crossing}
+use Rattle.lc_cond.specs.declared.stability.Given.{Given}
+
+-- clients 1 and u, whose variable is the n-th, and they differ
+abbrev pub two_clients : ℕ → List Formula
+two_clients n = range (Variable 1) ++ (range (Variable n) ++ (Not (Eq (Variable 1) (Variable n)) ∷ []))
+
+-- what the table has for all actions of u
+pub record IsGiven (ts : Table) (D : Development) (g : Given) : Type 0 where
+  pub clients : HasFormulas ts g.clients.now (two_clients g.client)
+  pub known : AreFormulas ts g.known.now
+  pub invariant : HasFormulas ts g.invariant.now (invariant_of D)
+  pub asserts : AreFormulas ts g.asserts.now
 
 -- client u, whose variable is the n-th, does this action, where hs is known of the other client and these are asserted
 pub record IsCrossing (ts : Table) (D : Development) (n : ℕ) (hs asserts : List Formula) (a : Action) (c : Crossing) : Type 0 where

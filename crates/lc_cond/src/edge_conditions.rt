@@ -67,8 +67,7 @@ pub(crate) fn known_with(
 ) -> Result<Vec<FormulaId>, OutOfMemory>
     ensures { IfOk result (λ ks. ks.items ≡ scene.now.hypotheses.items ++ facts.now) }
 {
-    let before = Vec::from_slice(alloc, &scene.hypotheses)?;
-    joined(before, facts)
+    joined(alloc, &scene.hypotheses, facts)
 }
 
 /// What the marks of a path ask for.

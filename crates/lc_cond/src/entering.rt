@@ -55,27 +55,31 @@ pub(crate) fn entered_invariant(
 
 /// Some formulas, and others behind them.
 pub(crate) fn joined(
-    mut first: Vec<FormulaId>,
+    alloc: Global,
+    first: &[FormulaId],
     second: &[FormulaId],
 ) -> Result<Vec<FormulaId>, OutOfMemory>
-    ensures { IfOk result (λ ks. ks.items ≡ first.items ++ second.now) }
+    ensures { IfOk result (λ ks. ks.items ≡ first.now ++ second.now) }
 {
-    first.extend_from_slice(second)?;
-    Ok(first)
+    let count = first.len().checked_add(second.len()).ok_or(OutOfMemory)?;
+    let mut all = Vec::with_capacity(alloc, count)?;
+    all.extend_from_slice(first)?;
+    all.extend_from_slice(second)?;
+    Ok(all)
 }
 
 /// Some formulas, and others behind them, which are entered.
 pub(crate) fn entered_behind(
     alloc: Global,
     terms: &mut Terms,
-    first: Vec<FormulaId>,
+    first: &[FormulaId],
     formulas: &[Formula],
 ) -> Result<Vec<FormulaId>, OutOfMemory>
-    ensures list { IfOk result (λ ks. (fs : List S.Formula) → HasFormulas terms.old first.items fs → HasFormulas terms.new ks.items (fs ++ formulas_of formulas.now)) }
+    ensures list { IfOk result (λ ks. (fs : List S.Formula) → HasFormulas terms.old first.now fs → HasFormulas terms.new ks.items (fs ++ formulas_of formulas.now)) }
     ensures kept { Keeps terms.old terms.new }
 {
     let second = entered(alloc, terms, formulas)?;
-    joined(first, &second)
+    joined(alloc, first, &second)
 }
 
 /// Each of the formulas with what is put in.

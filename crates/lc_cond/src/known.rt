@@ -74,7 +74,7 @@ pub(crate) fn with_invariant(
     ensures kept { Keeps terms.old terms.new }
 {
     let invariant = entered_invariant(alloc, terms, &development.parts().tie)?;
-    entered_behind(alloc, terms, invariant, others)
+    entered_behind(alloc, terms, &invariant, others)
 }
 
 /// What is known of client 1 at a point of the body of this operation: its frame, the invariant and the assertions.
@@ -96,7 +96,7 @@ pub(crate) fn known_in_body(
     let frame = body_frame(alloc, terms, system, operation, argument_count(body))?;
     let asserts = asserts_at(development, point);
     let shared = with_invariant(alloc, terms, development, asserts)?;
-    joined(frame, &shared)
+    joined(alloc, &frame, &shared)
 }
 
 /// What is known of client 1 where it has no call.
@@ -113,7 +113,7 @@ pub(crate) fn known_idle(
 {
     let frame = idle_frame(alloc, terms, system)?;
     let shared = with_invariant(alloc, terms, development, idle_of(development))?;
-    joined(frame, &shared)
+    joined(alloc, &frame, &shared)
 }
 
 /// Behind the range of client 1.
@@ -126,5 +126,5 @@ pub(crate) fn in_range(
     ensures kept { Keeps terms.old terms.new }
 {
     let range = range(alloc, terms, 1)?;
-    joined(range, known)
+    joined(alloc, &range, known)
 }

@@ -175,7 +175,8 @@ fn acting_variables(
 ) -> Result<Vec<Term>, OutOfMemory>
     ensures { IfOk result (λ ts. map term_of ts.items ≡ acting_variables (Variable client) (map term_of arguments.now)) }
 {
-    let mut variables = Vec::new(alloc);
+    let count = arguments.len().checked_add(2).ok_or(OutOfMemory)?;
+    let mut variables = Vec::with_capacity(alloc, count)?;
     variables.push(Term::Variable(0))?;
     variables.push(Term::Variable(client))?;
     for argument in arguments {

@@ -100,7 +100,7 @@ fn edge_hypotheses(
         code.point,
     )?;
     let before = in_range(alloc, terms, &known)?;
-    entered_behind(alloc, terms, before, &code.facts)
+    entered_behind(alloc, terms, &before, &code.facts)
 }
 
 // What is to hold behind the edge, entered: the invariant, and what holds where the edge leads to.

@@ -1,8 +1,8 @@
 //! The conditions that what holds of a client stays where another one acts.
-ghost use Rattle.std.specs.Prelude.{◌≡◌, ◌+◌, ◌<◌, ◌++◌, [], ◌∷◌, suc, length, map, option_map, IfOk, OnOk};
+ghost use Rattle.std.specs.Prelude.{◌≡◌, ◌+◌, ◌*◌, ◌<◌, ◌++◌, ◌∷◌, suc, length, map, option_map, IfOk, OnOk};
 ghost use Rattle.lc_term.specs.Lists.{Every, numbered, concat_places};
 ghost use Rattle.lc_term.specs.Replacement.{replace, replacing};
-ghost use Rattle.lc_term.specs.Syntax.{Variable, Eq, Not};
+ghost use Rattle.lc_term.specs.Syntax.{Variable};
 ghost use Rattle.lc_term.specs.Tables.{formulas_in, AreFormulas, Keeps};
 ghost use Rattle.lc_term.specs.View.{term_of, formulas_of};
 ghost use Rattle.lc_action.specs.Action.{post_columns};
@@ -10,8 +10,8 @@ ghost use Rattle.lc_action.specs.ActionView.{action_of, first_of};
 ghost use Rattle.lc_outline.specs.Development.{invariant_of, all_actions, first_system};
 ghost use Rattle.lc_outline.specs.DevelopmentView.{development_shown};
 ghost use Rattle.lc_cond.specs.Adding.{HasFormulas, Adds, Under};
-ghost use Rattle.lc_cond.specs.Conditions.{range, stable_variables, stable_under};
-ghost use Rattle.lc_cond.specs.Crossings.{Crosses, AllCross, CrossesToo, MakesStable, MakesAllStable, HaveGoals};
+ghost use Rattle.lc_cond.specs.Conditions.{stable_variables, stable_under};
+ghost use Rattle.lc_cond.specs.Crossings.{two_clients, IsGiven, AreCrossings, Crosses, AllCross, CrossesToo, MakesStable, MakesAllStable, HaveGoals};
 
 use crate::condition::{Condition, Kind, Passage, Which};
 use crate::entering::{entered, entered_invariant, told};
@@ -45,11 +45,25 @@ impl Drop for Crossing {
     }
 }
 
+/// What is entered once where another client acts, whichever action it does.
+#[derive(Clone, Copy)]
+struct Given<'a> {
+    /// The variable of the other client.
+    client: u32,
+    /// That it is another client.
+    clients: &'a [FormulaId],
+    /// What is known of the first client.
+    known: &'a [FormulaId],
+    invariant: &'a [FormulaId],
+    asserts: &'a [FormulaId],
+}
+
 // Two clients, 1 and the variable, and they differ.
 fn two_clients(alloc: Global, other: u32) -> Result<Vec<Formula>, OutOfMemory>
-    ensures { IfOk result (λ fs. formulas_of fs.items ≡ range (Variable 1) ++ (range (Variable other) ++ (Not (Eq (Variable 1) (Variable other)) ∷ []))) }
+    ensures { IfOk result (λ fs. formulas_of fs.items ≡ two_clients other) }
 {
-    let mut formulas = frames::range(alloc, 1)?;
+    let mut formulas = Vec::with_capacity(alloc, 5)?;
+    frames::push_range(alloc, 1, &mut formulas)?;
     frames::push_range(alloc, other, &mut formulas)?;
     let same = Formula::Eq(Term::Variable(1), Term::Variable(other));
     formulas.push(Formula::Not(Box::new(alloc, same)?))?;
@@ -86,19 +100,34 @@ fn told_behind(
     Ok((invariant, asserts))
 }
 
-// Some formulas, what is known, the guard, and what holds behind the action.
+// How many formulas there are of these and the guard.
+fn gathered_count(clients: usize, known: usize, behind: usize) -> Result<usize, OutOfMemory>
+    ensures { IfOk result (λ n. n ≡ clients + known + behind + 1) }
+{
+    clients
+        .checked_add(known)
+        .and_then(|count| count.checked_add(behind))
+        .and_then(|count| count.checked_add(1))
+        .ok_or(OutOfMemory)
+}
+
+// Two clients, what is known, the guard, and what holds behind the action.
 fn gathered(
-    mut first: Vec<FormulaId>,
+    alloc: Global,
+    clients: &[FormulaId],
     known: &[FormulaId],
     guard: FormulaId,
     behind: &[FormulaId],
 ) -> Result<Vec<FormulaId>, OutOfMemory>
-    ensures { IfOk result (λ ks. ks.items ≡ first.items ++ (known.now ++ (guard ∷ behind.now))) }
+    ensures { IfOk result (λ ks. ks.items ≡ clients.now ++ (known.now ++ (guard ∷ behind.now))) }
 {
-    first.extend_from_slice(known)?;
-    first.push(guard)?;
-    first.extend_from_slice(behind)?;
-    Ok(first)
+    let count = gathered_count(clients.len(), known.len(), behind.len())?;
+    let mut all = Vec::with_capacity(alloc, count)?;
+    all.extend_from_slice(clients)?;
+    all.extend_from_slice(known)?;
+    all.push(guard)?;
+    all.extend_from_slice(behind)?;
+    Ok(all)
 }
 
 // The parameters of an action of the client that is this variable: the variables behind it.
@@ -131,46 +160,40 @@ fn entered_clients(
     terms: &mut Terms,
     other: u32,
 ) -> Result<Vec<FormulaId>, OutOfMemory>
-    ensures list { IfOk result (λ ks. HasFormulas terms.new ks.items (range (Variable 1) ++ (range (Variable other) ++ (Not (Eq (Variable 1) (Variable other)) ∷ [])))) }
+    ensures list { IfOk result (λ ks. HasFormulas terms.new ks.items (two_clients other)) }
     ensures kept { Keeps terms.old terms.new }
 {
     let formulas = two_clients(alloc, other)?;
     entered(alloc, terms, &formulas)
 }
 
-// The action of the client that is this variable, where these are known and asserted.
+// The action of the other client.
 #[tactic(auto, using(lc_term::proofs::Later::kept_on))]
 fn cross(
     alloc: Global,
     terms: &mut Terms,
     development: &Development,
     action: &Action,
-    client: u32,
-    known: &[FormulaId],
-    invariant: &[FormulaId],
-    asserts: &[FormulaId],
+    given: &Given<'_>,
 ) -> Result<Crossing, OutOfMemory>
-    requires known { AreFormulas terms.old known.now }
-    requires invariant { HasFormulas terms.old invariant.now (invariant_of (development_shown development.now)) }
-    requires asserts { AreFormulas terms.old asserts.now }
-    ensures crossing { IfOk result (λ c. Crosses terms.old terms.new (development_shown development.now) client known.now asserts.now (action_of action.now) c) }
+    requires { IsGiven terms.old (development_shown development.now) given.now }
+    ensures crossing { IfOk result (λ c. Crosses terms.old terms.new (development_shown development.now) given.now.client given.now.known.now given.now.asserts.now (action_of action.now) c) }
     ensures kept { Keeps terms.old terms.new }
 {
     let _ = development;
-    let variables = variables_with(action, client)?;
-    let parameters = parameters(alloc, action, client)?;
+    let variables = variables_with(action, given.client)?;
+    let parameters = parameters(alloc, action, given.client)?;
     let (behind, goals) = told_behind(
         alloc,
         terms,
         action,
-        client,
+        given.client,
         &parameters,
-        invariant,
-        asserts,
+        given.invariant,
+        given.asserts,
     )?;
-    let guard = entered_guard(alloc, terms, action, client, &parameters)?;
-    let clients = entered_clients(alloc, terms, client)?;
-    let hypotheses = gathered(clients, known, guard, &behind)?;
+    let guard = entered_guard(alloc, terms, action, given.client, &parameters)?;
+    let hypotheses = gathered(alloc, given.clients, given.known, guard, &behind)?;
     Ok(Crossing {
         variables,
         hypotheses,
@@ -178,35 +201,23 @@ fn cross(
     })
 }
 
-// The declared actions of the client that is this variable.
+// The declared actions of the other client, in a list that has room for two more.
 fn declared_crossings(
     alloc: Global,
     terms: &mut Terms,
     development: &Development,
-    client: u32,
-    known: &[FormulaId],
-    invariant: &[FormulaId],
-    asserts: &[FormulaId],
+    given: &Given<'_>,
 ) -> Result<Vec<Crossing>, OutOfMemory>
-    requires known { AreFormulas terms.old known.now }
-    requires invariant { HasFormulas terms.old invariant.now (invariant_of (development_shown development.now)) }
-    requires asserts { AreFormulas terms.old asserts.now }
+    requires { IsGiven terms.old (development_shown development.now) given.now }
     ensures crossings { let d = development_shown development.now in
-        IfOk result (λ cs. AllCross terms.old terms.new d client known.now asserts.now d.actions cs.items) }
+        IfOk result (λ cs. AllCross terms.old terms.new d given.now.client given.now.known.now given.now.asserts.now d.actions cs.items) }
     ensures kept { Keeps terms.old terms.new }
 {
-    let mut crossings = Vec::new(alloc);
-    for action in actions_of(development) {
-        let next = cross(
-            alloc,
-            terms,
-            development,
-            action,
-            client,
-            known,
-            invariant,
-            asserts,
-        )?;
+    let actions = actions_of(development);
+    let count = actions.len().checked_add(2).ok_or(OutOfMemory)?;
+    let mut crossings = Vec::with_capacity(alloc, count)?;
+    for action in actions {
+        let next = cross(alloc, terms, development, action, given)?;
         crossings.push(next)?;
     }
     Ok(crossings)
@@ -227,84 +238,66 @@ fn with_crossing(
     development: &Development,
     mut crossings: Vec<Crossing>,
     action: &Action,
-    client: u32,
-    known: &[FormulaId],
-    invariant: &[FormulaId],
-    asserts: &[FormulaId],
+    given: &Given<'_>,
 ) -> Result<Vec<Crossing>, OutOfMemory>
-    requires known { AreFormulas terms.old known.now }
-    requires invariant { HasFormulas terms.old invariant.now (invariant_of (development_shown development.now)) }
-    requires asserts { AreFormulas terms.old asserts.now }
-    ensures crossings { IfOk result (λ cs. CrossesToo terms.old terms.new (development_shown development.now) client known.now asserts.now (action_of action.now) crossings.items cs.items) }
+    requires { IsGiven terms.old (development_shown development.now) given.now }
+    ensures crossings { IfOk result (λ cs. CrossesToo terms.old terms.new (development_shown development.now) given.now.client given.now.known.now given.now.asserts.now (action_of action.now) crossings.items cs.items) }
     ensures kept { Keeps terms.old terms.new }
 {
-    let next = cross(
-        alloc,
-        terms,
-        development,
-        action,
-        client,
-        known,
-        invariant,
-        asserts,
-    )?;
+    let next = cross(alloc, terms, development, action, given)?;
     crossings.push(next)?;
     Ok(crossings)
 }
 
-// All actions of the client that is this variable: those that are declared, and that a call begins or ends.
+// All actions of the other client: those that are declared, and that a call begins or ends.
 #[tactic(auto, using(lc_term::proofs::Later::kept_on))]
 fn all_crossings(
     alloc: Global,
     terms: &mut Terms,
     development: &Development,
     system: SystemColumns,
-    client: u32,
-    known: &[FormulaId],
-    invariant: &[FormulaId],
-    asserts: &[FormulaId],
+    given: &Given<'_>,
 ) -> Result<Vec<Crossing>, OutOfMemory>
     requires system { first_of system ≡ first_system (development_shown development.now) }
-    requires known { AreFormulas terms.old known.now }
-    requires invariant { HasFormulas terms.old invariant.now (invariant_of (development_shown development.now)) }
-    requires asserts { AreFormulas terms.old asserts.now }
+    requires given { IsGiven terms.old (development_shown development.now) given.now }
     ensures crossings { let d = development_shown development.now in
-        IfOk result (λ cs. AllCross terms.old terms.new d client known.now asserts.now (all_actions d) cs.items) }
+        IfOk result (λ cs. AllCross terms.old terms.new d given.now.client given.now.known.now given.now.asserts.now (all_actions d) cs.items) }
     ensures kept { Keeps terms.old terms.new }
 {
-    let declared = declared_crossings(
-        alloc,
-        terms,
-        development,
-        client,
-        known,
-        invariant,
-        asserts,
-    )?;
+    let declared = declared_crossings(alloc, terms, development, given)?;
     let begins = enter(alloc, system)?;
-    let entered = with_crossing(
-        alloc,
-        terms,
-        development,
-        declared,
-        &begins,
-        client,
-        known,
-        invariant,
-        asserts,
-    )?;
+    let entered = with_crossing(alloc, terms, development, declared, &begins, given)?;
     let ends = leave(alloc, system)?;
-    with_crossing(
-        alloc,
-        terms,
-        development,
-        entered,
-        &ends,
+    with_crossing(alloc, terms, development, entered, &ends, given)
+}
+
+// All actions of the client that is this variable, where these are known and asserted.
+#[tactic(auto, using(lc_term::proofs::Later::kept_on))]
+fn entered_crossings(
+    alloc: Global,
+    terms: &mut Terms,
+    development: &Development,
+    client: u32,
+    known: &[FormulaId],
+    asserts: &[Formula],
+) -> Result<Vec<Crossing>, OutOfMemory>
+    requires { AreFormulas terms.old known.now }
+    ensures crossings { let d = development_shown development.now in
+        IfOk result (λ cs. Under terms.old known.now (λ hs. AreCrossings terms.new d client hs (formulas_of asserts.now) (all_actions d) cs.items)) }
+    ensures kept { Keeps terms.old terms.new }
+{
+    let system = system_columns(development)?;
+    let clients = entered_clients(alloc, terms, client)?;
+    let invariant = entered_invariant(alloc, terms, &development.parts().tie)?;
+    let asserted = entered(alloc, terms, asserts)?;
+    let given = Given {
         client,
+        clients: &clients,
         known,
-        invariant,
-        asserts,
-    )
+        invariant: &invariant,
+        asserts: &asserted,
+    };
+    all_crossings(alloc, terms, development, system, &given)
 }
 
 // A condition for each of these actions, of the conjunct at this place.
@@ -333,6 +326,13 @@ fn push_conjunct(
     Ok(())
 }
 
+// How many conditions there are of so many conjuncts.
+fn stable_count(conjuncts: usize, crossings: usize) -> Result<usize, OutOfMemory>
+    ensures { IfOk result (λ n. n ≡ conjuncts * crossings) }
+{
+    conjuncts.checked_mul(crossings).ok_or(OutOfMemory)
+}
+
 // The same of each conjunct, so many.
 fn push_conjuncts(
     alloc: Global,
@@ -344,6 +344,7 @@ fn push_conjuncts(
     requires { HaveGoals count crossings.now }
     ensures { OnOk result (MakesAllStable point count crossings.now conditions.old.items conditions.new.items) }
 {
+    conditions.reserve(stable_count(count, crossings.len())?)?;
     for number in 0..count {
         push_conjunct(alloc, point, number, crossings, conditions)?;
     }
@@ -368,18 +369,6 @@ pub(crate) fn push_stable(
         (concat_places (λ k f. numbered (stable_under d (option_map (λ p. p.0) point) variables hs k f) 0 (all_actions d)) 0 (formulas_of asserts.now)))) }
     ensures kept { Keeps terms.old terms.new }
 {
-    let system = system_columns(development)?;
-    let invariant = entered_invariant(alloc, terms, &development.parts().tie)?;
-    let goals = entered(alloc, terms, asserts)?;
-    let crossings = all_crossings(
-        alloc,
-        terms,
-        development,
-        system,
-        variables,
-        known,
-        &invariant,
-        &goals,
-    )?;
+    let crossings = entered_crossings(alloc, terms, development, variables, known, asserts)?;
     push_conjuncts(alloc, point, asserts.len(), &crossings, conditions)
 }

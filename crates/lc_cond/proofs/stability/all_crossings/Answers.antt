@@ -1,38 +1,27 @@
-use Rattle.std.proofs.Common.{◌≡◌, ◌++◌, ◌∷◌, [], ap, ap₂, subst, ◌∙◌, append_assoc}
+use Rattle.std.proofs.Common.{◌++◌, ◌∷◌, [], ap, ap₂, subst, ◌∙◌, append_assoc}
 use Rattle.std.proofs.lemmas.Result.{IfOk-weaker}
-use Rattle.lc_term.proofs.Later.{kept_on, are_formulas_still}
+use Rattle.lc_term.proofs.Later.{kept_on}
 use Rattle.lc_action.specs.Action.{enter, leave}
 use Rattle.lc_action.specs.ActionView.{action_of}
 use Rattle.lc_outline.specs.DevelopmentView.{development_shown}
 use Rattle.lc_cond.specs.Crossings.{AreCrossings}
 use Rattle.lc_cond.proofs.Adding.{formulas_later}
+use Rattle.lc_cond.proofs.Crossed.{given_later}
 use Rattle.lc_cond.proofs.stability.all_crossings.Goals as goal
 
-pub with_crossing-requires-clause-known : goal.with_crossing-requires-clause-known
-with_crossing-requires-clause-known c = are_formulas_still c.args.terms.now c.declared_crossings.new.terms c.args.known.now c.requires.known c.in_ok-declared.ensures.kept
+pub with_crossing-requires : goal.with_crossing-requires
+with_crossing-requires c = given_later c.args.terms.now c.declared_crossings.new.terms (development_shown c.args.development.now) c.args.given.now c.requires.given c.in_ok-declared.ensures.kept
 
-pub with_crossing-requires-clause-invariant : goal.with_crossing-requires-clause-invariant
-with_crossing-requires-clause-invariant c = formulas_later c.args.terms.now c.declared_crossings.new.terms c.args.invariant.now _ c.requires.invariant c.in_ok-declared.ensures.kept
-
-pub with_crossing-requires-clause-asserts : goal.with_crossing-requires-clause-asserts
-with_crossing-requires-clause-asserts c = are_formulas_still c.args.terms.now c.declared_crossings.new.terms c.args.asserts.now c.requires.asserts c.in_ok-declared.ensures.kept
-
-pub with_crossing-requires-2-clause-known : goal.with_crossing-requires-2-clause-known
-with_crossing-requires-2-clause-known c =
-    are_formulas_still c.args.terms.now c.with_crossing.new.terms c.args.known.now c.requires.known (kept_on c.args.terms.now c.declared_crossings.new.terms c.with_crossing.new.terms c.in_ok-declared.ensures.kept c.in_ok-entered.ensures.kept)
-
-pub with_crossing-requires-2-clause-invariant : goal.with_crossing-requires-2-clause-invariant
-with_crossing-requires-2-clause-invariant c =
-    formulas_later c.args.terms.now c.with_crossing.new.terms c.args.invariant.now _ c.requires.invariant (kept_on c.args.terms.now c.declared_crossings.new.terms c.with_crossing.new.terms c.in_ok-declared.ensures.kept c.in_ok-entered.ensures.kept)
-
-pub with_crossing-requires-2-clause-asserts : goal.with_crossing-requires-2-clause-asserts
-with_crossing-requires-2-clause-asserts c =
-    are_formulas_still c.args.terms.now c.with_crossing.new.terms c.args.asserts.now c.requires.asserts (kept_on c.args.terms.now c.declared_crossings.new.terms c.with_crossing.new.terms c.in_ok-declared.ensures.kept c.in_ok-entered.ensures.kept)
+pub with_crossing-requires-2 : goal.with_crossing-requires-2
+with_crossing-requires-2 c =
+    given_later c.args.terms.now c.with_crossing.new.terms (development_shown c.args.development.now) c.args.given.now c.requires.given
+    (kept_on c.args.terms.now c.declared_crossings.new.terms c.with_crossing.new.terms c.in_ok-declared.ensures.kept c.in_ok-entered.ensures.kept)
 
 pub returns-clause-crossings : goal.returns-clause-crossings
 returns-clause-crossings c =
     let D = development_shown c.args.development.now in
-    let n = c.args.client in
+    let g = c.args.given.now in
+    let n = g.client in
     let t0 = c.args.terms.now in
     let t1 = c.declared_crossings.new.terms in
     let t2 = c.with_crossing.new.terms in
@@ -44,6 +33,6 @@ returns-clause-crossings c =
     let all = append_assoc D.actions (begins ∷ []) (ends ∷ []) ∙ ap₂ (λ a b. D.actions ++ a ∷ b ∷ []) (c.in_ok-begins.ensures ∙ ap enter c.requires.system) (c.in_ok-ends.ensures ∙ ap leave c.requires.system) in
     IfOk-weaker c.with_crossing-2.result _ _
     (λ cs too hs fs kh fh. subst (λ l. AreCrossings t3 D n hs fs l cs.items) all
-    (too hs fs (D.actions ++ begins ∷ []) (formulas_later t0 t2 c.args.known.now hs kh kept2) (formulas_later t0 t2 c.args.asserts.now fs fh kept2)
-    (c.in_ok-entered.ensures.crossings hs fs D.actions (formulas_later t0 t1 c.args.known.now hs kh kept1) (formulas_later t0 t1 c.args.asserts.now fs fh kept1)
+    (too hs fs (D.actions ++ begins ∷ []) (formulas_later t0 t2 g.known.now hs kh kept2) (formulas_later t0 t2 g.asserts.now fs fh kept2)
+    (c.in_ok-entered.ensures.crossings hs fs D.actions (formulas_later t0 t1 g.known.now hs kh kept1) (formulas_later t0 t1 g.asserts.now fs fh kept1)
     (c.in_ok-declared.ensures.crossings hs fs kh fh)))) c.with_crossing-2.ensures.crossings

@@ -1,25 +1,20 @@
 use Rattle.std.proofs.Common.{rules, ◌≡◌, ◌++◌, ◌∷◌, [], map, take, ap, sym, subst, ◌∙◌}
 use Rattle.std.proofs.lemmas.List.{take_all}
-use Rattle.lc_term.proofs.Later.{kept_on, are_formulas_still}
+use Rattle.lc_term.proofs.Later.{kept_on}
 use Rattle.lc_action.specs.ActionView.{action_of}
 use Rattle.lc_outline.specs.DevelopmentView.{development_shown}
 use Rattle.lc_cond.specs.Crossings.{AreCrossings}
 use Rattle.lc_cond.proofs.Adding.{formulas_later}
-use Rattle.lc_cond.proofs.Crossed.{crossings_put, seen_more}
+use Rattle.lc_cond.proofs.Crossed.{given_later, crossings_put, seen_more}
 use Rattle.lc_cond.proofs.stability.declared_crossings.Goals as goal
 
-pub cross-requires-clause-known : goal.cross-requires-clause-known
-cross-requires-clause-known c = are_formulas_still c.args.terms.now c.loop-action.terms c.args.known.now c.requires.known c.loop-action.invariant.0
-
-pub cross-requires-clause-invariant : goal.cross-requires-clause-invariant
-cross-requires-clause-invariant c = formulas_later c.args.terms.now c.loop-action.terms c.args.invariant.now _ c.requires.invariant c.loop-action.invariant.0
-
-pub cross-requires-clause-asserts : goal.cross-requires-clause-asserts
-cross-requires-clause-asserts c = are_formulas_still c.args.terms.now c.loop-action.terms c.args.asserts.now c.requires.asserts c.loop-action.invariant.0
+pub cross-requires : goal.cross-requires
+cross-requires c = given_later c.args.terms.now c.loop-action.terms (development_shown c.args.development.now) c.args.given.now c.requires c.loop-action.invariant.0
 
 pub loop-action-preserved : goal.loop-action-preserved
 loop-action-preserved c =
     let D = development_shown c.args.development.now in
+    let g = c.args.given.now in
     let t0 = c.args.terms.now in
     let t1 = c.loop-action.terms in
     let t2 = c.cross.new.terms in
@@ -28,14 +23,14 @@ loop-action-preserved c =
     let items : c.push.new.self.items ≡ c.loop-action.crossings.items ++ c.in_ok-next.next ∷ [] = search rules in
     let kept = c.loop-action.invariant.0 in (
       kept_on t0 t1 t2 kept c.in_ok-next.ensures.kept,
-      λ hs fs kh fh. subst (λ l. AreCrossings t2 D c.args.client hs fs l c.push.new.self.items) (sym (seen_more action_of c.actions_of-action-items.result.now i a c.loop-action-test.true c.action-item.is))
-          (crossings_put t1 t2 D c.args.client hs fs (map action_of (take i c.actions_of-action-items.result.now)) c.loop-action.crossings.items c.push.new.self.items (action_of a) c.in_ok-next.next items
+      λ hs fs kh fh. subst (λ l. AreCrossings t2 D g.client hs fs l c.push.new.self.items) (sym (seen_more action_of c.actions_of-actions.result.now i a c.loop-action-test.true c.action-item.is))
+          (crossings_put t1 t2 D g.client hs fs (map action_of (take i c.actions_of-actions.result.now)) c.loop-action.crossings.items c.push.new.self.items (action_of a) c.in_ok-next.next items
           (c.loop-action.invariant.1 hs fs kh fh) c.in_ok-next.ensures.kept
-          (c.in_ok-next.ensures.crossing hs fs (formulas_later t0 t1 c.args.known.now hs kh kept) (formulas_later t0 t1 c.args.asserts.now fs fh kept))),
+          (c.in_ok-next.ensures.crossing hs fs (formulas_later t0 t1 g.known.now hs kh kept) (formulas_later t0 t1 g.asserts.now fs fh kept))),
     )
 
 pub returns-clause-crossings : goal.returns-clause-crossings
 returns-clause-crossings c =
     let D = development_shown c.args.development.now in
-    let all = ap (map action_of) (take_all c.loop-action.action-index c.actions_of-action-items.result.now c.loop-action-test.false) ∙ c.actions_of-action-items.ensures in
-    λ hs fs kh fh. subst (λ l. AreCrossings c.loop-action.terms D c.args.client hs fs l c.loop-action.crossings.items) all (c.loop-action.invariant.1 hs fs kh fh)
+    let all = ap (map action_of) (take_all c.loop-action.action-index c.actions_of-actions.result.now c.loop-action-test.false) ∙ c.actions_of-actions.ensures in
+    λ hs fs kh fh. subst (λ l. AreCrossings c.loop-action.terms D c.args.given.now.client hs fs l c.loop-action.crossings.items) all (c.loop-action.invariant.1 hs fs kh fh)

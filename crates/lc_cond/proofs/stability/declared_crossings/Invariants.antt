@@ -9,4 +9,4 @@ use Rattle.lc_cond.proofs.stability.declared_crossings.Given as goal
 abbrev pub invariant-loop-action : goal.invariant-loop-action
 invariant-loop-action l =
     Keeps l.fn.terms l.terms
-    × AllCross l.fn.terms l.terms (development_shown l.development) l.client l.known l.asserts (map action_of (take l.action-index l.action-items)) l.crossings.items
+    × AllCross l.fn.terms l.terms (development_shown l.development) l.given.client l.given.known.now l.given.asserts.now (map action_of (take l.action-index l.actions)) l.crossings.items

@@ -1,10 +1,11 @@
-use Rattle.std.proofs.Common.{◌≡◌, arith}
+use Rattle.std.proofs.Common.{◌≡◌, [], sym, subst, arith}
+use Rattle.lc_cond.specs.Adding.{Adds}
 use Rattle.lc_cond.proofs.Adding.{adds_nothing}
 use Rattle.lc_cond.proofs.Crossed.{goals_enough, conjunct_more, conjuncts_all}
 use Rattle.lc_cond.proofs.stability.push_conjuncts.Goals as goal
 
 pub loop-number-init : goal.loop-number-init
-loop-number-init c = λ ts D n hs asserts actions h count. adds_nothing c.args.conditions.now.items ts
+loop-number-init c = λ ts D n hs asserts actions h count. subst (λ l. Adds c.args.conditions.now.items ts l []) (sym c.reserve.ensures.items) (adds_nothing c.args.conditions.now.items ts)
 
 pub push_conjunct-requires : goal.push_conjunct-requires
 push_conjunct-requires c = goals_enough c.args.count c.loop-number.number c.args.crossings.now c.requires c.loop-number-test.true
