@@ -17,7 +17,7 @@ use std::alloc::Global;
 
 // How many formulas a list of hypotheses has room for behind those of the goal: the negated goal, and what the first steps
 // of a proof add. So most proofs are checked without a longer list.
-const ROOM: usize = 8;
+const ROOM: usize = 16;
 
 /// The hypotheses of a goal and, as the last of them, the negated goal.
 #[tactic(auto, using(lc_term::proofs::Later::formulas_pushed, lc_term::proofs::Later::are_formulas_pushed, lc_term::proofs::Later::kept_on, lc_term::proofs::Later::keeps_itself))]
