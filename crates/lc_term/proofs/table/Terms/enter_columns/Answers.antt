@@ -21,5 +21,5 @@ loop-entry-preserved c =
       kept_on c.args.self.now c.loop-entry.self now i.0 kept,
       subst (AreColumns now) (sym items) (are_columns_pushed c.loop-entry.self now ps p _ i.1 kept at),
       ap (map (entry_in now)) items ∙ entries_pushed c.loop-entry.self now ps p _ i.1 kept at ∙ ap (λ l. l ++ entry_of c.entry-item.result ∷ []) i.2
-      ∙ ap (λ x. map entry_of (take c.loop-entry.entry-index c.args.columns.now) ++ entry_of x ∷ []) c.entry-item.is ∙ sym taken,
+          ∙ ap (λ x. map entry_of (take c.loop-entry.entry-index c.args.columns.now) ++ entry_of x ∷ []) c.entry-item.is ∙ sym taken,
     )

@@ -19,5 +19,5 @@ loop-term-preserved c =
       kept_on c.args.self.now c.loop-term.self now i.0 kept,
       subst (AreTerms now) (sym items) (are_terms_pushed c.loop-term.self now ks k _ i.1 kept at),
       ap (terms_in now) items ∙ terms_pushed c.loop-term.self now ks k _ i.1 kept at ∙ ap (λ l. l ++ term_of c.term-item.result ∷ []) i.2
-      ∙ ap (λ x. map term_of (take c.loop-term.term-index c.args.terms.now) ++ term_of x ∷ []) c.term-item.is ∙ sym taken,
+          ∙ ap (λ x. map term_of (take c.loop-term.term-index c.args.terms.now) ++ term_of x ∷ []) c.term-item.is ∙ sym taken,
     )
