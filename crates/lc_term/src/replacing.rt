@@ -2,7 +2,7 @@
 ghost use Rattle.std.specs.Prelude.{◌≡◌, suc, IfOk, OnOk, map, slice_get, Some, is_some, true};
 ghost use Rattle.lc_term.specs.NodeReplacement.{part_in, replaced_part};
 ghost use Rattle.lc_term.specs.Filling.{IsFilled, Stands};
-ghost use Rattle.lc_term.specs.Nodes.{term, column};
+ghost use Rattle.lc_term.specs.Nodes.{term, column, part_of, PartFits};
 ghost use Rattle.lc_term.specs.Put.{columns_put, columns_in, variables_put, replacement_of, Remembers};
 ghost use Rattle.lc_term.specs.Replacement.{replace, replace_term, replace_column, under_many};
 ghost use Rattle.lc_term.specs.Syntax as S;
@@ -299,9 +299,29 @@ impl Terms {
         Ok(ColExprId(number))
     }
 
+    // The number of a node whose parts are replaced: the number `part` of the node before, where none of them changed.
+    #[tactic(auto, using(crate::proofs::Later::keeps_itself, crate::proofs::NodeReplacement::same_nodes))]
+    fn enter_changed(
+        &mut self,
+        part: u32,
+        before: TermNode,
+        node: TermNode,
+    ) -> Result<u32, OutOfMemory>
+        requires there { slice_get (parts self.old) part ≡ Some (part_of (parts self.old) before) }
+        requires fits { PartFits (parts self.old) node }
+        ensures part { IfOk result (λ k. slice_get (parts self.new) k ≡ Some (part_of (parts self.old) node)) }
+        ensures kept { Keeps self.old self.new }
+    {
+        if node == before {
+            Ok(part)
+        } else {
+            self.enter_part(node)
+        }
+    }
+
     // What stands at a number, replaced, which is not replaced yet.
     #[cycle(replaced_part)]
-    #[tactic(auto, using(crate::proofs::Later::kept_on, crate::proofs::Later::keeps_itself, crate::proofs::Later::is_term_later, crate::proofs::Later::is_column_later, crate::proofs::Later::is_term_still, crate::proofs::NodeReplacement::part_there))]
+    #[tactic(auto, using(crate::proofs::Later::kept_on, crate::proofs::Later::keeps_itself, crate::proofs::Later::is_term_later, crate::proofs::Later::is_column_later, crate::proofs::Later::is_term_still, crate::proofs::NodeReplacement::part_there, crate::proofs::NodeReplacement::node_later))]
     fn replaced_part<R: Filled>(
         &mut self,
         alloc: Global,
@@ -316,7 +336,8 @@ impl Terms {
         ensures kept { Keeps self.old self.new }
         ensures done { OnOk result (Stands R.replacement self.new put.now done.new) }
     {
-        match self.part_node(part) {
+        let node = self.part_node(part);
+        match node {
             TermNode::Variable(number) => {
                 self.replaced_variable::<R>(alloc, put, part, number, depth)
             }
@@ -326,27 +347,27 @@ impl Terms {
             TermNode::Add(left, right) => {
                 let left = self.replaced_term::<R>(alloc, put, done, left, depth)?;
                 let right = self.replaced_term::<R>(alloc, put, done, right, depth)?;
-                Ok(self.add(left, right)?.0)
+                self.enter_changed(part, node, TermNode::Add(left, right))
             }
             TermNode::Subtract(left, right) => {
                 let left = self.replaced_term::<R>(alloc, put, done, left, depth)?;
                 let right = self.replaced_term::<R>(alloc, put, done, right, depth)?;
-                Ok(self.subtract(left, right)?.0)
+                self.enter_changed(part, node, TermNode::Subtract(left, right))
             }
             TermNode::Multiply(factor, term) => {
                 let term = self.replaced_term::<R>(alloc, put, done, term, depth)?;
-                Ok(self.multiply(factor, term)?.0)
+                self.enter_changed(part, node, TermNode::Multiply(factor, term))
             }
             TermNode::Read(column, index) => {
                 let column = self.replaced_column::<R>(alloc, put, done, column, depth)?;
                 let index = self.replaced_term::<R>(alloc, put, done, index, depth)?;
-                Ok(self.read(column, index)?.0)
+                self.enter_changed(part, node, TermNode::Read(column, index))
             }
             TermNode::Store(column, index, value) => {
                 let column = self.replaced_column::<R>(alloc, put, done, column, depth)?;
                 let index = self.replaced_term::<R>(alloc, put, done, index, depth)?;
                 let value = self.replaced_term::<R>(alloc, put, done, value, depth)?;
-                Ok(self.store(column, index, value)?.0)
+                self.enter_changed(part, node, TermNode::Store(column, index, value))
             }
         }
     }

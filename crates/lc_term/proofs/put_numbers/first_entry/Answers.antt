@@ -1,5 +1,5 @@
 use Rattle.std.proofs.Common.{sym, ◌∙◌}
-use Rattle.lc_term.proofs.Entries.{numbered_found, numbered_absent, numbered_missing, entry_there}
+use Rattle.lc_term.proofs.Entries.{numbered_found, numbered_missing}
 use Rattle.lc_term.proofs.put_numbers.first_entry.Goals as goal
 
 pub returns-then-eq-clause-first : goal.returns-then-eq-clause-first
