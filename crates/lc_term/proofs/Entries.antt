@@ -63,6 +63,10 @@ module _ {A : Type 0} (entry : A → ℕ × Column) where
       subst (IsAbsent c) (sym (map_more entry cs i p h ∙ ap (λ x. map entry (take i cs) ++ entry x ∷ []) (sym is)))
       (absent-more c (map entry (take i cs)) (entry p) absent other)
 
+pub split_entries : (cs : List (ColId × ColExpr)) (i : ℕ) (p : ColId × ColExpr) → i < length cs → p ≡ get_or cs i p →
+    map entry_of cs ≡ map entry_of (take i cs) ++ entry_of p ∷ map entry_of (drop (i + 1) cs)
+split_entries cs i p h is = split_mapped entry_of cs i p h is
+
 pub entry_found : (cs : List (ColId × ColExpr)) (i : ℕ) (p : ColId × ColExpr) (c : ℕ) → i < length cs → p ≡ get_or cs i p → (p.0.0 == c) ≡ true →
     IsAbsent c (map entry_of (take i cs)) → columns_in cs c ≡ column_of p.1
 entry_found cs i p c h is at absent = mapped_found entry_of cs i p c h is at absent

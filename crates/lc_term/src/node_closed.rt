@@ -46,6 +46,7 @@ impl Terms {
         }
     }
 
+    // The same, by as many looks as are spent on it.
     fn has_no_bound_variable(&self, part: u32) -> bool
         requires { is_some (slice_get (parts self.now) part) ≡ true }
         ensures { result ≡ true → is_closed_part (part_in self.now part) ≡ true }
