@@ -5,13 +5,14 @@ use Rattle.std.specs.Map.{lookup}
 use borrow.Author.Tests.{eqb-true}
 use Rattle.lc_term.specs.declared.node.TermId.{TermId}
 use Rattle.lc_term.specs.declared.node.ColExprId.{ColExprId}
-use Rattle.lc_term.specs.Nodes.{Part, term, column}
+use Rattle.lc_term.specs.declared.node.TermNode.{TermNode}
+use Rattle.lc_term.specs.Nodes.{Part, term, column, part_of, PartFits}
 use Rattle.lc_term.specs.NodeTables.{Table}
 use Rattle.lc_term.specs.Replacement.{Replacement, replace_term, replace_column}
 use Rattle.lc_term.specs.Tables.{parts, term_in, column_in, HasTerm, HasColumn, IsTerm, IsColumn, Keeps}
 use Rattle.lc_term.specs.NodeReplacement.{as_part, part_in, replaced_part, AreReplaced}
 use Rattle.lc_term.proofs.Rows.{kept_left}
-use Rattle.lc_term.proofs.TermNodes.{term-there, column-there}
+use Rattle.lc_term.proofs.TermNodes.{term-there, column-there, part-kept, node_eq, node_eq-part}
 use Rattle.lc_term.proofs.Later.{term_later, column_later, term_is, column_is, term_still}
 
 some_same : {T : Type 0} (x y : T) → Some x ≡ Some y → x ≡ y
@@ -26,6 +27,16 @@ part_there ts k h = by (slice_get (parts ts) k) h
 
 part_later : (old new : Table) (k : ℕ) (p : Part) → slice_get (parts old) k ≡ Some p → Keeps old new → slice_get (parts new) k ≡ Some p
 part_later old new k p h kept = ap (λ l. slice_get l k) kept.parts_kept.1 ∙ kept_left (parts old) kept.parts_kept.0 k p h
+
+-- a node that stands at a number
+pub node_later : (old new : Table) (k : ℕ) (n : TermNode) → slice_get (parts old) k ≡ Some (part_of (parts old) n) → PartFits (parts old) n → Keeps old new
+    → slice_get (parts new) k ≡ Some (part_of (parts new) n)
+node_later old new k n at fits kept =
+    part_later old new k _ at kept ∙ ap Some (sym (ap (λ ps. part_of ps n) kept.parts_kept.1 ∙ part-kept (parts old) kept.parts_kept.0 n fits))
+
+-- a node that is equal
+pub same_nodes : (ts : List Part) (k : ℕ) (m n : TermNode) → node_eq m n ≡ true → slice_get ts k ≡ Some (part_of ts n) → slice_get ts k ≡ Some (part_of ts m)
+same_nodes ts k m n h at = at ∙ ap Some (sym (node_eq-part ts m n h))
 
 pub column_still : (old new : Table) (k : ColExprId) → IsColumn old k → Keeps old new → column_in new k ≡ column_in old k
 column_still old new k h kept = column_is new k _ (column_later old new k _ (column-there (parts old) k h) kept)

@@ -7,11 +7,13 @@ pub mod EqualLaws
 pub mod Filling
 pub mod Lists
 pub mod Meaning
+pub mod NodeClosed
 pub mod NodeReplacement
 pub mod NodeTables
 pub mod Nodes
 pub mod Places
 pub mod Put
+pub mod PutNumbers
 pub mod Reached
 pub mod Replacement
 pub mod Rows

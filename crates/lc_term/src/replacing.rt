@@ -2,10 +2,9 @@
 ghost use Rattle.std.specs.Prelude.{◌≡◌, suc, IfOk, OnOk, map, slice_get, Some, is_some, true};
 ghost use Rattle.lc_term.specs.NodeReplacement.{part_in, replaced_part};
 ghost use Rattle.lc_term.specs.Filling.{IsFilled, Stands};
-ghost use Rattle.lc_term.specs.Nodes.{term, column};
+ghost use Rattle.lc_term.specs.Nodes.{term, column, part_of, PartFits};
 ghost use Rattle.lc_term.specs.Put.{columns_put, columns_in, variables_put, replacement_of, Remembers};
 ghost use Rattle.lc_term.specs.Replacement.{replace, replace_term, replace_column, under_many};
-ghost use Rattle.lc_term.specs.Substitution.{shifted_term};
 ghost use Rattle.lc_term.specs.Syntax as S;
 ghost use Rattle.lc_term.specs.Tables.{parts, term_in, column_in, formula_in, formulas_in, IsTerm, IsColumn, IsFormula, AreFormulas, HasTerm, HasColumn, HasFormula, Keeps};
 
@@ -137,11 +136,7 @@ impl Terms {
         ensures kept { Keeps self.old self.new }
     {
         let column = self.enter_put_column(put.columns, column)?;
-        if depth == 0 {
-            Ok(column)
-        } else {
-            self.shift_column(alloc, column, depth, 0)
-        }
+        self.raised_column(alloc, column, depth)
     }
 
     fn variable_below(
@@ -156,19 +151,6 @@ impl Terms {
     {
         let term = self.enter_put_variable(put.variables, number)?;
         self.raised(alloc, term, depth)
-    }
-
-    // A term below as many further quantifiers as `depth` counts.
-    fn raised(&mut self, alloc: Global, term: TermId, depth: u32) -> Result<TermId, OutOfMemory>
-        requires { IsTerm self.old term }
-        ensures id { IfOk result (λ k. HasTerm self.new k (shifted_term depth 0 (term_in self.old term))) }
-        ensures kept { Keeps self.old self.new }
-    {
-        if depth == 0 {
-            Ok(term)
-        } else {
-            self.shift(alloc, term, depth, 0)
-        }
     }
 
     // What is put in for a column, which stands at the number `part`.
@@ -193,6 +175,7 @@ impl Terms {
                     Ok(self.column_below(alloc, put, number, depth)?.0)
                 }
             }
+            Filling::Numbers(put) => { self.numbered_base(alloc, put.columns, part, number, depth) }
             Filling::Variable(_, _) | Filling::Opening(_) | Filling::Shift(_, _) => Ok(part),
         }
     }
@@ -216,6 +199,7 @@ impl Terms {
                 PutVariables::Own => Ok(part),
                 PutVariables::Terms(_) => Ok(self.variable_below(alloc, put, number, depth)?.0),
             },
+            Filling::Numbers(put) => self.numbered_variable(alloc, put.variables, number, depth),
             Filling::Variable(variable, term) => {
                 if number == *variable {
                     Ok(self.raised(alloc, *term, depth)?.0)
@@ -242,7 +226,7 @@ impl Terms {
         ensures kept { Keeps self.old self.new }
     {
         match put {
-            Filling::Put(_) | Filling::Variable(_, _) => Ok(part),
+            Filling::Put(_) | Filling::Numbers(_) | Filling::Variable(_, _) => Ok(part),
             Filling::Opening(term) => match number.cmp(&depth) {
                 Ordering::Less => Ok(part),
                 Ordering::Equal => Ok(self.raised(alloc, *term, depth)?.0),
@@ -261,7 +245,7 @@ impl Terms {
 
     #[cycle(replaced_part)]
     #[tactic(auto, using(crate::proofs::NodeReplacement::term_at, crate::proofs::Copied::term_stands))]
-    fn replaced_term<R: Filled>(
+    pub(crate) fn replaced_term<R: Filled>(
         &mut self,
         alloc: Global,
         put: &Filling<'_>,
@@ -315,9 +299,29 @@ impl Terms {
         Ok(ColExprId(number))
     }
 
+    // The number of a node whose parts are replaced: the number `part` of the node before, where none of them changed.
+    #[tactic(auto, using(crate::proofs::Later::keeps_itself, crate::proofs::NodeReplacement::same_nodes))]
+    fn enter_changed(
+        &mut self,
+        part: u32,
+        before: TermNode,
+        node: TermNode,
+    ) -> Result<u32, OutOfMemory>
+        requires there { slice_get (parts self.old) part ≡ Some (part_of (parts self.old) before) }
+        requires fits { PartFits (parts self.old) node }
+        ensures part { IfOk result (λ k. slice_get (parts self.new) k ≡ Some (part_of (parts self.old) node)) }
+        ensures kept { Keeps self.old self.new }
+    {
+        if node == before {
+            Ok(part)
+        } else {
+            self.enter_part(node)
+        }
+    }
+
     // What stands at a number, replaced, which is not replaced yet.
     #[cycle(replaced_part)]
-    #[tactic(auto, using(crate::proofs::Later::kept_on, crate::proofs::Later::keeps_itself, crate::proofs::Later::is_term_later, crate::proofs::Later::is_column_later, crate::proofs::Later::is_term_still, crate::proofs::NodeReplacement::part_there))]
+    #[tactic(auto, using(crate::proofs::Later::kept_on, crate::proofs::Later::keeps_itself, crate::proofs::Later::is_term_later, crate::proofs::Later::is_column_later, crate::proofs::Later::is_term_still, crate::proofs::NodeReplacement::part_there, crate::proofs::NodeReplacement::node_later))]
     fn replaced_part<R: Filled>(
         &mut self,
         alloc: Global,
@@ -332,7 +336,8 @@ impl Terms {
         ensures kept { Keeps self.old self.new }
         ensures done { OnOk result (Stands R.replacement self.new put.now done.new) }
     {
-        match self.part_node(part) {
+        let node = self.part_node(part);
+        match node {
             TermNode::Variable(number) => {
                 self.replaced_variable::<R>(alloc, put, part, number, depth)
             }
@@ -342,33 +347,33 @@ impl Terms {
             TermNode::Add(left, right) => {
                 let left = self.replaced_term::<R>(alloc, put, done, left, depth)?;
                 let right = self.replaced_term::<R>(alloc, put, done, right, depth)?;
-                Ok(self.add(left, right)?.0)
+                self.enter_changed(part, node, TermNode::Add(left, right))
             }
             TermNode::Subtract(left, right) => {
                 let left = self.replaced_term::<R>(alloc, put, done, left, depth)?;
                 let right = self.replaced_term::<R>(alloc, put, done, right, depth)?;
-                Ok(self.subtract(left, right)?.0)
+                self.enter_changed(part, node, TermNode::Subtract(left, right))
             }
             TermNode::Multiply(factor, term) => {
                 let term = self.replaced_term::<R>(alloc, put, done, term, depth)?;
-                Ok(self.multiply(factor, term)?.0)
+                self.enter_changed(part, node, TermNode::Multiply(factor, term))
             }
             TermNode::Read(column, index) => {
                 let column = self.replaced_column::<R>(alloc, put, done, column, depth)?;
                 let index = self.replaced_term::<R>(alloc, put, done, index, depth)?;
-                Ok(self.read(column, index)?.0)
+                self.enter_changed(part, node, TermNode::Read(column, index))
             }
             TermNode::Store(column, index, value) => {
                 let column = self.replaced_column::<R>(alloc, put, done, column, depth)?;
                 let index = self.replaced_term::<R>(alloc, put, done, index, depth)?;
                 let value = self.replaced_term::<R>(alloc, put, done, value, depth)?;
-                Ok(self.store(column, index, value)?.0)
+                self.enter_changed(part, node, TermNode::Store(column, index, value))
             }
         }
     }
 
     #[cycle(replaced_formula)]
-    fn replaced_formula<R: Filled>(
+    pub(crate) fn replaced_formula<R: Filled>(
         &mut self,
         alloc: Global,
         put: &Filling<'_>,
