@@ -5,3 +5,4 @@ pub mod RiderView
 pub mod DutyView
 pub mod PathView
 pub mod MarkView
+pub mod PathsAdded
