@@ -8,7 +8,6 @@ pub mod PathParts
 pub mod Marked
 pub mod Assigned
 pub mod Ridden
-pub mod PathsLater
 pub mod PathsAdded
 pub mod SaidStill
 pub mod BranchesTaken

@@ -8,7 +8,7 @@ use Rattle.lc_rider.specs.Paths as S
 use Rattle.lc_rider.specs.PathView.{path_in, IsPath, HasPath, HavePaths}
 use Rattle.lc_rider.specs.PathsAdded.{AddsPaths}
 use Rattle.lc_rider.specs.declared.path.Path.{Path}
-use Rattle.lc_rider.proofs.PathsLater.{is_path_later, path_still, are_paths_later, paths_still}
+use Rattle.lc_rider.proofs.PathLater.{is_path_later, path_still, have_paths_later}
 
 -- ---- one path
 
@@ -26,9 +26,6 @@ paths_joined ts ps qs xs ys a b = record {
   are = Every-append (IsPath ts) ps qs a.are b.are;
   paths = map-append (path_in ts) ps qs ∙ ap₂ (λ (x y : List S.Path). x ++ y) a.paths b.paths;
 }
-
-pub have_paths_later : (old new : Table) (ps : List Path) (xs : List S.Path) → HavePaths old ps xs → Keeps old new → HavePaths new ps xs
-have_paths_later old new ps xs h kept = record { are = are_paths_later old new ps h.are kept; paths = paths_still old new ps h.are kept ∙ h.paths }
 
 pub path_alone : (ts : Table) (p : Path) (x : S.Path) → HasPath ts p x → HavePaths ts (p ∷ []) (x ∷ [])
 path_alone ts p x h = record { are = (h.is, tt); paths = ap (λ (q : S.Path). q ∷ []) h.path }

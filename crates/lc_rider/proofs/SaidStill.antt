@@ -10,7 +10,7 @@ use Rattle.lc_term.specs.declared.node.TermId.{TermId}
 use Rattle.lc_term.proofs.ByNumber.{terms_still}
 use Rattle.lc_rider.specs.PathView.{path_in, IsPath}
 use Rattle.lc_rider.specs.declared.path.Path.{Path}
-use Rattle.lc_rider.proofs.PathsLater.{path_still}
+use Rattle.lc_rider.proofs.PathLater.{path_still}
 
 pub said_still : (old new now : Table) (p : Path) (vs : List TermId) (k : TermId) (t : Term) → IsPath old p → AreTerms old vs → Keeps old new →
     HasTerm now k (replace_term (replacing (path_in new p).columns (term_at (terms_in new vs))) t) →

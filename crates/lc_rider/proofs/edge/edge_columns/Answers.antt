@@ -13,7 +13,7 @@ pub store_in-requires : goal.store_in-requires
 store_in-requires c =
     let t0 = c.loop-update.terms in
     let t1 = c.enter_term.new.self in
-    let t2 = c.enter_term-2.new.self in
+    let t2 = c.enter_term-in-loop-update.new.self in
     record {
       columns = are_columns_later t0 t2 c.loop-update.columns.items c.loop-update.invariant.are (kept_on t0 t1 t2 c.in_ok-index.ensures.kept c.in_ok-value.ensures.kept);
       index = is_term_later t1 t2 c.in_ok-index.index _ c.in_ok-index.ensures.id c.in_ok-value.ensures.kept;
@@ -28,7 +28,7 @@ loop-update-preserved c =
     let cs = c.loop-update.columns.items in
     let t0 = c.loop-update.terms in
     let t1 = c.enter_term.new.self in
-    let t2 = c.enter_term-2.new.self in
+    let t2 = c.enter_term-in-loop-update.new.self in
     let t3 = c.store_in.new.terms in
     let kept = kept_on t0 t1 t2 c.in_ok-index.ensures.kept c.in_ok-value.ensures.kept in
     let index = term_is t2 c.in_ok-index.index _ (term_later t1 t2 c.in_ok-index.index _ c.in_ok-index.ensures.id c.in_ok-value.ensures.kept) in

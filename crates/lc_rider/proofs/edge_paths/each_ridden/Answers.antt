@@ -10,7 +10,7 @@ use Rattle.lc_rider.specs.Paths.{Path, rider_paths}
 use Rattle.lc_rider.specs.PathView.{path_in, ArePaths}
 use Rattle.lc_rider.specs.RiderView.{rider_of}
 use Rattle.lc_rider.proofs.PathsAdded.{adds_none, adds_on, adds_same, adds_to_none, no_paths}
-use Rattle.lc_rider.proofs.PathsLater.{is_path_later, path_still}
+use Rattle.lc_rider.proofs.PathLater.{is_path_later, path_still}
 use Rattle.lc_rider.proofs.edge_paths.each_ridden.Goals as goal
 
 pub loop-path-init : goal.loop-path-init

@@ -10,7 +10,7 @@ use Rattle.lc_rider.specs.MarkView.{marking_of, with_duties}
 use Rattle.lc_rider.specs.Paths.{Path, branch_paths, mark_duties}
 use Rattle.lc_rider.specs.PathView.{path_in}
 use Rattle.lc_rider.proofs.PathsAdded.{adds_same}
-use Rattle.lc_rider.proofs.PathsLater.{path_still}
+use Rattle.lc_rider.proofs.PathLater.{path_still}
 use Rattle.lc_rider.proofs.edge_paths.marked.Goals as goal
 
 pub returns-clause-paths : goal.returns-clause-paths

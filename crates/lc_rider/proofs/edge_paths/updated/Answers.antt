@@ -12,7 +12,7 @@ use Rattle.lc_term.proofs.Later.{kept_on, term_later, term_is}
 use Rattle.lc_rider.specs.Paths.{Path}
 use Rattle.lc_rider.specs.PathView.{path_in, with_columns}
 use Rattle.lc_rider.proofs.PathsAdded.{has_same}
-use Rattle.lc_rider.proofs.PathsLater.{path_still}
+use Rattle.lc_rider.proofs.PathLater.{path_still}
 use Rattle.lc_rider.proofs.SaidStill.{said_still}
 use Rattle.lc_rider.proofs.edge_paths.updated.Goals as goal
 

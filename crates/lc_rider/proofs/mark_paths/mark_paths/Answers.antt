@@ -14,7 +14,7 @@ use Rattle.lc_rider.specs.MarkView.{marking_of, with_duties}
 use Rattle.lc_rider.specs.Paths.{Path, mark_variables, mark_duties, branch_paths}
 use Rattle.lc_rider.specs.PathView.{path_in, HasPath}
 use Rattle.lc_rider.proofs.PathsAdded.{adds_same}
-use Rattle.lc_rider.proofs.PathsLater.{is_path_later, path_still}
+use Rattle.lc_rider.proofs.PathLater.{is_path_later, path_still}
 use Rattle.lc_rider.proofs.mark_paths.mark_paths.Goals as goal
 
 pub with_mark_duties-requires : goal.with_mark_duties-requires

@@ -16,7 +16,7 @@ use Rattle.lc_rider.specs.Paths.{Path, Pending, Enabled, mark_variables, named_d
 use Rattle.lc_rider.specs.PathView.{path_in, HasPath, with_duty}
 use Rattle.lc_rider.proofs.Marked.{duties_in_turn}
 use Rattle.lc_rider.proofs.PathsAdded.{is_later, has_same}
-use Rattle.lc_rider.proofs.PathsLater.{is_path_later, path_still}
+use Rattle.lc_rider.proofs.PathLater.{is_path_later, path_still}
 use Rattle.lc_rider.proofs.mark_paths.with_mark_duties.Goals as goal
 
 pub returns-clause-path : goal.returns-clause-path
