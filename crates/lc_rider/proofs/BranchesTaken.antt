@@ -1,5 +1,5 @@
 -- Branches of the code that are taken, one after another.
-use Rattle.std.proofs.Common.{◌≡◌, ℕ, ◌+◌, ◌<◌, List, [], ◌∷◌, ◌++◌, length, drop, get_or, refl, sym, ap, ap₂, ◌∙◌, append_assoc, append-nil}
+use Rattle.std.proofs.Common.{◌≡◌, ℕ, ◌+◌, ◌<◌, List, [], ◌∷◌, ◌++◌, length, drop, get_or, refl, sym, subst, ap, ap₂, ◌∙◌, append_assoc, append-nil}
 use Rattle.lc_term.specs.NodeTables.{Table}
 use Rattle.lc_term.specs.PutNumbers.{terms_in, AreTerms}
 use Rattle.lc_term.specs.Said.{told, after}
@@ -19,6 +19,7 @@ use Rattle.lc_rider.specs.Paths.{Path, Duty, Observing, is_empty, mark_updates, 
 use Rattle.lc_rider.specs.PathView.{path_in, HasPath, with_columns, with_duty}
 use Rattle.lc_rider.specs.Rider.{Marking, Note}
 use Rattle.lc_rider.specs.declared.marking.Marking as M
+use Rattle.lc_rider.specs.declared.marking.Marking.TheVariants as V
 use Rattle.lc_rider.specs.declared.path.Path as P
 use Rattle.lc_rider.proofs.Marked.{branches_more}
 use Rattle.lc_rider.proofs.PathsAdded.{has_same}
@@ -37,6 +38,12 @@ module _ (operations : List Operation) (first n : ℕ) where
       HasPath now r (branch_path operations first n (marking_of m (term_in old client)) (terms_in old vs) b g q)
   taken_still m old new now client vs b guard g p r q is are kept hg hp h =
       has_same now r _ _ h (λ i. branch_path operations first n (marking_of m (term_still old new client is kept i)) (terms_still old new vs are kept i) b (formula_is new guard g hg i) (hp.path i))
+
+  -- only a note asks that nothing be stored
+  pub none_observing : (m : M.Marking) (u : Term) (facts : List Formula) (b : Q.Branch) → (m ≡ V.Note → ⊥) → observing_duty operations first n (marking_of m u) facts b ≡ []
+  none_observing V.Own u facts b h = refl
+  none_observing (V.Other o) u facts b h = refl
+  none_observing V.Note u facts b h = absurd (h refl)
 
   -- a branch by which no reply is noted
   pub settled_path : (k : Marking) (p : Path) (σ : ℕ → Column) (τ : List Term) (b : Q.Branch) (g : Formula) → σ ≡ after p.columns τ (mark_updates first k b) →

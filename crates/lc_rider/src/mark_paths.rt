@@ -1,4 +1,4 @@
-ghost use Rattle.std.specs.Prelude.{IfOk, OnOk};
+ghost use Rattle.std.specs.Prelude.{◌≡◌, IfOk, OnOk};
 ghost use Rattle.lc_term.specs.PutNumbers.{terms_in, AreTerms};
 ghost use Rattle.lc_term.specs.Tables.{term_in, formula_in, IsTerm, IsFormula, HasFormula, Keeps};
 ghost use Rattle.lc_term.specs.UpdateView.{updates_of};
@@ -46,6 +46,7 @@ fn with_named_duty(
 }
 
 // What a mark asks for before one of these branches is taken.
+#[tactic(auto, using(lc_term::proofs::Later::kept_on, lc_term::proofs::Later::is_term_still, lc_term::proofs::Later::is_formula_later, lc_term::proofs::ByNumber::are_terms_later, crate::proofs::PathLater::is_path_later))]
 fn with_mark_duties(
     alloc: Global,
     terms: &mut Terms,
@@ -89,6 +90,7 @@ fn stores_nothing(
 }
 
 // The path on which this branch is taken, its guard being said of the state before the edge.
+#[tactic(auto, using(lc_term::proofs::Later::kept_on))]
 fn taken(
     alloc: Global,
     terms: &mut Terms,
@@ -119,6 +121,7 @@ fn taken(
 }
 
 // A path for each branch, behind other paths: the guards of the branches before it fail, and its own holds.
+#[tactic(auto, using(lc_term::proofs::Later::kept_on, lc_term::proofs::Later::is_term_still, lc_term::proofs::Later::is_formula_later, lc_term::proofs::ByNumber::are_terms_later, crate::proofs::PathLater::is_path_later))]
 fn branch_paths(
     alloc: Global,
     terms: &mut Terms,

@@ -17,7 +17,7 @@ pub loop-path-init : goal.loop-path-init
 loop-path-init c = record {
   kept = keeps_itself c.args.terms.now;
   left = ?;
-  paths = ([], (adds_none [] c.args.terms.now, ?));
+  paths = ([], adds_none [] c.args.terms.now, ?);
 }
 
 pub rider_paths-requires : goal.rider_paths-requires
@@ -53,9 +53,9 @@ loop-path-preserved c =
       kept = kept_on t t0 t1 inv.kept kept;
       left = these.1;
       paths = (done ++ each x,
-        (adds_on [] c.loop-path.ridden.items c.rider_paths.new.paths.items t0 t1 done (each x) inv.paths.1.0 kept added,
+        adds_on [] c.loop-path.ridden.items c.rider_paths.new.paths.items t0 t1 done (each x) inv.paths.1 kept added,
         append_assoc done (each x) (concat_map each (map (path_in t) c.next.new.self.rest.items))
-        ∙ (ap (λ ps. done ++ concat_map each (map (path_in t) ps)) (sym here) ∙ inv.paths.1.1)));
+        ∙ (ap (λ ps. done ++ concat_map each (map (path_in t) ps)) (sym here) ∙ inv.paths.2));
     }
 
 pub returns-clause-paths : goal.returns-clause-paths
@@ -71,5 +71,5 @@ returns-clause-paths c =
     let ended = c.in-None.ensures.steps in
     let none : c.loop-path.path-iterator.rest.items ≡ [] = no_paths c.loop-path.path-iterator.rest.items (omega arith) in
     let done = inv.paths.0 in
-    let all = sym (append-nil done) ∙ (ap (λ ps. done ++ concat_map each (map (path_in t) ps)) (sym none) ∙ inv.paths.1.1) in
-    adds_to_none t0 c.loop-path.ridden.items _ (adds_same [] c.loop-path.ridden.items t0 _ _ inv.paths.1.0 all)
+    let all = sym (append-nil done) ∙ (ap (λ ps. done ++ concat_map each (map (path_in t) ps)) (sym none) ∙ inv.paths.2) in
+    adds_to_none t0 c.loop-path.ridden.items _ (adds_same [] c.loop-path.ridden.items t0 _ _ inv.paths.1 all)

@@ -1,4 +1,4 @@
-use Rattle.std.proofs.Common.{◌≡◌, [], ◌∷◌, ◌+◌, ◌++◌, ◌≤◌, List, length, map, drop, sym, ap, ap₂, ◌∙◌, append-nil, arith, refl}
+use Rattle.std.proofs.Common.{◌≡◌, [], ◌∷◌, ◌+◌, ◌++◌, ◌≤◌, List, length, map, drop, sym, ap, ◌∙◌, subst, append-nil, arith, refl}
 use Rattle.std.proofs.lemmas.Bool.Decides.{nat_tests}
 use Rattle.std.proofs.lemmas.List.{drop_all}
 use Rattle.lc_term.specs.PutNumbers.{terms_in}
@@ -6,19 +6,65 @@ use Rattle.lc_term.specs.Syntax.{Term, Formula, Not}
 use Rattle.lc_term.specs.Said.{told}
 use Rattle.lc_term.specs.Tables.{term_in, formula_in, HasFormula}
 use Rattle.lc_term.specs.View.{formula_of}
-use Rattle.lc_term.proofs.ByNumber.{are_terms_later, terms_still}
-use Rattle.lc_term.proofs.Later.{kept_on, formula_later, formula_is, term_still}
+use Rattle.lc_term.proofs.ByNumber.{are_terms_later}
+use Rattle.lc_term.proofs.Later.{kept_on, keeps_itself, formula_later, formula_is, is_term_still}
 use Rattle.lc_seq.specs.SpecView.{branch_of, branches_of}
 use Rattle.lc_seq.specs.TextView.{specification_of}
+use Rattle.lc_seq.specs.declared.specification.Branch.{Branch}
 use Rattle.lc_action.specs.ActionView.{first_of}
 use Rattle.lc_rider.specs.MarkView.{marking_of, branch_path}
 use Rattle.lc_rider.specs.Paths as S
 use Rattle.lc_rider.specs.Paths.{Path, with_fact}
 use Rattle.lc_rider.specs.PathView.{path_in, HasPath}
-use Rattle.lc_rider.proofs.BranchesTaken.{branches_step}
+use Rattle.lc_rider.proofs.BranchesTaken.{guard_still, taken_still, branches_step}
 use Rattle.lc_rider.proofs.Marked.{variables_kept}
-use Rattle.lc_rider.proofs.PathsAdded.{is_later, has_same, adds_on, adds_one}
+use Rattle.lc_rider.proofs.PathsAdded.{is_later, adds_none, adds_on, adds_one, adds_same}
+use Rattle.lc_rider.proofs.PathLater.{is_path_later, has_path_later}
 use Rattle.lc_rider.proofs.mark_paths.branch_paths.Goals as goal
+
+pub loop-number-init : goal.loop-number-init
+loop-number-init c = record {
+  kept = keeps_itself c.args.terms.now;
+  path = c.requires.path;
+  paths = ([], adds_none c.args.paths.now.items c.args.terms.now, refl);
+  variables = c.requires.variables;
+}
+
+pub taken-requires-clause-path : goal.taken-requires-clause-path
+taken-requires-clause-path c = is_path_later c.loop-number.terms c.guard_on.new.terms c.loop-number.path c.loop-number.invariant.path c.in_ok-guard.ensures.kept
+
+pub taken-requires-clause-client : goal.taken-requires-clause-client
+taken-requires-clause-client c =
+    let kept = kept_on c.args.terms.now c.loop-number.terms c.guard_on.new.terms c.loop-number.invariant.kept c.in_ok-guard.ensures.kept in
+    is_term_still c.args.terms.now c.guard_on.new.terms c.args.mark.client c.requires.client kept
+
+pub taken-requires-clause-variables : goal.taken-requires-clause-variables
+taken-requires-clause-variables c =
+    let kept = kept_on c.args.terms.now c.loop-number.terms c.guard_on.new.terms c.loop-number.invariant.kept c.in_ok-guard.ensures.kept in
+    are_terms_later c.args.terms.now c.guard_on.new.terms c.args.variables.now c.requires.terms kept
+
+pub taken-requires-in-loop-number-clause-path : goal.taken-requires-in-loop-number-clause-path
+taken-requires-in-loop-number-clause-path c =
+    let t0 = c.loop-number.terms in
+    let t1 = c.guard_on.new.terms in
+    (c.in_ok-copy.ensures t1 (path_in t0 c.loop-number.path) (is_later t0 t1 c.loop-number.path c.loop-number.invariant.path c.in_ok-guard.ensures.kept)).is
+
+pub taken-requires-in-loop-number-clause-client : goal.taken-requires-in-loop-number-clause-client
+taken-requires-in-loop-number-clause-client c =
+    let kept = kept_on c.args.terms.now c.loop-number.terms c.guard_on.new.terms c.loop-number.invariant.kept c.in_ok-guard.ensures.kept in
+    is_term_still c.args.terms.now c.guard_on.new.terms c.args.mark.client c.requires.client kept
+
+pub taken-requires-in-loop-number-clause-variables : goal.taken-requires-in-loop-number-clause-variables
+taken-requires-in-loop-number-clause-variables c =
+    let kept = kept_on c.args.terms.now c.loop-number.terms c.guard_on.new.terms c.loop-number.invariant.kept c.in_ok-guard.ensures.kept in
+    are_terms_later c.args.terms.now c.guard_on.new.terms c.args.variables.now c.requires.terms kept
+
+pub returns-in_err-push-2-clause-kept : goal.returns-in_err-push-2-clause-kept
+returns-in_err-push-2-clause-kept c =
+    let t0 = c.loop-number.terms in
+    let t1 = c.guard_on.new.terms in
+    let t2 = c.taken-in-loop-number.new.terms in
+    kept_on c.args.terms.now t0 t2 c.loop-number.invariant.kept (kept_on t0 t1 t2 c.in_ok-guard.ensures.kept c.in_ok-behind.ensures.kept)
 
 pub loop-number-preserved : goal.loop-number-preserved
 loop-number-preserved c =
@@ -59,10 +105,10 @@ loop-number-preserved c =
       kept = kept_on t t0 t3 inv.kept kept03;
       path = next.is;
       paths = (inv.paths.0 ++ x ∷ [],
-        (adds_on c.args.paths.now.items c.loop-number.paths.items c.push-in-loop-number.new.self.items t0 t3 inv.paths.0 (x ∷ []) inv.paths.1.0 kept03
+        adds_on c.args.paths.now.items c.loop-number.paths.items c.push-in-loop-number.new.self.items t0 t3 inv.paths.0 (x ∷ []) inv.paths.1 kept03
         (adds_one c.loop-number.paths.items c.push-in-loop-number.new.self.items t3 c.in_ok-behind.behind x c.in_ok-push-2.ensures.items (has_path_later t2 t3 c.in_ok-behind.behind x behind kept23)),
         branches_step operations first n o k cl c.args.branches.now c.loop-number.number b inv.paths.0 x q (path_in t3 c.in_ok-path.path) vs g whole
-        c.loop-number-test.true c.index-branches-number.is inv.variables refl refl next.path inv.paths.1.1));
+        c.loop-number-test.true c.index-branches-number.is inv.variables refl refl next.path inv.paths.2);
       variables = variables_kept operations first n o k cl q (path_in t3 c.in_ok-path.path) (Not g) vs next.path inv.variables;
     }
 
@@ -99,7 +145,7 @@ returns-then-number-branches-clause-paths c =
     let ys = inv.paths.0 ++ x ∷ [] in
     let all : ys ≡ whole =
     sym (append-nil ys) ∙ (ap (λ (bs : List Branch). ys ++ S.branch_paths operations first n o k cl (branches_of bs) (with_fact q (Not g))) (sym none)
-    ∙ branches_step operations first n o k cl c.args.branches.now i b inv.paths.0 x q (with_fact q (Not g)) vs g whole c.loop-number-test.true c.index-branches-number.is inv.variables refl refl refl inv.paths.1.1) in
+    ∙ branches_step operations first n o k cl c.args.branches.now i b inv.paths.0 x q (with_fact q (Not g)) vs g whole c.loop-number-test.true c.index-branches-number.is inv.variables refl refl refl inv.paths.2) in
     adds_same c.args.paths.now.items c.push.new.self.items t2 ys whole
-    (adds_on c.args.paths.now.items c.loop-number.paths.items c.push.new.self.items t0 t2 inv.paths.0 (x ∷ []) inv.paths.1.0 (kept_on t0 t1 t2 kept01 c.in_ok-taken.ensures.kept)
+    (adds_on c.args.paths.now.items c.loop-number.paths.items c.push.new.self.items t0 t2 inv.paths.0 (x ∷ []) inv.paths.1 (kept_on t0 t1 t2 kept01 c.in_ok-taken.ensures.kept)
     (adds_one c.loop-number.paths.items c.push.new.self.items t2 c.in_ok-taken.field-0 x c.in_ok-push.ensures.items behind)) all

@@ -19,6 +19,29 @@ use Rattle.lc_rider.proofs.PathsAdded.{is_later, has_same}
 use Rattle.lc_rider.proofs.PathLater.{is_path_later, path_still}
 use Rattle.lc_rider.proofs.mark_paths.with_mark_duties.Goals as goal
 
+pub some_guard-requires-clause-path : goal.some_guard-requires-clause-path
+some_guard-requires-clause-path c = is_path_later c.args.terms.now c.cell_is.new.terms c.args.path c.requires.path c.in_ok-pending.ensures.kept
+
+pub with_named_duty-requires : goal.with_named_duty-requires
+with_named_duty-requires c =
+    let t0 = c.args.terms.now in
+    let t1 = c.cell_is.new.terms in
+    let t2 = c.some_guard.new.terms in
+    let kept = kept_on t0 t1 t2 c.in_ok-pending.ensures.kept c.in_ok-enabled.ensures.kept in
+    let pending = formula_later t1 t2 c.in_ok-pending.pending _ c.in_ok-pending.ensures.id c.in_ok-enabled.ensures.kept in
+    record {
+      path = (c.in_ok-owed.ensures t2 (path_in t0 c.args.path) _ (is_later t0 t2 c.args.path c.requires.path kept) pending).is;
+      client = is_term_still t0 t2 c.args.mark.client c.requires.client kept;
+    }
+
+pub returns-clause-kept : goal.returns-clause-kept
+returns-clause-kept c =
+    let t0 = c.args.terms.now in
+    let t1 = c.cell_is.new.terms in
+    let t2 = c.some_guard.new.terms in
+    let t3 = c.with_named_duty.new.terms in
+    kept_on t0 t2 t3 (kept_on t0 t1 t2 c.in_ok-pending.ensures.kept c.in_ok-enabled.ensures.kept) c.in_ok-named.ensures.kept
+
 pub returns-clause-path : goal.returns-clause-path
 returns-clause-path c =
     let operations = (specification_of c.args.mark.specification.now).operations in
