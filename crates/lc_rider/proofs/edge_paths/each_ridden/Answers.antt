@@ -8,17 +8,30 @@ use Rattle.lc_seq.specs.TextView.{specification_of}
 use Rattle.lc_action.specs.ActionView.{first_of}
 use Rattle.lc_rider.specs.Paths.{Path, rider_paths}
 use Rattle.lc_rider.specs.PathView.{path_in, ArePaths}
+use Rattle.lc_rider.specs.PathsAdded.{AddsPaths}
+use Rattle.lc_rider.specs.declared.path.Path as P
 use Rattle.lc_rider.specs.RiderView.{rider_of}
 use Rattle.lc_rider.proofs.PathsAdded.{adds_none, adds_on, adds_same, adds_to_none, no_paths}
 use Rattle.lc_rider.proofs.PathLater.{is_path_later, path_still}
 use Rattle.lc_rider.proofs.edge_paths.each_ridden.Goals as goal
 
 pub loop-path-init : goal.loop-path-init
-loop-path-init c = record {
-  kept = keeps_itself c.args.terms.now;
-  left = ?;
-  paths = ([], adds_none [] c.args.terms.now, ?);
-}
+loop-path-init c =
+    let operations = (specification_of c.args.riding.specification.now).operations in
+    let first = first_of c.args.riding.system in
+    let t = c.args.terms.now in
+    let each : Path → List Path = λ q. rider_paths operations first c.args.number c.args.riding.operation.0 (terms_in t c.args.riding.variables.now) (rider_of c.args.rider.now) q in
+    let all = c.into_iter-path-iterator.ensures.into_iter_gives.0 in
+    record {
+      kept = keeps_itself t;
+      left = subst (ArePaths t) (sym all) c.requires.paths;
+      paths = ([],
+        subst (λ (ps : List P.Path). AddsPaths [] t ps []) (sym c.new-ridden.ensures.items) (adds_none [] t),
+        ap (λ (ps : List P.Path). concat_map each (map (path_in t) ps)) all);
+    }
+
+pub returns-in_err-rider_paths-clause-kept : goal.returns-in_err-rider_paths-clause-kept
+returns-in_err-rider_paths-clause-kept c = kept_on c.args.terms.now c.loop-path.terms c.rider_paths.new.terms c.loop-path.invariant.kept c.in_err-rider_paths.ensures.kept
 
 pub rider_paths-requires : goal.rider_paths-requires
 rider_paths-requires c =

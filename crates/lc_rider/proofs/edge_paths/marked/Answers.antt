@@ -10,8 +10,11 @@ use Rattle.lc_rider.specs.MarkView.{marking_of, with_duties}
 use Rattle.lc_rider.specs.Paths.{Path, branch_paths, mark_duties}
 use Rattle.lc_rider.specs.PathView.{path_in}
 use Rattle.lc_rider.proofs.PathsAdded.{adds_same}
-use Rattle.lc_rider.proofs.PathLater.{path_still}
+use Rattle.lc_rider.proofs.PathLater.{is_path_later, path_still}
 use Rattle.lc_rider.proofs.edge_paths.marked.Goals as goal
+
+pub mark_paths-requires-clause-path : goal.mark_paths-requires-clause-path
+mark_paths-requires-clause-path c = is_path_later c.args.terms.now c.said_before.new.terms c.args.path c.requires.path c.in_ok-client.ensures.kept
 
 pub returns-clause-paths : goal.returns-clause-paths
 returns-clause-paths c =

@@ -1,4 +1,4 @@
-use Rattle.std.proofs.Common.{◌≡◌, List, map, ap, ◌∙◌, subst}
+use Rattle.std.proofs.Common.{◌≡◌, List, map, sym, ap, ◌∙◌, subst}
 use Rattle.std.proofs.lemmas.Result.{IfOk-weaker}
 use Rattle.lc_term.specs.PutNumbers.{terms_in, AreTerms}
 use Rattle.lc_term.specs.Syntax.{Term}
@@ -11,6 +11,11 @@ use Rattle.lc_rider.specs.Paths.{Path, paths}
 use Rattle.lc_rider.specs.RiderView.{riders_of}
 use Rattle.lc_rider.proofs.PathsAdded.{have_same}
 use Rattle.lc_rider.proofs.edge_paths.paths.Goals as goal
+
+pub ridden-requires-clause-variables : goal.ridden-requires-clause-variables
+ridden-requires-clause-variables c =
+    let t1 = c.enter_terms.new.self in
+    are_terms_later t1 c.path_start.new.terms c.deref-2.result.now (subst (AreTerms t1) (sym c.deref-2.ensures.value) c.in_ok-variables-2.ensures.are) c.in_ok-start.ensures.kept
 
 pub returns-clause-paths : goal.returns-clause-paths
 returns-clause-paths c =

@@ -8,13 +8,29 @@ use Rattle.lc_term.specs.Tables.{term_in}
 use Rattle.lc_term.specs.UpdateView.{update_of}
 use Rattle.lc_term.specs.View.{term_of}
 use Rattle.lc_term.specs.Updates as U
-use Rattle.lc_term.proofs.Later.{kept_on, term_later, term_is}
+use Rattle.lc_term.proofs.Later.{kept_on, term_later, term_is, is_term_later}
+use Rattle.lc_term.proofs.ByNumber.{are_terms_later}
 use Rattle.lc_rider.specs.Paths.{Path}
 use Rattle.lc_rider.specs.PathView.{path_in, with_columns}
 use Rattle.lc_rider.proofs.PathsAdded.{has_same}
-use Rattle.lc_rider.proofs.PathLater.{path_still}
+use Rattle.lc_rider.proofs.PathLater.{is_path_later, path_still}
 use Rattle.lc_rider.proofs.SaidStill.{said_still}
 use Rattle.lc_rider.proofs.edge_paths.updated.Goals as goal
+
+pub said_before-requires-2-clause-path : goal.said_before-requires-2-clause-path
+said_before-requires-2-clause-path c = is_path_later c.args.terms.now c.said_before.new.terms c.args.path c.requires.path c.in_ok-index.ensures.kept
+
+pub said_before-requires-2-clause-variables : goal.said_before-requires-2-clause-variables
+said_before-requires-2-clause-variables c = are_terms_later c.args.terms.now c.said_before.new.terms c.args.variables.now c.requires.variables c.in_ok-index.ensures.kept
+
+pub with_store-requires-clause-path : goal.with_store-requires-clause-path
+with_store-requires-clause-path c =
+    let t1 = c.said_before.new.terms in
+    let t2 = c.said_before-2.new.terms in
+    is_path_later c.args.terms.now t2 c.args.path c.requires.path (kept_on c.args.terms.now t1 t2 c.in_ok-index.ensures.kept c.in_ok-value.ensures.kept)
+
+pub with_store-requires-clause-index : goal.with_store-requires-clause-index
+with_store-requires-clause-index c = is_term_later c.said_before.new.terms c.said_before-2.new.terms c.in_ok-index.index _ c.in_ok-index.ensures.id c.in_ok-value.ensures.kept
 
 pub returns-clause-path : goal.returns-clause-path
 returns-clause-path c =

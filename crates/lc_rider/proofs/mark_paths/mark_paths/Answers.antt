@@ -1,17 +1,17 @@
-use Rattle.std.proofs.Common.{◌≡◌, List, map, ap, sym, ◌∙◌, subst}
+use Rattle.std.proofs.Common.{◌≡◌, ℕ, List, map, ap, sym, ◌∙◌, subst}
 use Rattle.std.proofs.lemmas.Result.{on_ok_weaker}
 use Rattle.lc_term.specs.PutNumbers.{terms_in, AreTerms}
-use Rattle.lc_term.specs.Syntax.{Term}
+use Rattle.lc_term.specs.Syntax.{Term, Column}
 use Rattle.lc_term.specs.Tables.{term_in}
 use Rattle.lc_term.proofs.ByNumber.{are_terms_later, terms_still}
 use Rattle.lc_term.proofs.Later.{kept_on, term_still, is_term_still}
-use Rattle.lc_seq.specs.Branches.{op_branches}
+use Rattle.lc_seq.specs.Branches.{op_branches, arity}
 use Rattle.lc_seq.specs.Specification.{Branch}
 use Rattle.lc_seq.specs.SpecView.{branches_of}
 use Rattle.lc_seq.specs.TextView.{specification_of}
 use Rattle.lc_action.specs.ActionView.{first_of}
 use Rattle.lc_rider.specs.MarkView.{marking_of, with_duties}
-use Rattle.lc_rider.specs.Paths.{Path, mark_variables, mark_duties, branch_paths}
+use Rattle.lc_rider.specs.Paths.{Path, branch_variables, mark_variables, mark_duties, branch_paths}
 use Rattle.lc_rider.specs.PathView.{path_in, HasPath}
 use Rattle.lc_rider.proofs.PathsAdded.{adds_same}
 use Rattle.lc_rider.proofs.PathLater.{is_path_later, path_still}
@@ -47,10 +47,11 @@ branch_paths-requires c =
     let kept12 = c.in_ok-owing.ensures.kept in
     let kept02 = kept_on t0 t1 t2 kept01 kept12 in
     let owing = c.in_ok-owing.ensures.path in
-    let variables : Path → Term → List Term = λ p u. mark_variables operations first c.args.mark.operation.0 p u in
-    let before : variables (path_in t2 c.in_ok-owing.owing) (term_in t2 client) ≡ variables (path_in t0 c.args.path) (term_in t0 client) =
-    (λ i. variables (owing.path i) (term_still t0 t2 client c.requires.client kept02 i))
-    ∙ (λ i. variables (path_still t0 t1 c.args.path c.requires.path kept01 i) (term_in t0 client)) in
+    let variables : (ℕ → Column) → Term → List Term = λ σ u. branch_variables σ first (arity operations c.args.mark.operation.0) u in
+    let columns : (path_in t2 c.in_ok-owing.owing).columns ≡ (path_in t0 c.args.path).columns =
+    (λ i. (owing.path i).columns) ∙ (λ i. (path_still t0 t1 c.args.path c.requires.path kept01 i).columns) in
+    let before : variables (path_in t2 c.in_ok-owing.owing).columns (term_in t2 client) ≡ variables (path_in t0 c.args.path).columns (term_in t0 client) =
+    λ i. variables (columns i) (term_still t0 t2 client c.requires.client kept02 i) in
     record {
       path = owing.is;
       client = is_term_still t0 t2 client c.requires.client kept02;
