@@ -10,12 +10,13 @@ use Rattle.lc_term.specs.Put.{column_at}
 use Rattle.lc_term.specs.PutNumbers.{entry_in, columns_at, AreColumns}
 use Rattle.lc_term.specs.Said.{put}
 use Rattle.lc_term.specs.Syntax as S
-use Rattle.lc_term.specs.Nodes.{is_column}
-use Rattle.lc_term.specs.Tables.{column_in, IsColumn, HasColumn, Keeps}
+use Rattle.lc_term.specs.Nodes.{column, is_column}
+use Rattle.lc_term.specs.Tables.{term_in, column_in, IsTerm, IsColumn, HasColumn, Keeps}
 use Rattle.lc_term.specs.declared.node.ColExprId.{ColExprId}
+use Rattle.lc_term.specs.declared.node.TermId.{TermId}
 use Rattle.lc_term.proofs.ByNumber.{are_columns_later, columns_still}
 use Rattle.lc_term.proofs.Entries.{IsAbsent, same}
-use Rattle.lc_term.proofs.Later.{column_is}
+use Rattle.lc_term.proofs.Later.{column_is, term_still}
 use Rattle.lc_term.proofs.NodeReplacement.{column_still}
 use Rattle.lc_action.proofs.Columns.{put_in_place, put_behind}
 use Rattle.lc_rider.specs.Stored.{HasNone, IsFirst}
@@ -29,20 +30,20 @@ number_of p = p.0.0
 -- ---- where a column stands
 
 -- its first entry
-pub first_here : (ps : List Entry) (k : ℕ) (p : Entry) (c : ℕ) → k < length ps → p ≡ get_or ps k p → (p.0.0 == c) ≡ true → HasNone c (take k ps) → IsFirst c ps k
-first_here ps k p c h is at none = record {
-  there = slice_get-map (λ (q : Entry). q.0.0) ps k ∙ ap (option_map (λ (q : Entry). q.0.0)) (slice_get-get_or ps k p h ∙ ap Some (sym is)) ∙ ap Some (same p.0.0 c at);
+pub first_here : (ps : List Entry) (k c : ℕ) (d : Entry) → k < length ps → ((get_or ps k d).0.0 == c) ≡ true → HasNone c (take k ps) → IsFirst c ps k
+first_here ps k c d h at none = record {
+  there = slice_get-map (λ (q : Entry). q.0.0) ps k ∙ ap (option_map (λ (q : Entry). q.0.0)) (slice_get-get_or ps k d h) ∙ ap Some (same (get_or ps k d).0.0 c at);
   before = none;
 }
 
 -- one more entry of another
-pub none_more : (ps : List Entry) (k : ℕ) (p : Entry) (c : ℕ) → k < length ps → p ≡ get_or ps k p → (p.0.0 == c) ≡ false → HasNone c (take k ps) → HasNone c (take (k + 1) ps)
-none_more ps k p c h is other none = subst (λ n. HasNone c (take n ps)) (sym (add-one k)) (by ps k h is none)
+pub none_more : (ps : List Entry) (k c : ℕ) (d : Entry) → k < length ps → ((get_or ps k d).0.0 == c) ≡ false → HasNone c (take k ps) → HasNone c (take (k + 1) ps)
+none_more ps k c d h other none = subst (λ n. HasNone c (take n ps)) (sym (add-one k)) (by ps k h other none)
   where
-    by : (ps : List Entry) (k : ℕ) → k < length ps → p ≡ get_or ps k p → HasNone c (take k ps) → HasNone c (take (suc k) ps)
-    by [] k h is none = absurd (omega arith)
-    by (x ∷ ps) zero h is none = (subst (λ (q : Entry). (q.0.0 == c) ≡ false) is other, tt)
-    by (x ∷ ps) (suc k) h is none = (none.0, by ps k (omega arith) is none.1)
+    by : (ps : List Entry) (k : ℕ) → k < length ps → ((get_or ps k d).0.0 == c) ≡ false → HasNone c (take k ps) → HasNone c (take (suc k) ps)
+    by [] k h other none = absurd (omega arith)
+    by (x ∷ ps) zero h other none = (other, tt)
+    by (x ∷ ps) (suc k) h other none = (none.0, by ps k (omega arith) other none.1)
 
 pub none_all : (ps : List Entry) (k : ℕ) (c : ℕ) → length ps ≤ k → HasNone c (take k ps) → HasNone c ps
 none_all ps k c h none = subst (HasNone c) (take_all k ps h) none
@@ -124,3 +125,9 @@ are_stored_behind old new ps qs c id x e are kept has = subst (AreColumns new) (
     by : (ps : List Entry) → AreColumns new ps → AreColumns new (ps ++ (c, id) ∷ [])
     by [] h = (ap is_column has, tt)
     by (p ∷ ps) h = (h.0, by ps h.1)
+
+-- the column itself, with a value stored in it
+pub base_stored : (old mid new : Table) (base id : ColExprId) (index value : TermId) (c : ColId) → IsTerm old index → IsTerm old value → Keeps old mid → HasColumn mid base (S.Base c.0) →
+    HasColumn new id (S.Store (column_in mid base) (term_in mid index) (term_in mid value)) → HasColumn new id (S.Store (S.Base c.0) (term_in old index) (term_in old value))
+base_stored old mid new base id index value c i v kept at has =
+    has ∙ ap (λ (x : S.Column). Some (column x)) (λ j. S.Store (column_is mid base (S.Base c.0) at j) (term_still old mid index i kept j) (term_still old mid value v kept j))
