@@ -3,6 +3,8 @@ pub mod PathLaw
 pub mod PathTaken
 pub mod Lists
 pub mod PathLater
+pub mod Placed
+pub mod Saying
 pub mod PathSteps
 pub mod PathParts
 pub mod Marked
