@@ -1,5 +1,5 @@
 -- What is said of the state before, with a path and variables as they were in a table before.
-use Rattle.std.proofs.Common.{◌≡◌, List, subst, ap}
+use Rattle.std.proofs.Common.{List, subst}
 use Rattle.lc_term.specs.NodeTables.{Table}
 use Rattle.lc_term.specs.PutNumbers.{terms_in, AreTerms}
 use Rattle.lc_term.specs.Replacement.{replacing, replace_term}

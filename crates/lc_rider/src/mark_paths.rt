@@ -23,11 +23,7 @@ use lc_term::{FormulaId, TermId, Terms, Update};
 use std::alloc::Global;
 
 // What a mark of the call of an operation that it names asks for besides.
-fn with_named_duty(
-    terms: &mut Terms,
-    mark: Mark<'_>,
-    path: Path,
-) -> Result<Path, OutOfMemory>
+fn with_named_duty(terms: &mut Terms, mark: Mark<'_>, path: Path) -> Result<Path, OutOfMemory>
     requires path { IsPath terms.old path }
     requires client { IsTerm terms.old mark.client }
     ensures path { let c = term_in terms.old mark.entry.client in

@@ -1,4 +1,4 @@
-use Rattle.std.proofs.Common.{◌≡◌, [], ◌∷◌, ◌++◌, List, length, map, arith, refl, sym, ap, ap₂, ◌∙◌, subst, append_assoc, append-nil}
+use Rattle.std.proofs.Common.{◌≡◌, [], ◌∷◌, ◌++◌, List, map, arith, sym, ap, ◌∙◌, subst, append_assoc, append-nil}
 use Rattle.lc_term.specs.Lists.{concat_map}
 use Rattle.lc_term.specs.PutNumbers.{terms_in}
 use Rattle.lc_term.specs.Syntax.{Term}
@@ -25,9 +25,11 @@ loop-path-init c =
     record {
       kept = keeps_itself t;
       left = subst (ArePaths t) (sym all) c.requires.paths;
-      paths = ([],
+      paths = (
+        [],
         subst (λ (ps : List P.Path). AddsPaths [] t ps []) (sym c.new-ridden.ensures.items) (adds_none [] t),
-        ap (λ (ps : List P.Path). concat_map each (map (path_in t) ps)) all);
+        ap (λ (ps : List P.Path). concat_map each (map (path_in t) ps)) all,
+      );
     }
 
 pub returns-in_err-rider_paths-clause-kept : goal.returns-in_err-rider_paths-clause-kept
@@ -65,10 +67,12 @@ loop-path-preserved c =
     record {
       kept = kept_on t t0 t1 inv.kept kept;
       left = these.1;
-      paths = (done ++ each x,
+      paths = (
+        done ++ each x,
         adds_on [] c.loop-path.ridden.items c.rider_paths.new.paths.items t0 t1 done (each x) inv.paths.1 kept added,
         append_assoc done (each x) (concat_map each (map (path_in t) c.next.new.self.rest.items))
-        ∙ (ap (λ ps. done ++ concat_map each (map (path_in t) ps)) (sym here) ∙ inv.paths.2));
+            ∙ (ap (λ ps. done ++ concat_map each (map (path_in t) ps)) (sym here) ∙ inv.paths.2),
+      );
     }
 
 pub returns-clause-paths : goal.returns-clause-paths

@@ -1,14 +1,12 @@
-use Rattle.std.proofs.Common.{◌≡◌, List}
+use Rattle.std.proofs.Common.{List}
 use Rattle.std.proofs.lemmas.Result.{on_ok_weaker}
 use Rattle.lc_term.specs.Syntax.{Term}
-use Rattle.lc_term.specs.Tables.{term_in}
 use Rattle.lc_term.proofs.Later.{term_is}
 use Rattle.lc_seq.specs.Branches.{op_branches}
 use Rattle.lc_seq.specs.TextView.{specification_of}
 use Rattle.lc_action.specs.ActionView.{first_of}
 use Rattle.lc_rider.specs.MarkView.{marking_of, with_duties}
 use Rattle.lc_rider.specs.Paths.{Path, branch_paths, mark_duties}
-use Rattle.lc_rider.specs.PathView.{path_in}
 use Rattle.lc_rider.proofs.PathsAdded.{adds_same}
 use Rattle.lc_rider.proofs.PathLater.{is_path_later, path_still}
 use Rattle.lc_rider.proofs.edge_paths.marked.Goals as goal

@@ -1,7 +1,6 @@
-use Rattle.std.proofs.Common.{◌≡◌, map, ap, sym, ◌∙◌}
+use Rattle.std.proofs.Common.{map, ◌∙◌}
 use Rattle.lc_term.specs.PutNumbers.{terms_in}
 use Rattle.lc_term.specs.Lists.{concat_map}
-use Rattle.lc_term.specs.Syntax.{Term}
 use Rattle.lc_term.proofs.ByNumber.{are_terms_later, terms_still}
 use Rattle.lc_term.proofs.Later.{kept_on}
 use Rattle.lc_seq.specs.TextView.{specification_of}

@@ -1,11 +1,10 @@
-use Rattle.std.proofs.Common.{◌≡◌, ℕ, map}
+use Rattle.std.proofs.Common.{◌≡◌}
 use Rattle.std.proofs.lemmas.Result.{IfOk-weaker}
 use Rattle.lc_term.specs.PutNumbers.{terms_in}
 use Rattle.lc_term.specs.Replacement.{replacing, replace_term}
-use Rattle.lc_term.specs.Said.{put, said, term_at}
+use Rattle.lc_term.specs.Said.{put, term_at}
 use Rattle.lc_term.specs.Syntax.{Term}
 use Rattle.lc_term.specs.Tables.{term_in}
-use Rattle.lc_term.specs.UpdateView.{update_of}
 use Rattle.lc_term.specs.View.{term_of}
 use Rattle.lc_term.specs.Updates as U
 use Rattle.lc_term.proofs.Later.{kept_on, term_later, term_is, is_term_later}

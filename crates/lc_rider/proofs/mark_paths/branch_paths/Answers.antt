@@ -1,10 +1,10 @@
-use Rattle.std.proofs.Common.{◌≡◌, [], ◌∷◌, ◌+◌, ◌++◌, ◌≤◌, List, length, map, drop, sym, ap, ◌∙◌, subst, append-nil, arith, refl}
+use Rattle.std.proofs.Common.{◌≡◌, [], ◌∷◌, ◌+◌, ◌++◌, ◌≤◌, List, length, drop, sym, ap, ◌∙◌, subst, append-nil, arith, refl}
 use Rattle.std.proofs.lemmas.Bool.Decides.{nat_tests}
 use Rattle.std.proofs.lemmas.List.{drop_all}
 use Rattle.lc_term.specs.PutNumbers.{terms_in}
-use Rattle.lc_term.specs.Syntax.{Term, Formula, Not}
+use Rattle.lc_term.specs.Syntax.{Formula, Not}
 use Rattle.lc_term.specs.Said.{told}
-use Rattle.lc_term.specs.Tables.{term_in, formula_in, HasFormula}
+use Rattle.lc_term.specs.Tables.{term_in, HasFormula}
 use Rattle.lc_term.specs.View.{formula_of}
 use Rattle.lc_term.proofs.ByNumber.{are_terms_later}
 use Rattle.lc_term.proofs.Later.{kept_on, keeps_itself, formula_later, formula_is, is_term_still}
@@ -104,11 +104,13 @@ loop-number-preserved c =
     record {
       kept = kept_on t t0 t3 inv.kept kept03;
       path = next.is;
-      paths = (inv.paths.0 ++ x ∷ [],
+      paths = (
+        inv.paths.0 ++ x ∷ [],
         adds_on c.args.paths.now.items c.loop-number.paths.items c.push-in-loop-number.new.self.items t0 t3 inv.paths.0 (x ∷ []) inv.paths.1 kept03
-        (adds_one c.loop-number.paths.items c.push-in-loop-number.new.self.items t3 c.in_ok-behind.behind x c.in_ok-push-2.ensures.items (has_path_later t2 t3 c.in_ok-behind.behind x behind kept23)),
+            (adds_one c.loop-number.paths.items c.push-in-loop-number.new.self.items t3 c.in_ok-behind.behind x c.in_ok-push-2.ensures.items (has_path_later t2 t3 c.in_ok-behind.behind x behind kept23)),
         branches_step operations first n o k cl c.args.branches.now c.loop-number.number b inv.paths.0 x q (path_in t3 c.in_ok-path.path) vs g whole
-        c.loop-number-test.true c.index-branches-number.is inv.variables refl refl next.path inv.paths.2);
+            c.loop-number-test.true c.index-branches-number.is inv.variables refl refl next.path inv.paths.2,
+      );
       variables = variables_kept operations first n o k cl q (path_in t3 c.in_ok-path.path) (Not g) vs next.path inv.variables;
     }
 

@@ -1,4 +1,4 @@
-use Rattle.std.proofs.Common.{◌≡◌, ℕ, List, map, ap, sym, ◌∙◌, subst}
+use Rattle.std.proofs.Common.{◌≡◌, ℕ, List, ap, sym, ◌∙◌, subst}
 use Rattle.std.proofs.lemmas.Result.{on_ok_weaker}
 use Rattle.lc_term.specs.PutNumbers.{terms_in, AreTerms}
 use Rattle.lc_term.specs.Syntax.{Term, Column}
@@ -7,12 +7,11 @@ use Rattle.lc_term.proofs.ByNumber.{are_terms_later, terms_still}
 use Rattle.lc_term.proofs.Later.{kept_on, term_still, is_term_still}
 use Rattle.lc_seq.specs.Branches.{op_branches, arity}
 use Rattle.lc_seq.specs.Specification.{Branch}
-use Rattle.lc_seq.specs.SpecView.{branches_of}
 use Rattle.lc_seq.specs.TextView.{specification_of}
 use Rattle.lc_action.specs.ActionView.{first_of}
 use Rattle.lc_rider.specs.MarkView.{marking_of, with_duties}
 use Rattle.lc_rider.specs.Paths.{Path, branch_variables, mark_variables, mark_duties, branch_paths}
-use Rattle.lc_rider.specs.PathView.{path_in, HasPath}
+use Rattle.lc_rider.specs.PathView.{path_in}
 use Rattle.lc_rider.proofs.PathsAdded.{adds_same}
 use Rattle.lc_rider.proofs.PathLater.{is_path_later, path_still}
 use Rattle.lc_rider.proofs.mark_paths.mark_paths.Goals as goal

@@ -1,18 +1,17 @@
-use Rattle.std.proofs.Common.{◌≡◌, ℕ, List, ◌++◌, [], ◌∷◌, map, refl, sym, ap, ◌∙◌, subst}
+use Rattle.std.proofs.Common.{◌≡◌, List, ◌++◌, [], ◌∷◌, sym, ap, ◌∙◌, subst}
 use Rattle.std.proofs.lemmas.Result.{IfOk-weaker}
 use Rattle.lc_term.specs.PutNumbers.{terms_in, columns_at}
 use Rattle.lc_term.specs.Said.{after}
-use Rattle.lc_term.specs.Syntax.{Column, Formula}
 use Rattle.lc_term.specs.Tables.{term_in, formula_in, HasFormula}
 use Rattle.lc_term.specs.UpdateView.{updates_of}
 use Rattle.lc_term.specs.declared.update.Update as M
-use Rattle.lc_term.proofs.Later.{kept_on, formula_later, formula_has}
+use Rattle.lc_term.proofs.Later.{formula_later, formula_has}
 use Rattle.lc_seq.specs.SpecView.{branch_of}
 use Rattle.lc_seq.specs.TextView.{specification_of}
 use Rattle.lc_action.specs.ActionView.{first_of}
 use Rattle.lc_rider.specs.MarkView.{marking_of, branch_path}
-use Rattle.lc_rider.specs.Paths.{Path, Observing, is_empty, mark_updates, with_fact}
-use Rattle.lc_rider.specs.PathView.{path_in, HasPath, with_columns, with_duty}
+use Rattle.lc_rider.specs.Paths.{is_empty, mark_updates, with_fact}
+use Rattle.lc_rider.specs.PathView.{path_in, HasPath, with_columns}
 use Rattle.lc_rider.specs.Rider.{Marking, Note}
 use Rattle.lc_rider.proofs.BranchesTaken.{none_observing, settled_path, noted_path}
 use Rattle.lc_rider.proofs.PathsAdded.{is_later, has_same}

@@ -7,8 +7,8 @@ use Rattle.lc_term.specs.Tables.{term_in, HasFormula}
 use Rattle.lc_seq.specs.TextView.{specification_of}
 use Rattle.lc_action.specs.ActionView.{first_of}
 use Rattle.lc_rider.specs.MarkView.{marking_of, with_duties}
-use Rattle.lc_rider.specs.Paths.{Path, Named, named_duty}
-use Rattle.lc_rider.specs.PathView.{path_in, HasPath, with_duty}
+use Rattle.lc_rider.specs.Paths.{Path, named_duty}
+use Rattle.lc_rider.specs.PathView.{path_in}
 use Rattle.lc_rider.specs.Rider.{Marking}
 use Rattle.lc_rider.proofs.PathsAdded.{is_later, has_same}
 use Rattle.lc_rider.proofs.mark_paths.with_named_duty.Goals as goal
