@@ -5,6 +5,8 @@ pub mod Lists
 pub mod PathLater
 pub mod Placed
 pub mod Saying
+pub mod Reading
+pub mod Guarding
 pub mod PathSteps
 pub mod PathParts
 pub mod Marked
