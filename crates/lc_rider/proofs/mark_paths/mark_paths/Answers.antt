@@ -7,6 +7,7 @@ use Rattle.lc_term.proofs.ByNumber.{are_terms_later, terms_still}
 use Rattle.lc_term.proofs.Later.{kept_on, term_still, is_term_still}
 use Rattle.lc_seq.specs.Branches.{op_branches, arity}
 use Rattle.lc_seq.specs.Specification.{Branch}
+use Rattle.lc_seq.specs.SpecView.{branches_of}
 use Rattle.lc_seq.specs.TextView.{specification_of}
 use Rattle.lc_action.specs.ActionView.{first_of}
 use Rattle.lc_rider.specs.MarkView.{marking_of, with_duties}
@@ -47,8 +48,9 @@ branch_paths-requires c =
     let kept02 = kept_on t0 t1 t2 kept01 kept12 in
     let owing = c.in_ok-owing.ensures.path in
     let variables : (ℕ → Column) → Term → List Term = λ σ u. branch_variables σ first (arity operations c.args.mark.operation.0) u in
-    let columns : (path_in t2 c.in_ok-owing.owing).columns ≡ (path_in t0 c.args.path).columns =
-    (λ i. (owing.path i).columns) ∙ (λ i. (path_still t0 t1 c.args.path c.requires.path kept01 i).columns) in
+    let stored : (path_in t2 c.in_ok-owing.owing).columns ≡ (path_in t1 c.args.path).columns = λ i. (owing.path i).columns in
+    let still : (path_in t1 c.args.path).columns ≡ (path_in t0 c.args.path).columns = λ i. (path_still t0 t1 c.args.path c.requires.path kept01 i).columns in
+    let columns = stored ∙ still in
     let before : variables (path_in t2 c.in_ok-owing.owing).columns (term_in t2 client) ≡ variables (path_in t0 c.args.path).columns (term_in t0 client) =
     λ i. variables (columns i) (term_still t0 t2 client c.requires.client kept02 i) in
     record {
@@ -76,7 +78,9 @@ returns-clause-paths c =
     let still = path_still t0 t1 c.args.path c.requires.path kept01 in
     let bs = c.operation_branches-branches.ensures in
     let owing : Path → Term → List Branch → Path = λ p u xs. with_duties p (mark_duties operations first n o (marking_of c.args.mark.marking u) p u xs) in
-    let owed : path_in t2 c.in_ok-owing.owing ≡ owing (path_in t0 c.args.path) (term_in t0 client) (op_branches operations o) =
-    c.in_ok-owing.ensures.path.path ∙ (λ i. owing (still i) (client_at i) (bs i)) in
+    let said : path_in t2 c.in_ok-owing.owing ≡ owing (path_in t1 c.args.path) (term_in t1 client) (branches_of c.operation_branches-branches.result.now) = c.in_ok-owing.ensures.path.path in
+    let same : owing (path_in t1 c.args.path) (term_in t1 client) (branches_of c.operation_branches-branches.result.now) ≡ owing (path_in t0 c.args.path) (term_in t0 client) (op_branches operations o) =
+    λ i. owing (still i) (client_at i) (bs i) in
+    let owed = said ∙ same in
     let behind : Term → List Branch → Path → List Path = λ u xs q. branch_paths operations first n o (marking_of c.args.mark.marking u) u xs q in
     on_ok_weaker c.branch_paths.result (λ h. adds_same c.args.paths.now.items c.branch_paths.new.paths.items t3 _ _ h (λ i. behind (client_now i) (bs i) (owed i))) c.branch_paths.ensures.paths
