@@ -10,5 +10,6 @@ pub mod Guarding
 pub mod PathSteps
 pub mod PathParts
 pub mod Marked
+pub mod MarkStores
 pub mod Assigned
 pub mod Ridden
