@@ -26,9 +26,9 @@ returns-clause-stored c =
     let ws = at_client (Y.pend first ∷ []) (Number (pos 2) ∷ []) in
     let one = c.store_updates.ensures.kept in
     let two = c.in_ok-store_own.ensures.stored ∙ more_stored old mid ps ks c.requires.before c.requires.variables one (columns_at mid c.store_updates.new.columns.items) start _ us _ vs
-        c.in_ok-store_updates.ensures.stored (ap (λ (xs : List M.Update). updates_of xs) c.deref.ensures.value) (ap₂ at_client c.replies.ensures (ap (map term_of) c.deref-2.ensures.value)) in
+    c.in_ok-store_updates.ensures.stored (ap (λ (xs : List M.Update). updates_of xs) c.deref.ensures.value) (ap₂ at_client c.replies.ensures (ap (map term_of) c.deref-2.ensures.value)) in
     let three = more_stored old now ps ks c.requires.before c.requires.variables (kept_on old mid now one c.store_own.ensures.kept) (columns_at now c.store_own.new.columns.items) start (us ++ vs) (us ++ vs) _ ws
-        two refl (ap (λ (j : ℕ). at_client (j ∷ []) (Number (pos 2) ∷ [])) c.pend.ensures) in
+    two refl (ap (λ (j : ℕ). at_client (j ∷ []) (Number (pos 2) ∷ [])) c.pend.ensures) in
     subst (λ (σ : ℕ → Column). OnOk c.store_own-2.result (columns_at c.store_own-2.new.terms c.store_own-2.new.columns.items ≡ σ))
     (three ∙ ap (λ (xs : List Update). puts start (map (said (columns_at old ps) (terms_in old ks)) xs)) (append_assoc us vs ws))
     c.store_own-2.ensures.stored
