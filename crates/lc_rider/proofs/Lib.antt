@@ -10,6 +10,7 @@ pub mod Guarding
 pub mod PathSteps
 pub mod PathParts
 pub mod Marked
+pub mod MarkStores
 pub mod Assigned
 pub mod Ridden
 pub mod PathsAdded

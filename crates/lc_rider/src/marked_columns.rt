@@ -1,6 +1,7 @@
 ghost use Rattle.std.specs.Prelude.{◌≡◌, IfOk, OnOk, map};
 ghost use Rattle.lc_term.specs.PutNumbers.{columns_at, AreColumns, terms_in, AreTerms};
 ghost use Rattle.lc_term.specs.Said.{puts, said, after, at_client};
+ghost use Rattle.lc_term.specs.Syntax as T;
 ghost use Rattle.lc_term.specs.Tables.{term_in, Keeps};
 ghost use Rattle.lc_term.specs.UpdateView.{updates_of};
 ghost use Rattle.lc_term.specs.View.{term_of};
@@ -151,6 +152,31 @@ fn store_noted(
     )
 }
 
+// What is stored at a mark by this branch.
+fn store_marked(
+    alloc: Global,
+    terms: &mut Terms,
+    before: PutNumbers<'_>,
+    mark: Mark<'_>,
+    branch: &Branch,
+    columns: &mut Vec<(ColId, ColExprId)>,
+) -> Result<(), OutOfMemory>
+    requires before { AreColumns terms.old before.columns.now }
+    requires variables { AreTerms terms.old before.variables.now }
+    requires columns { AreColumns terms.old columns.old.items }
+    ensures are { OnOk result (AreColumns terms.new columns.new.items) }
+    ensures stored { (client : T.Term) → OnOk result (columns_at terms.new columns.new.items ≡ puts (columns_at terms.old columns.old.items)
+        (map (said (columns_at terms.old before.entry.columns.now) (terms_in terms.old before.entry.variables.now))
+        (mark_updates (first_of mark.entry.system) (marking_of mark.entry.marking client) (branch_of branch.now)))) }
+    ensures kept { Keeps terms.old terms.new }
+{
+    match mark.marking {
+        Marking::Own => store_settled(alloc, terms, before, mark.system, branch, columns),
+        Marking::Other(_) => store_settled(alloc, terms, before, mark.system, branch, columns),
+        Marking::Note => store_noted(alloc, terms, before, mark.system, branch, columns),
+    }
+}
+
 /// The columns behind a mark by this branch. In its words variable 1 is the client whose call is marked, and the arguments of
 /// that call follow.
 pub(crate) fn marked_columns(
@@ -170,15 +196,8 @@ pub(crate) fn marked_columns(
     ensures kept { Keeps terms.old terms.new }
 {
     let columns = path.columns();
-    let before = PutNumbers { columns, variables };
     let mut stored = Vec::from_slice(alloc, columns)?;
-    match mark.marking {
-        Marking::Own | Marking::Other(_) => {
-            store_settled(alloc, terms, before, mark.system, branch, &mut stored)?;
-        }
-        Marking::Note => {
-            store_noted(alloc, terms, before, mark.system, branch, &mut stored)?;
-        }
-    }
+    let before = PutNumbers { columns, variables };
+    store_marked(alloc, terms, before, mark, branch, &mut stored)?;
     Ok(stored)
 }
