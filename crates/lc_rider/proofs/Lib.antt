@@ -2,6 +2,7 @@ pub mod Riding
 pub mod PathLaw
 pub mod PathTaken
 pub mod Lists
+pub mod PathLater
 pub mod PathSteps
 pub mod PathParts
 pub mod Marked

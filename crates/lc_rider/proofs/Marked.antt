@@ -1,29 +1,23 @@
 -- Marks of the code, one branch after another.
 use Rattle.std.proofs.Common.{◌≡◌, ℕ, zero, suc, ◌+◌, ◌<◌, ◌≤◌, true, Option, Some, None, List, [], ◌∷◌, ◌++◌, length, drop, take, min, map, get_or, slice_get, pos, refl, sym, ap, ap₂, ◌∙◌, subst, arith, append_assoc}
 use Rattle.std.specs.Prelude.{option_map}
-use Rattle.std.specs.List.{list_all}
 use Rattle.std.proofs.lemmas.Option.{slice_get-map, slice_get_past}
 use Rattle.std.proofs.lemmas.List.{drop_more, map-append, take-map, take_all}
 use Rattle.lc_base.specs.declared.ids.ColId.{ColId}
 use Rattle.lc_term.specs.Said.{told, reads}
 use Rattle.lc_term.specs.Syntax.{Term, Number, Read, Column, Formula, Not}
 use Rattle.lc_term.specs.SystemColumns.{arg_columns}
-use Rattle.lc_term.specs.Truth.{is_ground}
 use Rattle.lc_term.specs.View.{formula_of}
-use Rattle.lc_term.proofs.Tests.{left_true, at_all}
 use Rattle.lc_seq.specs.Branches.{branches_in, op_branches}
-use Rattle.lc_seq.specs.Specification.{Operation, operation_is_resolved, variables_of}
+use Rattle.lc_seq.specs.Specification.{Operation}
 use Rattle.lc_seq.specs.SpecView.{branch_of, branches_of, operation_of, operations_of}
 use Rattle.lc_seq.specs.declared.specification.Branch.{Branch}
 use Rattle.lc_seq.specs.declared.specification.Operation as D
 use Rattle.lc_rider.specs.Rider.{Marking, Own, Other, Note}
 use Rattle.lc_rider.specs.Paths as S
 use Rattle.lc_rider.specs.Paths.{Owing, Duty, Pending, Enabled, named_duty, mark_variables, branch_paths, with_fact}
-use Rattle.lc_rider.specs.PathLaws.{AreGround}
 use Rattle.lc_rider.specs.MarkView.{with_duties, branch_path}
-use Rattle.lc_rider.specs.PathView.{path_of, with_duty}
-use Rattle.lc_rider.specs.declared.path.Path.{Path}
-use Rattle.lc_rider.proofs.Riding.{ground_from}
+use Rattle.lc_rider.specs.PathView.{with_duty}
 
 -- ---- operations
 
@@ -58,20 +52,6 @@ call_is σ ρ first n k args cells c before after ea ek ec er eb e =
     ∙ (sym (take-map cell (min n 3) (arg_columns first)) ∙ three n (cell (2 + first)) (cell (3 + first)) (cell (4 + first))) in
     e ∙ ap₂ (λ (xs ys : List Term). xs ++ ys) eb seen
 
--- ---- guards
-
-pub ground_of : (n : ℕ) (os : List Operation) (k : ℕ) → list_all (operation_is_resolved n) os ≡ true → AreGround (op_branches os k)
-ground_of n os k h = by (slice_get os k) refl
-  where
-    by : (x : Option Operation) → slice_get os k ≡ x → AreGround (branches_in x)
-    by None e = tt
-    by (Some o) e = ground_from n (variables_of o.arguments) o.branches (left_true _ _ (at_all (operation_is_resolved n) os k o h e))
-
-pub ground_at : (bs : List Branch) (i : ℕ) (b : Branch) → AreGround (branches_of bs) → i < length bs → b ≡ get_or bs i b → is_ground (formula_of b.guard) ≡ true
-ground_at [] i b h l e = absurd (omega arith)
-ground_at (x ∷ bs) zero b h l e = subst (λ (y : Branch). is_ground (formula_of y.guard) ≡ true) (sym e) h.0
-ground_at (x ∷ bs) (suc i) b h l e = ground_at bs i b h.1 (omega arith) e
-
 module _ (operations : List Operation) (first n o : ℕ) (k : Marking) (c : Term) where
   -- ---- duties
 
@@ -98,23 +78,6 @@ module _ (operations : List Operation) (first n o : ℕ) (k : Marking) (c : Term
       ∷ branch_paths operations first n o k c (branches_of (drop (i + 1) bs)) (with_fact q (Not (told q.columns (mark_variables operations first o q c) (formula_of b.guard))))
   branches_more bs i b q h e =
       ap (λ (xs : List Branch). branch_paths operations first n o k c (branches_of xs) q) (drop_more bs i b h ∙ ap (λ (x : Branch). x ∷ drop (i + 1) bs) (sym e))
-
-  -- one more branch
-  pub branches_step : (bs : List Branch) (i : ℕ) (b : Branch) (ps new : List Path) (x : Path) (q r : S.Path) (vs : List Term) (g : Formula) (whole : List S.Path) →
-      i < length bs → b ≡ get_or bs i b → new ≡ ps ++ x ∷ [] → vs ≡ mark_variables operations first o q c → g ≡ told q.columns vs (formula_of b.guard) →
-      path_of x ≡ branch_path operations first n k vs (branch_of b) g q → r ≡ with_fact q (Not g) →
-      map path_of ps ++ branch_paths operations first n o k c (branches_of (drop i bs)) q ≡ whole →
-      map path_of new ++ branch_paths operations first n o k c (branches_of (drop (i + 1) bs)) r ≡ whole
-  branches_step bs i b ps new x q r vs g whole h e en ev eg ex er before =
-      let guard : g ≡ told q.columns (mark_variables operations first o q c) (formula_of b.guard) = eg ∙ ap (λ (τ : List Term). told q.columns τ (formula_of b.guard)) ev in
-      let rest = branch_paths operations first n o k c (branches_of (drop (i + 1) bs)) r in
-      let one : path_of x ≡ branch_path operations first n k (mark_variables operations first o q c) (branch_of b) (told q.columns (mark_variables operations first o q c) (formula_of b.guard)) q =
-      ex ∙ ap₂ (λ (τ : List Term) (f : Formula). branch_path operations first n k τ (branch_of b) f q) ev guard in
-      let others : rest ≡ branch_paths operations first n o k c (branches_of (drop (i + 1) bs)) (with_fact q (Not (told q.columns (mark_variables operations first o q c) (formula_of b.guard)))) =
-      ap (branch_paths operations first n o k c (branches_of (drop (i + 1) bs))) (er ∙ ap (λ (f : Formula). with_fact q (Not f)) guard) in
-      ap (λ (ys : List S.Path). ys ++ rest) (ap (map path_of) en ∙ map-append path_of ps (x ∷ []))
-      ∙ (append_assoc (map path_of ps) (path_of x ∷ []) rest
-      ∙ (ap₂ (λ (y : S.Path) (ys : List S.Path). map path_of ps ++ y ∷ ys) one others ∙ (ap (λ (ys : List S.Path). map path_of ps ++ ys) (sym (branches_more bs i b q h e)) ∙ before)))
 
   pub variables_kept : (q r : S.Path) (f : Formula) (vs : List Term) → r ≡ with_fact q f → vs ≡ mark_variables operations first o q c → vs ≡ mark_variables operations first o r c
   variables_kept q r f vs er ev = ev ∙ ap (λ (x : S.Path). mark_variables operations first o x c) (sym er)

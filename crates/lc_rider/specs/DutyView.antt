@@ -2,8 +2,9 @@
 use Rattle.std.specs.Prelude.{ℕ, ◌≤◌, List, [], ◌∷◌, take}
 use Rattle.std.proofs.Props.{props}
 use Rattle.lc_term.specs.Lists.{Every}
+use Rattle.lc_term.specs.NodeTables.{Table}
 use Rattle.lc_term.specs.Syntax.{Formula}
-use Rattle.lc_term.specs.View.{formula_of}
+use Rattle.lc_term.specs.Tables.{formula_in, IsFormula}
 use Rattle.lc_rider.specs.Paths as S
 use Rattle.lc_rider.specs.declared.duty.Owing.{Owing}
 use Rattle.lc_rider.specs.declared.duty.Owing.TheVariants.{Pending, Named, Enabled, Observing}
@@ -22,12 +23,17 @@ pub record Owed : Type 0 where
   pub known : ℕ
   pub goal : Formula
 
-abbrev pub owed_of : Duty → Owed
-owed_of d = record { kind = owing_of d.kind; rider = d.rider; known = d.known; goal = formula_of d.goal }
+-- that of the code, whose goal stands in a table
+abbrev pub owed_in : Table → Duty → Owed
+owed_in ts d = record { kind = owing_of d.kind; rider = d.rider; known = d.known; goal = formula_in ts d.goal }
 
 -- that duty on a path with these facts
 abbrev pub duty_in : List Formula → Owed → S.Duty
 duty_in facts d = record { kind = d.kind; rider = d.rider; facts = take d.known facts; goal = d.goal }
+
+-- the goal of each is the number of a formula
+abbrev pub AreGoals : Table → List Duty → Type 0
+AreGoals ts ds = Every (λ (d : Duty). IsFormula ts d.goal) ds
 
 -- each of these knows of so many facts at most
 abbrev pub AreKnown : ℕ → List Duty → Type 0

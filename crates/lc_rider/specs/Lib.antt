@@ -3,5 +3,6 @@ pub mod Paths
 pub mod PathLaws
 pub mod RiderView
 pub mod DutyView
+pub mod Stored
 pub mod PathView
 pub mod MarkView

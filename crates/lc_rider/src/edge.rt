@@ -1,19 +1,21 @@
 ghost use Rattle.std.specs.Prelude.{◌≡◌, IfOk, map, slice_set};
+ghost use Rattle.lc_term.specs.PutNumbers.{columns_at, AreColumns};
 ghost use Rattle.lc_term.specs.Said.{variables_from};
+ghost use Rattle.lc_term.specs.Tables.{Keeps};
 ghost use Rattle.lc_term.specs.Updates.{assigned};
 ghost use Rattle.lc_term.specs.View.{term_of};
 ghost use Rattle.lc_object.specs.EdgeView.{edge_of};
 ghost use Rattle.lc_object.specs.View.{locals_of, terms_of};
-ghost use Rattle.lc_action.specs.Telling.{columns_in};
 ghost use Rattle.lc_rider.specs.Paths.{edge_columns, edge_variables, path_start};
-ghost use Rattle.lc_rider.specs.PathView.{path_of};
+ghost use Rattle.lc_rider.specs.PathView.{HasPath};
 
 use crate::path::Path;
 use crate::rider::Rider;
-use lc_action::{SystemColumns, store};
+use crate::stored::store_in;
+use lc_action::SystemColumns;
 use lc_base::{ColId, OpId, OutOfMemory};
 use lc_object::LocalId;
-use lc_term::{ColExpr, Term};
+use lc_term::{ColExprId, Term, Terms};
 use std::alloc::Global;
 
 /// An edge of the code of an operation, with the riders beside it.
@@ -82,21 +84,32 @@ pub fn edge_variables(
 }
 
 // The columns behind the instruction, over those before it.
-fn edge_columns(alloc: Global, code: &lc_object::Edge) -> Result<Vec<(ColId, ColExpr)>, OutOfMemory>
-    ensures { IfOk result (λ columns. columns_in columns.items ≡ edge_columns (edge_of code.now)) }
+fn edge_columns(
+    alloc: Global,
+    terms: &mut Terms,
+    code: &lc_object::Edge,
+) -> Result<Vec<(ColId, ColExprId)>, OutOfMemory>
+    ensures are { IfOk result (λ columns. AreColumns terms.new columns.items) }
+    ensures columns { IfOk result (λ columns. columns_at terms.new columns.items ≡ edge_columns (edge_of code.now)) }
+    ensures kept { Keeps terms.old terms.new }
 {
     let mut columns = Vec::new(alloc);
     for update in &code.updates {
-        let index = update.index.try_clone(alloc)?;
-        let value = update.value.try_clone(alloc)?;
-        columns = store(alloc, columns, update.column, index, value)?;
+        let index = terms.enter_term(&update.index)?;
+        let value = terms.enter_term(&update.value)?;
+        store_in(terms, &mut columns, update.column, index, value)?;
     }
     Ok(columns)
 }
 
 /// The path of an edge on which no rider has been done.
-pub(crate) fn path_start(alloc: Global, code: &lc_object::Edge) -> Result<Path, OutOfMemory>
-    ensures { IfOk result (λ path. path_of path ≡ path_start (edge_of code.now)) }
+pub(crate) fn path_start(
+    alloc: Global,
+    terms: &mut Terms,
+    code: &lc_object::Edge,
+) -> Result<Path, OutOfMemory>
+    ensures path { IfOk result (λ path. HasPath terms.new path (path_start (edge_of code.now))) }
+    ensures kept { Keeps terms.old terms.new }
 {
-    Ok(Path::new(alloc, edge_columns(alloc, code)?))
+    Ok(Path::new(alloc, edge_columns(alloc, terms, code)?))
 }

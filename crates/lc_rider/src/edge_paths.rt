@@ -1,27 +1,30 @@
-ghost use Rattle.std.specs.Prelude.{◌≡◌, ◌++◌, IfOk, OnOk, map};
+ghost use Rattle.std.specs.Prelude.{◌≡◌, ◌++◌, IfOk, OnOk, List, map};
 ghost use Rattle.lc_term.specs.Lists.{concat_map};
+ghost use Rattle.lc_term.specs.PutNumbers.{terms_in, AreTerms};
 ghost use Rattle.lc_term.specs.Replacement.{replacing, replace_term};
 ghost use Rattle.lc_term.specs.Said.{put, said, term_at};
+ghost use Rattle.lc_term.specs.Tables.{Keeps};
+ghost use Rattle.lc_term.specs.UpdateView.{update_of};
 ghost use Rattle.lc_term.specs.View.{term_of};
 ghost use Rattle.lc_seq.specs.Branches.{op_branches};
-ghost use Rattle.lc_term.specs.UpdateView.{update_of};
 ghost use Rattle.lc_seq.specs.TextView.{specification_of};
 ghost use Rattle.lc_object.specs.EdgeView.{edge_of};
 ghost use Rattle.lc_action.specs.ActionView.{first_of};
 ghost use Rattle.lc_rider.specs.MarkView.{marking_of, with_duties};
+ghost use Rattle.lc_rider.specs.Paths as S;
 ghost use Rattle.lc_rider.specs.Paths.{mark_duties, branch_paths, deed_paths, rider_paths, paths, edge_variables, path_start};
-ghost use Rattle.lc_rider.specs.PathView.{path_of, with_columns};
+ghost use Rattle.lc_rider.specs.PathView.{path_in, IsPath, ArePaths, HasPath, HavePaths, with_columns};
 ghost use Rattle.lc_rider.specs.RiderView.{rider_of, riders_of};
 
 use crate::edge::{Edge, edge_variables, path_start};
 use crate::mark_paths::mark_paths;
-use crate::marking::{Mark, Marking, negation};
+use crate::marking::{Mark, Marking};
 use crate::path::Path;
 use crate::rider::Rider;
 use lc_action::SystemColumns;
 use lc_base::{OpId, OutOfMemory};
 use lc_seq::TextSpec;
-use lc_term::{Term, Update};
+use lc_term::{Term, TermId, Terms, Update};
 use std::alloc::Global;
 
 // What riders of an edge share: the specification, the operation whose code it is, and the variables behind the
@@ -31,27 +34,32 @@ struct Riding<'a> {
     specification: &'a TextSpec,
     system: SystemColumns,
     operation: OpId,
-    variables: &'a [Term],
+    variables: &'a [TermId],
 }
 
 // The path behind an assignment.
 fn updated(
     alloc: Global,
-    variables: &[Term],
+    terms: &mut Terms,
+    variables: &[TermId],
     update: &Update,
     path: Path,
 ) -> Result<Path, OutOfMemory>
-    ensures { IfOk result (λ r. path_of r ≡
-        with_columns (path_of path) (put (path_of path).columns (said (path_of path).columns (map term_of variables.now) (update_of update.now)))) }
+    requires path { IsPath terms.old path }
+    requires variables { AreTerms terms.old variables.now }
+    ensures path { IfOk result (λ r. HasPath terms.new r
+        (with_columns (path_in terms.old path) (put (path_in terms.old path).columns (said (path_in terms.old path).columns (terms_in terms.old variables.now) (update_of update.now))))) }
+    ensures kept { Keeps terms.old terms.new }
 {
-    let index = path.said_before(alloc, variables, &update.index)?;
-    let value = path.said_before(alloc, variables, &update.value)?;
-    path.with_store(alloc, update.column, index, value)
+    let index = path.said_before(alloc, terms, variables, &update.index)?;
+    let value = path.said_before(alloc, terms, variables, &update.value)?;
+    path.with_store(terms, update.column, index, value)
 }
 
 // The paths behind a mark of the call of this client, behind other paths.
 fn marked(
     alloc: Global,
+    terms: &mut Terms,
     riding: Riding<'_>,
     rider: usize,
     marking: Marking,
@@ -60,43 +68,51 @@ fn marked(
     path: Path,
     paths: &mut Vec<Path>,
 ) -> Result<(), OutOfMemory>
-    ensures { let c = replace_term (replacing (path_of path).columns (term_at (map term_of riding.entry.variables.now))) (term_of client.now) in
+    requires path { IsPath terms.old path }
+    requires variables { AreTerms terms.old riding.variables.now }
+    ensures paths { let p = path_in terms.old path in
+        let c = replace_term (replacing p.columns (term_at (terms_in terms.old riding.entry.variables.now))) (term_of client.now) in
         let operations = (specification_of riding.entry.specification.now).operations in
         let first = first_of riding.entry.system in
         let bs = op_branches operations operation.0 in
-        OnOk result (map path_of paths.new.items ≡ map path_of paths.old.items ++
+        OnOk result ((qs : List S.Path) → HavePaths terms.old paths.old.items qs → HavePaths terms.new paths.new.items (qs ++
         branch_paths operations first rider operation.0 (marking_of marking c) c bs
-        (with_duties (path_of path) (mark_duties operations first rider operation.0 (marking_of marking c) (path_of path) c bs))) }
+        (with_duties p (mark_duties operations first rider operation.0 (marking_of marking c) p c bs)))) }
+    ensures kept { Keeps terms.old terms.new }
 {
-    let client = path.said_before(alloc, riding.variables, client)?;
+    let client = path.said_before(alloc, terms, riding.variables, client)?;
     let mark = Mark {
         specification: riding.specification,
         system: riding.system,
         rider,
         marking,
         operation,
-        client: &client,
+        client,
     };
-    mark_paths(alloc, mark, path, paths)
+    mark_paths(alloc, terms, mark, path, paths)
 }
 
 // The paths behind what the rider at this place does, behind other paths.
 fn deed_paths(
     alloc: Global,
+    terms: &mut Terms,
     riding: Riding<'_>,
     number: usize,
     rider: &Rider,
     path: Path,
     paths: &mut Vec<Path>,
 ) -> Result<(), OutOfMemory>
-    ensures { OnOk result (map path_of paths.new.items ≡ map path_of paths.old.items ++
+    requires path { IsPath terms.old path }
+    requires variables { AreTerms terms.old riding.variables.now }
+    ensures paths { OnOk result ((qs : List S.Path) → HavePaths terms.old paths.old.items qs → HavePaths terms.new paths.new.items (qs ++
         deed_paths (specification_of riding.entry.specification.now).operations (first_of riding.entry.system) number riding.entry.operation.0
-        (map term_of riding.entry.variables.now) (rider_of rider.now).deed (path_of path)) }
+        (terms_in terms.old riding.entry.variables.now) (rider_of rider.now).deed (path_in terms.old path))) }
+    ensures kept { Keeps terms.old terms.new }
 {
     let own = Term::Variable(1);
     match rider {
         Rider::Assign { update, .. } => {
-            let behind = updated(alloc, riding.variables, update, path)?;
+            let behind = updated(alloc, terms, riding.variables, update, path)?;
             paths.push(behind)?;
             Ok(())
         }
@@ -104,6 +120,7 @@ fn deed_paths(
             let operation = riding.operation;
             marked(
                 alloc,
+                terms,
                 riding,
                 number,
                 Marking::Own,
@@ -120,13 +137,14 @@ fn deed_paths(
         } => {
             let marking = Marking::Other(*operation);
             marked(
-                alloc, riding, number, marking, *operation, client, path, paths,
+                alloc, terms, riding, number, marking, *operation, client, path, paths,
             )
         }
         Rider::Note { .. } => {
             let operation = riding.operation;
             marked(
                 alloc,
+                terms,
                 riding,
                 number,
                 Marking::Note,
@@ -143,25 +161,28 @@ fn deed_paths(
 // on which it fails.
 fn rider_paths(
     alloc: Global,
+    terms: &mut Terms,
     riding: Riding<'_>,
     number: usize,
     rider: &Rider,
     path: Path,
     paths: &mut Vec<Path>,
 ) -> Result<(), OutOfMemory>
-    ensures { OnOk result (map path_of paths.new.items ≡ map path_of paths.old.items ++
+    requires path { IsPath terms.old path }
+    requires variables { AreTerms terms.old riding.variables.now }
+    ensures paths { OnOk result ((qs : List S.Path) → HavePaths terms.old paths.old.items qs → HavePaths terms.new paths.new.items (qs ++
         rider_paths (specification_of riding.entry.specification.now).operations (first_of riding.entry.system) number riding.entry.operation.0
-        (map term_of riding.entry.variables.now) (rider_of rider.now) (path_of path)) }
+        (terms_in terms.old riding.entry.variables.now) (rider_of rider.now) (path_in terms.old path))) }
+    ensures kept { Keeps terms.old terms.new }
 {
     let Some(when) = rider.condition() else {
-        return deed_paths(alloc, riding, number, rider, path, paths);
+        return deed_paths(alloc, terms, riding, number, rider, path, paths);
     };
-    let condition = path.told_before(alloc, riding.variables, when.formula())?;
-    let fact = condition.try_clone(alloc)?;
+    let condition = path.told_before(alloc, terms, riding.variables, when.formula())?;
     let copy = path.try_clone(alloc)?;
-    let holds = copy.with_fact(fact)?;
-    deed_paths(alloc, riding, number, rider, holds, paths)?;
-    let negated = negation(alloc, condition)?;
+    let holds = copy.with_fact(condition)?;
+    deed_paths(alloc, terms, riding, number, rider, holds, paths)?;
+    let negated = terms.not(condition)?;
     let fails = path.with_fact(negated)?;
     paths.push(fails)?;
     Ok(())
@@ -170,18 +191,22 @@ fn rider_paths(
 // The paths behind the rider at this place, of each path before it in turn.
 fn each_ridden(
     alloc: Global,
+    terms: &mut Terms,
     riding: Riding<'_>,
     number: usize,
     rider: &Rider,
     paths: Vec<Path>,
 ) -> Result<Vec<Path>, OutOfMemory>
-    ensures { IfOk result (λ ridden. map path_of ridden.items ≡
-        concat_map (rider_paths (specification_of riding.entry.specification.now).operations (first_of riding.entry.system) number riding.entry.operation.0
-        (map term_of riding.entry.variables.now) (rider_of rider.now)) (map path_of paths.items)) }
+    requires paths { ArePaths terms.old paths.items }
+    requires variables { AreTerms terms.old riding.variables.now }
+    ensures paths { IfOk result (λ ridden. HavePaths terms.new ridden.items
+        (concat_map (rider_paths (specification_of riding.entry.specification.now).operations (first_of riding.entry.system) number riding.entry.operation.0
+        (terms_in terms.old riding.entry.variables.now) (rider_of rider.now)) (map (path_in terms.old) paths.items))) }
+    ensures kept { Keeps terms.old terms.new }
 {
     let mut ridden = Vec::new(alloc);
     for path in paths {
-        rider_paths(alloc, riding, number, rider, path, &mut ridden)?;
+        rider_paths(alloc, terms, riding, number, rider, path, &mut ridden)?;
     }
     Ok(ridden)
 }
@@ -189,41 +214,48 @@ fn each_ridden(
 // The paths of riders, the first of which varies slowest.
 fn ridden(
     alloc: Global,
+    terms: &mut Terms,
     riding: Riding<'_>,
     riders: &[Rider],
     start: Path,
 ) -> Result<Vec<Path>, OutOfMemory>
-    ensures { IfOk result (λ ps. map path_of ps.items ≡
-        paths (specification_of riding.entry.specification.now).operations (first_of riding.entry.system) 0 riding.entry.operation.0
-        (map term_of riding.entry.variables.now) (riders_of riders.now) (path_of start)) }
+    requires start { IsPath terms.old start }
+    requires variables { AreTerms terms.old riding.variables.now }
+    ensures paths { IfOk result (λ ps. HavePaths terms.new ps.items
+        (paths (specification_of riding.entry.specification.now).operations (first_of riding.entry.system) 0 riding.entry.operation.0
+        (terms_in terms.old riding.entry.variables.now) (riders_of riders.now) (path_in terms.old start))) }
+    ensures kept { Keeps terms.old terms.new }
 {
     let mut paths = Vec::new(alloc);
     paths.push(start)?;
     for (number, rider) in riders.iter().enumerate() {
-        paths = each_ridden(alloc, riding, number, rider, paths)?;
+        paths = each_ridden(alloc, terms, riding, number, rider, paths)?;
     }
     Ok(paths)
 }
 
-/// The paths of an edge. Each fixes, of every rider in turn, whether its condition holds, and of every mark which branch
-/// it takes; the first rider varies slowest, a condition holds first, and branches come in their order. Nothing else can
-/// fail than memory.
+/// The paths of an edge, of numbers of the table. Each fixes, of every rider in turn, whether its condition holds, and of
+/// every mark which branch it takes; the first rider varies slowest, a condition holds first, and branches come in their
+/// order. Nothing else can fail than memory.
 pub fn paths(
     alloc: Global,
+    terms: &mut Terms,
     specification: &TextSpec,
     edge: Edge<'_>,
 ) -> Result<Vec<Path>, OutOfMemory>
-    ensures { IfOk result (λ ps. map path_of ps.items ≡
-        paths (specification_of specification.now).operations (first_of edge.entry.system) 0 edge.entry.operation.0
-        (edge_variables edge.entry.variables (edge_of edge.entry.code.now)) (riders_of edge.entry.riders.now) (path_start (edge_of edge.entry.code.now))) }
+    ensures paths { IfOk result (λ ps. HavePaths terms.new ps.items
+        (paths (specification_of specification.now).operations (first_of edge.entry.system) 0 edge.entry.operation.0
+        (edge_variables edge.entry.variables (edge_of edge.entry.code.now)) (riders_of edge.entry.riders.now) (path_start (edge_of edge.entry.code.now)))) }
+    ensures kept { Keeps terms.old terms.new }
 {
     let variables = edge_variables(alloc, edge.variables, edge.code)?;
+    let variables = terms.enter_terms(alloc, &variables)?;
     let riding = Riding {
         specification,
         system: edge.system,
         operation: edge.operation,
         variables: &variables,
     };
-    let start = path_start(alloc, edge.code)?;
-    ridden(alloc, riding, edge.riders, start)
+    let start = path_start(alloc, terms, edge.code)?;
+    ridden(alloc, terms, riding, edge.riders, start)
 }

@@ -1,126 +1,148 @@
-ghost use Rattle.std.specs.Prelude.{◌≡◌, ◌++◌, IfOk, OnOk, map};
-ghost use Rattle.lc_term.specs.View.{term_of, formula_of};
-ghost use Rattle.lc_seq.specs.Branches.{op_branches};
+ghost use Rattle.std.specs.Prelude.{◌≡◌, ◌++◌, IfOk, OnOk, List, map};
+ghost use Rattle.lc_term.specs.PutNumbers.{terms_in, AreTerms};
+ghost use Rattle.lc_term.specs.Syntax.{Formula};
+ghost use Rattle.lc_term.specs.Tables.{term_in, formula_in, IsTerm, IsFormula, HasFormula, Keeps};
 ghost use Rattle.lc_term.specs.UpdateView.{updates_of};
+ghost use Rattle.lc_seq.specs.Branches.{op_branches};
 ghost use Rattle.lc_seq.specs.SpecView.{branch_of, branches_of};
 ghost use Rattle.lc_seq.specs.TextView.{specification_of};
 ghost use Rattle.lc_action.specs.ActionView.{first_of};
 ghost use Rattle.lc_rider.specs.MarkView.{marking_of, with_duties, branch_path};
-ghost use Rattle.lc_rider.specs.PathLaws.{AreGround};
+ghost use Rattle.lc_rider.specs.Paths as S;
 ghost use Rattle.lc_rider.specs.Paths.{is_empty, named_duty, mark_variables, mark_duties, branch_paths};
-ghost use Rattle.lc_rider.specs.PathView.{path_of};
+ghost use Rattle.lc_rider.specs.PathView.{path_in, IsPath, HasPath, HavePaths};
 
 use crate::duty::Owing;
-use crate::marked_updates::marked_updates;
+use crate::marked_columns::marked_columns;
 use crate::marking::{
-    Mark, Marking, call_variables, cell_is, guard_on, negation, operation_branches, some_guard,
+    Mark, Marking, call_variables, cell_is, guard_on, operation_branches, some_guard,
 };
 use crate::path::Path;
 use lc_base::OutOfMemory;
 use lc_seq::Branch;
-use lc_term::{Formula, Term, Update};
+use lc_term::{FormulaId, TermId, Terms, Update};
 use std::alloc::Global;
 
 // What a mark of the call of an operation that it names asks for besides.
-fn with_named_duty(alloc: Global, mark: Mark<'_>, path: Path) -> Result<Path, OutOfMemory>
-    ensures { let c = term_of mark.entry.client.now in
-        IfOk result (λ r. path_of r ≡ with_duties (path_of path)
-        (named_duty (specification_of mark.entry.specification.now).operations (first_of mark.entry.system) mark.entry.rider (marking_of mark.entry.marking c) (path_of path) c)) }
+fn with_named_duty(terms: &mut Terms, mark: Mark<'_>, path: Path) -> Result<Path, OutOfMemory>
+    requires path { IsPath terms.old path }
+    requires client { IsTerm terms.old mark.client }
+    ensures path { let c = term_in terms.old mark.entry.client in
+        IfOk result (λ r. HasPath terms.new r (with_duties (path_in terms.old path)
+        (named_duty (specification_of mark.entry.specification.now).operations (first_of mark.entry.system) mark.entry.rider (marking_of mark.entry.marking c) (path_in terms.old path) c))) }
+    ensures kept { Keeps terms.old terms.new }
 {
     let Marking::Other(operation) = mark.marking else {
         return Ok(path);
     };
     let number = i64::from(operation.0);
     let column = mark.system.operation();
-    let goal = cell_is(alloc, &path, column, mark.client, number)?;
+    let goal = cell_is(terms, &path, column, mark.client, number)?;
     path.with_duty(Owing::Named, mark.rider, goal)
 }
 
 // What a mark asks for before one of these branches is taken.
 fn with_mark_duties(
     alloc: Global,
+    terms: &mut Terms,
     mark: Mark<'_>,
     branches: &[Branch],
-    variables: &[Term],
+    variables: &[TermId],
     path: Path,
 ) -> Result<Path, OutOfMemory>
-    requires ground { AreGround (branches_of branches.now) }
-    requires variables { map term_of variables.now ≡
-        mark_variables (specification_of mark.specification.now).operations (first_of mark.system) mark.operation.0 (path_of path) (term_of mark.client.now) }
-    ensures { let c = term_of mark.entry.client.now in
-        IfOk result (λ r. path_of r ≡ with_duties (path_of path)
+    requires path { IsPath terms.old path }
+    requires client { IsTerm terms.old mark.client }
+    requires are { AreTerms terms.old variables.now }
+    requires variables { terms_in terms.old variables.now ≡
+        mark_variables (specification_of mark.specification.now).operations (first_of mark.system) mark.operation.0 (path_in terms.old path) (term_in terms.old mark.client) }
+    ensures path { let c = term_in terms.old mark.entry.client in
+        IfOk result (λ r. HasPath terms.new r (with_duties (path_in terms.old path)
         (mark_duties (specification_of mark.entry.specification.now).operations (first_of mark.entry.system) mark.entry.rider mark.entry.operation.0
-        (marking_of mark.entry.marking c) (path_of path) c (branches_of branches.now))) }
+        (marking_of mark.entry.marking c) (path_in terms.old path) c (branches_of branches.now)))) }
+    ensures kept { Keeps terms.old terms.new }
 {
-    let pending = cell_is(alloc, &path, mark.system.pend(), mark.client, 1)?;
-    let enabled = some_guard(alloc, &path, variables, branches)?;
+    let pending = cell_is(terms, &path, mark.system.pend(), mark.client, 1)?;
+    let enabled = some_guard(alloc, terms, &path, variables, branches)?;
     let owed = path.with_duty(Owing::Pending, mark.rider, pending)?;
-    let named = with_named_duty(alloc, mark, owed)?;
+    let named = with_named_duty(terms, mark, owed)?;
     named.with_duty(Owing::Enabled, mark.rider, enabled)
 }
 
 // True where nothing is stored.
-fn stores_nothing(alloc: Global, updates: &[Update]) -> Formula
-    ensures { formula_of result ≡ is_empty (updates_of updates.now) }
+fn stores_nothing(
+    alloc: Global,
+    terms: &mut Terms,
+    updates: &[Update],
+) -> Result<FormulaId, OutOfMemory>
+    ensures id { IfOk result (λ k. HasFormula terms.new k (is_empty (updates_of updates.now))) }
+    ensures kept { Keeps terms.old terms.new }
 {
     if updates.is_empty() {
-        Formula::And(Vec::new(alloc))
+        terms.and(Vec::new(alloc))
     } else {
-        Formula::Or(Vec::new(alloc))
+        terms.or(Vec::new(alloc))
     }
 }
 
 // The path on which this branch is taken, its guard being said of the state before the edge.
 fn taken(
     alloc: Global,
+    terms: &mut Terms,
     mark: Mark<'_>,
     branch: &Branch,
-    guard: Formula,
-    variables: &[Term],
+    guard: FormulaId,
+    variables: &[TermId],
     path: Path,
 ) -> Result<Path, OutOfMemory>
-    ensures { IfOk result (λ r. path_of r ≡
-        branch_path (specification_of mark.entry.specification.now).operations (first_of mark.entry.system) mark.entry.rider
-        (marking_of mark.entry.marking (term_of mark.entry.client.now)) (map term_of variables.now) (branch_of branch.now) (formula_of guard) (path_of path)) }
+    requires path { IsPath terms.old path }
+    requires guard { IsFormula terms.old guard }
+    requires variables { AreTerms terms.old variables.now }
+    ensures path { IfOk result (λ r. HasPath terms.new r
+        (branch_path (specification_of mark.entry.specification.now).operations (first_of mark.entry.system) mark.entry.rider
+        (marking_of mark.entry.marking (term_in terms.old mark.entry.client)) (terms_in terms.old variables.now) (branch_of branch.now) (formula_in terms.old guard) (path_in terms.old path))) }
+    ensures kept { Keeps terms.old terms.new }
 {
-    let updates = marked_updates(alloc, mark, &path, variables, branch)?;
-    let behind = path.with_stores(alloc, updates)?;
+    let columns = marked_columns(alloc, terms, mark, &path, variables, branch)?;
+    let behind = path.with_columns(columns);
     let known = behind.with_fact(guard)?;
     let Marking::Note = mark.marking else {
         return Ok(known);
     };
-    let goal = stores_nothing(alloc, &branch.updates);
+    let goal = stores_nothing(alloc, terms, &branch.updates)?;
     known.with_duty(Owing::Observing, mark.rider, goal)
 }
 
 // A path for each branch, behind other paths: the guards of the branches before it fail, and its own holds.
 fn branch_paths(
     alloc: Global,
+    terms: &mut Terms,
     mark: Mark<'_>,
     branches: &[Branch],
-    variables: &[Term],
+    variables: &[TermId],
     mut path: Path,
     paths: &mut Vec<Path>,
 ) -> Result<(), OutOfMemory>
-    requires ground { AreGround (branches_of branches.now) }
-    requires variables { map term_of variables.now ≡
-        mark_variables (specification_of mark.specification.now).operations (first_of mark.system) mark.operation.0 (path_of path) (term_of mark.client.now) }
-    ensures { let c = term_of mark.entry.client.now in
-        OnOk result (map path_of paths.new.items ≡ map path_of paths.old.items ++
+    requires path { IsPath terms.old path }
+    requires client { IsTerm terms.old mark.client }
+    requires are { AreTerms terms.old variables.now }
+    requires variables { terms_in terms.old variables.now ≡
+        mark_variables (specification_of mark.specification.now).operations (first_of mark.system) mark.operation.0 (path_in terms.old path) (term_in terms.old mark.client) }
+    ensures paths { let c = term_in terms.old mark.entry.client in
+        OnOk result ((qs : List S.Path) → HavePaths terms.old paths.old.items qs → HavePaths terms.new paths.new.items (qs ++
         branch_paths (specification_of mark.entry.specification.now).operations (first_of mark.entry.system) mark.entry.rider mark.entry.operation.0
-        (marking_of mark.entry.marking c) c (branches_of branches.now) (path_of path)) }
+        (marking_of mark.entry.marking c) c (branches_of branches.now) (path_in terms.old path))) }
+    ensures kept { Keeps terms.old terms.new }
 {
     for (number, branch) in branches.iter().enumerate() {
-        let guard = guard_on(alloc, &path, variables, branch)?;
+        let guard = guard_on(alloc, terms, &path, variables, branch)?;
         if number + 1 == branches.len() {
-            paths.push(taken(alloc, mark, branch, guard, variables, path)?)?;
+            paths.push(taken(alloc, terms, mark, branch, guard, variables, path)?)?;
             return Ok(());
         }
-        let holds = guard.try_clone(alloc)?;
         let copy = path.try_clone(alloc)?;
-        let behind = taken(alloc, mark, branch, holds, variables, copy)?;
+        let behind = taken(alloc, terms, mark, branch, guard, variables, copy)?;
         paths.push(behind)?;
-        let fails = negation(alloc, guard)?;
+        let fails = terms.not(guard)?;
         path = path.with_fact(fails)?;
     }
     Ok(())
@@ -129,20 +151,24 @@ fn branch_paths(
 /// The paths behind a mark, behind other paths.
 pub(crate) fn mark_paths(
     alloc: Global,
+    terms: &mut Terms,
     mark: Mark<'_>,
     path: Path,
     paths: &mut Vec<Path>,
 ) -> Result<(), OutOfMemory>
-    ensures { let c = term_of mark.entry.client.now in
+    requires path { IsPath terms.old path }
+    requires client { IsTerm terms.old mark.client }
+    ensures paths { let c = term_in terms.old mark.entry.client in
         let operations = (specification_of mark.entry.specification.now).operations in
         let k = marking_of mark.entry.marking c in
         let bs = op_branches operations mark.entry.operation.0 in
-        OnOk result (map path_of paths.new.items ≡ map path_of paths.old.items ++
+        OnOk result ((qs : List S.Path) → HavePaths terms.old paths.old.items qs → HavePaths terms.new paths.new.items (qs ++
         branch_paths operations (first_of mark.entry.system) mark.entry.rider mark.entry.operation.0 k c bs
-        (with_duties (path_of path) (mark_duties operations (first_of mark.entry.system) mark.entry.rider mark.entry.operation.0 k (path_of path) c bs))) }
+        (with_duties (path_in terms.old path) (mark_duties operations (first_of mark.entry.system) mark.entry.rider mark.entry.operation.0 k (path_in terms.old path) c bs)))) }
+    ensures kept { Keeps terms.old terms.new }
 {
     let branches = operation_branches(mark.specification, mark.operation);
-    let variables = call_variables(alloc, mark, &path)?;
-    let owing = with_mark_duties(alloc, mark, branches, &variables, path)?;
-    branch_paths(alloc, mark, branches, &variables, owing, paths)
+    let variables = call_variables(alloc, terms, mark, &path)?;
+    let owing = with_mark_duties(alloc, terms, mark, branches, &variables, path)?;
+    branch_paths(alloc, terms, mark, branches, &variables, owing, paths)
 }

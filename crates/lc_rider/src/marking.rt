@@ -1,22 +1,20 @@
-ghost use Rattle.std.specs.Prelude.{◌≡◌, ◌++◌, true, IfOk, OnOk, map};
+ghost use Rattle.std.specs.Prelude.{◌≡◌, ◌++◌, IfOk, OnOk, map};
+ghost use Rattle.lc_term.specs.PutNumbers.{columns_at, AreColumns, terms_in, AreTerms};
 ghost use Rattle.lc_term.specs.Said.{told, reads};
-ghost use Rattle.lc_term.specs.Syntax.{Eq, Not, Number, Or, Read, formulas};
-ghost use Rattle.lc_term.specs.Truth.{is_ground};
-ghost use Rattle.lc_term.specs.View.{term_of, formula_of, formulas_of};
+ghost use Rattle.lc_term.specs.Syntax.{Eq, Number, Or, Read, Term, formulas};
+ghost use Rattle.lc_term.specs.Tables.{term_in, formulas_in, IsTerm, AreFormulas, HasFormula, Keeps};
 ghost use Rattle.lc_seq.specs.Branches.{op_branches, arity};
 ghost use Rattle.lc_seq.specs.SpecView.{branch_of, branches_of};
 ghost use Rattle.lc_seq.specs.TextView.{specification_of};
 ghost use Rattle.lc_action.specs.ActionView.{first_of};
-ghost use Rattle.lc_action.specs.Telling.{columns_in};
-ghost use Rattle.lc_rider.specs.PathLaws.{AreGround};
 ghost use Rattle.lc_rider.specs.Paths.{mark_variables};
-ghost use Rattle.lc_rider.specs.PathView.{path_of};
+ghost use Rattle.lc_rider.specs.PathView.{path_in, IsPath};
 
 use crate::path::Path;
-use lc_action::{SystemColumns, read_after};
+use lc_action::SystemColumns;
 use lc_base::{ColId, OpId, OutOfMemory};
 use lc_seq::{Branch, TextSpec};
-use lc_term::{ColExpr, Formula, Term};
+use lc_term::{ColExprId, FormulaId, TermId, Terms};
 use std::alloc::Global;
 
 /// Which call a mark marks.
@@ -41,13 +39,12 @@ pub(crate) struct Mark<'a> {
     /// The operation whose call is marked.
     pub operation: OpId,
     /// The client whose call is marked, said of the state before the edge.
-    pub client: &'a Term,
+    pub client: TermId,
 }
 
 /// The branches of an operation; none where there is no such operation.
 pub(crate) fn operation_branches(specification: &TextSpec, operation: OpId) -> &[Branch]
-    ensures branches { branches_of result.now ≡ op_branches (specification_of specification.now).operations operation.0 }
-    ensures ground { AreGround (branches_of result.now) }
+    ensures { branches_of result.now ≡ op_branches (specification_of specification.now).operations operation.0 }
 {
     match specification.operations().get(operation.0 as usize) {
         Some(operation) => &operation.branches,
@@ -67,16 +64,22 @@ fn arity(specification: &TextSpec, operation: OpId) -> usize
 
 // What stands in the client's cells of these, behind other terms.
 fn push_reads(
-    alloc: Global,
-    columns: &[(ColId, ColExpr)],
+    terms: &mut Terms,
+    columns: &[(ColId, ColExprId)],
     cells: &[ColId],
-    client: &Term,
-    terms: &mut Vec<Term>,
+    client: TermId,
+    read: &mut Vec<TermId>,
 ) -> Result<(), OutOfMemory>
-    ensures { OnOk result (map term_of terms.new.items ≡ map term_of terms.old.items ++ reads (columns_in columns.now) (map (λ c. c.0) cells.now) (term_of client.now)) }
+    requires columns { AreColumns terms.old columns.now }
+    requires client { IsTerm terms.old client }
+    requires read { AreTerms terms.old read.old.items }
+    ensures are { OnOk result (AreTerms terms.new read.new.items) }
+    ensures trees { OnOk result (terms_in terms.new read.new.items ≡ terms_in terms.old read.old.items ++ reads (columns_at terms.old columns.now) (map (λ c. c.0) cells.now) (term_in terms.old client)) }
+    ensures kept { Keeps terms.old terms.new }
 {
     for cell in cells {
-        terms.push(read_after(alloc, columns, *cell, client)?)?;
+        let column = terms.stored_column(columns, *cell)?;
+        read.push(terms.read(column, client)?)?;
     }
     Ok(())
 }
@@ -84,50 +87,62 @@ fn push_reads(
 /// The variables of a branch at the call that is marked: the client, and its arguments as they stand on this path.
 pub(crate) fn call_variables(
     alloc: Global,
+    terms: &mut Terms,
     mark: Mark<'_>,
     path: &Path,
-) -> Result<Vec<Term>, OutOfMemory>
-    ensures { IfOk result (λ ts. map term_of ts.items ≡
+) -> Result<Vec<TermId>, OutOfMemory>
+    requires path { IsPath terms.old path.now }
+    requires client { IsTerm terms.old mark.client }
+    ensures are { IfOk result (λ ks. AreTerms terms.new ks.items) }
+    ensures trees { IfOk result (λ ks. terms_in terms.new ks.items ≡
         mark_variables (specification_of mark.entry.specification.now).operations (first_of mark.entry.system)
-        mark.entry.operation.0 (path_of path.now) (term_of mark.entry.client.now)) }
+        mark.entry.operation.0 (path_in terms.old path.now) (term_in terms.old mark.entry.client)) }
+    ensures kept { Keeps terms.old terms.new }
 {
     let mut variables = Vec::with_capacity(alloc, 5)?;
-    variables.push(Term::Number(0))?;
-    variables.push(mark.client.try_clone(alloc)?)?;
+    variables.push(terms.number(0)?)?;
+    variables.push(mark.client)?;
     let arguments = mark.system.arguments();
     let count = arity(mark.specification, mark.operation).min(3);
     let cells = &arguments[..count];
-    push_reads(alloc, path.columns(), cells, mark.client, &mut variables)?;
+    push_reads(terms, path.columns(), cells, mark.client, &mut variables)?;
     Ok(variables)
 }
 
 /// The guard of a branch with these variables, said of the state before the edge.
 pub(crate) fn guard_on(
     alloc: Global,
+    terms: &mut Terms,
     path: &Path,
-    variables: &[Term],
+    variables: &[TermId],
     branch: &Branch,
-) -> Result<Formula, OutOfMemory>
-    requires { is_ground (branch_of branch.now).guard ≡ true }
-    ensures { IfOk result (λ f. formula_of f ≡ told (path_of path.now).columns (map term_of variables.now) (branch_of branch.now).guard) }
+) -> Result<FormulaId, OutOfMemory>
+    requires path { IsPath terms.old path.now }
+    requires variables { AreTerms terms.old variables.now }
+    ensures id { IfOk result (λ k. HasFormula terms.new k (told (path_in terms.old path.now).columns (terms_in terms.old variables.now) (branch_of branch.now).guard)) }
+    ensures kept { Keeps terms.old terms.new }
 {
-    path.told_before(alloc, variables, &branch.guard)
+    path.told_before(alloc, terms, variables, &branch.guard)
 }
 
 // The guards of branches, in order.
 fn guards(
     alloc: Global,
+    terms: &mut Terms,
     path: &Path,
-    variables: &[Term],
+    variables: &[TermId],
     branches: &[Branch],
-) -> Result<Vec<Formula>, OutOfMemory>
-    requires { AreGround (branches_of branches.now) }
-    ensures { IfOk result (λ fs. formulas_of fs.items ≡
-        map (λ b. told (path_of path.now).columns (map term_of variables.now) b.guard) (branches_of branches.now)) }
+) -> Result<Vec<FormulaId>, OutOfMemory>
+    requires path { IsPath terms.old path.now }
+    requires variables { AreTerms terms.old variables.now }
+    ensures are { IfOk result (λ ks. AreFormulas terms.new ks.items) }
+    ensures trees { IfOk result (λ ks. formulas_in terms.new ks.items ≡
+        map (λ b. told (path_in terms.old path.now).columns (terms_in terms.old variables.now) b.guard) (branches_of branches.now)) }
+    ensures kept { Keeps terms.old terms.new }
 {
     let mut guards = Vec::with_capacity(alloc, branches.len())?;
     for branch in branches {
-        guards.push(guard_on(alloc, path, variables, branch)?)?;
+        guards.push(guard_on(alloc, terms, path, variables, branch)?)?;
     }
     Ok(guards)
 }
@@ -135,34 +150,36 @@ fn guards(
 /// Some guard of these branches holds.
 pub(crate) fn some_guard(
     alloc: Global,
+    terms: &mut Terms,
     path: &Path,
-    variables: &[Term],
+    variables: &[TermId],
     branches: &[Branch],
-) -> Result<Formula, OutOfMemory>
-    requires { AreGround (branches_of branches.now) }
-    ensures { IfOk result (λ f. formula_of f ≡
-        Or (formulas (map (λ b. told (path_of path.now).columns (map term_of variables.now) b.guard) (branches_of branches.now)))) }
+) -> Result<FormulaId, OutOfMemory>
+    requires path { IsPath terms.old path.now }
+    requires variables { AreTerms terms.old variables.now }
+    ensures id { IfOk result (λ k. HasFormula terms.new k
+        (Or (formulas (map (λ b. told (path_in terms.old path.now).columns (terms_in terms.old variables.now) b.guard) (branches_of branches.now))))) }
+    ensures kept { Keeps terms.old terms.new }
 {
-    Ok(Formula::Or(guards(alloc, path, variables, branches)?))
+    let guards = guards(alloc, terms, path, variables, branches)?;
+    terms.or(guards)
 }
 
 /// This number stands in a cell of a column.
 pub(crate) fn cell_is(
-    alloc: Global,
+    terms: &mut Terms,
     path: &Path,
     column: ColId,
-    index: &Term,
+    index: TermId,
     number: i64,
-) -> Result<Formula, OutOfMemory>
-    ensures { IfOk result (λ f. formula_of f ≡ Eq (Read ((path_of path.now).columns column.0) (term_of index.now)) (Number number)) }
+) -> Result<FormulaId, OutOfMemory>
+    requires path { IsPath terms.old path.now }
+    requires index { IsTerm terms.old index }
+    ensures id { IfOk result (λ k. HasFormula terms.new k (Eq (Read ((path_in terms.old path.now).columns column.0) (term_in terms.old index)) (Number number))) }
+    ensures kept { Keeps terms.old terms.new }
 {
-    let cell = read_after(alloc, path.columns(), column, index)?;
-    Ok(Formula::Eq(cell, Term::Number(number)))
-}
-
-/// A formula's negation.
-pub(crate) fn negation(alloc: Global, formula: Formula) -> Result<Formula, OutOfMemory>
-    ensures { IfOk result (λ f. formula_of f ≡ Not (formula_of formula)) }
-{
-    Ok(Formula::Not(Box::new(alloc, formula)?))
+    let column = terms.stored_column(path.columns(), column)?;
+    let cell = terms.read(column, index)?;
+    let number = terms.number(number)?;
+    terms.eq(cell, number)
 }

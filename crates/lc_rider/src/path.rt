@@ -1,39 +1,17 @@
 ghost use Rattle.std.specs.Prelude.{◌≡◌, IfOk, length};
-ghost use Rattle.lc_term.specs.Said.{puts};
-ghost use Rattle.lc_term.specs.UpdateView.{updates_of};
-ghost use Rattle.lc_action.specs.Telling.{columns_in};
 ghost use Rattle.lc_rider.specs.DutyView.{AreKnown, known_once};
 
-use crate::duty::{Duty, Owing, copy_duties};
-use lc_action::{Before, copy_columns, said, store, told};
+use crate::duty::{Duty, Owing};
+use crate::stored::store_in;
 use lc_base::{ColId, OutOfMemory};
-use lc_term::{ColExpr, Formula, Term, Update, copy_formulas};
+use lc_term::{ColExprId, Formula, FormulaId, PutNumbers, Term, TermId, Terms, nothing_replaced};
 use std::alloc::Global;
 
-// The columns after these updates, one after another.
-fn stored(
-    alloc: Global,
-    mut columns: Vec<(ColId, ColExpr)>,
-    updates: Vec<Update>,
-) -> Result<Vec<(ColId, ColExpr)>, OutOfMemory>
-    ensures { IfOk result (λ after. columns_in after.items ≡ puts (columns_in columns.items) (updates_of updates.items)) }
-{
-    for update in updates {
-        let Update {
-            column,
-            index,
-            value,
-        } = update;
-        columns = store(alloc, columns, column, index, value)?;
-    }
-    Ok(columns)
-}
-
-/// One way in which the riders of an edge may go, said of the state before the edge: the facts that tell it from the
-/// others, the columns behind the riders, and what the marks on it ask for.
+/// One way in which the riders of an edge may go, said of the state before the edge by numbers of a table: the facts that
+/// tell it from the others, the columns behind the riders, and what the marks on it ask for.
 pub struct Path {
-    facts: Vec<Formula>,
-    columns: Vec<(ColId, ColExpr)>,
+    facts: Vec<FormulaId>,
+    columns: Vec<(ColId, ColExprId)>,
     marks: Vec<Duty>,
     ghost are_known: { AreKnown (length facts.items) marks.items } by { known_once (length facts.items) marks.items },
 }
@@ -49,36 +27,41 @@ impl Drop for Path {
 }
 
 impl Path {
-    ghost use Rattle.std.specs.Prelude.{◌≡◌, [], true, IfOk, length, map};
+    ghost use Rattle.std.specs.Prelude.{◌≡◌, [], IfOk, length, map};
+    ghost use Rattle.lc_term.specs.NodeTables.{Table};
+    ghost use Rattle.lc_term.specs.PutNumbers.{columns_at, AreColumns, terms_in, AreTerms};
     ghost use Rattle.lc_term.specs.Replacement.{replacing, replace_term};
-    ghost use Rattle.lc_term.specs.Said.{put, puts, term_at, told};
-    ghost use Rattle.lc_term.specs.UpdateView.{updates_of};
-    ghost use Rattle.lc_term.specs.Truth.{is_ground};
-    ghost use Rattle.lc_term.specs.View.{term_of, formula_of, formulas_of};
-    ghost use Rattle.lc_action.specs.Telling.{columns_in};
+    ghost use Rattle.lc_term.specs.Said.{put, term_at, told};
+    ghost use Rattle.lc_term.specs.Syntax as T;
+    ghost use Rattle.lc_term.specs.Tables.{term_in, formulas_in, IsTerm, AreFormulas, HasTerm, HasFormula, Keeps};
+    ghost use Rattle.lc_term.specs.View.{term_of, formula_of};
+    ghost use Rattle.lc_rider.specs.Paths as S;
     ghost use Rattle.lc_rider.specs.Paths.{with_fact};
-    ghost use Rattle.lc_rider.specs.DutyView.{AreKnown, owing_of, owed_of, duty_in};
-    ghost use Rattle.lc_rider.specs.PathView.{path_of, with_columns, with_duty};
+    ghost use Rattle.lc_rider.specs.DutyView.{AreKnown, AreGoals, owing_of, owed_in, duty_in};
+    ghost use Rattle.lc_rider.specs.PathView.{path_in, IsPath, HasPath, with_columns, with_duty};
 
     /// What holds where this way is gone, in order.
-    pub fn facts(&self) -> &[Formula]
-        ensures { formulas_of result.now ≡ (path_of self.now).facts }
+    pub fn facts(&self) -> &[FormulaId]
+        ensures trees { (ts : Table) → formulas_in ts result.now ≡ (path_in ts self.now).facts }
+        ensures are { (ts : Table) → IsPath ts self.now → AreFormulas ts result.now }
     {
         &self.facts
     }
 
     /// The columns behind the riders, over those before the edge: those in which something is stored, each with what
     /// stands in it then.
-    pub fn columns(&self) -> &[(ColId, ColExpr)]
-        ensures { columns_in result.now ≡ (path_of self.now).columns }
+    pub fn columns(&self) -> &[(ColId, ColExprId)]
+        ensures trees { (ts : Table) → columns_at ts result.now ≡ (path_in ts self.now).columns }
+        ensures are { (ts : Table) → IsPath ts self.now → AreColumns ts result.now }
     {
         &self.columns
     }
 
     /// What the marks ask for, in order.
     pub fn marks(&self) -> &[Duty]
-        ensures duties { map (duty_in (path_of self.now).facts) (map owed_of result.now) ≡ (path_of self.now).duties }
-        ensures known { AreKnown (length (path_of self.now).facts) result.now }
+        ensures duties { (ts : Table) → map (duty_in (path_in ts self.now).facts) (map (owed_in ts) result.now) ≡ (path_in ts self.now).duties }
+        ensures goals { (ts : Table) → IsPath ts self.now → AreGoals ts result.now }
+        ensures known { (ts : Table) → AreKnown (length (path_in ts self.now).facts) result.now }
     {
         &self.marks
     }
@@ -87,33 +70,43 @@ impl Path {
     pub(crate) fn said_before(
         &self,
         alloc: Global,
-        variables: &[Term],
+        terms: &mut Terms,
+        variables: &[TermId],
         term: &Term,
-    ) -> Result<Term, OutOfMemory>
-        ensures { IfOk result (λ t. term_of t ≡
-            replace_term (replacing (path_of self.now).columns (term_at (map term_of variables.now))) (term_of term.now)) }
+    ) -> Result<TermId, OutOfMemory>
+        requires path { IsPath terms.old self.now }
+        requires variables { AreTerms terms.old variables.now }
+        ensures id { IfOk result (λ k. HasTerm terms.new k
+            (replace_term (replacing (path_in terms.old self.now).columns (term_at (terms_in terms.old variables.now))) (term_of term.now))) }
+        ensures kept { Keeps terms.old terms.new }
     {
         let columns = &self.columns;
-        said(alloc, term, Before { columns, variables })
+        let term = terms.enter_term(term)?;
+        terms.put_in_term(alloc, PutNumbers { columns, variables }, term)
     }
 
-    // A formula without quantifiers, likewise.
+    // A formula, likewise.
     pub(crate) fn told_before(
         &self,
         alloc: Global,
-        variables: &[Term],
+        terms: &mut Terms,
+        variables: &[TermId],
         formula: &Formula,
-    ) -> Result<Formula, OutOfMemory>
-        requires { is_ground (formula_of formula.now) ≡ true }
-        ensures { IfOk result (λ f. formula_of f ≡ told (path_of self.now).columns (map term_of variables.now) (formula_of formula.now)) }
+    ) -> Result<FormulaId, OutOfMemory>
+        requires path { IsPath terms.old self.now }
+        requires variables { AreTerms terms.old variables.now }
+        ensures id { IfOk result (λ k. HasFormula terms.new k (told (path_in terms.old self.now).columns (terms_in terms.old variables.now) (formula_of formula.now))) }
+        ensures kept { Keeps terms.old terms.new }
     {
         let columns = &self.columns;
-        told(alloc, formula, Before { columns, variables })
+        let formula = terms.enter_formula(alloc, formula)?;
+        let mut done = nothing_replaced(alloc);
+        terms.put_in_formula(alloc, PutNumbers { columns, variables }, &mut done, formula)
     }
 
     // The path that has these columns, and on which nothing is known and asked for.
-    pub(crate) fn new(alloc: Global, columns: Vec<(ColId, ColExpr)>) -> Path
-        ensures { path_of result ≡ record { columns = columns_in columns.items; facts = []; duties = [] } }
+    pub(crate) fn new(alloc: Global, columns: Vec<(ColId, ColExprId)>) -> Path
+        ensures { (ts : Table) → AreColumns ts columns.items → HasPath ts result (record { columns = columns_at ts columns.items; facts = []; duties = [] }) }
     {
         Path {
             facts: Vec::new(alloc),
@@ -122,20 +115,20 @@ impl Path {
         }
     }
 
-    // The same path, in memory of its own.
+    // The same path in each table, in memory of its own.
     pub(crate) fn try_clone(&self, alloc: Global) -> Result<Path, OutOfMemory>
-        ensures { IfOk result (λ path. path_of path ≡ path_of self.now) }
+        ensures { IfOk result (λ path. (ts : Table) (q : S.Path) → HasPath ts self.now q → HasPath ts path q) }
     {
         Ok(Path {
-            facts: copy_formulas(alloc, &self.facts)?,
-            columns: copy_columns(alloc, &self.columns)?,
-            marks: copy_duties(alloc, &self.marks)?,
+            facts: Vec::from_slice(alloc, &self.facts)?,
+            columns: Vec::from_slice(alloc, &self.columns)?,
+            marks: Vec::from_slice(alloc, &self.marks)?,
         })
     }
 
     // One more fact, behind the others.
-    pub(crate) fn with_fact(self, fact: Formula) -> Result<Path, OutOfMemory>
-        ensures { IfOk result (λ path. path_of path ≡ with_fact (path_of self) (formula_of fact)) }
+    pub(crate) fn with_fact(self, fact: FormulaId) -> Result<Path, OutOfMemory>
+        ensures { IfOk result (λ path. (ts : Table) (q : S.Path) (f : T.Formula) → HasPath ts self q → HasFormula ts fact f → HasPath ts path (with_fact q f)) }
     {
         let Path {
             mut facts,
@@ -155,9 +148,9 @@ impl Path {
         self,
         kind: Owing,
         rider: usize,
-        goal: Formula,
+        goal: FormulaId,
     ) -> Result<Path, OutOfMemory>
-        ensures { IfOk result (λ path. path_of path ≡ with_duty (path_of self) (owing_of kind) rider (formula_of goal)) }
+        ensures { IfOk result (λ path. (ts : Table) (q : S.Path) (g : T.Formula) → HasPath ts self q → HasFormula ts goal g → HasPath ts path (with_duty q (owing_of kind) rider g)) }
     {
         let Path {
             facts,
@@ -178,44 +171,43 @@ impl Path {
         })
     }
 
+    // The same path with these columns.
+    pub(crate) fn with_columns(self, columns: Vec<(ColId, ColExprId)>) -> Path
+        ensures { (ts : Table) (q : S.Path) → HasPath ts self q → AreColumns ts columns.items → HasPath ts result (with_columns q (columns_at ts columns.items)) }
+    {
+        let Path {
+            facts,
+            columns: _,
+            marks,
+        } = self;
+        Path {
+            facts,
+            columns,
+            marks,
+        }
+    }
+
     // A value is stored in a column at an index.
     pub(crate) fn with_store(
         self,
-        alloc: Global,
+        terms: &mut Terms,
         column: ColId,
-        index: Term,
-        value: Term,
+        index: TermId,
+        value: TermId,
     ) -> Result<Path, OutOfMemory>
-        ensures { IfOk result (λ path. path_of path ≡
-            with_columns (path_of self) (put (path_of self).columns (record { column = column.0; index = term_of index; value = term_of value }))) }
+        requires path { IsPath terms.old self }
+        requires index { IsTerm terms.old index }
+        requires value { IsTerm terms.old value }
+        ensures path { IfOk result (λ path. HasPath terms.new path (with_columns (path_in terms.old self)
+            (put (path_in terms.old self).columns (record { column = column.0; index = term_in terms.old index; value = term_in terms.old value })))) }
+        ensures kept { Keeps terms.old terms.new }
     {
         let Path {
             facts,
-            columns,
+            mut columns,
             marks,
         } = self;
-        let columns = store(alloc, columns, column, index, value)?;
-        Ok(Path {
-            facts,
-            columns,
-            marks,
-        })
-    }
-
-    // Values are stored by these updates, one after another.
-    pub(crate) fn with_stores(
-        self,
-        alloc: Global,
-        updates: Vec<Update>,
-    ) -> Result<Path, OutOfMemory>
-        ensures { IfOk result (λ path. path_of path ≡ with_columns (path_of self) (puts (path_of self).columns (updates_of updates.items))) }
-    {
-        let Path {
-            facts,
-            columns,
-            marks,
-        } = self;
-        let columns = stored(alloc, columns, updates)?;
+        store_in(terms, &mut columns, column, index, value)?;
         Ok(Path {
             facts,
             columns,

@@ -25,6 +25,7 @@ pub mod Symbolic
 pub mod Listed
 pub mod Copied
 pub mod NodeReplacement
+pub mod ByNumber
 pub mod Entries
 pub mod Remembered
 pub mod Filled

@@ -13,6 +13,7 @@ pub mod NodeTables
 pub mod Nodes
 pub mod Places
 pub mod Put
+pub mod PutNumbers
 pub mod Reached
 pub mod Replacement
 pub mod Rows

@@ -1,0 +1,42 @@
+-- Columns and terms by number, in later tables.
+use Rattle.std.proofs.Common.{◌≡◌, List, [], ◌∷◌, refl, ap, ap₂, map}
+use Rattle.lc_base.specs.declared.ids.ColId.{ColId}
+use Rattle.lc_term.specs.declared.node.TermId.{TermId}
+use Rattle.lc_term.specs.declared.node.ColExprId.{ColExprId}
+use Rattle.lc_term.specs.NodeTables.{Table}
+use Rattle.lc_term.specs.Put.{column_at}
+use Rattle.lc_term.specs.PutNumbers.{entry_in, columns_at, AreColumns, terms_in, AreTerms, replacement_at}
+use Rattle.lc_term.specs.Replacement.{replacing}
+use Rattle.lc_term.specs.Said.{term_at}
+use Rattle.lc_term.specs.Tables.{parts, IsColumn, Keeps}
+use Rattle.lc_term.proofs.Later.{is_column_later, is_term_still, term_still}
+use Rattle.lc_term.proofs.NodeReplacement.{column_still}
+use Rattle.lc_term.proofs.TermNodes.{column-there}
+
+pub is_column_still : (old new : Table) (k : ColExprId) → IsColumn old k → Keeps old new → IsColumn new k
+is_column_still old new k h kept = is_column_later old new k _ (column-there (parts old) k h) kept
+
+pub are_columns_later : (old new : Table) (ps : List (ColId × ColExprId)) → AreColumns old ps → Keeps old new → AreColumns new ps
+are_columns_later old new [] h kept = tt
+are_columns_later old new (p ∷ ps) h kept = (is_column_still old new p.1 h.0 kept, are_columns_later old new ps h.1 kept)
+
+entries_still : (old new : Table) (ps : List (ColId × ColExprId)) → AreColumns old ps → Keeps old new → map (entry_in new) ps ≡ map (entry_in old) ps
+entries_still old new [] h kept = refl
+entries_still old new (p ∷ ps) h kept = ap₂ (λ c es. (p.0.0, c) ∷ es) (column_still old new p.1 h.0 kept) (entries_still old new ps h.1 kept)
+
+pub columns_still : (old new : Table) (ps : List (ColId × ColExprId)) → AreColumns old ps → Keeps old new → columns_at new ps ≡ columns_at old ps
+columns_still old new ps h kept = ap column_at (entries_still old new ps h kept)
+
+pub are_terms_later : (old new : Table) (ks : List TermId) → AreTerms old ks → Keeps old new → AreTerms new ks
+are_terms_later old new [] h kept = tt
+are_terms_later old new (k ∷ ks) h kept = (is_term_still old new k h.0 kept, are_terms_later old new ks h.1 kept)
+
+pub terms_still : (old new : Table) (ks : List TermId) → AreTerms old ks → Keeps old new → terms_in new ks ≡ terms_in old ks
+terms_still old new [] h kept = refl
+terms_still old new (k ∷ ks) h kept = ap₂ ◌∷◌ (term_still old new k h.0 kept) (terms_still old new ks h.1 kept)
+
+-- what is put in by number is the same later
+pub replacement_still : (old new : Table) (ps : List (ColId × ColExprId)) (ks : List TermId) → AreColumns old ps → AreTerms old ks → Keeps old new
+    → replacement_at new ps ks ≡ replacement_at old ps ks
+replacement_still old new ps ks columns terms kept =
+    ap₂ replacing (columns_still old new ps columns kept) (ap term_at (terms_still old new ks terms kept))
