@@ -19,11 +19,6 @@ use Rattle.lc_cond.specs.declared.condition.Kind.{Kind}
 use Rattle.lc_cond.specs.declared.condition.Passage.TheVariants.{Nothing}
 use Rattle.lc_cond.specs.declared.making.Head.{Head}
 
--- formulas with these columns and variables
-pub told_where : (ts : Table) (σ : ℕ → Column) (vs : List Term) (τ : List S.Term) (ks : List FormulaId) (fs : List Formula) → map term_of vs ≡ τ → HasFormulas ts ks fs →
-    map (replace (replacing σ (term_at (map term_of vs)))) (formulas_in ts ks) ≡ map (told σ τ) fs
-told_where ts σ vs τ ks fs variables has = ap₂ (λ υ gs. map (replace (replacing σ (term_at υ))) gs) variables has.trees
-
 -- what the conditions share
 pub entry_head : (kind : Kind) (body : Operation) (n : ℕ) → n ≡ 2 + length (operation_of body).arguments →
     head_of (record { kind = kind; variables = n; point = Some body.entry; passage = Nothing; path = None }) ≡ at_entry (kind_of kind) (operation_of body)

@@ -1,10 +1,10 @@
 //! The conditions of an edge, path by path.
 ghost use Rattle.std.specs.Prelude.{◌≡◌, ◌++◌, pos, Some, IfOk, OnOk};
-ghost use Rattle.lc_term.specs.PutNumbers.{columns_at, AreColumns};
+ghost use Rattle.lc_term.specs.PutNumbers.{AreColumns};
 ghost use Rattle.lc_term.specs.Said.{put};
-ghost use Rattle.lc_term.specs.Syntax.{Variable, Number, Store};
+ghost use Rattle.lc_term.specs.Syntax.{Variable, Number};
 ghost use Rattle.lc_term.specs.SystemColumns.{pend};
-ghost use Rattle.lc_term.specs.Tables.{HasColumn, Keeps};
+ghost use Rattle.lc_term.specs.Tables.{Keeps};
 ghost use Rattle.lc_action.specs.ActionView.{first_of};
 ghost use Rattle.lc_cond.specs.Adding.{HasColumns, Adds, Under, Over};
 ghost use Rattle.lc_cond.specs.Heads.{MakesOne};
@@ -16,7 +16,7 @@ use crate::making::{Head, push_made, push_one};
 use crate::scene::Scene;
 use crate::telling::push_both_told;
 use lc_base::{ColId, OutOfMemory};
-use lc_rider::{Duty, Path};
+use lc_rider::{Duty, Path, store_in};
 use lc_term::{ColExprId, FormulaId, PutNumbers, Terms, nothing_replaced};
 use std::alloc::Global;
 
@@ -143,24 +143,8 @@ pub(crate) fn push_next(
     )
 }
 
-// What stands in a column behind a path of a return, which stores 0 in the cell of client 1.
-#[tactic(auto, using(lc_term::proofs::Later::kept_on))]
-fn left_column(
-    terms: &mut Terms,
-    columns: &[(ColId, ColExprId)],
-    column: ColId,
-) -> Result<ColExprId, OutOfMemory>
-    requires { AreColumns terms.old columns.now }
-    ensures id { IfOk result (λ k. HasColumn terms.new k (Store (columns_at terms.old columns.now column.0) (Variable 1) (Number (pos 0)))) }
-    ensures kept { Keeps terms.old terms.new }
-{
-    let before = terms.stored_column(columns, column)?;
-    let own = terms.variable(1)?;
-    let none = terms.number(0)?;
-    terms.store(before, own, none)
-}
-
 /// The columns behind a path of a return, which stores that no call is pending.
+#[tactic(auto, using(lc_term::proofs::Later::kept_on))]
 pub(crate) fn at_return(
     alloc: Global,
     terms: &mut Terms,
@@ -168,15 +152,15 @@ pub(crate) fn at_return(
     columns: &[(ColId, ColExprId)],
 ) -> Result<Vec<(ColId, ColExprId)>, OutOfMemory>
     requires { AreColumns terms.old columns.now }
-    ensures columns { IfOk result (λ ps. Over terms.old columns.now (λ σ. HasColumns terms.new ps.items
+    ensures list { IfOk result (λ ps. Over terms.old columns.now (λ σ. HasColumns terms.new ps.items
         (put σ (record { column = pend (first_of scene.now.system); index = Variable 1; value = Number (pos 0) })))) }
     ensures kept { Keeps terms.old terms.new }
 {
-    let pend = scene.system.pend();
-    let left = left_column(terms, columns, pend)?;
     let count = columns.len().checked_add(1).ok_or(OutOfMemory)?;
-    let mut behind = Vec::with_capacity(alloc, count)?;
-    behind.push((pend, left))?;
-    behind.extend_from_slice(columns)?;
-    Ok(behind)
+    let mut left = Vec::with_capacity(alloc, count)?;
+    left.extend_from_slice(columns)?;
+    let own = terms.variable(1)?;
+    let none = terms.number(0)?;
+    store_in(terms, &mut left, scene.system.pend(), own, none)?;
+    Ok(left)
 }
