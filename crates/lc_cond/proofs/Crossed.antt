@@ -1,5 +1,5 @@
 -- Actions of other clients, one after another.
-use Rattle.std.proofs.Common.{◌≡◌, ℕ, zero, suc, ◌+◌, ◌<◌, Some, List, [], ◌∷◌, ◌++◌, map, take, length, get_or, refl, sym, subst, ap, ap₂, ◌∙◌, arith, zero-add}
+use Rattle.std.proofs.Common.{◌≡◌, ℕ, zero, suc, ◌+◌, ◌<◌, Some, List, [], ◌∷◌, ◌++◌, map, take, length, get_or, refl, sym, subst, ap, ◌∙◌, arith, zero-add}
 use Rattle.std.specs.Prelude.{Option, None, option_map, slice_get}
 use Rattle.std.proofs.lemmas.Option.{slice_get-get_or}
 use Rattle.std.proofs.lemmas.List.{map-append, take_more, take_all, length-map, length-take-le}
@@ -11,10 +11,9 @@ use Rattle.lc_term.specs.Syntax.{Formula}
 use Rattle.lc_term.specs.Tables.{Keeps, HasFormula, formula_in, formulas_in, AreFormulas}
 use Rattle.lc_term.specs.declared.node.FormulaId.{FormulaId}
 use Rattle.lc_term.proofs.Later.{formula_has, are_formulas_still}
-use Rattle.lc_term.proofs.Listed.{are_formulas-get}
 use Rattle.lc_action.specs.Action.{Action}
 use Rattle.lc_outline.specs.Development.{Development}
-use Rattle.lc_cond.specs.Adding.{HasFormulas, Adds}
+use Rattle.lc_cond.specs.Adding.{Adds}
 use Rattle.lc_cond.specs.Conditions as S
 use Rattle.lc_cond.specs.Conditions.{stable_under, stable_goal}
 use Rattle.lc_cond.specs.Crossings.{IsGiven, IsCrossing, AreCrossings, HaveGoals, MakesStable, MakesAllStable}

@@ -1,5 +1,5 @@
 -- Conditions where a call begins.
-use Rattle.std.proofs.Common.{◌≡◌, ℕ, ◌+◌, Some, None, List, map, length, ap, ap₂, ◌∙◌}
+use Rattle.std.proofs.Common.{◌≡◌, ℕ, ◌+◌, Some, None, List, map, length, ap, ap₂}
 use Rattle.lc_term.specs.Syntax as S
 use Rattle.lc_term.specs.Syntax.{Column, Formula}
 use Rattle.lc_term.specs.NodeTables.{Table}
@@ -17,7 +17,6 @@ use Rattle.lc_cond.specs.ConditionView.{kind_of}
 use Rattle.lc_cond.specs.Heads.{head_of}
 use Rattle.lc_cond.specs.declared.condition.Kind.{Kind}
 use Rattle.lc_cond.specs.declared.condition.Passage.TheVariants.{Nothing}
-use Rattle.lc_cond.specs.declared.making.Head.{Head}
 
 -- what the conditions share
 pub entry_head : (kind : Kind) (body : Operation) (n : ℕ) → n ≡ 2 + length (operation_of body).arguments →

@@ -1,4 +1,4 @@
-use Rattle.std.proofs.Common.{None, ◌++◌, ap, sym, subst, ◌∙◌}
+use Rattle.std.proofs.Common.{None, ◌++◌, sym, subst}
 use Rattle.std.proofs.lemmas.Result.{on_ok_weaker}
 use Rattle.lc_term.specs.Lists.{numbered, concat_places}
 use Rattle.lc_term.specs.Tables.{AreFormulas}

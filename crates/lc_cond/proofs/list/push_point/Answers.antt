@@ -1,7 +1,7 @@
 use Rattle.std.proofs.Common.{Some, length, sym, subst}
 use Rattle.std.specs.Prelude.{slice_get}
 use Rattle.std.proofs.lemmas.Result.{on_ok_weaker}
-use Rattle.lc_object.specs.View.{operation_of, point_of}
+use Rattle.lc_object.specs.View.{operation_of}
 use Rattle.lc_object.specs.WellFormed.{variable_count}
 use Rattle.lc_outline.specs.Development.{first_system, asserts_at}
 use Rattle.lc_outline.specs.DevelopmentView.{development_shown}

@@ -1,4 +1,4 @@
-use Rattle.std.proofs.Common.{map, take, ap, sym, subst, ◌∙◌}
+use Rattle.std.proofs.Common.{map, ap, sym, subst, ◌∙◌}
 use Rattle.std.proofs.lemmas.List.{take_all}
 use Rattle.lc_term.specs.Lists.{concat_places}
 use Rattle.lc_term.proofs.Later.{kept_on}

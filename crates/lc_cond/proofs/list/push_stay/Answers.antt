@@ -1,15 +1,13 @@
-use Rattle.std.proofs.Common.{ℕ, Some, ◌++◌, length, ap, sym, subst, ◌∙◌}
+use Rattle.std.proofs.Common.{ℕ, Some, ◌++◌, length, sym, subst}
 use Rattle.std.proofs.lemmas.Result.{on_ok_weaker}
 use Rattle.lc_term.specs.Lists.{numbered, concat_places}
-use Rattle.lc_term.specs.Syntax.{Formula}
 use Rattle.lc_term.specs.Tables.{AreFormulas}
-use Rattle.lc_term.specs.View.{formulas_of}
 use Rattle.lc_object.specs.View.{operation_of}
 use Rattle.lc_action.specs.ActionView.{first_of}
 use Rattle.lc_outline.specs.Development.{invariant_of, asserts_at, all_actions}
 use Rattle.lc_outline.specs.DevelopmentView.{development_shown}
 use Rattle.lc_cond.specs.Adding.{Adds}
-use Rattle.lc_cond.specs.Conditions.{Condition, body_frame, stable_under}
+use Rattle.lc_cond.specs.Conditions.{body_frame, stable_under}
 use Rattle.lc_cond.proofs.Adding.{formulas_listed}
 use Rattle.lc_cond.proofs.list.push_stay.Goals as goal
 

@@ -1,4 +1,4 @@
-use Rattle.std.proofs.Common.{◌≡◌, ◌++◌, ◌∷◌, [], map, ap, ap₂, sym, subst, ◌∙◌}
+use Rattle.std.proofs.Common.{◌∷◌, [], map, ap, subst, ◌∙◌}
 use Rattle.lc_term.specs.Replacement.{replace, replacing}
 use Rattle.lc_term.specs.Syntax.{Variable}
 use Rattle.lc_term.specs.Tables.{formulas_in, HasFormula}

@@ -1,4 +1,4 @@
-use Rattle.std.proofs.Common.{Some, None, take, subst}
+use Rattle.std.proofs.Common.{None, subst}
 use Rattle.std.proofs.lemmas.List.{take_all}
 use Rattle.lc_cond.specs.Crossings.{MakesStable}
 use Rattle.lc_cond.specs.Heads.{MakesOne}

@@ -1,8 +1,7 @@
-use Rattle.std.proofs.Common.{map, ap, sym, subst, ◌∙◌}
-use Rattle.lc_term.specs.Put.{Remembers}
+use Rattle.std.proofs.Common.{map, ap, subst, ◌∙◌}
 use Rattle.lc_term.specs.Replacement.{replace, replacing}
 use Rattle.lc_term.specs.Syntax.{Column, Variable}
-use Rattle.lc_term.specs.Tables.{formulas_in, AreFormulas}
+use Rattle.lc_term.specs.Tables.{formulas_in}
 use Rattle.lc_term.proofs.Later.{are_formulas_still, formulas_still}
 use Rattle.lc_action.specs.Telling.{columns_in}
 use Rattle.lc_cond.specs.Adding.{HasFormulas}

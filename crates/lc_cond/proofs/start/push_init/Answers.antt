@@ -7,7 +7,7 @@ use Rattle.lc_term.specs.Tables.{AreFormulas}
 use Rattle.lc_term.specs.View.{column_of}
 use Rattle.lc_outline.specs.Development.{invariant_of}
 use Rattle.lc_outline.specs.DevelopmentView.{development_shown}
-use Rattle.lc_cond.specs.Adding.{HasFormulas, Adds}
+use Rattle.lc_cond.specs.Adding.{Adds}
 use Rattle.lc_cond.specs.Conditions.{conditions_of}
 use Rattle.lc_cond.specs.Heads.{head_of}
 use Rattle.lc_cond.proofs.Adding.{formulas_later, formulas_listed}
