@@ -1,6 +1,7 @@
 -- What conditions that are added say in later tables.
-use Rattle.std.proofs.Common.{◌≡◌, ℕ, zero, suc, take, Ok, Err, List, [], ◌∷◌, ◌++◌, map, refl, sym, subst, ap, ap₂, ◌∙◌, append_assoc, append-nil, is_some}
+use Rattle.std.proofs.Common.{◌≡◌, ℕ, zero, suc, take, Ok, Err, Vec, List, [], ◌∷◌, ◌++◌, map, refl, sym, subst, ap, ap₂, ◌∙◌, append_assoc, append-nil, is_some}
 use Rattle.std.specs.Prelude.{Result, IfOk}
+use Rattle.std.specs.declared.alloc.Global.{Global}
 use Rattle.std.proofs.lemmas.List.{map-append, take-map}
 use Rattle.lc_base.specs.declared.ids.ColId.{ColId}
 use Rattle.lc_term.specs.PutNumbers.{columns_at, AreColumns, terms_in, AreTerms}

@@ -1,18 +1,8 @@
 -- Conditions where a call begins.
-use Rattle.std.proofs.Common.{◌≡◌, ℕ, ◌+◌, Some, None, List, map, length, ap, ap₂}
-use Rattle.lc_term.specs.Syntax as S
-use Rattle.lc_term.specs.Syntax.{Column, Formula}
-use Rattle.lc_term.specs.NodeTables.{Table}
-use Rattle.lc_term.specs.Replacement.{replacing, replace}
-use Rattle.lc_term.specs.Said.{term_at, told}
-use Rattle.lc_term.specs.Tables.{formulas_in}
-use Rattle.lc_term.specs.View.{term_of}
-use Rattle.lc_term.specs.declared.node.FormulaId.{FormulaId}
-use Rattle.lc_term.specs.declared.term.Term.{Term}
+use Rattle.std.proofs.Common.{◌≡◌, ℕ, ◌+◌, Some, None, length, ap}
 use Rattle.lc_object.specs.View.{operation_of}
 use Rattle.lc_object.specs.declared.parts.Operation.{Operation}
 use Rattle.lc_cond.specs.Conditions.{at_entry}
-use Rattle.lc_cond.specs.Adding.{HasFormulas}
 use Rattle.lc_cond.specs.ConditionView.{kind_of}
 use Rattle.lc_cond.specs.Heads.{head_of}
 use Rattle.lc_cond.specs.declared.condition.Kind.{Kind}

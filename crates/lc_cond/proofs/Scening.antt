@@ -1,7 +1,7 @@
 -- What a scene says in later tables, and the parts of its conditions.
 use Rattle.std.proofs.Common.{◌≡◌, ℕ, zero, suc, ◌+◌, ◌<◌, ◌≤◌, Option, Some, None, List, [], ◌∷◌, ◌++◌, map, take, length, get_or, pos, Bor, refl, sym, subst, ap, ap₂, ◌∙◌, arith}
 use Rattle.std.specs.Prelude.{option_map, slice_get}
-use Rattle.std.proofs.lemmas.List.{map-append, take_more, take_all, length-map}
+use Rattle.std.proofs.lemmas.List.{map-append, take_more, take_all, length-map, length-take-le}
 use Rattle.std.proofs.lemmas.Option.{same_Some}
 use Rattle.lc_base.specs.declared.ids.ColId.{ColId}
 use Rattle.lc_base.specs.declared.ids.PointId.{PointId}
@@ -30,12 +30,9 @@ use Rattle.lc_cond.specs.Conditions as S
 use Rattle.lc_cond.specs.Conditions.{at_end, path_place, conditions_of, alone_on_path, action_conditions, on_conditions}
 use Rattle.lc_cond.specs.Adding.{HasFormulas, HasTerms, HasColumns, Adds}
 use Rattle.lc_cond.specs.Heads.{MakesOne}
-use Rattle.lc_cond.specs.Scenes.{IsScene, IsSceneOf, IsReply, IsActing, MakesDuties, acting_on, code_in, told_in, duty_conditions}
+use Rattle.lc_cond.specs.Scenes.{IsScene, IsSceneOf, IsReply, IsActing, duty_head, MakesDuties, acting_on, code_in, told_in, duty_conditions}
 use Rattle.lc_cond.specs.declared.condition.Condition.{Condition}
-use Rattle.lc_cond.specs.declared.condition.Kind.TheVariants as K
-use Rattle.lc_cond.specs.declared.condition.Passage.TheVariants as G
 use Rattle.lc_cond.specs.declared.condition.Which.TheVariants as W
-use Rattle.lc_cond.specs.declared.making.Head.{Head}
 use Rattle.lc_cond.specs.declared.matching.Acting.{Acting}
 use Rattle.lc_cond.specs.declared.scene.Scene.{Scene}
 use Rattle.lc_cond.proofs.Adding.{formulas_later, formulas_joined, first_formulas, terms_later, columns_later, adds_both, adds_nothing}
@@ -82,10 +79,6 @@ reply_said s ts j hs σ ps vs k goals columns variables reply =
 
 -- ---- duties
 
--- what the condition of a duty shares with others
-abbrev pub duty_head : Scene → ℕ → Duty → Head
-duty_head s j d = record { kind = K.Owed d.kind; variables = s.count; point = Some s.code.now.point; passage = G.Edge s.code.now.kind; path = Some j }
-
 -- the conditions of the first duties, so many, where these are the facts
 abbrev pub DutiesBelow : Scene → ℕ → List FormulaId → List Duty → ℕ → List Condition → List Condition → Type 0
 DutiesBelow s j facts ds i before now =
@@ -100,12 +93,12 @@ goal_is ts (x ∷ ds) zero d below h = h.0
 goal_is ts (x ∷ ds) (suc i) d below h = goal_is ts ds i d (omega arith) h.1
 
 -- one duty more
-pub duties_more : (s : Scene) (j : ℕ) (facts : List FormulaId) (ds : List Duty) (i : ℕ) (d : Duty) (before now new : List Condition) → i < length ds → d ≡ get_or ds i d →
-    DutiesBelow s j facts ds i before now → MakesOne (duty_head s j d) (W.Numbered d.rider) (s.hypotheses.items ++ take d.known facts) d.goal now new → DutiesBelow s j facts ds (i + 1) before new
-duties_more s j facts ds i d before now new below is so_far made ts hs fs known has goals =
-    let goal : IsFormula ts d.goal = subst (λ (x : Duty). IsFormula ts x.goal) (sym is) (goal_is ts ds i d below goals) in
-    let one = made ts (hs ++ take d.known fs) (formula_in ts d.goal) (formulas_joined ts s.hypotheses.items (take d.known facts) hs (take d.known fs) known (first_formulas ts facts fs d.known has)) (formula_has ts d.goal goal) in
-    let split : take (i + 1) ds ≡ take i ds ++ d ∷ [] = take_more ds i d below ∙ ap (λ x. take i ds ++ x ∷ []) (sym is) in
+pub duties_more : (s : Scene) (j : ℕ) (facts : List FormulaId) (ds : List Duty) (i : ℕ) (e : Duty) (before now new : List Condition) → i < length ds →
+    DutiesBelow s j facts ds i before now → (let d = get_or ds i e in MakesOne (duty_head s j d) (W.Numbered d.rider) (s.hypotheses.items ++ take d.known facts) d.goal now new) → DutiesBelow s j facts ds (i + 1) before new
+duties_more s j facts ds i e before now new below so_far made ts hs fs known has goals =
+    let d = get_or ds i e in
+    let one = made ts (hs ++ take d.known fs) (formula_in ts d.goal) (formulas_joined ts s.hypotheses.items (take d.known facts) hs (take d.known fs) known (first_formulas ts facts fs d.known has)) (formula_has ts d.goal (goal_is ts ds i e below goals)) in
+    let split : take (i + 1) ds ≡ take i ds ++ d ∷ [] = take_more ds i e below in
     let says : duty_conditions s j hs (map (duty_in fs) (map (owed_in ts) (take (i + 1) ds))) ≡ duty_conditions s j hs (map (duty_in fs) (map (owed_in ts) (take i ds))) ++ duty_conditions s j hs (duty_in fs (owed_in ts d) ∷ []) =
     ap (λ l. duty_conditions s j hs (map (duty_in fs) (map (owed_in ts) l))) split
     ∙ ap (λ l. duty_conditions s j hs (map (duty_in fs) l)) (map-append (owed_in ts) (take i ds) (d ∷ []))
@@ -141,13 +134,13 @@ duties_all s j facts ds path i before now end trees are owed goals below ts hs p
     ap (λ l. map (duty_in (path_in ts path).facts) (map (owed_in ts) l)) (take_all i ds end) ∙ owed ts ∙ ap (λ (q : Path). q.duties) has.path in
     subst (λ l. Adds before ts now (duty_conditions s j hs l)) says (below ts hs (path_in ts path).facts known here (goals ts has.is))
 
--- a duty knows no more facts than there are
-pub known_here : (facts : List FormulaId) (path : P.Path) (ds : List Duty) (i : ℕ) (d : Duty) → i < length ds → d ≡ get_or ds i d →
-    ((ts : Table) → formulas_in ts facts ≡ (path_in ts path).facts) → ((ts : Table) → AreKnown (length (path_in ts path).facts) ds) → d.known ≤ length facts
-known_here facts path ds i d below is trees known =
+-- a duty knows no more facts than there are, so many of them are its
+pub known_here : (facts : List FormulaId) (path : P.Path) (ds : List Duty) (i : ℕ) (d : Duty) → i < length ds →
+    ((ts : Table) → formulas_in ts facts ≡ (path_in ts path).facts) → ((ts : Table) → AreKnown (length (path_in ts path).facts) ds) → (get_or ds i d).known ≡ length (take (get_or ds i d).known facts)
+known_here facts path ds i d below trees known =
     let ts : Table = record { terms = []; formulas = [] } in
     let count : length (path_in ts path).facts ≡ length facts = ap length (sym (trees ts)) ∙ length-map facts (formula_in ts) in
-    subst (λ n. d.known ≤ n) count (subst (λ (x : Duty). x.known ≤ length (path_in ts path).facts) (sym is) (few ds i below (known ts)))
+    sym (length-take-le (get_or ds i d).known facts (subst (λ n. (get_or ds i d).known ≤ n) count (few ds i below (known ts))))
   where
     few : {n : ℕ} → (es : List Duty) (k : ℕ) → k < length es → AreKnown n es → (get_or es k d).known ≤ n
     few [] k below h = absurd (omega arith)
@@ -166,31 +159,31 @@ at_end-none first c o σ τ after is same column stored = stored
 -- ---- what stands beside an edge
 
 -- no action does
-pub on_none : (D : D.Development) (e : Edge) (v j : ℕ) (hs : List Formula) (σ : ℕ → Column) (o : Option D.On) → acting_on D o ≡ None → on_conditions D e v j hs σ o ≡ []
-on_none D e v j hs σ None is = refl
-on_none D e v j hs σ (Some x) is = by (slice_get D.actions x.action) is
+pub on_none : (dev : D.Development) (e : Edge) (v j : ℕ) (hs : List Formula) (σ : ℕ → Column) (o : Option D.On) → acting_on dev o ≡ None → on_conditions dev e v j hs σ o ≡ []
+on_none dev e v j hs σ None is = refl
+on_none dev e v j hs σ (Some x) is = by (slice_get dev.actions x.action) is
   where
-    by : (a : Option A.Action) → option_map (λ b. (x.arguments, b)) a ≡ None → action_conditions D e v j hs σ x.arguments a ≡ []
+    by : (a : Option A.Action) → option_map {U = List Term × A.Action} (λ b. (x.arguments, b)) a ≡ None → action_conditions dev e v j hs σ x.arguments a ≡ []
     by None is = refl
     by (Some a) is = cc
 
 -- this one does
-pub on_some : (D : D.Development) (e : Edge) (v j : ℕ) (hs : List Formula) (σ : ℕ → Column) (o : Option D.On) (x : List Term × A.Action) → acting_on D o ≡ Some x → action_conditions D e v j hs σ x.0 (Some x.1) ≡ on_conditions D e v j hs σ o
-on_some D e v j hs σ None x is = cc
-on_some D e v j hs σ (Some y) x is = by (slice_get D.actions y.action) is
+pub on_some : (dev : D.Development) (e : Edge) (v j : ℕ) (hs : List Formula) (σ : ℕ → Column) (o : Option D.On) (x : List Term × A.Action) → acting_on dev o ≡ Some x → action_conditions dev e v j hs σ x.0 (Some x.1) ≡ on_conditions dev e v j hs σ o
+on_some dev e v j hs σ None x is = cc
+on_some dev e v j hs σ (Some y) x is = by (slice_get dev.actions y.action) is
   where
-    by : (a : Option A.Action) → option_map (λ b. (y.arguments, b)) a ≡ Some x → action_conditions D e v j hs σ x.0 (Some x.1) ≡ action_conditions D e v j hs σ y.arguments a
+    by : (a : Option A.Action) → option_map {U = List Term × A.Action} (λ b. (y.arguments, b)) a ≡ Some x → action_conditions dev e v j hs σ x.0 (Some x.1) ≡ action_conditions dev e v j hs σ y.arguments a
     by None is = cc
-    by (Some a) is = ap (λ (z : List Term × A.Action). action_conditions D e v j hs σ z.0 (Some z.1)) (sym (same_Some _ _ is))
+    by (Some a) is = ap (λ (z : List Term × A.Action). action_conditions dev e v j hs σ z.0 (Some z.1)) (sym (same_Some _ _ is))
 
 -- what is entered of it
-pub acting_none : (D : D.Development) (o : Option (Bor On)) → o ≡ None → acting_on D (option_map (λ y. on_of y.now) o) ≡ None
-acting_none D o is = ap (λ z. acting_on D (option_map (λ (y : Bor On). on_of y.now) z)) is
+pub acting_none : (dev : D.Development) (o : Option (Bor On)) → o ≡ None → acting_on dev (option_map (λ y. on_of y.now) o) ≡ None
+acting_none dev o is = ap (λ z. acting_on dev (option_map (λ (y : Bor On). on_of y.now) z)) is
 
-pub acting_lost : (D : D.Development) (o : Option (Bor On)) (x : Bor On) → o ≡ Some x → None ≡ slice_get D.actions (on_of x.now).action → acting_on D (option_map (λ y. on_of y.now) o) ≡ None
-acting_lost D o x is lost =
-    ap (λ z. acting_on D (option_map (λ (y : Bor On). on_of y.now) z)) is ∙ ap (option_map (λ (b : A.Action). ((on_of x.now).arguments, b))) (sym lost)
+pub acting_lost : (dev : D.Development) (o : Option (Bor On)) (x : Bor On) → o ≡ Some x → None ≡ slice_get dev.actions (on_of x.now).action → acting_on dev (option_map (λ y. on_of y.now) o) ≡ None
+acting_lost dev o x is lost =
+    ap (λ z. acting_on dev (option_map (λ (y : Bor On). on_of y.now) z)) is ∙ ap (option_map {U = List Term × A.Action} (λ (b : A.Action). ((on_of x.now).arguments, b))) (sym lost)
 
-pub acting_found : (D : D.Development) (o : Option (Bor On)) (x : Bor On) (a : A.Action) → o ≡ Some x → Some a ≡ slice_get D.actions (on_of x.now).action → acting_on D (option_map (λ y. on_of y.now) o) ≡ Some ((on_of x.now).arguments, a)
-acting_found D o x a is there =
-    ap (λ z. acting_on D (option_map (λ (y : Bor On). on_of y.now) z)) is ∙ ap (option_map (λ (b : A.Action). ((on_of x.now).arguments, b))) (sym there)
+pub acting_found : (dev : D.Development) (o : Option (Bor On)) (x : Bor On) (a : A.Action) → o ≡ Some x → Some a ≡ slice_get dev.actions (on_of x.now).action → acting_on dev (option_map (λ y. on_of y.now) o) ≡ Some ((on_of x.now).arguments, a)
+acting_found dev o x a is there =
+    ap (λ z. acting_on dev (option_map (λ (y : Bor On). on_of y.now) z)) is ∙ ap (option_map {U = List Term × A.Action} (λ (b : A.Action). ((on_of x.now).arguments, b))) (sym there)

@@ -13,6 +13,7 @@ use Rattle.lc_action.specs.Action.{Action, guard_for, post_columns}
 use Rattle.lc_action.specs.ActionView.{first_of}
 use Rattle.lc_rider.specs.Paths.{edge_variables, Duty, Path}
 use Rattle.lc_rider.specs.PathView.{HasPath}
+use Rattle.lc_rider.specs.declared.duty.Duty as M
 use Rattle.lc_rider.specs.declared.path.Path as P
 use Rattle.lc_outline.specs.Development as D
 use Rattle.lc_outline.specs.Development.{first_system, invariant_of, on_at}
@@ -21,6 +22,9 @@ use Rattle.lc_cond.specs.Conditions as S
 use Rattle.lc_cond.specs.Conditions.{asserts_to, reply_goals, body_hypotheses, conditions_of, alone_on_path, on_path, duty_condition, on_conditions, path_conditions, at_end}
 use Rattle.lc_cond.specs.Adding.{HasFormulas, HasTerms, HasColumns, Adds}
 use Rattle.lc_cond.specs.declared.condition.Condition as C
+use Rattle.lc_cond.specs.declared.condition.Kind.TheVariants as K
+use Rattle.lc_cond.specs.declared.condition.Passage.TheVariants as G
+use Rattle.lc_cond.specs.declared.making.Head.{Head}
 use Rattle.lc_cond.specs.declared.matching.Acting.{Acting}
 use Rattle.lc_cond.specs.declared.scene.Scene.{Scene}
 
@@ -98,6 +102,10 @@ path_conditions_in s j hs p = path_conditions (development_in s) (code_in s) s.c
 -- what holds of what a path of the code stands for
 abbrev pub Along : Table → P.Path → (Path → Type 0) → Type 0
 Along ts path P = (p : Path) → HasPath ts path p → P p
+
+-- what the condition of a duty shares with others
+abbrev pub duty_head : Scene → ℕ → M.Duty → Head
+duty_head s j d = record { kind = K.Owed d.kind; variables = s.count; point = Some s.code.now.point; passage = G.Edge s.code.now.kind; path = Some j }
 
 -- what the marks of this path of the code ask for is added
 abbrev pub MakesDuties : Scene → ℕ → P.Path → List C.Condition → List C.Condition → Type 0

@@ -8,7 +8,7 @@ ghost use Rattle.lc_term.specs.Tables.{Keeps};
 ghost use Rattle.lc_action.specs.ActionView.{first_of};
 ghost use Rattle.lc_cond.specs.Adding.{HasColumns, Adds, Under, Over};
 ghost use Rattle.lc_cond.specs.Heads.{MakesOne};
-ghost use Rattle.lc_cond.specs.Scenes.{IsScene, MakesDuties, reply_conditions, next_conditions};
+ghost use Rattle.lc_cond.specs.Scenes.{IsScene, duty_head, MakesDuties, reply_conditions, next_conditions};
 
 use crate::condition::{Condition, Kind, Passage, Which};
 use crate::entering::joined;
@@ -52,8 +52,7 @@ fn push_duty(
     duty: &Duty,
     conditions: &mut Vec<Condition>,
 ) -> Result<(), OutOfMemory>
-    ensures { let head = record { kind = Kind.Owed duty.now.kind; variables = scene.now.count; point = Some scene.now.code.now.point; passage = Passage.Edge scene.now.code.now.kind; path = Some number } in
-        OnOk result (MakesOne head (Which.Numbered duty.now.rider) known.items duty.now.goal conditions.old.items conditions.new.items) }
+    ensures { OnOk result (MakesOne (duty_head scene.now number duty.now) (Which.Numbered duty.now.rider) known.items duty.now.goal conditions.old.items conditions.new.items) }
 {
     let head = on_path(scene, Kind::Owed(duty.kind), number);
     let which = Which::Numbered(duty.rider);

@@ -2,6 +2,7 @@
 ghost use Rattle.std.specs.Prelude.{◌≡◌, ◌+◌, ◌++◌, map, length, None, Some, IfOk, OnOk};
 ghost use Rattle.lc_term.specs.Said.{after, told};
 ghost use Rattle.lc_term.specs.Syntax.{Base};
+ghost use Rattle.lc_term.specs.Put.{columns_in};
 ghost use Rattle.lc_term.specs.PutNumbers.{AreColumns};
 ghost use Rattle.lc_term.specs.Tables.{Keeps};
 ghost use Rattle.lc_action.specs.Action.{enter};
@@ -24,7 +25,7 @@ use lc_action::{Before, SystemColumns, enter, store_together};
 use lc_base::{ColId, OpId, OutOfMemory};
 use lc_object::Operation;
 use lc_outline::Development;
-use lc_term::{ColExprId, FormulaId, PutNumbers, TermId, Terms};
+use lc_term::{ColExpr, ColExprId, FormulaId, PutNumbers, TermId, Terms};
 use std::alloc::Global;
 
 // How many variables there are where a call of this operation begins.
@@ -48,7 +49,25 @@ fn at_entry(kind: Kind, variables: u32, body: &Operation) -> Head
     }
 }
 
-// The columns behind `enter`, where a call of this operation begins, entered.
+// The columns behind `enter`, where a call of this operation begins.
+fn stored_columns(
+    alloc: Global,
+    system: SystemColumns,
+    operation: OpId,
+    count: usize,
+) -> Result<Vec<(ColId, ColExpr)>, OutOfMemory>
+    ensures { IfOk result (λ columns. columns_in columns.items ≡ after Base (enter_variables operation.0 count) (enter (first_of system)).updates) }
+{
+    let action = enter(alloc, system)?;
+    let variables = enter_variables(alloc, operation, count)?;
+    let before = Before {
+        columns: &[],
+        variables: &variables,
+    };
+    store_together(alloc, before, &action.updates)
+}
+
+// The same, entered.
 fn entered_columns(
     alloc: Global,
     terms: &mut Terms,
@@ -59,13 +78,7 @@ fn entered_columns(
     ensures list { IfOk result (λ columns. HasColumns terms.new columns.items (after Base (enter_variables operation.0 count) (enter (first_of system)).updates)) }
     ensures kept { Keeps terms.old terms.new }
 {
-    let action = enter(alloc, system)?;
-    let variables = enter_variables(alloc, operation, count)?;
-    let before = Before {
-        columns: &[],
-        variables: &variables,
-    };
-    let columns = store_together(alloc, before, &action.updates)?;
+    let columns = stored_columns(alloc, system, operation, count)?;
     terms.enter_columns(alloc, &columns)
 }
 

@@ -69,11 +69,7 @@ fn is_unwritten(terms: &Terms, left: ColExprId, right: ColExprId, column: ColId)
 
 // What stands in a cell of a column, where the cell is the variable of one more quantifier.
 #[tactic(auto, using(lc_term::proofs::Later::kept_on))]
-fn raised_cell(
-    alloc: Global,
-    terms: &mut Terms,
-    column: ColExprId,
-) -> Result<TermId, OutOfMemory>
+fn raised_cell(alloc: Global, terms: &mut Terms, column: ColExprId) -> Result<TermId, OutOfMemory>
     requires { IsColumn terms.old column }
     ensures id { IfOk result (λ k. HasTerm terms.new k (Read (replace_column raising (column_in terms.old column)) (Bound 0))) }
     ensures kept { Keeps terms.old terms.new }

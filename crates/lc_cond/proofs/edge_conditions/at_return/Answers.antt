@@ -1,8 +1,7 @@
-use Rattle.std.proofs.Common.{◌≡◌, ℕ, ap, ap₂, sym, subst, ◌∙◌, pos}
-use Rattle.lc_base.specs.declared.ids.ColId.{ColId}
+use Rattle.std.proofs.Common.{rules, ◌≡◌, ap, sym, subst, ◌∙◌, pos}
 use Rattle.lc_term.specs.PutNumbers.{AreColumns, columns_at}
 use Rattle.lc_term.specs.Said.{put}
-use Rattle.lc_term.specs.Syntax.{Term, Column, Variable, Number}
+use Rattle.lc_term.specs.Syntax.{Variable, Number}
 use Rattle.lc_term.specs.Tables.{term_in}
 use Rattle.lc_term.proofs.ByNumber.{are_columns_later}
 use Rattle.lc_term.proofs.Later.{kept_on, term_is, term_later, is_term_later}

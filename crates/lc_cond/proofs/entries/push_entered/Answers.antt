@@ -1,6 +1,5 @@
 use Rattle.std.proofs.Common.{◌++◌, map, ap, ap₂, sym, subst, ◌∙◌}
 use Rattle.std.proofs.lemmas.Result.{on_ok_weaker}
-use Rattle.lc_term.specs.PutNumbers.{AreTerms}
 use Rattle.lc_term.specs.Said.{told}
 use Rattle.lc_term.specs.Tables.{AreFormulas}
 use Rattle.lc_term.proofs.ByNumber.{are_columns_later}

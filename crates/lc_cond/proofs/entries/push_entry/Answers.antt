@@ -1,4 +1,4 @@
-use Rattle.std.proofs.Common.{◌≡◌, ℕ, ◌++◌, map, ap, ap₂, subst, ◌∙◌}
+use Rattle.std.proofs.Common.{◌≡◌, ℕ, ◌++◌, map, ap₂, subst}
 use Rattle.std.proofs.lemmas.Result.{on_ok_weaker}
 use Rattle.lc_term.specs.Said.{after, told}
 use Rattle.lc_term.specs.Syntax.{Column, Variable, Base}
@@ -8,7 +8,7 @@ use Rattle.lc_action.specs.Action.{enter}
 use Rattle.lc_action.specs.ActionView.{first_of}
 use Rattle.lc_outline.specs.Development.{invariant_of, asserts_at, first_system}
 use Rattle.lc_outline.specs.DevelopmentView.{development_shown}
-use Rattle.lc_cond.specs.Adding.{HasColumns, Adds}
+use Rattle.lc_cond.specs.Adding.{Adds}
 use Rattle.lc_cond.specs.Conditions as S
 use Rattle.lc_cond.specs.Conditions.{conditions_of, at_entry, range, idle_frame, enter_variables, entered, entry_variables}
 use Rattle.lc_cond.proofs.Adding.{formulas_listed, columns_later, columns_listed}

@@ -1,11 +1,6 @@
-use Rattle.std.proofs.Common.{map, ap, sym, subst, ◌∙◌}
-use Rattle.lc_term.specs.Syntax.{Variable}
-use Rattle.lc_term.specs.Tables.{HasFormula}
-use Rattle.lc_term.specs.View.{term_of}
+use Rattle.std.proofs.Common.{ap, ◌∙◌}
 use Rattle.lc_term.specs.Put.{columns_in}
 use Rattle.lc_term.proofs.Later.{formula_later}
-use Rattle.lc_action.specs.Action.{guard_for, post_columns}
-use Rattle.lc_action.specs.ActionView.{action_of}
 use Rattle.lc_cond.proofs.matching.entered_action.Goals as goal
 
 pub returns-clause-guard : goal.returns-clause-guard

@@ -1,4 +1,4 @@
-use Rattle.std.proofs.Common.{◌∙◌, sym, subst, get_or}
+use Rattle.std.proofs.Common.{◌∙◌, sym, subst}
 use Rattle.std.proofs.lemmas.List.{take_all}
 use Rattle.lc_cond.proofs.Columned.{HasNone, none_more, none_stored}
 use Rattle.lc_cond.proofs.matching.is_absent.Goals as goal

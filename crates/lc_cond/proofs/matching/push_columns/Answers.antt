@@ -1,4 +1,4 @@
-use Rattle.std.proofs.Common.{◌≡◌, refl, ap, subst, arith}
+use Rattle.std.proofs.Common.{◌≡◌, refl, subst, arith}
 use Rattle.lc_term.proofs.ByNumber.{are_columns_later}
 use Rattle.lc_term.proofs.Later.{kept_on}
 use Rattle.lc_cond.specs.Adding.{Adds}

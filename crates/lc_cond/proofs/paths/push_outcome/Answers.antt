@@ -1,4 +1,4 @@
-use Rattle.std.proofs.Common.{◌++◌, refl, subst, sym, ◌∙◌}
+use Rattle.std.proofs.Common.{◌++◌, refl, subst, sym}
 use Rattle.std.proofs.lemmas.Result.{on_ok_weaker}
 use Rattle.lc_term.specs.PutNumbers.{AreColumns, columns_at}
 use Rattle.lc_term.specs.Syntax.{Column}

@@ -1,4 +1,4 @@
-use Rattle.std.proofs.Common.{◌++◌, ap, ap₂, subst, ◌∙◌}
+use Rattle.std.proofs.Common.{◌++◌, subst, ◌∙◌}
 use Rattle.std.proofs.lemmas.Result.{on_ok_weaker}
 use Rattle.lc_term.specs.Tables.{formulas_in}
 use Rattle.lc_cond.specs.Adding.{Adds}
