@@ -3,8 +3,16 @@ pub mod PathLaw
 pub mod PathTaken
 pub mod Lists
 pub mod PathLater
+pub mod Placed
+pub mod Saying
+pub mod Reading
+pub mod Guarding
 pub mod PathSteps
 pub mod PathParts
 pub mod Marked
+pub mod MarkStores
 pub mod Assigned
 pub mod Ridden
+pub mod PathsAdded
+pub mod SaidStill
+pub mod BranchesTaken

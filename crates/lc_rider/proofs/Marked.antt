@@ -40,15 +40,16 @@ three (suc (suc (suc n))) a b c =
     ap (λ k. take k (a ∷ b ∷ c ∷ [])) all ∙ sym (take_all (suc (suc (suc n))) (a ∷ b ∷ c ∷ []) (omega arith))
 
 -- the client, and its arguments in these columns
-pub call_is : (σ ρ : ℕ → Column) (first n k : ℕ) (args cells : List ColId) (c : Term) (before after : List Term) →
-    map (λ (x : ColId). x.0) args ≡ arg_columns first → k ≡ min n 3 → cells ≡ take k args → ρ ≡ σ → before ≡ Number (pos 0) ∷ c ∷ [] →
-    after ≡ before ++ reads ρ (map (λ (x : ColId). x.0) cells) c → after ≡ S.branch_variables σ first n c
-call_is σ ρ first n k args cells c before after ea ek ec er eb e =
+pub call_is : (σ ρ : ℕ → Column) (first n k : ℕ) (args cells : List ColId) (c d : Term) (before after : List Term) →
+    map (λ (x : ColId). x.0) args ≡ arg_columns first → k ≡ min n 3 → cells ≡ take k args → ρ ≡ σ → d ≡ c → before ≡ Number (pos 0) ∷ c ∷ [] →
+    after ≡ before ++ reads ρ (map (λ (x : ColId). x.0) cells) d → after ≡ S.branch_variables σ first n c
+call_is σ ρ first n k args cells c d before after ea ek ec er ed eb e =
     let numbers : map (λ (x : ColId). x.0) cells ≡ take (min n 3) (arg_columns first) =
     ap (map (λ (x : ColId). x.0)) ec ∙ (sym (take-map (λ (x : ColId). x.0) k args) ∙ ap₂ (λ (j : ℕ) (xs : List ℕ). take j xs) ek ea) in
     let cell : ℕ → Term = λ j. Read (σ j) c in
-    let seen : reads ρ (map (λ (x : ColId). x.0) cells) c ≡ take n (reads σ (arg_columns first) c) =
-    ap₂ (λ (τ : ℕ → Column) (xs : List ℕ). reads τ xs c) er numbers
+    let seen : reads ρ (map (λ (x : ColId). x.0) cells) d ≡ take n (reads σ (arg_columns first) c) =
+    ap₂ (λ (τ : ℕ → Column) (xs : List ℕ). reads τ xs d) er numbers
+    ∙ ap (reads σ (take (min n 3) (arg_columns first))) ed
     ∙ (sym (take-map cell (min n 3) (arg_columns first)) ∙ three n (cell (2 + first)) (cell (3 + first)) (cell (4 + first))) in
     e ∙ ap₂ (λ (xs ys : List Term). xs ++ ys) eb seen
 

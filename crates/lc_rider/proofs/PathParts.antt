@@ -1,43 +1,66 @@
 -- The parts of a path of the code: facts, and duties that know some of them.
-use Rattle.std.proofs.Common.{◌≡◌, ℕ, List, [], ◌∷◌, ◌++◌, length, map, sym, ap, ◌∙◌, subst}
-use Rattle.std.proofs.lemmas.List.{map-append, length-map}
-use Rattle.lc_term.specs.Syntax as S
-use Rattle.lc_term.specs.Syntax.{Column}
-use Rattle.lc_term.specs.View.{formula_of, formulas_of}
-use Rattle.lc_term.specs.declared.formula.Formula.{Formula}
-use Rattle.lc_rider.specs.Paths.{Path, with_fact}
-use Rattle.lc_rider.specs.DutyView.{AreKnown, owed_of, duty_in}
+use Rattle.std.proofs.Common.{◌≡◌, ℕ, List, [], ◌∷◌, ◌++◌, length, map, refl, sym, ap, ◌∙◌, subst}
+use Rattle.std.proofs.lemmas.List.{length-map}
+use Rattle.lc_base.specs.declared.ids.ColId.{ColId}
+use Rattle.lc_term.specs.NodeTables.{Table}
+use Rattle.lc_term.specs.PutNumbers.{columns_at, AreColumns}
+use Rattle.lc_term.specs.Syntax.{Column, Formula}
+use Rattle.lc_term.specs.Tables.{formula_in, formulas_in, AreFormulas, HasFormula, Keeps}
+use Rattle.lc_term.specs.declared.node.ColExprId.{ColExprId}
+use Rattle.lc_term.specs.declared.node.FormulaId.{FormulaId}
+use Rattle.lc_term.proofs.Later.{are_formulas_pushed, formulas_pushed, keeps_itself}
+use Rattle.lc_rider.specs.Paths as S
+use Rattle.lc_rider.specs.Paths.{with_fact}
+use Rattle.lc_rider.specs.DutyView.{AreKnown, AreGoals, owed_in, duty_in}
+use Rattle.lc_rider.specs.PathView.{path_in, IsPath, HasPath, with_columns}
 use Rattle.lc_rider.specs.declared.duty.Duty.{Duty}
+use Rattle.lc_rider.specs.declared.path.Path.{Path}
+use Rattle.lc_rider.proofs.PathLater.{has_path_later}
 use Rattle.lc_rider.proofs.PathSteps.{AreOwed, duties_kept}
 
--- the path of these parts
-abbrev pub made : (ℕ → Column) → List Formula → List Duty → Path
-made σ fs ds = record { columns = σ; facts = formulas_of fs; duties = map (duty_in (formulas_of fs)) (map owed_of ds) }
-
-known_to : (n : ℕ) (ds : List Duty) → AreKnown n ds → AreOwed n (map owed_of ds)
-known_to n [] h = tt
-known_to n (d ∷ ds) h = (h.0, known_to n ds h.1)
-
-known_from : (n : ℕ) (ds : List Duty) → AreOwed n (map owed_of ds) → AreKnown n ds
-known_from n [] h = tt
-known_from n (d ∷ ds) h = (h.0, known_from n ds h.1)
-
-same_length : (fs gs : List Formula) → formulas_of gs ≡ formulas_of fs → length gs ≡ length fs
-same_length fs gs e = sym (length-map gs formula_of) ∙ (ap length e ∙ length-map fs formula_of)
-
--- copies of facts and of duties
-pub copies_known : (fs gs : List Formula) (ds es : List Duty) → formulas_of gs ≡ formulas_of fs → map owed_of es ≡ map owed_of ds → AreKnown (length fs) ds → AreKnown (length gs) es
-copies_known fs gs ds es f d h =
-    known_from (length gs) es (subst (λ xs. AreOwed (length gs) xs) (sym d) (known_to (length gs) ds (subst (λ n. AreKnown n ds) (sym (same_length fs gs f)) h)))
+known_to : (ts : Table) (n : ℕ) (ds : List Duty) → AreKnown n ds → AreOwed n (map (owed_in ts) ds)
+known_to ts n [] h = tt
+known_to ts n (d ∷ ds) h = (h.0, known_to ts n ds h.1)
 
 -- facts as they are seen are as many
-known_seen : (fs : List Formula) (ds : List Duty) → AreKnown (length fs) ds → AreKnown (length (formulas_of fs)) ds
-known_seen fs ds h = subst (λ n. AreKnown n ds) (sym (length-map fs formula_of)) h
+known_seen : (ts : Table) (fs : List FormulaId) (ds : List Duty) → AreKnown (length fs) ds → AreKnown (length (formulas_in ts fs)) ds
+known_seen ts fs ds h = subst (λ n. AreKnown n ds) (sym (length-map fs (formula_in ts))) h
 
 -- one more fact
-pub fact_put : (σ : ℕ → Column) (fs gs : List Formula) (f : Formula) (ds : List Duty) → gs ≡ fs ++ f ∷ [] → AreKnown (length fs) ds → made σ gs ds ≡ with_fact (made σ fs ds) (formula_of f)
-fact_put σ fs gs f ds e h =
-    let seen : formulas_of gs ≡ formulas_of fs ++ formula_of f ∷ [] = ap formulas_of e ∙ map-append formula_of fs (f ∷ []) in
-    let kept = duties_kept (formulas_of fs) (formula_of f) (map owed_of ds) (known_to (length (formulas_of fs)) ds (known_seen fs ds h)) in
-    let duties : map (duty_in (formulas_of gs)) (map owed_of ds) ≡ map (duty_in (formulas_of fs)) (map owed_of ds) = ap (λ (xs : List S.Formula). map (duty_in xs) (map owed_of ds)) seen ∙ kept in
-    λ i. record { columns = σ; facts = seen i; duties = duties i }
+pub fact_put : (ts : Table) (p r : Path) (k : FormulaId) → r.facts.items ≡ p.facts.items ++ k ∷ [] → r.columns.items ≡ p.columns.items → r.marks.items ≡ p.marks.items →
+    (q : S.Path) (f : Formula) → HasPath ts p q → HasFormula ts k f → HasPath ts r (with_fact q f)
+fact_put ts p r k facts columns marks q f h at =
+    let fs = p.facts.items in
+    let ds = p.marks.items in
+    let seen : formulas_in ts r.facts.items ≡ formulas_in ts fs ++ f ∷ [] = ap (formulas_in ts) facts ∙ formulas_pushed ts ts fs k f h.is.facts (keeps_itself ts) at in
+    let kept = duties_kept (formulas_in ts fs) f (map (owed_in ts) ds) (known_to ts (length (formulas_in ts fs)) ds (known_seen ts fs ds p.are_known)) in
+    let duties : map (duty_in (formulas_in ts r.facts.items)) (map (owed_in ts) r.marks.items) ≡ map (duty_in (formulas_in ts fs)) (map (owed_in ts) ds) =
+    (λ i. map (duty_in (seen i)) (map (owed_in ts) (marks i))) ∙ kept in
+    let path : path_in ts r ≡ with_fact (path_in ts p) f = λ i. record { columns = columns_at ts (columns i); facts = seen i; duties = duties i } in
+    record {
+      is = record {
+        facts = subst (AreFormulas ts) (sym facts) (are_formulas_pushed ts ts fs k f h.is.facts (keeps_itself ts) at);
+        columns = subst (AreColumns ts) (sym columns) h.is.columns;
+        goals = subst (AreGoals ts) (sym marks) h.is.goals;
+      };
+      path = path ∙ ap (λ (x : S.Path). with_fact x f) h.path;
+    }
+
+-- other columns, in a later table
+pub columns_put : (old new : Table) (p r : Path) (cs : List (ColId × ColExprId)) (σ : ℕ → Column) → IsPath old p → Keeps old new → r.facts.items ≡ p.facts.items → r.columns.items ≡ cs →
+    r.marks.items ≡ p.marks.items → AreColumns new cs → columns_at new cs ≡ σ → HasPath new r (with_columns (path_in old p) σ)
+columns_put old new p r cs σ h kept facts columns marks are at =
+    let later = has_path_later old new p (path_in old p) (record { is = h; path = refl }) kept in
+    record {
+      is = record {
+        facts = subst (AreFormulas new) (sym facts) later.is.facts;
+        columns = subst (AreColumns new) (sym columns) are;
+        goals = subst (AreGoals new) (sym marks) later.is.goals;
+      };
+      path = (λ i. record {
+        columns = columns_at new (columns i);
+        facts = formulas_in new (facts i);
+        duties = map (duty_in (formulas_in new (facts i))) (map (owed_in new) (marks i));
+      })
+          ∙ (λ i. with_columns (later.path i) (at i));
+    }

@@ -26,7 +26,7 @@ duties_kept fs f (d ∷ ds) h =
 
 -- ---- columns
 
-puts-append : (σ : ℕ → Column) (us vs : List Update) → puts σ (us ++ vs) ≡ puts (puts σ us) vs
+pub puts-append : (σ : ℕ → Column) (us vs : List Update) → puts σ (us ++ vs) ≡ puts (puts σ us) vs
 puts-append σ [] vs = refl
 puts-append σ (u ∷ us) vs = puts-append (put σ u) us vs
 

@@ -6,3 +6,4 @@ pub mod DutyView
 pub mod Stored
 pub mod PathView
 pub mod MarkView
+pub mod PathsAdded

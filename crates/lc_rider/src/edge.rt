@@ -1,6 +1,6 @@
 ghost use Rattle.std.specs.Prelude.{◌≡◌, IfOk, map, slice_set};
-ghost use Rattle.lc_term.specs.PutNumbers.{columns_at, AreColumns};
 ghost use Rattle.lc_term.specs.Said.{variables_from};
+ghost use Rattle.lc_term.specs.PutNumbers.{columns_at, AreColumns};
 ghost use Rattle.lc_term.specs.Tables.{Keeps};
 ghost use Rattle.lc_term.specs.Updates.{assigned};
 ghost use Rattle.lc_term.specs.View.{term_of};
@@ -90,7 +90,7 @@ fn edge_columns(
     code: &lc_object::Edge,
 ) -> Result<Vec<(ColId, ColExprId)>, OutOfMemory>
     ensures are { IfOk result (λ columns. AreColumns terms.new columns.items) }
-    ensures columns { IfOk result (λ columns. columns_at terms.new columns.items ≡ edge_columns (edge_of code.now)) }
+    ensures trees { IfOk result (λ columns. columns_at terms.new columns.items ≡ edge_columns (edge_of code.now)) }
     ensures kept { Keeps terms.old terms.new }
 {
     let mut columns = Vec::new(alloc);

@@ -1,4 +1,4 @@
-ghost use Rattle.std.specs.Prelude.{◌≡◌, ◌++◌, IfOk, OnOk, List, map};
+ghost use Rattle.std.specs.Prelude.{IfOk, OnOk, map};
 ghost use Rattle.lc_term.specs.Lists.{concat_map};
 ghost use Rattle.lc_term.specs.PutNumbers.{terms_in, AreTerms};
 ghost use Rattle.lc_term.specs.Replacement.{replacing, replace_term};
@@ -11,9 +11,9 @@ ghost use Rattle.lc_seq.specs.TextView.{specification_of};
 ghost use Rattle.lc_object.specs.EdgeView.{edge_of};
 ghost use Rattle.lc_action.specs.ActionView.{first_of};
 ghost use Rattle.lc_rider.specs.MarkView.{marking_of, with_duties};
-ghost use Rattle.lc_rider.specs.Paths as S;
 ghost use Rattle.lc_rider.specs.Paths.{mark_duties, branch_paths, deed_paths, rider_paths, paths, edge_variables, path_start};
-ghost use Rattle.lc_rider.specs.PathView.{path_in, IsPath, ArePaths, HasPath, HavePaths, with_columns};
+ghost use Rattle.lc_rider.specs.PathView.{path_in, with_columns, IsPath, ArePaths, HasPath, HavePaths};
+ghost use Rattle.lc_rider.specs.PathsAdded.{AddsPaths};
 ghost use Rattle.lc_rider.specs.RiderView.{rider_of, riders_of};
 
 use crate::edge::{Edge, edge_variables, path_start};
@@ -47,8 +47,8 @@ fn updated(
 ) -> Result<Path, OutOfMemory>
     requires path { IsPath terms.old path }
     requires variables { AreTerms terms.old variables.now }
-    ensures path { IfOk result (λ r. HasPath terms.new r
-        (with_columns (path_in terms.old path) (put (path_in terms.old path).columns (said (path_in terms.old path).columns (terms_in terms.old variables.now) (update_of update.now))))) }
+    ensures path { let p = path_in terms.old path in
+        IfOk result (λ r. HasPath terms.new r (with_columns p (put p.columns (said p.columns (terms_in terms.old variables.now) (update_of update.now))))) }
     ensures kept { Keeps terms.old terms.new }
 {
     let index = path.said_before(alloc, terms, variables, &update.index)?;
@@ -75,8 +75,8 @@ fn marked(
         let operations = (specification_of riding.entry.specification.now).operations in
         let first = first_of riding.entry.system in
         let bs = op_branches operations operation.0 in
-        OnOk result ((qs : List S.Path) → HavePaths terms.old paths.old.items qs → HavePaths terms.new paths.new.items (qs ++
-        branch_paths operations first rider operation.0 (marking_of marking c) c bs
+        OnOk result (AddsPaths paths.old.items terms.new paths.new.items
+        (branch_paths operations first rider operation.0 (marking_of marking c) c bs
         (with_duties p (mark_duties operations first rider operation.0 (marking_of marking c) p c bs)))) }
     ensures kept { Keeps terms.old terms.new }
 {
@@ -104,8 +104,8 @@ fn deed_paths(
 ) -> Result<(), OutOfMemory>
     requires path { IsPath terms.old path }
     requires variables { AreTerms terms.old riding.variables.now }
-    ensures paths { OnOk result ((qs : List S.Path) → HavePaths terms.old paths.old.items qs → HavePaths terms.new paths.new.items (qs ++
-        deed_paths (specification_of riding.entry.specification.now).operations (first_of riding.entry.system) number riding.entry.operation.0
+    ensures paths { OnOk result (AddsPaths paths.old.items terms.new paths.new.items
+        (deed_paths (specification_of riding.entry.specification.now).operations (first_of riding.entry.system) number riding.entry.operation.0
         (terms_in terms.old riding.entry.variables.now) (rider_of rider.now).deed (path_in terms.old path))) }
     ensures kept { Keeps terms.old terms.new }
 {
@@ -170,8 +170,8 @@ fn rider_paths(
 ) -> Result<(), OutOfMemory>
     requires path { IsPath terms.old path }
     requires variables { AreTerms terms.old riding.variables.now }
-    ensures paths { OnOk result ((qs : List S.Path) → HavePaths terms.old paths.old.items qs → HavePaths terms.new paths.new.items (qs ++
-        rider_paths (specification_of riding.entry.specification.now).operations (first_of riding.entry.system) number riding.entry.operation.0
+    ensures paths { OnOk result (AddsPaths paths.old.items terms.new paths.new.items
+        (rider_paths (specification_of riding.entry.specification.now).operations (first_of riding.entry.system) number riding.entry.operation.0
         (terms_in terms.old riding.entry.variables.now) (rider_of rider.now) (path_in terms.old path))) }
     ensures kept { Keeps terms.old terms.new }
 {
@@ -234,9 +234,9 @@ fn ridden(
     Ok(paths)
 }
 
-/// The paths of an edge, of numbers of the table. Each fixes, of every rider in turn, whether its condition holds, and of
-/// every mark which branch it takes; the first rider varies slowest, a condition holds first, and branches come in their
-/// order. Nothing else can fail than memory.
+/// The paths of an edge. Each fixes, of every rider in turn, whether its condition holds, and of every mark which branch
+/// it takes; the first rider varies slowest, a condition holds first, and branches come in their order. What they are made
+/// of is entered in the table. Nothing else can fail than memory.
 pub fn paths(
     alloc: Global,
     terms: &mut Terms,

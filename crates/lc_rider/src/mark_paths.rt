@@ -1,6 +1,5 @@
-ghost use Rattle.std.specs.Prelude.{◌≡◌, ◌++◌, IfOk, OnOk, List, map};
+ghost use Rattle.std.specs.Prelude.{◌≡◌, IfOk, OnOk};
 ghost use Rattle.lc_term.specs.PutNumbers.{terms_in, AreTerms};
-ghost use Rattle.lc_term.specs.Syntax.{Formula};
 ghost use Rattle.lc_term.specs.Tables.{term_in, formula_in, IsTerm, IsFormula, HasFormula, Keeps};
 ghost use Rattle.lc_term.specs.UpdateView.{updates_of};
 ghost use Rattle.lc_seq.specs.Branches.{op_branches};
@@ -8,9 +7,9 @@ ghost use Rattle.lc_seq.specs.SpecView.{branch_of, branches_of};
 ghost use Rattle.lc_seq.specs.TextView.{specification_of};
 ghost use Rattle.lc_action.specs.ActionView.{first_of};
 ghost use Rattle.lc_rider.specs.MarkView.{marking_of, with_duties, branch_path};
-ghost use Rattle.lc_rider.specs.Paths as S;
 ghost use Rattle.lc_rider.specs.Paths.{is_empty, named_duty, mark_variables, mark_duties, branch_paths};
-ghost use Rattle.lc_rider.specs.PathView.{path_in, IsPath, HasPath, HavePaths};
+ghost use Rattle.lc_rider.specs.PathView.{path_in, IsPath, HasPath};
+ghost use Rattle.lc_rider.specs.PathsAdded.{AddsPaths};
 
 use crate::duty::Owing;
 use crate::marked_columns::marked_columns;
@@ -29,7 +28,8 @@ fn with_named_duty(terms: &mut Terms, mark: Mark<'_>, path: Path) -> Result<Path
     requires client { IsTerm terms.old mark.client }
     ensures path { let c = term_in terms.old mark.entry.client in
         IfOk result (λ r. HasPath terms.new r (with_duties (path_in terms.old path)
-        (named_duty (specification_of mark.entry.specification.now).operations (first_of mark.entry.system) mark.entry.rider (marking_of mark.entry.marking c) (path_in terms.old path) c))) }
+        (named_duty (specification_of mark.entry.specification.now).operations (first_of mark.entry.system) mark.entry.rider
+        (marking_of mark.entry.marking c) (path_in terms.old path) c))) }
     ensures kept { Keeps terms.old terms.new }
 {
     let Marking::Other(operation) = mark.marking else {
@@ -42,6 +42,7 @@ fn with_named_duty(terms: &mut Terms, mark: Mark<'_>, path: Path) -> Result<Path
 }
 
 // What a mark asks for before one of these branches is taken.
+#[tactic(auto, using(lc_term::proofs::Later::kept_on, lc_term::proofs::Later::is_term_still, lc_term::proofs::Later::is_formula_later, lc_term::proofs::ByNumber::are_terms_later, crate::proofs::PathLater::is_path_later))]
 fn with_mark_duties(
     alloc: Global,
     terms: &mut Terms,
@@ -52,7 +53,7 @@ fn with_mark_duties(
 ) -> Result<Path, OutOfMemory>
     requires path { IsPath terms.old path }
     requires client { IsTerm terms.old mark.client }
-    requires are { AreTerms terms.old variables.now }
+    requires terms { AreTerms terms.old variables.now }
     requires variables { terms_in terms.old variables.now ≡
         mark_variables (specification_of mark.specification.now).operations (first_of mark.system) mark.operation.0 (path_in terms.old path) (term_in terms.old mark.client) }
     ensures path { let c = term_in terms.old mark.entry.client in
@@ -85,6 +86,7 @@ fn stores_nothing(
 }
 
 // The path on which this branch is taken, its guard being said of the state before the edge.
+#[tactic(auto, using(lc_term::proofs::Later::kept_on))]
 fn taken(
     alloc: Global,
     terms: &mut Terms,
@@ -96,10 +98,12 @@ fn taken(
 ) -> Result<Path, OutOfMemory>
     requires path { IsPath terms.old path }
     requires guard { IsFormula terms.old guard }
+    requires client { IsTerm terms.old mark.client }
     requires variables { AreTerms terms.old variables.now }
     ensures path { IfOk result (λ r. HasPath terms.new r
         (branch_path (specification_of mark.entry.specification.now).operations (first_of mark.entry.system) mark.entry.rider
-        (marking_of mark.entry.marking (term_in terms.old mark.entry.client)) (terms_in terms.old variables.now) (branch_of branch.now) (formula_in terms.old guard) (path_in terms.old path))) }
+        (marking_of mark.entry.marking (term_in terms.old mark.entry.client)) (terms_in terms.old variables.now) (branch_of branch.now)
+        (formula_in terms.old guard) (path_in terms.old path))) }
     ensures kept { Keeps terms.old terms.new }
 {
     let columns = marked_columns(alloc, terms, mark, &path, variables, branch)?;
@@ -113,6 +117,7 @@ fn taken(
 }
 
 // A path for each branch, behind other paths: the guards of the branches before it fail, and its own holds.
+#[tactic(auto, using(lc_term::proofs::Later::kept_on, lc_term::proofs::Later::is_term_still, lc_term::proofs::Later::is_formula_later, lc_term::proofs::ByNumber::are_terms_later, crate::proofs::PathLater::is_path_later))]
 fn branch_paths(
     alloc: Global,
     terms: &mut Terms,
@@ -124,12 +129,12 @@ fn branch_paths(
 ) -> Result<(), OutOfMemory>
     requires path { IsPath terms.old path }
     requires client { IsTerm terms.old mark.client }
-    requires are { AreTerms terms.old variables.now }
+    requires terms { AreTerms terms.old variables.now }
     requires variables { terms_in terms.old variables.now ≡
         mark_variables (specification_of mark.specification.now).operations (first_of mark.system) mark.operation.0 (path_in terms.old path) (term_in terms.old mark.client) }
     ensures paths { let c = term_in terms.old mark.entry.client in
-        OnOk result ((qs : List S.Path) → HavePaths terms.old paths.old.items qs → HavePaths terms.new paths.new.items (qs ++
-        branch_paths (specification_of mark.entry.specification.now).operations (first_of mark.entry.system) mark.entry.rider mark.entry.operation.0
+        OnOk result (AddsPaths paths.old.items terms.new paths.new.items
+        (branch_paths (specification_of mark.entry.specification.now).operations (first_of mark.entry.system) mark.entry.rider mark.entry.operation.0
         (marking_of mark.entry.marking c) c (branches_of branches.now) (path_in terms.old path))) }
     ensures kept { Keeps terms.old terms.new }
 {
@@ -162,9 +167,10 @@ pub(crate) fn mark_paths(
         let operations = (specification_of mark.entry.specification.now).operations in
         let k = marking_of mark.entry.marking c in
         let bs = op_branches operations mark.entry.operation.0 in
-        OnOk result ((qs : List S.Path) → HavePaths terms.old paths.old.items qs → HavePaths terms.new paths.new.items (qs ++
-        branch_paths operations (first_of mark.entry.system) mark.entry.rider mark.entry.operation.0 k c bs
-        (with_duties (path_in terms.old path) (mark_duties operations (first_of mark.entry.system) mark.entry.rider mark.entry.operation.0 k (path_in terms.old path) c bs)))) }
+        let p = path_in terms.old path in
+        OnOk result (AddsPaths paths.old.items terms.new paths.new.items
+        (branch_paths operations (first_of mark.entry.system) mark.entry.rider mark.entry.operation.0 k c bs
+        (with_duties p (mark_duties operations (first_of mark.entry.system) mark.entry.rider mark.entry.operation.0 k p c bs)))) }
     ensures kept { Keeps terms.old terms.new }
 {
     let branches = operation_branches(mark.specification, mark.operation);

@@ -1,6 +1,7 @@
 ghost use Rattle.std.specs.Prelude.{◌≡◌, IfOk, OnOk, map};
 ghost use Rattle.lc_term.specs.PutNumbers.{columns_at, AreColumns, terms_in, AreTerms};
 ghost use Rattle.lc_term.specs.Said.{puts, said, after, at_client};
+ghost use Rattle.lc_term.specs.Syntax as T;
 ghost use Rattle.lc_term.specs.Tables.{term_in, Keeps};
 ghost use Rattle.lc_term.specs.UpdateView.{updates_of};
 ghost use Rattle.lc_term.specs.View.{term_of};
@@ -24,25 +25,25 @@ use std::alloc::Global;
 fn store_updates(
     alloc: Global,
     terms: &mut Terms,
-    put: PutNumbers<'_>,
+    before: PutNumbers<'_>,
     updates: &[Update],
     columns: &mut Vec<(ColId, ColExprId)>,
 ) -> Result<(), OutOfMemory>
-    requires put { AreColumns terms.old put.columns.now }
-    requires variables { AreTerms terms.old put.variables.now }
+    requires before { AreColumns terms.old before.columns.now }
+    requires variables { AreTerms terms.old before.variables.now }
     requires columns { AreColumns terms.old columns.old.items }
     ensures are { OnOk result (AreColumns terms.new columns.new.items) }
     ensures stored { OnOk result (columns_at terms.new columns.new.items ≡ puts (columns_at terms.old columns.old.items)
-        (map (said (columns_at terms.old put.entry.columns.now) (terms_in terms.old put.entry.variables.now)) (updates_of updates.now))) }
+        (map (said (columns_at terms.old before.entry.columns.now) (terms_in terms.old before.entry.variables.now)) (updates_of updates.now))) }
     ensures kept { Keeps terms.old terms.new }
 {
     for update in updates {
         let index = terms.enter_term(&update.index)?;
-        let index = terms.put_in_term(alloc, put, index)?;
+        let index = terms.put_in_term(alloc, before, index)?;
         store_value(
             alloc,
             terms,
-            put,
+            before,
             columns,
             update.column,
             index,
@@ -56,26 +57,26 @@ fn store_updates(
 fn store_own(
     alloc: Global,
     terms: &mut Terms,
-    put: PutNumbers<'_>,
+    before: PutNumbers<'_>,
     cells: &[ColId],
     values: &[Term],
     columns: &mut Vec<(ColId, ColExprId)>,
 ) -> Result<(), OutOfMemory>
-    requires put { AreColumns terms.old put.columns.now }
-    requires variables { AreTerms terms.old put.variables.now }
+    requires before { AreColumns terms.old before.columns.now }
+    requires variables { AreTerms terms.old before.variables.now }
     requires columns { AreColumns terms.old columns.old.items }
     ensures are { OnOk result (AreColumns terms.new columns.new.items) }
     ensures stored { OnOk result (columns_at terms.new columns.new.items ≡ puts (columns_at terms.old columns.old.items)
-        (map (said (columns_at terms.old put.entry.columns.now) (terms_in terms.old put.entry.variables.now)) (at_client (map (λ c. c.0) cells.now) (map term_of values.now)))) }
+        (map (said (columns_at terms.old before.entry.columns.now) (terms_in terms.old before.entry.variables.now)) (at_client (map (λ c. c.0) cells.now) (map term_of values.now)))) }
     ensures kept { Keeps terms.old terms.new }
 {
     let client = terms.variable(1)?;
-    let client = terms.put_in_term(alloc, put, client)?;
+    let client = terms.put_in_term(alloc, before, client)?;
     for (i, cell) in cells.iter().enumerate() {
         let Some(value) = values.get(i) else {
             return Ok(());
         };
-        store_value(alloc, terms, put, columns, *cell, client, value)?;
+        store_value(alloc, terms, before, columns, *cell, client, value)?;
     }
     Ok(())
 }
@@ -84,24 +85,24 @@ fn store_own(
 fn store_settled(
     alloc: Global,
     terms: &mut Terms,
-    put: PutNumbers<'_>,
+    before: PutNumbers<'_>,
     system: SystemColumns,
     branch: &Branch,
     columns: &mut Vec<(ColId, ColExprId)>,
 ) -> Result<(), OutOfMemory>
-    requires put { AreColumns terms.old put.columns.now }
-    requires variables { AreTerms terms.old put.variables.now }
+    requires before { AreColumns terms.old before.columns.now }
+    requires variables { AreTerms terms.old before.variables.now }
     requires columns { AreColumns terms.old columns.old.items }
     ensures are { OnOk result (AreColumns terms.new columns.new.items) }
     ensures stored { OnOk result (columns_at terms.new columns.new.items ≡ puts (columns_at terms.old columns.old.items)
-        (map (said (columns_at terms.old put.entry.columns.now) (terms_in terms.old put.entry.variables.now)) (mark_updates (first_of system) Own (branch_of branch.now)))) }
+        (map (said (columns_at terms.old before.entry.columns.now) (terms_in terms.old before.entry.variables.now)) (mark_updates (first_of system) Own (branch_of branch.now)))) }
     ensures kept { Keeps terms.old terms.new }
 {
-    store_updates(alloc, terms, put, &branch.updates, columns)?;
+    store_updates(alloc, terms, before, &branch.updates, columns)?;
     store_own(
         alloc,
         terms,
-        put,
+        before,
         &system.replies(),
         &branch.replies,
         columns,
@@ -109,7 +110,7 @@ fn store_settled(
     store_own(
         alloc,
         terms,
-        put,
+        before,
         &[system.pend()],
         &[Term::Number(2)],
         columns,
@@ -120,28 +121,60 @@ fn store_settled(
 fn store_noted(
     alloc: Global,
     terms: &mut Terms,
-    put: PutNumbers<'_>,
+    before: PutNumbers<'_>,
     system: SystemColumns,
     branch: &Branch,
     columns: &mut Vec<(ColId, ColExprId)>,
 ) -> Result<(), OutOfMemory>
-    requires put { AreColumns terms.old put.columns.now }
-    requires variables { AreTerms terms.old put.variables.now }
+    requires before { AreColumns terms.old before.columns.now }
+    requires variables { AreTerms terms.old before.variables.now }
     requires columns { AreColumns terms.old columns.old.items }
     ensures are { OnOk result (AreColumns terms.new columns.new.items) }
     ensures stored { OnOk result (columns_at terms.new columns.new.items ≡ puts (columns_at terms.old columns.old.items)
-        (map (said (columns_at terms.old put.entry.columns.now) (terms_in terms.old put.entry.variables.now)) (mark_updates (first_of system) Note (branch_of branch.now)))) }
+        (map (said (columns_at terms.old before.entry.columns.now) (terms_in terms.old before.entry.variables.now)) (mark_updates (first_of system) Note (branch_of branch.now)))) }
     ensures kept { Keeps terms.old terms.new }
 {
     store_own(
         alloc,
         terms,
-        put,
+        before,
         &[system.noted()],
         &[Term::Number(1)],
         columns,
     )?;
-    store_own(alloc, terms, put, &system.notes(), &branch.replies, columns)
+    store_own(
+        alloc,
+        terms,
+        before,
+        &system.notes(),
+        &branch.replies,
+        columns,
+    )
+}
+
+// What is stored at a mark by this branch.
+fn store_marked(
+    alloc: Global,
+    terms: &mut Terms,
+    before: PutNumbers<'_>,
+    mark: Mark<'_>,
+    branch: &Branch,
+    columns: &mut Vec<(ColId, ColExprId)>,
+) -> Result<(), OutOfMemory>
+    requires before { AreColumns terms.old before.columns.now }
+    requires variables { AreTerms terms.old before.variables.now }
+    requires columns { AreColumns terms.old columns.old.items }
+    ensures are { OnOk result (AreColumns terms.new columns.new.items) }
+    ensures stored { (client : T.Term) → OnOk result (columns_at terms.new columns.new.items ≡ puts (columns_at terms.old columns.old.items)
+        (map (said (columns_at terms.old before.entry.columns.now) (terms_in terms.old before.entry.variables.now))
+        (mark_updates (first_of mark.entry.system) (marking_of mark.entry.marking client) (branch_of branch.now)))) }
+    ensures kept { Keeps terms.old terms.new }
+{
+    match mark.marking {
+        Marking::Own => store_settled(alloc, terms, before, mark.system, branch, columns),
+        Marking::Other(_) => store_settled(alloc, terms, before, mark.system, branch, columns),
+        Marking::Note => store_noted(alloc, terms, before, mark.system, branch, columns),
+    }
 }
 
 /// The columns behind a mark by this branch. In its words variable 1 is the client whose call is marked, and the arguments of
@@ -163,15 +196,8 @@ pub(crate) fn marked_columns(
     ensures kept { Keeps terms.old terms.new }
 {
     let columns = path.columns();
-    let put = PutNumbers { columns, variables };
     let mut stored = Vec::from_slice(alloc, columns)?;
-    match mark.marking {
-        Marking::Own | Marking::Other(_) => {
-            store_settled(alloc, terms, put, mark.system, branch, &mut stored)?;
-        }
-        Marking::Note => {
-            store_noted(alloc, terms, put, mark.system, branch, &mut stored)?;
-        }
-    }
+    let before = PutNumbers { columns, variables };
+    store_marked(alloc, terms, before, mark, branch, &mut stored)?;
     Ok(stored)
 }

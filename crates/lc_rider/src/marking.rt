@@ -79,7 +79,8 @@ fn push_reads(
 {
     for cell in cells {
         let column = terms.stored_column(columns, *cell)?;
-        read.push(terms.read(column, client)?)?;
+        let cell = terms.read(column, client)?;
+        read.push(cell)?;
     }
     Ok(())
 }
@@ -100,7 +101,8 @@ pub(crate) fn call_variables(
     ensures kept { Keeps terms.old terms.new }
 {
     let mut variables = Vec::with_capacity(alloc, 5)?;
-    variables.push(terms.number(0)?)?;
+    let zero = terms.number(0)?;
+    variables.push(zero)?;
     variables.push(mark.client)?;
     let arguments = mark.system.arguments();
     let count = arity(mark.specification, mark.operation).min(3);
@@ -142,7 +144,8 @@ fn guards(
 {
     let mut guards = Vec::with_capacity(alloc, branches.len())?;
     for branch in branches {
-        guards.push(guard_on(alloc, terms, path, variables, branch)?)?;
+        let guard = guard_on(alloc, terms, path, variables, branch)?;
+        guards.push(guard)?;
     }
     Ok(guards)
 }

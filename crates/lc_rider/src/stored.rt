@@ -54,25 +54,25 @@ pub fn store_in(
 pub(crate) fn store_value(
     alloc: Global,
     terms: &mut Terms,
-    put: PutNumbers<'_>,
+    before: PutNumbers<'_>,
     columns: &mut Vec<(ColId, ColExprId)>,
     column: ColId,
     index: TermId,
     value: &Term,
 ) -> Result<(), OutOfMemory>
-    requires put { AreColumns terms.old put.columns.now }
-    requires variables { AreTerms terms.old put.variables.now }
+    requires before { AreColumns terms.old before.columns.now }
+    requires variables { AreTerms terms.old before.variables.now }
     requires columns { AreColumns terms.old columns.old.items }
     requires index { IsTerm terms.old index }
     ensures are { OnOk result (AreColumns terms.new columns.new.items) }
     ensures stored { OnOk result (columns_at terms.new columns.new.items ≡ put (columns_at terms.old columns.old.items) (record {
       column = column.0;
       index = term_in terms.old index;
-      value = replace_term (replacement_at terms.old put.entry.columns.now put.entry.variables.now) (term_of value.now);
+      value = replace_term (replacement_at terms.old before.entry.columns.now before.entry.variables.now) (term_of value.now);
     })) }
     ensures kept { Keeps terms.old terms.new }
 {
     let value = terms.enter_term(value)?;
-    let value = terms.put_in_term(alloc, put, value)?;
+    let value = terms.put_in_term(alloc, before, value)?;
     store_in(terms, columns, column, index, value)
 }

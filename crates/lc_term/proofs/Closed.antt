@@ -19,7 +19,7 @@ mutual
   shifted_closed a c (Read s t) h =
       let p = and_parts (column_passes no_bounds s) (is_closed t) h in ap₂ Read (shifted_closed_column a c s p.0) (shifted_closed a c t p.1)
 
-  shifted_closed_column : (a c : ℕ) (s : Column) → IsTrue (column_passes no_bounds s) → replace_column (shifting a c) s ≡ s
+  pub shifted_closed_column : (a c : ℕ) (s : Column) → IsTrue (column_passes no_bounds s) → replace_column (shifting a c) s ≡ s
   shifted_closed_column a c (Base k) h = refl
   shifted_closed_column a c (Store s t v) h =
       let p = and_parts (column_passes no_bounds s && is_closed t) (is_closed v) h in

@@ -1,20 +1,25 @@
 -- What a walk over a table puts in at a leaf.
-use Rattle.std.proofs.Common.{◌≡◌, ℕ, ◌+◌, ◌-◌, ◌<◌, ◌≤◌, slice_get, Some, ◌⊎◌, inl, inr, refl, subst, sym, ap, ◌∙◌}
+use Rattle.std.proofs.Common.{◌≡◌, ℕ, ◌+◌, ◌-◌, ◌<◌, ◌≤◌, List, slice_get, Some, ◌⊎◌, inl, inr, refl, subst, sym, ap, ◌∙◌}
 use Rattle.std.specs.Prelude.{◌≢◌}
 use Rattle.lc_term.specs.Nodes.{term, column}
 use Rattle.lc_term.specs.NodeTables.{Table}
+use Rattle.lc_base.specs.declared.ids.ColId.{ColId}
 use Rattle.lc_term.specs.declared.node.TermId.{TermId}
+use Rattle.lc_term.specs.declared.node.ColExprId.{ColExprId}
 use Rattle.lc_term.specs.declared.filling.Filling.{Filling}
-use Rattle.lc_term.specs.declared.filling.Filling.TheVariants.{Put, Variable, Opening, Shift}
+use Rattle.lc_term.specs.declared.filling.Filling.TheVariants.{Put, Numbers, Variable, Opening, Shift}
 use Rattle.lc_term.specs.declared.put.Put.{Put as PutIn}
+use Rattle.lc_term.specs.declared.put_numbers.PutNumbers.{PutNumbers}
 use Rattle.lc_term.specs.Filling.{IsFilled}
 use Rattle.lc_term.specs.Put.{replacement_of}
-use Rattle.lc_term.specs.Replacement.{Replacement, under_many}
+use Rattle.lc_term.specs.PutNumbers.{columns_at, terms_in, replacement_at}
+use Rattle.lc_term.specs.Replacement.{Replacement, replace_column, under_many}
+use Rattle.lc_term.specs.Said.{term_at}
 use Rattle.lc_term.specs.Substitution.{putting, opening, shifting, shifted_term}
 use Rattle.lc_term.specs.Syntax as S
 use Rattle.lc_term.specs.Tables.{parts, term_in, HasTerm}
 use Rattle.lc_term.proofs.Later.{term_is}
-use Rattle.lc_term.proofs.Under.{under_many-columns, under_many-variables, under_many-bounds, under_many-putting-same, under_many-putting-other, under_many-opening-here, under_many-opening-inside, under_many-opening-outside, under_many-shifting-inside, under_many-shifting-outside, shifted_none}
+use Rattle.lc_term.proofs.Under.{under_many-columns, under_many-variables, under_many-bounds, under_many-column, under_many-variable, under_many-putting-same, under_many-putting-other, under_many-opening-here, under_many-opening-inside, under_many-opening-outside, under_many-shifting-inside, under_many-shifting-outside}
 
 -- what a replacement keeps stays below quantifiers
 pub column_stays : (r s : Replacement) (d : ℕ) (ts : Table) (k c : ℕ) → r ≡ s → s.columns c ≡ S.Base c → slice_get (parts ts) k ≡ Some (column (S.Base c))
@@ -42,14 +47,24 @@ pub variable_unput : (put : Filling) (r : Replacement) (d : ℕ) (ts : Table) (k
 variable_unput put r d ts k v (inl is) h at = let filled = subst (λ p. IsFilled p ts r) is.1 h in variable_stays r (opening filled.0) d ts k v filled.2 refl at
 variable_unput put r d ts k v (inr is) h at = variable_stays r (shifting is.0 is.1) d ts k v (subst (λ p. IsFilled p ts r) is.2 h) refl at
 
-pub bound_unput : (put : Filling) (r : Replacement) (d : ℕ) (ts : Table) (k b : ℕ) → ((p : PutIn) × (put ≡ Put p)) ⊎ ((v : ℕ) × (u : TermId) × (put ≡ Variable v u))
+pub bound_unput : (put : Filling) (r : Replacement) (d : ℕ) (ts : Table) (k b : ℕ)
+    → ((p : PutIn) × (put ≡ Put p)) ⊎ (((p : PutNumbers) × (put ≡ Numbers p)) ⊎ ((v : ℕ) × (u : TermId) × (put ≡ Variable v u)))
     → IsFilled put ts r → slice_get (parts ts) k ≡ Some (term (S.Bound b)) → slice_get (parts ts) k ≡ Some (term ((under_many d r).bounds b))
 bound_unput put r d ts k b (inl is) h at = bound_stays r (replacement_of is.0) d ts k b (subst (λ p. IsFilled p ts r) is.1 h) (λ n. refl) at
-bound_unput put r d ts k b (inr is) h at = let filled = subst (λ p. IsFilled p ts r) is.2 h in bound_stays r (putting is.0 filled.0) d ts k b filled.2 (λ n. refl) at
+bound_unput put r d ts k b (inr (inl is)) h at =
+    let filled = subst (λ p. IsFilled p ts r) is.1 h in bound_stays r (replacement_at ts is.0.columns.now is.0.variables.now) d ts k b filled.2 (λ n. refl) at
+bound_unput put r d ts k b (inr (inr is)) h at = let filled = subst (λ p. IsFilled p ts r) is.2 h in bound_stays r (putting is.0 filled.0) d ts k b filled.2 (λ n. refl) at
 
--- a term that is raised by no quantifier
-pub raised_nowhere : (ts : Table) (k : TermId) (d : ℕ) → d ≡ 0 → HasTerm ts k (term_in ts k) → HasTerm ts k (shifted_term d 0 (term_in ts k))
-raised_nowhere ts k d none at = at ∙ ap (λ x. Some (term x)) (sym (ap (λ n. shifted_term n 0 (term_in ts k)) none ∙ shifted_none (term_in ts k)))
+-- what is put in by number, below as many quantifiers
+pub numbered_column : (r : Replacement) (old new : Table) (d : ℕ) (ps : List (ColId × ColExprId)) (ks : List TermId) (k c : ℕ) → r ≡ replacement_at old ps ks
+    → slice_get (parts new) k ≡ Some (column (replace_column (shifting d 0) (columns_at old ps c))) → slice_get (parts new) k ≡ Some (column ((under_many d r).columns c))
+numbered_column r old new d ps ks k c same at =
+    at ∙ ap (λ x. Some (column x)) (sym (ap (λ x. (under_many d x).columns c) same ∙ under_many-column d (replacement_at old ps ks) c))
+
+pub numbered_variable : (r : Replacement) (old new : Table) (d : ℕ) (ps : List (ColId × ColExprId)) (ks : List TermId) (k v : ℕ) → r ≡ replacement_at old ps ks
+    → slice_get (parts new) k ≡ Some (term (shifted_term d 0 (term_at (terms_in old ks) v))) → slice_get (parts new) k ≡ Some (term ((under_many d r).variables v))
+numbered_variable r old new d ps ks k v same at =
+    at ∙ ap (λ x. Some (term x)) (sym (ap (λ x. (under_many d x).variables v) same ∙ under_many-variable d (replacement_at old ps ks) v))
 
 -- a term for a free variable
 pub putting_here : (r : Replacement) (d : ℕ) (old new : Table) (t k : TermId) (u : S.Term) (v b : ℕ) → r ≡ putting v u → HasTerm old t u → b ≡ v

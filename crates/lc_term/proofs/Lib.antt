@@ -26,6 +26,7 @@ pub mod Listed
 pub mod Copied
 pub mod NodeReplacement
 pub mod ByNumber
+pub mod NodeClosed
 pub mod Entries
 pub mod Remembered
 pub mod Filled

@@ -13,7 +13,7 @@ use Rattle.lc_term.specs.Nodes.{term, column}
 use Rattle.lc_term.specs.NodeTables.{Table}
 use Rattle.lc_term.specs.NodeReplacement.{as_part, part_in, replaced_part}
 use Rattle.lc_term.specs.declared.filling.Filling.{Filling}
-use Rattle.lc_term.specs.declared.filling.Filling.TheVariants.{Put, Variable, Opening, Shift}
+use Rattle.lc_term.specs.declared.filling.Filling.TheVariants.{Put, Numbers, Variable, Opening, Shift}
 use Rattle.lc_term.specs.Filling.{IsFilled, Stands}
 use Rattle.lc_term.specs.Put.{occurrence_eq, AreRemembered, Remembers, Notes}
 use Rattle.lc_term.specs.Replacement.{Replacement, replace, replace_all, replace_term, replace_column, under_many}
@@ -25,6 +25,7 @@ use Rattle.lc_term.proofs.TermNodes.{term-there, column-there}
 use Rattle.lc_term.proofs.FormulaNodes.{formula-there}
 use Rattle.lc_term.proofs.Later.{term_later, column_later, formula_later, formula_is, formula_still}
 use Rattle.lc_term.proofs.Listed.{formulas_in-more}
+use Rattle.lc_term.proofs.ByNumber.{are_columns_later, are_terms_later, replacement_still}
 
 some_same : {T : Type 0} (x y : T) → Some x ≡ Some y → x ≡ y
 some_same x y e = cc
@@ -52,6 +53,11 @@ remembers_later r old new done h kept = record {
 -- what is put in by number stays there
 pub filled_later : (put : Filling) (old new : Table) (r : Replacement) → IsFilled put old r → Keeps old new → IsFilled put new r
 filled_later (Put p) old new r h kept = h
+filled_later (Numbers p) old new r h kept = (
+  are_columns_later old new p.columns.now h.0 kept,
+  are_terms_later old new p.variables.now h.1 kept,
+  h.2 ∙ sym (replacement_still old new p.columns.now p.variables.now h.0 h.1 kept),
+)
 filled_later (Variable v k) old new r h kept = (h.0, term_later old new k h.0 h.1 kept, h.2)
 filled_later (Opening k) old new r h kept = (h.0, term_later old new k h.0 h.1 kept, h.2)
 filled_later (Shift a c) old new r h kept = h

@@ -60,7 +60,7 @@ mutual
   shifted_none (Multiply n t) = ap (Multiply n) (shifted_none t)
   shifted_none (Read c t) = ap₂ Read (shifted_column_none c) (shifted_none t)
 
-  shifted_column_none : (c : Column) → replace_column (shifting 0 0) c ≡ c
+  pub shifted_column_none : (c : Column) → replace_column (shifting 0 0) c ≡ c
   shifted_column_none (Base c) = refl
   shifted_column_none (Store c t v) = λ i. Store (shifted_column_none c i) (shifted_none t i) (shifted_none v i)
   shifted_column_none (Affine a b) = refl

@@ -8,6 +8,7 @@ pub mod Filling
 pub mod Hash
 pub mod Lists
 pub mod Meaning
+pub mod NodeClosed
 pub mod NodeReplacement
 pub mod NodeTables
 pub mod Nodes

@@ -3,6 +3,7 @@ ghost use Rattle.lc_term.specs.Replacement.{Replacement, raising};
 
 use crate::node::TermId;
 use crate::put::Put;
+use crate::put_numbers::PutNumbers;
 use std::marker::Brand;
 
 /// What is put in at the leaves of a table's terms and formulas.
@@ -10,6 +11,8 @@ use std::marker::Brand;
 pub(crate) enum Filling<'a> {
     /// Column expressions for columns, terms for free variables.
     Put(Put<'a>),
+    /// The same by their numbers.
+    Numbers(PutNumbers<'a>),
     /// A term for one free variable.
     Variable(u32, TermId),
     /// A term for the variable of the quantifier whose body a formula is.

@@ -11,6 +11,7 @@ mod ground;
 mod hash;
 pub mod laws;
 mod node;
+mod node_closed;
 mod node_replacement;
 mod node_shift;
 mod put;

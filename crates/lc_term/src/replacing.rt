@@ -5,7 +5,6 @@ ghost use Rattle.lc_term.specs.Filling.{IsFilled, Stands};
 ghost use Rattle.lc_term.specs.Nodes.{term, column};
 ghost use Rattle.lc_term.specs.Put.{columns_put, columns_in, variables_put, replacement_of, Remembers};
 ghost use Rattle.lc_term.specs.Replacement.{replace, replace_term, replace_column, under_many};
-ghost use Rattle.lc_term.specs.Substitution.{shifted_term};
 ghost use Rattle.lc_term.specs.Syntax as S;
 ghost use Rattle.lc_term.specs.Tables.{parts, term_in, column_in, formula_in, formulas_in, IsTerm, IsColumn, IsFormula, AreFormulas, HasTerm, HasColumn, HasFormula, Keeps};
 
@@ -137,11 +136,7 @@ impl Terms {
         ensures kept { Keeps self.old self.new }
     {
         let column = self.enter_put_column(put.columns, column)?;
-        if depth == 0 {
-            Ok(column)
-        } else {
-            self.shift_column(alloc, column, depth, 0)
-        }
+        self.raised_column(alloc, column, depth)
     }
 
     fn variable_below(
@@ -156,19 +151,6 @@ impl Terms {
     {
         let term = self.enter_put_variable(put.variables, number)?;
         self.raised(alloc, term, depth)
-    }
-
-    // A term below as many further quantifiers as `depth` counts.
-    fn raised(&mut self, alloc: Global, term: TermId, depth: u32) -> Result<TermId, OutOfMemory>
-        requires { IsTerm self.old term }
-        ensures id { IfOk result (λ k. HasTerm self.new k (shifted_term depth 0 (term_in self.old term))) }
-        ensures kept { Keeps self.old self.new }
-    {
-        if depth == 0 {
-            Ok(term)
-        } else {
-            self.shift(alloc, term, depth, 0)
-        }
     }
 
     // What is put in for a column, which stands at the number `part`.
@@ -193,6 +175,7 @@ impl Terms {
                     Ok(self.column_below(alloc, put, number, depth)?.0)
                 }
             }
+            Filling::Numbers(put) => { self.numbered_base(alloc, put.columns, part, number, depth) }
             Filling::Variable(_, _) | Filling::Opening(_) | Filling::Shift(_, _) => Ok(part),
         }
     }
@@ -216,6 +199,7 @@ impl Terms {
                 PutVariables::Own => Ok(part),
                 PutVariables::Terms(_) => Ok(self.variable_below(alloc, put, number, depth)?.0),
             },
+            Filling::Numbers(put) => self.numbered_variable(alloc, put.variables, number, depth),
             Filling::Variable(variable, term) => {
                 if number == *variable {
                     Ok(self.raised(alloc, *term, depth)?.0)
@@ -242,7 +226,7 @@ impl Terms {
         ensures kept { Keeps self.old self.new }
     {
         match put {
-            Filling::Put(_) | Filling::Variable(_, _) => Ok(part),
+            Filling::Put(_) | Filling::Numbers(_) | Filling::Variable(_, _) => Ok(part),
             Filling::Opening(term) => match number.cmp(&depth) {
                 Ordering::Less => Ok(part),
                 Ordering::Equal => Ok(self.raised(alloc, *term, depth)?.0),
@@ -261,7 +245,7 @@ impl Terms {
 
     #[cycle(replaced_part)]
     #[tactic(auto, using(crate::proofs::NodeReplacement::term_at, crate::proofs::Copied::term_stands))]
-    fn replaced_term<R: Filled>(
+    pub(crate) fn replaced_term<R: Filled>(
         &mut self,
         alloc: Global,
         put: &Filling<'_>,
@@ -368,7 +352,7 @@ impl Terms {
     }
 
     #[cycle(replaced_formula)]
-    fn replaced_formula<R: Filled>(
+    pub(crate) fn replaced_formula<R: Filled>(
         &mut self,
         alloc: Global,
         put: &Filling<'_>,

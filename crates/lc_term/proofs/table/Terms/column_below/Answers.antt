@@ -8,10 +8,10 @@ use Rattle.lc_term.proofs.Later.{column_is}
 use Rattle.lc_term.proofs.Under.{under_many-column}
 use Rattle.lc_term.proofs.table.Terms.column_below.Goals as goal
 
-pub returns-else-depth-eq0-clause-id : goal.returns-else-depth-eq0-clause-id
-returns-else-depth-eq0-clause-id c =
+pub returns-clause-id : goal.returns-clause-id
+returns-clause-id c =
     let r = replacement_of c.args.put.now in
     let put = column_is c.enter_put_column.new.self _ _ c.in_ok-column.ensures.id in
-    IfOk-weaker c.shift_column.result _ _
+    IfOk-weaker c.raised_column.result _ _
     (λ k h. h ∙ ap (λ x. Some (column_part (replace_column (shifting c.args.depth 0) x))) put ∙ ap (λ x. Some (column_part x)) (sym (under_many-column c.args.depth r c.args.column.0)))
-    c.shift_column.ensures.id
+    c.raised_column.ensures.id

@@ -1,7 +1,8 @@
 use Rattle.std.proofs.Common.{subst}
+use Rattle.std.proofs.lemmas.Result.{IfOk-weaker}
 use Rattle.lc_term.specs.Filling.{IsFilled}
 use Rattle.lc_term.specs.Put.{replacement_of}
-use Rattle.lc_term.proofs.Filled.{column_unput, column_stays}
+use Rattle.lc_term.proofs.Filled.{column_unput, column_stays, numbered_column}
 use Rattle.lc_term.proofs.table.Terms.replaced_base.Goals as goal
 
 pub returns-in-Variable-clause-id : goal.returns-in-Variable-clause-id
@@ -17,3 +18,11 @@ pub returns-then-column_stays-clause-id : goal.returns-then-column_stays-clause-
 returns-then-column_stays-clause-id g c =
     let filled = subst (λ p. IsFilled p c.args.self.now g.R.Filled.replacement) c.in-Put.is c.requires.put in
     column_stays g.R.Filled.replacement (replacement_of c.in-Put.put) c.args.depth c.args.self.now c.args.part c.args.number.0 filled (c.column_stays.ensures c.if-column_stays.true) c.requires.there
+
+pub returns-in-Numbers-clause-id : goal.returns-in-Numbers-clause-id
+returns-in-Numbers-clause-id g c =
+    let r = g.R.Filled.replacement in
+    let filled = subst (λ p. IsFilled p c.args.self.now r) c.in-Numbers.is c.requires.put in
+    IfOk-weaker c.numbered_base.result _ _
+    (λ k h. numbered_column r c.args.self.now c.numbered_base.new.self c.args.depth c.in-Numbers.put.columns.now c.in-Numbers.put.variables.now k c.args.number.0 filled.2 h)
+    c.numbered_base.ensures.id

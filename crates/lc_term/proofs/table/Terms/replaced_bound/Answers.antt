@@ -45,3 +45,6 @@ returns-in_ok-bound-in-Shift-clause-id g c =
     let moved : c.in_ok-number-in-Shift.number ≡ c.args.number + c.in-Shift.added = search rules in
     let at = subst (λ n. slice_get (parts c.bound-else-from.new.self) c.in_ok-bound-in-Shift.field-0.0 ≡ Some (term (S.Bound n))) moved c.in_ok-bound-in-Shift.ensures.id in
     shifting_outside r c.args.depth c.bound-else-from.new.self c.in_ok-bound-in-Shift.field-0.0 c.in-Shift.added c.in-Shift.cutoff c.args.number put outside at
+
+pub returns-in-Put-3-clause-id : goal.returns-in-Put-3-clause-id
+returns-in-Put-3-clause-id g c = bound_unput c.args.put.now g.R.Filled.replacement c.args.depth c.args.self.now c.args.part c.args.number c.in-Put.is c.requires.put c.requires.there

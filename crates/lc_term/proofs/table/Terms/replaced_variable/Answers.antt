@@ -1,8 +1,9 @@
 use Rattle.std.proofs.Common.{◌≡◌, ap, subst, arith}
+use Rattle.std.proofs.lemmas.Result.{IfOk-weaker}
 use Rattle.std.specs.Prelude.{◌≢◌}
 use Rattle.lc_term.specs.Filling.{IsFilled}
 use Rattle.lc_term.specs.Put.{replacement_of, variables_put}
-use Rattle.lc_term.proofs.Filled.{variable_unput, variable_stays, putting_here, putting_elsewhere}
+use Rattle.lc_term.proofs.Filled.{variable_unput, variable_stays, numbered_variable, putting_here, putting_elsewhere}
 use Rattle.lc_term.proofs.table.Terms.replaced_variable.Goals as goal
 
 pub returns-in_ok-raised-in-Variable-clause-id : goal.returns-in_ok-raised-in-Variable-clause-id
@@ -28,3 +29,11 @@ pub returns-in-Own-clause-id : goal.returns-in-Own-clause-id
 returns-in-Own-clause-id g c =
     let filled = subst (λ p. IsFilled p c.args.self.now g.R.Filled.replacement) c.in-Put.is c.requires.put in
     variable_stays g.R.Filled.replacement (replacement_of c.in-Put.put) c.args.depth c.args.self.now c.args.part c.args.number filled (ap (λ v. variables_put v c.args.number) c.in-Own.is) c.requires.there
+
+pub returns-in-Numbers-clause-id : goal.returns-in-Numbers-clause-id
+returns-in-Numbers-clause-id g c =
+    let r = g.R.Filled.replacement in
+    let filled = subst (λ p. IsFilled p c.args.self.now r) c.in-Numbers.is c.requires.put in
+    IfOk-weaker c.numbered_variable.result _ _
+    (λ k h. numbered_variable r c.args.self.now c.numbered_variable.new.self c.args.depth c.in-Numbers.put.columns.now c.in-Numbers.put.variables.now k c.args.number filled.2 h)
+    c.numbered_variable.ensures.id

@@ -1,0 +1,47 @@
+use Rattle.std.proofs.Common.{◌≡◌, [], ◌∷◌, ◌++◌, min, ap, ap₂, ◌∙◌, arith, pos}
+use Rattle.std.proofs.lemmas.Grind.{common_steps}
+use Rattle.lc_term.specs.PutNumbers.{columns_at, terms_in, AreTerms}
+use Rattle.lc_term.specs.Syntax.{Term, Number}
+use Rattle.lc_term.specs.Tables.{term_in}
+use Rattle.lc_term.proofs.ByNumber.{are_columns_later, columns_still}
+use Rattle.lc_term.proofs.Later.{is_term_still, term_still, term_is, keeps_itself}
+use Rattle.lc_seq.specs.Branches.{arity}
+use Rattle.lc_seq.specs.TextView.{specification_of}
+use Rattle.lc_action.specs.ActionView.{first_of}
+use Rattle.lc_rider.specs.PathView.{path_in}
+use Rattle.lc_rider.proofs.Marked.{call_is}
+use Rattle.lc_rider.proofs.Reading.{has_is_term, are_terms_pushed}
+use Rattle.lc_rider.proofs.marking.call_variables.Goals as goal
+
+pub push_reads-requires-clause-columns : goal.push_reads-requires-clause-columns
+push_reads-requires-clause-columns c = are_columns_later c.args.terms.now c.number.new.self c.columns.result.now (c.columns.ensures.are c.args.terms.now c.requires.path) c.number.ensures.kept
+
+pub push_reads-requires-clause-client : goal.push_reads-requires-clause-client
+push_reads-requires-clause-client c = is_term_still c.args.terms.now c.number.new.self c.args.mark.client c.requires.client c.number.ensures.kept
+
+pub push_reads-requires-clause-read : goal.push_reads-requires-clause-read
+push_reads-requires-clause-read c =
+    let ts = c.number.new.self in
+    let none : AreTerms ts [] = tt in
+    let first : c.push.new.self.items ≡ [] ++ c.in_ok-zero.zero ∷ [] = c.in_ok-push.ensures.items ∙ ap (λ ks. ks ++ c.in_ok-zero.zero ∷ []) c.in_ok-variables.ensures.items in
+    let one : AreTerms ts c.push.new.self.items = are_terms_pushed ts ts [] c.push.new.self.items c.in_ok-zero.zero first none (keeps_itself ts) (has_is_term ts c.in_ok-zero.zero _ c.in_ok-zero.ensures.id) in
+    are_terms_pushed ts ts c.push.new.self.items c.push-2.new.self.items c.args.mark.client c.in_ok-push-2.ensures.items one (keeps_itself ts)
+    (is_term_still c.args.terms.now ts c.args.mark.client c.requires.client c.number.ensures.kept)
+
+pub returns-clause-trees : goal.returns-clause-trees
+returns-clause-trees c =
+    let old = c.args.terms.now in
+    let ts = c.number.new.self in
+    let cs = c.columns.result.now in
+    let client = term_in old c.args.mark.client in
+    let are = c.columns.ensures.are old c.requires.path in
+    let n = arity (specification_of c.args.mark.specification.now).operations c.args.mark.operation.0 in
+    let count : c.min-count.result ≡ min n 3 = cc in
+    let same : term_in ts c.args.mark.client ≡ client = term_still old ts c.args.mark.client c.requires.client c.number.ensures.kept in
+    let columns : columns_at ts cs ≡ (path_in old c.args.path.now).columns = columns_still old ts cs are c.number.ensures.kept ∙ c.columns.ensures.trees old in
+    let items : c.push-2.new.self.items ≡ c.in_ok-zero.zero ∷ c.args.mark.client ∷ [] = grind (arith, common_steps) in
+    let before : terms_in ts c.push-2.new.self.items ≡ Number (pos 0) ∷ client ∷ [] =
+    ap (terms_in ts) items ∙ ap₂ (λ (t u : Term). t ∷ u ∷ []) (term_is ts c.in_ok-zero.zero (Number (pos 0)) c.in_ok-zero.ensures.id) same in
+    call_is (path_in old c.args.path.now).columns (columns_at ts cs) (first_of c.args.mark.system) n c.min-count.result c.arguments-arguments.result _ client (term_in ts c.args.mark.client)
+    (terms_in ts c.push-2.new.self.items) (terms_in c.push_reads.new.terms c.push_reads.new.read.items) c.arguments-arguments.ensures count (grind (arith, common_steps)) columns same before
+    c.in_ok-push_reads.ensures.trees
