@@ -11,7 +11,14 @@ use Rattle.lc_term.specs.UpdateView.{update_of, updates_of}
 use Rattle.lc_term.specs.declared.update.Update.{Update}
 use Rattle.lc_action.specs.Telling.{column_at, entry_of, columns_in}
 use Rattle.lc_action.proofs.Columns.{IsAbsent, same, put_in_place, put_behind}
-pub use Rattle.lc_term.proofs.Entries.{split, split_entries, entry_found, absent_step}
+pub use Rattle.lc_term.proofs.Entries.{split, entry_found, absent_step}
+
+-- the entries round one
+split_entries : (cs : List (ColId × ColExpr)) (i : ℕ) (p : ColId × ColExpr) → i < length cs → p ≡ get_or cs i p →
+    map entry_of cs ≡ map entry_of (take i cs) ++ entry_of p ∷ map entry_of (drop (i + 1) cs)
+split_entries cs i p h is =
+    ap (map entry_of) (split cs i p h) ∙ map-append entry_of (take i cs) (get_or cs i p ∷ drop (i + 1) cs)
+    ∙ ap (λ x. map entry_of (take i cs) ++ entry_of x ∷ map entry_of (drop (i + 1) cs)) (sym is)
 
 -- one more update
 pub puts_more : (σ : ℕ → S.Column) (τ : List S.Term) (us : List Update) (i : ℕ) (u : Update) (stored : ℕ → S.Column) → i < length us → u ≡ get_or us i u →

@@ -1,14 +1,21 @@
 -- What conditions that are added say in later tables.
-use Rattle.std.proofs.Common.{◌≡◌, ℕ, zero, suc, take, List, [], ◌∷◌, ◌++◌, map, refl, sym, subst, ap, ap₂, ◌∙◌, append_assoc, append-nil, is_some}
+use Rattle.std.proofs.Common.{◌≡◌, ℕ, zero, suc, take, Ok, Err, Vec, List, [], ◌∷◌, ◌++◌, map, refl, sym, subst, ap, ap₂, ◌∙◌, append_assoc, append-nil, is_some}
+use Rattle.std.specs.Prelude.{Result, IfOk}
+use Rattle.std.specs.declared.alloc.Global.{Global}
 use Rattle.std.proofs.lemmas.List.{map-append, take-map}
-use Rattle.lc_term.specs.Syntax.{Formula}
+use Rattle.lc_base.specs.declared.ids.ColId.{ColId}
+use Rattle.lc_term.specs.PutNumbers.{columns_at, AreColumns, terms_in, AreTerms}
+use Rattle.lc_term.specs.Syntax.{Term, Column, Formula}
 use Rattle.lc_term.specs.NodeTables.{Table}
 use Rattle.lc_term.specs.Tables.{Keeps, formula_in, formulas_in, HasFormula, AreFormulas}
+use Rattle.lc_term.specs.declared.node.TermId.{TermId}
+use Rattle.lc_term.specs.declared.node.ColExprId.{ColExprId}
 use Rattle.lc_term.specs.declared.node.FormulaId.{FormulaId}
+use Rattle.lc_term.proofs.ByNumber.{are_terms_later, terms_still, are_columns_later, columns_still}
 use Rattle.lc_term.proofs.Later.{are_formulas_still, formulas_still, is_formula_still, formula_still, formula_is, are_formulas_pushed, formulas_pushed}
 use Rattle.lc_cond.specs.Conditions as S
 use Rattle.lc_cond.specs.ConditionView.{kind_of, place_of, condition_in, IsCondition, AreConditions}
-use Rattle.lc_cond.specs.Adding.{HasFormulas, Adds}
+use Rattle.lc_cond.specs.Adding.{HasFormulas, HasTerms, HasColumns, Adds}
 use Rattle.lc_cond.specs.declared.condition.Condition.{Condition}
 
 -- ---- formulas
@@ -57,6 +64,34 @@ formulas_put old new ks now k fs f pushed h kept at =
 -- the same numbers, seen as a list
 pub formulas_listed : (ts : Table) (ks now : List FormulaId) (fs : List Formula) → HasFormulas ts ks fs → now ≡ ks → HasFormulas ts now fs
 formulas_listed ts ks now fs h same = (let P : List FormulaId → Type 0 = λ l. HasFormulas ts l fs in subst P (sym same) h)
+
+-- ---- terms and columns
+
+pub terms_later : (old new : Table) (ks : List TermId) (us : List Term) → HasTerms old ks us → Keeps old new → HasTerms new ks us
+terms_later old new ks us h kept = record { are = are_terms_later old new ks h.are kept; trees = terms_still old new ks h.are kept ∙ h.trees }
+
+pub columns_later : (old new : Table) (ps : List (ColId × ColExprId)) (σ : ℕ → Column) → HasColumns old ps σ → Keeps old new → HasColumns new ps σ
+columns_later old new ps σ h kept = record { are = are_columns_later old new ps h.are kept; columns = columns_still old new ps h.are kept ∙ h.columns }
+
+-- the columns of numbers, as they are
+pub columns_are : (ts : Table) (ps : List (ColId × ColExprId)) → AreColumns ts ps → HasColumns ts ps (columns_at ts ps)
+columns_are ts ps h = record { are = h; columns = refl }
+
+-- what is entered
+pub terms_entered : {E : Type 0} (r : Result (Vec TermId Global) E) (ts : Table) (us : List Term) → IfOk r (λ ks. AreTerms ts ks.items) → IfOk r (λ ks. terms_in ts ks.items ≡ us) → IfOk r (λ ks. HasTerms ts ks.items us)
+terms_entered (Ok ks) ts us are trees = record { are = are; trees = trees }
+terms_entered (Err e) ts us are trees = tt
+
+pub columns_entered : {E : Type 0} (r : Result (Vec (ColId × ColExprId) Global) E) (ts : Table) (σ : ℕ → Column) → IfOk r (λ ks. AreColumns ts ks.items) → IfOk r (λ ks. columns_at ts ks.items ≡ σ) → IfOk r (λ ks. HasColumns ts ks.items σ)
+columns_entered (Ok ks) ts σ are columns = record { are = are; columns = columns }
+columns_entered (Err e) ts σ are columns = tt
+
+-- the same numbers, seen as a list
+pub terms_listed : (ts : Table) (ks now : List TermId) (us : List Term) → HasTerms ts ks us → now ≡ ks → HasTerms ts now us
+terms_listed ts ks now us h same = (let P : List TermId → Type 0 = λ l. HasTerms ts l us in subst P (sym same) h)
+
+pub columns_listed : (ts : Table) (ps now : List (ColId × ColExprId)) (σ : ℕ → Column) → HasColumns ts ps σ → now ≡ ps → HasColumns ts now σ
+columns_listed ts ps now σ h same = (let P : List (ColId × ColExprId) → Type 0 = λ l. HasColumns ts l σ in subst P (sym same) h)
 
 -- ---- conditions
 

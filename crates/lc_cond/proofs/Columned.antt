@@ -1,19 +1,24 @@
--- The conditions of columns, one after another, and columns below a quantifier.
-use Rattle.std.proofs.Common.{◌≡◌, ℕ, zero, suc, ◌+◌, ◌&&◌, List, [], ◌∷◌, ◌++◌, if◌then◌else◌, refl, sym, subst, ap, ap₂, ◌∙◌, arith, append_assoc, append-nil, add-zero, add-one, false, nat_lt, pos}
-use Rattle.std.specs.Prelude.{IsTrue}
-use Rattle.std.proofs.lemmas.Bool.{and_from}
+-- The conditions of columns, one after another, and what stands in columns by number.
+use Rattle.std.proofs.Common.{◌≡◌, ℕ, zero, suc, ◌+◌, ◌<◌, ◌&&◌, ◌==◌, List, [], ◌∷◌, ◌++◌, length, take, get_or, if◌then◌else◌, refl, sym, subst, ap, ap₂, ◌∙◌, arith, append_assoc, append-nil, add-zero, add-one, true, false}
 use Rattle.std.proofs.lemmas.Bool.Decides.{nat_tests}
-use Rattle.lc_term.specs.Places.{no_bounds, column_passes}
-use Rattle.lc_term.specs.Syntax.{Term, Column, Formula, Number, Variable, Add, Subtract, Multiply, Read, Base, Bound}
-use Rattle.lc_term.specs.Replacement.{raising, replace_column}
-use Rattle.lc_term.specs.Substitution.{shifting}
+use Rattle.std.proofs.lemmas.List.{take_more}
+use Rattle.lc_base.specs.declared.ids.ColId.{ColId}
+use Rattle.lc_term.specs.Lists.{Every}
+use Rattle.lc_term.specs.Nodes.{Part, is_term_node, column_of_node}
 use Rattle.lc_term.specs.NodeTables.{Table}
-use Rattle.lc_term.specs.Tables.{Keeps}
-use Rattle.lc_term.proofs.Closed.{shifted_closed}
-use Rattle.lc_cond.specs.Adding.{Adds}
+use Rattle.lc_term.specs.PutNumbers.{columns_at}
+use Rattle.lc_term.specs.Syntax.{Column, Formula, Base}
+use Rattle.lc_term.specs.Tables.{Keeps, column_in}
+use Rattle.lc_term.specs.declared.node.ColExprId.{ColExprId}
+use Rattle.lc_term.specs.declared.node.TermNode.{TermNode}
+use Rattle.lc_term.specs.declared.node.TermNode.TheVariants as N
+use Rattle.lc_term.proofs.Stores.{Every-append}
+use Rattle.lc_cond.specs.Adding.{HasColumns, Adds}
+use Rattle.lc_cond.specs.Heads.{condition_made}
 use Rattle.lc_cond.specs.declared.condition.Condition as M
-use Rattle.lc_cond.proofs.Adding.{adds_on}
-use Rattle.lc_cond.specs.Conditions.{Condition, is_base, same_column, column_conditions}
+use Rattle.lc_cond.specs.declared.making.Head.{Head}
+use Rattle.lc_cond.proofs.Adding.{adds_on, adds_nothing}
+use Rattle.lc_cond.specs.Conditions.{Condition, OfColumn, is_base, same_column, column_conditions}
 
 abbrev pub column_part : (ℕ → Formula → Condition) → (ℕ → Column) → (ℕ → Column) → ℕ → List Condition
 column_part made σ π c = if is_base c (σ c) && is_base c (π c) then [] else made c (same_column (σ c) (π c)) ∷ []
@@ -31,29 +36,53 @@ columns_more made σ π n =
     let e : 0 + n ≡ n = omega arith in
     ap (λ k. column_conditions made 0 k σ π) (add-one n) ∙ columns_snoc made σ π 0 n ∙ ap (λ k. column_conditions made 0 n σ π ++ column_part made σ π k) e
 
--- one more quantifier
-bound_raised : (k : ℕ) → (shifting 1 0).bounds k ≡ Bound (suc k)
-bound_raised k =
-    let least : nat_lt k 0 ≡ false = grind (arith, nat_tests) in
-    subst (λ b. (if b then Bound k else Bound (k + 1)) ≡ Bound (suc k)) (sym least) (ap Bound (add-one k))
+-- ---- columns by number
 
-pub raising_is : shifting 1 0 ≡ raising
-raising_is = λ i. record { columns = Base; variables = Variable; bounds = λ k. bound_raised k i }
+-- no entry is of this column
+abbrev pub HasNone : ℕ → List (ColId × ColExprId) → Type 0
+HasNone c ps = Every (λ (p : ColId × ColExprId). (p.0.0 == c) ≡ false) ps
 
--- the column that a term reads
-column_read : Term → Column
-column_read (Number n) = Base 0
-column_read (Variable k) = Base 0
-column_read (Bound k) = Base 0
-column_read (Add t u) = Base 0
-column_read (Subtract t u) = Base 0
-column_read (Multiply n t) = Base 0
-column_read (Read c i) = c
+-- one more entry that is not
+pub none_more : (ps : List (ColId × ColExprId)) (i c : ℕ) (d : ColId × ColExprId) → i < length ps → ((get_or ps i d).0.0 == c) ≡ false → HasNone c (take i ps) → HasNone c (take (i + 1) ps)
+none_more ps i c d below other so_far =
+    subst (HasNone c) (sym (take_more ps i d below)) (Every-append (λ (p : ColId × ColExprId). (p.0.0 == c) ≡ false) (take i ps) (get_or ps i d ∷ []) so_far (other, tt))
 
--- a column in which no bound variable stands is the same there
-pub raised_closed : (c : Column) → IsTrue (column_passes no_bounds c) → replace_column raising c ≡ c
-unfolding column_read
-raised_closed c closed = ap (λ r. replace_column r c) (sym raising_is) ∙ ap column_read (shifted_closed 1 0 (Read c (Number (pos 0))) (and_from _ _ closed refl))
+-- so the column itself stands in it
+pub none_stored : (ts : Table) (ps : List (ColId × ColExprId)) (c : ℕ) → HasNone c ps → columns_at ts ps c ≡ Base c
+none_stored ts [] c h = refl
+none_stored ts (p ∷ ps) c h = ap (λ b. if b then column_in ts p.1 else columns_at ts ps c) h.0 ∙ none_stored ts ps c h.1
+
+same_self : (c : ℕ) → (c == c) ≡ true
+same_self c = grind (arith, nat_tests)
+
+-- a column in which nothing is stored has no condition
+pub column_absent : (h : Head) (c : ℕ) (hs : List Formula) (ts : Table) (ps qs : List (ColId × ColExprId)) (σ π : ℕ → Column) → HasColumns ts ps σ → HasColumns ts qs π → columns_at ts ps c ≡ Base c → columns_at ts qs c ≡ Base c →
+    (before : List M.Condition) → Adds before ts before (if is_base c (σ c) && is_base c (π c) then [] else condition_made h (OfColumn c) hs (same_column (σ c) (π c)) ∷ [])
+column_absent h c hs ts ps qs σ π columns action left right before =
+    let l : σ c ≡ Base c = ap (λ (ρ : ℕ → Column). ρ c) (sym columns.columns) ∙ left in
+    let r : π c ≡ Base c = ap (λ (ρ : ℕ → Column). ρ c) (sym action.columns) ∙ right in
+    let unwritten : (is_base c (σ c) && is_base c (π c)) ≡ true = ap₂ (λ x y. is_base c x && is_base c y) l r ∙ ap (λ b. b && b) (same_self c) in
+    subst (λ b. Adds before ts before (if b then [] else condition_made h (OfColumn c) hs (same_column (σ c) (π c)) ∷ [])) (sym unwritten) (adds_nothing before ts)
+
+-- the condition of what stands in it
+pub column_sides : (h : Head) (c : ℕ) (hs : List Formula) (before now : List M.Condition) (ts : Table) (x y : Column) (σ π : ℕ → Column) → x ≡ σ c → y ≡ π c →
+    Adds before ts now (if is_base c x && is_base c y then [] else condition_made h (OfColumn c) hs (same_column x y) ∷ []) →
+    Adds before ts now (if is_base c (σ c) && is_base c (π c) then [] else condition_made h (OfColumn c) hs (same_column (σ c) (π c)) ∷ [])
+column_sides h c hs before now ts x y σ π left right adds =
+    subst (Adds before ts now) (ap₂ (λ u v. if is_base c u && is_base c v then [] else condition_made h (OfColumn c) hs (same_column u v) ∷ []) left right) adds
+
+-- a column expression that is no column itself
+pub other_node : (ps : List Part) (n : TermNode) (c : ℕ) → is_term_node n ≡ false → ((k : ColId) → n ≡ N.Base k → ⊥) → is_base c (column_of_node ps n) ≡ false
+other_node ps (N.Number k) c h other = cc
+other_node ps (N.Variable k) c h other = cc
+other_node ps (N.Bound k) c h other = cc
+other_node ps (N.Add a b) c h other = cc
+other_node ps (N.Subtract a b) c h other = cc
+other_node ps (N.Multiply k a) c h other = cc
+other_node ps (N.Read a b) c h other = cc
+other_node ps (N.Base k) c h other = absurd (other k refl)
+other_node ps (N.Store a b d) c h other = refl
+other_node ps (N.Affine a b) c h other = refl
 
 pub columns_step : (made : ℕ → Formula → Condition) (σ π : ℕ → Column) (n k : ℕ) (x y : Column) (a b c : List M.Condition) (old new : Table) → k ≡ n → x ≡ σ k → y ≡ π k →
     Adds a old b (column_conditions made 0 n σ π) → Keeps old new → Adds b new c (if is_base k x && is_base k y then [] else made k (same_column x y) ∷ []) →

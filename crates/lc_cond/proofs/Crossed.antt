@@ -1,5 +1,5 @@
 -- Actions of other clients, one after another.
-use Rattle.std.proofs.Common.{◌≡◌, ℕ, zero, suc, ◌+◌, ◌<◌, Some, List, [], ◌∷◌, ◌++◌, map, take, length, get_or, refl, sym, subst, ap, ◌∙◌, arith, zero-add}
+use Rattle.std.proofs.Common.{◌≡◌, ℕ, zero, suc, ◌+◌, ◌<◌, Some, List, [], ◌∷◌, ◌++◌, map, take, length, get_or, refl, sym, subst, ap, ap₂, ◌∙◌, arith, zero-add}
 use Rattle.std.specs.Prelude.{Option, None, option_map, slice_get}
 use Rattle.std.proofs.lemmas.Option.{slice_get-get_or}
 use Rattle.std.proofs.lemmas.List.{map-append, take_more, take_all, length-map, length-take-le}
@@ -13,7 +13,7 @@ use Rattle.lc_term.specs.declared.node.FormulaId.{FormulaId}
 use Rattle.lc_term.proofs.Later.{formula_has, are_formulas_still}
 use Rattle.lc_action.specs.Action.{Action}
 use Rattle.lc_outline.specs.Development.{Development}
-use Rattle.lc_cond.specs.Adding.{Adds}
+use Rattle.lc_cond.specs.Adding.{HasFormulas, Adds}
 use Rattle.lc_cond.specs.Conditions as S
 use Rattle.lc_cond.specs.Conditions.{stable_under, stable_goal}
 use Rattle.lc_cond.specs.Crossings.{IsGiven, IsCrossing, AreCrossings, HaveGoals, MakesStable, MakesAllStable}
@@ -24,7 +24,7 @@ use Rattle.lc_cond.specs.declared.condition.Which.TheVariants as W
 use Rattle.lc_cond.specs.declared.condition.Condition.{Condition}
 use Rattle.lc_cond.specs.declared.stability.Crossing.{Crossing}
 use Rattle.lc_cond.specs.declared.stability.Given.{Given}
-use Rattle.lc_cond.proofs.Adding.{formulas_later, adds_both, adds_nothing}
+use Rattle.lc_cond.proofs.Adding.{formulas_later, formulas_joined, formulas_listed, adds_both, adds_nothing}
 use Rattle.lc_cond.proofs.Made.{numbered-snoc}
 use Rattle.lc_cond.proofs.Ridden.{concat_places-snoc}
 
@@ -35,6 +35,14 @@ given_later old new D g h kept = record {
   invariant = formulas_later old new g.invariant.now _ h.invariant kept;
   asserts = are_formulas_still old new g.asserts.now h.asserts kept;
 }
+
+-- what is known of a client, part by part
+pub known_all : (old new : Table) (frame invariant asserts i a known now : List FormulaId) (hs gs fs : List Formula) → HasFormulas old frame hs → Keeps old new → HasFormulas new invariant gs → HasFormulas new asserts fs →
+    i ≡ invariant → a ≡ asserts → known ≡ frame ++ (i ++ a) → now ≡ known → HasFormulas new now (hs ++ (gs ++ fs))
+known_all old new frame invariant asserts i a known now hs gs fs at kept is holds same other joins listed =
+    formulas_listed new (frame ++ (invariant ++ asserts)) now (hs ++ (gs ++ fs))
+    (formulas_joined new frame (invariant ++ asserts) hs (gs ++ fs) (formulas_later old new frame hs at kept) (formulas_joined new invariant asserts gs fs is holds))
+    (listed ∙ joins ∙ ap₂ (λ k l. frame ++ (k ++ l)) same other)
 
 crossing_later : (old new : Table) (D : Development) (n : ℕ) (hs fs : List Formula) (a : Action) (c : Crossing) → IsCrossing old D n hs fs a c → Keeps old new → IsCrossing new D n hs fs a c
 crossing_later old new D n hs fs a c h kept = record {

@@ -1,27 +1,12 @@
 -- Conditions where a call begins.
-use Rattle.std.proofs.Common.{◌≡◌, ℕ, ◌+◌, Some, None, List, map, length, ap, ap₂}
-use Rattle.lc_term.specs.Syntax as S
-use Rattle.lc_term.specs.Syntax.{Column, Formula}
-use Rattle.lc_term.specs.NodeTables.{Table}
-use Rattle.lc_term.specs.Replacement.{replacing, replace}
-use Rattle.lc_term.specs.Said.{term_at, told}
-use Rattle.lc_term.specs.Tables.{formulas_in}
-use Rattle.lc_term.specs.View.{term_of}
-use Rattle.lc_term.specs.declared.node.FormulaId.{FormulaId}
-use Rattle.lc_term.specs.declared.term.Term.{Term}
+use Rattle.std.proofs.Common.{◌≡◌, ℕ, ◌+◌, Some, None, length, ap}
 use Rattle.lc_object.specs.View.{operation_of}
 use Rattle.lc_object.specs.declared.parts.Operation.{Operation}
 use Rattle.lc_cond.specs.Conditions.{at_entry}
-use Rattle.lc_cond.specs.Adding.{HasFormulas}
 use Rattle.lc_cond.specs.ConditionView.{kind_of}
 use Rattle.lc_cond.specs.Heads.{head_of}
 use Rattle.lc_cond.specs.declared.condition.Kind.{Kind}
 use Rattle.lc_cond.specs.declared.condition.Passage.TheVariants.{Nothing}
-
--- formulas with these columns and variables
-pub told_where : (ts : Table) (σ : ℕ → Column) (vs : List Term) (τ : List S.Term) (ks : List FormulaId) (fs : List Formula) → map term_of vs ≡ τ → HasFormulas ts ks fs →
-    map (replace (replacing σ (term_at (map term_of vs)))) (formulas_in ts ks) ≡ map (told σ τ) fs
-told_where ts σ vs τ ks fs variables has = ap₂ (λ υ gs. map (replace (replacing σ (term_at υ))) gs) variables has.trees
 
 -- what the conditions share
 pub entry_head : (kind : Kind) (body : Operation) (n : ℕ) → n ≡ 2 + length (operation_of body).arguments →

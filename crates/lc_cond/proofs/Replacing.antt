@@ -1,9 +1,15 @@
 -- Formulas of a table with what is put in, one after another.
-use Rattle.std.proofs.Common.{◌≡◌, ℕ, ◌+◌, ◌<◌, List, [], ◌∷◌, ◌++◌, map, take, length, sym, subst, ap, ◌∙◌, get_or}
+use Rattle.std.proofs.Common.{◌≡◌, ℕ, ◌+◌, ◌<◌, List, [], ◌∷◌, ◌++◌, map, take, length, sym, subst, ap, ap₂, ◌∙◌, get_or}
 use Rattle.std.proofs.lemmas.List.{map-append, take_more}
-use Rattle.lc_term.specs.Replacement.{Replacement, replace}
+use Rattle.lc_base.specs.declared.ids.ColId.{ColId}
+use Rattle.lc_term.specs.PutNumbers.{replacement_at}
+use Rattle.lc_term.specs.Replacement.{Replacement, replacing, replace}
+use Rattle.lc_term.specs.Said.{term_at}
+use Rattle.lc_term.specs.Syntax.{Term, Column}
 use Rattle.lc_term.specs.NodeTables.{Table}
 use Rattle.lc_term.specs.Tables.{Keeps, formula_in, formulas_in, AreFormulas, IsFormula, HasFormula}
+use Rattle.lc_term.specs.declared.node.TermId.{TermId}
+use Rattle.lc_term.specs.declared.node.ColExprId.{ColExprId}
 use Rattle.lc_term.specs.declared.node.FormulaId.{FormulaId}
 use Rattle.lc_term.proofs.Later.{formula_still, is_formula_still}
 use Rattle.lc_term.proofs.Listed.{are_formulas-get, formulas_in-more}
@@ -11,7 +17,7 @@ use Rattle.lc_tie.specs.Tie as T
 use Rattle.lc_tie.specs.TieView.{conjunct_of}
 use Rattle.lc_tie.specs.declared.tie.Conjunct.{Conjunct}
 use Rattle.lc_term.specs.View.{formula_of}
-use Rattle.lc_cond.specs.Adding.{HasFormulas}
+use Rattle.lc_cond.specs.Adding.{HasFormulas, HasTerms, HasColumns}
 use Rattle.lc_cond.proofs.Adding.{formulas_put}
 
 -- the formula at a place
@@ -36,3 +42,7 @@ pub conjuncts_more : (cs : List Conjunct) (i : ℕ) (c : Conjunct) → i < lengt
 conjuncts_more cs i c below is =
     ap (λ l. T.formulas_of (map conjunct_of l)) (take_more cs i c below ∙ ap (λ x. take i cs ++ x ∷ []) (sym is))
     ∙ ap T.formulas_of (map-append conjunct_of (take i cs) (c ∷ [])) ∙ map-append (λ d. d.formula) (map conjunct_of (take i cs)) (conjunct_of c ∷ [])
+
+-- what is put in by number, as columns and terms
+pub put_told : (ts : Table) (ps : List (ColId × ColExprId)) (ks : List TermId) (σ : ℕ → Column) (τ : List Term) → HasColumns ts ps σ → HasTerms ts ks τ → replacement_at ts ps ks ≡ replacing σ (term_at τ)
+put_told ts ps ks σ τ columns terms = ap₂ (λ (ρ : ℕ → Column) υ. replacing ρ (term_at υ)) columns.columns terms.trees

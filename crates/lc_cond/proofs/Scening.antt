@@ -1,74 +1,151 @@
 -- What a scene says in later tables, and the parts of its conditions.
-use Rattle.std.proofs.Common.{◌≡◌, ℕ, ◌+◌, ◌<◌, Option, Some, None, List, [], ◌∷◌, ◌++◌, map, take, length, get_or, pos, Bor, sym, subst, ap, ap₂, ◌∙◌}
+use Rattle.std.proofs.Common.{◌≡◌, ℕ, zero, suc, ◌+◌, ◌<◌, ◌≤◌, Option, Some, None, List, [], ◌∷◌, ◌++◌, map, take, length, get_or, pos, Bor, refl, sym, subst, ap, ap₂, ◌∙◌, arith}
 use Rattle.std.specs.Prelude.{option_map, slice_get}
-use Rattle.std.proofs.lemmas.List.{map-append, take_more}
+use Rattle.std.proofs.lemmas.List.{map-append, take_more, take_all, length-map, length-take-le}
+use Rattle.std.proofs.lemmas.Option.{same_Some}
+use Rattle.lc_base.specs.declared.ids.ColId.{ColId}
 use Rattle.lc_base.specs.declared.ids.PointId.{PointId}
-use Rattle.lc_term.specs.Syntax.{Column, Formula, Variable, Number}
+use Rattle.lc_term.specs.Syntax.{Term, Column, Formula, Variable, Number}
 use Rattle.lc_term.specs.NodeTables.{Table}
-use Rattle.lc_term.specs.Said.{put, term_at}
-use Rattle.lc_term.specs.Replacement.{replacing, replace}
-use Rattle.lc_term.specs.Tables.{Keeps, formula_in, formulas_in}
-use Rattle.lc_term.specs.View.{term_of, formula_of}
+use Rattle.lc_term.specs.PutNumbers.{columns_at, AreColumns, replacement_at}
+use Rattle.lc_term.specs.Said.{put}
+use Rattle.lc_term.specs.Replacement.{replace}
+use Rattle.lc_term.specs.Tables.{Keeps, formula_in, formulas_in, IsFormula, AreFormulas}
+use Rattle.lc_term.specs.declared.node.TermId.{TermId}
+use Rattle.lc_term.specs.declared.node.ColExprId.{ColExprId}
 use Rattle.lc_term.specs.declared.node.FormulaId.{FormulaId}
-use Rattle.lc_term.specs.declared.term.Term.{Term}
-use Rattle.lc_term.proofs.Later.{are_formulas_still, formula_later, formula_is}
-use Rattle.lc_rider.specs.Paths.{edge_variables}
-use Rattle.lc_rider.specs.DutyView.{duty_in, owed_of, owing_of}
+use Rattle.lc_term.proofs.Later.{are_formulas_still, formulas_still, formula_later, formula_is, formula_has}
+use Rattle.lc_rider.specs.Paths.{edge_variables, Path}
+use Rattle.lc_rider.specs.PathView.{path_in, IsPath, ArePaths, HasPath}
+use Rattle.lc_rider.specs.DutyView.{duty_in, owed_in, AreGoals, AreKnown}
 use Rattle.lc_rider.specs.declared.duty.Duty.{Duty}
+use Rattle.lc_rider.specs.declared.path.Path as P
 use Rattle.lc_object.specs.Edges.{Edge}
+use Rattle.lc_object.specs.Syntax.{Operation}
 use Rattle.lc_action.specs.Action as A
 use Rattle.lc_outline.specs.Development as D
 use Rattle.lc_outline.specs.DevelopmentView.{on_of}
 use Rattle.lc_outline.specs.declared.parts.On.{On}
 use Rattle.lc_cond.specs.Conditions as S
 use Rattle.lc_cond.specs.Conditions.{at_end, path_place, conditions_of, alone_on_path, action_conditions, on_conditions}
-use Rattle.lc_cond.specs.Adding.{HasFormulas, Adds}
-use Rattle.lc_cond.specs.Scenes.{IsScene, IsReply, code_in, told_in, duty_conditions}
+use Rattle.lc_cond.specs.Adding.{HasFormulas, HasTerms, HasColumns, Adds}
+use Rattle.lc_cond.specs.Heads.{MakesOne}
+use Rattle.lc_cond.specs.Scenes.{IsScene, IsSceneOf, IsReply, IsActing, duty_head, MakesDuties, acting_on, code_in, told_in, duty_conditions}
 use Rattle.lc_cond.specs.declared.condition.Condition.{Condition}
+use Rattle.lc_cond.specs.declared.condition.Which.TheVariants as W
+use Rattle.lc_cond.specs.declared.matching.Acting.{Acting}
 use Rattle.lc_cond.specs.declared.scene.Scene.{Scene}
-use Rattle.lc_cond.proofs.Adding.{formulas_later, adds_on}
+use Rattle.lc_cond.proofs.Adding.{formulas_later, formulas_joined, first_formulas, terms_later, columns_later, adds_both, adds_nothing}
+use Rattle.lc_cond.proofs.Replacing.{put_told}
 
-reply_later : (old new : Table) (k : Option FormulaId) (fs : List Formula) → IsReply old k fs → Keeps old new → IsReply new k fs
+pub reply_later : (old new : Table) (k : Option FormulaId) (fs : List Formula) → IsReply old k fs → Keeps old new → IsReply new k fs
 reply_later old new None fs h kept = h
 reply_later old new (Some k) fs h kept = (h.0, formula_later old new k h.0 h.1 kept, h.2)
+
+pub acting_later : (old new : Table) (k : Option Acting) (o : Option (List Term × A.Action)) → IsActing old k o → Keeps old new → IsActing new k o
+acting_later old new None o h kept = h
+acting_later old new (Some k) o h kept = (h.0, h.1, formula_later old new k.guard _ h.2 kept, columns_later old new k.columns.items _ h.3 kept)
 
 pub scene_later : (old new : Table) (s : Scene) → IsScene old s → Keeps old new → IsScene new s
 scene_later old new s h kept = record {
   system = h.system;
-  variables = h.variables;
+  variables = terms_later old new s.variables.items _ h.variables kept;
   hypotheses = are_formulas_still old new s.hypotheses.items h.hypotheses kept;
   invariant = formulas_later old new s.invariant.items _ h.invariant kept;
   next = formulas_later old new s.next.items _ h.next kept;
   reply = reply_later old new s.reply _ h.reply kept;
+  acting = acting_later old new s.acting _ h.acting kept;
 }
 
--- formulas with what a scene's edge puts in
-pub told_list : (s : Scene) (ts : Table) (σ : ℕ → Column) (vs : List Term) (ks items : List FormulaId) (fs : List Formula) → map term_of vs ≡ edge_variables s.count (code_in s) → ks ≡ items → HasFormulas ts items fs →
-    map (replace (replacing σ (term_at (map term_of vs)))) (formulas_in ts ks) ≡ map (told_in s σ) fs
-told_list s ts σ vs ks items fs variables same has =
-    ap₂ (λ τ gs. map (replace (replacing σ (term_at τ))) gs) variables (ap (formulas_in ts) same ∙ has.trees)
+pub scene_of_later : (old new : Table) (d : D.Development) (o : ℕ) (operation : Operation) (e : Edge) (s : Scene) → IsSceneOf old d o operation e s → Keeps old new → IsSceneOf new d o operation e s
+scene_of_later old new d o operation e s h kept = record {
+  development = h.development;
+  code = h.code;
+  on = h.on;
+  count = h.count;
+  known = formulas_still old new s.hypotheses.items h.stands.hypotheses kept ∙ h.known;
+  stands = scene_later old new s h.stands kept;
+}
 
 -- what a return asks for
-pub reply_said : (s : Scene) (ts : Table) (j : ℕ) (hs : List Formula) (σ : ℕ → Column) (vs : List Term) (k : FormulaId) (goals : List Formula) → map term_of vs ≡ edge_variables s.count (code_in s) → IsReply ts (Some k) goals →
-    record { kind = S.Reply; place = path_place (code_in s) j S.Alone; variables = s.count; hypotheses = hs; goal = replace (replacing σ (term_at (map term_of vs))) (formula_in ts k) } ∷ []
+pub reply_said : (s : Scene) (ts : Table) (j : ℕ) (hs : List Formula) (σ : ℕ → Column) (ps : List (ColId × ColExprId)) (vs : List TermId) (k : FormulaId) (goals : List Formula) →
+    HasColumns ts ps σ → HasTerms ts vs (edge_variables s.count (code_in s)) → IsReply ts (Some k) goals →
+    record { kind = S.Reply; place = path_place (code_in s) j S.Alone; variables = s.count; hypotheses = hs; goal = replace (replacement_at ts ps vs) (formula_in ts k) } ∷ []
     ≡ conditions_of (alone_on_path S.Reply (code_in s) s.count j) hs (map (told_in s σ) goals)
-reply_said s ts j hs σ vs k goals variables reply =
-    ap₂ (λ τ g. record { kind = S.Reply; place = path_place (code_in s) j S.Alone; variables = s.count; hypotheses = hs; goal = replace (replacing σ (term_at τ)) g } ∷ []) variables (formula_is ts k reply.0 reply.1)
+reply_said s ts j hs σ ps vs k goals columns variables reply =
+    ap₂ (λ r g. record { kind = S.Reply; place = path_place (code_in s) j S.Alone; variables = s.count; hypotheses = hs; goal = replace r g } ∷ [])
+    (put_told ts ps vs σ (edge_variables s.count (code_in s)) columns variables) (formula_is ts k reply.0 reply.1)
     ∙ ap (λ gs. conditions_of (alone_on_path S.Reply (code_in s) s.count j) hs (map (told_in s σ) gs)) (sym reply.2)
 
--- the duties of one mark more
-pub duties_more : (s : Scene) (j : ℕ) (hs facts : List Formula) (ds : List Duty) (i : ℕ) (d : Duty) (a b c : List Condition) (old new : Table) → i < length ds → d ≡ get_or ds i d →
-    Adds a old b (duty_conditions s j hs (map (duty_in facts) (map owed_of (take i ds)))) → Keeps old new →
-    Adds b new c (record { kind = S.Owed (owing_of d.kind); place = path_place (code_in s) j (S.Numbered d.rider); variables = s.count; hypotheses = hs ++ take d.known facts; goal = formula_of d.goal } ∷ []) →
-    Adds a new c (duty_conditions s j hs (map (duty_in facts) (map owed_of (take (i + 1) ds))))
-duties_more s j hs facts ds i d a b c old new below is so_far kept one =
-    let split : take (i + 1) ds ≡ take i ds ++ d ∷ [] = take_more ds i d below ∙ ap (λ x. take i ds ++ x ∷ []) (sym is) in
-    let says : duty_conditions s j hs (map (duty_in facts) (map owed_of (take (i + 1) ds))) ≡ duty_conditions s j hs (map (duty_in facts) (map owed_of (take i ds))) ++ duty_conditions s j hs (duty_in facts (owed_of d) ∷ []) =
-    ap (λ l. duty_conditions s j hs (map (duty_in facts) (map owed_of l))) split
-    ∙ ap (λ l. duty_conditions s j hs (map (duty_in facts) l)) (map-append owed_of (take i ds) (d ∷ []))
-    ∙ ap (duty_conditions s j hs) (map-append (duty_in facts) (map owed_of (take i ds)) (owed_of d ∷ []))
-    ∙ map-append (S.duty_condition (code_in s) s.count j hs) (map (duty_in facts) (map owed_of (take i ds))) (duty_in facts (owed_of d) ∷ []) in
-    subst (Adds a new c) (sym says) (adds_on a b c old new _ _ so_far kept one)
+-- ---- duties
+
+-- the conditions of the first duties, so many, where these are the facts
+abbrev pub DutiesBelow : Scene → ℕ → List FormulaId → List Duty → ℕ → List Condition → List Condition → Type 0
+DutiesBelow s j facts ds i before now =
+    (ts : Table) (hs fs : List Formula) → HasFormulas ts s.hypotheses.items hs → HasFormulas ts facts fs → AreGoals ts ds → Adds before ts now (duty_conditions s j hs (map (duty_in fs) (map (owed_in ts) (take i ds))))
+
+pub duties_none : (s : Scene) (j : ℕ) (facts : List FormulaId) (ds : List Duty) (before : List Condition) → DutiesBelow s j facts ds 0 before before
+duties_none s j facts ds before ts hs fs known has goals = adds_nothing before ts
+
+goal_is : (ts : Table) (ds : List Duty) (i : ℕ) (d : Duty) → i < length ds → AreGoals ts ds → IsFormula ts (get_or ds i d).goal
+goal_is ts [] i d below h = absurd (omega arith)
+goal_is ts (x ∷ ds) zero d below h = h.0
+goal_is ts (x ∷ ds) (suc i) d below h = goal_is ts ds i d (omega arith) h.1
+
+-- one duty more
+pub duties_more : (s : Scene) (j : ℕ) (facts : List FormulaId) (ds : List Duty) (i : ℕ) (e : Duty) (before now new : List Condition) → i < length ds →
+    DutiesBelow s j facts ds i before now → (let d = get_or ds i e in MakesOne (duty_head s j d) (W.Numbered d.rider) (s.hypotheses.items ++ take d.known facts) d.goal now new) → DutiesBelow s j facts ds (i + 1) before new
+duties_more s j facts ds i e before now new below so_far made ts hs fs known has goals =
+    let d = get_or ds i e in
+    let one = made ts (hs ++ take d.known fs) (formula_in ts d.goal) (formulas_joined ts s.hypotheses.items (take d.known facts) hs (take d.known fs) known (first_formulas ts facts fs d.known has)) (formula_has ts d.goal (goal_is ts ds i e below goals)) in
+    let split : take (i + 1) ds ≡ take i ds ++ d ∷ [] = take_more ds i e below in
+    let says : duty_conditions s j hs (map (duty_in fs) (map (owed_in ts) (take (i + 1) ds))) ≡ duty_conditions s j hs (map (duty_in fs) (map (owed_in ts) (take i ds))) ++ duty_conditions s j hs (duty_in fs (owed_in ts d) ∷ []) =
+    ap (λ l. duty_conditions s j hs (map (duty_in fs) (map (owed_in ts) l))) split
+    ∙ ap (λ l. duty_conditions s j hs (map (duty_in fs) l)) (map-append (owed_in ts) (take i ds) (d ∷ []))
+    ∙ ap (duty_conditions s j hs) (map-append (duty_in fs) (map (owed_in ts) (take i ds)) (owed_in ts d ∷ []))
+    ∙ map-append (S.duty_condition (code_in s) s.count j hs) (map (duty_in fs) (map (owed_in ts) (take i ds))) (duty_in fs (owed_in ts d) ∷ []) in
+    subst (Adds before ts new) (sym says) (adds_both before now new ts _ _ (so_far ts hs fs known has goals) one)
+
+-- the facts of a path are those of what it stands for
+pub facts_along : (ts : Table) (path : P.Path) (p : Path) (facts : List FormulaId) → HasPath ts path p → formulas_in ts facts ≡ (path_in ts path).facts → (IsPath ts path → AreFormulas ts facts) → HasFormulas ts facts p.facts
+facts_along ts path p facts has trees are = record { are = are has.is; trees = trees ∙ ap (λ (q : Path). q.facts) has.path }
+
+-- a path among paths
+pub path_is : (ts : Table) (ps : List P.Path) (i : ℕ) (p : P.Path) → i < length ps → p ≡ get_or ps i p → ArePaths ts ps → IsPath ts p
+path_is ts ps i p below is are = subst (IsPath ts) (sym is) (found ps i below are)
+  where
+    found : (qs : List P.Path) (k : ℕ) → k < length qs → ArePaths ts qs → IsPath ts (get_or qs k p)
+    found [] k below h = absurd (omega arith)
+    found (q ∷ qs) zero below h = h.0
+    found (q ∷ qs) (suc k) below h = found qs k (omega arith) h.1
+
+-- its columns likewise
+pub columns_along : (ts : Table) (path : P.Path) (p : Path) (ps : List (ColId × ColExprId)) → HasPath ts path p → columns_at ts ps ≡ (path_in ts path).columns → (IsPath ts path → AreColumns ts ps) → HasColumns ts ps p.columns
+columns_along ts path p ps has columns are = record { are = are has.is; columns = columns ∙ ap (λ (q : Path). q.columns) has.path }
+
+-- all duties of a path
+pub duties_all : (s : Scene) (j : ℕ) (facts : List FormulaId) (ds : List Duty) (path : P.Path) (i : ℕ) (before now : List Condition) → length ds ≤ i →
+    ((ts : Table) → formulas_in ts facts ≡ (path_in ts path).facts) → ((ts : Table) → IsPath ts path → AreFormulas ts facts) →
+    ((ts : Table) → map (duty_in (path_in ts path).facts) (map (owed_in ts) ds) ≡ (path_in ts path).duties) → ((ts : Table) → IsPath ts path → AreGoals ts ds) →
+    DutiesBelow s j facts ds i before now → MakesDuties s j path before now
+duties_all s j facts ds path i before now end trees are owed goals below ts hs p known has =
+    let here : HasFormulas ts facts (path_in ts path).facts = record { are = are ts has.is; trees = trees ts } in
+    let says : map (duty_in (path_in ts path).facts) (map (owed_in ts) (take i ds)) ≡ p.duties =
+    ap (λ l. map (duty_in (path_in ts path).facts) (map (owed_in ts) l)) (take_all i ds end) ∙ owed ts ∙ ap (λ (q : Path). q.duties) has.path in
+    subst (λ l. Adds before ts now (duty_conditions s j hs l)) says (below ts hs (path_in ts path).facts known here (goals ts has.is))
+
+-- a duty knows no more facts than there are, so many of them are its
+pub known_here : (facts : List FormulaId) (path : P.Path) (ds : List Duty) (i : ℕ) (d : Duty) → i < length ds →
+    ((ts : Table) → formulas_in ts facts ≡ (path_in ts path).facts) → ((ts : Table) → AreKnown (length (path_in ts path).facts) ds) → (get_or ds i d).known ≡ length (take (get_or ds i d).known facts)
+known_here facts path ds i d below trees known =
+    let ts : Table = record { terms = []; formulas = [] } in
+    let count : length (path_in ts path).facts ≡ length facts = ap length (sym (trees ts)) ∙ length-map facts (formula_in ts) in
+    sym (length-take-le (get_or ds i d).known facts (subst (λ n. (get_or ds i d).known ≤ n) count (few ds i below (known ts))))
+  where
+    few : {n : ℕ} → (es : List Duty) (k : ℕ) → k < length es → AreKnown n es → (get_or es k d).known ≤ n
+    few [] k below h = absurd (omega arith)
+    few (x ∷ es) zero below h = h.0
+    few (x ∷ es) (suc k) below h = few es k (omega arith) h.1
 
 -- the columns at the end of an edge that reaches a point, and of a return
 pub at_end-some : (first : ℕ) (o : Option PointId) (q : PointId) (σ τ : ℕ → Column) → o ≡ Some q → σ ≡ τ → σ ≡ at_end first (option_map (λ (p : PointId). p.0) o) τ
@@ -79,8 +156,34 @@ at_end-none first c o σ τ after is same column stored = stored
     ∙ ap₂ (λ (ρ : ℕ → Column) (n : ℕ). put ρ (record { column = n; index = Variable 1; value = Number (pos 0) })) same column
     ∙ ap (λ x. at_end first (option_map (λ (p : PointId). p.0) x) τ) (sym is)
 
--- what stands beside an edge
-pub on_said : (D : D.Development) (e : Edge) (v j : ℕ) (hs : List Formula) (σ : ℕ → Column) (o : Option (Bor On)) (x : Bor On) (a : A.Action) → o ≡ Some x → Some a ≡ slice_get D.actions (on_of x.now).action →
-    action_conditions D e v j hs σ (on_of x.now).arguments (Some a) ≡ on_conditions D e v j hs σ (option_map (λ y. on_of y.now) o)
-on_said D e v j hs σ o x a is there =
-    ap (action_conditions D e v j hs σ (on_of x.now).arguments) there ∙ ap (λ y. on_conditions D e v j hs σ (option_map (λ z. on_of z.now) y)) (sym is)
+-- ---- what stands beside an edge
+
+-- no action does
+pub on_none : (dev : D.Development) (e : Edge) (v j : ℕ) (hs : List Formula) (σ : ℕ → Column) (o : Option D.On) → acting_on dev o ≡ None → on_conditions dev e v j hs σ o ≡ []
+on_none dev e v j hs σ None is = refl
+on_none dev e v j hs σ (Some x) is = by (slice_get dev.actions x.action) is
+  where
+    by : (a : Option A.Action) → option_map {U = List Term × A.Action} (λ b. (x.arguments, b)) a ≡ None → action_conditions dev e v j hs σ x.arguments a ≡ []
+    by None is = refl
+    by (Some a) is = cc
+
+-- this one does
+pub on_some : (dev : D.Development) (e : Edge) (v j : ℕ) (hs : List Formula) (σ : ℕ → Column) (o : Option D.On) (x : List Term × A.Action) → acting_on dev o ≡ Some x → action_conditions dev e v j hs σ x.0 (Some x.1) ≡ on_conditions dev e v j hs σ o
+on_some dev e v j hs σ None x is = cc
+on_some dev e v j hs σ (Some y) x is = by (slice_get dev.actions y.action) is
+  where
+    by : (a : Option A.Action) → option_map {U = List Term × A.Action} (λ b. (y.arguments, b)) a ≡ Some x → action_conditions dev e v j hs σ x.0 (Some x.1) ≡ action_conditions dev e v j hs σ y.arguments a
+    by None is = cc
+    by (Some a) is = ap (λ (z : List Term × A.Action). action_conditions dev e v j hs σ z.0 (Some z.1)) (sym (same_Some _ _ is))
+
+-- what is entered of it
+pub acting_none : (dev : D.Development) (o : Option (Bor On)) → o ≡ None → acting_on dev (option_map (λ y. on_of y.now) o) ≡ None
+acting_none dev o is = ap (λ z. acting_on dev (option_map (λ (y : Bor On). on_of y.now) z)) is
+
+pub acting_lost : (dev : D.Development) (o : Option (Bor On)) (x : Bor On) → o ≡ Some x → None ≡ slice_get dev.actions (on_of x.now).action → acting_on dev (option_map (λ y. on_of y.now) o) ≡ None
+acting_lost dev o x is lost =
+    ap (λ z. acting_on dev (option_map (λ (y : Bor On). on_of y.now) z)) is ∙ ap (option_map {U = List Term × A.Action} (λ (b : A.Action). ((on_of x.now).arguments, b))) (sym lost)
+
+pub acting_found : (dev : D.Development) (o : Option (Bor On)) (x : Bor On) (a : A.Action) → o ≡ Some x → Some a ≡ slice_get dev.actions (on_of x.now).action → acting_on dev (option_map (λ y. on_of y.now) o) ≡ Some ((on_of x.now).arguments, a)
+acting_found dev o x a is there =
+    ap (λ z. acting_on dev (option_map (λ (y : Bor On). on_of y.now) z)) is ∙ ap (option_map {U = List Term × A.Action} (λ (b : A.Action). ((on_of x.now).arguments, b))) (sym there)

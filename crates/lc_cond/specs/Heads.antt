@@ -1,13 +1,17 @@
 -- Conditions that are made together, of formulas whatever table has them.
-use Rattle.std.specs.Prelude.{List, [], ◌∷◌, option_map}
-use Rattle.lc_term.specs.Syntax.{Formula}
+use Rattle.std.specs.Prelude.{ℕ, List, [], ◌∷◌, ◌++◌, map, option_map}
+use Rattle.lc_base.specs.declared.ids.ColId.{ColId}
+use Rattle.lc_term.specs.Said.{told}
+use Rattle.lc_term.specs.Syntax.{Term, Column, Formula}
 use Rattle.lc_term.specs.NodeTables.{Table}
 use Rattle.lc_term.specs.Tables.{HasFormula}
+use Rattle.lc_term.specs.declared.node.TermId.{TermId}
+use Rattle.lc_term.specs.declared.node.ColExprId.{ColExprId}
 use Rattle.lc_term.specs.declared.node.FormulaId.{FormulaId}
 use Rattle.lc_cond.specs.Conditions as S
 use Rattle.lc_cond.specs.Conditions.{Numbered, conditions_of}
 use Rattle.lc_cond.specs.ConditionView.{kind_of, passage_of, which_of}
-use Rattle.lc_cond.specs.Adding.{HasFormulas, Adds}
+use Rattle.lc_cond.specs.Adding.{HasFormulas, HasTerms, HasColumns, Adds}
 use Rattle.lc_cond.specs.declared.condition.Condition.{Condition}
 use Rattle.lc_cond.specs.declared.condition.Which.{Which}
 use Rattle.lc_cond.specs.declared.making.Head.{Head}
@@ -30,3 +34,20 @@ MakesOne h w ks k old new =
 abbrev pub MakesEach : Head → List FormulaId → List FormulaId → List Condition → List Condition → Type 0
 MakesEach h ks goals old new =
     (ts : Table) (hs gs : List Formula) → HasFormulas ts ks hs → HasFormulas ts goals gs → Adds old ts new (conditions_of (head_of h) hs gs)
+
+-- with these columns and variables each of the formulas is these
+abbrev pub Tells : Table → Table → List (ColId × ColExprId) → List TermId → List FormulaId → List FormulaId → Type 0
+Tells old new columns variables ks goals =
+    (σ : ℕ → Column) (τ : List Term) (fs : List Formula) → HasColumns old columns σ → HasTerms old variables τ → HasFormulas old ks fs → HasFormulas new goals (map (told σ τ) fs)
+
+-- with these columns and variables each of these formulas is one more condition
+abbrev pub MakesTold : Head → Table → Table → List (ColId × ColExprId) → List TermId → List FormulaId → List FormulaId → List Condition → List Condition → Type 0
+MakesTold h old new columns variables known ks before now =
+    (σ : ℕ → Column) (τ : List Term) (hs fs : List Formula) → HasColumns old columns σ → HasTerms old variables τ → HasFormulas old known hs → HasFormulas old ks fs →
+    Adds before new now (conditions_of (head_of h) hs (map (told σ τ) fs))
+
+-- each of some is, and each of others behind them
+abbrev pub MakesBothTold : Head → Head → Table → Table → List (ColId × ColExprId) → List TermId → List FormulaId → List FormulaId → List FormulaId → List Condition → List Condition → Type 0
+MakesBothTold h i old new columns variables known ks ls before now =
+    (σ : ℕ → Column) (τ : List Term) (hs fs gs : List Formula) → HasColumns old columns σ → HasTerms old variables τ → HasFormulas old known hs → HasFormulas old ks fs → HasFormulas old ls gs →
+    Adds before new now (conditions_of (head_of h) hs (map (told σ τ) fs) ++ conditions_of (head_of i) hs (map (told σ τ) gs))

@@ -1,29 +1,23 @@
 //! The conditions of an edge, path by path.
-ghost use Rattle.std.specs.Prelude.{◌≡◌, ◌++◌, [], ◌∷◌, map, Some, IfOk, OnOk};
-ghost use Rattle.lc_term.specs.Tables.{formulas_in, AreFormulas, Keeps};
-ghost use Rattle.lc_term.specs.View.{formula_of};
-ghost use Rattle.lc_action.specs.ActionView.{first_of};
-ghost use Rattle.lc_action.specs.Telling.{columns_in};
-ghost use Rattle.lc_rider.specs.DutyView.{owing_of};
-ghost use Rattle.lc_rider.specs.PathView.{path_of};
-ghost use Rattle.lc_cond.specs.Adding.{HasFormulas, Adds, Under};
-ghost use Rattle.lc_cond.specs.Conditions as S;
-ghost use Rattle.lc_cond.specs.Conditions.{path_place};
+ghost use Rattle.std.specs.Prelude.{◌≡◌, ◌++◌, pos, Some, IfOk, OnOk};
+ghost use Rattle.lc_term.specs.PutNumbers.{AreColumns};
 ghost use Rattle.lc_term.specs.Said.{put};
 ghost use Rattle.lc_term.specs.Syntax.{Variable, Number};
 ghost use Rattle.lc_term.specs.SystemColumns.{pend};
-ghost use Rattle.std.specs.Prelude.{pos};
-ghost use Rattle.lc_cond.specs.Scenes.{IsScene, code_in, duty_conditions, reply_conditions, next_conditions};
+ghost use Rattle.lc_term.specs.Tables.{Keeps};
+ghost use Rattle.lc_action.specs.ActionView.{first_of};
+ghost use Rattle.lc_cond.specs.Adding.{HasColumns, Adds, Under, Over};
+ghost use Rattle.lc_cond.specs.Heads.{MakesOne};
+ghost use Rattle.lc_cond.specs.Scenes.{IsScene, duty_head, MakesDuties, reply_conditions, next_conditions};
 
 use crate::condition::{Condition, Kind, Passage, Which};
 use crate::entering::joined;
-use crate::making::{Head, push_one};
+use crate::making::{Head, push_made, push_one};
 use crate::scene::Scene;
 use crate::telling::push_both_told;
-use lc_action::{copy_columns, store};
 use lc_base::{ColId, OutOfMemory};
-use lc_rider::{Duty, Path};
-use lc_term::{ColExpr, FormulaId, Put, PutColumns, PutVariables, Term, Terms, nothing_replaced};
+use lc_rider::{Duty, Path, store_in};
+use lc_term::{ColExprId, FormulaId, PutNumbers, Terms, nothing_replaced};
 use std::alloc::Global;
 
 /// What the conditions of a kind on a path share.
@@ -39,26 +33,6 @@ pub(crate) fn on_path(scene: &Scene<'_>, kind: Kind, number: usize) -> Head
     }
 }
 
-// What a mark asks for, under these hypotheses.
-fn push_duty(
-    alloc: Global,
-    terms: &mut Terms,
-    scene: &Scene<'_>,
-    number: usize,
-    hypotheses: &[FormulaId],
-    duty: &Duty,
-    conditions: &mut Vec<Condition>,
-) -> Result<(), OutOfMemory>
-    ensures list { OnOk result (Under terms.old hypotheses.now (λ hs. Adds conditions.old.items terms.new conditions.new.items
-        (record { kind = S.Owed (owing_of duty.now.kind); place = path_place (code_in scene.now) number (S.Numbered duty.now.rider); variables = scene.now.count; hypotheses = hs; goal = formula_of duty.now.goal } ∷ []))) }
-    ensures kept { Keeps terms.old terms.new }
-{
-    let goal = terms.enter_formula(alloc, &duty.goal)?;
-    let head = on_path(scene, Kind::Owed(duty.kind), number);
-    let which = Which::Numbered(duty.rider);
-    push_one(alloc, head, which, hypotheses, goal, conditions)
-}
-
 /// The first of a path's facts, so many, behind what is known before the edge.
 pub(crate) fn known_with(
     alloc: Global,
@@ -70,25 +44,35 @@ pub(crate) fn known_with(
     joined(alloc, &scene.hypotheses, facts)
 }
 
+// What a mark asks for, where these are known.
+fn push_duty(
+    scene: &Scene<'_>,
+    number: usize,
+    known: Vec<FormulaId>,
+    duty: &Duty,
+    conditions: &mut Vec<Condition>,
+) -> Result<(), OutOfMemory>
+    ensures { OnOk result (MakesOne (duty_head scene.now number duty.now) (Which.Numbered duty.now.rider) known.items duty.now.goal conditions.old.items conditions.new.items) }
+{
+    let head = on_path(scene, Kind::Owed(duty.kind), number);
+    let which = Which::Numbered(duty.rider);
+    push_made(head, which, known, duty.goal, conditions)
+}
+
 /// What the marks of a path ask for.
 pub(crate) fn push_duties(
     alloc: Global,
-    terms: &mut Terms,
     scene: &Scene<'_>,
     number: usize,
     path: &Path,
-    facts: &[FormulaId],
     conditions: &mut Vec<Condition>,
 ) -> Result<(), OutOfMemory>
-    requires scene { AreFormulas terms.old scene.now.hypotheses.items }
-    requires facts { HasFormulas terms.old facts.now (path_of path.now).facts }
-    ensures list { OnOk result (Adds conditions.old.items terms.new conditions.new.items
-        (duty_conditions scene.now number (formulas_in terms.old scene.now.hypotheses.items) (path_of path.now).duties)) }
-    ensures kept { Keeps terms.old terms.new }
+    ensures { OnOk result (MakesDuties scene.now number path.now conditions.old.items conditions.new.items) }
 {
+    let facts = path.facts();
     for duty in path.marks() {
         let known = known_with(alloc, scene, &facts[..duty.known])?;
-        push_duty(alloc, terms, scene, number, &known, duty, conditions)?;
+        push_duty(scene, number, known, duty, conditions)?;
     }
     Ok(())
 }
@@ -99,24 +83,25 @@ pub(crate) fn push_reply(
     terms: &mut Terms,
     scene: &Scene<'_>,
     number: usize,
-    columns: &[(ColId, ColExpr)],
+    columns: &[(ColId, ColExprId)],
     known: &[FormulaId],
     conditions: &mut Vec<Condition>,
 ) -> Result<(), OutOfMemory>
-    requires { IsScene terms.old scene.now }
-    ensures list { OnOk result (Under terms.old known.now (λ hs. Adds conditions.old.items terms.new conditions.new.items
-        (reply_conditions scene.now number hs (columns_in columns.now)))) }
+    requires scene { IsScene terms.old scene.now }
+    requires columns { AreColumns terms.old columns.now }
+    ensures list { OnOk result (Under terms.old known.now (λ hs. Over terms.old columns.now (λ σ. Adds conditions.old.items terms.new conditions.new.items
+        (reply_conditions scene.now number hs σ)))) }
     ensures kept { Keeps terms.old terms.new }
 {
     let Some(reply) = scene.reply else {
         return Ok(());
     };
-    let put = Put {
-        columns: PutColumns::Stored(columns),
-        variables: PutVariables::Terms(&scene.variables),
+    let put = PutNumbers {
+        columns,
+        variables: &scene.variables,
     };
     let mut done = nothing_replaced(alloc);
-    let goal = terms.replace(alloc, &put, &mut done, reply)?;
+    let goal = terms.put_in_formula(alloc, put, &mut done, reply)?;
     let head = on_path(scene, Kind::Reply, number);
     push_one(alloc, head, Which::Alone, known, goal, conditions)
 }
@@ -127,18 +112,19 @@ pub(crate) fn push_next(
     terms: &mut Terms,
     scene: &Scene<'_>,
     number: usize,
-    columns: &[(ColId, ColExpr)],
+    columns: &[(ColId, ColExprId)],
     known: &[FormulaId],
     conditions: &mut Vec<Condition>,
 ) -> Result<(), OutOfMemory>
-    requires { IsScene terms.old scene.now }
-    ensures list { OnOk result (Under terms.old known.now (λ hs. Adds conditions.old.items terms.new conditions.new.items
-        (next_conditions scene.now number hs (columns_in columns.now)))) }
+    requires scene { IsScene terms.old scene.now }
+    requires columns { AreColumns terms.old columns.now }
+    ensures list { OnOk result (Under terms.old known.now (λ hs. Over terms.old columns.now (λ σ. Adds conditions.old.items terms.new conditions.new.items
+        (next_conditions scene.now number hs σ)))) }
     ensures kept { Keeps terms.old terms.new }
 {
-    let put = Put {
-        columns: PutColumns::Stored(columns),
-        variables: PutVariables::Terms(&scene.variables),
+    let put = PutNumbers {
+        columns,
+        variables: &scene.variables,
     };
     let heads = (
         on_path(scene, Kind::Invariant, number),
@@ -148,7 +134,7 @@ pub(crate) fn push_next(
         alloc,
         terms,
         heads,
-        &put,
+        put,
         known,
         &scene.invariant,
         &scene.next,
@@ -157,19 +143,23 @@ pub(crate) fn push_next(
 }
 
 /// The columns behind a path of a return, which stores that no call is pending.
+#[tactic(auto, using(lc_term::proofs::Later::kept_on))]
 pub(crate) fn at_return(
     alloc: Global,
+    terms: &mut Terms,
     scene: &Scene<'_>,
-    path: &Path,
-) -> Result<Vec<(ColId, ColExpr)>, OutOfMemory>
-    ensures { IfOk result (λ columns. columns_in columns.items ≡ put (path_of path.now).columns (record { column = pend (first_of scene.now.system); index = Variable 1; value = Number (pos 0) })) }
+    columns: &[(ColId, ColExprId)],
+) -> Result<Vec<(ColId, ColExprId)>, OutOfMemory>
+    requires { AreColumns terms.old columns.now }
+    ensures list { IfOk result (λ ps. Over terms.old columns.now (λ σ. HasColumns terms.new ps.items
+        (put σ (record { column = pend (first_of scene.now.system); index = Variable 1; value = Number (pos 0) })))) }
+    ensures kept { Keeps terms.old terms.new }
 {
-    let columns = copy_columns(alloc, path.columns())?;
-    store(
-        alloc,
-        columns,
-        scene.system.pend(),
-        Term::Variable(1),
-        Term::Number(0),
-    )
+    let count = columns.len().checked_add(1).ok_or(OutOfMemory)?;
+    let mut left = Vec::with_capacity(alloc, count)?;
+    left.extend_from_slice(columns)?;
+    let own = terms.variable(1)?;
+    let none = terms.number(0)?;
+    store_in(terms, &mut left, scene.system.pend(), own, none)?;
+    Ok(left)
 }

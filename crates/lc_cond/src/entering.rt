@@ -8,9 +8,11 @@ ghost use Rattle.lc_tie.specs.Tie as T;
 ghost use Rattle.lc_tie.specs.TieView.{conjuncts_in, conjunct_of};
 ghost use Rattle.lc_cond.specs.Adding.{HasFormulas};
 ghost use Rattle.lc_term.specs.Put.{Remembers, replacement_of};
+ghost use Rattle.lc_term.specs.PutNumbers.{AreColumns, AreTerms, replacement_at};
+ghost use Rattle.lc_cond.specs.Heads.{Tells};
 
 use lc_base::OutOfMemory;
-use lc_term::{Formula, FormulaId, Put, ReplacedNodes, Terms};
+use lc_term::{Formula, FormulaId, Put, PutNumbers, ReplacedNodes, Terms};
 use lc_tie::{Conjunct, Tie};
 use std::alloc::Global;
 
@@ -99,6 +101,29 @@ pub(crate) fn told(
     let mut numbers = Vec::with_capacity(alloc, formulas.len())?;
     for formula in formulas {
         numbers.push(terms.replace(alloc, put, done, *formula)?)?;
+    }
+    Ok(numbers)
+}
+
+/// Each of the formulas with columns and variables put in by their numbers.
+pub(crate) fn told_by_number(
+    alloc: Global,
+    terms: &mut Terms,
+    put: PutNumbers<'_>,
+    done: &mut ReplacedNodes,
+    formulas: &[FormulaId],
+) -> Result<Vec<FormulaId>, OutOfMemory>
+    requires columns { AreColumns terms.old put.columns.now }
+    requires variables { AreTerms terms.old put.variables.now }
+    requires formulas { AreFormulas terms.old formulas.now }
+    requires done { Remembers (replacement_at terms.old put.columns.now put.variables.now) terms.old done.old }
+    ensures list { IfOk result (λ ks. Tells terms.old terms.new put.entry.columns.now put.entry.variables.now formulas.now ks.items) }
+    ensures kept { Keeps terms.old terms.new }
+    ensures done { OnOk result (Remembers (replacement_at terms.new put.entry.columns.now put.entry.variables.now) terms.new done.new) }
+{
+    let mut numbers = Vec::with_capacity(alloc, formulas.len())?;
+    for formula in formulas {
+        numbers.push(terms.put_in_formula(alloc, put, done, *formula)?)?;
     }
     Ok(numbers)
 }

@@ -2,15 +2,15 @@
 ghost use Rattle.std.specs.Prelude.{◌≡◌, ◌+◌, ◌++◌, map, length, None, Some, IfOk, OnOk};
 ghost use Rattle.lc_term.specs.Said.{after, told};
 ghost use Rattle.lc_term.specs.Syntax.{Base};
+ghost use Rattle.lc_term.specs.Put.{columns_in};
+ghost use Rattle.lc_term.specs.PutNumbers.{AreColumns};
 ghost use Rattle.lc_term.specs.Tables.{Keeps};
-ghost use Rattle.lc_term.specs.View.{term_of};
 ghost use Rattle.lc_action.specs.Action.{enter};
 ghost use Rattle.lc_action.specs.ActionView.{first_of};
-ghost use Rattle.lc_action.specs.Telling.{columns_in};
 ghost use Rattle.lc_object.specs.View.{operation_of};
 ghost use Rattle.lc_outline.specs.Development.{invariant_of, asserts_at};
 ghost use Rattle.lc_outline.specs.DevelopmentView.{development_shown};
-ghost use Rattle.lc_cond.specs.Adding.{HasFormulas, Adds, Under};
+ghost use Rattle.lc_cond.specs.Adding.{HasFormulas, HasTerms, HasColumns, Adds, Under, Over};
 ghost use Rattle.lc_cond.specs.Conditions as S;
 ghost use Rattle.lc_cond.specs.Conditions.{at_entry, conditions_of, enter_variables, entry_conditions};
 
@@ -25,7 +25,7 @@ use lc_action::{Before, SystemColumns, enter, store_together};
 use lc_base::{ColId, OpId, OutOfMemory};
 use lc_object::Operation;
 use lc_outline::Development;
-use lc_term::{ColExpr, FormulaId, Put, PutColumns, PutVariables, Term, Terms};
+use lc_term::{ColExpr, ColExprId, FormulaId, PutNumbers, TermId, Terms};
 use std::alloc::Global;
 
 // How many variables there are where a call of this operation begins.
@@ -50,7 +50,7 @@ fn at_entry(kind: Kind, variables: u32, body: &Operation) -> Head
 }
 
 // The columns behind `enter`, where a call of this operation begins.
-fn entered_columns(
+fn stored_columns(
     alloc: Global,
     system: SystemColumns,
     operation: OpId,
@@ -65,6 +65,34 @@ fn entered_columns(
         variables: &variables,
     };
     store_together(alloc, before, &action.updates)
+}
+
+// The same, entered.
+fn entered_columns(
+    alloc: Global,
+    terms: &mut Terms,
+    system: SystemColumns,
+    operation: OpId,
+    count: usize,
+) -> Result<Vec<(ColId, ColExprId)>, OutOfMemory>
+    ensures list { IfOk result (λ columns. HasColumns terms.new columns.items (after Base (enter_variables operation.0 count) (enter (first_of system)).updates)) }
+    ensures kept { Keeps terms.old terms.new }
+{
+    let columns = stored_columns(alloc, system, operation, count)?;
+    terms.enter_columns(alloc, &columns)
+}
+
+// The variables where a call of this operation begins, entered.
+fn entered_variables(
+    alloc: Global,
+    terms: &mut Terms,
+    body: &Operation,
+) -> Result<Vec<TermId>, OutOfMemory>
+    ensures list { IfOk result (λ ks. HasTerms terms.new ks.items (S.entry_variables (operation_of body.now))) }
+    ensures kept { Keeps terms.old terms.new }
+{
+    let variables = entry_variables(alloc, body)?;
+    terms.enter_terms(alloc, &variables)
 }
 
 // What is to hold where a call begins, entered: the invariant, and the assertions of the first point.
@@ -91,30 +119,31 @@ fn push_entered(
     terms: &mut Terms,
     development: &Development,
     body: &Operation,
-    columns: &[(ColId, ColExpr)],
+    columns: &[(ColId, ColExprId)],
     known: &[FormulaId],
     conditions: &mut Vec<Condition>,
 ) -> Result<(), OutOfMemory>
+    requires { AreColumns terms.old columns.now }
     ensures list { let d = development_shown development.now in
         let o = operation_of body.now in
-        OnOk result (Under terms.old known.now (λ hs. Adds conditions.old.items terms.new conditions.new.items
-        (conditions_of (at_entry S.Entry o) hs (map (told (columns_in columns.now) (S.entry_variables o)) (invariant_of d))
-        ++ conditions_of (at_entry S.First o) hs (map (told (columns_in columns.now) (S.entry_variables o)) (asserts_at d o.entry))))) }
+        OnOk result (Under terms.old known.now (λ hs. Over terms.old columns.now (λ σ. Adds conditions.old.items terms.new conditions.new.items
+        (conditions_of (at_entry S.Entry o) hs (map (told σ (S.entry_variables o)) (invariant_of d))
+        ++ conditions_of (at_entry S.First o) hs (map (told σ (S.entry_variables o)) (asserts_at d o.entry)))))) }
     ensures kept { Keeps terms.old terms.new }
 {
     let count = entry_count(body)?;
-    let variables = entry_variables(alloc, body)?;
-    let put = Put {
-        columns: PutColumns::Stored(columns),
-        variables: PutVariables::Terms(&variables),
-    };
+    let variables = entered_variables(alloc, terms, body)?;
     let (invariant, first) = entry_goals(alloc, terms, development, body)?;
     let heads = (
         at_entry(Kind::Entry, count, body),
         at_entry(Kind::First, count, body),
     );
+    let put = PutNumbers {
+        columns,
+        variables: &variables,
+    };
     push_both_told(
-        alloc, terms, heads, &put, known, &invariant, &first, conditions,
+        alloc, terms, heads, put, known, &invariant, &first, conditions,
     )
 }
 
@@ -133,7 +162,7 @@ pub(crate) fn push_entry(
     ensures kept { Keeps terms.old terms.new }
 {
     let system = system_columns(development)?;
-    let columns = entered_columns(alloc, system, operation, argument_count(body))?;
+    let columns = entered_columns(alloc, terms, system, operation, argument_count(body))?;
     let idle = known_idle(alloc, terms, development, system)?;
     let known = in_range(alloc, terms, &idle)?;
     push_entered(

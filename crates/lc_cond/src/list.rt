@@ -14,8 +14,10 @@ ghost use Rattle.lc_cond.specs.ConditionView.{condition_in, AreConditions};
 
 use crate::condition::Condition;
 use crate::entries::push_entry;
-use crate::known::{known_idle, known_in_body};
-use crate::lookup::{asserts_at, count_of, idle_of, operation_at, system_columns, variable_count};
+use crate::known::{body_frame, idle_frame};
+use crate::lookup::{
+    argument_count, asserts_at, count_of, idle_of, operation_at, system_columns, variable_count,
+};
 use crate::paths::push_edge;
 use crate::stability::push_stable;
 use crate::start::push_start;
@@ -114,14 +116,14 @@ fn push_stay(
 {
     let system = system_columns(development)?;
     let count = variable_count(body)?;
-    let known = known_in_body(alloc, terms, development, system, operation, body, number)?;
+    let frame = body_frame(alloc, terms, system, operation, argument_count(body))?;
     push_stable(
         alloc,
         terms,
         development,
         Some(number),
         count,
-        &known,
+        &frame,
         asserts_at(development, number),
         conditions,
     )
@@ -183,14 +185,14 @@ pub(crate) fn push_idle(
     ensures kept { Keeps terms.old terms.new }
 {
     let system = system_columns(development)?;
-    let known = known_idle(alloc, terms, development, system)?;
+    let frame = idle_frame(alloc, terms, system)?;
     push_stable(
         alloc,
         terms,
         development,
         None,
         2,
-        &known,
+        &frame,
         idle_of(development),
         conditions,
     )

@@ -18,18 +18,16 @@ pub(crate) struct Head {
     pub path: Option<usize>,
 }
 
-/// One more condition.
-pub(crate) fn push_one(
-    alloc: Global,
+/// One more condition, whose hypotheses these are.
+pub(crate) fn push_made(
     head: Head,
     which: Which,
-    hypotheses: &[FormulaId],
+    hypotheses: Vec<FormulaId>,
     goal: FormulaId,
     conditions: &mut Vec<Condition>,
 ) -> Result<(), OutOfMemory>
-    ensures { OnOk result (MakesOne head which hypotheses.now goal conditions.old.items conditions.new.items) }
+    ensures { OnOk result (MakesOne head which hypotheses.items goal conditions.old.items conditions.new.items) }
 {
-    let hypotheses = Vec::from_slice(alloc, hypotheses)?;
     conditions.push(Condition {
         kind: head.kind,
         place: Place {
@@ -45,6 +43,21 @@ pub(crate) fn push_one(
         },
     })?;
     Ok(())
+}
+
+/// One more condition, which has these hypotheses in memory of its own.
+pub(crate) fn push_one(
+    alloc: Global,
+    head: Head,
+    which: Which,
+    hypotheses: &[FormulaId],
+    goal: FormulaId,
+    conditions: &mut Vec<Condition>,
+) -> Result<(), OutOfMemory>
+    ensures { OnOk result (MakesOne head which hypotheses.now goal conditions.old.items conditions.new.items) }
+{
+    let hypotheses = Vec::from_slice(alloc, hypotheses)?;
+    push_made(head, which, hypotheses, goal, conditions)
 }
 
 /// A condition for each of these goals, by their places.

@@ -1,18 +1,21 @@
 //! The conditions that an edge is the action that stands beside it.
-ghost use Rattle.std.specs.Prelude.{◌≡◌, ◌&&◌, [], ◌∷◌, map, if◌then◌else◌, Some, IfOk, OnOk};
-ghost use Rattle.lc_term.specs.Places.{no_bounds, column_passes};
+ghost use Rattle.std.specs.Prelude.{◌≡◌, ◌&&◌, [], ◌∷◌, List, true, map, option_map, if◌then◌else◌, Some, IfOk, OnOk};
+ghost use Rattle.lc_term.specs.NodeTables.{Table};
+ghost use Rattle.lc_term.specs.PutNumbers.{columns_at, AreColumns};
 ghost use Rattle.lc_term.specs.Replacement.{raising, replace_column};
+ghost use Rattle.lc_term.specs.Syntax as T;
 ghost use Rattle.lc_term.specs.Syntax.{Variable, Bound, Read, Base};
 ghost use Rattle.lc_term.specs.SystemColumns.{column_count};
-ghost use Rattle.lc_term.specs.Tables.{HasTerm, HasColumn, HasFormula, Keeps};
-ghost use Rattle.lc_term.specs.View.{term_of, column_of};
-ghost use Rattle.lc_action.specs.Action.{acting_variables, guard_for};
+ghost use Rattle.lc_term.specs.Tables.{column_in, IsColumn, HasTerm, HasFormula, Keeps};
+ghost use Rattle.lc_term.specs.View.{term_of};
+ghost use Rattle.lc_action.specs.Action as A;
+ghost use Rattle.lc_action.specs.Action.{acting_variables, guard_for, post_columns};
 ghost use Rattle.lc_action.specs.ActionView.{action_of, first_of};
-ghost use Rattle.lc_action.specs.Telling.{columns_in};
-ghost use Rattle.lc_cond.specs.Adding.{Adds, Under};
+ghost use Rattle.lc_outline.specs.DevelopmentView.{development_shown, on_of};
+ghost use Rattle.lc_cond.specs.Adding.{HasColumns, Adds, Under, Over};
 ghost use Rattle.lc_cond.specs.Conditions.{OfColumn, is_base, same_column, column_conditions, action_conditions};
 ghost use Rattle.lc_cond.specs.Heads.{condition_made};
-ghost use Rattle.lc_cond.specs.Scenes.{IsScene, development_in, code_in, on_conditions_in};
+ghost use Rattle.lc_cond.specs.Scenes.{IsScene, IsActing, acting_on, development_in, code_in, on_conditions_in};
 
 use crate::condition::{Condition, Kind, Which};
 use crate::edge_conditions::on_path;
@@ -21,62 +24,57 @@ use crate::making::{Head, push_one};
 use crate::scene::Scene;
 use lc_action::{Action, SystemColumns, post_columns};
 use lc_base::{ColId, OutOfMemory};
-use lc_outline::On;
+use lc_outline::{Development, On};
 use lc_term::{
-    ColExpr, ColExprId, FormulaId, Put, PutColumns, PutVariables, Term, TermId, Terms, is_closed,
+    ColExprId, FormulaId, Put, PutColumns, PutVariables, Term, TermId, TermNode, Terms,
     nothing_replaced,
 };
 use std::alloc::Global;
 
+/// The action that stands beside an edge, done by client 1, in a table that has its formulas.
+pub(crate) struct Acting {
+    pub guard: FormulaId,
+    /// The columns in which it stores, each with what stands in it then.
+    pub columns: Vec<(ColId, ColExprId)>,
+}
+
+impl Drop for Acting {
+    fn drop(self) {
+        let Acting {
+            guard: _,
+            columns: _,
+        } = self;
+    }
+}
+
 // Whether this is the column itself, in which nothing is stored.
-fn is_base(expression: &ColExpr, column: ColId) -> bool
-    ensures { result ≡ is_base column.0 (column_of expression.now) }
+fn is_base(terms: &Terms, expression: ColExprId, column: ColId) -> bool
+    requires { IsColumn terms.now expression }
+    ensures { result ≡ is_base column.0 (column_in terms.now expression) }
 {
-    match expression {
-        ColExpr::Base(base) => base.0 == column.0,
+    match terms.column_node(expression) {
+        TermNode::Base(base) => base.0 == column.0,
         _ => false,
     }
 }
 
 // Whether nothing is stored in the column on either side.
-fn is_unwritten(left: &ColExpr, right: &ColExpr, column: ColId) -> bool
-    ensures { result ≡ (is_base column.0 (column_of left.now) && is_base column.0 (column_of right.now)) }
+fn is_unwritten(terms: &Terms, left: ColExprId, right: ColExprId, column: ColId) -> bool
+    requires left { IsColumn terms.now left }
+    requires right { IsColumn terms.now right }
+    ensures { result ≡ (is_base column.0 (column_in terms.now left) && is_base column.0 (column_in terms.now right)) }
 {
-    is_base(left, column) && is_base(right, column)
-}
-
-// Whether no bound variable stands in a column expression.
-fn is_closed_column(column: &ColExpr) -> bool
-    ensures { result ≡ column_passes no_bounds (column_of column.now) }
-{
-    match column {
-        ColExpr::Base(_) | ColExpr::Affine(..) => true,
-        ColExpr::Store(column, index, value) => {
-            is_closed_column(column) && is_closed(index) && is_closed(value)
-        }
-    }
-}
-
-// A column expression below one more quantifier, entered.
-#[tactic(auto, using(lc_term::proofs::Later::kept_on))]
-fn raised(alloc: Global, terms: &mut Terms, column: &ColExpr) -> Result<ColExprId, OutOfMemory>
-    ensures id { IfOk result (λ k. HasColumn terms.new k (replace_column raising (column_of column.now))) }
-    ensures kept { Keeps terms.old terms.new }
-{
-    let entered = terms.enter_column(column)?;
-    if is_closed_column(column) {
-        return Ok(entered);
-    }
-    terms.shift_column(alloc, entered, 1, 0)
+    is_base(terms, left, column) && is_base(terms, right, column)
 }
 
 // What stands in a cell of a column, where the cell is the variable of one more quantifier.
 #[tactic(auto, using(lc_term::proofs::Later::kept_on))]
-fn raised_cell(alloc: Global, terms: &mut Terms, column: &ColExpr) -> Result<TermId, OutOfMemory>
-    ensures id { IfOk result (λ k. HasTerm terms.new k (Read (replace_column raising (column_of column.now)) (Bound 0))) }
+fn raised_cell(alloc: Global, terms: &mut Terms, column: ColExprId) -> Result<TermId, OutOfMemory>
+    requires { IsColumn terms.old column }
+    ensures id { IfOk result (λ k. HasTerm terms.new k (Read (replace_column raising (column_in terms.old column)) (Bound 0))) }
     ensures kept { Keeps terms.old terms.new }
 {
-    let raised = raised(alloc, terms, column)?;
+    let raised = terms.raise_column(alloc, column)?;
     let index = terms.bound(0)?;
     terms.read(raised, index)
 }
@@ -86,10 +84,12 @@ fn raised_cell(alloc: Global, terms: &mut Terms, column: &ColExpr) -> Result<Ter
 fn same_column(
     alloc: Global,
     terms: &mut Terms,
-    left: &ColExpr,
-    right: &ColExpr,
+    left: ColExprId,
+    right: ColExprId,
 ) -> Result<FormulaId, OutOfMemory>
-    ensures id { IfOk result (λ k. HasFormula terms.new k (same_column (column_of left.now) (column_of right.now))) }
+    requires left { IsColumn terms.old left }
+    requires right { IsColumn terms.old right }
+    ensures id { IfOk result (λ k. HasFormula terms.new k (same_column (column_in terms.old left) (column_in terms.old right))) }
     ensures kept { Keeps terms.old terms.new }
 {
     let left = raised_cell(alloc, terms, left)?;
@@ -98,40 +98,76 @@ fn same_column(
     terms.forall(same)
 }
 
-// The condition of a column in which the path or the action stores.
-fn push_column(
+// The condition of a column, if something is stored in it on either side.
+fn push_sides(
     alloc: Global,
     terms: &mut Terms,
     head: Head,
     known: &[FormulaId],
     column: ColId,
-    left: &ColExpr,
-    right: &ColExpr,
+    left: ColExprId,
+    right: ColExprId,
     conditions: &mut Vec<Condition>,
 ) -> Result<(), OutOfMemory>
+    requires left { IsColumn terms.old left }
+    requires right { IsColumn terms.old right }
     ensures list { OnOk result (Under terms.old known.now (λ hs. Adds conditions.old.items terms.new conditions.new.items
-        (if is_base column.0 (column_of left.now) && is_base column.0 (column_of right.now) then [] else
-        condition_made head (OfColumn column.0) hs (same_column (column_of left.now) (column_of right.now)) ∷ []))) }
+        (if is_base column.0 (column_in terms.old left) && is_base column.0 (column_in terms.old right) then [] else
+        condition_made head (OfColumn column.0) hs (same_column (column_in terms.old left) (column_in terms.old right)) ∷ []))) }
     ensures kept { Keeps terms.old terms.new }
 {
-    if is_unwritten(left, right, column) {
+    if is_unwritten(terms, left, right, column) {
         return Ok(());
     }
     let goal = same_column(alloc, terms, left, right)?;
     push_one(alloc, head, Which::Column(column), known, goal, conditions)
 }
 
-// What stands in a column after stores; `base`, the column itself, where nothing is stored in it.
-fn stored_or<'a>(columns: &'a [(ColId, ColExpr)], column: ColId, base: &'a ColExpr) -> &'a ColExpr
-    requires { column_of base.now ≡ Base column.0 }
-    ensures { column_of result.now ≡ columns_in columns.now column.0 }
+// Whether a column has no entry, so that the column itself stands in it.
+fn is_absent(columns: &[(ColId, ColExprId)], column: ColId) -> bool
+    ensures { result ≡ true → (ts : Table) → columns_at ts columns.now column.0 ≡ Base column.0 }
 {
     for entry in columns {
         if entry.0 == column {
-            return &entry.1;
+            return false;
         }
     }
-    base
+    true
+}
+
+// Whether a column has no entry on either side.
+fn are_absent(left: &[(ColId, ColExprId)], right: &[(ColId, ColExprId)], column: ColId) -> bool
+    ensures left { result ≡ true → (ts : Table) → columns_at ts left.now column.0 ≡ Base column.0 }
+    ensures right { result ≡ true → (ts : Table) → columns_at ts right.now column.0 ≡ Base column.0 }
+{
+    is_absent(left, column) && is_absent(right, column)
+}
+
+// The condition of a column in which the path or the action stores.
+#[tactic(auto, using(lc_term::proofs::Later::kept_on))]
+fn push_column(
+    alloc: Global,
+    terms: &mut Terms,
+    head: Head,
+    known: &[FormulaId],
+    column: ColId,
+    columns: &[(ColId, ColExprId)],
+    action: &[(ColId, ColExprId)],
+    conditions: &mut Vec<Condition>,
+) -> Result<(), OutOfMemory>
+    requires columns { AreColumns terms.old columns.now }
+    requires action { AreColumns terms.old action.now }
+    ensures list { OnOk result (Under terms.old known.now (λ hs. Over terms.old columns.now (λ σ. Over terms.old action.now (λ π. Adds conditions.old.items terms.new conditions.new.items
+        (if is_base column.0 (σ column.0) && is_base column.0 (π column.0) then [] else
+        condition_made head (OfColumn column.0) hs (same_column (σ column.0) (π column.0)) ∷ []))))) }
+    ensures kept { Keeps terms.old terms.new }
+{
+    if are_absent(columns, action, column) {
+        return Ok(());
+    }
+    let left = terms.stored_column(columns, column)?;
+    let right = terms.stored_column(action, column)?;
+    push_sides(alloc, terms, head, known, column, left, right, conditions)
 }
 
 // The conditions of the columns, so many.
@@ -141,21 +177,22 @@ fn push_columns(
     head: Head,
     count: usize,
     known: &[FormulaId],
-    columns: &[(ColId, ColExpr)],
-    action: &[(ColId, ColExpr)],
+    columns: &[(ColId, ColExprId)],
+    action: &[(ColId, ColExprId)],
     conditions: &mut Vec<Condition>,
 ) -> Result<(), OutOfMemory>
-    ensures list { OnOk result (Under terms.old known.now (λ hs. Adds conditions.old.items terms.new conditions.new.items
-        (column_conditions (λ c goal. condition_made head (OfColumn c) hs goal) 0 count (columns_in columns.now) (columns_in action.now)))) }
+    requires columns { AreColumns terms.old columns.now }
+    requires action { AreColumns terms.old action.now }
+    ensures list { OnOk result (Under terms.old known.now (λ hs. Over terms.old columns.now (λ σ. Over terms.old action.now (λ π. Adds conditions.old.items terms.new conditions.new.items
+        (column_conditions (λ c goal. condition_made head (OfColumn c) hs goal) 0 count σ π))))) }
     ensures kept { Keeps terms.old terms.new }
 {
     for number in 0..count {
         let place = count_of(number)?;
         let column = ColId(place);
-        let base = ColExpr::Base(column);
-        let left = stored_or(columns, column, &base);
-        let right = stored_or(action, column, &base);
-        push_column(alloc, terms, head, known, column, left, right, conditions)?;
+        push_column(
+            alloc, terms, head, known, column, columns, action, conditions,
+        )?;
     }
     Ok(())
 }
@@ -206,31 +243,75 @@ pub(crate) fn entered_guard(
     terms.replace(alloc, &put, &mut done, guard)
 }
 
+// An action of client 1 with these arguments, entered.
+#[tactic(auto, using(lc_term::proofs::Later::kept_on))]
+fn entered_action(
+    alloc: Global,
+    terms: &mut Terms,
+    action: &Action,
+    arguments: &[Term],
+) -> Result<Acting, OutOfMemory>
+    ensures guard { IfOk result (λ k. HasFormula terms.new k.guard (guard_for (action_of action.now) (Variable 1) (map term_of arguments.now))) }
+    ensures columns { IfOk result (λ k. HasColumns terms.new k.columns.items (post_columns (action_of action.now) (Variable 1) (map term_of arguments.now))) }
+    ensures kept { Keeps terms.old terms.new }
+{
+    let guard = entered_guard(alloc, terms, action, 1, arguments)?;
+    let stored = post_columns(alloc, action, &Term::Variable(1), arguments)?;
+    let columns = terms.enter_columns(alloc, &stored)?;
+    Ok(Acting { guard, columns })
+}
+
+/// The action that stands beside an edge, entered, if one does.
+pub(crate) fn entered_on(
+    alloc: Global,
+    terms: &mut Terms,
+    development: &Development,
+    on: Option<&On>,
+) -> Result<Option<Acting>, OutOfMemory>
+    ensures acting { IfOk result (λ k. IsActing terms.new k (acting_on (development_shown development.now) (option_map (λ o. on_of o.now) on.entry))) }
+    ensures kept { Keeps terms.old terms.new }
+{
+    let Some(on) = on else {
+        return Ok(None);
+    };
+    let Some(action) = action_at(development, on.action) else {
+        return Ok(None);
+    };
+    Ok(Some(entered_action(alloc, terms, action, &on.arguments)?))
+}
+
 // The guard of the action, and the columns in which it or the path stores.
 fn push_action(
     alloc: Global,
     terms: &mut Terms,
     scene: &Scene<'_>,
     number: usize,
-    columns: &[(ColId, ColExpr)],
-    on: &On,
-    action: &Action,
+    columns: &[(ColId, ColExprId)],
+    acting: &Acting,
     known: &[FormulaId],
     conditions: &mut Vec<Condition>,
 ) -> Result<(), OutOfMemory>
-    requires { IsScene terms.old scene.now }
-    ensures list { OnOk result (Under terms.old known.now (λ hs. Adds conditions.old.items terms.new conditions.new.items
-        (action_conditions (development_in scene.now) (code_in scene.now) scene.now.count number hs (columns_in columns.now) (map term_of on.now.arguments.items) (Some (action_of action.now))))) }
+    requires scene { IsScene terms.old scene.now }
+    requires columns { AreColumns terms.old columns.now }
+    requires acting { AreColumns terms.old acting.now.columns.items }
+    ensures list { OnOk result ((ts : List T.Term) (a : A.Action) → HasFormula terms.old acting.now.guard (guard_for a (Variable 1) ts) → HasColumns terms.old acting.now.columns.items (post_columns a (Variable 1) ts) →
+        Under terms.old known.now (λ hs. Over terms.old columns.now (λ σ. Adds conditions.old.items terms.new conditions.new.items
+        (action_conditions (development_in scene.now) (code_in scene.now) scene.now.count number hs σ ts (Some a))))) }
     ensures kept { Keeps terms.old terms.new }
 {
-    let guard = entered_guard(alloc, terms, action, 1, &on.arguments)?;
     let head = on_path(scene, Kind::Guard, number);
-    push_one(alloc, head, Which::Alone, known, guard, conditions)?;
-    let stored = post_columns(alloc, action, &Term::Variable(1), &on.arguments)?;
+    push_one(alloc, head, Which::Alone, known, acting.guard, conditions)?;
     let head = on_path(scene, Kind::Column, number);
     let count = column_count(scene.system);
     push_columns(
-        alloc, terms, head, count, known, columns, &stored, conditions,
+        alloc,
+        terms,
+        head,
+        count,
+        known,
+        columns,
+        &acting.columns,
+        conditions,
     )
 }
 
@@ -240,22 +321,20 @@ pub(crate) fn push_on(
     terms: &mut Terms,
     scene: &Scene<'_>,
     number: usize,
-    columns: &[(ColId, ColExpr)],
+    columns: &[(ColId, ColExprId)],
     known: &[FormulaId],
     conditions: &mut Vec<Condition>,
 ) -> Result<(), OutOfMemory>
-    requires { IsScene terms.old scene.now }
-    ensures list { OnOk result (Under terms.old known.now (λ hs. Adds conditions.old.items terms.new conditions.new.items
-        (on_conditions_in scene.now number hs (columns_in columns.now)))) }
+    requires scene { IsScene terms.old scene.now }
+    requires columns { AreColumns terms.old columns.now }
+    ensures list { OnOk result (Under terms.old known.now (λ hs. Over terms.old columns.now (λ σ. Adds conditions.old.items terms.new conditions.new.items
+        (on_conditions_in scene.now number hs σ)))) }
     ensures kept { Keeps terms.old terms.new }
 {
-    let Some(on) = scene.on else {
-        return Ok(());
-    };
-    let Some(action) = action_at(scene.development, on.action) else {
+    let Some(acting) = &scene.acting else {
         return Ok(());
     };
     push_action(
-        alloc, terms, scene, number, columns, on, action, known, conditions,
+        alloc, terms, scene, number, columns, acting, known, conditions,
     )
 }

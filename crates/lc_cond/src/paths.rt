@@ -1,19 +1,18 @@
 //! The conditions of the paths of an edge.
 ghost use Rattle.std.specs.Prelude.{◌++◌, map, OnOk};
 ghost use Rattle.lc_term.specs.Lists.{concat_places};
+ghost use Rattle.lc_term.specs.PutNumbers.{AreColumns};
 ghost use Rattle.lc_term.specs.Tables.{formulas_in, Keeps};
 ghost use Rattle.lc_object.specs.EdgeView.{edge_of};
 ghost use Rattle.lc_object.specs.View.{operation_of};
-ghost use Rattle.lc_action.specs.Telling.{columns_in};
 ghost use Rattle.lc_outline.specs.DevelopmentView.{development_shown};
-ghost use Rattle.lc_rider.specs.PathView.{path_of};
-ghost use Rattle.lc_cond.specs.Adding.{Adds, Under};
+ghost use Rattle.lc_rider.specs.PathView.{path_in, IsPath, ArePaths};
+ghost use Rattle.lc_cond.specs.Adding.{Adds, Under, Over};
 ghost use Rattle.lc_cond.specs.Conditions.{edge_conditions, edge_conditions_in};
-ghost use Rattle.lc_cond.specs.Scenes.{IsScene, next_conditions, on_conditions_in, outcome_conditions, path_conditions_in};
+ghost use Rattle.lc_cond.specs.Scenes.{IsScene, Along, next_conditions, on_conditions_in, outcome_conditions, path_conditions_in};
 
 use crate::condition::Condition;
 use crate::edge_conditions::{at_return, known_with, push_duties, push_next, push_reply};
-use crate::entering::entered;
 use crate::lookup::{body_at, operation_at, riders_in};
 use crate::matching::push_on;
 use crate::scene::{Scene, set_scene};
@@ -21,7 +20,7 @@ use lc_base::{ColId, OpId, OutOfMemory};
 use lc_object::{Edge, Operation};
 use lc_outline::Development;
 use lc_rider::{Path, paths};
-use lc_term::{ColExpr, FormulaId, Terms};
+use lc_term::{ColExprId, FormulaId, Terms};
 use std::alloc::Global;
 
 // What is asked in the columns behind a path: of what holds there, and of the action that stands beside the edge.
@@ -31,13 +30,14 @@ fn push_behind(
     terms: &mut Terms,
     scene: &Scene<'_>,
     number: usize,
-    columns: &[(ColId, ColExpr)],
+    columns: &[(ColId, ColExprId)],
     known: &[FormulaId],
     conditions: &mut Vec<Condition>,
 ) -> Result<(), OutOfMemory>
-    requires { IsScene terms.old scene.now }
-    ensures list { OnOk result (Under terms.old known.now (λ hs. Adds conditions.old.items terms.new conditions.new.items
-        (next_conditions scene.now number hs (columns_in columns.now) ++ on_conditions_in scene.now number hs (columns_in columns.now)))) }
+    requires scene { IsScene terms.old scene.now }
+    requires columns { AreColumns terms.old columns.now }
+    ensures list { OnOk result (Under terms.old known.now (λ hs. Over terms.old columns.now (λ σ. Adds conditions.old.items terms.new conditions.new.items
+        (next_conditions scene.now number hs σ ++ on_conditions_in scene.now number hs σ)))) }
     ensures kept { Keeps terms.old terms.new }
 {
     push_next(alloc, terms, scene, number, columns, known, conditions)?;
@@ -55,9 +55,10 @@ fn push_outcome(
     known: &[FormulaId],
     conditions: &mut Vec<Condition>,
 ) -> Result<(), OutOfMemory>
-    requires { IsScene terms.old scene.now }
-    ensures list { OnOk result (Under terms.old known.now (λ hs. Adds conditions.old.items terms.new conditions.new.items
-        (outcome_conditions scene.now number hs (path_of path.now)))) }
+    requires scene { IsScene terms.old scene.now }
+    requires path { IsPath terms.old path.now }
+    ensures list { OnOk result (Under terms.old known.now (λ hs. Along terms.old path.now (λ p. Adds conditions.old.items terms.new conditions.new.items
+        (outcome_conditions scene.now number hs p)))) }
     ensures kept { Keeps terms.old terms.new }
 {
     let columns = path.columns();
@@ -65,14 +66,13 @@ fn push_outcome(
     match scene.code.next {
         Some(_) => push_behind(alloc, terms, scene, number, columns, known, conditions),
         None => {
-            let columns = at_return(alloc, scene, path)?;
-            push_behind(alloc, terms, scene, number, &columns, known, conditions)
+            let left = at_return(alloc, terms, scene, columns)?;
+            push_behind(alloc, terms, scene, number, &left, known, conditions)
         }
     }
 }
 
 // The conditions of a path.
-#[tactic(auto, using(lc_term::proofs::Later::kept_on))]
 fn push_path(
     alloc: Global,
     terms: &mut Terms,
@@ -81,14 +81,14 @@ fn push_path(
     path: &Path,
     conditions: &mut Vec<Condition>,
 ) -> Result<(), OutOfMemory>
-    requires { IsScene terms.old scene.now }
-    ensures list { OnOk result (Adds conditions.old.items terms.new conditions.new.items
-        (path_conditions_in scene.now number (formulas_in terms.old scene.now.hypotheses.items) (path_of path.now))) }
+    requires scene { IsScene terms.old scene.now }
+    requires path { IsPath terms.old path.now }
+    ensures list { OnOk result (Along terms.old path.now (λ p. Adds conditions.old.items terms.new conditions.new.items
+        (path_conditions_in scene.now number (formulas_in terms.old scene.now.hypotheses.items) p))) }
     ensures kept { Keeps terms.old terms.new }
 {
-    let facts = entered(alloc, terms, path.facts())?;
-    push_duties(alloc, terms, scene, number, path, &facts, conditions)?;
-    let known = known_with(alloc, scene, &facts)?;
+    push_duties(alloc, scene, number, path, conditions)?;
+    let known = known_with(alloc, scene, path.facts())?;
     push_outcome(alloc, terms, scene, number, path, &known, conditions)
 }
 
@@ -100,9 +100,10 @@ fn push_paths(
     paths: &[Path],
     conditions: &mut Vec<Condition>,
 ) -> Result<(), OutOfMemory>
-    requires { IsScene terms.old scene.now }
+    requires scene { IsScene terms.old scene.now }
+    requires paths { ArePaths terms.old paths.now }
     ensures list { OnOk result (Adds conditions.old.items terms.new conditions.new.items
-        (concat_places (λ j p. path_conditions_in scene.now j (formulas_in terms.old scene.now.hypotheses.items) p) 0 (map path_of paths.now))) }
+        (concat_places (λ j p. path_conditions_in scene.now j (formulas_in terms.old scene.now.hypotheses.items) p) 0 (map (path_in terms.old) paths.now))) }
     ensures kept { Keeps terms.old terms.new }
 {
     for (number, path) in paths.iter().enumerate() {
@@ -134,7 +135,7 @@ fn push_edge_in(
         system: scene.system,
         riders: riders_in(scene.on),
     };
-    let paths = paths(alloc, &development.parts().specification, edge)?;
+    let paths = paths(alloc, terms, &development.parts().specification, edge)?;
     push_paths(alloc, terms, &scene, &paths, conditions)
 }
 

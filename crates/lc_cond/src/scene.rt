@@ -1,12 +1,13 @@
 //! What the conditions of an edge share.
-ghost use Rattle.std.specs.Prelude.{◌≡◌, ◌++◌, map, option_map, IfOk};
+ghost use Rattle.std.specs.Prelude.{◌≡◌, ◌++◌, IfOk};
 ghost use Rattle.lc_term.specs.Tables.{Keeps};
 ghost use Rattle.lc_object.specs.EdgeView.{edge_of};
 ghost use Rattle.lc_object.specs.View.{operation_of};
 ghost use Rattle.lc_action.specs.ActionView.{first_of};
 ghost use Rattle.lc_outline.specs.Development.{first_system, invariant_of};
 ghost use Rattle.lc_outline.specs.DevelopmentView.{development_shown};
-ghost use Rattle.lc_cond.specs.Adding.{HasFormulas};
+ghost use Rattle.lc_rider.specs.Paths.{edge_variables};
+ghost use Rattle.lc_cond.specs.Adding.{HasFormulas, HasTerms};
 ghost use Rattle.lc_cond.specs.Conditions.{body_hypotheses, reply_goals, asserts_to};
 ghost use Rattle.lc_cond.specs.Scenes.{IsReply, IsSceneOf};
 
@@ -14,12 +15,13 @@ use crate::entering::{entered, entered_behind, entered_invariant};
 use crate::frames::justified;
 use crate::known::{in_range, known_in_body};
 use crate::lookup::{asserts_to, on_at, system_columns, variable_count};
+use crate::matching::{Acting, entered_on};
 use lc_action::SystemColumns;
 use lc_base::{OpId, OutOfMemory};
 use lc_object::{Edge, Operation};
 use lc_outline::{Development, On};
 use lc_rider::edge_variables;
-use lc_term::{FormulaId, Term, Terms};
+use lc_term::{FormulaId, TermId, Terms};
 use std::alloc::Global;
 
 /// What the conditions of an edge share, in a table that has its formulas.
@@ -30,7 +32,7 @@ pub(crate) struct Scene<'a> {
     pub system: SystemColumns,
     /// How many variables there are before the edge, and what they are behind it.
     pub count: u32,
-    pub variables: Vec<Term>,
+    pub variables: Vec<TermId>,
     /// What is known before the edge.
     pub hypotheses: Vec<FormulaId>,
     pub invariant: Vec<FormulaId>,
@@ -38,6 +40,8 @@ pub(crate) struct Scene<'a> {
     pub next: Vec<FormulaId>,
     /// What a return asks for.
     pub reply: Option<FormulaId>,
+    /// The action that stands beside the edge.
+    pub acting: Option<Acting>,
 }
 
 impl Drop for Scene<'_> {
@@ -53,8 +57,23 @@ impl Drop for Scene<'_> {
             invariant: _,
             next: _,
             reply: _,
+            acting: _,
         } = self;
     }
+}
+
+// The variables behind the edge, entered.
+fn entered_variables(
+    alloc: Global,
+    terms: &mut Terms,
+    count: u32,
+    code: &Edge,
+) -> Result<Vec<TermId>, OutOfMemory>
+    ensures list { IfOk result (λ ks. HasTerms terms.new ks.items (edge_variables count (edge_of code.now))) }
+    ensures kept { Keeps terms.old terms.new }
+{
+    let variables = edge_variables(alloc, count, code)?;
+    terms.enter_terms(alloc, &variables)
 }
 
 // What a return of these replies asks for, entered; nothing where a point is reached.
@@ -135,14 +154,16 @@ pub(crate) fn set_scene<'a>(
 {
     let system = system_columns(development)?;
     let count = variable_count(body)?;
-    let variables = edge_variables(alloc, count, code)?;
+    let variables = entered_variables(alloc, terms, count, code)?;
     let hypotheses = edge_hypotheses(alloc, terms, development, system, operation, body, code)?;
     let (invariant, next) = edge_goals(alloc, terms, development, code)?;
     let reply = entered_reply(alloc, terms, system, code)?;
+    let on = on_at(development, code.point, code.kind);
+    let acting = entered_on(alloc, terms, development, on)?;
     Ok(Scene {
         development,
         code,
-        on: on_at(development, code.point, code.kind),
+        on,
         system,
         count,
         variables,
@@ -150,5 +171,6 @@ pub(crate) fn set_scene<'a>(
         invariant,
         next,
         reply,
+        acting,
     })
 }

@@ -1,6 +1,6 @@
 //! The conditions that what holds of a client stays where another one acts.
 ghost use Rattle.std.specs.Prelude.{◌≡◌, ◌+◌, ◌*◌, ◌<◌, ◌++◌, ◌∷◌, suc, length, map, option_map, IfOk, OnOk};
-ghost use Rattle.lc_term.specs.Lists.{Every, numbered, concat_places};
+ghost use Rattle.lc_term.specs.Lists.{Every};
 ghost use Rattle.lc_term.specs.Replacement.{replace, replacing};
 ghost use Rattle.lc_term.specs.Syntax.{Variable};
 ghost use Rattle.lc_term.specs.Tables.{formulas_in, AreFormulas, Keeps};
@@ -10,11 +10,11 @@ ghost use Rattle.lc_action.specs.ActionView.{action_of, first_of};
 ghost use Rattle.lc_outline.specs.Development.{invariant_of, all_actions, first_system};
 ghost use Rattle.lc_outline.specs.DevelopmentView.{development_shown};
 ghost use Rattle.lc_cond.specs.Adding.{HasFormulas, Adds, Under};
-ghost use Rattle.lc_cond.specs.Conditions.{stable_variables, stable_under};
+ghost use Rattle.lc_cond.specs.Conditions.{stable_variables, stable_conditions};
 ghost use Rattle.lc_cond.specs.Crossings.{two_clients, IsGiven, AreCrossings, Crosses, AllCross, CrossesToo, MakesStable, MakesAllStable, HaveGoals};
 
 use crate::condition::{Condition, Kind, Passage, Which};
-use crate::entering::{entered, entered_invariant, told};
+use crate::entering::{entered, entered_invariant, joined, told};
 use crate::frames;
 use crate::lookup::{count_of, system_columns};
 use crate::making::{Head, push_one};
@@ -271,29 +271,44 @@ fn all_crossings(
     with_crossing(alloc, terms, development, entered, &ends, given)
 }
 
-// All actions of the client that is this variable, where these are known and asserted.
+// What is known of a client: its frame, the invariant and the assertions.
+fn known_of(
+    alloc: Global,
+    frame: &[FormulaId],
+    invariant: &[FormulaId],
+    asserts: &[FormulaId],
+) -> Result<Vec<FormulaId>, OutOfMemory>
+    ensures { IfOk result (λ ks. ks.items ≡ frame.now ++ (invariant.now ++ asserts.now)) }
+{
+    let shared = joined(alloc, invariant, asserts)?;
+    joined(alloc, frame, &shared)
+}
+
+// All actions of the client that is this variable, where the other one has this frame and these are asserted of it.
 #[tactic(auto, using(lc_term::proofs::Later::kept_on))]
 fn entered_crossings(
     alloc: Global,
     terms: &mut Terms,
     development: &Development,
     client: u32,
-    known: &[FormulaId],
+    frame: &[FormulaId],
     asserts: &[Formula],
 ) -> Result<Vec<Crossing>, OutOfMemory>
-    requires { AreFormulas terms.old known.now }
+    requires { AreFormulas terms.old frame.now }
     ensures crossings { let d = development_shown development.now in
-        IfOk result (λ cs. Under terms.old known.now (λ hs. AreCrossings terms.new d client hs (formulas_of asserts.now) (all_actions d) cs.items)) }
+        let fs = formulas_of asserts.now in
+        IfOk result (λ cs. Under terms.old frame.now (λ hs. AreCrossings terms.new d client (hs ++ (invariant_of d ++ fs)) fs (all_actions d) cs.items)) }
     ensures kept { Keeps terms.old terms.new }
 {
     let system = system_columns(development)?;
     let clients = entered_clients(alloc, terms, client)?;
     let invariant = entered_invariant(alloc, terms, &development.parts().tie)?;
     let asserted = entered(alloc, terms, asserts)?;
+    let known = known_of(alloc, frame, &invariant, &asserted)?;
     let given = Given {
         client,
         clients: &clients,
-        known,
+        known: &known,
         invariant: &invariant,
         asserts: &asserted,
     };
@@ -351,7 +366,7 @@ fn push_conjuncts(
     Ok(())
 }
 
-/// The conditions that these assertions stay, where a client has so many variables and this is known of it.
+/// The conditions that these assertions stay, where a client has so many variables and this frame.
 #[tactic(auto, using(lc_term::proofs::Later::kept_on))]
 pub(crate) fn push_stable(
     alloc: Global,
@@ -359,16 +374,15 @@ pub(crate) fn push_stable(
     development: &Development,
     point: Option<PointId>,
     variables: u32,
-    known: &[FormulaId],
+    frame: &[FormulaId],
     asserts: &[Formula],
     conditions: &mut Vec<Condition>,
 ) -> Result<(), OutOfMemory>
-    requires { AreFormulas terms.old known.now }
-    ensures list { let d = development_shown development.now in
-        OnOk result (Under terms.old known.now (λ hs. Adds conditions.old.items terms.new conditions.new.items
-        (concat_places (λ k f. numbered (stable_under d (option_map (λ p. p.0) point) variables hs k f) 0 (all_actions d)) 0 (formulas_of asserts.now)))) }
+    requires { AreFormulas terms.old frame.now }
+    ensures list { OnOk result (Under terms.old frame.now (λ hs. Adds conditions.old.items terms.new conditions.new.items
+        (stable_conditions (development_shown development.now) (option_map (λ p. p.0) point) variables hs (formulas_of asserts.now)))) }
     ensures kept { Keeps terms.old terms.new }
 {
-    let crossings = entered_crossings(alloc, terms, development, variables, known, asserts)?;
+    let crossings = entered_crossings(alloc, terms, development, variables, frame, asserts)?;
     push_conjuncts(alloc, point, asserts.len(), &crossings, conditions)
 }

@@ -33,6 +33,7 @@ pub(crate) fn variables_from(
 fn with_zeros(mut terms: Vec<Term>, count: usize) -> Result<Vec<Term>, OutOfMemory>
     ensures { IfOk result (λ ts. map term_of ts.items ≡ map term_of terms.items ++ replicate count (Number (pos 0))) }
 {
+    terms.reserve(count)?;
     for place in 0..count {
         let _ = place;
         terms.push(Term::Number(0))?;

@@ -1,34 +1,45 @@
-use Rattle.std.proofs.Common.{◌≡◌, ℕ, ◌++◌, map, ap, ap₂, subst, ◌∙◌}
+use Rattle.std.proofs.Common.{◌≡◌, ℕ, ◌++◌, map, ap₂, subst}
 use Rattle.std.proofs.lemmas.Result.{on_ok_weaker}
 use Rattle.lc_term.specs.Said.{after, told}
 use Rattle.lc_term.specs.Syntax.{Column, Variable, Base}
+use Rattle.lc_term.proofs.Later.{kept_on}
 use Rattle.lc_object.specs.View.{operation_of}
 use Rattle.lc_action.specs.Action.{enter}
 use Rattle.lc_action.specs.ActionView.{first_of}
-use Rattle.lc_action.specs.Telling.{columns_in}
 use Rattle.lc_outline.specs.Development.{invariant_of, asserts_at, first_system}
 use Rattle.lc_outline.specs.DevelopmentView.{development_shown}
 use Rattle.lc_cond.specs.Adding.{Adds}
 use Rattle.lc_cond.specs.Conditions as S
 use Rattle.lc_cond.specs.Conditions.{conditions_of, at_entry, range, idle_frame, enter_variables, entered, entry_variables}
-use Rattle.lc_cond.proofs.Adding.{formulas_listed}
+use Rattle.lc_cond.proofs.Adding.{formulas_listed, columns_later, columns_listed}
 use Rattle.lc_cond.proofs.entries.push_entry.Goals as goal
+
+pub push_entered-requires : goal.push_entered-requires
+push_entered-requires c =
+    let t1 = c.entered_columns.new.terms in
+    let t2 = c.known_idle.new.terms in
+    let t3 = c.in_range.new.terms in
+    let kept13 = kept_on t1 t2 t3 c.in_ok-idle.ensures.kept c.in_ok-known.ensures.kept in
+    (columns_listed t3 c.in_ok-columns.columns.items c.deref-2.result.now _ (columns_later t1 t3 c.in_ok-columns.columns.items _ c.in_ok-columns.ensures.list kept13) c.deref-2.ensures.value).are
 
 pub returns-clause-list : goal.returns-clause-list
 returns-clause-list c =
     let d = development_shown c.args.development.now in
     let o = c.args.operation.0 in
     let body = operation_of c.args.body.now in
-    let t1 = c.known_idle.new.terms in
-    let t2 = c.in_range.new.terms in
+    let t1 = c.entered_columns.new.terms in
+    let t2 = c.known_idle.new.terms in
+    let t3 = c.in_range.new.terms in
     let system = c.in_ok-system.ensures in
     let idle = idle_frame (first_of c.in_ok-system.system) ++ (invariant_of d ++ d.idle) in
-    let known = c.in_ok-known.ensures.list idle (formulas_listed t1 c.in_ok-idle.idle.items c.deref.result.now idle c.in_ok-idle.ensures.list c.deref.ensures.value) in
-    let listed = formulas_listed t2 c.in_ok-known.known.items c.deref-3.result.now (range (Variable 1) ++ idle) known c.deref-3.ensures.value in
-    let columns : columns_in c.deref-2.result.now ≡ entered (first_system d) o body =
-    ap columns_in c.deref-2.ensures.value ∙ c.in_ok-columns.ensures ∙ ap₂ (λ n first. after Base (enter_variables o n) (enter first).updates) c.argument_count.ensures system in
+    let known = c.in_ok-known.ensures.list idle (formulas_listed t2 c.in_ok-idle.idle.items c.deref.result.now idle c.in_ok-idle.ensures.list c.deref.ensures.value) in
+    let listed = formulas_listed t3 c.in_ok-known.known.items c.deref-3.result.now (range (Variable 1) ++ idle) known c.deref-3.ensures.value in
+    let kept13 = kept_on t1 t2 t3 c.in_ok-idle.ensures.kept c.in_ok-known.ensures.kept in
+    let σ : ℕ → Column = after Base (enter_variables o c.argument_count.result) (enter (first_of c.in_ok-system.system)).updates in
+    let columns = columns_listed t3 c.in_ok-columns.columns.items c.deref-2.result.now _ (columns_later t1 t3 c.in_ok-columns.columns.items _ c.in_ok-columns.ensures.list kept13) c.deref-2.ensures.value in
+    let stored : σ ≡ entered (first_system d) o body = ap₂ (λ n first. after Base (enter_variables o n) (enter first).updates) c.argument_count.ensures system in
     on_ok_weaker c.push_entered.result
     (λ list. subst (Adds c.args.conditions.now.items c.push_entered.new.terms c.push_entered.new.conditions.items)
-    (ap₂ (λ (first : ℕ) (σ : ℕ → Column). conditions_of (at_entry S.Entry body) (range (Variable 1) ++ (idle_frame first ++ (invariant_of d ++ d.idle))) (map (told σ (entry_variables body)) (invariant_of d))
-    ++ conditions_of (at_entry S.First body) (range (Variable 1) ++ (idle_frame first ++ (invariant_of d ++ d.idle))) (map (told σ (entry_variables body)) (asserts_at d body.entry))) system columns)
-    (list (range (Variable 1) ++ idle) listed)) c.push_entered.ensures.list
+    (ap₂ (λ (first : ℕ) (ρ : ℕ → Column). conditions_of (at_entry S.Entry body) (range (Variable 1) ++ (idle_frame first ++ (invariant_of d ++ d.idle))) (map (told ρ (entry_variables body)) (invariant_of d))
+    ++ conditions_of (at_entry S.First body) (range (Variable 1) ++ (idle_frame first ++ (invariant_of d ++ d.idle))) (map (told ρ (entry_variables body)) (asserts_at d body.entry))) system stored)
+    (list (range (Variable 1) ++ idle) listed σ columns)) c.push_entered.ensures.list

@@ -3,28 +3,35 @@ use Rattle.lc_term.proofs.Later.{kept_on}
 use Rattle.lc_object.specs.EdgeView.{edge_of}
 use Rattle.lc_cond.specs.Conditions.{reply_goals}
 use Rattle.lc_cond.specs.Scenes.{IsReply}
-use Rattle.lc_cond.proofs.Adding.{formulas_later}
+use Rattle.lc_cond.proofs.Adding.{formulas_later, terms_later}
+use Rattle.lc_cond.proofs.Scening.{reply_later}
 use Rattle.lc_cond.proofs.scene.set_scene.Goals as goal
 
 pub returns-clause-scene : goal.returns-clause-scene
 returns-clause-scene c =
-    let t1 = c.edge_hypotheses.new.terms in
-    let t2 = c.edge_goals.new.terms in
-    let t3 = c.entered_reply.new.terms in
-    let kept = kept_on t1 t2 t3 c.in_ok-invariant.ensures.kept c.in_ok-reply.ensures.kept in
-    let known = formulas_later t1 t3 c.in_ok-hypotheses.hypotheses.items _ c.in_ok-hypotheses.ensures.list kept in
+    let t1 = c.entered_variables.new.terms in
+    let t2 = c.edge_hypotheses.new.terms in
+    let t3 = c.edge_goals.new.terms in
+    let t4 = c.entered_reply.new.terms in
+    let t5 = c.entered_on.new.terms in
+    let kept45 = c.in_ok-acting.ensures.kept in
+    let kept35 = kept_on t3 t4 t5 c.in_ok-reply.ensures.kept kept45 in
+    let kept25 = kept_on t2 t3 t5 c.in_ok-invariant.ensures.kept kept35 in
+    let known = formulas_later t2 t5 c.in_ok-hypotheses.hypotheses.items _ c.in_ok-hypotheses.ensures.list kept25 in
+    let reply = subst (λ n. IsReply t4 c.in_ok-reply.reply (reply_goals n (edge_of c.args.code.now))) c.in_ok-system.ensures c.in_ok-reply.ensures.reply in
     record {
       development = refl;
       code = refl;
-      on = c.on_at.ensures;
+      on = c.on_at-on.ensures;
       count = c.in_ok-count.ensures;
       known = known.trees;
       stands = record {
         system = c.in_ok-system.ensures;
-        variables = c.in_ok-variables.ensures;
+        variables = terms_later t1 t5 c.in_ok-variables.variables.items _ c.in_ok-variables.ensures.list (kept_on t1 t2 t5 c.in_ok-hypotheses.ensures.kept kept25);
         hypotheses = known.are;
-        invariant = formulas_later t2 t3 c.in_ok-invariant.invariant.items _ c.in_ok-invariant.ensures.invariant c.in_ok-reply.ensures.kept;
-        next = formulas_later t2 t3 c.in_ok-invariant.next.items _ c.in_ok-invariant.ensures.next c.in_ok-reply.ensures.kept;
-        reply = subst (λ n. IsReply t3 c.in_ok-reply.reply (reply_goals n (edge_of c.args.code.now))) c.in_ok-system.ensures c.in_ok-reply.ensures.reply;
+        invariant = formulas_later t3 t5 c.in_ok-invariant.invariant.items _ c.in_ok-invariant.ensures.invariant kept35;
+        next = formulas_later t3 t5 c.in_ok-invariant.next.items _ c.in_ok-invariant.ensures.next kept35;
+        reply = reply_later t4 t5 c.in_ok-reply.reply _ reply kept45;
+        acting = c.in_ok-acting.ensures.acting;
       };
     }

@@ -1,9 +1,9 @@
-use Rattle.std.proofs.Common.{length, sym, subst}
+use Rattle.std.proofs.Common.{◌++◌, length, sym, subst}
 use Rattle.std.proofs.lemmas.List.{length-map}
 use Rattle.std.proofs.lemmas.Result.{on_ok_weaker}
 use Rattle.lc_term.specs.View.{formula_of, formulas_of}
 use Rattle.lc_term.specs.Tables.{formulas_in}
-use Rattle.lc_outline.specs.Development.{all_actions}
+use Rattle.lc_outline.specs.Development.{all_actions, invariant_of}
 use Rattle.lc_outline.specs.DevelopmentView.{development_shown}
 use Rattle.lc_cond.specs.Crossings.{AreCrossings, HaveGoals}
 use Rattle.lc_cond.proofs.Adding.{formulas_are}
@@ -15,10 +15,11 @@ push_conjuncts-requires c =
     let D = development_shown c.args.development.now in
     let t0 = c.args.terms.now in
     let fs = formulas_of c.args.asserts.now in
-    let hs = formulas_in t0 c.args.known.now in
-    let crosses = c.in_ok-crossings.ensures.crossings hs (formulas_are t0 c.args.known.now c.requires) in
+    let hs = formulas_in t0 c.args.frame.now in
+    let crosses = c.in_ok-crossings.ensures.crossings hs (formulas_are t0 c.args.frame.now c.requires) in
     subst (λ n. HaveGoals n c.deref.result.now) (length-map c.args.asserts.now formula_of)
-    (subst (λ l. HaveGoals (length fs) l) (sym c.deref.ensures.value) (have_goals c.entered_crossings.new.terms D c.args.variables hs fs (all_actions D) c.in_ok-crossings.crossings.items crosses))
+    (subst (λ l. HaveGoals (length fs) l) (sym c.deref.ensures.value)
+    (have_goals c.entered_crossings.new.terms D c.args.variables (hs ++ (invariant_of D ++ fs)) fs (all_actions D) c.in_ok-crossings.crossings.items crosses))
 
 pub returns-clause-list : goal.returns-clause-list
 returns-clause-list c =
@@ -26,6 +27,6 @@ returns-clause-list c =
     let now = c.entered_crossings.new.terms in
     let fs = formulas_of c.args.asserts.now in
     on_ok_weaker c.push_conjuncts.result
-    (λ made hs has. made now D c.args.variables hs fs (all_actions D)
-    (subst (λ l. AreCrossings now D c.args.variables hs fs (all_actions D) l) (sym c.deref.ensures.value) (c.in_ok-crossings.ensures.crossings hs has))
+    (λ made hs has. made now D c.args.variables (hs ++ (invariant_of D ++ fs)) fs (all_actions D)
+    (subst (λ l. AreCrossings now D c.args.variables (hs ++ (invariant_of D ++ fs)) fs (all_actions D) l) (sym c.deref.ensures.value) (c.in_ok-crossings.ensures.crossings hs has))
     (length-map c.args.asserts.now formula_of)) c.push_conjuncts.ensures

@@ -1,15 +1,12 @@
-use Rattle.std.proofs.Common.{map, subst, sym}
-use Rattle.lc_term.specs.Replacement.{replace}
-use Rattle.lc_term.specs.Tables.{formulas_in}
-use Rattle.lc_term.specs.Put.{replacement_of}
+use Rattle.std.proofs.Common.{map}
 use Rattle.std.proofs.lemmas.Result.{on_ok_weaker}
-use Rattle.lc_cond.specs.Adding.{HasFormulas}
-use Rattle.lc_cond.proofs.Adding.{formulas_later}
+use Rattle.lc_term.specs.Said.{told}
+use Rattle.lc_cond.proofs.Adding.{formulas_later, formulas_listed}
 use Rattle.lc_cond.proofs.telling.push_told.Goals as goal
 
 pub returns-clause-list : goal.returns-clause-list
 returns-clause-list c =
-    let now = c.told.new.terms in
+    let now = c.told_by_number.new.terms in
     on_ok_weaker c.push_each.result
-    (λ made hs has. made now hs (map (replace (replacement_of c.args.put.now)) (formulas_in c.args.terms.now c.args.formulas.now)) (formulas_later c.args.terms.now now c.args.known.now hs has c.in_ok-goals.ensures.kept)
-    (subst (λ l. HasFormulas now l (map (replace (replacement_of c.args.put.now)) (formulas_in c.args.terms.now c.args.formulas.now))) (sym c.deref.ensures.value) c.in_ok-goals.ensures.list)) c.push_each.ensures
+    (λ made σ τ hs fs columns variables known has. made now hs (map (told σ τ) fs) (formulas_later c.args.terms.now now c.args.known.now hs known c.in_ok-goals.ensures.kept)
+    (formulas_listed now c.in_ok-goals.goals.items c.deref.result.now _ (c.in_ok-goals.ensures.list σ τ fs columns variables has) c.deref.ensures.value)) c.push_each.ensures

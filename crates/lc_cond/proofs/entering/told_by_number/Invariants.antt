@@ -1,0 +1,13 @@
+use Rattle.std.proofs.Common.{map, take}
+use Rattle.lc_term.specs.Put.{Remembers}
+use Rattle.lc_term.specs.PutNumbers.{replacement_at}
+use Rattle.lc_term.specs.Replacement.{replace}
+use Rattle.lc_term.specs.Tables.{Keeps, formulas_in}
+use Rattle.lc_cond.specs.Adding.{HasFormulas}
+use Rattle.lc_cond.proofs.entering.told_by_number.Given as goal
+
+-- the formulas so far
+abbrev pub invariant-loop-formula : goal.invariant-loop-formula
+invariant-loop-formula l =
+    Keeps l.fn.terms l.terms × Remembers (replacement_at l.terms l.put.columns.now l.put.variables.now) l.terms l.done
+    × HasFormulas l.terms l.numbers.items (map (replace (replacement_at l.fn.terms l.put.columns.now l.put.variables.now)) (formulas_in l.fn.terms (take l.formula-index l.formulas)))
