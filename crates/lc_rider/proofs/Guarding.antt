@@ -1,6 +1,6 @@
 -- Guards of branches, one behind another, by number.
-use Rattle.std.proofs.Common.{◌≡◌, ℕ, ◌+◌, ◌<◌, ◌≤◌, List, [], ◌∷◌, ◌++◌, length, map, take, get_or, sym, subst, ap, ◌∙◌}
-use Rattle.std.proofs.lemmas.List.{map_more, map-append, take_all}
+use Rattle.std.proofs.Common.{◌≡◌, ℕ, ◌+◌, ◌<◌, List, [], ◌∷◌, ◌++◌, length, map, take, get_or, sym, subst, ap, ◌∙◌}
+use Rattle.std.proofs.lemmas.List.{map_more, map-append}
 use Rattle.lc_term.specs.NodeTables.{Table}
 use Rattle.lc_term.specs.PutNumbers.{terms_in, AreTerms}
 use Rattle.lc_term.specs.Said.{told}

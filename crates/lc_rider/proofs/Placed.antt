@@ -1,10 +1,9 @@
 -- Columns by number: where a column stands, and what is stored there.
-use Rattle.std.proofs.Common.{◌≡◌, ◌==◌, ◌<◌, ◌≤◌, ◌+◌, ℕ, zero, suc, true, false, List, [], ◌∷◌, ◌++◌, Some, Option, None, length, map, take, drop, get_or, slice_get, refl, sym, ap, ap₂, ◌∙◌, subst, arith, add-one}
+use Rattle.std.proofs.Common.{◌≡◌, ◌==◌, ◌<◌, ◌≤◌, ◌+◌, ℕ, zero, suc, true, false, List, [], ◌∷◌, ◌++◌, Some, length, map, take, drop, get_or, slice_get, refl, sym, ap, ap₂, ◌∙◌, subst, arith, add-one}
 use Rattle.std.specs.Prelude.{slice_set, option_map}
 use Rattle.std.proofs.lemmas.List.{set_split, map-set, map-append, take_all}
 use Rattle.std.proofs.lemmas.Option.{slice_get-map, slice_get-get_or, slice_get_within}
 use Rattle.lc_base.specs.declared.ids.ColId.{ColId}
-use Rattle.lc_term.specs.Lists.{Every}
 use Rattle.lc_term.specs.NodeTables.{Table}
 use Rattle.lc_term.specs.Put.{column_at}
 use Rattle.lc_term.specs.PutNumbers.{entry_in, columns_at, AreColumns}
@@ -14,7 +13,7 @@ use Rattle.lc_term.specs.Nodes.{column, is_column}
 use Rattle.lc_term.specs.Tables.{term_in, column_in, IsTerm, IsColumn, HasColumn, Keeps}
 use Rattle.lc_term.specs.declared.node.ColExprId.{ColExprId}
 use Rattle.lc_term.specs.declared.node.TermId.{TermId}
-use Rattle.lc_term.proofs.ByNumber.{are_columns_later, columns_still}
+use Rattle.lc_term.proofs.ByNumber.{are_columns_later}
 use Rattle.lc_term.proofs.Entries.{IsAbsent, same}
 use Rattle.lc_term.proofs.Later.{column_is, term_still}
 use Rattle.lc_term.proofs.NodeReplacement.{column_still}

@@ -11,7 +11,7 @@ use Rattle.lc_term.specs.Tables.{term_in, column_in, IsTerm, IsColumn, HasTerm, 
 use Rattle.lc_term.specs.declared.node.ColExprId.{ColExprId}
 use Rattle.lc_term.specs.declared.node.TermId.{TermId}
 use Rattle.lc_term.proofs.ByNumber.{are_terms_later, terms_still, columns_still}
-use Rattle.lc_term.proofs.Later.{kept_on, term_is, term_still, column_is}
+use Rattle.lc_term.proofs.Later.{kept_on, term_still, column_is}
 
 pub has_is_term : (ts : Table) (k : TermId) (t : Term) → HasTerm ts k t → IsTerm ts k
 has_is_term ts k t h = ap is_term h

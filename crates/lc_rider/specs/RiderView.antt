@@ -1,5 +1,5 @@
 -- What the values of the code stand for.
-use Rattle.std.specs.Prelude.{List, Option, option_map, map}
+use Rattle.std.specs.Prelude.{List, option_map, map}
 use Rattle.lc_term.specs.Syntax as T
 use Rattle.lc_term.specs.View.{term_of, formula_of}
 use Rattle.lc_term.specs.UpdateView.{update_of}

@@ -1,15 +1,12 @@
-use Rattle.std.proofs.Common.{◌≡◌, ◌∙◌, ℕ, List, map, sym, ap, ap₂, subst}
-use Rattle.lc_base.specs.declared.ids.ColId.{ColId}
+use Rattle.std.proofs.Common.{◌∙◌, ℕ, map, sym, ap, ap₂, subst}
 use Rattle.lc_term.specs.PutNumbers.{columns_at, AreColumns, terms_in}
 use Rattle.lc_term.specs.Said.{puts, said}
 use Rattle.lc_term.specs.Syntax.{Column}
 use Rattle.lc_term.specs.Tables.{term_in}
-use Rattle.lc_term.specs.declared.node.ColExprId.{ColExprId}
 use Rattle.lc_seq.specs.SpecView.{branch_of}
 use Rattle.lc_action.specs.ActionView.{first_of}
 use Rattle.lc_rider.specs.MarkView.{marking_of}
 use Rattle.lc_rider.specs.Paths.{mark_updates}
-use Rattle.lc_rider.specs.PathView.{path_in}
 use Rattle.lc_rider.proofs.marked_columns.marked_columns.Goals as goal
 
 pub store_marked-requires-clause-before : goal.store_marked-requires-clause-before

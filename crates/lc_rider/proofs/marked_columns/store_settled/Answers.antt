@@ -1,4 +1,4 @@
-use Rattle.std.proofs.Common.{◌≡◌, ◌∙◌, ℕ, List, [], ◌∷◌, ◌++◌, OnOk, map, pos, refl, sym, ap, ap₂, subst, append_assoc}
+use Rattle.std.proofs.Common.{◌≡◌, ◌∙◌, ℕ, List, [], ◌∷◌, ◌++◌, OnOk, map, pos, refl, ap, ap₂, subst, append_assoc}
 use Rattle.lc_term.specs.PutNumbers.{columns_at, terms_in}
 use Rattle.lc_term.specs.Said.{puts, said, at_client}
 use Rattle.lc_term.specs.Syntax.{Column, Number}

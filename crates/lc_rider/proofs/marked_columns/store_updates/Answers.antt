@@ -1,4 +1,4 @@
-use Rattle.std.proofs.Common.{◌≡◌, ◌∙◌}
+use Rattle.std.proofs.Common.{◌∙◌}
 use Rattle.lc_term.specs.PutNumbers.{columns_at, terms_in, replacement_at}
 use Rattle.lc_term.specs.Replacement.{replace_term}
 use Rattle.lc_term.specs.Tables.{HasTerm}

@@ -1,8 +1,7 @@
-use Rattle.std.proofs.Common.{◌≡◌, ◌∙◌, ℕ, OnOk, subst}
+use Rattle.std.proofs.Common.{◌≡◌, ℕ, OnOk, subst}
 use Rattle.lc_term.specs.PutNumbers.{columns_at}
 use Rattle.lc_term.specs.Syntax.{Column}
 use Rattle.lc_term.specs.View.{term_of}
-use Rattle.lc_term.proofs.Later.{kept_on}
 use Rattle.lc_rider.proofs.Saying.{value_stored}
 use Rattle.lc_rider.proofs.stored.store_value.Goals as goal
 
