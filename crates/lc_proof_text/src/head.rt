@@ -2,7 +2,7 @@ ghost use Rattle.std.specs.Prelude.{◌≡◌};
 ghost use Rattle.lc_proof_text.specs.Heads.{head_of, proofs_due};
 
 /// What the first word of a step says, where it is any but `sum`.
-#[derive(Clone, Copy, Debug, PartialEq, Eq)]
+#[derive(Clone, Copy, PartialEq, Eq)]
 pub(crate) enum Head {
     Split,
     Cases,
@@ -20,7 +20,7 @@ pub(crate) enum Head {
 }
 
 /// How many proofs are due.
-#[derive(Clone, Copy, Debug, PartialEq, Eq)]
+#[derive(Clone, Copy, PartialEq, Eq)]
 pub(crate) enum Due {
     Nothing,
     One,
@@ -58,23 +58,23 @@ impl Due {
     }
 }
 
-/// What this word says.
+/// What this word says. Those that stand most often in a long certificate come first.
 pub(crate) fn head_of(word: &str) -> Option<Head>
     ensures { result ≡ head_of word.now }
 {
     match word {
+        "opposite" => Some(Head::Opposite),
+        "trich" => Some(Head::Trichotomy),
         "split" => Some(Head::Split),
         "cases" => Some(Head::Cases),
+        "written" => Some(Head::Written),
         "push" => Some(Head::Push),
         "inst" => Some(Head::Instantiate),
         "fresh" => Some(Head::Fresh),
         "cut" => Some(Head::Cut),
-        "written" => Some(Head::Written),
         "same" => Some(Head::Same),
         "affine" => Some(Head::Affine),
-        "trich" => Some(Head::Trichotomy),
         "divide" => Some(Head::Divide),
-        "opposite" => Some(Head::Opposite),
         "open" => Some(Head::Open),
         _ => None,
     }

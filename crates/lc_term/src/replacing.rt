@@ -399,9 +399,51 @@ impl Terms {
         Ok(number)
     }
 
+    // The number of a comparison whose sides are replaced: the number `formula` of the one before, where neither changed.
+    #[tactic(auto, using(crate::proofs::Later::keeps_itself, crate::proofs::NodeReplacement::same_le))]
+    fn enter_changed_le(
+        &mut self,
+        formula: FormulaId,
+        before: (TermId, TermId),
+        left: TermId,
+        right: TermId,
+    ) -> Result<FormulaId, OutOfMemory>
+        requires there { HasFormula self.old formula (S.Le (term_in self.old before.0) (term_in self.old before.1)) }
+        requires left { IsTerm self.old left }
+        requires right { IsTerm self.old right }
+        ensures id { IfOk result (λ k. HasFormula self.new k (S.Le (term_in self.old left) (term_in self.old right))) }
+        ensures kept { Keeps self.old self.new }
+    {
+        if left == before.0 && right == before.1 {
+            return Ok(formula);
+        }
+        self.le(left, right)
+    }
+
+    // The same of terms that are to be equal.
+    #[tactic(auto, using(crate::proofs::Later::keeps_itself, crate::proofs::NodeReplacement::same_eq))]
+    fn enter_changed_eq(
+        &mut self,
+        formula: FormulaId,
+        before: (TermId, TermId),
+        left: TermId,
+        right: TermId,
+    ) -> Result<FormulaId, OutOfMemory>
+        requires there { HasFormula self.old formula (S.Eq (term_in self.old before.0) (term_in self.old before.1)) }
+        requires left { IsTerm self.old left }
+        requires right { IsTerm self.old right }
+        ensures id { IfOk result (λ k. HasFormula self.new k (S.Eq (term_in self.old left) (term_in self.old right))) }
+        ensures kept { Keeps self.old self.new }
+    {
+        if left == before.0 && right == before.1 {
+            return Ok(formula);
+        }
+        self.eq(left, right)
+    }
+
     // A formula, replaced, which is not replaced yet.
     #[cycle(replaced_formula)]
-    #[tactic(auto, using(crate::proofs::Later::kept_on, crate::proofs::Later::keeps_itself, crate::proofs::Later::is_term_later, crate::proofs::Later::is_term_still, crate::proofs::Later::is_formula_later, crate::proofs::Later::is_formula_still))]
+    #[tactic(auto, using(crate::proofs::Later::kept_on, crate::proofs::Later::keeps_itself, crate::proofs::Later::is_term_later, crate::proofs::Later::is_term_still, crate::proofs::Later::is_formula_later, crate::proofs::Later::is_formula_still, crate::proofs::NodeReplacement::le_still, crate::proofs::NodeReplacement::eq_still))]
     pub(crate) fn replaced_formula_node<R: Filled>(
         &mut self,
         alloc: Global,
@@ -418,16 +460,16 @@ impl Terms {
     {
         match self.formula_node(formula) {
             FormulaNode::Le(left, right) => {
-                let (left, right) = (*left, *right);
-                let left = self.replaced_term::<R>(alloc, put, done, left, depth)?;
-                let right = self.replaced_term::<R>(alloc, put, done, right, depth)?;
-                self.le(left, right)
+                let before = (*left, *right);
+                let left = self.replaced_term::<R>(alloc, put, done, before.0, depth)?;
+                let right = self.replaced_term::<R>(alloc, put, done, before.1, depth)?;
+                self.enter_changed_le(formula, before, left, right)
             }
             FormulaNode::Eq(left, right) => {
-                let (left, right) = (*left, *right);
-                let left = self.replaced_term::<R>(alloc, put, done, left, depth)?;
-                let right = self.replaced_term::<R>(alloc, put, done, right, depth)?;
-                self.eq(left, right)
+                let before = (*left, *right);
+                let left = self.replaced_term::<R>(alloc, put, done, before.0, depth)?;
+                let right = self.replaced_term::<R>(alloc, put, done, before.1, depth)?;
+                self.enter_changed_eq(formula, before, left, right)
             }
             FormulaNode::Not(formula) => {
                 let formula = *formula;
