@@ -460,16 +460,16 @@ impl Terms {
     {
         match self.formula_node(formula) {
             FormulaNode::Le(left, right) => {
-                let before = (*left, *right);
-                let left = self.replaced_term::<R>(alloc, put, done, before.0, depth)?;
-                let right = self.replaced_term::<R>(alloc, put, done, before.1, depth)?;
-                self.enter_changed_le(formula, before, left, right)
+                let (first, second) = (*left, *right);
+                let left = self.replaced_term::<R>(alloc, put, done, first, depth)?;
+                let right = self.replaced_term::<R>(alloc, put, done, second, depth)?;
+                self.enter_changed_le(formula, (first, second), left, right)
             }
             FormulaNode::Eq(left, right) => {
-                let before = (*left, *right);
-                let left = self.replaced_term::<R>(alloc, put, done, before.0, depth)?;
-                let right = self.replaced_term::<R>(alloc, put, done, before.1, depth)?;
-                self.enter_changed_eq(formula, before, left, right)
+                let (first, second) = (*left, *right);
+                let left = self.replaced_term::<R>(alloc, put, done, first, depth)?;
+                let right = self.replaced_term::<R>(alloc, put, done, second, depth)?;
+                self.enter_changed_eq(formula, (first, second), left, right)
             }
             FormulaNode::Not(formula) => {
                 let formula = *formula;

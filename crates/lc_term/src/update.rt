@@ -11,7 +11,7 @@ pub struct Update {
 }
 
 /// A number that is stored in a cell of a column.
-#[derive(Clone, Copy, PartialEq, Eq)]
+#[derive(Clone, Copy)]
 pub struct Write {
     pub column: ColId,
     pub index: i64,
