@@ -3,7 +3,7 @@ ghost use Rattle.std.specs.Prelude.{◌+◌, ◌≤◌, ◌^◌};
 use lc_base::ColId;
 
 /// The columns that each object has behind its own, which are indexed by clients: what stands there of their calls.
-#[derive(Clone, Copy, Debug)]
+#[derive(Clone, Copy)]
 pub struct SystemColumns {
     first: ColId,
     ghost are_columns: { first.0 + 12 ≤ 2 ^ 32 },

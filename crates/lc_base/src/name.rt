@@ -10,7 +10,7 @@ pub const NAME_LIMIT: usize = 64;
 
 /// A name: a letter or `_`, then letters, digits, `_`, `-` and `.`, together at most 64 bytes.
 /// It lies in the value itself, so a copy takes no memory.
-#[derive(Clone, Copy, Debug, PartialEq, Eq)]
+#[derive(Clone, Copy, PartialEq, Eq)]
 pub struct Name {
     text: ArrayString<64>,
     ghost is_name: { is_name text.bytes ≡ true },

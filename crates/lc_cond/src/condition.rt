@@ -4,7 +4,7 @@ use lc_object::EdgeKind;
 use lc_rider::Owing;
 
 /// What a condition asks for.
-#[derive(Clone, Copy, Debug, PartialEq, Eq)]
+#[derive(Clone, Copy)]
 pub enum Kind {
     /// The invariant holds at first.
     Init,
@@ -31,7 +31,7 @@ pub enum Kind {
 }
 
 /// What is passed.
-#[derive(Clone, Copy, Debug, PartialEq, Eq)]
+#[derive(Clone, Copy)]
 pub enum Passage {
     Nothing,
     Edge(EdgeKind),
@@ -40,7 +40,7 @@ pub enum Passage {
 }
 
 /// Which of its kind a condition is.
-#[derive(Clone, Copy, Debug, PartialEq, Eq)]
+#[derive(Clone, Copy)]
 pub enum Which {
     /// There is one.
     Alone,
@@ -50,7 +50,7 @@ pub enum Which {
 }
 
 /// Where a condition stands.
-#[derive(Clone, Copy, Debug, PartialEq, Eq)]
+#[derive(Clone, Copy)]
 pub struct Place {
     pub point: Option<PointId>,
     pub passage: Passage,
@@ -60,7 +60,6 @@ pub struct Place {
 }
 
 /// What is to be proved of a development, in the table that its formulas are in.
-#[derive(Debug)]
 pub struct Condition {
     pub kind: Kind,
     pub place: Place,

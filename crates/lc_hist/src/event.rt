@@ -8,7 +8,7 @@ use lc_base::OpId;
 pub const CLIENT_LIMIT: u32 = 1_000_000;
 
 /// What a client of an object does.
-#[derive(Debug, Drop)]
+#[derive(Drop)]
 pub enum Event {
     /// It calls an operation with numbers.
     Invoke {
@@ -42,7 +42,7 @@ impl Event {
 }
 
 /// An entry of an order: a client's call, and the reply that it gets there.
-#[derive(Debug, Drop)]
+#[derive(Drop)]
 pub struct Done<C, R> {
     pub client: u32,
     pub call: C,

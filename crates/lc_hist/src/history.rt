@@ -9,7 +9,7 @@ use thiserror::Error;
 
 /// Events in order, in which each client's calls and returns take turns, beginning with a call, and each client's
 /// number is at most `CLIENT_LIMIT`.
-#[derive(Debug, Drop)]
+#[derive(Drop)]
 pub struct History {
     events: Vec<Event>,
     ghost well_formed: { IsWellFormed (events_of events.items) },

@@ -51,7 +51,7 @@ impl<T: Drop> From<AllocFailed<T>> for ProofFault {
 }
 
 /// Why a step was not taken.
-#[derive(Clone, Copy, Debug, PartialEq, Eq)]
+#[derive(Clone, Copy)]
 pub(crate) enum StepFault {
     Flawed(Flaw),
     OutOfMemory,

@@ -8,7 +8,7 @@ use lc_term::{FormulaId, Terms};
 use std::alloc::Global;
 
 /// What a proof is to show: that a formula follows from hypotheses, which stand in one table.
-#[derive(Debug, Drop)]
+#[derive(Drop)]
 pub struct Goal {
     /// How many free variables there are: those with numbers below this.
     pub vars: u32,

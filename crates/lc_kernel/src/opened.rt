@@ -11,7 +11,7 @@ use lc_term::{FormulaId, Terms};
 use std::alloc::Global;
 
 /// The branches that a step opens, by the formulas that are appended to the hypotheses in each.
-#[derive(Debug, Drop)]
+#[derive(Drop)]
 pub(crate) enum Branches {
     /// No branch.
     Nothing,
@@ -22,7 +22,7 @@ pub(crate) enum Branches {
 }
 
 /// What a step opens.
-#[derive(Debug, Drop)]
+#[derive(Drop)]
 pub(crate) struct Opened {
     /// How many variables are in use in the branches.
     pub(crate) variables: u32,

@@ -8,7 +8,7 @@ use lc_term::{ColExpr, Formula, Term};
 ///
 /// A step appends formulas to the hypotheses of each branch; hypotheses are numbered from 0, and what is shown
 /// stands last among them, negated.
-#[derive(Debug, Drop)]
+#[derive(Drop)]
 pub struct Proof {
     pub step: Step,
     pub branches: Vec<Proof>,
@@ -28,7 +28,6 @@ impl Proof {
 }
 
 /// A step of a proof. A hypothesis is given by its number.
-#[derive(Debug)]
 pub enum Step {
     /// `(split h P)`: of `(and F ..)` one branch, with each F.
     Split {
@@ -144,7 +143,7 @@ impl Drop for Step {
 }
 
 /// So many times a hypothesis.
-#[derive(Clone, Copy, Debug, PartialEq, Eq)]
+#[derive(Clone, Copy, PartialEq, Eq)]
 pub struct Multiple {
     pub hypothesis: i64,
     pub multiplier: i64,

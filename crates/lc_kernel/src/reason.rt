@@ -43,7 +43,7 @@ impl Reason {
 }
 
 /// What is wrong with a step.
-#[derive(Clone, Copy, Debug, PartialEq, Eq)]
+#[derive(Clone, Copy)]
 pub enum Flaw {
     /// It does not hold, for this reason.
     Bad(Reason),

@@ -10,7 +10,6 @@ use std::alloc::Global;
 
 /// A linear form: a constant, and a coefficient for each of its atoms. The atoms are numbers of terms in a table, of
 /// variables and reads that stand in the terms that the form was made of.
-#[derive(Debug)]
 pub struct LinForm {
     constant: i128,
     coefficients: IndexMap<TermId, i128>,

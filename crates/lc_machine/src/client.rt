@@ -15,7 +15,7 @@ use lc_term::State;
 use std::alloc::Global;
 
 // Where a client is.
-#[derive(Debug, Drop)]
+#[derive(Drop)]
 pub(crate) enum Client {
     // In no call.
     Idle,
@@ -24,7 +24,7 @@ pub(crate) enum Client {
 }
 
 /// What became of a client that took a step of its call.
-#[derive(Debug, Drop)]
+#[derive(Drop)]
 pub enum Moved {
     /// It went by this edge, and stands at this point.
     Went { point: PointId, edge: EdgeKind },

@@ -18,14 +18,14 @@ use std::alloc::Global;
 
 /// Where a client in a call is: a point, and the numbers of its variables. These are how many clients there are, which
 /// of them it is, the arguments, and the locals.
-#[derive(Debug, Drop)]
+#[derive(Drop)]
 pub struct Place {
     pub point: PointId,
     pub variables: Env,
 }
 
 /// What becomes of a client.
-#[derive(Debug, Drop)]
+#[derive(Drop)]
 pub enum Fate {
     /// It goes to this place.
     Goes(Place),
@@ -34,7 +34,7 @@ pub enum Fate {
 }
 
 /// What an instruction does: by which edge its client goes, what is stored, in order, and what becomes of the client.
-#[derive(Debug, Drop)]
+#[derive(Drop)]
 pub struct Effect {
     pub edge: EdgeKind,
     pub writes: ArrayVec<Write, WIDTH_LIMIT>,

@@ -13,7 +13,7 @@ use lc_term::{ColExpr, Formula, Term, Update};
 use std::alloc::Global;
 
 /// An edge of the instruction at a point: what holds where it is gone, what it does, and what comes next.
-#[derive(Debug, Drop)]
+#[derive(Drop)]
 pub struct Edge {
     /// The point that is left.
     pub point: PointId,

@@ -2,16 +2,16 @@ use lc_base::PointId;
 use lc_term::{Formula, Term};
 
 /// An array, by its place in the object, from 0.
-#[derive(Clone, Copy, Debug, PartialEq, Eq)]
+#[derive(Clone, Copy)]
 pub struct ArrayId(pub u32);
 
 /// A local, by the number of its variable. In the code of an operation variable 0 is the number of clients, which
 /// no instruction uses, and variable 1 the client; then come the arguments, and then the locals.
-#[derive(Clone, Copy, Debug, PartialEq, Eq)]
+#[derive(Clone, Copy)]
 pub struct LocalId(pub u32);
 
 /// By which of its edges an instruction goes.
-#[derive(Clone, Copy, Debug, PartialEq, Eq)]
+#[derive(Clone, Copy)]
 pub enum EdgeKind {
     /// The one edge of `load`, `store`, `set` and `return`.
     Next,
@@ -22,7 +22,7 @@ pub enum EdgeKind {
 }
 
 /// An instruction: one access of at most one row of one array.
-#[derive(Debug, Drop)]
+#[derive(Drop)]
 pub enum Instr {
     /// A row is read into locals.
     Load {

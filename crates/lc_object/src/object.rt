@@ -7,7 +7,7 @@ use crate::testing::is_object;
 
 /// An object: what its parts promise is the definition `is_object`. Each instruction names arrays, locals, labels
 /// and variables that are there, in the right numbers.
-#[derive(Debug, Drop)]
+#[derive(Drop)]
 pub struct Object {
     pub(crate) parts: Parts,
     ghost well_formed: { is_object (parts_of parts) ≡ true },

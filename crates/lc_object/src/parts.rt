@@ -2,7 +2,7 @@ use crate::instr::Instr;
 use lc_base::{ColId, Name, OpId, PointId};
 
 /// A concrete column. At first `slope * i + start` stands in its cell i.
-#[derive(Clone, Copy, Debug, PartialEq, Eq)]
+#[derive(Clone, Copy)]
 pub struct Column {
     pub name: Name,
     pub slope: i64,
@@ -10,14 +10,14 @@ pub struct Column {
 }
 
 /// An array: rows of concrete columns.
-#[derive(Debug, Drop)]
+#[derive(Drop)]
 pub struct Array {
     pub name: Name,
     pub columns: Vec<ColId>,
 }
 
 /// An operation with its body's locals, and the first point of its body.
-#[derive(Debug, Drop)]
+#[derive(Drop)]
 pub struct Operation {
     pub name: Name,
     pub arguments: Vec<Name>,
@@ -28,7 +28,7 @@ pub struct Operation {
 }
 
 /// A point of an operation's body.
-#[derive(Debug, Drop)]
+#[derive(Drop)]
 pub struct Point {
     pub name: Name,
     pub operation: OpId,
@@ -37,7 +37,7 @@ pub struct Point {
 
 /// The parts of an object. Columns are numbered from 0: the abstract ones of its specification, then the concrete
 /// ones of its arrays, then the auxiliary ones.
-#[derive(Debug, Drop)]
+#[derive(Drop)]
 pub struct Parts {
     pub name: Name,
     pub abstracts: Vec<Name>,

@@ -4,7 +4,7 @@ use lc_base::PointId;
 use lc_object::{ArrayId, LocalId};
 
 /// An array as instructions see it.
-#[derive(Clone, Copy, Debug, PartialEq, Eq)]
+#[derive(Clone, Copy)]
 pub struct Row {
     pub array: ArrayId,
     /// How many columns it has.

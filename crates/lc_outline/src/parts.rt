@@ -6,7 +6,7 @@ use lc_term::{Formula, Term};
 use lc_tie::Tie;
 
 /// A declared action, by its place in the development, from 0.
-#[derive(Clone, Copy, Debug, PartialEq, Eq)]
+#[derive(Clone, Copy)]
 pub struct ActionId(pub u32);
 
 /// What stands at an edge of an instruction: the action that its step is, with arguments, and what is done beside it.

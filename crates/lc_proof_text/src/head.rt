@@ -2,7 +2,7 @@ ghost use Rattle.std.specs.Prelude.{◌≡◌};
 ghost use Rattle.lc_proof_text.specs.Heads.{head_of, proofs_due};
 
 /// What the first word of a step says, where it is any but `sum`.
-#[derive(Clone, Copy, Debug, PartialEq, Eq)]
+#[derive(Clone, Copy)]
 pub(crate) enum Head {
     Split,
     Cases,
@@ -20,7 +20,7 @@ pub(crate) enum Head {
 }
 
 /// How many proofs are due.
-#[derive(Clone, Copy, Debug, PartialEq, Eq)]
+#[derive(Clone, Copy)]
 pub(crate) enum Due {
     Nothing,
     One,

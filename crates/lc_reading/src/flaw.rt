@@ -11,7 +11,7 @@ use std::alloc::{AllocError, AllocFailed};
 
 /// What is wrong in a text: its first refusal, which is the least by pass and then by item, and the least item that is
 /// wrong at all.
-#[derive(Clone, Copy, Debug, PartialEq, Eq)]
+#[derive(Clone, Copy)]
 pub struct Flaw {
     pub pass: Pass,
     pub item: u64,
@@ -19,7 +19,7 @@ pub struct Flaw {
 }
 
 /// Why nothing is read of a text.
-#[derive(Clone, Copy, Debug, PartialEq, Eq)]
+#[derive(Clone, Copy)]
 pub enum ReadFault {
     Flawed(Flaw),
     OutOfMemory,

@@ -1,5 +1,5 @@
 /// A pass over a file. What is wrong in an earlier one is told before what is wrong in a later one.
-#[derive(Clone, Copy, Debug, PartialEq, Eq)]
+#[derive(Clone, Copy)]
 pub enum Pass {
     /// What does not fit the grammar.
     Shape,

@@ -1,7 +1,7 @@
 use lc_term::FormulaId;
 
 /// What a mark asks for.
-#[derive(Clone, Copy, Debug, PartialEq, Eq)]
+#[derive(Clone, Copy)]
 pub enum Owing {
     /// The call that is marked is pending.
     Pending,

@@ -1,5 +1,5 @@
 /// The edges at which an `on` may stand.
-#[derive(Clone, Copy, Debug, PartialEq, Eq)]
+#[derive(Clone, Copy)]
 pub struct Edges {
     /// The one edge of an instruction that has one, `next`.
     pub next: bool,

@@ -19,7 +19,7 @@ use lc_term::{Env, EvalFault, State, Term, Update, Write, eval, eval_term};
 use std::alloc::Global;
 
 /// What a branch stores, in order, and what it replies.
-#[derive(Debug, Drop)]
+#[derive(Drop)]
 pub struct Outcome {
     pub writes: Vec<Write>,
     pub replies: Vec<i64>,

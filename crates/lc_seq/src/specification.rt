@@ -7,7 +7,7 @@ use lc_base::{Name, OpId};
 use lc_term::{Formula, Term, Update};
 
 /// A column, which starts with `slope * i + start` in cell i.
-#[derive(Debug, Drop)]
+#[derive(Drop)]
 pub struct Column {
     pub name: Name,
     pub slope: i64,
@@ -16,7 +16,7 @@ pub struct Column {
 
 /// What is stored and replied where a guard holds. Variable 0 is the number of clients, which no specification
 /// reads, variable 1 is the client, and the arguments follow.
-#[derive(Debug, Drop)]
+#[derive(Drop)]
 pub struct Branch {
     pub guard: Formula,
     pub updates: Vec<Update>,
@@ -24,7 +24,7 @@ pub struct Branch {
 }
 
 /// An operation. A call of it takes the first branch whose guard holds.
-#[derive(Debug, Drop)]
+#[derive(Drop)]
 pub struct Operation {
     pub name: Name,
     pub arguments: Vec<Name>,
@@ -50,7 +50,7 @@ impl Operation {
 }
 
 /// A specification: columns, and operations on them.
-#[derive(Debug, Drop)]
+#[derive(Drop)]
 pub struct TextSpec {
     pub(crate) name: Name,
     pub(crate) columns: Vec<Column>,

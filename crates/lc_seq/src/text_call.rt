@@ -1,7 +1,7 @@
 use lc_base::OpId;
 
 /// A call of a specification in text.
-#[derive(Debug, PartialEq, Eq, Drop)]
+#[derive(PartialEq, Eq, Drop)]
 pub struct TextCall {
     pub op: OpId,
     pub numbers: Vec<i64>,

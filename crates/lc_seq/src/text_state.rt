@@ -1,7 +1,7 @@
 use lc_term::State;
 
 /// A state of a specification in text: a number in each cell of its columns.
-#[derive(Debug, Drop)]
+#[derive(Drop)]
 pub struct TextState {
     pub(crate) cells: State,
 }

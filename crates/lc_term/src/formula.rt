@@ -10,7 +10,6 @@ use lc_base::OutOfMemory;
 use std::alloc::Global;
 
 /// A statement on the columns and the variables.
-#[derive(Debug)]
 pub enum Formula {
     /// The first term is at most the second.
     Le(Term, Term),

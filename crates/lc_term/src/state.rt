@@ -22,13 +22,13 @@ pub enum EvalFault {
 
 /// A state: each column has a number in each cell. In cell i that is the number written there last,
 /// else `a * i + b` for the column's two numbers a and b.
-#[derive(Debug, Drop)]
+#[derive(Drop)]
 pub struct State {
     columns: Vec<Cells>,
 }
 
 // A column: its numbers a and b, and the cells that are written.
-#[derive(Debug, Drop)]
+#[derive(Drop)]
 struct Cells {
     slope: i64,
     start: i64,
@@ -36,7 +36,7 @@ struct Cells {
 }
 
 // A cell, and what was written there before.
-#[derive(Clone, Copy, Debug)]
+#[derive(Clone, Copy)]
 struct Undo {
     column: ColId,
     index: i64,
@@ -44,7 +44,7 @@ struct Undo {
 }
 
 /// The numbers of the variables, by their numbers.
-#[derive(Debug, Drop)]
+#[derive(Drop)]
 pub struct Env {
     pub values: Vec<i64>,
 }

@@ -9,7 +9,6 @@ use std::alloc::Global;
 
 /// A whole number, as a function of the columns and the variables.
 #[cycle(term)]
-#[derive(Debug)]
 pub enum Term {
     /// A number.
     Number(i64),
@@ -29,7 +28,6 @@ pub enum Term {
 
 /// A column: a whole number in each cell, the cells being numbered by the whole numbers.
 #[cycle(term)]
-#[derive(Debug)]
 pub enum ColExpr {
     /// A column of the state.
     Base(ColId),

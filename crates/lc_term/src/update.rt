@@ -3,7 +3,7 @@ use crate::term::Term;
 use lc_base::ColId;
 
 /// A value that is stored in a column at an index.
-#[derive(Debug, Drop)]
+#[derive(Drop)]
 pub struct Update {
     pub column: ColId,
     pub index: Term,
@@ -11,7 +11,7 @@ pub struct Update {
 }
 
 /// A number that is stored in a cell of a column.
-#[derive(Clone, Copy, Debug, PartialEq, Eq)]
+#[derive(Clone, Copy)]
 pub struct Write {
     pub column: ColId,
     pub index: i64,

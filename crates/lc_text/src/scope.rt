@@ -3,7 +3,7 @@ ghost use Rattle.std.specs.Prelude.{◌≡◌};
 use lc_base::ColId;
 
 /// What the name of a column stands for at a place of a file.
-#[derive(Clone, Copy, Debug, PartialEq, Eq)]
+#[derive(Clone, Copy)]
 pub enum ColumnUse {
     /// A column that may be read here.
     Usable(ColId),
@@ -16,7 +16,7 @@ pub enum ColumnUse {
 }
 
 /// What stands only at some places of files.
-#[derive(Clone, Copy, Debug, PartialEq, Eq)]
+#[derive(Clone, Copy)]
 pub enum Extra {
     /// `forall` and `exists`.
     Quantifiers,
