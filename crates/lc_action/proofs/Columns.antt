@@ -5,7 +5,7 @@ use mathlib.Core.Path.{fun_ext}
 use Rattle.lc_term.specs.Syntax.{Term, Column, Base, Store}
 use Rattle.lc_term.specs.Said.{put}
 use Rattle.lc_action.specs.Telling.{column_at}
-pub use Rattle.lc_term.proofs.Entries.{IsAbsent, same, found, missing, absent-more}
+pub use Rattle.lc_table.proofs.Entries.{IsAbsent, same, found, missing, absent-more}
 
 -- another entry for a column in place of one, or in place of none
 put_at : (c : ℕ) (ps qs : List (ℕ × Column)) (x : Column) (i v : Term) (d : ℕ) → IsAbsent c ps →

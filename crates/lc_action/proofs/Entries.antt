@@ -11,7 +11,7 @@ use Rattle.lc_term.specs.UpdateView.{update_of, updates_of}
 use Rattle.lc_term.specs.declared.update.Update.{Update}
 use Rattle.lc_action.specs.Telling.{column_at, entry_of, columns_in}
 use Rattle.lc_action.proofs.Columns.{IsAbsent, same, put_in_place, put_behind}
-pub use Rattle.lc_term.proofs.Entries.{split, entry_found, absent_step}
+pub use Rattle.lc_table.proofs.Entries.{split, entry_found, absent_step}
 
 -- the entries round one
 split_entries : (cs : List (ColId × ColExpr)) (i : ℕ) (p : ColId × ColExpr) → i < length cs → p ≡ get_or cs i p →

@@ -1,10 +1,10 @@
 ghost use Rattle.std.specs.Prelude.{◌≡◌, [], ◌∷◌, IfOk};
 ghost use Rattle.lc_array.specs.Axioms.{written, written_to, same_index, affine_cell};
 ghost use Rattle.lc_term.specs.Syntax as S;
-ghost use Rattle.lc_term.specs.Tables.{term_in, column_in, formula_in, IsTerm, IsColumn, IsFormula, HasTerm, HasFormula, Keeps};
+ghost use Rattle.lc_table.specs.Tables.{term_in, column_in, formula_in, IsTerm, IsColumn, IsFormula, HasTerm, HasFormula, Keeps};
 
 use lc_base::OutOfMemory;
-use lc_term::{ColExprId, FormulaId, TermId, Terms};
+use lc_table::{ColExprId, FormulaId, TermId, Terms};
 use std::alloc::Global;
 
 fn pair(alloc: Global, first: FormulaId, second: FormulaId) -> Result<Vec<FormulaId>, OutOfMemory>
@@ -41,7 +41,7 @@ fn either(
     terms.or(pair(alloc, first, second)?)
 }
 
-#[tactic(auto, using(lc_term::proofs::Later::formula_is, lc_term::proofs::Later::is_formula_later, lc_term::proofs::Later::keeps_itself, lc_term::proofs::Later::kept_on))]
+#[tactic(auto, using(lc_table::proofs::Later::formula_is, lc_table::proofs::Later::is_formula_later, lc_table::proofs::Later::keeps_itself, lc_table::proofs::Later::kept_on))]
 fn unequal(terms: &mut Terms, left: TermId, right: TermId) -> Result<FormulaId, OutOfMemory>
     requires left { IsTerm terms.old left }
     requires right { IsTerm terms.old right }
@@ -53,7 +53,7 @@ fn unequal(terms: &mut Terms, left: TermId, right: TermId) -> Result<FormulaId, 
 }
 
 /// `(= (rd C i) v)`.
-#[tactic(auto, using(lc_term::proofs::Later::term_is, lc_term::proofs::Later::is_term_later, lc_term::proofs::Later::term_still, lc_term::proofs::Later::is_term_still, lc_term::proofs::Later::keeps_itself, lc_term::proofs::Later::kept_on))]
+#[tactic(auto, using(lc_table::proofs::Later::term_is, lc_table::proofs::Later::is_term_later, lc_table::proofs::Later::term_still, lc_table::proofs::Later::is_term_still, lc_table::proofs::Later::keeps_itself, lc_table::proofs::Later::kept_on))]
 fn has_value(
     terms: &mut Terms,
     column: ColExprId,
@@ -71,7 +71,7 @@ fn has_value(
 }
 
 /// `(= (rd C i) (rd D j))`.
-#[tactic(auto, using(lc_term::proofs::Later::term_is, lc_term::proofs::Later::term_later, lc_term::proofs::Later::is_term_later, lc_term::proofs::Later::is_term_still, crate::proofs::Still::is_column_still, lc_term::proofs::Later::keeps_itself, lc_term::proofs::Later::kept_on))]
+#[tactic(auto, using(lc_table::proofs::Later::term_is, lc_table::proofs::Later::term_later, lc_table::proofs::Later::is_term_later, lc_table::proofs::Later::is_term_still, crate::proofs::Still::is_column_still, lc_table::proofs::Later::keeps_itself, lc_table::proofs::Later::kept_on))]
 fn agree(
     terms: &mut Terms,
     column: ColExprId,
@@ -92,7 +92,7 @@ fn agree(
 }
 
 /// `(and (= i j) (= (rd D j) v))`, where `D` is the column afterwards.
-#[tactic(auto, using(lc_term::proofs::Later::is_formula_later, lc_term::proofs::Later::is_term_still, crate::proofs::Still::is_column_still, lc_term::proofs::Later::keeps_itself, lc_term::proofs::Later::kept_on))]
+#[tactic(auto, using(lc_table::proofs::Later::is_formula_later, lc_table::proofs::Later::is_term_still, crate::proofs::Still::is_column_still, lc_table::proofs::Later::keeps_itself, lc_table::proofs::Later::kept_on))]
 fn written_there(
     terms: &mut Terms,
     alloc: Global,
@@ -114,7 +114,7 @@ fn written_there(
 }
 
 /// `(and (not (= i j)) (= (rd D j) (rd C j)))`, where `D` is the column afterwards.
-#[tactic(auto, using(lc_term::proofs::Later::is_formula_later, lc_term::proofs::Later::is_term_still, crate::proofs::Still::is_column_still, lc_term::proofs::Later::keeps_itself, lc_term::proofs::Later::kept_on))]
+#[tactic(auto, using(lc_table::proofs::Later::is_formula_later, lc_table::proofs::Later::is_term_still, crate::proofs::Still::is_column_still, lc_table::proofs::Later::keeps_itself, lc_table::proofs::Later::kept_on))]
 fn kept_elsewhere(
     terms: &mut Terms,
     alloc: Global,
@@ -136,7 +136,7 @@ fn kept_elsewhere(
 }
 
 /// The axiom of a stored value, of the column afterwards.
-#[tactic(auto, using(lc_term::proofs::Later::is_formula_later, lc_term::proofs::Later::is_term_still, crate::proofs::Still::is_column_still, lc_term::proofs::Later::keeps_itself, lc_term::proofs::Later::kept_on))]
+#[tactic(auto, using(lc_table::proofs::Later::is_formula_later, lc_table::proofs::Later::is_term_still, crate::proofs::Still::is_column_still, lc_table::proofs::Later::keeps_itself, lc_table::proofs::Later::kept_on))]
 fn after_writing(
     terms: &mut Terms,
     alloc: Global,
@@ -162,7 +162,7 @@ fn after_writing(
 /// `(or (and (= i j) (= (rd (store C i v) j) v)) (and (not (= i j)) (= (rd (store C i v) j) (rd C j))))`, where the
 /// value `v` is stored in column `C` at the index `i`, and `j` is the other index: the cell at `j` has `v` where `i`
 /// and `j` are the same, and else what it had.
-#[tactic(auto, using(lc_term::proofs::Later::is_column_later, lc_term::proofs::Later::is_term_still, crate::proofs::Still::is_column_still, lc_term::proofs::Later::keeps_itself, lc_term::proofs::Later::kept_on))]
+#[tactic(auto, using(lc_table::proofs::Later::is_column_later, lc_table::proofs::Later::is_term_still, crate::proofs::Still::is_column_still, lc_table::proofs::Later::keeps_itself, lc_table::proofs::Later::kept_on))]
 pub fn written_axiom(
     terms: &mut Terms,
     alloc: Global,
@@ -183,7 +183,7 @@ pub fn written_axiom(
 }
 
 /// `(or (not (= i j)) (= (rd C i) (rd C j)))`: at one index a column has one number.
-#[tactic(auto, using(lc_term::proofs::Later::is_formula_later, lc_term::proofs::Later::is_term_still, crate::proofs::Still::is_column_still, lc_term::proofs::Later::keeps_itself, lc_term::proofs::Later::kept_on))]
+#[tactic(auto, using(lc_table::proofs::Later::is_formula_later, lc_table::proofs::Later::is_term_still, crate::proofs::Still::is_column_still, lc_table::proofs::Later::keeps_itself, lc_table::proofs::Later::kept_on))]
 pub fn same_index_axiom(
     terms: &mut Terms,
     alloc: Global,
@@ -203,7 +203,7 @@ pub fn same_index_axiom(
 }
 
 /// `(+ (* a i) b)`.
-#[tactic(auto, using(lc_term::proofs::Later::term_is, lc_term::proofs::Later::term_later, lc_term::proofs::Later::is_term_later, lc_term::proofs::Later::kept_on))]
+#[tactic(auto, using(lc_table::proofs::Later::term_is, lc_table::proofs::Later::term_later, lc_table::proofs::Later::is_term_later, lc_table::proofs::Later::kept_on))]
 fn line(terms: &mut Terms, slope: i64, start: i64, index: TermId) -> Result<TermId, OutOfMemory>
     requires { IsTerm terms.old index }
     ensures id { IfOk result (λ k. HasTerm terms.new k (S.Add (S.Multiply slope (term_in terms.old index)) (S.Number start))) }
@@ -215,7 +215,7 @@ fn line(terms: &mut Terms, slope: i64, start: i64, index: TermId) -> Result<Term
 }
 
 /// `(= (rd (affine a b) i) (+ (* a i) b))`, where `a` is the slope and `b` the start.
-#[tactic(auto, using(lc_term::proofs::Later::is_column_later, lc_term::proofs::Later::is_term_later, lc_term::proofs::Later::is_term_still, lc_term::proofs::Later::keeps_itself, lc_term::proofs::Later::kept_on))]
+#[tactic(auto, using(lc_table::proofs::Later::is_column_later, lc_table::proofs::Later::is_term_later, lc_table::proofs::Later::is_term_still, lc_table::proofs::Later::keeps_itself, lc_table::proofs::Later::kept_on))]
 pub fn affine_axiom(
     terms: &mut Terms,
     slope: i64,

@@ -5,11 +5,11 @@ use Rattle.std.specs.Option.{is_some}
 use Rattle.std.specs.Prelude.{Result, Ok, Err, ◌==◌, OnOk}
 use Rattle.lc_base.specs.declared.refusal.Refusal.{Refusal}
 use Rattle.lc_base.specs.declared.refusal.Refusal.TheVariants.{Missing, Extra}
-use Rattle.lc_term.proofs.Later.{formula_still, formulas_still, is_formula_still, are_formulas_still}
+use Rattle.lc_table.proofs.Later.{formula_still, formulas_still, is_formula_still, are_formulas_still}
 use Rattle.lc_term.proofs.Stores.{Every_right}
 use Rattle.lc_term.specs.Lists.{Every}
-use Rattle.lc_term.specs.NodeTables.{Table}
-use Rattle.lc_term.specs.Tables.{Keeps}
+use Rattle.lc_table.specs.NodeTables.{Table}
+use Rattle.lc_table.specs.Tables.{Keeps}
 use Rattle.lc_kernel.specs.Answers.{Proves}
 use Rattle.lc_kernel.specs.Proofs.{Proof, size}
 use Rattle.lc_kernel.specs.declared.fault.ProofFault.{ProofFault}

@@ -8,7 +8,7 @@ use lc_cond::laws::{conditions_have_few_variables, conditions_use_their_variable
 use lc_cond::{Condition, ConditionStream};
 use lc_kernel::Proof;
 use lc_outline::Development;
-use lc_term::Terms;
+use lc_table::Terms;
 use std::alloc::Global;
 
 /// How far the conditions of a development are proved. No more than one part of them is kept at a time. Each call is given

@@ -1,6 +1,6 @@
 //! Whether a proof proves a condition.
 ghost use Rattle.std.specs.Prelude.{◌≡◌, ◌≤◌};
-ghost use Rattle.lc_term.specs.Tables.{Keeps};
+ghost use Rattle.lc_table.specs.Tables.{Keeps};
 ghost use Rattle.lc_kernel.specs.Proofs.{size};
 ghost use Rattle.lc_kernel.specs.View.{proof_of};
 ghost use Rattle.lc_cond.specs.ConditionView.{condition_in, IsCondition};
@@ -9,7 +9,7 @@ ghost use Rattle.lc_check.specs.Answers.{IsBounded, fault_of, ProvesOne};
 use lc_base::{Fault, Refusal};
 use lc_cond::Condition;
 use lc_kernel::{Proof, ProofFault, prove};
-use lc_term::Terms;
+use lc_table::Terms;
 use std::alloc::Global;
 
 /// The fault of the proof of the condition of this number.

@@ -4,15 +4,15 @@ use Rattle.std.specs.Prelude.{Result, IfOk}
 use Rattle.std.specs.declared.alloc.Global.{Global}
 use Rattle.std.proofs.lemmas.List.{map-append, take-map}
 use Rattle.lc_base.specs.declared.ids.ColId.{ColId}
-use Rattle.lc_term.specs.PutNumbers.{columns_at, AreColumns, terms_in, AreTerms}
+use Rattle.lc_table.specs.PutNumbers.{columns_at, AreColumns, terms_in, AreTerms}
 use Rattle.lc_term.specs.Syntax.{Term, Column, Formula}
-use Rattle.lc_term.specs.NodeTables.{Table}
-use Rattle.lc_term.specs.Tables.{Keeps, formula_in, formulas_in, HasFormula, AreFormulas}
-use Rattle.lc_term.specs.declared.node.TermId.{TermId}
-use Rattle.lc_term.specs.declared.node.ColExprId.{ColExprId}
-use Rattle.lc_term.specs.declared.node.FormulaId.{FormulaId}
-use Rattle.lc_term.proofs.ByNumber.{are_terms_later, terms_still, are_columns_later, columns_still}
-use Rattle.lc_term.proofs.Later.{are_formulas_still, formulas_still, is_formula_still, formula_still, formula_is, are_formulas_pushed, formulas_pushed}
+use Rattle.lc_table.specs.NodeTables.{Table}
+use Rattle.lc_table.specs.Tables.{Keeps, formula_in, formulas_in, HasFormula, AreFormulas}
+use Rattle.lc_table.specs.declared.node.TermId.{TermId}
+use Rattle.lc_table.specs.declared.node.ColExprId.{ColExprId}
+use Rattle.lc_table.specs.declared.node.FormulaId.{FormulaId}
+use Rattle.lc_table.proofs.ByNumber.{are_terms_later, terms_still, are_columns_later, columns_still}
+use Rattle.lc_table.proofs.Later.{are_formulas_still, formulas_still, is_formula_still, formula_still, formula_is, are_formulas_pushed, formulas_pushed}
 use Rattle.lc_cond.specs.Conditions as S
 use Rattle.lc_cond.specs.ConditionView.{kind_of, place_of, condition_in, IsCondition, AreConditions}
 use Rattle.lc_cond.specs.Adding.{HasFormulas, HasTerms, HasColumns, Adds}

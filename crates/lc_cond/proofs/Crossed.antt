@@ -5,12 +5,12 @@ use Rattle.std.proofs.lemmas.Option.{slice_get-get_or}
 use Rattle.std.proofs.lemmas.List.{map-append, take_more, take_all, length-map, length-take-le}
 use Rattle.lc_base.specs.declared.ids.PointId.{PointId}
 use Rattle.lc_term.specs.Lists.{Every, numbered, concat_places}
-use Rattle.lc_term.specs.NodeTables.{Table}
+use Rattle.lc_table.specs.NodeTables.{Table}
 use Rattle.lc_term.specs.Syntax as T
 use Rattle.lc_term.specs.Syntax.{Formula}
-use Rattle.lc_term.specs.Tables.{Keeps, HasFormula, formula_in, formulas_in, AreFormulas}
-use Rattle.lc_term.specs.declared.node.FormulaId.{FormulaId}
-use Rattle.lc_term.proofs.Later.{formula_has, are_formulas_still}
+use Rattle.lc_table.specs.Tables.{Keeps, HasFormula, formula_in, formulas_in, AreFormulas}
+use Rattle.lc_table.specs.declared.node.FormulaId.{FormulaId}
+use Rattle.lc_table.proofs.Later.{formula_has, are_formulas_still}
 use Rattle.lc_action.specs.Action.{Action}
 use Rattle.lc_outline.specs.Development.{Development}
 use Rattle.lc_cond.specs.Adding.{HasFormulas, Adds}

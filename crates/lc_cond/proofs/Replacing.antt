@@ -2,17 +2,17 @@
 use Rattle.std.proofs.Common.{◌≡◌, ℕ, ◌+◌, ◌<◌, List, [], ◌∷◌, ◌++◌, map, take, length, sym, subst, ap, ap₂, ◌∙◌, get_or}
 use Rattle.std.proofs.lemmas.List.{map-append, take_more}
 use Rattle.lc_base.specs.declared.ids.ColId.{ColId}
-use Rattle.lc_term.specs.PutNumbers.{replacement_at}
+use Rattle.lc_table.specs.PutNumbers.{replacement_at}
 use Rattle.lc_term.specs.Replacement.{Replacement, replacing, replace}
 use Rattle.lc_term.specs.Said.{term_at}
 use Rattle.lc_term.specs.Syntax.{Term, Column}
-use Rattle.lc_term.specs.NodeTables.{Table}
-use Rattle.lc_term.specs.Tables.{Keeps, formula_in, formulas_in, AreFormulas, IsFormula, HasFormula}
-use Rattle.lc_term.specs.declared.node.TermId.{TermId}
-use Rattle.lc_term.specs.declared.node.ColExprId.{ColExprId}
-use Rattle.lc_term.specs.declared.node.FormulaId.{FormulaId}
-use Rattle.lc_term.proofs.Later.{formula_still, is_formula_still}
-use Rattle.lc_term.proofs.Listed.{are_formulas-get, formulas_in-more}
+use Rattle.lc_table.specs.NodeTables.{Table}
+use Rattle.lc_table.specs.Tables.{Keeps, formula_in, formulas_in, AreFormulas, IsFormula, HasFormula}
+use Rattle.lc_table.specs.declared.node.TermId.{TermId}
+use Rattle.lc_table.specs.declared.node.ColExprId.{ColExprId}
+use Rattle.lc_table.specs.declared.node.FormulaId.{FormulaId}
+use Rattle.lc_table.proofs.Later.{formula_still, is_formula_still}
+use Rattle.lc_table.proofs.Listed.{are_formulas-get, formulas_in-more}
 use Rattle.lc_tie.specs.Tie as T
 use Rattle.lc_tie.specs.TieView.{conjunct_of}
 use Rattle.lc_tie.specs.declared.tie.Conjunct.{Conjunct}

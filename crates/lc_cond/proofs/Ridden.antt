@@ -3,9 +3,9 @@ use Rattle.std.proofs.Common.{◌≡◌, ℕ, suc, ◌+◌, ◌<◌, Option, Som
 use Rattle.std.specs.Prelude.{option_map, slice_get}
 use Rattle.std.proofs.lemmas.List.{map-append, take_more, length-map, length-take-le}
 use Rattle.lc_term.specs.Lists.{concat_map, concat_places}
-use Rattle.lc_term.specs.NodeTables.{Table}
+use Rattle.lc_table.specs.NodeTables.{Table}
 use Rattle.lc_term.specs.Syntax.{Formula}
-use Rattle.lc_term.specs.Tables.{formulas_in}
+use Rattle.lc_table.specs.Tables.{formulas_in}
 use Rattle.lc_seq.specs.Specification as Q
 use Rattle.lc_object.specs.Syntax.{Operation, Point, Object}
 use Rattle.lc_object.specs.Edges.{Edge}

@@ -1,7 +1,7 @@
 -- The next part of a list that is given part by part.
 use Rattle.std.proofs.Common.{◌≡◌, ℕ, suc, Option, Some, None, List, [], ◌∷◌, ◌++◌, map, option_map, length, slice_get, drop, refl, sym, ap, ◌∙◌}
 use Rattle.lc_term.specs.Lists.{concat_map}
-use Rattle.lc_term.specs.NodeTables.{Table}
+use Rattle.lc_table.specs.NodeTables.{Table}
 use Rattle.lc_outline.specs.Development.{Development}
 use Rattle.lc_cond.specs.Conditions as S
 use Rattle.lc_cond.specs.Conditions.{conditions_in}

@@ -1,13 +1,13 @@
 -- Formulas, terms, columns and conditions that the code has by their numbers, and adds to those that it has.
 use Rattle.std.specs.Prelude.{◌≡◌, ℕ, List, ◌++◌, map}
 use Rattle.lc_base.specs.declared.ids.ColId.{ColId}
-use Rattle.lc_term.specs.PutNumbers.{columns_at, AreColumns, terms_in, AreTerms}
+use Rattle.lc_table.specs.PutNumbers.{columns_at, AreColumns, terms_in, AreTerms}
 use Rattle.lc_term.specs.Syntax.{Term, Column, Formula}
-use Rattle.lc_term.specs.NodeTables.{Table}
-use Rattle.lc_term.specs.Tables.{formulas_in, AreFormulas}
-use Rattle.lc_term.specs.declared.node.TermId.{TermId}
-use Rattle.lc_term.specs.declared.node.ColExprId.{ColExprId}
-use Rattle.lc_term.specs.declared.node.FormulaId.{FormulaId}
+use Rattle.lc_table.specs.NodeTables.{Table}
+use Rattle.lc_table.specs.Tables.{formulas_in, AreFormulas}
+use Rattle.lc_table.specs.declared.node.TermId.{TermId}
+use Rattle.lc_table.specs.declared.node.ColExprId.{ColExprId}
+use Rattle.lc_table.specs.declared.node.FormulaId.{FormulaId}
 use Rattle.lc_cond.specs.Conditions as S
 use Rattle.lc_cond.specs.ConditionView.{condition_in, AreConditions}
 use Rattle.lc_cond.specs.declared.condition.Condition.{Condition}

@@ -1,8 +1,8 @@
 -- What conditions of the code stand for, in a table that has their formulas.
 use Rattle.std.specs.Prelude.{List, option_map}
 use Rattle.lc_term.specs.Lists.{Every}
-use Rattle.lc_term.specs.NodeTables.{Table}
-use Rattle.lc_term.specs.Tables.{formula_in, formulas_in, IsFormula, AreFormulas}
+use Rattle.lc_table.specs.NodeTables.{Table}
+use Rattle.lc_table.specs.Tables.{formula_in, formulas_in, IsFormula, AreFormulas}
 use Rattle.lc_rider.specs.DutyView.{owing_of}
 use Rattle.lc_cond.specs.Conditions as S
 use Rattle.lc_cond.specs.declared.condition.Kind.{Kind}

@@ -2,9 +2,9 @@
 use Rattle.std.specs.Prelude.{◌≡◌, ℕ, List, [], ◌∷◌, ◌++◌, map, Option, Some, None, option_map, slice_get}
 use Rattle.lc_term.specs.Syntax.{Term, Variable, Column, Formula}
 use Rattle.lc_term.specs.Said.{told}
-use Rattle.lc_term.specs.NodeTables.{Table}
-use Rattle.lc_term.specs.Tables.{formulas_in, AreFormulas, HasFormula}
-use Rattle.lc_term.specs.declared.node.FormulaId.{FormulaId}
+use Rattle.lc_table.specs.NodeTables.{Table}
+use Rattle.lc_table.specs.Tables.{formulas_in, AreFormulas, HasFormula}
+use Rattle.lc_table.specs.declared.node.FormulaId.{FormulaId}
 use Rattle.lc_object.specs.Syntax.{Operation}
 use Rattle.lc_object.specs.WellFormed.{variable_count}
 use Rattle.lc_object.specs.Edges.{Edge}

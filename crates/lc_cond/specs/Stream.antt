@@ -2,7 +2,7 @@
 use Rattle.std.specs.Prelude.{◌≡◌, ℕ, suc, ◌+◌, List, [], ◌++◌, map, drop, length, Vec, Option, Some, None}
 use Rattle.std.specs.Global.{Global}
 use Rattle.lc_term.specs.Lists.{concat_map}
-use Rattle.lc_term.specs.NodeTables.{Table}
+use Rattle.lc_table.specs.NodeTables.{Table}
 use Rattle.lc_object.specs.EdgeView.{edge_of}
 use Rattle.lc_outline.specs.Development.{Development}
 use Rattle.lc_cond.specs.Conditions as S

@@ -1,10 +1,10 @@
 //! The conditions of an edge, path by path.
 ghost use Rattle.std.specs.Prelude.{◌≡◌, ◌++◌, pos, Some, IfOk, OnOk};
-ghost use Rattle.lc_term.specs.PutNumbers.{AreColumns};
+ghost use Rattle.lc_table.specs.PutNumbers.{AreColumns};
 ghost use Rattle.lc_term.specs.Said.{put};
 ghost use Rattle.lc_term.specs.Syntax.{Variable, Number};
 ghost use Rattle.lc_term.specs.SystemColumns.{pend};
-ghost use Rattle.lc_term.specs.Tables.{Keeps};
+ghost use Rattle.lc_table.specs.Tables.{Keeps};
 ghost use Rattle.lc_action.specs.ActionView.{first_of};
 ghost use Rattle.lc_cond.specs.Adding.{HasColumns, Adds, Under, Over};
 ghost use Rattle.lc_cond.specs.Heads.{MakesOne};
@@ -17,7 +17,7 @@ use crate::scene::Scene;
 use crate::telling::push_both_told;
 use lc_base::{ColId, OutOfMemory};
 use lc_rider::{Duty, Path, store_in};
-use lc_term::{ColExprId, FormulaId, PutNumbers, Terms, nothing_replaced};
+use lc_table::{ColExprId, FormulaId, PutNumbers, Terms, nothing_replaced};
 use std::alloc::Global;
 
 /// What the conditions of a kind on a path share.
@@ -143,7 +143,7 @@ pub(crate) fn push_next(
 }
 
 /// The columns behind a path of a return, which stores that no call is pending.
-#[tactic(auto, using(lc_term::proofs::Later::kept_on))]
+#[tactic(auto, using(lc_table::proofs::Later::kept_on))]
 pub(crate) fn at_return(
     alloc: Global,
     terms: &mut Terms,

@@ -2,17 +2,18 @@
 ghost use Rattle.std.specs.Prelude.{◌≡◌, ◌++◌, List, map, IfOk, OnOk};
 ghost use Rattle.lc_term.specs.Replacement.{replace};
 ghost use Rattle.lc_term.specs.Syntax as S;
-ghost use Rattle.lc_term.specs.Tables.{formulas_in, AreFormulas, Keeps};
+ghost use Rattle.lc_table.specs.Tables.{formulas_in, AreFormulas, Keeps};
 ghost use Rattle.lc_term.specs.View.{formulas_of};
 ghost use Rattle.lc_tie.specs.Tie as T;
 ghost use Rattle.lc_tie.specs.TieView.{conjuncts_in, conjunct_of};
 ghost use Rattle.lc_cond.specs.Adding.{HasFormulas};
-ghost use Rattle.lc_term.specs.Put.{Remembers, replacement_of};
-ghost use Rattle.lc_term.specs.PutNumbers.{AreColumns, AreTerms, replacement_at};
+ghost use Rattle.lc_table.specs.Put.{Remembers, replacement_of};
+ghost use Rattle.lc_table.specs.PutNumbers.{AreColumns, AreTerms, replacement_at};
 ghost use Rattle.lc_cond.specs.Heads.{Tells};
 
 use lc_base::OutOfMemory;
-use lc_term::{Formula, FormulaId, Put, PutNumbers, ReplacedNodes, Terms};
+use lc_table::{FormulaId, Put, PutNumbers, ReplacedNodes, Terms};
+use lc_term::Formula;
 use lc_tie::{Conjunct, Tie};
 use std::alloc::Global;
 

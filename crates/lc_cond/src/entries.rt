@@ -2,9 +2,9 @@
 ghost use Rattle.std.specs.Prelude.{◌≡◌, ◌+◌, ◌++◌, map, length, None, Some, IfOk, OnOk};
 ghost use Rattle.lc_term.specs.Said.{after, told};
 ghost use Rattle.lc_term.specs.Syntax.{Base};
-ghost use Rattle.lc_term.specs.Put.{columns_in};
-ghost use Rattle.lc_term.specs.PutNumbers.{AreColumns};
-ghost use Rattle.lc_term.specs.Tables.{Keeps};
+ghost use Rattle.lc_table.specs.Put.{columns_in};
+ghost use Rattle.lc_table.specs.PutNumbers.{AreColumns};
+ghost use Rattle.lc_table.specs.Tables.{Keeps};
 ghost use Rattle.lc_action.specs.Action.{enter};
 ghost use Rattle.lc_action.specs.ActionView.{first_of};
 ghost use Rattle.lc_object.specs.View.{operation_of};
@@ -25,7 +25,8 @@ use lc_action::{Before, SystemColumns, enter, store_together};
 use lc_base::{ColId, OpId, OutOfMemory};
 use lc_object::Operation;
 use lc_outline::Development;
-use lc_term::{ColExpr, ColExprId, FormulaId, PutNumbers, TermId, Terms};
+use lc_table::{ColExprId, FormulaId, PutNumbers, TermId, Terms};
+use lc_term::ColExpr;
 use std::alloc::Global;
 
 // How many variables there are where a call of this operation begins.
@@ -96,7 +97,7 @@ fn entered_variables(
 }
 
 // What is to hold where a call begins, entered: the invariant, and the assertions of the first point.
-#[tactic(auto, using(lc_term::proofs::Later::kept_on, crate::proofs::Adding::formulas_later))]
+#[tactic(auto, using(lc_table::proofs::Later::kept_on, crate::proofs::Adding::formulas_later))]
 fn entry_goals(
     alloc: Global,
     terms: &mut Terms,
@@ -113,7 +114,7 @@ fn entry_goals(
 }
 
 // The conditions where a call of this operation begins, in these columns.
-#[tactic(auto, using(lc_term::proofs::Later::kept_on))]
+#[tactic(auto, using(lc_table::proofs::Later::kept_on))]
 fn push_entered(
     alloc: Global,
     terms: &mut Terms,
@@ -148,7 +149,7 @@ fn push_entered(
 }
 
 /// The conditions where a call of this operation begins.
-#[tactic(auto, using(lc_term::proofs::Later::kept_on))]
+#[tactic(auto, using(lc_table::proofs::Later::kept_on))]
 pub(crate) fn push_entry(
     alloc: Global,
     terms: &mut Terms,

@@ -2,7 +2,7 @@
 ghost use Rattle.std.specs.Prelude.{◌≡◌, ◌++◌, List, length, IfOk};
 ghost use Rattle.lc_term.specs.Syntax as S;
 ghost use Rattle.lc_term.specs.Syntax.{Variable};
-ghost use Rattle.lc_term.specs.Tables.{Keeps};
+ghost use Rattle.lc_table.specs.Tables.{Keeps};
 ghost use Rattle.lc_term.specs.View.{formulas_of};
 ghost use Rattle.lc_object.specs.View.{operation_of};
 ghost use Rattle.lc_action.specs.ActionView.{first_of};
@@ -18,7 +18,8 @@ use lc_action::SystemColumns;
 use lc_base::{OpId, OutOfMemory, PointId};
 use lc_object::Operation;
 use lc_outline::Development;
-use lc_term::{Formula, FormulaId, Terms};
+use lc_table::{FormulaId, Terms};
+use lc_term::Formula;
 use std::alloc::Global;
 
 /// The range of a client, entered.
@@ -63,7 +64,7 @@ pub(crate) fn body_frame(
 }
 
 /// The invariant, and other formulas behind it, entered.
-#[tactic(auto, using(lc_term::proofs::Later::kept_on))]
+#[tactic(auto, using(lc_table::proofs::Later::kept_on))]
 pub(crate) fn with_invariant(
     alloc: Global,
     terms: &mut Terms,
@@ -78,7 +79,7 @@ pub(crate) fn with_invariant(
 }
 
 /// What is known of client 1 at a point of the body of this operation: its frame, the invariant and the assertions.
-#[tactic(auto, using(lc_term::proofs::Later::kept_on))]
+#[tactic(auto, using(lc_table::proofs::Later::kept_on))]
 pub(crate) fn known_in_body(
     alloc: Global,
     terms: &mut Terms,
@@ -100,7 +101,7 @@ pub(crate) fn known_in_body(
 }
 
 /// What is known of client 1 where it has no call.
-#[tactic(auto, using(lc_term::proofs::Later::kept_on))]
+#[tactic(auto, using(lc_table::proofs::Later::kept_on))]
 pub(crate) fn known_idle(
     alloc: Global,
     terms: &mut Terms,

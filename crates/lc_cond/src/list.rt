@@ -1,7 +1,7 @@
 //! The list of the conditions of a development.
 ghost use Rattle.std.specs.Prelude.{◌≡◌, ◌++◌, [], length, map, Some, None, IfOk, OnOk};
 ghost use Rattle.lc_term.specs.Lists.{concat_map, concat_places};
-ghost use Rattle.lc_term.specs.Tables.{Keeps};
+ghost use Rattle.lc_table.specs.Tables.{Keeps};
 ghost use Rattle.lc_object.specs.EdgeView.{edge_of};
 ghost use Rattle.lc_object.specs.Edges.{edges};
 ghost use Rattle.lc_object.specs.View.{operation_of, point_of};
@@ -24,7 +24,7 @@ use crate::start::push_start;
 use lc_base::{OpId, OutOfMemory, PointId};
 use lc_object::{Edge, Operation, Point, edges};
 use lc_outline::Development;
-use lc_term::Terms;
+use lc_table::Terms;
 use std::alloc::Global;
 
 /// The operations of the object.
@@ -98,7 +98,7 @@ fn push_edges(
 }
 
 // The assertions at a point of this operation's body stay.
-#[tactic(auto, using(lc_term::proofs::Later::kept_on))]
+#[tactic(auto, using(lc_table::proofs::Later::kept_on))]
 fn push_stay(
     alloc: Global,
     terms: &mut Terms,
@@ -174,7 +174,7 @@ fn push_points(
 }
 
 /// What holds of idle clients stays.
-#[tactic(auto, using(lc_term::proofs::Later::kept_on))]
+#[tactic(auto, using(lc_table::proofs::Later::kept_on))]
 pub(crate) fn push_idle(
     alloc: Global,
     terms: &mut Terms,
@@ -199,7 +199,7 @@ pub(crate) fn push_idle(
 }
 
 // The conditions of the edges, and that what is asserted stays.
-#[tactic(auto, using(lc_term::proofs::Later::kept_on))]
+#[tactic(auto, using(lc_table::proofs::Later::kept_on))]
 fn push_code(
     alloc: Global,
     terms: &mut Terms,
@@ -218,7 +218,7 @@ fn push_code(
 
 /// The conditions of a development, in their order: where all of them are valid, its object is linearizable. Their formulas
 /// are entered in the table.
-#[tactic(auto, using(lc_term::proofs::Later::kept_on))]
+#[tactic(auto, using(lc_table::proofs::Later::kept_on))]
 pub fn conditions(
     alloc: Global,
     terms: &mut Terms,

@@ -5,7 +5,7 @@ ghost use Rattle.lc_cond.specs.Heads.{MakesOne, MakesEach};
 use crate::condition::{Condition, Kind, Passage, Place, Which};
 use lc_base::{OutOfMemory, PointId};
 use lc_kernel::Goal;
-use lc_term::FormulaId;
+use lc_table::FormulaId;
 use std::alloc::Global;
 
 /// What conditions that are made together share: what they ask for, how many variables they have, and where they stand.

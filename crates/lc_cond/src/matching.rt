@@ -1,12 +1,12 @@
 //! The conditions that an edge is the action that stands beside it.
 ghost use Rattle.std.specs.Prelude.{◌≡◌, ◌&&◌, [], ◌∷◌, List, true, map, option_map, if◌then◌else◌, Some, IfOk, OnOk};
-ghost use Rattle.lc_term.specs.NodeTables.{Table};
-ghost use Rattle.lc_term.specs.PutNumbers.{columns_at, AreColumns};
+ghost use Rattle.lc_table.specs.NodeTables.{Table};
+ghost use Rattle.lc_table.specs.PutNumbers.{columns_at, AreColumns};
 ghost use Rattle.lc_term.specs.Replacement.{raising, replace_column};
 ghost use Rattle.lc_term.specs.Syntax as T;
 ghost use Rattle.lc_term.specs.Syntax.{Variable, Bound, Read, Base};
 ghost use Rattle.lc_term.specs.SystemColumns.{column_count};
-ghost use Rattle.lc_term.specs.Tables.{column_in, IsColumn, HasTerm, HasFormula, Keeps};
+ghost use Rattle.lc_table.specs.Tables.{column_in, IsColumn, HasTerm, HasFormula, Keeps};
 ghost use Rattle.lc_term.specs.View.{term_of};
 ghost use Rattle.lc_action.specs.Action as A;
 ghost use Rattle.lc_action.specs.Action.{acting_variables, guard_for, post_columns};
@@ -25,10 +25,10 @@ use crate::scene::Scene;
 use lc_action::{Action, SystemColumns, post_columns};
 use lc_base::{ColId, OutOfMemory};
 use lc_outline::{Development, On};
-use lc_term::{
-    ColExprId, FormulaId, Put, PutColumns, PutVariables, Term, TermId, TermNode, Terms,
-    nothing_replaced,
+use lc_table::{
+    ColExprId, FormulaId, Put, PutColumns, PutVariables, TermId, TermNode, Terms, nothing_replaced,
 };
+use lc_term::Term;
 use std::alloc::Global;
 
 /// The action that stands beside an edge, done by client 1, in a table that has its formulas.
@@ -68,7 +68,7 @@ fn is_unwritten(terms: &Terms, left: ColExprId, right: ColExprId, column: ColId)
 }
 
 // What stands in a cell of a column, where the cell is the variable of one more quantifier.
-#[tactic(auto, using(lc_term::proofs::Later::kept_on))]
+#[tactic(auto, using(lc_table::proofs::Later::kept_on))]
 fn raised_cell(alloc: Global, terms: &mut Terms, column: ColExprId) -> Result<TermId, OutOfMemory>
     requires { IsColumn terms.old column }
     ensures id { IfOk result (λ k. HasTerm terms.new k (Read (replace_column raising (column_in terms.old column)) (Bound 0))) }
@@ -80,7 +80,7 @@ fn raised_cell(alloc: Global, terms: &mut Terms, column: ColExprId) -> Result<Te
 }
 
 // The same stands in each cell of two columns.
-#[tactic(auto, using(lc_term::proofs::Later::kept_on))]
+#[tactic(auto, using(lc_table::proofs::Later::kept_on))]
 fn same_column(
     alloc: Global,
     terms: &mut Terms,
@@ -144,7 +144,7 @@ fn are_absent(left: &[(ColId, ColExprId)], right: &[(ColId, ColExprId)], column:
 }
 
 // The condition of a column in which the path or the action stores.
-#[tactic(auto, using(lc_term::proofs::Later::kept_on))]
+#[tactic(auto, using(lc_table::proofs::Later::kept_on))]
 fn push_column(
     alloc: Global,
     terms: &mut Terms,
@@ -244,7 +244,7 @@ pub(crate) fn entered_guard(
 }
 
 // An action of client 1 with these arguments, entered.
-#[tactic(auto, using(lc_term::proofs::Later::kept_on))]
+#[tactic(auto, using(lc_table::proofs::Later::kept_on))]
 fn entered_action(
     alloc: Global,
     terms: &mut Terms,

@@ -1,7 +1,7 @@
 //! The parts of the list, each of which can be made by itself: the start, a call that begins, an edge, a point, and idle.
 ghost use Rattle.std.specs.Prelude.{◌≡◌, ◌++◌, ◌∷◌, [], map, option_map, slice_get, IfOk, OnOk};
 ghost use Rattle.lc_term.specs.Lists.{numbered};
-ghost use Rattle.lc_term.specs.Tables.{Keeps};
+ghost use Rattle.lc_table.specs.Tables.{Keeps};
 ghost use Rattle.lc_object.specs.EdgeView.{edge_of};
 ghost use Rattle.lc_outline.specs.DevelopmentView.{development_shown};
 ghost use Rattle.lc_cond.specs.Adding.{Adds};
@@ -18,7 +18,7 @@ use crate::start::push_start;
 use lc_base::{OpId, OutOfMemory, PointId};
 use lc_object::{Edge, Operation, Point};
 use lc_outline::Development;
-use lc_term::Terms;
+use lc_table::Terms;
 use std::alloc::Global;
 
 /// A part of the list.

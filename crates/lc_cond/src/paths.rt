@@ -1,8 +1,8 @@
 //! The conditions of the paths of an edge.
 ghost use Rattle.std.specs.Prelude.{◌++◌, map, OnOk};
 ghost use Rattle.lc_term.specs.Lists.{concat_places};
-ghost use Rattle.lc_term.specs.PutNumbers.{AreColumns};
-ghost use Rattle.lc_term.specs.Tables.{formulas_in, Keeps};
+ghost use Rattle.lc_table.specs.PutNumbers.{AreColumns};
+ghost use Rattle.lc_table.specs.Tables.{formulas_in, Keeps};
 ghost use Rattle.lc_object.specs.EdgeView.{edge_of};
 ghost use Rattle.lc_object.specs.View.{operation_of};
 ghost use Rattle.lc_outline.specs.DevelopmentView.{development_shown};
@@ -20,11 +20,11 @@ use lc_base::{ColId, OpId, OutOfMemory};
 use lc_object::{Edge, Operation};
 use lc_outline::Development;
 use lc_rider::{Path, paths};
-use lc_term::{ColExprId, FormulaId, Terms};
+use lc_table::{ColExprId, FormulaId, Terms};
 use std::alloc::Global;
 
 // What is asked in the columns behind a path: of what holds there, and of the action that stands beside the edge.
-#[tactic(auto, using(lc_term::proofs::Later::kept_on))]
+#[tactic(auto, using(lc_table::proofs::Later::kept_on))]
 fn push_behind(
     alloc: Global,
     terms: &mut Terms,
@@ -45,7 +45,7 @@ fn push_behind(
 }
 
 // What is asked behind a path, besides what its marks ask for.
-#[tactic(auto, using(lc_term::proofs::Later::kept_on))]
+#[tactic(auto, using(lc_table::proofs::Later::kept_on))]
 fn push_outcome(
     alloc: Global,
     terms: &mut Terms,
@@ -113,7 +113,7 @@ fn push_paths(
 }
 
 // The conditions of an edge in the body of this operation.
-#[tactic(auto, using(lc_term::proofs::Later::kept_on))]
+#[tactic(auto, using(lc_table::proofs::Later::kept_on))]
 fn push_edge_in(
     alloc: Global,
     terms: &mut Terms,

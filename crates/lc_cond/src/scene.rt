@@ -1,6 +1,6 @@
 //! What the conditions of an edge share.
 ghost use Rattle.std.specs.Prelude.{◌≡◌, ◌++◌, IfOk};
-ghost use Rattle.lc_term.specs.Tables.{Keeps};
+ghost use Rattle.lc_table.specs.Tables.{Keeps};
 ghost use Rattle.lc_object.specs.EdgeView.{edge_of};
 ghost use Rattle.lc_object.specs.View.{operation_of};
 ghost use Rattle.lc_action.specs.ActionView.{first_of};
@@ -21,7 +21,7 @@ use lc_base::{OpId, OutOfMemory};
 use lc_object::{Edge, Operation};
 use lc_outline::{Development, On};
 use lc_rider::edge_variables;
-use lc_term::{FormulaId, TermId, Terms};
+use lc_table::{FormulaId, TermId, Terms};
 use std::alloc::Global;
 
 /// What the conditions of an edge share, in a table that has its formulas.
@@ -94,7 +94,7 @@ fn entered_reply(
 }
 
 // What is known before the edge of an operation's code, entered.
-#[tactic(auto, using(lc_term::proofs::Later::kept_on))]
+#[tactic(auto, using(lc_table::proofs::Later::kept_on))]
 fn edge_hypotheses(
     alloc: Global,
     terms: &mut Terms,
@@ -123,7 +123,7 @@ fn edge_hypotheses(
 }
 
 // What is to hold behind the edge, entered: the invariant, and what holds where the edge leads to.
-#[tactic(auto, using(lc_term::proofs::Later::kept_on, crate::proofs::Adding::formulas_later))]
+#[tactic(auto, using(lc_table::proofs::Later::kept_on, crate::proofs::Adding::formulas_later))]
 fn edge_goals(
     alloc: Global,
     terms: &mut Terms,
@@ -140,7 +140,7 @@ fn edge_goals(
 }
 
 /// The scene of an edge in the body of this operation.
-#[tactic(auto, using(lc_term::proofs::Later::kept_on, crate::proofs::Adding::formulas_later))]
+#[tactic(auto, using(lc_table::proofs::Later::kept_on, crate::proofs::Adding::formulas_later))]
 pub(crate) fn set_scene<'a>(
     alloc: Global,
     terms: &mut Terms,

@@ -3,7 +3,7 @@ ghost use Rattle.std.specs.Prelude.{◌≡◌, ◌+◌, ◌*◌, ◌<◌, ◌++�
 ghost use Rattle.lc_term.specs.Lists.{Every};
 ghost use Rattle.lc_term.specs.Replacement.{replace, replacing};
 ghost use Rattle.lc_term.specs.Syntax.{Variable};
-ghost use Rattle.lc_term.specs.Tables.{formulas_in, AreFormulas, Keeps};
+ghost use Rattle.lc_table.specs.Tables.{formulas_in, AreFormulas, Keeps};
 ghost use Rattle.lc_term.specs.View.{term_of, formulas_of};
 ghost use Rattle.lc_action.specs.Action.{post_columns};
 ghost use Rattle.lc_action.specs.ActionView.{action_of, first_of};
@@ -23,7 +23,8 @@ use crate::variables::variables_from;
 use lc_action::{Action, SystemColumns, enter, leave, post_columns};
 use lc_base::{OutOfMemory, PointId};
 use lc_outline::Development;
-use lc_term::{Formula, FormulaId, Put, PutColumns, PutVariables, Term, Terms, nothing_replaced};
+use lc_table::{FormulaId, Put, PutColumns, PutVariables, Terms, nothing_replaced};
+use lc_term::{Formula, Term};
 use std::alloc::Global;
 
 /// Another client's action where something is known of a client: what is known then, and what is to hold behind it.
@@ -71,7 +72,7 @@ fn two_clients(alloc: Global, other: u32) -> Result<Vec<Formula>, OutOfMemory>
 }
 
 // The invariant, and the assertions, behind an action of the client that is this variable.
-#[tactic(auto, using(lc_term::proofs::Later::kept_on, crate::proofs::Adding::formulas_later))]
+#[tactic(auto, using(lc_table::proofs::Later::kept_on, crate::proofs::Adding::formulas_later))]
 fn told_behind(
     alloc: Global,
     terms: &mut Terms,
@@ -168,7 +169,7 @@ fn entered_clients(
 }
 
 // The action of the other client.
-#[tactic(auto, using(lc_term::proofs::Later::kept_on))]
+#[tactic(auto, using(lc_table::proofs::Later::kept_on))]
 fn cross(
     alloc: Global,
     terms: &mut Terms,
@@ -231,7 +232,7 @@ fn actions_of(development: &Development) -> &[Action]
 }
 
 // Those actions, and behind them this one.
-#[tactic(auto, using(lc_term::proofs::Later::kept_on))]
+#[tactic(auto, using(lc_table::proofs::Later::kept_on))]
 fn with_crossing(
     alloc: Global,
     terms: &mut Terms,
@@ -250,7 +251,7 @@ fn with_crossing(
 }
 
 // All actions of the other client: those that are declared, and that a call begins or ends.
-#[tactic(auto, using(lc_term::proofs::Later::kept_on))]
+#[tactic(auto, using(lc_table::proofs::Later::kept_on))]
 fn all_crossings(
     alloc: Global,
     terms: &mut Terms,
@@ -285,7 +286,7 @@ fn known_of(
 }
 
 // All actions of the client that is this variable, where the other one has this frame and these are asserted of it.
-#[tactic(auto, using(lc_term::proofs::Later::kept_on))]
+#[tactic(auto, using(lc_table::proofs::Later::kept_on))]
 fn entered_crossings(
     alloc: Global,
     terms: &mut Terms,
@@ -367,7 +368,7 @@ fn push_conjuncts(
 }
 
 /// The conditions that these assertions stay, where a client has so many variables and this frame.
-#[tactic(auto, using(lc_term::proofs::Later::kept_on))]
+#[tactic(auto, using(lc_table::proofs::Later::kept_on))]
 pub(crate) fn push_stable(
     alloc: Global,
     terms: &mut Terms,

@@ -1,9 +1,9 @@
 //! The conditions at the start.
 ghost use Rattle.std.specs.Prelude.{◌≡◌, [], ◌∷◌, map, pos, None, IfOk, OnOk};
-ghost use Rattle.lc_term.specs.Put.{column_by_number};
+ghost use Rattle.lc_table.specs.Put.{column_by_number};
 ghost use Rattle.lc_term.specs.Replacement.{replace, replacing};
 ghost use Rattle.lc_term.specs.Syntax.{Number, Variable, Le};
-ghost use Rattle.lc_term.specs.Tables.{Keeps};
+ghost use Rattle.lc_table.specs.Tables.{Keeps};
 ghost use Rattle.lc_term.specs.View.{column_of, formulas_of};
 ghost use Rattle.lc_outline.specs.Development.{invariant_of};
 ghost use Rattle.lc_outline.specs.DevelopmentView.{development_shown};
@@ -19,7 +19,8 @@ use crate::making::Head;
 use crate::telling::push_all_told;
 use lc_base::OutOfMemory;
 use lc_outline::Development;
-use lc_term::{ColExpr, Formula, FormulaId, Put, PutColumns, PutVariables, Term, Terms};
+use lc_table::{FormulaId, Put, PutColumns, PutVariables, Terms};
+use lc_term::{ColExpr, Formula, Term};
 use std::alloc::Global;
 
 // What the conditions of a kind at the start share.
@@ -54,7 +55,7 @@ fn entered_count(alloc: Global, terms: &mut Terms) -> Result<Vec<FormulaId>, Out
 }
 
 // The invariant holds in these columns.
-#[tactic(auto, using(lc_term::proofs::Later::kept_on))]
+#[tactic(auto, using(lc_table::proofs::Later::kept_on))]
 fn push_init(
     alloc: Global,
     terms: &mut Terms,
@@ -78,7 +79,7 @@ fn push_init(
 }
 
 // What holds of idle clients holds of each client in these columns.
-#[tactic(auto, using(lc_term::proofs::Later::kept_on))]
+#[tactic(auto, using(lc_table::proofs::Later::kept_on))]
 fn push_init_idle(
     alloc: Global,
     terms: &mut Terms,
@@ -102,7 +103,7 @@ fn push_init_idle(
 }
 
 /// The conditions at the start.
-#[tactic(auto, using(lc_term::proofs::Later::kept_on))]
+#[tactic(auto, using(lc_table::proofs::Later::kept_on))]
 pub(crate) fn push_start(
     alloc: Global,
     terms: &mut Terms,

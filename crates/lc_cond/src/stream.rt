@@ -7,7 +7,7 @@ use crate::part::{part_at, push_part};
 use lc_base::OutOfMemory;
 use lc_object::Edge;
 use lc_outline::Development;
-use lc_term::Terms;
+use lc_table::Terms;
 use std::alloc::Global;
 
 /// The conditions of a development in their order, of which only one part at a time is kept. Each call is given the same
@@ -39,7 +39,7 @@ fn given_with(given: u64, conditions: &Vec<Condition>) -> Result<u64, OutOfMemor
 
 impl ConditionStream {
     ghost use Rattle.std.specs.Prelude.{◌≡◌, IfOk};
-    ghost use Rattle.lc_term.specs.Tables.{Keeps};
+    ghost use Rattle.lc_table.specs.Tables.{Keeps};
     ghost use Rattle.lc_outline.specs.DevelopmentView.{development_shown};
     ghost use Rattle.lc_cond.specs.Conditions.{conditions};
     ghost use Rattle.lc_cond.specs.Stream.{conditions_left, next_number, IsNextPart};

@@ -1,9 +1,9 @@
 //! Conditions of formulas in which columns and variables are replaced.
 ghost use Rattle.std.specs.Prelude.{map, OnOk};
-ghost use Rattle.lc_term.specs.Put.{Remembers, replacement_of};
-ghost use Rattle.lc_term.specs.PutNumbers.{AreColumns, AreTerms, replacement_at};
+ghost use Rattle.lc_table.specs.Put.{Remembers, replacement_of};
+ghost use Rattle.lc_table.specs.PutNumbers.{AreColumns, AreTerms, replacement_at};
 ghost use Rattle.lc_term.specs.Replacement.{replace};
-ghost use Rattle.lc_term.specs.Tables.{formulas_in, AreFormulas, Keeps};
+ghost use Rattle.lc_table.specs.Tables.{formulas_in, AreFormulas, Keeps};
 ghost use Rattle.lc_cond.specs.Adding.{Adds, Under};
 ghost use Rattle.lc_cond.specs.Conditions.{conditions_of};
 ghost use Rattle.lc_cond.specs.Heads.{head_of, MakesTold, MakesBothTold};
@@ -12,7 +12,7 @@ use crate::condition::Condition;
 use crate::entering::{told, told_by_number};
 use crate::making::{Head, push_each};
 use lc_base::OutOfMemory;
-use lc_term::{FormulaId, Put, PutNumbers, ReplacedNodes, Terms, nothing_replaced};
+use lc_table::{FormulaId, Put, PutNumbers, ReplacedNodes, Terms, nothing_replaced};
 use std::alloc::Global;
 
 /// A condition for each of these formulas, with what is put in.

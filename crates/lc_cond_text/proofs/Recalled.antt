@@ -1,10 +1,10 @@
 -- What is recalled stays so, and is added to.
 use Rattle.std.proofs.Common.{◌≡◌, ℕ, zero, suc, ◌+◌, ◌-◌, ◌<◌, ◌≤◌, ◌⊎◌, inl, inr, List, [], ◌∷◌, ◌++◌, length, take, drop, set, Option, Some, None, slice_get, refl, sym, ap, ◌∙◌, subst, arith}
 use Rattle.std.proofs.lemmas.List.{length-append, length-drop, drop-append-le, take-append-le, drop_at, take_all}
-use Rattle.lc_term.specs.declared.node.FormulaId.{FormulaId}
-use Rattle.lc_term.specs.NodeTables.{Table}
-use Rattle.lc_term.specs.Tables.{formula_in, IsFormula, Keeps}
-use Rattle.lc_term.proofs.Later.{formula_still, is_formula_still}
+use Rattle.lc_table.specs.declared.node.FormulaId.{FormulaId}
+use Rattle.lc_table.specs.NodeTables.{Table}
+use Rattle.lc_table.specs.Tables.{formula_in, IsFormula, Keeps}
+use Rattle.lc_table.proofs.Later.{formula_still, is_formula_still}
 use Rattle.lc_text.specs.Spelling.{Spelled}
 use Rattle.lc_text.specs.Spelled.{spelled_formula}
 use Rattle.lc_cond_text.specs.declared.texts.FormulaTexts.{FormulaTexts}

@@ -4,7 +4,7 @@ use Rattle.std.specs.declared.alloc.Global.{Global}
 use Rattle.lc_cond.specs.Stream.{conditions_left, parts_left, next_number}
 use Rattle.lc_cond.specs.declared.stream.ConditionStream.{ConditionStream}
 use Rattle.lc_outline.specs.Development.{Development}
-use Rattle.lc_term.specs.NodeTables.{Table}
+use Rattle.lc_table.specs.NodeTables.{Table}
 use Rattle.lc_cond_text.specs.ConditionText.{spelled, text_from}
 use Rattle.lc_cond_text.specs.Recalled.{Recalls}
 use Rattle.lc_cond_text.specs.declared.texts.FormulaTexts.{FormulaTexts}

@@ -1,8 +1,8 @@
 -- Texts of formulas that are kept, so that each is made once.
 use Rattle.std.specs.Prelude.{◌≡◌, ℕ, ◌≤◌, List, length, Option, Some, slice_get, slice_range}
-use Rattle.lc_term.specs.declared.node.FormulaId.{FormulaId}
-use Rattle.lc_term.specs.NodeTables.{Table}
-use Rattle.lc_term.specs.Tables.{formula_in, IsFormula}
+use Rattle.lc_table.specs.declared.node.FormulaId.{FormulaId}
+use Rattle.lc_table.specs.NodeTables.{Table}
+use Rattle.lc_table.specs.Tables.{formula_in, IsFormula}
 use Rattle.lc_text.specs.Spelling.{Spelled}
 use Rattle.lc_text.specs.Spelled.{spelled_formula}
 use Rattle.lc_cond_text.specs.declared.texts.Place.{Place}

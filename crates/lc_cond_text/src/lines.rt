@@ -14,7 +14,7 @@ use crate::texts::{FormulaTexts, no_texts};
 use lc_base::OutOfMemory;
 use lc_cond::{Condition, ConditionStream};
 use lc_outline::Development;
-use lc_term::Terms;
+use lc_table::Terms;
 use std::alloc::Global;
 use std::marker::Model;
 

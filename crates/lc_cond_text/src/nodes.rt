@@ -2,7 +2,7 @@
 ghost use Rattle.std.specs.Prelude.{◌≡◌, ◌++◌, OnOk, codes};
 ghost use Rattle.std.specs.Fmt.{decimal, signed_decimal};
 ghost use Rattle.lc_term.specs.Syntax.{formulas};
-ghost use Rattle.lc_term.specs.Tables.{term_in, column_in, formula_in, formulas_in, IsTerm, IsColumn, IsFormula, AreFormulas};
+ghost use Rattle.lc_table.specs.Tables.{term_in, column_in, formula_in, formulas_in, IsTerm, IsColumn, IsFormula, AreFormulas};
 ghost use Rattle.lc_text.specs.Spelled.{binder, one_deeper, spaced, spelled_term, spelled_column, spelled_formula, spelled_parts};
 ghost use Rattle.lc_outline.specs.DevelopmentView.{development_shown};
 ghost use Rattle.lc_cond_text.specs.ConditionText.{spelled};
@@ -11,7 +11,7 @@ use crate::naming::column_name;
 use itoa::Buffer;
 use lc_base::OutOfMemory;
 use lc_outline::Development;
-use lc_term::{ColExprId, FormulaId, FormulaNode, TermId, TermNode, Terms};
+use lc_table::{ColExprId, FormulaId, FormulaNode, TermId, TermNode, Terms};
 
 // A text behind what is there.
 pub(crate) fn push_text(out: &mut Vec<u8>, text: &str) -> Result<(), OutOfMemory>

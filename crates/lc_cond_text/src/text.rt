@@ -1,7 +1,7 @@
 //! The line of a condition.
 ghost use Rattle.std.specs.Prelude.{◌≡◌, ◌++◌, codes, option_map, IfOk, OnOk};
 ghost use Rattle.std.specs.Fmt.{decimal};
-ghost use Rattle.lc_term.specs.Tables.{formula_in, formulas_in, IsFormula, AreFormulas};
+ghost use Rattle.lc_table.specs.Tables.{formula_in, formulas_in, IsFormula, AreFormulas};
 ghost use Rattle.lc_text.specs.Spelled.{spaced, spelled_formula};
 ghost use Rattle.lc_rider.specs.DutyView.{owing_of};
 ghost use Rattle.lc_outline.specs.DevelopmentView.{development_shown};
@@ -18,7 +18,7 @@ use lc_kernel::Goal;
 use lc_object::EdgeKind;
 use lc_outline::Development;
 use lc_rider::Owing;
-use lc_term::{FormulaId, Terms};
+use lc_table::{FormulaId, Terms};
 use std::alloc::Global;
 
 fn duty_word(owing: Owing) -> &'static str

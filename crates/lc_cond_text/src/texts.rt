@@ -1,7 +1,7 @@
 //! The texts of formulas that stand in many lines: each is made once, and then copied.
 ghost use Rattle.std.specs.Prelude.{◌≡◌, ◌++◌, ◌<◌, ℕ, length, Some, slice_get, IfOk, IfSome, OnOk};
-ghost use Rattle.lc_term.specs.NodeTables.{Table};
-ghost use Rattle.lc_term.specs.Tables.{formula_in, IsFormula};
+ghost use Rattle.lc_table.specs.NodeTables.{Table};
+ghost use Rattle.lc_table.specs.Tables.{formula_in, IsFormula};
 ghost use Rattle.lc_text.specs.Spelling.{Spelled};
 ghost use Rattle.lc_text.specs.Spelled.{spelled_formula};
 ghost use Rattle.lc_outline.specs.DevelopmentView.{development_shown};
@@ -11,7 +11,7 @@ ghost use Rattle.lc_cond_text.specs.Recalled.{LiesAt, Recalls};
 use crate::nodes::push_formula;
 use lc_base::OutOfMemory;
 use lc_outline::Development;
-use lc_term::{FormulaId, Terms};
+use lc_table::{FormulaId, Terms};
 use std::alloc::Global;
 
 // Where a text lies.

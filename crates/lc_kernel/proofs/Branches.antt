@@ -2,11 +2,11 @@
 use Rattle.std.specs.Prelude.{◌≡◌, ℕ, zero, suc, ◌+◌, ◌<◌, ◌≤◌, List, [], ◌∷◌, ◌++◌, length, slice_get, Some, Err}
 use Rattle.std.proofs.Common.{refl, sym, ap, ap₂, subst, ◌∙◌, arith, drop, get_or}
 use Rattle.std.proofs.lemmas.List.{map-append, length-map}
-use Rattle.lc_term.specs.NodeTables.{Table}
+use Rattle.lc_table.specs.NodeTables.{Table}
 use Rattle.lc_term.specs.Syntax as S
-use Rattle.lc_term.specs.Tables.{formula_in, formulas_in, AreFormulas, Keeps}
-use Rattle.lc_term.specs.declared.node.FormulaId.{FormulaId}
-use Rattle.lc_term.proofs.Later.{are_formulas_still, formulas_still}
+use Rattle.lc_table.specs.Tables.{formula_in, formulas_in, AreFormulas, Keeps}
+use Rattle.lc_table.specs.declared.node.FormulaId.{FormulaId}
+use Rattle.lc_table.proofs.Later.{are_formulas_still, formulas_still}
 use Rattle.lc_kernel.specs.Answers.{Checks, ChecksEach}
 use Rattle.lc_kernel.specs.Branches.{branches_in, AreBranches, branch_count, branch_at, alone}
 use Rattle.lc_kernel.specs.Table.{each}

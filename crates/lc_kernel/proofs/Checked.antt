@@ -2,9 +2,9 @@
 use Rattle.std.specs.Prelude.{◌≡◌, ℕ, suc, ◌+◌, List, [], ◌∷◌, length, Result, Ok, Err}
 use Rattle.std.proofs.Common.{refl, ap, arith, rules}
 use Rattle.lc_term.specs.Syntax as S
-use Rattle.lc_term.specs.NodeTables.{Table}
-use Rattle.lc_term.specs.Tables.{formulas_in}
-use Rattle.lc_term.specs.declared.node.FormulaId.{FormulaId}
+use Rattle.lc_table.specs.NodeTables.{Table}
+use Rattle.lc_table.specs.Tables.{formulas_in}
+use Rattle.lc_table.specs.declared.node.FormulaId.{FormulaId}
 use Rattle.lc_kernel.specs.Answers.{StepMeets, Checks, ChecksEach, fault_at}
 use Rattle.lc_kernel.specs.Derivation.{derives, fails_here, fails_below}
 use Rattle.lc_kernel.specs.Proofs.{Step, Proofs, proof, proofs, proof_count}

@@ -5,14 +5,14 @@ use Rattle.std.specs.Bool.{Decides}
 use Rattle.std.specs.declared.alloc.Global.{Global}
 use Rattle.std.proofs.lemmas.Bool.{false≢true}
 use Rattle.std.proofs.lemmas.List.{map-append, map_more}
-use Rattle.lc_term.specs.NodeTables.{Table}
-use Rattle.lc_term.specs.Nodes.{tree_of, TreeFits}
+use Rattle.lc_table.specs.NodeTables.{Table}
+use Rattle.lc_table.specs.Nodes.{tree_of, TreeFits}
 use Rattle.lc_term.specs.Syntax as S
-use Rattle.lc_term.specs.Tables.{parts, formulas, formula_in, formulas_in, IsFormula, AreFormulas, HasFormula, Keeps}
-use Rattle.lc_term.specs.declared.node.FormulaId.{FormulaId}
-use Rattle.lc_term.specs.declared.node.FormulaNode.{FormulaNode}
-use Rattle.lc_term.specs.declared.node.FormulaNode.TheVariants.{And, Or}
-use Rattle.lc_term.proofs.Later.{formula_is, formulas_pushed, formula_still, is_formula_later}
+use Rattle.lc_table.specs.Tables.{parts, formulas, formula_in, formulas_in, IsFormula, AreFormulas, HasFormula, Keeps}
+use Rattle.lc_table.specs.declared.node.FormulaId.{FormulaId}
+use Rattle.lc_table.specs.declared.node.FormulaNode.{FormulaNode}
+use Rattle.lc_table.specs.declared.node.FormulaNode.TheVariants.{And, Or}
+use Rattle.lc_table.proofs.Later.{formula_is, formulas_pushed, formula_still, is_formula_later}
 use Rattle.lc_kernel.specs.Answers.{FindsNumber, FindsIn, MakesIn, hypothesis_of}
 use Rattle.lc_kernel.specs.Table.{hypothesis, conjuncts, failing, alternatives, negations, pushed_inward}
 use Rattle.lc_kernel.specs.declared.reason.Flaw.{Flaw}

@@ -2,7 +2,7 @@
 use Rattle.std.specs.Prelude.{◌≡◌, ℕ, ℤ, pos, ◌*ℤ◌, Option, Some, None, Ok, Err}
 use Rattle.std.proofs.Common.{refl, sym, subst, arith}
 use Rattle.std.proofs.lemmas.Int.{ints}
-use Rattle.lc_term.specs.NodeTables.{Table}
+use Rattle.lc_table.specs.NodeTables.{Table}
 use Rattle.lc_term.specs.Syntax.{Term, Formula}
 use Rattle.lc_linear.specs.Divided.{IsRoundedUp, Divides, IsDivided}
 use Rattle.lc_linear.specs.Form as T

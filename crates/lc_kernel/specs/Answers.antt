@@ -1,11 +1,11 @@
 -- What the code answers of a step and of a proof, formulas being read in a table.
 use Rattle.std.specs.Prelude.{◌≡◌, ℕ, ◌+◌, ℤ, pos, negsuc, slice_get, Bool, true, false, Option, Some, None, Result, Ok, Err, List, Vec}
 use Rattle.std.specs.declared.alloc.Global.{Global}
-use Rattle.lc_term.specs.NodeTables.{Table}
+use Rattle.lc_table.specs.NodeTables.{Table}
 use Rattle.lc_term.specs.Syntax as S
-use Rattle.lc_term.specs.Tables.{term_in, formula_in, formulas_in, IsTerm, IsFormula, AreFormulas}
-use Rattle.lc_term.specs.declared.node.FormulaId.{FormulaId}
-use Rattle.lc_term.specs.declared.node.TermId.{TermId}
+use Rattle.lc_table.specs.Tables.{term_in, formula_in, formulas_in, IsTerm, IsFormula, AreFormulas}
+use Rattle.lc_table.specs.declared.node.FormulaId.{FormulaId}
+use Rattle.lc_table.specs.declared.node.TermId.{TermId}
 use Rattle.lc_kernel.specs.Branches.{branches_in, AreBranches}
 use Rattle.lc_kernel.specs.Proofs.{Step, Proof, Proofs, size, size_of_all}
 use Rattle.lc_kernel.specs.Table.{Outcome, flawed, opens, Gives, excess, CanCompare, IsQuotient}

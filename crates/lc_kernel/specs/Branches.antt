@@ -1,9 +1,9 @@
 -- The branches that a step opens, read in a table.
 use Rattle.std.specs.Prelude.{ℕ, List, [], ◌∷◌, length, Option, Some, None, slice_get}
-use Rattle.lc_term.specs.NodeTables.{Table}
+use Rattle.lc_table.specs.NodeTables.{Table}
 use Rattle.lc_term.specs.Syntax.{Formula}
-use Rattle.lc_term.specs.Tables.{formulas_in, AreFormulas}
-use Rattle.lc_term.specs.declared.node.FormulaId.{FormulaId}
+use Rattle.lc_table.specs.Tables.{formulas_in, AreFormulas}
+use Rattle.lc_table.specs.declared.node.FormulaId.{FormulaId}
 use Rattle.lc_kernel.specs.Table.{each}
 use Rattle.lc_kernel.specs.declared.opened.Branches.{Branches}
 use Rattle.lc_kernel.specs.declared.opened.Branches.TheVariants.{Nothing, One, Each}

@@ -1,11 +1,11 @@
 -- What is known of the variables of terms and formulas, by number.
 use Rattle.std.specs.Prelude.{◌≡◌, ℕ, Bool, true, nat_eq}
 use Rattle.std.specs.HashSet.{contains}
-use Rattle.lc_term.specs.NodeTables.{Table}
-use Rattle.lc_term.specs.Tables.{term_in, column_in, formula_in}
-use Rattle.lc_term.specs.declared.node.TermId.{TermId}
-use Rattle.lc_term.specs.declared.node.ColExprId.{ColExprId}
-use Rattle.lc_term.specs.declared.node.FormulaId.{FormulaId}
+use Rattle.lc_table.specs.NodeTables.{Table}
+use Rattle.lc_table.specs.Tables.{term_in, column_in, formula_in}
+use Rattle.lc_table.specs.declared.node.TermId.{TermId}
+use Rattle.lc_table.specs.declared.node.ColExprId.{ColExprId}
+use Rattle.lc_table.specs.declared.node.FormulaId.{FormulaId}
 use Rattle.lc_kernel.specs.Below.{term_below, column_below, formula_below}
 use Rattle.lc_kernel.specs.declared.uses.KnownBelow.{KnownBelow}
 

@@ -8,7 +8,7 @@ ghost use Rattle.lc_kernel.specs.declared.reason.Reason.TheVariants.{NoHypothesi
 ghost use Rattle.lc_linear.specs.Closing.{entries_in, AreEntries};
 ghost use Rattle.lc_linear.specs.LinForm.{numbers};
 ghost use Rattle.lc_term.specs.Syntax as T;
-ghost use Rattle.lc_term.specs.Tables.{term_in, formula_in, formulas_in, IsTerm, IsFormula, AreFormulas, Keeps};
+ghost use Rattle.lc_table.specs.Tables.{term_in, formula_in, formulas_in, IsTerm, IsFormula, AreFormulas, Keeps};
 ghost use Rattle.lc_term.specs.View.{formula_of};
 
 use crate::below::formula_below;
@@ -18,7 +18,8 @@ use crate::opened::{Branches, Opened, appending, count_branches};
 use crate::proof::Multiple;
 use crate::reason::{Flaw, Reason};
 use lc_linear::{LinFault, LinForm, closes, form_of_difference};
-use lc_term::{Formula, FormulaId, FormulaNode, TermId, Terms};
+use lc_table::{FormulaId, FormulaNode, TermId, Terms};
+use lc_term::Formula;
 use std::alloc::Global;
 
 /// The hypotheses that a sum names, with their multipliers.
@@ -164,7 +165,7 @@ fn test_quotient(
 }
 
 /// The branch of a quotient of `left <= right`.
-#[tactic(auto, using(lc_term::proofs::Later::formula_is, lc_term::proofs::Later::is_formula_later, lc_term::proofs::Later::term_still, lc_term::proofs::Later::is_term_still, lc_term::proofs::Later::keeps_itself))]
+#[tactic(auto, using(lc_table::proofs::Later::formula_is, lc_table::proofs::Later::is_formula_later, lc_table::proofs::Later::term_still, lc_table::proofs::Later::is_term_still, lc_table::proofs::Later::keeps_itself))]
 fn quotient_of(
     alloc: Global,
     terms: &mut Terms,
@@ -186,7 +187,7 @@ fn quotient_of(
 
 /// `(divide h k F P)`: of `(<= a b)`, whose form is `k * e + d`, one branch, with F, a `<=` of the form
 /// `e + d / k`, the quotient rounded up.
-#[tactic(auto, using(lc_term::proofs::Later::keeps_itself))]
+#[tactic(auto, using(lc_table::proofs::Later::keeps_itself))]
 pub(crate) fn divide(
     alloc: Global,
     terms: &mut Terms,

@@ -4,7 +4,7 @@ ghost use Rattle.lc_kernel.specs.Answers.{StepMeets, Checks, ChecksEach};
 ghost use Rattle.lc_kernel.specs.Branches.{branches_in, AreBranches, branch_count};
 ghost use Rattle.lc_kernel.specs.Proofs.{proofs, size, size_of_all};
 ghost use Rattle.lc_kernel.specs.View.{step_of, proof_of, proofs_of};
-ghost use Rattle.lc_term.specs.Tables.{formulas_in, AreFormulas, Keeps};
+ghost use Rattle.lc_table.specs.Tables.{formulas_in, AreFormulas, Keeps};
 
 use crate::arithmetic::{divide, sum};
 use crate::fault::{ProofFault, StepFault};
@@ -14,11 +14,11 @@ use crate::reason::{Flaw, Reason};
 use crate::rules::{
     affine, cases, cut, fresh, instantiated, opposite, push, same, split, trichotomy, written,
 };
-use lc_term::{FormulaId, Terms};
+use lc_table::{FormulaId, Terms};
 use std::alloc::Global;
 
 /// What a step opens, where so many proofs stand below it, or what is wrong with it.
-#[tactic(auto, using(lc_term::proofs::Later::keeps_itself))]
+#[tactic(auto, using(lc_table::proofs::Later::keeps_itself))]
 fn take_step(
     alloc: Global,
     terms: &mut Terms,
@@ -98,7 +98,7 @@ fn take_step(
 
 /// Checks a proof whose first step has this number; answers the number after its last.
 #[cycle(check)]
-#[tactic(auto, using(lc_term::proofs::Later::kept_on, lc_term::proofs::Later::keeps_itself, lc_term::proofs::Later::are_formulas_still))]
+#[tactic(auto, using(lc_table::proofs::Later::kept_on, lc_table::proofs::Later::keeps_itself, lc_table::proofs::Later::are_formulas_still))]
 pub(crate) fn check(
     alloc: Global,
     terms: &mut Terms,
@@ -138,7 +138,7 @@ pub(crate) fn check(
 
 /// Checks the proofs of branches, each under the hypotheses and what its branch appends.
 #[cycle(check)]
-#[tactic(auto, using(lc_term::proofs::Later::kept_on, lc_term::proofs::Later::keeps_itself, lc_term::proofs::Later::are_formulas_still))]
+#[tactic(auto, using(lc_table::proofs::Later::kept_on, lc_table::proofs::Later::keeps_itself, lc_table::proofs::Later::are_formulas_still))]
 fn check_each(
     alloc: Global,
     terms: &mut Terms,

@@ -4,12 +4,12 @@ ghost use Rattle.lc_kernel.specs.Answers.{FindsNumber, FindsIn, FindsSides, Find
 ghost use Rattle.lc_kernel.specs.Table.{hypothesis, conjuncts, failing, alternatives, negations, less, pushed_inward, pushed, for_all, for_some, sides, apart, excess};
 ghost use Rattle.lc_kernel.specs.declared.reason.Reason.TheVariants.{NoHypothesis, WrongForm};
 ghost use Rattle.lc_term.specs.Syntax as T;
-ghost use Rattle.lc_term.specs.Tables.{term_in, formula_in, formulas_in, IsTerm, IsFormula, AreFormulas, HasFormula, Keeps};
+ghost use Rattle.lc_table.specs.Tables.{term_in, formula_in, formulas_in, IsTerm, IsFormula, AreFormulas, HasFormula, Keeps};
 
 use crate::fault::StepFault;
 use crate::reason::{Flaw, Reason};
 use lc_base::OutOfMemory;
-use lc_term::{FormulaId, FormulaNode, TermId, Terms};
+use lc_table::{FormulaId, FormulaNode, TermId, Terms};
 use std::alloc::Global;
 
 // Where a hypothesis stands.
@@ -50,7 +50,7 @@ pub(crate) fn pair(
 }
 
 /// `(not F)` of each formula.
-#[tactic(auto, using(lc_term::proofs::Later::formulas_pushed, lc_term::proofs::Later::are_formulas_pushed, lc_term::proofs::Later::formula_still, lc_term::proofs::Later::is_formula_still, lc_term::proofs::Later::kept_on, lc_term::proofs::Later::keeps_itself))]
+#[tactic(auto, using(lc_table::proofs::Later::formulas_pushed, lc_table::proofs::Later::are_formulas_pushed, lc_table::proofs::Later::formula_still, lc_table::proofs::Later::is_formula_still, lc_table::proofs::Later::kept_on, lc_table::proofs::Later::keeps_itself))]
 fn negated_each(
     alloc: Global,
     terms: &mut Terms,
@@ -69,7 +69,7 @@ fn negated_each(
 }
 
 /// `(<= (+ t 1) u)`.
-#[tactic(auto, using(lc_term::proofs::Later::term_is, lc_term::proofs::Later::is_term_later, lc_term::proofs::Later::term_still, lc_term::proofs::Later::is_term_still, lc_term::proofs::Later::kept_on, lc_term::proofs::Later::keeps_itself))]
+#[tactic(auto, using(lc_table::proofs::Later::term_is, lc_table::proofs::Later::is_term_later, lc_table::proofs::Later::term_still, lc_table::proofs::Later::is_term_still, lc_table::proofs::Later::kept_on, lc_table::proofs::Later::keeps_itself))]
 pub(crate) fn less(terms: &mut Terms, left: TermId, right: TermId) -> Result<FormulaId, OutOfMemory>
     requires left { IsTerm terms.old left }
     requires right { IsTerm terms.old right }
@@ -97,7 +97,7 @@ pub(crate) fn conjuncts(
 }
 
 /// Of `(and F ..)` each `(not F)`.
-#[tactic(auto, using(crate::proofs::Numbered::failing_by, crate::proofs::Numbered::failing_none, lc_term::proofs::Later::keeps_itself))]
+#[tactic(auto, using(crate::proofs::Numbered::failing_by, crate::proofs::Numbered::failing_none, lc_table::proofs::Later::keeps_itself))]
 fn failing(
     alloc: Global,
     terms: &mut Terms,
@@ -112,7 +112,7 @@ fn failing(
 }
 
 /// Of `(or F ..)` the parts, of `(=> A B)` `(not A)` and `B`, of `(not (and F ..))` each `(not F)`.
-#[tactic(auto, using(lc_term::proofs::Later::formula_is, lc_term::proofs::Later::formula_still, lc_term::proofs::Later::is_formula_later, lc_term::proofs::Later::is_formula_still, lc_term::proofs::Later::keeps_itself))]
+#[tactic(auto, using(lc_table::proofs::Later::formula_is, lc_table::proofs::Later::formula_still, lc_table::proofs::Later::is_formula_later, lc_table::proofs::Later::is_formula_still, lc_table::proofs::Later::keeps_itself))]
 pub(crate) fn alternatives(
     alloc: Global,
     terms: &mut Terms,
@@ -138,7 +138,7 @@ pub(crate) fn alternatives(
 }
 
 /// `(and (not F) ..)`.
-#[tactic(auto, using(lc_term::proofs::Later::kept_on))]
+#[tactic(auto, using(lc_table::proofs::Later::kept_on))]
 fn none_of(
     alloc: Global,
     terms: &mut Terms,
@@ -153,7 +153,7 @@ fn none_of(
 }
 
 /// `(and A (not B))`.
-#[tactic(auto, using(lc_term::proofs::Later::formula_is, lc_term::proofs::Later::formula_still, lc_term::proofs::Later::is_formula_later, lc_term::proofs::Later::is_formula_still, lc_term::proofs::Later::kept_on, lc_term::proofs::Later::keeps_itself))]
+#[tactic(auto, using(lc_table::proofs::Later::formula_is, lc_table::proofs::Later::formula_still, lc_table::proofs::Later::is_formula_later, lc_table::proofs::Later::is_formula_still, lc_table::proofs::Later::kept_on, lc_table::proofs::Later::keeps_itself))]
 fn but_not(
     alloc: Global,
     terms: &mut Terms,
@@ -171,7 +171,7 @@ fn but_not(
 }
 
 /// What `(not F)` says, of F, with the negation pushed inward.
-#[tactic(auto, using(lc_term::proofs::Later::formula_is, lc_term::proofs::Later::is_formula_later, lc_term::proofs::Later::kept_on, lc_term::proofs::Later::keeps_itself))]
+#[tactic(auto, using(lc_table::proofs::Later::formula_is, lc_table::proofs::Later::is_formula_later, lc_table::proofs::Later::kept_on, lc_table::proofs::Later::keeps_itself))]
 fn pushed_inward(
     alloc: Global,
     terms: &mut Terms,
@@ -212,7 +212,7 @@ fn pushed_inward(
 }
 
 /// `(not F)` with the negation pushed inward.
-#[tactic(auto, using(lc_term::proofs::Later::keeps_itself))]
+#[tactic(auto, using(lc_table::proofs::Later::keeps_itself))]
 pub(crate) fn pushed(
     alloc: Global,
     terms: &mut Terms,

@@ -1,10 +1,10 @@
 ghost use Rattle.std.specs.Prelude.{◌≡◌, ◌&&◌, IfOk};
 ghost use Rattle.lc_kernel.specs.Below.{all_below, formula_below};
-ghost use Rattle.lc_term.specs.Tables.{formula_in, formulas_in, IsFormula, AreFormulas};
+ghost use Rattle.lc_table.specs.Tables.{formula_in, formulas_in, IsFormula, AreFormulas};
 
 use crate::uses::{are_formulas_below, is_formula_below, nothing_known};
 use lc_base::OutOfMemory;
-use lc_term::{FormulaId, Terms};
+use lc_table::{FormulaId, Terms};
 use std::alloc::Global;
 
 /// What a proof is to show: that a formula follows from hypotheses, which stand in one table.

@@ -2,12 +2,12 @@ ghost use Rattle.std.specs.Prelude.{◌≡◌, ◌==◌, ◌<◌, ◌++◌, OnOk
 ghost use Rattle.lc_kernel.specs.Answers.{Tests};
 ghost use Rattle.lc_kernel.specs.Branches.{branches_in, AreBranches, branch_count, branch_at};
 ghost use Rattle.lc_kernel.specs.Table.{opens, Appends};
-ghost use Rattle.lc_term.specs.Tables.{formula_in, IsFormula};
+ghost use Rattle.lc_table.specs.Tables.{formula_in, IsFormula};
 ghost use Rattle.lc_kernel.specs.declared.reason.Reason.TheVariants.{WrongForm};
 
 use crate::reason::{Flaw, Reason};
 use lc_base::OutOfMemory;
-use lc_term::{FormulaId, Terms};
+use lc_table::{FormulaId, Terms};
 use std::alloc::Global;
 
 /// The branches that a step opens, by the formulas that are appended to the hypotheses in each.

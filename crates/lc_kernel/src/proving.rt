@@ -5,14 +5,14 @@ ghost use Rattle.lc_kernel.specs.Proofs.{size};
 ghost use Rattle.lc_kernel.specs.View.{proof_of};
 ghost use Rattle.lc_term.specs.Meaning.{Valid};
 ghost use Rattle.lc_term.specs.Syntax.{Not};
-ghost use Rattle.lc_term.specs.Tables.{formula_in, formulas_in, IsFormula, AreFormulas, Keeps};
+ghost use Rattle.lc_table.specs.Tables.{formula_in, formulas_in, IsFormula, AreFormulas, Keeps};
 
 use crate::check::check;
 use crate::fault::ProofFault;
 use crate::goal::Goal;
 use crate::proof::Proof;
 use lc_base::OutOfMemory;
-use lc_term::{FormulaId, Terms};
+use lc_table::{FormulaId, Terms};
 use std::alloc::Global;
 
 // How many formulas a list of hypotheses has room for behind those of the goal: the negated goal, and what the first steps
@@ -20,7 +20,7 @@ use std::alloc::Global;
 const ROOM: usize = 16;
 
 /// The hypotheses of a goal and, as the last of them, the negated goal.
-#[tactic(auto, using(lc_term::proofs::Later::formulas_pushed, lc_term::proofs::Later::are_formulas_pushed, lc_term::proofs::Later::kept_on, lc_term::proofs::Later::keeps_itself))]
+#[tactic(auto, using(lc_table::proofs::Later::formulas_pushed, lc_table::proofs::Later::are_formulas_pushed, lc_table::proofs::Later::kept_on, lc_table::proofs::Later::keeps_itself))]
 fn assumed(terms: &mut Terms, alloc: Global, goal: &Goal) -> Result<Vec<FormulaId>, OutOfMemory>
     requires hypotheses { AreFormulas terms.old goal.now.hypotheses.items }
     requires goal { IsFormula terms.old goal.now.goal }
@@ -44,7 +44,7 @@ fn assumed(terms: &mut Terms, alloc: Global, goal: &Goal) -> Result<Vec<FormulaI
 /// goal; `Bad` and `Large` name the first step, in preorder, that does not hold. Formulas that steps make are entered
 /// in the table of the goal. Reads and appends of a step cost what they touch: branches share the hypotheses they have
 /// in common. The stack that is needed grows with the nesting of the proof.
-#[tactic(auto, using(lc_term::proofs::Later::kept_on, lc_term::proofs::Later::keeps_itself))]
+#[tactic(auto, using(lc_table::proofs::Later::kept_on, lc_table::proofs::Later::keeps_itself))]
 pub fn prove(terms: &mut Terms, alloc: Global, goal: &Goal, proof: &Proof) -> Result<(), ProofFault>
     requires numbers { AreFormulas terms.old goal.now.hypotheses.items × IsFormula terms.old goal.now.goal }
     requires hypotheses { IsTrue (all_below goal.now.vars (formulas_in terms.old goal.now.hypotheses.items)) }

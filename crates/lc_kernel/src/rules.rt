@@ -9,7 +9,7 @@ ghost use Rattle.lc_term.specs.Equal.{formula_eq};
 ghost use Rattle.lc_term.specs.Places.{is_closed};
 ghost use Rattle.lc_term.specs.Substitution.{instantiated};
 ghost use Rattle.lc_term.specs.Syntax as T;
-ghost use Rattle.lc_term.specs.Tables.{term_in, formula_in, formulas_in, IsTerm, IsFormula, AreFormulas, HasTerm, HasColumn, HasFormula, Keeps};
+ghost use Rattle.lc_table.specs.Tables.{term_in, formula_in, formulas_in, IsTerm, IsFormula, AreFormulas, HasTerm, HasColumn, HasFormula, Keeps};
 ghost use Rattle.lc_term.specs.View.{term_of, column_of, formula_of};
 
 use crate::below::{column_below, formula_below, term_below};
@@ -19,9 +19,8 @@ use crate::opened::{Branches, Opened, appending, count_branches};
 use crate::reason::{Flaw, Reason};
 use lc_array::{affine_axiom, same_index_axiom, written_axiom};
 use lc_base::OutOfMemory;
-use lc_term::{
-    ColExpr, ColExprId, Formula, FormulaId, FormulaNode, Term, TermId, Terms, is_closed,
-};
+use lc_table::{ColExprId, FormulaId, FormulaNode, TermId, Terms};
+use lc_term::{ColExpr, Formula, Term, is_closed};
 use std::alloc::Global;
 
 /// `(split h P)`: of `(and F ..)` one branch, with each F.
@@ -47,7 +46,7 @@ pub(crate) fn split(
 
 /// `(cases h P ..)`: of `(or F ..)` a branch for each F; of `(=> A B)` one with `(not A)` and one with `B`; of
 /// `(not (and F ..))` a branch with `(not F)` for each F.
-#[tactic(auto, using(lc_term::proofs::Later::keeps_itself))]
+#[tactic(auto, using(lc_table::proofs::Later::keeps_itself))]
 pub(crate) fn cases(
     alloc: Global,
     terms: &mut Terms,
@@ -70,7 +69,7 @@ pub(crate) fn cases(
 }
 
 /// `(push h P)`: of `(not F)` one branch, with the negation pushed into F.
-#[tactic(auto, using(lc_term::proofs::Later::keeps_itself))]
+#[tactic(auto, using(lc_table::proofs::Later::keeps_itself))]
 pub(crate) fn push(
     alloc: Global,
     terms: &mut Terms,
@@ -90,7 +89,7 @@ pub(crate) fn push(
 }
 
 /// The body of a quantifier where its variable is a term.
-#[tactic(auto, using(lc_term::proofs::Later::term_is, lc_term::proofs::Later::is_term_later, lc_term::proofs::Later::formula_still, lc_term::proofs::Later::is_formula_still, lc_term::proofs::Later::kept_on, lc_term::proofs::Later::keeps_itself))]
+#[tactic(auto, using(lc_table::proofs::Later::term_is, lc_table::proofs::Later::is_term_later, lc_table::proofs::Later::formula_still, lc_table::proofs::Later::is_formula_still, lc_table::proofs::Later::kept_on, lc_table::proofs::Later::keeps_itself))]
 fn with_term(
     alloc: Global,
     terms: &mut Terms,
@@ -108,7 +107,7 @@ fn with_term(
 
 /// `(inst h T P)`: of `(forall x F)` one branch, with F where x is T. No quantifier stands round T, so a bound
 /// variable in it is none that is in use.
-#[tactic(auto, using(lc_term::proofs::Later::formula_is, lc_term::proofs::Later::is_formula_later, lc_term::proofs::Later::keeps_itself))]
+#[tactic(auto, using(lc_table::proofs::Later::formula_is, lc_table::proofs::Later::is_formula_later, lc_table::proofs::Later::keeps_itself))]
 pub(crate) fn instantiated(
     alloc: Global,
     terms: &mut Terms,
@@ -133,7 +132,7 @@ pub(crate) fn instantiated(
 
 /// `(fresh h P)`: of `(exists x F)` one branch, with F where x is a new variable. Its number is the count of
 /// variables, which rises by 1.
-#[tactic(auto, using(lc_term::proofs::Later::formula_is, lc_term::proofs::Later::is_formula_later, lc_term::proofs::Later::keeps_itself))]
+#[tactic(auto, using(lc_table::proofs::Later::formula_is, lc_table::proofs::Later::is_formula_later, lc_table::proofs::Later::keeps_itself))]
 pub(crate) fn fresh(
     alloc: Global,
     terms: &mut Terms,
@@ -155,7 +154,7 @@ pub(crate) fn fresh(
 }
 
 /// `(not F)` and `F`.
-#[tactic(auto, using(lc_term::proofs::Later::formula_is, lc_term::proofs::Later::formula_later, lc_term::proofs::Later::is_formula_later, lc_term::proofs::Later::kept_on, lc_term::proofs::Later::keeps_itself))]
+#[tactic(auto, using(lc_table::proofs::Later::formula_is, lc_table::proofs::Later::formula_later, lc_table::proofs::Later::is_formula_later, lc_table::proofs::Later::kept_on, lc_table::proofs::Later::keeps_itself))]
 fn both_ways(
     alloc: Global,
     terms: &mut Terms,
@@ -171,7 +170,7 @@ fn both_ways(
 }
 
 /// `(cut F P Q)`: a branch with `(not F)` and one with `F`.
-#[tactic(auto, using(lc_term::proofs::Later::keeps_itself))]
+#[tactic(auto, using(lc_table::proofs::Later::keeps_itself))]
 pub(crate) fn cut(
     alloc: Global,
     terms: &mut Terms,
@@ -195,7 +194,7 @@ pub(crate) fn cut(
 }
 
 /// A column expression and an index, entered.
-#[tactic(auto, using(lc_term::proofs::Later::column_later, lc_term::proofs::Later::kept_on, lc_term::proofs::Later::keeps_itself))]
+#[tactic(auto, using(lc_table::proofs::Later::column_later, lc_table::proofs::Later::kept_on, lc_table::proofs::Later::keeps_itself))]
 fn entered_cell(
     terms: &mut Terms,
     column: &ColExpr,
@@ -211,7 +210,7 @@ fn entered_cell(
 }
 
 /// Two terms, entered.
-#[tactic(auto, using(lc_term::proofs::Later::term_later, lc_term::proofs::Later::kept_on, lc_term::proofs::Later::keeps_itself))]
+#[tactic(auto, using(lc_table::proofs::Later::term_later, lc_table::proofs::Later::kept_on, lc_table::proofs::Later::keeps_itself))]
 fn entered_pair(
     terms: &mut Terms,
     first: &Term,
@@ -226,7 +225,7 @@ fn entered_pair(
     Ok((first, second))
 }
 
-#[tactic(auto, using(lc_term::proofs::Later::term_is, lc_term::proofs::Later::term_later, lc_term::proofs::Later::column_is, lc_term::proofs::Later::column_later, lc_term::proofs::Later::is_term_later, lc_term::proofs::Later::is_column_later, lc_term::proofs::Later::kept_on, lc_term::proofs::Later::keeps_itself))]
+#[tactic(auto, using(lc_table::proofs::Later::term_is, lc_table::proofs::Later::term_later, lc_table::proofs::Later::column_is, lc_table::proofs::Later::column_later, lc_table::proofs::Later::is_term_later, lc_table::proofs::Later::is_column_later, lc_table::proofs::Later::kept_on, lc_table::proofs::Later::keeps_itself))]
 fn written_formula(
     alloc: Global,
     terms: &mut Terms,
@@ -243,7 +242,7 @@ fn written_formula(
     written_axiom(terms, alloc, column, index, value, other)
 }
 
-#[tactic(auto, using(lc_term::proofs::Later::term_is, lc_term::proofs::Later::term_later, lc_term::proofs::Later::column_is, lc_term::proofs::Later::column_later, lc_term::proofs::Later::is_term_later, lc_term::proofs::Later::is_column_later, lc_term::proofs::Later::kept_on, lc_term::proofs::Later::keeps_itself))]
+#[tactic(auto, using(lc_table::proofs::Later::term_is, lc_table::proofs::Later::term_later, lc_table::proofs::Later::column_is, lc_table::proofs::Later::column_later, lc_table::proofs::Later::is_term_later, lc_table::proofs::Later::is_column_later, lc_table::proofs::Later::kept_on, lc_table::proofs::Later::keeps_itself))]
 fn same_formula(
     alloc: Global,
     terms: &mut Terms,
@@ -259,7 +258,7 @@ fn same_formula(
     same_index_axiom(terms, alloc, column, index, other)
 }
 
-#[tactic(auto, using(lc_term::proofs::Later::term_is, lc_term::proofs::Later::is_term_later, lc_term::proofs::Later::kept_on, lc_term::proofs::Later::keeps_itself))]
+#[tactic(auto, using(lc_table::proofs::Later::term_is, lc_table::proofs::Later::is_term_later, lc_table::proofs::Later::kept_on, lc_table::proofs::Later::keeps_itself))]
 fn affine_formula(
     terms: &mut Terms,
     slope: i64,
@@ -274,7 +273,7 @@ fn affine_formula(
 }
 
 /// `(written C i v j P)`: one branch, with the axiom of a stored value.
-#[tactic(auto, using(lc_term::proofs::Later::formula_is, lc_term::proofs::Later::is_formula_later, lc_term::proofs::Later::keeps_itself))]
+#[tactic(auto, using(lc_table::proofs::Later::formula_is, lc_table::proofs::Later::is_formula_later, lc_table::proofs::Later::keeps_itself))]
 pub(crate) fn written(
     alloc: Global,
     terms: &mut Terms,
@@ -302,7 +301,7 @@ pub(crate) fn written(
 }
 
 /// `(same C i j P)`: one branch, with the axiom of equal indexes.
-#[tactic(auto, using(lc_term::proofs::Later::formula_is, lc_term::proofs::Later::is_formula_later, lc_term::proofs::Later::keeps_itself))]
+#[tactic(auto, using(lc_table::proofs::Later::formula_is, lc_table::proofs::Later::is_formula_later, lc_table::proofs::Later::keeps_itself))]
 pub(crate) fn same(
     alloc: Global,
     terms: &mut Terms,
@@ -328,7 +327,7 @@ pub(crate) fn same(
 }
 
 /// `(affine a b i P)`: one branch, with the axiom of the column that has `a * i + b` at i.
-#[tactic(auto, using(lc_term::proofs::Later::formula_is, lc_term::proofs::Later::is_formula_later, lc_term::proofs::Later::keeps_itself))]
+#[tactic(auto, using(lc_table::proofs::Later::formula_is, lc_table::proofs::Later::is_formula_later, lc_table::proofs::Later::keeps_itself))]
 pub(crate) fn affine(
     alloc: Global,
     terms: &mut Terms,
@@ -351,7 +350,7 @@ pub(crate) fn affine(
 }
 
 /// Both orders of two terms: the first is less, the second is less.
-#[tactic(auto, using(lc_term::proofs::Later::formula_is, lc_term::proofs::Later::formula_later, lc_term::proofs::Later::is_formula_later, lc_term::proofs::Later::is_term_still, lc_term::proofs::Later::term_still, lc_term::proofs::Later::kept_on, lc_term::proofs::Later::keeps_itself))]
+#[tactic(auto, using(lc_table::proofs::Later::formula_is, lc_table::proofs::Later::formula_later, lc_table::proofs::Later::is_formula_later, lc_table::proofs::Later::is_term_still, lc_table::proofs::Later::term_still, lc_table::proofs::Later::kept_on, lc_table::proofs::Later::keeps_itself))]
 fn both_orders(
     alloc: Global,
     terms: &mut Terms,
@@ -370,7 +369,7 @@ fn both_orders(
 }
 
 /// `(trich h P Q)`: of `(not (= a b))` a branch with `a < b` and one with `b < a`.
-#[tactic(auto, using(lc_term::proofs::Later::keeps_itself))]
+#[tactic(auto, using(lc_table::proofs::Later::keeps_itself))]
 pub(crate) fn trichotomy(
     alloc: Global,
     terms: &mut Terms,

@@ -2,12 +2,12 @@
 ghost use Rattle.std.specs.Prelude.{◌≡◌, ◌&&◌, ℕ, IfOk, OnOk};
 ghost use Rattle.lc_kernel.specs.Below.{term_below, column_below, formula_below, all_below};
 ghost use Rattle.lc_kernel.specs.Uses.{AreBelow};
-ghost use Rattle.lc_term.specs.NodeTables.{Table};
-ghost use Rattle.lc_term.specs.Tables.{term_in, column_in, formula_in, formulas_in, IsTerm, IsColumn, IsFormula, AreFormulas};
+ghost use Rattle.lc_table.specs.NodeTables.{Table};
+ghost use Rattle.lc_table.specs.Tables.{term_in, column_in, formula_in, formulas_in, IsTerm, IsColumn, IsFormula, AreFormulas};
 
 use indexmap::IndexSet;
 use lc_base::OutOfMemory;
-use lc_term::{ColExprId, FormulaId, FormulaNode, TermId, TermNode, Terms};
+use lc_table::{ColExprId, FormulaId, FormulaNode, TermId, TermNode, Terms};
 use std::alloc::Global;
 
 // What is known to have its variables below the count.

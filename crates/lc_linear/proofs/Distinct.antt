@@ -11,7 +11,7 @@ use Rattle.std.proofs.lemmas.Map.Iter.{rest_so_far, rest_more, iter_end}
 use Rattle.std.proofs.lemmas.Map.Keys.{IsDistinct-head, IsDistinct-tail}
 use Rattle.std.proofs.lemmas.Int.{ints}
 use Rattle.lc_linear.proofs.Ids.{Decides-is_same, is_same-congr, is_same-symm}
-use Rattle.lc_term.specs.declared.node.TermId.{TermId}
+use Rattle.lc_table.specs.declared.node.TermId.{TermId}
 use Rattle.lc_linear.proofs.Products.{zero-mul}
 use Rattle.lc_linear.specs.Numbered.{Place, is_same, atom_form, coefficient_in, listed}
 

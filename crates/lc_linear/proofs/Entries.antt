@@ -10,7 +10,7 @@ use Rattle.std.proofs.lemmas.Int.{ints}
 use Rattle.indexmap.specs.IndexMap.{insert_entry}
 use Rattle.indexmap.specs.Layout.{set_value_at}
 use Rattle.lc_linear.proofs.Ids.{Decides-is_same}
-use Rattle.lc_term.specs.declared.node.TermId.{TermId}
+use Rattle.lc_table.specs.declared.node.TermId.{TermId}
 use Rattle.lc_linear.proofs.Numbers.{kept}
 use Rattle.lc_linear.proofs.Products.{mul-neg}
 use Rattle.lc_linear.specs.Numbered.{Place, Form, is_same, atom_form, coefficient_in, listed, AllFit}

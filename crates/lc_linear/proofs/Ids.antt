@@ -2,7 +2,7 @@
 use Rattle.std.proofs.Common.{◌≡◌, ℕ, Bool, true, false, refl, sym, ap}
 use Rattle.std.specs.Bool.{Decides}
 use Rattle.std.proofs.lemmas.Bool.{eqb-true, eq-eqb}
-use Rattle.lc_term.specs.declared.node.TermId.{TermId}
+use Rattle.lc_table.specs.declared.node.TermId.{TermId}
 use Rattle.lc_linear.specs.Numbered.{is_same}
 
 abbrev make : ℕ → TermId

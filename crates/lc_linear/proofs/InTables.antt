@@ -7,11 +7,11 @@ use Rattle.std.proofs.lemmas.Int.{ints}
 use Rattle.lc_term.specs.Syntax as S
 use Rattle.lc_term.specs.Equal.{term_eq}
 use Rattle.lc_term.specs.EqualLaws.{Decides-term_eq}
-use Rattle.lc_term.specs.NodeTables.{Table}
-use Rattle.lc_term.specs.Nodes.{Part, term, column, as_term, is_term}
-use Rattle.lc_term.specs.Tables.{parts, term_in, IsTerm}
-use Rattle.lc_term.specs.declared.node.TermId.{TermId}
-use Rattle.lc_term.proofs.TermNodes.{term-there}
+use Rattle.lc_table.specs.NodeTables.{Table}
+use Rattle.lc_table.specs.Nodes.{Part, term, column, as_term, is_term}
+use Rattle.lc_table.specs.Tables.{parts, term_in, IsTerm}
+use Rattle.lc_table.specs.declared.node.TermId.{TermId}
+use Rattle.lc_table.proofs.TermNodes.{term-there}
 use Rattle.lc_linear.proofs.Ids.{Decides-is_same, same_test}
 use Rattle.lc_linear.specs.Form as T
 use Rattle.lc_linear.specs.LinForm.{numbers, HasNumbers, IsNowhere, Reads, IsFormIn, AddsIn, Gives}

@@ -3,10 +3,10 @@ use Rattle.std.proofs.Common.{◌≡◌, Some, None, refl, sym, ap, ap₂, subst
 use Rattle.std.specs.Prelude.{ℤ, pos, ◌+ℤ◌, ◌-ℤ◌, ◌*ℤ◌, FitsSigned, Result, Ok, Err}
 use Rattle.std.specs.Int.{w128}
 use Rattle.std.proofs.lemmas.Int.{ints}
-use Rattle.lc_term.specs.NodeTables.{Table}
+use Rattle.lc_table.specs.NodeTables.{Table}
 use Rattle.lc_term.specs.Syntax.{Term, Number, Add, Subtract, Multiply}
-use Rattle.lc_term.specs.Tables.{term_in, IsTerm}
-use Rattle.lc_term.specs.declared.node.TermId.{TermId}
+use Rattle.lc_table.specs.Tables.{term_in, IsTerm}
+use Rattle.lc_table.specs.declared.node.TermId.{TermId}
 use Rattle.lc_linear.proofs.InTables.{IsExact, each_of_trees, each_kept, read_by, Reads-same, number_read, atom_read, Gives-map}
 use Rattle.lc_linear.proofs.Multiples.{added_sum, added_difference, added_product}
 use Rattle.lc_linear.proofs.Parts.{IsAtom, multiplied, HasForm-product, product-HasForm}

@@ -7,7 +7,7 @@ use Rattle.std.specs.Map.{keys_of, values_of}
 use Rattle.std.proofs.lemmas.Int.{ints}
 use Rattle.std.proofs.lemmas.List.{length-append}
 use Rattle.indexmap.specs.Layout.{set_value_at}
-use Rattle.lc_term.specs.declared.node.TermId.{TermId}
+use Rattle.lc_table.specs.declared.node.TermId.{TermId}
 use Rattle.lc_linear.proofs.Distinct.{absent_before, coefficient_in-middle}
 use Rattle.lc_linear.specs.Numbered.{is_same, coefficient_in, AllFit}
 use Rattle.lc_linear.specs.Quotient.{DividesAt, IsNoMultipleAt}

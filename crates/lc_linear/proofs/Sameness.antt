@@ -1,7 +1,7 @@
 -- Forms of which each has the coefficients that the other lists.
 use Rattle.std.proofs.Common.{◌≡◌, ◌⊎◌, inl, inr, Bool, true, false, List, [], ◌∷◌, ◌++◌, Some, None, refl, sym, ap, ◌∙◌}
 use Rattle.std.specs.Prelude.{ℤ, pos, if◌then◌else◌}
-use Rattle.lc_term.specs.declared.node.TermId.{TermId}
+use Rattle.lc_table.specs.declared.node.TermId.{TermId}
 use Rattle.lc_linear.proofs.Ids.{Decides-is_same}
 use Rattle.lc_linear.specs.Numbered.{Place, Form, is_same, coefficient_in, listed, AllHave}
 

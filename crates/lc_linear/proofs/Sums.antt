@@ -8,9 +8,9 @@ use lib.Signed.{lt_z}
 use Rattle.std.proofs.lemmas.List.{map_more, map-append, take-append-drop}
 use Rattle.lc_term.specs.Syntax as S
 use Rattle.lc_term.specs.Syntax.{Add, Subtract, Multiply}
-use Rattle.lc_term.specs.NodeTables.{Table}
-use Rattle.lc_term.specs.Tables.{formula_in, IsFormula}
-use Rattle.lc_term.specs.declared.node.FormulaId.{FormulaId}
+use Rattle.lc_table.specs.NodeTables.{Table}
+use Rattle.lc_table.specs.Tables.{formula_in, IsFormula}
+use Rattle.lc_table.specs.declared.node.FormulaId.{FormulaId}
 use Rattle.lc_linear.specs.Arithmetic.{CanAddScaled, added_scaled}
 use Rattle.lc_linear.specs.Closing.{Entry, gap, combined_from, combined, entries_in, AreEntries, are_allowed, Closes}
 use Rattle.lc_linear.specs.Form.{Place, Form, form_of, HasForm}

@@ -1,11 +1,11 @@
 -- Lists of comparisons that contradict each other.
 use Rattle.std.specs.Prelude.{◌≡◌, Bool, true, false, IsTrue, Some, None, ℤ, pos, ◌<ℤ◌, int_le, List, [], ◌∷◌, map}
 use Rattle.std.specs.List.{list_all, AllByRecursion}
-use Rattle.lc_term.specs.NodeTables.{Table}
+use Rattle.lc_table.specs.NodeTables.{Table}
 use Rattle.lc_term.specs.Syntax as S
 use Rattle.lc_term.specs.Syntax.{Term, Number, Add, Subtract, Multiply, Le, Eq}
-use Rattle.lc_term.specs.Tables.{formula_in, IsFormula}
-use Rattle.lc_term.specs.declared.node.FormulaId.{FormulaId}
+use Rattle.lc_table.specs.Tables.{formula_in, IsFormula}
+use Rattle.lc_table.specs.declared.node.FormulaId.{FormulaId}
 use Rattle.lc_linear.specs.Form.{form_of, HasForm}
 
 -- a formula with its multiplier

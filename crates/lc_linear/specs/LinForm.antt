@@ -1,9 +1,9 @@
 -- What clauses see of a form that is kept: the number at each place, and the form that it is of trees.
 use Rattle.std.specs.Prelude.{◌≡◌, Some, None, pos, ◌+ℤ◌, Result, Ok, Err}
-use Rattle.lc_term.specs.NodeTables.{Table}
+use Rattle.lc_table.specs.NodeTables.{Table}
 use Rattle.lc_term.specs.Syntax.{Term}
-use Rattle.lc_term.specs.Tables.{term_in, IsTerm}
-use Rattle.lc_term.specs.declared.node.TermId.{TermId}
+use Rattle.lc_table.specs.Tables.{term_in, IsTerm}
+use Rattle.lc_table.specs.declared.node.TermId.{TermId}
 use Rattle.lc_linear.specs.Form as T
 use Rattle.lc_linear.specs.Numbered.{Place, Form, listed}
 use Rattle.lc_linear.specs.declared.fault.LinFault.{LinFault}

@@ -2,7 +2,7 @@
 use Rattle.std.specs.Prelude.{◌≡◌, Bool, nat_eq, Option, Some, None, ℤ, pos, FitsSigned, if◌then◌else◌, List, [], ◌∷◌}
 use Rattle.std.specs.Int.{w128}
 use Rattle.std.specs.List.{AllByRecursion}
-use Rattle.lc_term.specs.declared.node.TermId.{TermId}
+use Rattle.lc_table.specs.declared.node.TermId.{TermId}
 
 -- where a form has a number: none for the constant, the number of a term for its coefficient as an atom
 abbrev pub Place : Type 0

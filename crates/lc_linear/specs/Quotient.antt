@@ -2,7 +2,7 @@
 use Rattle.std.specs.Prelude.{◌≡◌, ℕ, Some, ℤ, ◌*ℤ◌, List, slice_get}
 use Rattle.std.specs.Map.{values_of}
 use Rattle.indexmap.specs.Layout.{set_value_at}
-use Rattle.lc_term.specs.declared.node.TermId.{TermId}
+use Rattle.lc_table.specs.declared.node.TermId.{TermId}
 
 -- the coefficient of entry i is k times a number, which takes its place
 pub record DividesAt (k : ℤ) (i : ℕ) (old new : List (TermId × ℤ)) : Type 0 where

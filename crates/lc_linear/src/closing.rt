@@ -1,6 +1,6 @@
 //! Sums of comparisons.
 ghost use Rattle.std.specs.Prelude.{◌≡◌, ◌↔◌, ◌*ℤ◌, IsTrue, IfSome, IfOk, OnOk, Err};
-ghost use Rattle.lc_term.specs.Tables.{formula_in, IsFormula};
+ghost use Rattle.lc_table.specs.Tables.{formula_in, IsFormula};
 ghost use Rattle.lc_linear.specs.Closing.{Closes, combined, entries_in, AreEntries, gap, is_allowed, are_allowed};
 ghost use Rattle.lc_linear.specs.Form.{form_of, HasForm};
 ghost use Rattle.lc_linear.specs.LinForm.{IsFormIn, AddsIn, GivesFormIn};
@@ -9,7 +9,7 @@ ghost use Rattle.lc_linear.specs.Weight.{weight};
 use crate::exact::exact_difference;
 use crate::quick::{add_difference, difference_weight, is_light};
 use crate::{LinFault, LinForm};
-use lc_term::{FormulaId, FormulaNode, Terms};
+use lc_table::{FormulaId, FormulaNode, Terms};
 use std::alloc::Global;
 
 /// Whether comparisons contradict each other: their forms, each so many times, add up to a constant above 0. The form

@@ -1,12 +1,12 @@
 //! Forms made part by part, each part's form before the sum, difference or product that it stands in. `Large` is
 //! answered exactly where one of them does not fit.
 ghost use Rattle.lc_term.specs.Syntax as S;
-ghost use Rattle.lc_term.specs.Tables.{term_in, IsTerm};
+ghost use Rattle.lc_table.specs.Tables.{term_in, IsTerm};
 ghost use Rattle.lc_linear.specs.LinForm.{GivesFormIn};
 ghost use Rattle.lc_linear.specs.Form.{form_of, HasForm};
 
 use crate::{LinFault, LinForm};
-use lc_term::{TermId, TermNode, Terms, numbers_are_exact};
+use lc_table::{TermId, TermNode, Terms, numbers_are_exact};
 use std::alloc::Global;
 
 pub(crate) fn exact_form(terms: &Terms, alloc: Global, term: TermId) -> Result<LinForm, LinFault>

@@ -5,7 +5,7 @@ mod comparison;
 mod quotient;
 
 use indexmap::IndexMap;
-use lc_term::TermId;
+use lc_table::TermId;
 use std::alloc::Global;
 
 /// A linear form: a constant, and a coefficient for each of its atoms. The atoms are numbers of terms in a table, of
@@ -28,7 +28,7 @@ impl Drop for LinForm {
 
 impl LinForm {
     ghost use Rattle.std.specs.Prelude.{◌≡◌, Some, None, pos, IsTrue, ◌↔◌};
-    ghost use Rattle.lc_term.specs.declared.node.TermId.{TermId};
+    ghost use Rattle.lc_table.specs.declared.node.TermId.{TermId};
     ghost use Rattle.lc_linear.specs.Numbered.{number_form};
     ghost use Rattle.lc_linear.specs.LinForm.{numbers, HasNumbers};
 

@@ -1,13 +1,13 @@
 //! The forms of terms and of differences.
 ghost use Rattle.lc_term.specs.Syntax as S;
-ghost use Rattle.lc_term.specs.Tables.{term_in, IsTerm};
+ghost use Rattle.lc_table.specs.Tables.{term_in, IsTerm};
 ghost use Rattle.lc_linear.specs.LinForm.{GivesFormIn};
 ghost use Rattle.lc_linear.specs.Form.{form_of, HasForm};
 
 use crate::exact::{exact_difference, exact_form};
 use crate::quick::{difference_weight, is_light, quick_difference, quick_form, weight};
 use crate::{LinFault, LinForm};
-use lc_term::{TermId, Terms};
+use lc_table::{TermId, Terms};
 use std::alloc::Global;
 
 /// The linear form of a term. Its atoms are variables and whole reads, equal only if they are the same term.

@@ -7,14 +7,14 @@
 //! to the size of the term times its depth.
 ghost use Rattle.std.specs.Prelude.{◌≡◌, ◌*ℤ◌, ◌^◌, ◌<◌, IsTrue, IfSome, IsSomeAnd, IfOk, OnOk};
 ghost use Rattle.lc_term.specs.Syntax as S;
-ghost use Rattle.lc_term.specs.Tables.{term_in, IsTerm};
+ghost use Rattle.lc_table.specs.Tables.{term_in, IsTerm};
 ghost use Rattle.lc_linear.specs.Form.{form_of};
 ghost use Rattle.lc_linear.specs.LinForm.{IsFormIn, AddsIn};
 ghost use Rattle.lc_linear.specs.Weight.{weight};
 
 use crate::number::{difference, product};
 use crate::{LinFault, LinForm};
-use lc_term::{TermId, TermNode, Terms, numbers_are_exact};
+use lc_table::{TermId, TermNode, Terms, numbers_are_exact};
 use std::alloc::Global;
 
 // A bound of all numbers of the form and of the forms of its parts; none where the bound leaves 128 bits.

@@ -1,12 +1,13 @@
 //! What closes, which numbers fit 128 bits and how quotients are rounded are cases of the program `lc_cases`.
 use lc_base::OutOfMemory;
 use lc_linear::{LinFault, LinForm, closes, form_of, form_of_difference, laws};
-use lc_term::{Formula, Term, Terms};
+use lc_table::Terms;
+use lc_term::{Formula, Term};
 use std::alloc::Global;
 use std::test::Fail;
 
 /// Whether the form of a bound variable less a free one has both, and no other.
-#[tactic(auto, using(lc_term::proofs::Later::is_term_later))]
+#[tactic(auto, using(lc_table::proofs::Later::is_term_later))]
 fn has_both(alloc: Global) -> Result<bool, LinFault> {
     let mut terms = Terms::new(alloc);
     let bound = terms.bound(0)?;
@@ -50,7 +51,7 @@ fn large(alloc: Global) -> Result<Formula, OutOfMemory> {
 }
 
 /// Whether `(and)` does not close, alone and behind a form that does not fit 128 bits.
-#[tactic(auto, using(lc_term::proofs::Later::is_formula_later))]
+#[tactic(auto, using(lc_table::proofs::Later::is_formula_later))]
 fn is_no_comparison(alloc: Global) -> Result<bool, LinFault> {
     let large = large(alloc)?;
     let mut terms = Terms::new(alloc);

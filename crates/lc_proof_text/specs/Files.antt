@@ -3,7 +3,7 @@ use Rattle.std.specs.Prelude.{ℕ, ◌+◌, List, [], length, codes, Option, Som
 use Rattle.std.specs.declared.alloc.Global.{Global}
 use Rattle.lc_sexp.specs.Trees.{Tree, Trees, none, ◌▸◌, item_count, item_count_of_all}
 use Rattle.lc_term.specs.Syntax.{Formula, Formulas, formulas}
-use Rattle.lc_term.specs.Tables.{formula_in, formulas_in, IsFormula, AreFormulas}
+use Rattle.lc_table.specs.Tables.{formula_in, formulas_in, IsFormula, AreFormulas}
 use Rattle.lc_term.specs.View.{formula_of, formulas_of}
 use Rattle.lc_term.specs.declared.formula.Formula.{Formula as SeenFormula}
 use Rattle.lc_kernel.specs.Proofs as S

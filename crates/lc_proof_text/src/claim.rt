@@ -4,7 +4,8 @@ ghost use Rattle.lc_proof_text.specs.Files.{seen_claim, claim_in, AreEntered};
 
 use lc_base::OutOfMemory;
 use lc_kernel::{Goal, Proof};
-use lc_term::{Formula, Terms};
+use lc_table::Terms;
+use lc_term::Formula;
 use std::alloc::Global;
 
 /// What a formula file says, as it is read.
@@ -35,7 +36,7 @@ impl Drop for FormulaFile {
 }
 
 /// The same claim, its formulas entered in a table.
-#[tactic(auto, using(lc_term::proofs::Later::are_formulas_still, lc_term::proofs::Later::formulas_still, lc_term::proofs::Later::formula_is))]
+#[tactic(auto, using(lc_table::proofs::Later::are_formulas_still, lc_table::proofs::Later::formulas_still, lc_table::proofs::Later::formula_is))]
 pub(crate) fn entered(alloc: Global, claim: ClaimTrees) -> Result<FormulaFile, OutOfMemory>
     ensures numbers { IfOk result AreEntered }
     ensures same { IfOk result (λ file. claim_in file ≡ seen_claim claim) }

@@ -2,7 +2,7 @@ ghost use Rattle.std.specs.Prelude.{◌≡◌, ◌+◌, ◌<◌, ◌^◌, ℕ, L
 ghost use Rattle.lc_sexp.specs.Reads.{ReadsAs};
 ghost use Rattle.lc_sexp.specs.Shown.{rest_of, number_of, owner_of};
 ghost use Rattle.lc_sexp.specs.Trees.{item_count, item_count_of_all};
-ghost use Rattle.lc_term.specs.Tables.{formula_in, formulas_in};
+ghost use Rattle.lc_table.specs.Tables.{formula_in, formulas_in};
 ghost use Rattle.lc_term.specs.View.{formula_of};
 ghost use Rattle.lc_kernel.specs.Below.{all_below, formula_below};
 ghost use Rattle.lc_kernel.specs.Proofs.{size};

@@ -1,15 +1,15 @@
 -- Guards of branches, one behind another, by number.
 use Rattle.std.proofs.Common.{◌≡◌, ℕ, ◌+◌, ◌<◌, List, [], ◌∷◌, ◌++◌, length, map, take, get_or, sym, subst, ap, ◌∙◌}
 use Rattle.std.proofs.lemmas.List.{map_more, map-append}
-use Rattle.lc_term.specs.NodeTables.{Table}
-use Rattle.lc_term.specs.PutNumbers.{terms_in, AreTerms}
+use Rattle.lc_table.specs.NodeTables.{Table}
+use Rattle.lc_table.specs.PutNumbers.{terms_in, AreTerms}
 use Rattle.lc_term.specs.Said.{told}
 use Rattle.lc_term.specs.Syntax.{Formula}
-use Rattle.lc_term.specs.Tables.{formulas_in, AreFormulas, HasFormula, Keeps}
-use Rattle.lc_term.specs.declared.node.FormulaId.{FormulaId}
-use Rattle.lc_term.specs.declared.node.TermId.{TermId}
-use Rattle.lc_term.proofs.ByNumber.{terms_still}
-use Rattle.lc_term.proofs.Later.{formulas_pushed, are_formulas_pushed}
+use Rattle.lc_table.specs.Tables.{formulas_in, AreFormulas, HasFormula, Keeps}
+use Rattle.lc_table.specs.declared.node.FormulaId.{FormulaId}
+use Rattle.lc_table.specs.declared.node.TermId.{TermId}
+use Rattle.lc_table.proofs.ByNumber.{terms_still}
+use Rattle.lc_table.proofs.Later.{formulas_pushed, are_formulas_pushed}
 use Rattle.lc_seq.specs.Specification as Q
 use Rattle.lc_seq.specs.SpecView.{branch_of, branches_of}
 use Rattle.lc_seq.specs.declared.specification.Branch.{Branch}

@@ -2,21 +2,21 @@
 use Rattle.std.proofs.Common.{◌≡◌, ℕ, ◌+◌, ◌<◌, ◌≤◌, List, [], ◌∷◌, ◌++◌, length, map, drop, get_or, refl, sym, subst, ap, ap₂, ◌∙◌}
 use Rattle.std.proofs.lemmas.List.{drop_more, map-append, drop_all}
 use Rattle.lc_base.specs.declared.ids.ColId.{ColId}
-use Rattle.lc_term.specs.NodeTables.{Table}
-use Rattle.lc_term.specs.PutNumbers.{columns_at, AreColumns, terms_in, AreTerms, replacement_at}
+use Rattle.lc_table.specs.NodeTables.{Table}
+use Rattle.lc_table.specs.PutNumbers.{columns_at, AreColumns, terms_in, AreTerms, replacement_at}
 use Rattle.lc_term.specs.Replacement.{replace_term}
 use Rattle.lc_term.specs.Said.{put, puts, said, at_client}
 use Rattle.lc_term.specs.Syntax.{Term, Variable, Column}
-use Rattle.lc_term.specs.Tables.{term_in, HasTerm, Keeps}
+use Rattle.lc_table.specs.Tables.{term_in, HasTerm, Keeps}
 use Rattle.lc_term.specs.UpdateView.{update_of, updates_of}
 use Rattle.lc_term.specs.Updates.{Update}
 use Rattle.lc_term.specs.View.{term_of}
-use Rattle.lc_term.specs.declared.node.ColExprId.{ColExprId}
-use Rattle.lc_term.specs.declared.node.TermId.{TermId}
+use Rattle.lc_table.specs.declared.node.ColExprId.{ColExprId}
+use Rattle.lc_table.specs.declared.node.TermId.{TermId}
 use Rattle.lc_term.specs.declared.term.Term as D
 use Rattle.lc_term.specs.declared.update.Update as M
-use Rattle.lc_term.proofs.ByNumber.{columns_still, terms_still, replacement_still}
-use Rattle.lc_term.proofs.Later.{kept_on, term_is}
+use Rattle.lc_table.proofs.ByNumber.{columns_still, terms_still, replacement_still}
+use Rattle.lc_table.proofs.Later.{kept_on, term_is}
 use Rattle.lc_rider.proofs.PathSteps.{puts-append}
 use Rattle.lc_rider.proofs.Saying.{said_is}
 

@@ -2,13 +2,13 @@
 use Rattle.std.proofs.Common.{◌≡◌, ℕ, List, [], ◌∷◌, ◌++◌, length, map, refl, sym, ap, ◌∙◌, subst}
 use Rattle.std.proofs.lemmas.List.{length-map}
 use Rattle.lc_base.specs.declared.ids.ColId.{ColId}
-use Rattle.lc_term.specs.NodeTables.{Table}
-use Rattle.lc_term.specs.PutNumbers.{columns_at, AreColumns}
+use Rattle.lc_table.specs.NodeTables.{Table}
+use Rattle.lc_table.specs.PutNumbers.{columns_at, AreColumns}
 use Rattle.lc_term.specs.Syntax.{Column, Formula}
-use Rattle.lc_term.specs.Tables.{formula_in, formulas_in, AreFormulas, HasFormula, Keeps}
-use Rattle.lc_term.specs.declared.node.ColExprId.{ColExprId}
-use Rattle.lc_term.specs.declared.node.FormulaId.{FormulaId}
-use Rattle.lc_term.proofs.Later.{are_formulas_pushed, formulas_pushed, keeps_itself}
+use Rattle.lc_table.specs.Tables.{formula_in, formulas_in, AreFormulas, HasFormula, Keeps}
+use Rattle.lc_table.specs.declared.node.ColExprId.{ColExprId}
+use Rattle.lc_table.specs.declared.node.FormulaId.{FormulaId}
+use Rattle.lc_table.proofs.Later.{are_formulas_pushed, formulas_pushed, keeps_itself}
 use Rattle.lc_rider.specs.Paths as S
 use Rattle.lc_rider.specs.Paths.{with_fact}
 use Rattle.lc_rider.specs.DutyView.{AreKnown, AreGoals, owed_in, duty_in}

@@ -1,8 +1,8 @@
 -- Paths that the code adds to those that it has, in later tables.
 use Rattle.std.proofs.Common.{◌≡◌, List, [], ◌∷◌, ◌++◌, length, refl, sym, subst, ap, ap₂, ◌∙◌, append_assoc, append-nil}
 use Rattle.std.proofs.lemmas.List.{map-append}
-use Rattle.lc_term.specs.NodeTables.{Table}
-use Rattle.lc_term.specs.Tables.{Keeps}
+use Rattle.lc_table.specs.NodeTables.{Table}
+use Rattle.lc_table.specs.Tables.{Keeps}
 use Rattle.lc_term.proofs.Stores.{Every-append}
 use Rattle.lc_rider.specs.Paths as S
 use Rattle.lc_rider.specs.PathView.{path_in, IsPath, HasPath, HavePaths}

@@ -4,19 +4,19 @@ use Rattle.std.specs.Prelude.{slice_set, option_map}
 use Rattle.std.proofs.lemmas.List.{set_split, map-set, map-append, take_all}
 use Rattle.std.proofs.lemmas.Option.{slice_get-map, slice_get-get_or, slice_get_within}
 use Rattle.lc_base.specs.declared.ids.ColId.{ColId}
-use Rattle.lc_term.specs.NodeTables.{Table}
-use Rattle.lc_term.specs.Put.{column_at}
-use Rattle.lc_term.specs.PutNumbers.{entry_in, columns_at, AreColumns}
+use Rattle.lc_table.specs.NodeTables.{Table}
+use Rattle.lc_table.specs.Put.{column_at}
+use Rattle.lc_table.specs.PutNumbers.{entry_in, columns_at, AreColumns}
 use Rattle.lc_term.specs.Said.{put}
 use Rattle.lc_term.specs.Syntax as S
-use Rattle.lc_term.specs.Nodes.{column, is_column}
-use Rattle.lc_term.specs.Tables.{term_in, column_in, IsTerm, IsColumn, HasColumn, Keeps}
-use Rattle.lc_term.specs.declared.node.ColExprId.{ColExprId}
-use Rattle.lc_term.specs.declared.node.TermId.{TermId}
-use Rattle.lc_term.proofs.ByNumber.{are_columns_later}
-use Rattle.lc_term.proofs.Entries.{IsAbsent, same}
-use Rattle.lc_term.proofs.Later.{column_is, term_still}
-use Rattle.lc_term.proofs.NodeReplacement.{column_still}
+use Rattle.lc_table.specs.Nodes.{column, is_column}
+use Rattle.lc_table.specs.Tables.{term_in, column_in, IsTerm, IsColumn, HasColumn, Keeps}
+use Rattle.lc_table.specs.declared.node.ColExprId.{ColExprId}
+use Rattle.lc_table.specs.declared.node.TermId.{TermId}
+use Rattle.lc_table.proofs.ByNumber.{are_columns_later}
+use Rattle.lc_table.proofs.Entries.{IsAbsent, same}
+use Rattle.lc_table.proofs.Later.{column_is, term_still}
+use Rattle.lc_table.proofs.NodeReplacement.{column_still}
 use Rattle.lc_action.proofs.Columns.{put_in_place, put_behind}
 use Rattle.lc_rider.specs.Stored.{HasNone, IsFirst}
 

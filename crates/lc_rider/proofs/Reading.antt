@@ -2,16 +2,16 @@
 use Rattle.std.proofs.Common.{◌≡◌, ℕ, ◌+◌, ◌<◌, List, [], ◌∷◌, ◌++◌, Some, length, map, drop, get_or, sym, subst, ap, ap₂, ◌∙◌, append_assoc}
 use Rattle.std.proofs.lemmas.List.{drop_more, map-append}
 use Rattle.lc_base.specs.declared.ids.ColId.{ColId}
-use Rattle.lc_term.specs.NodeTables.{Table}
-use Rattle.lc_term.specs.Nodes.{term, is_term, is_column}
-use Rattle.lc_term.specs.PutNumbers.{columns_at, AreColumns, terms_in, AreTerms}
+use Rattle.lc_table.specs.NodeTables.{Table}
+use Rattle.lc_table.specs.Nodes.{term, is_term, is_column}
+use Rattle.lc_table.specs.PutNumbers.{columns_at, AreColumns, terms_in, AreTerms}
 use Rattle.lc_term.specs.Said.{reads}
 use Rattle.lc_term.specs.Syntax.{Term, Read, Column}
-use Rattle.lc_term.specs.Tables.{term_in, column_in, IsTerm, IsColumn, HasTerm, HasColumn, Keeps}
-use Rattle.lc_term.specs.declared.node.ColExprId.{ColExprId}
-use Rattle.lc_term.specs.declared.node.TermId.{TermId}
-use Rattle.lc_term.proofs.ByNumber.{are_terms_later, terms_still, columns_still}
-use Rattle.lc_term.proofs.Later.{kept_on, term_still, column_is}
+use Rattle.lc_table.specs.Tables.{term_in, column_in, IsTerm, IsColumn, HasTerm, HasColumn, Keeps}
+use Rattle.lc_table.specs.declared.node.ColExprId.{ColExprId}
+use Rattle.lc_table.specs.declared.node.TermId.{TermId}
+use Rattle.lc_table.proofs.ByNumber.{are_terms_later, terms_still, columns_still}
+use Rattle.lc_table.proofs.Later.{kept_on, term_still, column_is}
 
 pub has_is_term : (ts : Table) (k : TermId) (t : Term) → HasTerm ts k t → IsTerm ts k
 has_is_term ts k t h = ap is_term h

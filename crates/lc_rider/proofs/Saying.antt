@@ -1,17 +1,17 @@
 -- What is said of the state before by numbers of a table that has grown since.
 use Rattle.std.proofs.Common.{◌≡◌, List, refl, ap, ap₂, ◌∙◌}
 use Rattle.lc_base.specs.declared.ids.ColId.{ColId}
-use Rattle.lc_term.specs.NodeTables.{Table}
-use Rattle.lc_term.specs.PutNumbers.{columns_at, AreColumns, AreTerms, replacement_at}
+use Rattle.lc_table.specs.NodeTables.{Table}
+use Rattle.lc_table.specs.PutNumbers.{columns_at, AreColumns, AreTerms, replacement_at}
 use Rattle.lc_term.specs.Replacement.{Replacement, replace, replace_term}
 use Rattle.lc_term.specs.Said.{put}
 use Rattle.lc_term.specs.Syntax.{Term, Formula}
-use Rattle.lc_term.specs.Tables.{term_in, formula_in, IsTerm, HasTerm, HasFormula, Keeps}
-use Rattle.lc_term.specs.declared.node.ColExprId.{ColExprId}
-use Rattle.lc_term.specs.declared.node.FormulaId.{FormulaId}
-use Rattle.lc_term.specs.declared.node.TermId.{TermId}
-use Rattle.lc_term.proofs.ByNumber.{columns_still, replacement_still}
-use Rattle.lc_term.proofs.Later.{kept_on, term_is, term_still, formula_is}
+use Rattle.lc_table.specs.Tables.{term_in, formula_in, IsTerm, HasTerm, HasFormula, Keeps}
+use Rattle.lc_table.specs.declared.node.ColExprId.{ColExprId}
+use Rattle.lc_table.specs.declared.node.FormulaId.{FormulaId}
+use Rattle.lc_table.specs.declared.node.TermId.{TermId}
+use Rattle.lc_table.proofs.ByNumber.{columns_still, replacement_still}
+use Rattle.lc_table.proofs.Later.{kept_on, term_is, term_still, formula_is}
 
 module _ (old new : Table) (ps qs : List (ColId × ColExprId)) (ks : List TermId) (columns : AreColumns old ps) (terms : AreTerms old ks) (kept : Keeps old new) (same : qs ≡ ps) where
   put_is : replacement_at new qs ks ≡ replacement_at old ps ks

@@ -2,9 +2,9 @@
 use Rattle.std.specs.Prelude.{ℕ, ◌≤◌, List, [], ◌∷◌, take}
 use Rattle.std.proofs.Props.{props}
 use Rattle.lc_term.specs.Lists.{Every}
-use Rattle.lc_term.specs.NodeTables.{Table}
+use Rattle.lc_table.specs.NodeTables.{Table}
 use Rattle.lc_term.specs.Syntax.{Formula}
-use Rattle.lc_term.specs.Tables.{formula_in, IsFormula}
+use Rattle.lc_table.specs.Tables.{formula_in, IsFormula}
 use Rattle.lc_rider.specs.Paths as S
 use Rattle.lc_rider.specs.declared.duty.Owing.{Owing}
 use Rattle.lc_rider.specs.declared.duty.Owing.TheVariants.{Pending, Named, Enabled, Observing}

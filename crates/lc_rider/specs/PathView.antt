@@ -1,10 +1,10 @@
 -- What the paths of the code stand for, over a table of terms.
 use Rattle.std.specs.Prelude.{◌≡◌, ℕ, List, [], ◌∷◌, ◌++◌, map}
 use Rattle.lc_term.specs.Lists.{Every}
-use Rattle.lc_term.specs.NodeTables.{Table}
-use Rattle.lc_term.specs.PutNumbers.{columns_at, AreColumns}
+use Rattle.lc_table.specs.NodeTables.{Table}
+use Rattle.lc_table.specs.PutNumbers.{columns_at, AreColumns}
 use Rattle.lc_term.specs.Syntax.{Column, Formula}
-use Rattle.lc_term.specs.Tables.{formulas_in, AreFormulas}
+use Rattle.lc_table.specs.Tables.{formulas_in, AreFormulas}
 use Rattle.lc_rider.specs.Paths as S
 use Rattle.lc_rider.specs.DutyView.{owed_in, duty_in, AreGoals}
 use Rattle.lc_rider.specs.declared.path.Path.{Path}

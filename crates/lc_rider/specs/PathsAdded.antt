@@ -1,6 +1,6 @@
 -- Paths that the code adds to those that it has.
 use Rattle.std.specs.Prelude.{◌≡◌, List, ◌++◌}
-use Rattle.lc_term.specs.NodeTables.{Table}
+use Rattle.lc_table.specs.NodeTables.{Table}
 use Rattle.lc_rider.specs.Paths as S
 use Rattle.lc_rider.specs.PathView.{HavePaths}
 use Rattle.lc_rider.specs.declared.path.Path.{Path}

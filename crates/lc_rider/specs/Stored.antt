@@ -2,7 +2,7 @@
 use Rattle.std.specs.Prelude.{◌≡◌, ◌==◌, ℕ, false, List, Some, map, slice_get, take}
 use Rattle.lc_base.specs.declared.ids.ColId.{ColId}
 use Rattle.lc_term.specs.Lists.{Every}
-use Rattle.lc_term.specs.declared.node.ColExprId.{ColExprId}
+use Rattle.lc_table.specs.declared.node.ColExprId.{ColExprId}
 
 -- no entry is of this column
 abbrev pub HasNone : ℕ → List (ColId × ColExprId) → Type 0

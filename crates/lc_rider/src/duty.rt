@@ -1,4 +1,4 @@
-use lc_term::FormulaId;
+use lc_table::FormulaId;
 
 /// What a mark asks for.
 #[derive(Clone, Copy)]

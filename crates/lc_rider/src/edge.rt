@@ -1,7 +1,7 @@
 ghost use Rattle.std.specs.Prelude.{◌≡◌, IfOk, map, slice_set};
 ghost use Rattle.lc_term.specs.Said.{variables_from};
-ghost use Rattle.lc_term.specs.PutNumbers.{columns_at, AreColumns};
-ghost use Rattle.lc_term.specs.Tables.{Keeps};
+ghost use Rattle.lc_table.specs.PutNumbers.{columns_at, AreColumns};
+ghost use Rattle.lc_table.specs.Tables.{Keeps};
 ghost use Rattle.lc_term.specs.Updates.{assigned};
 ghost use Rattle.lc_term.specs.View.{term_of};
 ghost use Rattle.lc_object.specs.EdgeView.{edge_of};
@@ -15,7 +15,8 @@ use crate::stored::store_in;
 use lc_action::SystemColumns;
 use lc_base::{ColId, OpId, OutOfMemory};
 use lc_object::LocalId;
-use lc_term::{ColExprId, Term, Terms};
+use lc_table::{ColExprId, Terms};
+use lc_term::Term;
 use std::alloc::Global;
 
 /// An edge of the code of an operation, with the riders beside it.

@@ -1,9 +1,9 @@
 ghost use Rattle.std.specs.Prelude.{IfOk, OnOk, map};
 ghost use Rattle.lc_term.specs.Lists.{concat_map};
-ghost use Rattle.lc_term.specs.PutNumbers.{terms_in, AreTerms};
+ghost use Rattle.lc_table.specs.PutNumbers.{terms_in, AreTerms};
 ghost use Rattle.lc_term.specs.Replacement.{replacing, replace_term};
 ghost use Rattle.lc_term.specs.Said.{put, said, term_at};
-ghost use Rattle.lc_term.specs.Tables.{Keeps};
+ghost use Rattle.lc_table.specs.Tables.{Keeps};
 ghost use Rattle.lc_term.specs.UpdateView.{update_of};
 ghost use Rattle.lc_term.specs.View.{term_of};
 ghost use Rattle.lc_seq.specs.Branches.{op_branches};
@@ -24,7 +24,8 @@ use crate::rider::Rider;
 use lc_action::SystemColumns;
 use lc_base::{OpId, OutOfMemory};
 use lc_seq::TextSpec;
-use lc_term::{Term, TermId, Terms, Update};
+use lc_table::{TermId, Terms};
+use lc_term::{Term, Update};
 use std::alloc::Global;
 
 // What riders of an edge share: the specification, the operation whose code it is, and the variables behind the

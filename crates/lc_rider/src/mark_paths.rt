@@ -1,6 +1,6 @@
 ghost use Rattle.std.specs.Prelude.{◌≡◌, IfOk, OnOk};
-ghost use Rattle.lc_term.specs.PutNumbers.{terms_in, AreTerms};
-ghost use Rattle.lc_term.specs.Tables.{term_in, formula_in, IsTerm, IsFormula, HasFormula, Keeps};
+ghost use Rattle.lc_table.specs.PutNumbers.{terms_in, AreTerms};
+ghost use Rattle.lc_table.specs.Tables.{term_in, formula_in, IsTerm, IsFormula, HasFormula, Keeps};
 ghost use Rattle.lc_term.specs.UpdateView.{updates_of};
 ghost use Rattle.lc_seq.specs.Branches.{op_branches};
 ghost use Rattle.lc_seq.specs.SpecView.{branch_of, branches_of};
@@ -19,7 +19,8 @@ use crate::marking::{
 use crate::path::Path;
 use lc_base::OutOfMemory;
 use lc_seq::Branch;
-use lc_term::{FormulaId, TermId, Terms, Update};
+use lc_table::{FormulaId, TermId, Terms};
+use lc_term::Update;
 use std::alloc::Global;
 
 // What a mark of the call of an operation that it names asks for besides.
@@ -42,7 +43,7 @@ fn with_named_duty(terms: &mut Terms, mark: Mark<'_>, path: Path) -> Result<Path
 }
 
 // What a mark asks for before one of these branches is taken.
-#[tactic(auto, using(lc_term::proofs::Later::kept_on, lc_term::proofs::Later::is_term_still, lc_term::proofs::Later::is_formula_later, lc_term::proofs::ByNumber::are_terms_later, crate::proofs::PathLater::is_path_later))]
+#[tactic(auto, using(lc_table::proofs::Later::kept_on, lc_table::proofs::Later::is_term_still, lc_table::proofs::Later::is_formula_later, lc_table::proofs::ByNumber::are_terms_later, crate::proofs::PathLater::is_path_later))]
 fn with_mark_duties(
     alloc: Global,
     terms: &mut Terms,
@@ -86,7 +87,7 @@ fn stores_nothing(
 }
 
 // The path on which this branch is taken, its guard being said of the state before the edge.
-#[tactic(auto, using(lc_term::proofs::Later::kept_on))]
+#[tactic(auto, using(lc_table::proofs::Later::kept_on))]
 fn taken(
     alloc: Global,
     terms: &mut Terms,
@@ -117,7 +118,7 @@ fn taken(
 }
 
 // A path for each branch, behind other paths: the guards of the branches before it fail, and its own holds.
-#[tactic(auto, using(lc_term::proofs::Later::kept_on, lc_term::proofs::Later::is_term_still, lc_term::proofs::Later::is_formula_later, lc_term::proofs::ByNumber::are_terms_later, crate::proofs::PathLater::is_path_later))]
+#[tactic(auto, using(lc_table::proofs::Later::kept_on, lc_table::proofs::Later::is_term_still, lc_table::proofs::Later::is_formula_later, lc_table::proofs::ByNumber::are_terms_later, crate::proofs::PathLater::is_path_later))]
 fn branch_paths(
     alloc: Global,
     terms: &mut Terms,

@@ -1,8 +1,8 @@
 ghost use Rattle.std.specs.Prelude.{◌≡◌, IfOk, OnOk, map};
-ghost use Rattle.lc_term.specs.PutNumbers.{columns_at, AreColumns, terms_in, AreTerms};
+ghost use Rattle.lc_table.specs.PutNumbers.{columns_at, AreColumns, terms_in, AreTerms};
 ghost use Rattle.lc_term.specs.Said.{puts, said, after, at_client};
 ghost use Rattle.lc_term.specs.Syntax as T;
-ghost use Rattle.lc_term.specs.Tables.{term_in, Keeps};
+ghost use Rattle.lc_table.specs.Tables.{term_in, Keeps};
 ghost use Rattle.lc_term.specs.UpdateView.{updates_of};
 ghost use Rattle.lc_term.specs.View.{term_of};
 ghost use Rattle.lc_seq.specs.SpecView.{branch_of};
@@ -18,7 +18,8 @@ use crate::stored::store_value;
 use lc_action::SystemColumns;
 use lc_base::{ColId, OutOfMemory};
 use lc_seq::Branch;
-use lc_term::{ColExprId, PutNumbers, Term, TermId, Terms, Update};
+use lc_table::{ColExprId, PutNumbers, TermId, Terms};
+use lc_term::{Term, Update};
 use std::alloc::Global;
 
 // Updates are stored, one after another, whose indexes and values are taken with what is put in.

@@ -1,8 +1,8 @@
 ghost use Rattle.std.specs.Prelude.{◌≡◌, ◌++◌, IfOk, OnOk, map};
-ghost use Rattle.lc_term.specs.PutNumbers.{columns_at, AreColumns, terms_in, AreTerms};
+ghost use Rattle.lc_table.specs.PutNumbers.{columns_at, AreColumns, terms_in, AreTerms};
 ghost use Rattle.lc_term.specs.Said.{told, reads};
 ghost use Rattle.lc_term.specs.Syntax.{Eq, Number, Or, Read, Term, formulas};
-ghost use Rattle.lc_term.specs.Tables.{term_in, formulas_in, IsTerm, AreFormulas, HasFormula, Keeps};
+ghost use Rattle.lc_table.specs.Tables.{term_in, formulas_in, IsTerm, AreFormulas, HasFormula, Keeps};
 ghost use Rattle.lc_seq.specs.Branches.{op_branches, arity};
 ghost use Rattle.lc_seq.specs.SpecView.{branch_of, branches_of};
 ghost use Rattle.lc_seq.specs.TextView.{specification_of};
@@ -14,7 +14,7 @@ use crate::path::Path;
 use lc_action::SystemColumns;
 use lc_base::{ColId, OpId, OutOfMemory};
 use lc_seq::{Branch, TextSpec};
-use lc_term::{ColExprId, FormulaId, TermId, Terms};
+use lc_table::{ColExprId, FormulaId, TermId, Terms};
 use std::alloc::Global;
 
 /// Which call a mark marks.

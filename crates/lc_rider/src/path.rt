@@ -4,7 +4,8 @@ ghost use Rattle.lc_rider.specs.DutyView.{AreKnown, known_once};
 use crate::duty::{Duty, Owing};
 use crate::stored::store_in;
 use lc_base::{ColId, OutOfMemory};
-use lc_term::{ColExprId, Formula, FormulaId, PutNumbers, Term, TermId, Terms, nothing_replaced};
+use lc_table::{ColExprId, FormulaId, PutNumbers, TermId, Terms, nothing_replaced};
+use lc_term::{Formula, Term};
 use std::alloc::Global;
 
 /// One way in which the riders of an edge may go, said of the state before the edge by numbers of a table: the facts that
@@ -28,12 +29,12 @@ impl Drop for Path {
 
 impl Path {
     ghost use Rattle.std.specs.Prelude.{◌≡◌, [], IfOk, length, map};
-    ghost use Rattle.lc_term.specs.NodeTables.{Table};
-    ghost use Rattle.lc_term.specs.PutNumbers.{columns_at, AreColumns, terms_in, AreTerms};
+    ghost use Rattle.lc_table.specs.NodeTables.{Table};
+    ghost use Rattle.lc_table.specs.PutNumbers.{columns_at, AreColumns, terms_in, AreTerms};
     ghost use Rattle.lc_term.specs.Replacement.{replacing, replace_term};
     ghost use Rattle.lc_term.specs.Said.{put, term_at, told};
     ghost use Rattle.lc_term.specs.Syntax as T;
-    ghost use Rattle.lc_term.specs.Tables.{term_in, formulas_in, IsTerm, AreFormulas, HasTerm, HasFormula, Keeps};
+    ghost use Rattle.lc_table.specs.Tables.{term_in, formulas_in, IsTerm, AreFormulas, HasTerm, HasFormula, Keeps};
     ghost use Rattle.lc_term.specs.View.{term_of, formula_of};
     ghost use Rattle.lc_rider.specs.Paths as S;
     ghost use Rattle.lc_rider.specs.Paths.{with_fact};

@@ -1,13 +1,14 @@
 ghost use Rattle.std.specs.Prelude.{◌≡◌, IfNone, IfSome, OnOk};
-ghost use Rattle.lc_term.specs.PutNumbers.{columns_at, AreColumns, AreTerms, replacement_at};
+ghost use Rattle.lc_table.specs.PutNumbers.{columns_at, AreColumns, AreTerms, replacement_at};
 ghost use Rattle.lc_term.specs.Replacement.{replace_term};
 ghost use Rattle.lc_term.specs.Said.{put};
-ghost use Rattle.lc_term.specs.Tables.{term_in, IsTerm, Keeps};
+ghost use Rattle.lc_table.specs.Tables.{term_in, IsTerm, Keeps};
 ghost use Rattle.lc_term.specs.View.{term_of};
 ghost use Rattle.lc_rider.specs.Stored.{HasNone, IsFirst};
 
 use lc_base::{ColId, OutOfMemory};
-use lc_term::{ColExprId, PutNumbers, Term, TermId, Terms};
+use lc_table::{ColExprId, PutNumbers, TermId, Terms};
+use lc_term::Term;
 use std::alloc::Global;
 
 // Where the first entry of a column stands.

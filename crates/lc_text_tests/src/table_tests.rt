@@ -1,5 +1,6 @@
 use lc_base::{ColId, OutOfMemory};
-use lc_term::{ColExpr, Formula, Term, Terms};
+use lc_table::Terms;
+use lc_term::{ColExpr, Formula, Term};
 use std::alloc::Global;
 use std::test::Fail;
 

@@ -1,11 +1,10 @@
 //! What texts read as and print as, and their flaws, are cases of the program `lc_cases`.
 ghost use Rattle.std.specs.Prelude.{IfOk};
-ghost use Rattle.lc_term.specs.Tables.{IsTerm};
+ghost use Rattle.lc_table.specs.Tables.{IsTerm};
 
 use lc_base::{ColId, OutOfMemory};
-use lc_term::{
-    ColExpr, Formula, Put, PutColumns, PutVariables, Term, TermId, Terms, nothing_replaced,
-};
+use lc_table::{Put, PutColumns, PutVariables, TermId, Terms, nothing_replaced};
+use lc_term::{ColExpr, Formula, Term};
 use lc_text::{Spelling, write_formula};
 use std::alloc::Global;
 use std::test::Fail;
@@ -45,7 +44,7 @@ fn comparisons(alloc: Global) -> Result<Formula, OutOfMemory> {
 }
 
 /// The formula in text, below one quantifier, where columns and variables are replaced over numbers.
-#[tactic(auto, using(lc_term::proofs::Later::is_formula_later, lc_term::proofs::Later::keeps_itself))]
+#[tactic(auto, using(lc_table::proofs::Later::is_formula_later, lc_table::proofs::Later::keeps_itself))]
 fn replaced_text(alloc: Global, formula: &Formula, put: &Put<'_>) -> Result<String, OutOfMemory> {
     let mut terms = Terms::new(alloc);
     let formula = terms.enter_formula(alloc, formula)?;
@@ -91,7 +90,7 @@ fn replaces_columns_and_variables_at_once(rt: HostRuntime) -> Result<(), Fail> {
 }
 
 /// A variable added to itself, and what comes out again, so many times.
-#[tactic(auto, using(lc_term::proofs::Later::is_term_later, lc_term::proofs::Later::keeps_itself))]
+#[tactic(auto, using(lc_table::proofs::Later::is_term_later, lc_table::proofs::Later::keeps_itself))]
 fn doubled(terms: &mut Terms, times: u32) -> Result<TermId, OutOfMemory>
     ensures { IfOk result (λ k. IsTerm terms.new k) }
 {
@@ -103,7 +102,7 @@ fn doubled(terms: &mut Terms, times: u32) -> Result<TermId, OutOfMemory>
 }
 
 /// Whether a sum of 2 ^ 60 variables is replaced node by node, and but once.
-#[tactic(auto, using(lc_term::proofs::Later::is_term_still, lc_term::proofs::Later::keeps_itself))]
+#[tactic(auto, using(lc_table::proofs::Later::is_term_still, lc_table::proofs::Later::keeps_itself))]
 fn is_replaced_once(alloc: Global) -> Result<bool, OutOfMemory> {
     let mut terms = Terms::new(alloc);
     let sum = doubled(&mut terms, 60)?;

@@ -17,7 +17,7 @@ use Rattle.lc_reading.specs.Files.{Says, IsAnswerTo}
 use Rattle.lc_sexp.specs.Answers.{IsTextFault}
 use Rattle.lc_sexp.specs.Reads.{IsFirstFault}
 use Rattle.lc_term.specs.Syntax as T
-use Rattle.lc_term.specs.Tables.{formula_in, formulas_in}
+use Rattle.lc_table.specs.Tables.{formula_in, formulas_in}
 use Rattle.lincheck.specs.Answers.{Told}
 use Rattle.lincheck.specs.Formula.{AnswersFormula, IsVerdict, fault_of}
 use Rattle.lincheck.specs.Reading.{within_limit}

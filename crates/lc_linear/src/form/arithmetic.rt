@@ -8,7 +8,7 @@ ghost use Rattle.lc_linear.specs.Arithmetic.{added, CanAdd, added_scaled, CanAdd
 use super::LinForm;
 use crate::LinFault;
 use crate::number::{difference, product, sum};
-use lc_term::TermId;
+use lc_table::TermId;
 
 impl LinForm {
     /// This form with so many times another one added. `Large` where a product or a sum leaves 128 bits.

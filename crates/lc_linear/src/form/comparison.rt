@@ -1,6 +1,6 @@
 //! Whether two forms are the same.
 ghost use Rattle.std.specs.Prelude.{◌≡◌, Some, ◌↔◌, IsTrue, IsFalse};
-ghost use Rattle.lc_term.specs.declared.node.TermId.{TermId};
+ghost use Rattle.lc_table.specs.declared.node.TermId.{TermId};
 ghost use Rattle.lc_linear.specs.Numbered.{AllHave};
 ghost use Rattle.lc_linear.specs.LinForm.{numbers, HasNumbers};
 

@@ -1,8 +1,8 @@
 use Rattle.std.proofs.Common.{rules, ◌≡◌, ◌∙◌, ap, ap₂, Some}
 use Rattle.std.proofs.lemmas.Result.{IfOk-weaker}
 use Rattle.lc_term.specs.Syntax as S
-use Rattle.lc_term.specs.Tables.{term_in, HasTerm, HasColumn}
-use Rattle.lc_term.proofs.Later.{term_is, term_later, term_still, is_term_still, column_is, kept_on}
+use Rattle.lc_table.specs.Tables.{term_in, HasTerm, HasColumn}
+use Rattle.lc_table.proofs.Later.{term_is, term_later, term_still, is_term_still, column_is, kept_on}
 use Rattle.lc_array.proofs.axioms.affine_axiom.Goals as goal
 
 pub has_value-requires-clause-index : goal.has_value-requires-clause-index

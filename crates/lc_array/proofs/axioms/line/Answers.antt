@@ -1,9 +1,9 @@
 use Rattle.std.proofs.Common.{rules, ◌≡◌, ◌∙◌, ap, ap₂, Some}
 use Rattle.std.proofs.lemmas.Result.{IfOk-weaker}
-use Rattle.lc_term.specs.Nodes.{term as term_part}
+use Rattle.lc_table.specs.Nodes.{term as term_part}
 use Rattle.lc_term.specs.Syntax as S
-use Rattle.lc_term.specs.Tables.{term_in, HasTerm}
-use Rattle.lc_term.proofs.Later.{term_is, term_later}
+use Rattle.lc_table.specs.Tables.{term_in, HasTerm}
+use Rattle.lc_table.proofs.Later.{term_is, term_later}
 use Rattle.lc_array.proofs.axioms.line.Goals as goal
 
 pub returns-clause-id : goal.returns-clause-id

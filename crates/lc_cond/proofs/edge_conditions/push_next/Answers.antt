@@ -1,7 +1,7 @@
 use Rattle.std.proofs.Common.{◌++◌, map, ap₂, sym, subst}
 use Rattle.std.proofs.lemmas.Result.{on_ok_weaker}
-use Rattle.lc_term.specs.PutNumbers.{AreTerms}
-use Rattle.lc_term.specs.Tables.{AreFormulas}
+use Rattle.lc_table.specs.PutNumbers.{AreTerms}
+use Rattle.lc_table.specs.Tables.{AreFormulas}
 use Rattle.lc_outline.specs.Development.{invariant_of}
 use Rattle.lc_rider.specs.Paths.{edge_variables}
 use Rattle.lc_cond.specs.Adding.{Adds}

@@ -1,6 +1,6 @@
 use Rattle.std.proofs.Common.{Some, sym, subst}
 use Rattle.std.proofs.lemmas.Result.{on_ok_weaker}
-use Rattle.lc_term.specs.PutNumbers.{AreTerms}
+use Rattle.lc_table.specs.PutNumbers.{AreTerms}
 use Rattle.lc_outline.specs.Development.{first_system}
 use Rattle.lc_cond.specs.Adding.{Adds}
 use Rattle.lc_cond.specs.Conditions.{reply_goals}

@@ -1,5 +1,5 @@
 use Rattle.std.proofs.Common.{rules, ◌≡◌, ◌++◌, [], ◌∷◌, subst, sym}
-use Rattle.lc_term.proofs.Later.{kept_on}
+use Rattle.lc_table.proofs.Later.{kept_on}
 use Rattle.lc_cond.specs.Adding.{HasFormulas}
 use Rattle.lc_cond.proofs.Adding.{formulas_put}
 use Rattle.lc_cond.proofs.Replacing.{conjuncts_more}

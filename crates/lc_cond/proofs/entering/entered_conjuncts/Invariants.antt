@@ -1,5 +1,5 @@
 use Rattle.std.proofs.Common.{map, take}
-use Rattle.lc_term.specs.Tables.{Keeps}
+use Rattle.lc_table.specs.Tables.{Keeps}
 use Rattle.lc_tie.specs.Tie.{formulas_of}
 use Rattle.lc_tie.specs.TieView.{conjunct_of}
 use Rattle.lc_cond.specs.Adding.{HasFormulas}

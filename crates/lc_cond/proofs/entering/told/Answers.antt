@@ -1,6 +1,6 @@
 use Rattle.std.proofs.Common.{rules, ◌≡◌, ◌++◌, [], ◌∷◌}
-use Rattle.lc_term.proofs.Later.{kept_on}
-use Rattle.lc_term.specs.Put.{replacement_of}
+use Rattle.lc_table.proofs.Later.{kept_on}
+use Rattle.lc_table.specs.Put.{replacement_of}
 use Rattle.lc_cond.proofs.Replacing.{formula_at_later, told_more}
 use Rattle.lc_cond.proofs.entering.told.Goals as goal
 

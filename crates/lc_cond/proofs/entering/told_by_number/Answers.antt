@@ -1,11 +1,11 @@
 use Rattle.std.proofs.Common.{rules, ◌≡◌, ◌++◌, [], ◌∷◌, map, get_or, sym, subst, ap, ap₂, ◌∙◌}
 use Rattle.std.proofs.lemmas.List.{take_all}
-use Rattle.lc_term.specs.Put.{Remembers}
-use Rattle.lc_term.specs.PutNumbers.{replacement_at}
+use Rattle.lc_table.specs.Put.{Remembers}
+use Rattle.lc_table.specs.PutNumbers.{replacement_at}
 use Rattle.lc_term.specs.Replacement.{replace}
-use Rattle.lc_term.specs.Tables.{formula_in, formulas_in, HasFormula}
-use Rattle.lc_term.proofs.ByNumber.{are_columns_later, are_terms_later, replacement_still}
-use Rattle.lc_term.proofs.Later.{kept_on}
+use Rattle.lc_table.specs.Tables.{formula_in, formulas_in, HasFormula}
+use Rattle.lc_table.proofs.ByNumber.{are_columns_later, are_terms_later, replacement_still}
+use Rattle.lc_table.proofs.Later.{kept_on}
 use Rattle.lc_cond.specs.Adding.{HasFormulas}
 use Rattle.lc_cond.proofs.Replacing.{formula_at_later, told_more, put_told}
 use Rattle.lc_cond.proofs.entering.told_by_number.Goals as goal

@@ -1,8 +1,8 @@
 use Rattle.std.proofs.Common.{map, take}
-use Rattle.lc_term.specs.Put.{Remembers}
-use Rattle.lc_term.specs.PutNumbers.{replacement_at}
+use Rattle.lc_table.specs.Put.{Remembers}
+use Rattle.lc_table.specs.PutNumbers.{replacement_at}
 use Rattle.lc_term.specs.Replacement.{replace}
-use Rattle.lc_term.specs.Tables.{Keeps, formulas_in}
+use Rattle.lc_table.specs.Tables.{Keeps, formulas_in}
 use Rattle.lc_cond.specs.Adding.{HasFormulas}
 use Rattle.lc_cond.proofs.entering.told_by_number.Given as goal
 

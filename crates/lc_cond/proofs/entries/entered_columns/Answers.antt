@@ -1,6 +1,6 @@
 use Rattle.std.proofs.Common.{ap, ◌∙◌}
 use Rattle.std.proofs.lemmas.Result.{IfOk-weaker}
-use Rattle.lc_term.specs.Put.{columns_in}
+use Rattle.lc_table.specs.Put.{columns_in}
 use Rattle.lc_cond.proofs.Adding.{columns_entered}
 use Rattle.lc_cond.proofs.entries.entered_columns.Goals as goal
 

@@ -1,9 +1,9 @@
 use Rattle.std.proofs.Common.{◌++◌, map, ap, ap₂, sym, subst, ◌∙◌}
 use Rattle.std.proofs.lemmas.Result.{on_ok_weaker}
 use Rattle.lc_term.specs.Said.{told}
-use Rattle.lc_term.specs.Tables.{AreFormulas}
-use Rattle.lc_term.proofs.ByNumber.{are_columns_later}
-use Rattle.lc_term.proofs.Later.{kept_on}
+use Rattle.lc_table.specs.Tables.{AreFormulas}
+use Rattle.lc_table.proofs.ByNumber.{are_columns_later}
+use Rattle.lc_table.proofs.Later.{kept_on}
 use Rattle.lc_object.specs.View.{operation_of}
 use Rattle.lc_outline.specs.Development.{invariant_of, asserts_at}
 use Rattle.lc_outline.specs.DevelopmentView.{development_shown}

@@ -2,7 +2,7 @@ use Rattle.std.proofs.Common.{◌≡◌, ℕ, ◌++◌, map, ap₂, subst}
 use Rattle.std.proofs.lemmas.Result.{on_ok_weaker}
 use Rattle.lc_term.specs.Said.{after, told}
 use Rattle.lc_term.specs.Syntax.{Column, Variable, Base}
-use Rattle.lc_term.proofs.Later.{kept_on}
+use Rattle.lc_table.proofs.Later.{kept_on}
 use Rattle.lc_object.specs.View.{operation_of}
 use Rattle.lc_action.specs.Action.{enter}
 use Rattle.lc_action.specs.ActionView.{first_of}

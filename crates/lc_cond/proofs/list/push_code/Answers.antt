@@ -1,5 +1,5 @@
 use Rattle.std.proofs.lemmas.Result.{on_ok_weaker}
-use Rattle.lc_term.proofs.Later.{kept_on}
+use Rattle.lc_table.proofs.Later.{kept_on}
 use Rattle.lc_cond.proofs.Adding.{adds_on}
 use Rattle.lc_cond.proofs.list.push_code.Goals as goal
 

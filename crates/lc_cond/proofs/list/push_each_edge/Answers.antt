@@ -1,5 +1,5 @@
 use Rattle.std.proofs.Common.{sym, subst}
-use Rattle.lc_term.proofs.Later.{kept_on}
+use Rattle.lc_table.proofs.Later.{kept_on}
 use Rattle.lc_object.specs.EdgeView.{edge_of}
 use Rattle.lc_outline.specs.DevelopmentView.{development_shown}
 use Rattle.lc_cond.specs.Adding.{Adds}

@@ -1,7 +1,7 @@
 use Rattle.std.proofs.Common.{map, ap, sym, subst, ◌∙◌}
 use Rattle.std.proofs.lemmas.List.{take_all}
 use Rattle.lc_term.specs.Lists.{concat_places}
-use Rattle.lc_term.proofs.Later.{kept_on}
+use Rattle.lc_table.proofs.Later.{kept_on}
 use Rattle.lc_object.specs.View.{point_of}
 use Rattle.lc_outline.specs.DevelopmentView.{development_shown}
 use Rattle.lc_cond.specs.Adding.{Adds}

@@ -1,6 +1,6 @@
 use Rattle.std.proofs.Common.{map, take}
 use Rattle.lc_term.specs.Lists.{concat_places}
-use Rattle.lc_term.specs.Tables.{Keeps}
+use Rattle.lc_table.specs.Tables.{Keeps}
 use Rattle.lc_object.specs.View.{point_of}
 use Rattle.lc_outline.specs.DevelopmentView.{development_shown}
 use Rattle.lc_cond.specs.Adding.{Adds}

@@ -1,6 +1,6 @@
 use Rattle.std.proofs.Common.{ap, ◌∙◌}
-use Rattle.lc_term.specs.Put.{columns_in}
-use Rattle.lc_term.proofs.Later.{formula_later}
+use Rattle.lc_table.specs.Put.{columns_in}
+use Rattle.lc_table.proofs.Later.{formula_later}
 use Rattle.lc_cond.proofs.matching.entered_action.Goals as goal
 
 pub returns-clause-guard : goal.returns-clause-guard

@@ -1,6 +1,6 @@
 use Rattle.std.proofs.Common.{map, ap, subst}
 use Rattle.lc_term.specs.Syntax.{Variable}
-use Rattle.lc_term.specs.Tables.{HasFormula}
+use Rattle.lc_table.specs.Tables.{HasFormula}
 use Rattle.lc_term.specs.View.{term_of}
 use Rattle.lc_action.specs.Action.{guard_for, post_columns}
 use Rattle.lc_action.specs.ActionView.{action_of}

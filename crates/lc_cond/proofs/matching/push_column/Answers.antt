@@ -1,7 +1,7 @@
 use Rattle.std.proofs.Common.{ap, ◌∙◌}
 use Rattle.std.proofs.lemmas.Result.{on_ok_weaker}
-use Rattle.lc_term.proofs.ByNumber.{are_columns_later}
-use Rattle.lc_term.proofs.Later.{kept_on, column_later, column_is, is_column_later}
+use Rattle.lc_table.proofs.ByNumber.{are_columns_later}
+use Rattle.lc_table.proofs.Later.{kept_on, column_later, column_is, is_column_later}
 use Rattle.lc_cond.proofs.Adding.{formulas_later, columns_later}
 use Rattle.lc_cond.proofs.Columned.{column_absent, column_sides}
 use Rattle.lc_cond.proofs.matching.push_column.Goals as goal

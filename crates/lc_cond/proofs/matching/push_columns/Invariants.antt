@@ -1,4 +1,4 @@
-use Rattle.lc_term.specs.Tables.{Keeps}
+use Rattle.lc_table.specs.Tables.{Keeps}
 use Rattle.lc_cond.specs.Adding.{Adds, Under, Over}
 use Rattle.lc_cond.specs.Conditions.{OfColumn, column_conditions}
 use Rattle.lc_cond.specs.Heads.{condition_made}

@@ -1,6 +1,6 @@
 use Rattle.std.proofs.Common.{◌∷◌, [], if◌then◌else◌, sym, subst, ◌∙◌}
 use Rattle.std.proofs.lemmas.Result.{on_ok_weaker}
-use Rattle.lc_term.specs.Tables.{column_in}
+use Rattle.lc_table.specs.Tables.{column_in}
 use Rattle.lc_cond.specs.Adding.{Adds}
 use Rattle.lc_cond.specs.Conditions.{OfColumn, same_column}
 use Rattle.lc_cond.specs.Heads.{condition_made}

@@ -1,8 +1,8 @@
 use Rattle.std.proofs.Common.{ap₂, subst}
 use Rattle.std.proofs.lemmas.Result.{IfOk-weaker}
 use Rattle.lc_term.specs.Syntax.{Read}
-use Rattle.lc_term.specs.Tables.{HasTerm}
-use Rattle.lc_term.proofs.Later.{column_is, column_later, term_is}
+use Rattle.lc_table.specs.Tables.{HasTerm}
+use Rattle.lc_table.proofs.Later.{column_is, column_later, term_is}
 use Rattle.lc_cond.proofs.matching.raised_cell.Goals as goal
 
 pub returns-clause-id : goal.returns-clause-id

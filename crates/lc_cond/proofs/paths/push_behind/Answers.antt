@@ -1,5 +1,5 @@
 use Rattle.std.proofs.lemmas.Result.{on_ok_weaker}
-use Rattle.lc_term.proofs.ByNumber.{are_columns_later}
+use Rattle.lc_table.proofs.ByNumber.{are_columns_later}
 use Rattle.lc_cond.proofs.Adding.{formulas_later, columns_later, adds_on}
 use Rattle.lc_cond.proofs.Scening.{scene_later}
 use Rattle.lc_cond.proofs.paths.push_behind.Goals as goal

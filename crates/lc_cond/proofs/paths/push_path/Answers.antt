@@ -1,6 +1,6 @@
 use Rattle.std.proofs.Common.{◌++◌, subst, ◌∙◌}
 use Rattle.std.proofs.lemmas.Result.{on_ok_weaker}
-use Rattle.lc_term.specs.Tables.{formulas_in}
+use Rattle.lc_table.specs.Tables.{formulas_in}
 use Rattle.lc_cond.specs.Adding.{Adds}
 use Rattle.lc_cond.proofs.Adding.{formulas_are, formulas_joined, formulas_listed, adds_on}
 use Rattle.lc_cond.proofs.Scening.{facts_along}

@@ -1,6 +1,6 @@
 use Rattle.std.proofs.Common.{refl, sym, subst}
-use Rattle.lc_term.specs.Tables.{formulas_in}
-use Rattle.lc_term.proofs.Later.{kept_on, formulas_still}
+use Rattle.lc_table.specs.Tables.{formulas_in}
+use Rattle.lc_table.proofs.Later.{kept_on, formulas_still}
 use Rattle.lc_rider.specs.PathView.{path_in}
 use Rattle.lc_rider.proofs.PathLater.{is_path_later, has_path_later}
 use Rattle.lc_cond.specs.Adding.{Adds}

@@ -1,6 +1,6 @@
 use Rattle.std.proofs.Common.{map, take}
 use Rattle.lc_term.specs.Lists.{concat_places}
-use Rattle.lc_term.specs.Tables.{Keeps, formulas_in}
+use Rattle.lc_table.specs.Tables.{Keeps, formulas_in}
 use Rattle.lc_rider.specs.PathView.{path_in}
 use Rattle.lc_cond.specs.Adding.{Adds}
 use Rattle.lc_cond.specs.Scenes.{path_conditions_in}

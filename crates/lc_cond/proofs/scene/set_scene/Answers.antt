@@ -1,5 +1,5 @@
 use Rattle.std.proofs.Common.{subst, refl}
-use Rattle.lc_term.proofs.Later.{kept_on}
+use Rattle.lc_table.proofs.Later.{kept_on}
 use Rattle.lc_object.specs.EdgeView.{edge_of}
 use Rattle.lc_cond.specs.Conditions.{reply_goals}
 use Rattle.lc_cond.specs.Scenes.{IsReply}

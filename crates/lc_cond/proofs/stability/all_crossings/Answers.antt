@@ -1,6 +1,6 @@
 use Rattle.std.proofs.Common.{◌++◌, ◌∷◌, [], ap, ap₂, subst, ◌∙◌, append_assoc}
 use Rattle.std.proofs.lemmas.Result.{IfOk-weaker}
-use Rattle.lc_term.proofs.Later.{kept_on}
+use Rattle.lc_table.proofs.Later.{kept_on}
 use Rattle.lc_action.specs.Action.{enter, leave}
 use Rattle.lc_action.specs.ActionView.{action_of}
 use Rattle.lc_outline.specs.DevelopmentView.{development_shown}

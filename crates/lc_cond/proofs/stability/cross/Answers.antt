@@ -1,9 +1,9 @@
 use Rattle.std.proofs.Common.{◌∷◌, [], map, ap, subst, ◌∙◌}
 use Rattle.lc_term.specs.Replacement.{replace, replacing}
 use Rattle.lc_term.specs.Syntax.{Variable}
-use Rattle.lc_term.specs.Tables.{formulas_in, HasFormula}
+use Rattle.lc_table.specs.Tables.{formulas_in, HasFormula}
 use Rattle.lc_term.specs.View.{term_of}
-use Rattle.lc_term.proofs.Later.{kept_on}
+use Rattle.lc_table.proofs.Later.{kept_on}
 use Rattle.lc_action.specs.Action.{post_columns, guard_for}
 use Rattle.lc_action.specs.ActionView.{action_of}
 use Rattle.lc_cond.specs.Adding.{HasFormulas}

@@ -1,8 +1,8 @@
 use Rattle.std.proofs.Common.{◌++◌, ap, sym, subst}
 use Rattle.std.proofs.lemmas.Result.{IfOk-weaker}
-use Rattle.lc_term.specs.Tables.{formulas_in, AreFormulas}
+use Rattle.lc_table.specs.Tables.{formulas_in, AreFormulas}
 use Rattle.lc_term.specs.View.{formulas_of}
-use Rattle.lc_term.proofs.Later.{kept_on}
+use Rattle.lc_table.proofs.Later.{kept_on}
 use Rattle.lc_outline.specs.Development.{invariant_of}
 use Rattle.lc_outline.specs.DevelopmentView.{development_shown}
 use Rattle.lc_cond.specs.Adding.{HasFormulas}

@@ -2,7 +2,7 @@ use Rattle.std.proofs.Common.{◌++◌, length, sym, subst}
 use Rattle.std.proofs.lemmas.List.{length-map}
 use Rattle.std.proofs.lemmas.Result.{on_ok_weaker}
 use Rattle.lc_term.specs.View.{formula_of, formulas_of}
-use Rattle.lc_term.specs.Tables.{formulas_in}
+use Rattle.lc_table.specs.Tables.{formulas_in}
 use Rattle.lc_outline.specs.Development.{all_actions, invariant_of}
 use Rattle.lc_outline.specs.DevelopmentView.{development_shown}
 use Rattle.lc_cond.specs.Crossings.{AreCrossings, HaveGoals}

@@ -1,8 +1,8 @@
 use Rattle.std.proofs.Common.{map, ap, subst, ◌∙◌}
 use Rattle.lc_term.specs.Replacement.{replace, replacing}
 use Rattle.lc_term.specs.Syntax.{Column, Variable}
-use Rattle.lc_term.specs.Tables.{formulas_in}
-use Rattle.lc_term.proofs.Later.{are_formulas_still, formulas_still}
+use Rattle.lc_table.specs.Tables.{formulas_in}
+use Rattle.lc_table.proofs.Later.{are_formulas_still, formulas_still}
 use Rattle.lc_action.specs.Telling.{columns_in}
 use Rattle.lc_cond.specs.Adding.{HasFormulas}
 use Rattle.lc_cond.proofs.Adding.{formulas_later}

@@ -1,7 +1,7 @@
 use Rattle.std.proofs.Common.{rules, arith, ◌<◌, length}
-use Rattle.lc_term.specs.Nodes.{AllBelow}
-use Rattle.lc_term.specs.Tables.{AreFormulas}
-use Rattle.lc_term.proofs.Listed.{beyond-le, get-beyond, are_formulas-get}
+use Rattle.lc_table.specs.Nodes.{AllBelow}
+use Rattle.lc_table.specs.Tables.{AreFormulas}
+use Rattle.lc_table.proofs.Listed.{beyond-le, get-beyond, are_formulas-get}
 use Rattle.lc_cond_text.proofs.nodes.+push_formula.Goals as goal
 
 pub push_formula-push_parts-requires : goal.push_formula-push_parts-requires

@@ -1,7 +1,7 @@
 use Rattle.std.proofs.Common.{◌≡◌, ◌+◌, ◌*◌, ◌++◌, drop}
 use Rattle.lc_term.specs.Syntax.{formulas}
-use Rattle.lc_term.specs.Tables.{formulas_in}
-use Rattle.lc_term.proofs.Listed.{beyond}
+use Rattle.lc_table.specs.Tables.{formulas_in}
+use Rattle.lc_table.proofs.Listed.{beyond}
 use Rattle.lc_text.specs.Spelled.{spelled_parts}
 use Rattle.lc_cond_text.specs.ConditionText.{spelled}
 use Rattle.lc_outline.specs.DevelopmentView.{development_shown}

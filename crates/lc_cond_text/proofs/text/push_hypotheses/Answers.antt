@@ -1,4 +1,4 @@
-use Rattle.lc_term.proofs.Listed.{are_formulas-get}
+use Rattle.lc_table.proofs.Listed.{are_formulas-get}
 use Rattle.lc_cond_text.proofs.text.push_hypotheses.Goals as goal
 
 pub push_repeated-requires-clause-formula : goal.push_repeated-requires-clause-formula

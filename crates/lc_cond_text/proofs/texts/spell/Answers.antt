@@ -1,6 +1,6 @@
 use Rattle.std.proofs.Common.{◌≡◌, length, refl, rules, set, Some}
-use Rattle.lc_term.specs.declared.node.FormulaId.{FormulaId}
-use Rattle.lc_term.specs.Tables.{formula_in, IsFormula}
+use Rattle.lc_table.specs.declared.node.FormulaId.{FormulaId}
+use Rattle.lc_table.specs.Tables.{formula_in, IsFormula}
 use Rattle.lc_text.specs.Spelled.{spelled_formula}
 use Rattle.lc_outline.specs.DevelopmentView.{development_shown}
 use Rattle.lc_cond_text.specs.ConditionText.{spelled}

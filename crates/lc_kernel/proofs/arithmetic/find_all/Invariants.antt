@@ -1,6 +1,6 @@
 use Rattle.std.proofs.Common.{◌≡◌, drop, map}
 use Rattle.lc_linear.specs.Closing.{entries_in, AreEntries}
-use Rattle.lc_term.specs.Tables.{formulas_in}
+use Rattle.lc_table.specs.Tables.{formulas_in}
 use Rattle.lc_kernel.specs.Table.{entries}
 use Rattle.lc_kernel.specs.View.{multiple_of}
 use Rattle.lc_kernel.proofs.Entries.{behind}

@@ -3,7 +3,7 @@ use mir.Syntax.{w64}
 use Rattle.lc_linear.specs.Divided.{Divides, IsDivided}
 use Rattle.lc_linear.specs.LinForm.{numbers}
 use Rattle.lc_term.specs.Syntax.{Subtract}
-use Rattle.lc_term.specs.Tables.{term_in, formula_in}
+use Rattle.lc_table.specs.Tables.{term_in, formula_in}
 use Rattle.lc_kernel.specs.Answers.{TestsQuotient}
 use Rattle.lc_kernel.specs.declared.fault.StepFault.TheVariants.{Flawed}
 use Rattle.lc_kernel.specs.declared.reason.Flaw.TheVariants.{Bad}

@@ -1,7 +1,7 @@
 use Rattle.std.proofs.Common.{◌≡◌, suc, ◌+◌, ◌++◌, ◌<◌, length, take, drop, sym, ap, subst, ◌∙◌, arith, rules, Err}
 use Rattle.std.proofs.Math.Seq.{take-append_seam}
-use Rattle.lc_term.specs.Tables.{formulas_in, AreFormulas}
-use Rattle.lc_term.proofs.Later.{are_formulas_still, formulas_still, kept_on, keeps_itself}
+use Rattle.lc_table.specs.Tables.{formulas_in, AreFormulas}
+use Rattle.lc_table.proofs.Later.{are_formulas_still, formulas_still, kept_on, keeps_itself}
 use Rattle.lc_kernel.specs.Answers.{StepMeets, Checks, ChecksEach}
 use Rattle.lc_kernel.specs.Branches.{branches_in, branch_count, branch_at}
 use Rattle.lc_kernel.specs.Derivation.{Derives}

@@ -1,5 +1,5 @@
 use Rattle.std.proofs.Common.{◌≡◌, ◌+◌, ◌*◌, drop}
-use Rattle.lc_term.specs.Tables.{formulas_in, Keeps}
+use Rattle.lc_table.specs.Tables.{formulas_in, Keeps}
 use Rattle.lc_kernel.specs.Branches.{branches_in}
 use Rattle.lc_kernel.specs.Proofs.{proofs, size, size_of_all}
 use Rattle.lc_kernel.specs.View.{proof_of, proofs_of}

@@ -1,6 +1,6 @@
 use Rattle.std.proofs.Common.{◌≡◌, subst, rules, to_z, of_z}
 use Rattle.std.specs.Int.{w64}
-use Rattle.lc_term.specs.Tables.{formulas_in}
+use Rattle.lc_table.specs.Tables.{formulas_in}
 use Rattle.lc_kernel.specs.Answers.{FindsIn}
 use Rattle.lc_kernel.specs.Table.{hypothesis}
 use Rattle.lc_kernel.specs.declared.reason.Reason.TheVariants.{NoHypothesis}

@@ -1,9 +1,9 @@
 use Rattle.std.proofs.Common.{◌≡◌, ◌++◌, ◌∷◌, [], get_or, ap, sym, subst, ◌∙◌, rules}
 use Rattle.lc_linear.proofs.Sums.{get_or-any}
 use Rattle.lc_term.specs.Syntax.{Not}
-use Rattle.lc_term.specs.Tables.{formula_in, formulas_in, AreFormulas, HasFormula}
-use Rattle.lc_term.specs.declared.node.FormulaId.{FormulaId}
-use Rattle.lc_term.proofs.Later.{formula_still, is_formula_still, are_formulas_pushed, formulas_pushed, kept_on}
+use Rattle.lc_table.specs.Tables.{formula_in, formulas_in, AreFormulas, HasFormula}
+use Rattle.lc_table.specs.declared.node.FormulaId.{FormulaId}
+use Rattle.lc_table.proofs.Later.{formula_still, is_formula_still, are_formulas_pushed, formulas_pushed, kept_on}
 use Rattle.lc_kernel.proofs.Numbered.{formula_there, negations_more}
 use Rattle.lc_kernel.proofs.forms.negated_each.Goals as goal
 

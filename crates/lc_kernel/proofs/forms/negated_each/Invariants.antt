@@ -1,5 +1,5 @@
 use Rattle.std.proofs.Common.{◌≡◌, take}
-use Rattle.lc_term.specs.Tables.{formulas_in, AreFormulas, Keeps}
+use Rattle.lc_table.specs.Tables.{formulas_in, AreFormulas, Keeps}
 use Rattle.lc_kernel.specs.Table.{negations}
 use Rattle.lc_kernel.proofs.forms.negated_each.Given as goal
 

@@ -1,7 +1,7 @@
 use Rattle.std.proofs.Common.{◌∙◌, Some, is_some, ap, sym, subst}
 use Rattle.lc_term.specs.Syntax.{And, formulas}
-use Rattle.lc_term.specs.Tables.{formulas_in, HasFormula}
-use Rattle.lc_term.proofs.Later.{formula_is}
+use Rattle.lc_table.specs.Tables.{formulas_in, HasFormula}
+use Rattle.lc_table.proofs.Later.{formula_is}
 use Rattle.lc_kernel.specs.Table.{negations}
 use Rattle.lc_kernel.proofs.Numbered.{or_opened}
 use Rattle.lc_kernel.proofs.forms.pushed_inward.Goals as goal

@@ -1,6 +1,6 @@
 use Rattle.std.proofs.Common.{◌≡◌, ◌++◌, ◌∷◌, [], ap, ◌∙◌, rules}
-use Rattle.lc_term.specs.Tables.{formulas_in}
-use Rattle.lc_term.proofs.Later.{formulas_pushed}
+use Rattle.lc_table.specs.Tables.{formulas_in}
+use Rattle.lc_table.proofs.Later.{formulas_pushed}
 use Rattle.lc_kernel.proofs.proving.assumed.Goals as goal
 
 pub returns-clause-trees : goal.returns-clause-trees

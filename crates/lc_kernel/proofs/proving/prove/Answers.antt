@@ -1,6 +1,6 @@
 use Rattle.std.proofs.Common.{subst}
-use Rattle.lc_term.specs.Tables.{formula_in, formulas_in}
-use Rattle.lc_term.proofs.Later.{kept_on}
+use Rattle.lc_table.specs.Tables.{formula_in, formulas_in}
+use Rattle.lc_table.proofs.Later.{kept_on}
 use Rattle.lc_kernel.specs.Derivation.{Derives}
 use Rattle.lc_kernel.specs.View.{proof_of}
 use Rattle.lc_kernel.proofs.Sound.{valid}

@@ -1,9 +1,9 @@
 use Rattle.std.proofs.Common.{◌≡◌, ap, sym, ◌∙◌}
 use Rattle.lc_term.specs.Equal.{formula_eq}
 use Rattle.lc_term.specs.EqualLaws.{Decides-formula_eq}
-use Rattle.lc_term.specs.Nodes.{tree_of}
+use Rattle.lc_table.specs.Nodes.{tree_of}
 use Rattle.lc_term.specs.Syntax as T
-use Rattle.lc_term.specs.Tables.{parts, formulas, formula_in}
+use Rattle.lc_table.specs.Tables.{parts, formulas, formula_in}
 use Rattle.lc_kernel.proofs.Numbered.{bool_same}
 use Rattle.lc_kernel.proofs.rules.is_negation.Goals as goal
 

@@ -1,9 +1,9 @@
 use Rattle.std.proofs.Common.{sym, subst}
 use Rattle.std.specs.Prelude.{IsTrue}
 use Rattle.lc_term.specs.Places.{is_closed}
-use Rattle.lc_term.specs.Tables.{term_in, formula_in}
+use Rattle.lc_table.specs.Tables.{term_in, formula_in}
 use Rattle.lc_term.proofs.Closed.{closed_open_fits}
-use Rattle.lc_term.proofs.Later.{term_is}
+use Rattle.lc_table.proofs.Later.{term_is}
 use Rattle.lc_kernel.proofs.rules.with_term.Goals as goal
 
 pub instantiate-requires-clause-fits : goal.instantiate-requires-clause-fits

@@ -1,9 +1,9 @@
 use Rattle.std.proofs.Common.{rules, arith, ◌≡◌, inl, inr, sym, ap, ◌∙◌, subst}
 use Rattle.std.proofs.lemmas.Result.{IfOk-weaker}
-use Rattle.lc_term.specs.Nodes.{AllBelow, PartsBelow, TreeFits, tree_of}
+use Rattle.lc_table.specs.Nodes.{AllBelow, PartsBelow, TreeFits, tree_of}
 use Rattle.lc_term.specs.Syntax as S
-use Rattle.lc_term.specs.Tables.{parts, formulas, formula_in, formulas_in, AreFormulas}
-use Rattle.lc_term.proofs.Listed.{beyond-le, get-beyond, are_formulas-get}
+use Rattle.lc_table.specs.Tables.{parts, formulas, formula_in, formulas_in, AreFormulas}
+use Rattle.lc_table.proofs.Listed.{beyond-le, get-beyond, are_formulas-get}
 use Rattle.lc_kernel.specs.Below.{formula_below, all_below}
 use Rattle.lc_kernel.proofs.Views.{parts_below, body_below}
 use Rattle.lc_kernel.proofs.uses.+is_formula_below.Goals as goal

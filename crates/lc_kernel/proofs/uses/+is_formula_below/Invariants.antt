@@ -1,6 +1,6 @@
 use Rattle.std.proofs.Common.{◌≡◌, ◌+◌, ◌*◌, drop}
-use Rattle.lc_term.specs.Tables.{formulas_in}
-use Rattle.lc_term.proofs.Listed.{beyond}
+use Rattle.lc_table.specs.Tables.{formulas_in}
+use Rattle.lc_table.proofs.Listed.{beyond}
 use Rattle.lc_kernel.specs.Below.{all_below}
 use Rattle.lc_kernel.specs.Uses.{AreBelow}
 use Rattle.lc_kernel.proofs.uses.+is_formula_below.Given as goal

@@ -1,8 +1,8 @@
 use Rattle.std.proofs.Common.{◌≡◌, ◌∙◌, inl, inr, ap, sym, subst}
 use Rattle.std.specs.Prelude.{◌*ℤ◌}
-use Rattle.lc_term.specs.Nodes.{tree_of}
+use Rattle.lc_table.specs.Nodes.{tree_of}
 use Rattle.lc_term.specs.Syntax.{Subtract}
-use Rattle.lc_term.specs.Tables.{parts, formulas, term_in, formula_in}
+use Rattle.lc_table.specs.Tables.{parts, formulas, term_in, formula_in}
 use Rattle.lc_linear.specs.Closing.{gap}
 use Rattle.lc_linear.specs.Form.{form_of}
 use Rattle.lc_linear.specs.LinForm.{AddsIn}

@@ -1,9 +1,9 @@
 use Rattle.std.proofs.Common.{rules, ◌≡◌, ◌+◌, ◌<◌, get_or, length, take, w64, lit<}
 use Rattle.std.specs.Prelude.{ℤ, ℕ, List, pos, FitsSigned}
-use Rattle.lc_term.specs.NodeTables.{Table}
+use Rattle.lc_table.specs.NodeTables.{Table}
 use Rattle.lc_term.specs.Syntax.{Number, Add, Multiply}
-use Rattle.lc_term.specs.Tables.{formula_in}
-use Rattle.lc_term.specs.declared.node.FormulaId.{FormulaId}
+use Rattle.lc_table.specs.Tables.{formula_in}
+use Rattle.lc_table.specs.declared.node.FormulaId.{FormulaId}
 use Rattle.lc_linear.specs.Closing.{combined, entries_in, gap}
 use Rattle.lc_linear.specs.Form.{HasForm}
 use Rattle.lc_linear.specs.LinForm.{numbers}

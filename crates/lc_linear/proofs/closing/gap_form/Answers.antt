@@ -1,7 +1,7 @@
 use Rattle.std.proofs.Common.{rules, ◌≡◌, sym, subst, lit<}
 use Rattle.std.specs.Prelude.{pos}
 use Rattle.lc_term.specs.Syntax.{Number}
-use Rattle.lc_term.specs.Tables.{formula_in}
+use Rattle.lc_table.specs.Tables.{formula_in}
 use Rattle.lc_linear.specs.Closing.{gap}
 use Rattle.lc_linear.specs.Form.{form_of, HasForm}
 use Rattle.lc_linear.specs.LinForm.{IsFormIn}

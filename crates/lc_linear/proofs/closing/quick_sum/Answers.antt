@@ -1,7 +1,7 @@
 use Rattle.std.proofs.Common.{rules, get_or, ◌+◌, refl, take, w64}
-use Rattle.lc_term.specs.declared.node.FormulaId.{FormulaId}
+use Rattle.lc_table.specs.declared.node.FormulaId.{FormulaId}
 use Rattle.std.specs.Prelude.{ℤ, pos, FitsSigned}
-use Rattle.lc_term.specs.Tables.{formula_in}
+use Rattle.lc_table.specs.Tables.{formula_in}
 use Rattle.lc_linear.specs.Closing.{combined, entries_in, gap}
 use Rattle.lc_linear.specs.Form.{form_of}
 use Rattle.lc_linear.specs.LinForm.{numbers}

@@ -1,5 +1,5 @@
 use Rattle.std.proofs.Common.{rules, get_or, ◌≡◌, ◌+◌, ◌*◌, max, ◌∙◌, ap, ap₂, sym, w64}
-use Rattle.lc_term.specs.declared.node.FormulaId.{FormulaId}
+use Rattle.lc_table.specs.declared.node.FormulaId.{FormulaId}
 use Rattle.std.specs.Prelude.{ℤ, pos, FitsSigned, unsigned_abs}
 use Rattle.std.proofs.lemmas.Int.{to_z-of_z}
 use Rattle.lc_linear.specs.Weight.{weight}

@@ -1,9 +1,9 @@
 use Rattle.std.proofs.Common.{rules, ◌≡◌, ◌∙◌, ◌<◌, ◌^◌, inl, inr, None, Some, sym, ap, subst, w64, arith}
 use Rattle.std.specs.Prelude.{pos, Err, FitsSigned, unsigned_abs}
 use Rattle.std.proofs.lemmas.Int.{ints}
-use Rattle.lc_term.specs.Nodes.{term_of_node}
+use Rattle.lc_table.specs.Nodes.{term_of_node}
 use Rattle.lc_term.specs.Syntax as S
-use Rattle.lc_term.specs.Tables.{parts, term_in, column_in}
+use Rattle.lc_table.specs.Tables.{parts, term_in, column_in}
 use Rattle.lc_linear.specs.Form.{HasForm}
 use Rattle.lc_linear.specs.LinForm.{numbers}
 use Rattle.lc_linear.proofs.Faults.{passed_on}

@@ -1,6 +1,6 @@
 use Rattle.std.proofs.Common.{refl}
 use Rattle.lc_term.specs.Syntax as S
-use Rattle.lc_term.specs.Tables.{term_in}
+use Rattle.lc_table.specs.Tables.{term_in}
 use Rattle.lc_linear.specs.LinForm.{numbers}
 use Rattle.lc_linear.proofs.Made.{difference_given}
 use Rattle.lc_linear.proofs.exact.exact_difference.Goals as goal

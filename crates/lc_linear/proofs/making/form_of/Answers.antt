@@ -1,4 +1,4 @@
-use Rattle.lc_term.specs.Tables.{term_in}
+use Rattle.lc_table.specs.Tables.{term_in}
 use Rattle.lc_linear.proofs.Weights.{HasForm-light}
 use Rattle.lc_linear.proofs.making.form_of.Goals as goal
 

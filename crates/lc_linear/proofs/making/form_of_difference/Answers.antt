@@ -1,5 +1,5 @@
 use Rattle.lc_term.specs.Syntax as S
-use Rattle.lc_term.specs.Tables.{term_in}
+use Rattle.lc_table.specs.Tables.{term_in}
 use Rattle.lc_linear.proofs.Weights.{HasForm-light}
 use Rattle.lc_linear.proofs.making.form_of_difference.Goals as goal
 

@@ -1,8 +1,8 @@
 use Rattle.std.proofs.Common.{rules, ◌≡◌, ◌∙◌, inl, inr, ap, sym, subst, to_z, of_z, w64}
 use Rattle.std.specs.Prelude.{◌+ℤ◌, ◌*ℤ◌, FitsSigned}
 use Rattle.std.specs.Int.{w128}
-use Rattle.lc_term.specs.Nodes.{term_of_node}
-use Rattle.lc_term.specs.Tables.{parts, term_in, column_in}
+use Rattle.lc_table.specs.Nodes.{term_of_node}
+use Rattle.lc_table.specs.Tables.{parts, term_in, column_in}
 use Rattle.lc_linear.specs.LinForm.{numbers, HasNumbers}
 use Rattle.lc_linear.specs.Numbered.{atom_form}
 use Rattle.lc_linear.proofs.Made.{adds_number, adds_atom, adds_sum, adds_difference, adds_product}

@@ -1,6 +1,6 @@
 use Rattle.std.proofs.Common.{refl}
 use Rattle.lc_term.specs.Syntax as S
-use Rattle.lc_term.specs.Tables.{term_in}
+use Rattle.lc_table.specs.Tables.{term_in}
 use Rattle.lc_linear.proofs.Made.{adds_difference}
 use Rattle.lc_linear.proofs.Numbers.{kept, product_kept}
 use Rattle.lc_linear.proofs.quick.add_difference.Goals as goal

@@ -1,5 +1,5 @@
 use Rattle.lc_term.specs.Syntax as S
-use Rattle.lc_term.specs.Tables.{term_in}
+use Rattle.lc_table.specs.Tables.{term_in}
 use Rattle.lc_linear.specs.Form.{form_of}
 use Rattle.lc_linear.proofs.Made.{added_alone}
 use Rattle.lc_linear.proofs.quick.quick_difference.Goals as goal

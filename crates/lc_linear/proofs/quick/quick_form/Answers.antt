@@ -1,4 +1,4 @@
-use Rattle.lc_term.specs.Tables.{term_in}
+use Rattle.lc_table.specs.Tables.{term_in}
 use Rattle.lc_linear.specs.Form.{form_of}
 use Rattle.lc_linear.proofs.Made.{added_alone}
 use Rattle.lc_linear.proofs.quick.quick_form.Goals as goal

@@ -1,12 +1,12 @@
 use Rattle.std.proofs.Common.{◌≡◌, ℕ, List, ap, ◌∙◌}
 use Rattle.lc_kernel.specs.Proofs as S
 use Rattle.lc_proof_text.specs.Files.{Claim}
-use Rattle.lc_term.proofs.Later.{formula_is, formulas_still}
-use Rattle.lc_term.specs.NodeTables.{Table}
+use Rattle.lc_table.proofs.Later.{formula_is, formulas_still}
+use Rattle.lc_table.specs.NodeTables.{Table}
 use Rattle.lc_term.specs.Syntax.{Formula, formulas}
-use Rattle.lc_term.specs.Tables.{formula_in, formulas_in, AreFormulas, HasFormula, Keeps}
+use Rattle.lc_table.specs.Tables.{formula_in, formulas_in, AreFormulas, HasFormula, Keeps}
 use Rattle.lc_term.specs.View.{formulas_of}
-use Rattle.lc_term.specs.declared.node.FormulaId.{FormulaId}
+use Rattle.lc_table.specs.declared.node.FormulaId.{FormulaId}
 use Rattle.lc_proof_text.proofs.claim.entered.Goals as goal
 
 -- a claim, of the formulas that numbers have in a table

@@ -4,7 +4,7 @@ use Rattle.lc_sexp.specs.Shown.{rest_of, number_of, owner_of}
 use Rattle.lc_sexp.specs.Trees.{Trees, item_count_of_all}
 use Rattle.lc_reading.proofs.Files.{trees_fault}
 use Rattle.lc_reading.specs.Readings.{fine}
-use Rattle.lc_term.specs.Tables.{formulas_in}
+use Rattle.lc_table.specs.Tables.{formulas_in}
 use Rattle.lc_text.proofs.Variables.{each_in}
 use Rattle.lc_proof_text.proofs.Founded.{below, founded}
 use Rattle.lc_proof_text.proofs.Sections.{file_at}

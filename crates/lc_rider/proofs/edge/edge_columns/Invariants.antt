@@ -1,7 +1,7 @@
 use Rattle.std.proofs.Common.{◌≡◌, map, drop}
-use Rattle.lc_term.specs.PutNumbers.{columns_at, AreColumns}
+use Rattle.lc_table.specs.PutNumbers.{columns_at, AreColumns}
 use Rattle.lc_term.specs.Said.{puts}
-use Rattle.lc_term.specs.Tables.{Keeps}
+use Rattle.lc_table.specs.Tables.{Keeps}
 use Rattle.lc_term.specs.UpdateView.{update_of}
 use Rattle.lc_object.specs.EdgeView.{edge_of}
 use Rattle.lc_rider.specs.Paths.{edge_columns}

@@ -1,7 +1,7 @@
 use Rattle.std.proofs.Common.{List}
 use Rattle.std.proofs.lemmas.Result.{on_ok_weaker}
 use Rattle.lc_term.specs.Syntax.{Term}
-use Rattle.lc_term.proofs.Later.{term_is}
+use Rattle.lc_table.proofs.Later.{term_is}
 use Rattle.lc_seq.specs.Branches.{op_branches}
 use Rattle.lc_seq.specs.TextView.{specification_of}
 use Rattle.lc_action.specs.ActionView.{first_of}

@@ -1,9 +1,9 @@
 use Rattle.std.proofs.Common.{List, map, sym, ap, ◌∙◌, subst}
 use Rattle.std.proofs.lemmas.Result.{IfOk-weaker}
-use Rattle.lc_term.specs.PutNumbers.{terms_in, AreTerms}
+use Rattle.lc_table.specs.PutNumbers.{terms_in, AreTerms}
 use Rattle.lc_term.specs.Syntax.{Term}
 use Rattle.lc_term.specs.View.{term_of}
-use Rattle.lc_term.proofs.ByNumber.{are_terms_later, terms_still}
+use Rattle.lc_table.proofs.ByNumber.{are_terms_later, terms_still}
 use Rattle.lc_seq.specs.TextView.{specification_of}
 use Rattle.lc_action.specs.ActionView.{first_of}
 use Rattle.lc_rider.specs.Paths.{Path, paths}

@@ -1,8 +1,8 @@
 use Rattle.std.proofs.Common.{map, ◌∙◌}
-use Rattle.lc_term.specs.PutNumbers.{terms_in}
+use Rattle.lc_table.specs.PutNumbers.{terms_in}
 use Rattle.lc_term.specs.Lists.{concat_map}
-use Rattle.lc_term.proofs.ByNumber.{are_terms_later, terms_still}
-use Rattle.lc_term.proofs.Later.{kept_on}
+use Rattle.lc_table.proofs.ByNumber.{are_terms_later, terms_still}
+use Rattle.lc_table.proofs.Later.{kept_on}
 use Rattle.lc_seq.specs.TextView.{specification_of}
 use Rattle.lc_action.specs.ActionView.{first_of}
 use Rattle.lc_rider.specs.Paths.{paths, rider_paths}

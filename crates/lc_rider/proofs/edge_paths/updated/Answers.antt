@@ -1,14 +1,14 @@
 use Rattle.std.proofs.Common.{◌≡◌}
 use Rattle.std.proofs.lemmas.Result.{IfOk-weaker}
-use Rattle.lc_term.specs.PutNumbers.{terms_in}
+use Rattle.lc_table.specs.PutNumbers.{terms_in}
 use Rattle.lc_term.specs.Replacement.{replacing, replace_term}
 use Rattle.lc_term.specs.Said.{put, term_at}
 use Rattle.lc_term.specs.Syntax.{Term}
-use Rattle.lc_term.specs.Tables.{term_in}
+use Rattle.lc_table.specs.Tables.{term_in}
 use Rattle.lc_term.specs.View.{term_of}
 use Rattle.lc_term.specs.Updates as U
-use Rattle.lc_term.proofs.Later.{kept_on, term_later, term_is, is_term_later}
-use Rattle.lc_term.proofs.ByNumber.{are_terms_later}
+use Rattle.lc_table.proofs.Later.{kept_on, term_later, term_is, is_term_later}
+use Rattle.lc_table.proofs.ByNumber.{are_terms_later}
 use Rattle.lc_rider.specs.Paths.{Path}
 use Rattle.lc_rider.specs.PathView.{path_in, with_columns}
 use Rattle.lc_rider.proofs.PathsAdded.{has_same}

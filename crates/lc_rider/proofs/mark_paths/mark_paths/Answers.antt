@@ -1,10 +1,10 @@
 use Rattle.std.proofs.Common.{◌≡◌, ℕ, List, ap, sym, ◌∙◌, subst}
 use Rattle.std.proofs.lemmas.Result.{on_ok_weaker}
-use Rattle.lc_term.specs.PutNumbers.{terms_in, AreTerms}
+use Rattle.lc_table.specs.PutNumbers.{terms_in, AreTerms}
 use Rattle.lc_term.specs.Syntax.{Term, Column}
-use Rattle.lc_term.specs.Tables.{term_in}
-use Rattle.lc_term.proofs.ByNumber.{are_terms_later, terms_still}
-use Rattle.lc_term.proofs.Later.{kept_on, term_still, is_term_still}
+use Rattle.lc_table.specs.Tables.{term_in}
+use Rattle.lc_table.proofs.ByNumber.{are_terms_later, terms_still}
+use Rattle.lc_table.proofs.Later.{kept_on, term_still, is_term_still}
 use Rattle.lc_seq.specs.Branches.{op_branches, arity}
 use Rattle.lc_seq.specs.Specification.{Branch}
 use Rattle.lc_seq.specs.SpecView.{branches_of}

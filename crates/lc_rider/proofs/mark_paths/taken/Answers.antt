@@ -1,11 +1,11 @@
 use Rattle.std.proofs.Common.{◌≡◌, List, ◌++◌, [], ◌∷◌, sym, ap, ◌∙◌, subst}
 use Rattle.std.proofs.lemmas.Result.{IfOk-weaker}
-use Rattle.lc_term.specs.PutNumbers.{terms_in, columns_at}
+use Rattle.lc_table.specs.PutNumbers.{terms_in, columns_at}
 use Rattle.lc_term.specs.Said.{after}
-use Rattle.lc_term.specs.Tables.{term_in, formula_in, HasFormula}
+use Rattle.lc_table.specs.Tables.{term_in, formula_in, HasFormula}
 use Rattle.lc_term.specs.UpdateView.{updates_of}
 use Rattle.lc_term.specs.declared.update.Update as M
-use Rattle.lc_term.proofs.Later.{formula_later, formula_has}
+use Rattle.lc_table.proofs.Later.{formula_later, formula_has}
 use Rattle.lc_seq.specs.SpecView.{branch_of}
 use Rattle.lc_seq.specs.TextView.{specification_of}
 use Rattle.lc_action.specs.ActionView.{first_of}

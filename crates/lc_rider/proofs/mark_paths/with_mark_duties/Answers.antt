@@ -3,9 +3,9 @@ use Rattle.std.proofs.lemmas.Result.{IfOk-weaker}
 use Rattle.lc_term.specs.Said.{told}
 use Rattle.lc_term.specs.Syntax.{Term, Column, Formula, Eq, Read, Number, Or, formulas}
 use Rattle.lc_term.specs.SystemColumns as Y
-use Rattle.lc_term.specs.Tables.{term_in, HasFormula}
-use Rattle.lc_term.proofs.ByNumber.{terms_still}
-use Rattle.lc_term.proofs.Later.{kept_on, formula_later, term_still, is_term_still}
+use Rattle.lc_table.specs.Tables.{term_in, HasFormula}
+use Rattle.lc_table.proofs.ByNumber.{terms_still}
+use Rattle.lc_table.proofs.Later.{kept_on, formula_later, term_still, is_term_still}
 use Rattle.lc_seq.specs.Specification.{Branch}
 use Rattle.lc_seq.specs.SpecView.{branches_of}
 use Rattle.lc_seq.specs.TextView.{specification_of}

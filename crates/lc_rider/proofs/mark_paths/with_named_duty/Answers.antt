@@ -3,7 +3,7 @@ use Rattle.std.proofs.lemmas.Int.{ints, to_z-of_z}
 use Rattle.std.proofs.lemmas.Result.{IfOk-weaker}
 use Rattle.lc_term.specs.Syntax.{Formula, Eq, Read, Number}
 use Rattle.lc_term.specs.SystemColumns as Y
-use Rattle.lc_term.specs.Tables.{term_in, HasFormula}
+use Rattle.lc_table.specs.Tables.{term_in, HasFormula}
 use Rattle.lc_seq.specs.TextView.{specification_of}
 use Rattle.lc_action.specs.ActionView.{first_of}
 use Rattle.lc_rider.specs.MarkView.{marking_of, with_duties}

@@ -1,8 +1,8 @@
 use Rattle.std.proofs.Common.{◌∙◌, ℕ, map, sym, ap, ap₂, subst}
-use Rattle.lc_term.specs.PutNumbers.{columns_at, AreColumns, terms_in}
+use Rattle.lc_table.specs.PutNumbers.{columns_at, AreColumns, terms_in}
 use Rattle.lc_term.specs.Said.{puts, said}
 use Rattle.lc_term.specs.Syntax.{Column}
-use Rattle.lc_term.specs.Tables.{term_in}
+use Rattle.lc_table.specs.Tables.{term_in}
 use Rattle.lc_seq.specs.SpecView.{branch_of}
 use Rattle.lc_action.specs.ActionView.{first_of}
 use Rattle.lc_rider.specs.MarkView.{marking_of}

@@ -1,14 +1,14 @@
 use Rattle.std.proofs.Common.{◌∙◌, ◌<◌, ◌≤◌, length, map, ap, get_or, arith}
 use Rattle.std.proofs.lemmas.Bool.Decides.{nat_tests}
 use Rattle.lc_base.specs.declared.ids.ColId.{ColId}
-use Rattle.lc_term.specs.PutNumbers.{columns_at, terms_in, replacement_at}
+use Rattle.lc_table.specs.PutNumbers.{columns_at, terms_in, replacement_at}
 use Rattle.lc_term.specs.Replacement.{replace_term}
 use Rattle.lc_term.specs.Said.{puts, said, at_client}
 use Rattle.lc_term.specs.Syntax.{Variable}
-use Rattle.lc_term.specs.Tables.{HasTerm}
+use Rattle.lc_table.specs.Tables.{HasTerm}
 use Rattle.lc_term.specs.View.{term_of}
-use Rattle.lc_term.proofs.ByNumber.{are_columns_later, are_terms_later, columns_still}
-use Rattle.lc_term.proofs.Later.{kept_on, keeps_itself, is_term_later, term_later}
+use Rattle.lc_table.proofs.ByNumber.{are_columns_later, are_terms_later, columns_still}
+use Rattle.lc_table.proofs.Later.{kept_on, keeps_itself, is_term_later, term_later}
 use Rattle.lc_rider.proofs.MarkStores.{index_said, said_stored, cells_more, no_values}
 use Rattle.lc_rider.proofs.marked_columns.store_own.Goals as goal
 

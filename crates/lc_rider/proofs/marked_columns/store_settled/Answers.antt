@@ -1,5 +1,5 @@
 use Rattle.std.proofs.Common.{◌≡◌, ◌∙◌, ℕ, List, [], ◌∷◌, ◌++◌, OnOk, map, pos, refl, ap, ap₂, subst, append_assoc}
-use Rattle.lc_term.specs.PutNumbers.{columns_at, terms_in}
+use Rattle.lc_table.specs.PutNumbers.{columns_at, terms_in}
 use Rattle.lc_term.specs.Said.{puts, said, at_client}
 use Rattle.lc_term.specs.Syntax.{Column, Number}
 use Rattle.lc_term.specs.SystemColumns as Y
@@ -7,7 +7,7 @@ use Rattle.lc_term.specs.UpdateView.{updates_of}
 use Rattle.lc_term.specs.Updates.{Update}
 use Rattle.lc_term.specs.View.{term_of}
 use Rattle.lc_term.specs.declared.update.Update as M
-use Rattle.lc_term.proofs.Later.{kept_on}
+use Rattle.lc_table.proofs.Later.{kept_on}
 use Rattle.lc_action.specs.ActionView.{first_of}
 use Rattle.lc_rider.proofs.MarkStores.{more_stored}
 use Rattle.lc_rider.proofs.marked_columns.store_settled.Goals as goal

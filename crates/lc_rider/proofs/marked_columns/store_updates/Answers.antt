@@ -1,10 +1,10 @@
 use Rattle.std.proofs.Common.{◌∙◌}
-use Rattle.lc_term.specs.PutNumbers.{columns_at, terms_in, replacement_at}
+use Rattle.lc_table.specs.PutNumbers.{columns_at, terms_in, replacement_at}
 use Rattle.lc_term.specs.Replacement.{replace_term}
-use Rattle.lc_term.specs.Tables.{HasTerm}
+use Rattle.lc_table.specs.Tables.{HasTerm}
 use Rattle.lc_term.specs.View.{term_of}
-use Rattle.lc_term.proofs.ByNumber.{are_columns_later, are_terms_later}
-use Rattle.lc_term.proofs.Later.{kept_on}
+use Rattle.lc_table.proofs.ByNumber.{are_columns_later, are_terms_later}
+use Rattle.lc_table.proofs.Later.{kept_on}
 use Rattle.lc_rider.proofs.MarkStores.{index_said, said_stored, updates_more}
 use Rattle.lc_rider.proofs.marked_columns.store_updates.Goals as goal
 

@@ -1,7 +1,7 @@
 use Rattle.std.proofs.Common.{◌≡◌, map, drop}
-use Rattle.lc_term.specs.PutNumbers.{columns_at, AreColumns, terms_in}
+use Rattle.lc_table.specs.PutNumbers.{columns_at, AreColumns, terms_in}
 use Rattle.lc_term.specs.Said.{puts, said}
-use Rattle.lc_term.specs.Tables.{Keeps}
+use Rattle.lc_table.specs.Tables.{Keeps}
 use Rattle.lc_term.specs.UpdateView.{updates_of}
 use Rattle.lc_rider.proofs.marked_columns.store_updates.Given as goal
 

@@ -1,10 +1,10 @@
 use Rattle.std.proofs.Common.{◌≡◌, [], ◌∷◌, ◌++◌, min, ap, ap₂, ◌∙◌, arith, pos}
 use Rattle.std.proofs.lemmas.Grind.{common_steps}
-use Rattle.lc_term.specs.PutNumbers.{columns_at, terms_in, AreTerms}
+use Rattle.lc_table.specs.PutNumbers.{columns_at, terms_in, AreTerms}
 use Rattle.lc_term.specs.Syntax.{Term, Number}
-use Rattle.lc_term.specs.Tables.{term_in}
-use Rattle.lc_term.proofs.ByNumber.{are_columns_later, columns_still}
-use Rattle.lc_term.proofs.Later.{is_term_still, term_still, term_is, keeps_itself}
+use Rattle.lc_table.specs.Tables.{term_in}
+use Rattle.lc_table.proofs.ByNumber.{are_columns_later, columns_still}
+use Rattle.lc_table.proofs.Later.{is_term_still, term_still, term_is, keeps_itself}
 use Rattle.lc_seq.specs.Branches.{arity}
 use Rattle.lc_seq.specs.TextView.{specification_of}
 use Rattle.lc_action.specs.ActionView.{first_of}

@@ -1,9 +1,9 @@
 use Rattle.std.proofs.Common.{◌∙◌, ℕ, ℤ, w64, ap, ap₂, subst, IfOk}
 use Rattle.std.proofs.lemmas.Int.{to_z-of_z}
-use Rattle.lc_term.specs.PutNumbers.{columns_at}
+use Rattle.lc_table.specs.PutNumbers.{columns_at}
 use Rattle.lc_term.specs.Syntax.{Term, Column, Eq, Read, Number, Formula}
-use Rattle.lc_term.specs.Tables.{term_in, HasTerm, HasFormula}
-use Rattle.lc_term.proofs.Later.{is_term_later, is_term_still, keeps_itself, term_later, term_is}
+use Rattle.lc_table.specs.Tables.{term_in, HasTerm, HasFormula}
+use Rattle.lc_table.proofs.Later.{is_term_later, is_term_still, keeps_itself, term_later, term_is}
 use Rattle.lc_rider.proofs.Reading.{read_is}
 use Rattle.lc_rider.proofs.marking.cell_is.Goals as goal
 

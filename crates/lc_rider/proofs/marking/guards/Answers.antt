@@ -1,8 +1,8 @@
-use Rattle.lc_term.specs.PutNumbers.{terms_in}
+use Rattle.lc_table.specs.PutNumbers.{terms_in}
 use Rattle.lc_term.specs.Said.{told}
-use Rattle.lc_term.specs.Tables.{HasFormula}
-use Rattle.lc_term.proofs.ByNumber.{are_terms_later}
-use Rattle.lc_term.proofs.Later.{kept_on}
+use Rattle.lc_table.specs.Tables.{HasFormula}
+use Rattle.lc_table.proofs.ByNumber.{are_terms_later}
+use Rattle.lc_table.proofs.Later.{kept_on}
 use Rattle.lc_seq.specs.SpecView.{branch_of}
 use Rattle.lc_rider.specs.PathView.{path_in}
 use Rattle.lc_rider.proofs.Guarding.{told_still, guards_more, are_guards}

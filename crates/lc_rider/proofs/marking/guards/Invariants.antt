@@ -1,5 +1,5 @@
 use Rattle.std.proofs.Common.{◌≡◌, take}
-use Rattle.lc_term.specs.Tables.{formulas_in, AreFormulas, Keeps}
+use Rattle.lc_table.specs.Tables.{formulas_in, AreFormulas, Keeps}
 use Rattle.lc_seq.specs.SpecView.{branches_of}
 use Rattle.lc_rider.proofs.Guarding.{guards_in}
 use Rattle.lc_rider.proofs.marking.guards.Given as goal

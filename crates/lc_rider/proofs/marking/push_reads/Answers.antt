@@ -1,9 +1,9 @@
 use Rattle.std.proofs.Common.{◌≡◌, get_or}
 use Rattle.lc_base.specs.declared.ids.ColId.{ColId}
-use Rattle.lc_term.specs.PutNumbers.{columns_at, terms_in}
+use Rattle.lc_table.specs.PutNumbers.{columns_at, terms_in}
 use Rattle.lc_term.specs.Syntax.{Read}
-use Rattle.lc_term.specs.Tables.{term_in, HasTerm}
-use Rattle.lc_term.proofs.Later.{kept_on, term_is}
+use Rattle.lc_table.specs.Tables.{term_in, HasTerm}
+use Rattle.lc_table.proofs.Later.{kept_on, term_is}
 use Rattle.lc_rider.proofs.Reading.{has_is_term, are_terms_pushed, terms_pushed, read_is, reads_more}
 use Rattle.lc_rider.proofs.marking.push_reads.Goals as goal
 

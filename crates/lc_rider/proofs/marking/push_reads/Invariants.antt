@@ -1,7 +1,7 @@
 use Rattle.std.proofs.Common.{◌≡◌, ◌++◌, map, drop}
-use Rattle.lc_term.specs.PutNumbers.{columns_at, terms_in, AreTerms}
+use Rattle.lc_table.specs.PutNumbers.{columns_at, terms_in, AreTerms}
 use Rattle.lc_term.specs.Said.{reads}
-use Rattle.lc_term.specs.Tables.{term_in, Keeps}
+use Rattle.lc_table.specs.Tables.{term_in, Keeps}
 use Rattle.lc_rider.proofs.marking.push_reads.Given as goal
 
 -- the reads so far, with those of the cells that are left, are all

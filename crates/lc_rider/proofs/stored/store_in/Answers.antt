@@ -1,8 +1,8 @@
 use Rattle.std.proofs.Common.{◌<◌, List, length, subst, arith}
 use Rattle.lc_base.specs.declared.ids.ColId.{ColId}
-use Rattle.lc_term.specs.Tables.{term_in}
-use Rattle.lc_term.specs.declared.node.ColExprId.{ColExprId}
-use Rattle.lc_term.proofs.Later.{kept_on}
+use Rattle.lc_table.specs.Tables.{term_in}
+use Rattle.lc_table.specs.declared.node.ColExprId.{ColExprId}
+use Rattle.lc_table.proofs.Later.{kept_on}
 use Rattle.lc_rider.specs.Stored.{HasNone, IsFirst}
 use Rattle.lc_rider.proofs.Placed.{first_within, stored_there, are_stored_there, column_there, stored_behind, are_stored_behind, base_stored}
 use Rattle.lc_rider.proofs.stored.store_in.Goals as goal

@@ -1,5 +1,5 @@
 use Rattle.std.proofs.Common.{◌≡◌, ℕ, OnOk, subst}
-use Rattle.lc_term.specs.PutNumbers.{columns_at}
+use Rattle.lc_table.specs.PutNumbers.{columns_at}
 use Rattle.lc_term.specs.Syntax.{Column}
 use Rattle.lc_term.specs.View.{term_of}
 use Rattle.lc_rider.proofs.Saying.{value_stored}

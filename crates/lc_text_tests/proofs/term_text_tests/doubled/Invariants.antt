@@ -1,4 +1,4 @@
-use Rattle.lc_term.specs.Tables.{IsTerm}
+use Rattle.lc_table.specs.Tables.{IsTerm}
 use Rattle.lc_text_tests.proofs.term_text_tests.doubled.Given as goal
 
 abbrev pub invariant-loop : goal.invariant-loop

@@ -3,7 +3,7 @@ use Rattle.std.specs.Prelude.{◌*ℤ◌, FitsSigned}
 use Rattle.std.specs.Int.{w128}
 use Rattle.std.proofs.lemmas.Bool.{false≢true}
 use Rattle.std.proofs.lemmas.Int.{ints}
-use Rattle.lc_term.specs.declared.node.TermId.{TermId}
+use Rattle.lc_table.specs.declared.node.TermId.{TermId}
 use Rattle.lc_linear.specs.Numbered.{coefficient_in}
 use Rattle.lc_linear.proofs.Division.{IsRoundedUp-same}
 use Rattle.lc_linear.proofs.Numbers.{kept, widened}

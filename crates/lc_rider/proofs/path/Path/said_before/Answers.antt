@@ -1,6 +1,6 @@
 use Rattle.std.proofs.Common.{subst, IfOk}
 use Rattle.lc_term.specs.Syntax.{Term}
-use Rattle.lc_term.specs.Tables.{HasTerm}
+use Rattle.lc_table.specs.Tables.{HasTerm}
 use Rattle.lc_term.specs.View.{term_of}
 use Rattle.lc_rider.proofs.Saying.{said_is}
 use Rattle.lc_rider.proofs.path.Path.said_before.Goals as goal

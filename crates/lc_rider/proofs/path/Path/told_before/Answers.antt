@@ -1,9 +1,9 @@
 use Rattle.std.proofs.Common.{subst, sym, IfOk}
-use Rattle.lc_term.specs.PutNumbers.{AreColumns}
+use Rattle.lc_table.specs.PutNumbers.{AreColumns}
 use Rattle.lc_term.specs.Syntax.{Formula}
-use Rattle.lc_term.specs.Tables.{HasFormula}
+use Rattle.lc_table.specs.Tables.{HasFormula}
 use Rattle.lc_term.specs.View.{formula_of}
-use Rattle.lc_term.proofs.ByNumber.{are_columns_later, are_terms_later}
+use Rattle.lc_table.proofs.ByNumber.{are_columns_later, are_terms_later}
 use Rattle.lc_rider.proofs.Saying.{told_is}
 use Rattle.lc_rider.proofs.path.Path.told_before.Goals as goal
 

@@ -1,0 +1,73 @@
+-- A node has no bound variable where none of its parts has one, and what has none is the same below quantifiers.
+use Rattle.std.proofs.Common.{◌≡◌, ℕ, true, slice_get, Some, refl, subst, sym, ap, ◌∙◌}
+use Rattle.std.proofs.lemmas.Bool.{and_from}
+use Rattle.lc_table.specs.declared.node.TermId.{TermId}
+use Rattle.lc_table.specs.declared.node.ColExprId.{ColExprId}
+use Rattle.lc_table.specs.declared.node.TermNode.{TermNode}
+use Rattle.lc_table.specs.declared.node.TermNode.TheVariants.{Number, Variable, Bound, Add, Subtract, Multiply, Read, Base, Store, Affine}
+use Rattle.lc_table.specs.Nodes.{part_of, PartFits, term, column}
+use Rattle.lc_table.specs.NodeTables.{Table}
+use Rattle.lc_table.specs.NodeClosed.{is_closed_part}
+use Rattle.lc_table.specs.NodeReplacement.{as_part, part_in}
+use Rattle.lc_term.specs.Places.{is_closed, column_passes, no_bounds}
+use Rattle.lc_term.specs.Replacement.{replace_column}
+use Rattle.lc_term.specs.Substitution.{shifting, shifted_term}
+use Rattle.lc_table.specs.Tables.{parts, term_in, column_in, IsTerm, IsColumn, HasTerm, HasColumn}
+use Rattle.lc_term.proofs.Closed.{shifted_closed, shifted_closed_column}
+use Rattle.lc_table.proofs.TermNodes.{term-there, column-there}
+use Rattle.lc_term.proofs.Under.{shifted_none, shifted_column_none}
+
+-- what stands at a number has no bound variable
+abbrev pub IsClosedAt : Table → ℕ → Type 0
+IsClosedAt ts k = is_closed_part (part_in ts k) ≡ true
+
+-- none of a node's parts has a bound variable, nor is it one
+abbrev pub AreClosedParts : Table → TermNode → Type 0
+AreClosedParts ts (Number n) = Unit {0}
+AreClosedParts ts (Variable k) = Unit {0}
+AreClosedParts ts (Bound k) = ⊥
+AreClosedParts ts (Add a b) = IsClosedAt ts a.0 × IsClosedAt ts b.0
+AreClosedParts ts (Subtract a b) = IsClosedAt ts a.0 × IsClosedAt ts b.0
+AreClosedParts ts (Multiply n a) = IsClosedAt ts a.0
+AreClosedParts ts (Read c i) = IsClosedAt ts c.0 × IsClosedAt ts i.0
+AreClosedParts ts (Base c) = Unit {0}
+AreClosedParts ts (Store c i v) = IsClosedAt ts c.0 × IsClosedAt ts i.0 × IsClosedAt ts v.0
+AreClosedParts ts (Affine a b) = Unit {0}
+
+closed_term : (ts : Table) (k : TermId) → IsTerm ts k → IsClosedAt ts k.0 → is_closed (term_in ts k) ≡ true
+closed_term ts k is h = subst (λ o. is_closed_part (as_part o) ≡ true) (term-there (parts ts) k is) h
+
+closed_column : (ts : Table) (k : ColExprId) → IsColumn ts k → IsClosedAt ts k.0 → column_passes no_bounds (column_in ts k) ≡ true
+closed_column ts k is h = subst (λ o. is_closed_part (as_part o) ≡ true) (column-there (parts ts) k is) h
+
+closed_node : (ts : Table) (n : TermNode) → PartFits (parts ts) n → AreClosedParts ts n → is_closed_part (part_of (parts ts) n) ≡ true
+closed_node ts (Number n) f h = refl
+closed_node ts (Variable k) f h = refl
+closed_node ts (Bound k) f h = absurd h
+closed_node ts (Add a b) f h = and_from _ _ (closed_term ts a f.0 h.0) (closed_term ts b f.1 h.1)
+closed_node ts (Subtract a b) f h = and_from _ _ (closed_term ts a f.0 h.0) (closed_term ts b f.1 h.1)
+closed_node ts (Multiply n a) f h = closed_term ts a f h
+closed_node ts (Read c i) f h = and_from _ _ (closed_column ts c f.0 h.0) (closed_term ts i f.1 h.1)
+closed_node ts (Base c) f h = refl
+closed_node ts (Store c i v) f h = and_from _ _ (and_from _ _ (closed_column ts c f.0 h.0) (closed_term ts i f.1 h.1)) (closed_term ts v f.2 h.2)
+closed_node ts (Affine a b) f h = refl
+
+-- a node at a number
+pub closed_at : (ts : Table) (k : ℕ) (n : TermNode) → slice_get (parts ts) k ≡ Some (part_of (parts ts) n) → PartFits (parts ts) n → AreClosedParts ts n → IsClosedAt ts k
+closed_at ts k n at f h = subst (λ o. is_closed_part (as_part o) ≡ true) (sym at) (closed_node ts n f h)
+
+-- what has no bound variable stays below quantifiers
+pub closed_term_stays : (ts : Table) (k : TermId) (d : ℕ) → IsTerm ts k → IsClosedAt ts k.0 → HasTerm ts k (shifted_term d 0 (term_in ts k))
+closed_term_stays ts k d is h = term-there (parts ts) k is ∙ ap (λ x. Some (term x)) (sym (shifted_closed d 0 (term_in ts k) (closed_term ts k is h)))
+
+pub closed_column_stays : (ts : Table) (k : ColExprId) (d : ℕ) → IsColumn ts k → IsClosedAt ts k.0 → HasColumn ts k (replace_column (shifting d 0) (column_in ts k))
+closed_column_stays ts k d is h = column-there (parts ts) k is ∙ ap (λ x. Some (column x)) (sym (shifted_closed_column d 0 (column_in ts k) (closed_column ts k is h)))
+
+-- below no quantifier all stays
+pub term_raised_nowhere : (ts : Table) (k : TermId) (d : ℕ) → d ≡ 0 → IsTerm ts k → HasTerm ts k (shifted_term d 0 (term_in ts k))
+term_raised_nowhere ts k d none is =
+    term-there (parts ts) k is ∙ ap (λ x. Some (term x)) (sym (ap (λ n. shifted_term n 0 (term_in ts k)) none ∙ shifted_none (term_in ts k)))
+
+pub column_raised_nowhere : (ts : Table) (k : ColExprId) (d : ℕ) → d ≡ 0 → IsColumn ts k → HasColumn ts k (replace_column (shifting d 0) (column_in ts k))
+column_raised_nowhere ts k d none is =
+    column-there (parts ts) k is ∙ ap (λ x. Some (column x)) (sym (ap (λ n. replace_column (shifting n 0) (column_in ts k)) none ∙ shifted_column_none (column_in ts k)))

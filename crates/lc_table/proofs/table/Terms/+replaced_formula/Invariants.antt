@@ -1,0 +1,21 @@
+use Rattle.std.proofs.Common.{◌≡◌, ◌+◌, ◌*◌, take, map}
+use Rattle.lc_table.specs.Filling.{Stands}
+use Rattle.lc_term.specs.Replacement.{replace, under_many}
+use Rattle.lc_table.specs.Tables.{formulas_in, AreFormulas, Keeps}
+use Rattle.lc_table.proofs.Listed.{beyond}
+use Rattle.lc_table.proofs.table.Terms.+replaced_formula.Given as goal
+
+abbrev pub decreases-replaced_formula : goal.decreases-replaced_formula
+decreases-replaced_formula g l = 3 * l.formula.0 + 2
+
+abbrev pub decreases-replaced_formula_node : goal.decreases-replaced_formula_node
+decreases-replaced_formula_node g l = 3 * l.formula.0 + 1
+
+abbrev pub decreases-replaced_formulas : goal.decreases-replaced_formulas
+decreases-replaced_formulas g l = 3 * beyond l.formulas.now
+
+-- the formulas so far are replaced
+abbrev pub invariant-replaced_formulas-loop-formula : goal.invariant-replaced_formulas-loop-formula
+invariant-replaced_formulas-loop-formula g l =
+    Keeps l.fn.self l.self × Stands g.R.Filled.replacement l.self l.put l.done × AreFormulas l.self l.entered.items
+    × (formulas_in l.self l.entered.items ≡ map (replace (under_many l.depth g.R.Filled.replacement)) (formulas_in l.fn.self (take l.formula-index l.formulas)))

@@ -1,0 +1,21 @@
+//! Terms, column expressions and formulas as numbers of a table, in which each distinct one stands once.
+#![tactic(auto)]
+
+mod building;
+mod copying;
+mod entering;
+mod filling;
+mod node;
+mod node_closed;
+mod node_replacement;
+mod node_shift;
+mod put;
+mod put_numbers;
+mod replacing;
+mod table;
+mod trees;
+
+pub use node::{ColExprId, FormulaId, FormulaNode, TermId, TermNode};
+pub use put::{Put, PutColumns, PutVariables, ReplacedNodes, nothing_replaced};
+pub use put_numbers::PutNumbers;
+pub use table::{Terms, numbers_are_exact};

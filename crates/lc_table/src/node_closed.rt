@@ -1,0 +1,101 @@
+//! Terms and column expressions of a table in which no bound variable stands: below quantifiers they are the same.
+ghost use Rattle.std.specs.Prelude.{◌≡◌, IfOk, slice_get, is_some, true};
+ghost use Rattle.lc_table.specs.NodeReplacement.{part_in};
+ghost use Rattle.lc_table.specs.NodeClosed.{is_closed_part};
+ghost use Rattle.lc_term.specs.Replacement.{replace_column};
+ghost use Rattle.lc_term.specs.Substitution.{shifting, shifted_term};
+ghost use Rattle.lc_table.specs.Tables.{parts, term_in, column_in, IsTerm, IsColumn, HasTerm, HasColumn, Keeps};
+
+use crate::node::{ColExprId, TermId, TermNode};
+use crate::table::Terms;
+use lc_base::OutOfMemory;
+use std::alloc::Global;
+
+// How many nodes are looked at for a bound variable. What is shared is looked at again, so that without a bound this could
+// take far longer than a shift, which remembers what it has seen.
+const LOOKS: u32 = 512;
+
+impl Terms {
+    // Whether it is seen that no bound variable stands in what stands at a number. `false` says nothing.
+    fn is_seen_closed(&self, part: u32, looks: &mut u32) -> bool
+        requires { is_some (slice_get (parts self.now) part) ≡ true }
+        ensures { result ≡ true → is_closed_part (part_in self.now part) ≡ true }
+    {
+        if *looks == 0 {
+            return false;
+        }
+        *looks -= 1;
+        match self.part_node(part) {
+            TermNode::Number(_)
+            | TermNode::Variable(_)
+            | TermNode::Base(_)
+            | TermNode::Affine(_, _) => true,
+            TermNode::Bound(_) => false,
+            TermNode::Add(left, right) | TermNode::Subtract(left, right) => {
+                self.is_seen_closed(left.0, looks) && self.is_seen_closed(right.0, looks)
+            }
+            TermNode::Multiply(_, term) => self.is_seen_closed(term.0, looks),
+            TermNode::Read(column, index) => {
+                self.is_seen_closed(column.0, looks) && self.is_seen_closed(index.0, looks)
+            }
+            TermNode::Store(column, index, value) => {
+                self.is_seen_closed(index.0, looks)
+                    && self.is_seen_closed(value.0, looks)
+                    && self.is_seen_closed(column.0, looks)
+            }
+        }
+    }
+
+    // The same, by as many looks as are spent on it.
+    fn has_no_bound_variable(&self, part: u32) -> bool
+        requires { is_some (slice_get (parts self.now) part) ≡ true }
+        ensures { result ≡ true → is_closed_part (part_in self.now part) ≡ true }
+    {
+        let mut looks = LOOKS;
+        self.is_seen_closed(part, &mut looks)
+    }
+
+    // A term below as many further quantifiers as `depth` counts.
+    #[tactic(auto, using(crate::proofs::NodeClosed::term_raised_nowhere, crate::proofs::NodeClosed::closed_term_stays))]
+    pub(crate) fn raised(
+        &mut self,
+        alloc: Global,
+        term: TermId,
+        depth: u32,
+    ) -> Result<TermId, OutOfMemory>
+        requires { IsTerm self.old term }
+        ensures id { IfOk result (λ k. HasTerm self.new k (shifted_term depth 0 (term_in self.old term))) }
+        ensures kept { Keeps self.old self.new }
+    {
+        if depth == 0 {
+            return Ok(term);
+        }
+        if self.has_no_bound_variable(term.0) {
+            Ok(term)
+        } else {
+            self.shift(alloc, term, depth, 0)
+        }
+    }
+
+    // A column expression, likewise.
+    #[tactic(auto, using(crate::proofs::NodeClosed::column_raised_nowhere, crate::proofs::NodeClosed::closed_column_stays))]
+    pub(crate) fn raised_column(
+        &mut self,
+        alloc: Global,
+        column: ColExprId,
+        depth: u32,
+    ) -> Result<ColExprId, OutOfMemory>
+        requires { IsColumn self.old column }
+        ensures id { IfOk result (λ k. HasColumn self.new k (replace_column (shifting depth 0) (column_in self.old column))) }
+        ensures kept { Keeps self.old self.new }
+    {
+        if depth == 0 {
+            return Ok(column);
+        }
+        if self.has_no_bound_variable(column.0) {
+            Ok(column)
+        } else {
+            self.shift_column(alloc, column, depth, 0)
+        }
+    }
+}

@@ -1,0 +1,156 @@
+//! Terms and column expressions of a table, moved below further quantifiers.
+ghost use Rattle.std.specs.Prelude.{◌≡◌, IfOk, OnOk, slice_get, Some, is_some, true};
+ghost use Rattle.lc_term.specs.Syntax as S;
+ghost use Rattle.lc_table.specs.NodeReplacement.{part_in, replaced_part, AreReplaced};
+ghost use Rattle.lc_term.specs.Replacement.{replace_column};
+ghost use Rattle.lc_term.specs.Substitution.{shifting, shifted_term};
+ghost use Rattle.lc_table.specs.Tables.{parts, term_in, column_in, IsTerm, IsColumn, HasTerm, HasColumn, Keeps};
+
+use crate::node::{ColExprId, TermId, TermNode};
+use crate::table::Terms;
+use indexmap::IndexMap;
+use lc_base::OutOfMemory;
+use std::alloc::Global;
+
+// The number of a bound variable after a shift.
+fn moved(number: u32, added: u32, cutoff: u32) -> Result<u32, OutOfMemory>
+    ensures { IfOk result (λ n. S.Bound n ≡ (shifting added cutoff).bounds number) }
+{
+    if number < cutoff {
+        Ok(number)
+    } else {
+        number.checked_add(added).ok_or(OutOfMemory)
+    }
+}
+
+impl Terms {
+    /// The term below `added` further quantifiers: bound variables that point beyond the innermost `cutoff`
+    /// quantifiers get `added` added to their numbers. `OutOfMemory` is answered also where such a number has no
+    /// place in 32 bits.
+    pub fn shift(
+        &mut self,
+        alloc: Global,
+        term: TermId,
+        added: u32,
+        cutoff: u32,
+    ) -> Result<TermId, OutOfMemory>
+        requires { IsTerm self.old term }
+        ensures id { IfOk result (λ k. HasTerm self.new k (shifted_term added cutoff (term_in self.old term))) }
+        ensures kept { Keeps self.old self.new }
+    {
+        let mut done = IndexMap::new(alloc);
+        self.shifted_term(term, added, cutoff, &mut done)
+    }
+
+    /// The column expression below `added` further quantifiers, as `shift` of a term.
+    pub fn shift_column(
+        &mut self,
+        alloc: Global,
+        column: ColExprId,
+        added: u32,
+        cutoff: u32,
+    ) -> Result<ColExprId, OutOfMemory>
+        requires { IsColumn self.old column }
+        ensures id { IfOk result (λ k. HasColumn self.new k (replace_column (shifting added cutoff) (column_in self.old column))) }
+        ensures kept { Keeps self.old self.new }
+    {
+        let mut done = IndexMap::new(alloc);
+        self.shifted_column(column, added, cutoff, &mut done)
+    }
+
+    #[cycle(shifted_part)]
+    #[tactic(auto, using(crate::proofs::NodeReplacement::term_replaced, crate::proofs::NodeReplacement::term_at, crate::proofs::NodeReplacement::term_noted, crate::proofs::Copied::term_stands))]
+    fn shifted_term(
+        &mut self,
+        term: TermId,
+        added: u32,
+        cutoff: u32,
+        done: &mut IndexMap<u32, u32>,
+    ) -> Result<TermId, OutOfMemory>
+        requires there { IsTerm self.old term }
+        requires done { AreReplaced (shifting added cutoff) (parts self.old) done.old.entries }
+        ensures id { IfOk result (λ k. HasTerm self.new k (shifted_term added cutoff (term_in self.old term))) }
+        ensures kept { Keeps self.old self.new }
+        ensures done { OnOk result (AreReplaced (shifting added cutoff) (parts self.new) done.new.entries) }
+    {
+        if let Some(number) = done.get(&term.0) {
+            return Ok(TermId(*number));
+        }
+        let number = self.shifted_part(term.0, added, cutoff, done)?;
+        done.insert(term.0, number)?;
+        Ok(TermId(number))
+    }
+
+    #[cycle(shifted_part)]
+    #[tactic(auto, using(crate::proofs::NodeReplacement::column_replaced, crate::proofs::NodeReplacement::column_at, crate::proofs::NodeReplacement::column_noted, crate::proofs::Copied::column_stands))]
+    fn shifted_column(
+        &mut self,
+        column: ColExprId,
+        added: u32,
+        cutoff: u32,
+        done: &mut IndexMap<u32, u32>,
+    ) -> Result<ColExprId, OutOfMemory>
+        requires there { IsColumn self.old column }
+        requires done { AreReplaced (shifting added cutoff) (parts self.old) done.old.entries }
+        ensures id { IfOk result (λ k. HasColumn self.new k (replace_column (shifting added cutoff) (column_in self.old column))) }
+        ensures kept { Keeps self.old self.new }
+        ensures done { OnOk result (AreReplaced (shifting added cutoff) (parts self.new) done.new.entries) }
+    {
+        if let Some(number) = done.get(&column.0) {
+            return Ok(ColExprId(*number));
+        }
+        let number = self.shifted_part(column.0, added, cutoff, done)?;
+        done.insert(column.0, number)?;
+        Ok(ColExprId(number))
+    }
+
+    // What stands at a number, moved, which is not moved yet.
+    #[cycle(shifted_part)]
+    #[tactic(auto, using(crate::proofs::Later::kept_on, crate::proofs::Later::keeps_itself, crate::proofs::Later::is_term_later, crate::proofs::Later::is_column_later, crate::proofs::Later::is_term_still, crate::proofs::NodeReplacement::part_there))]
+    fn shifted_part(
+        &mut self,
+        part: u32,
+        added: u32,
+        cutoff: u32,
+        done: &mut IndexMap<u32, u32>,
+    ) -> Result<u32, OutOfMemory>
+        requires there { is_some (slice_get (parts self.old) part) ≡ true }
+        requires done { AreReplaced (shifting added cutoff) (parts self.old) done.old.entries }
+        ensures id { IfOk result (λ k. slice_get (parts self.new) k ≡ Some (replaced_part (shifting added cutoff) (part_in self.old part))) }
+        ensures kept { Keeps self.old self.new }
+        ensures done { OnOk result (AreReplaced (shifting added cutoff) (parts self.new) done.new.entries) }
+    {
+        match self.part_node(part) {
+            TermNode::Bound(number) => Ok(self.bound(moved(number, added, cutoff)?)?.0),
+            TermNode::Number(_)
+            | TermNode::Variable(_)
+            | TermNode::Base(_)
+            | TermNode::Affine(_, _) => Ok(part),
+            TermNode::Add(left, right) => {
+                let left = self.shifted_term(left, added, cutoff, done)?;
+                let right = self.shifted_term(right, added, cutoff, done)?;
+                Ok(self.add(left, right)?.0)
+            }
+            TermNode::Subtract(left, right) => {
+                let left = self.shifted_term(left, added, cutoff, done)?;
+                let right = self.shifted_term(right, added, cutoff, done)?;
+                Ok(self.subtract(left, right)?.0)
+            }
+            TermNode::Multiply(factor, term) => {
+                let term = self.shifted_term(term, added, cutoff, done)?;
+                Ok(self.multiply(factor, term)?.0)
+            }
+            TermNode::Read(column, index) => {
+                let column = self.shifted_column(column, added, cutoff, done)?;
+                let index = self.shifted_term(index, added, cutoff, done)?;
+                Ok(self.read(column, index)?.0)
+            }
+            TermNode::Store(column, index, value) => {
+                let column = self.shifted_column(column, added, cutoff, done)?;
+                let index = self.shifted_term(index, added, cutoff, done)?;
+                let value = self.shifted_term(value, added, cutoff, done)?;
+                Ok(self.store(column, index, value)?.0)
+            }
+        }
+    }
+}

@@ -1,0 +1,560 @@
+//! Columns and variables of a table's terms and formulas replaced, all at once. What is shared is replaced once.
+ghost use Rattle.std.specs.Prelude.{◌≡◌, suc, IfOk, OnOk, map, slice_get, Some, is_some, true};
+ghost use Rattle.lc_table.specs.NodeReplacement.{part_in, replaced_part};
+ghost use Rattle.lc_table.specs.Filling.{IsFilled, Stands};
+ghost use Rattle.lc_table.specs.Nodes.{term, column, part_of, PartFits};
+ghost use Rattle.lc_table.specs.Put.{columns_put, columns_in, variables_put, replacement_of, Remembers};
+ghost use Rattle.lc_term.specs.Replacement.{replace, replace_term, replace_column, under_many};
+ghost use Rattle.lc_term.specs.Syntax as S;
+ghost use Rattle.lc_table.specs.Tables.{parts, term_in, column_in, formula_in, formulas_in, IsTerm, IsColumn, IsFormula, AreFormulas, HasTerm, HasColumn, HasFormula, Keeps};
+
+use crate::filling::{Filled, Filling};
+use crate::node::{ColExprId, FormulaId, FormulaNode, TermId, TermNode};
+use crate::put::{Occurrence, Put, PutColumns, PutVariables, ReplacedNodes};
+use crate::table::Terms;
+use lc_base::{ColId, OutOfMemory};
+use lc_term::ColExpr;
+use std::alloc::Global;
+use std::cmp::Ordering;
+use std::marker::Brand;
+
+impl Terms {
+    /// The term with what is put in for its columns and variables. `OutOfMemory` is answered also where the number of a
+    /// shifted bound variable has no place in 32 bits, here and below.
+    pub fn replace_term(
+        &mut self,
+        alloc: Global,
+        put: &Put<'_>,
+        done: &mut ReplacedNodes,
+        term: TermId,
+    ) -> Result<TermId, OutOfMemory>
+        requires term { IsTerm self.old term }
+        requires done { Remembers (replacement_of put.now) self.old done.old }
+        ensures id { IfOk result (λ k. HasTerm self.new k (replace_term (replacement_of put.now) (term_in self.old term))) }
+        ensures kept { Keeps self.old self.new }
+        ensures done { OnOk result (Remembers (replacement_of put.now) self.new done.new) }
+    {
+        self.replaced_term::<Brand>(alloc, &Filling::Put(*put), done, term, 0)
+    }
+
+    /// The column expression with what is put in.
+    pub fn replace_column(
+        &mut self,
+        alloc: Global,
+        put: &Put<'_>,
+        done: &mut ReplacedNodes,
+        column: ColExprId,
+    ) -> Result<ColExprId, OutOfMemory>
+        requires column { IsColumn self.old column }
+        requires done { Remembers (replacement_of put.now) self.old done.old }
+        ensures id { IfOk result (λ k. HasColumn self.new k (replace_column (replacement_of put.now) (column_in self.old column))) }
+        ensures kept { Keeps self.old self.new }
+        ensures done { OnOk result (Remembers (replacement_of put.now) self.new done.new) }
+    {
+        self.replaced_column::<Brand>(alloc, &Filling::Put(*put), done, column, 0)
+    }
+
+    /// The formula with what is put in. A formula in which nothing is replaced keeps its number.
+    pub fn replace(
+        &mut self,
+        alloc: Global,
+        put: &Put<'_>,
+        done: &mut ReplacedNodes,
+        formula: FormulaId,
+    ) -> Result<FormulaId, OutOfMemory>
+        requires formula { IsFormula self.old formula }
+        requires done { Remembers (replacement_of put.now) self.old done.old }
+        ensures id { IfOk result (λ k. HasFormula self.new k (replace (replacement_of put.now) (formula_in self.old formula))) }
+        ensures kept { Keeps self.old self.new }
+        ensures done { OnOk result (Remembers (replacement_of put.now) self.new done.new) }
+    {
+        self.replaced_formula::<Brand>(alloc, &Filling::Put(*put), done, formula, 0)
+    }
+
+    // The first entry of a column; the column itself where it has none.
+    fn enter_stored(
+        &mut self,
+        columns: &[(ColId, ColExpr)],
+        column: ColId,
+    ) -> Result<ColExprId, OutOfMemory>
+        ensures id { IfOk result (λ k. HasColumn self.new k (columns_in columns.now column.0)) }
+        ensures kept { Keeps self.old self.new }
+    {
+        for entry in columns {
+            if entry.0 == column {
+                return self.enter_column(&entry.1);
+            }
+        }
+        self.base(column)
+    }
+
+    // What is put in for a column, outside every quantifier.
+    fn enter_put_column(
+        &mut self,
+        columns: PutColumns<'_>,
+        column: ColId,
+    ) -> Result<ColExprId, OutOfMemory>
+        ensures id { IfOk result (λ k. HasColumn self.new k (columns_put columns.entry column.0)) }
+        ensures kept { Keeps self.old self.new }
+    {
+        match columns {
+            PutColumns::Stored(columns) => self.enter_stored(columns, column),
+            PutColumns::All(columns) => match columns.get(column.0 as usize) {
+                Some(column) => self.enter_column(column),
+                None => self.affine(0, 0),
+            },
+        }
+    }
+
+    // What is put in for a variable, outside every quantifier.
+    fn enter_put_variable(
+        &mut self,
+        variables: PutVariables<'_>,
+        number: u32,
+    ) -> Result<TermId, OutOfMemory>
+        ensures id { IfOk result (λ k. HasTerm self.new k (variables_put variables.entry number)) }
+        ensures kept { Keeps self.old self.new }
+    {
+        match variables {
+            PutVariables::Own => self.variable(number),
+            PutVariables::Terms(terms) => match terms.get(number as usize) {
+                Some(term) => self.enter_term(term),
+                None => self.number(0),
+            },
+        }
+    }
+
+    // The same below as many quantifiers as `depth` counts.
+    fn column_below(
+        &mut self,
+        alloc: Global,
+        put: &Put<'_>,
+        column: ColId,
+        depth: u32,
+    ) -> Result<ColExprId, OutOfMemory>
+        ensures id { IfOk result (λ k. HasColumn self.new k ((under_many depth (replacement_of put.now)).columns column.0)) }
+        ensures kept { Keeps self.old self.new }
+    {
+        let column = self.enter_put_column(put.columns, column)?;
+        self.raised_column(alloc, column, depth)
+    }
+
+    fn variable_below(
+        &mut self,
+        alloc: Global,
+        put: &Put<'_>,
+        number: u32,
+        depth: u32,
+    ) -> Result<TermId, OutOfMemory>
+        ensures id { IfOk result (λ k. HasTerm self.new k ((under_many depth (replacement_of put.now)).variables number)) }
+        ensures kept { Keeps self.old self.new }
+    {
+        let term = self.enter_put_variable(put.variables, number)?;
+        self.raised(alloc, term, depth)
+    }
+
+    // What is put in for a column, which stands at the number `part`.
+    fn replaced_base<R: Filled>(
+        &mut self,
+        alloc: Global,
+        put: &Filling<'_>,
+        part: u32,
+        number: ColId,
+        depth: u32,
+    ) -> Result<u32, OutOfMemory>
+        requires there { slice_get (parts self.old) part ≡ Some (column (S.Base number.0)) }
+        requires put { IsFilled put.now self.old R.replacement }
+        ensures id { IfOk result (λ k. slice_get (parts self.new) k ≡ Some (column ((under_many depth R.replacement).columns number.0))) }
+        ensures kept { Keeps self.old self.new }
+    {
+        match put {
+            Filling::Put(put) => {
+                if column_stays(put, number) {
+                    Ok(part)
+                } else {
+                    Ok(self.column_below(alloc, put, number, depth)?.0)
+                }
+            }
+            Filling::Numbers(put) => { self.numbered_base(alloc, put.columns, part, number, depth) }
+            Filling::Variable(_, _) | Filling::Opening(_) | Filling::Shift(_, _) => Ok(part),
+        }
+    }
+
+    // What is put in for a free variable, which stands at the number `part`.
+    fn replaced_variable<R: Filled>(
+        &mut self,
+        alloc: Global,
+        put: &Filling<'_>,
+        part: u32,
+        number: u32,
+        depth: u32,
+    ) -> Result<u32, OutOfMemory>
+        requires there { slice_get (parts self.old) part ≡ Some (term (S.Variable number)) }
+        requires put { IsFilled put.now self.old R.replacement }
+        ensures id { IfOk result (λ k. slice_get (parts self.new) k ≡ Some (term ((under_many depth R.replacement).variables number))) }
+        ensures kept { Keeps self.old self.new }
+    {
+        match put {
+            Filling::Put(put) => match put.variables {
+                PutVariables::Own => Ok(part),
+                PutVariables::Terms(_) => Ok(self.variable_below(alloc, put, number, depth)?.0),
+            },
+            Filling::Numbers(put) => self.numbered_variable(alloc, put.variables, number, depth),
+            Filling::Variable(variable, term) => {
+                if number == *variable {
+                    Ok(self.raised(alloc, *term, depth)?.0)
+                } else {
+                    Ok(part)
+                }
+            }
+            Filling::Opening(_) | Filling::Shift(_, _) => Ok(part),
+        }
+    }
+
+    // What is put in for a bound variable, which stands at the number `part`.
+    fn replaced_bound<R: Filled>(
+        &mut self,
+        alloc: Global,
+        put: &Filling<'_>,
+        part: u32,
+        number: u32,
+        depth: u32,
+    ) -> Result<u32, OutOfMemory>
+        requires there { slice_get (parts self.old) part ≡ Some (term (S.Bound number)) }
+        requires put { IsFilled put.now self.old R.replacement }
+        ensures id { IfOk result (λ k. slice_get (parts self.new) k ≡ Some (term ((under_many depth R.replacement).bounds number))) }
+        ensures kept { Keeps self.old self.new }
+    {
+        match put {
+            Filling::Put(_) | Filling::Numbers(_) | Filling::Variable(_, _) => Ok(part),
+            Filling::Opening(term) => match number.cmp(&depth) {
+                Ordering::Less => Ok(part),
+                Ordering::Equal => Ok(self.raised(alloc, *term, depth)?.0),
+                Ordering::Greater => Ok(self.bound(number - 1)?.0),
+            },
+            Filling::Shift(added, cutoff) => {
+                if u64::from(number) < u64::from(*cutoff) + u64::from(depth) {
+                    Ok(part)
+                } else {
+                    let number = number.checked_add(*added).ok_or(OutOfMemory)?;
+                    Ok(self.bound(number)?.0)
+                }
+            }
+        }
+    }
+
+    #[cycle(replaced_part)]
+    #[tactic(auto, using(crate::proofs::NodeReplacement::term_at, crate::proofs::Copied::term_stands))]
+    pub(crate) fn replaced_term<R: Filled>(
+        &mut self,
+        alloc: Global,
+        put: &Filling<'_>,
+        done: &mut ReplacedNodes,
+        term: TermId,
+        depth: u32,
+    ) -> Result<TermId, OutOfMemory>
+        requires there { IsTerm self.old term }
+        requires done { Stands R.replacement self.old put.now done.old }
+        ensures id { IfOk result (λ k. HasTerm self.new k (replace_term (under_many depth R.replacement) (term_in self.old term))) }
+        ensures kept { Keeps self.old self.new }
+        ensures done { OnOk result (Stands R.replacement self.new put.now done.new) }
+    {
+        let occurrence = Occurrence {
+            number: term.0,
+            depth,
+        };
+        if let Some(number) = done.part(occurrence) {
+            return Ok(TermId(number));
+        }
+        let number = self.replaced_part::<R>(alloc, put, done, term.0, depth)?;
+        done.note_part(occurrence, number)?;
+        Ok(TermId(number))
+    }
+
+    #[cycle(replaced_part)]
+    #[tactic(auto, using(crate::proofs::NodeReplacement::column_at, crate::proofs::Copied::column_stands))]
+    fn replaced_column<R: Filled>(
+        &mut self,
+        alloc: Global,
+        put: &Filling<'_>,
+        done: &mut ReplacedNodes,
+        column: ColExprId,
+        depth: u32,
+    ) -> Result<ColExprId, OutOfMemory>
+        requires there { IsColumn self.old column }
+        requires done { Stands R.replacement self.old put.now done.old }
+        ensures id { IfOk result (λ k. HasColumn self.new k (replace_column (under_many depth R.replacement) (column_in self.old column))) }
+        ensures kept { Keeps self.old self.new }
+        ensures done { OnOk result (Stands R.replacement self.new put.now done.new) }
+    {
+        let occurrence = Occurrence {
+            number: column.0,
+            depth,
+        };
+        if let Some(number) = done.part(occurrence) {
+            return Ok(ColExprId(number));
+        }
+        let number = self.replaced_part::<R>(alloc, put, done, column.0, depth)?;
+        done.note_part(occurrence, number)?;
+        Ok(ColExprId(number))
+    }
+
+    // The number of a node whose parts are replaced: the number `part` of the node before, where none of them changed.
+    #[tactic(auto, using(crate::proofs::Later::keeps_itself, crate::proofs::NodeReplacement::same_nodes))]
+    fn enter_changed(
+        &mut self,
+        part: u32,
+        before: TermNode,
+        node: TermNode,
+    ) -> Result<u32, OutOfMemory>
+        requires there { slice_get (parts self.old) part ≡ Some (part_of (parts self.old) before) }
+        requires fits { PartFits (parts self.old) node }
+        ensures part { IfOk result (λ k. slice_get (parts self.new) k ≡ Some (part_of (parts self.old) node)) }
+        ensures kept { Keeps self.old self.new }
+    {
+        if node == before {
+            Ok(part)
+        } else {
+            self.enter_part(node)
+        }
+    }
+
+    // What stands at a number, replaced, which is not replaced yet.
+    #[cycle(replaced_part)]
+    #[tactic(auto, using(crate::proofs::Later::kept_on, crate::proofs::Later::keeps_itself, crate::proofs::Later::is_term_later, crate::proofs::Later::is_column_later, crate::proofs::Later::is_term_still, crate::proofs::NodeReplacement::part_there, crate::proofs::NodeReplacement::node_later))]
+    fn replaced_part<R: Filled>(
+        &mut self,
+        alloc: Global,
+        put: &Filling<'_>,
+        done: &mut ReplacedNodes,
+        part: u32,
+        depth: u32,
+    ) -> Result<u32, OutOfMemory>
+        requires there { is_some (slice_get (parts self.old) part) ≡ true }
+        requires done { Stands R.replacement self.old put.now done.old }
+        ensures id { IfOk result (λ k. slice_get (parts self.new) k ≡ Some (replaced_part (under_many depth R.replacement) (part_in self.old part))) }
+        ensures kept { Keeps self.old self.new }
+        ensures done { OnOk result (Stands R.replacement self.new put.now done.new) }
+    {
+        let node = self.part_node(part);
+        match node {
+            TermNode::Variable(number) => {
+                self.replaced_variable::<R>(alloc, put, part, number, depth)
+            }
+            TermNode::Base(column) => self.replaced_base::<R>(alloc, put, part, column, depth),
+            TermNode::Bound(number) => { self.replaced_bound::<R>(alloc, put, part, number, depth) }
+            TermNode::Number(_) | TermNode::Affine(_, _) => Ok(part),
+            TermNode::Add(left, right) => {
+                let left = self.replaced_term::<R>(alloc, put, done, left, depth)?;
+                let right = self.replaced_term::<R>(alloc, put, done, right, depth)?;
+                self.enter_changed(part, node, TermNode::Add(left, right))
+            }
+            TermNode::Subtract(left, right) => {
+                let left = self.replaced_term::<R>(alloc, put, done, left, depth)?;
+                let right = self.replaced_term::<R>(alloc, put, done, right, depth)?;
+                self.enter_changed(part, node, TermNode::Subtract(left, right))
+            }
+            TermNode::Multiply(factor, term) => {
+                let term = self.replaced_term::<R>(alloc, put, done, term, depth)?;
+                self.enter_changed(part, node, TermNode::Multiply(factor, term))
+            }
+            TermNode::Read(column, index) => {
+                let column = self.replaced_column::<R>(alloc, put, done, column, depth)?;
+                let index = self.replaced_term::<R>(alloc, put, done, index, depth)?;
+                self.enter_changed(part, node, TermNode::Read(column, index))
+            }
+            TermNode::Store(column, index, value) => {
+                let column = self.replaced_column::<R>(alloc, put, done, column, depth)?;
+                let index = self.replaced_term::<R>(alloc, put, done, index, depth)?;
+                let value = self.replaced_term::<R>(alloc, put, done, value, depth)?;
+                self.enter_changed(part, node, TermNode::Store(column, index, value))
+            }
+        }
+    }
+
+    #[cycle(replaced_formula)]
+    pub(crate) fn replaced_formula<R: Filled>(
+        &mut self,
+        alloc: Global,
+        put: &Filling<'_>,
+        done: &mut ReplacedNodes,
+        formula: FormulaId,
+        depth: u32,
+    ) -> Result<FormulaId, OutOfMemory>
+        requires there { IsFormula self.old formula }
+        requires done { Stands R.replacement self.old put.now done.old }
+        ensures id { IfOk result (λ k. HasFormula self.new k (replace (under_many depth R.replacement) (formula_in self.old formula))) }
+        ensures kept { Keeps self.old self.new }
+        ensures done { OnOk result (Stands R.replacement self.new put.now done.new) }
+    {
+        let occurrence = Occurrence {
+            number: formula.0,
+            depth,
+        };
+        if let Some(number) = done.formula(occurrence) {
+            return Ok(FormulaId(number));
+        }
+        let number = self.replaced_formula_node::<R>(alloc, put, done, formula, depth)?;
+        done.note_formula(occurrence, number.0)?;
+        Ok(number)
+    }
+
+    // The number of a comparison whose sides are replaced: the number `formula` of the one before, where neither changed.
+    #[tactic(auto, using(crate::proofs::Later::keeps_itself, crate::proofs::NodeReplacement::same_le))]
+    fn enter_changed_le(
+        &mut self,
+        formula: FormulaId,
+        before: (TermId, TermId),
+        left: TermId,
+        right: TermId,
+    ) -> Result<FormulaId, OutOfMemory>
+        requires there { HasFormula self.old formula (S.Le (term_in self.old before.0) (term_in self.old before.1)) }
+        requires left { IsTerm self.old left }
+        requires right { IsTerm self.old right }
+        ensures id { IfOk result (λ k. HasFormula self.new k (S.Le (term_in self.old left) (term_in self.old right))) }
+        ensures kept { Keeps self.old self.new }
+    {
+        if left == before.0 && right == before.1 {
+            return Ok(formula);
+        }
+        self.le(left, right)
+    }
+
+    // The same of terms that are to be equal.
+    #[tactic(auto, using(crate::proofs::Later::keeps_itself, crate::proofs::NodeReplacement::same_eq))]
+    fn enter_changed_eq(
+        &mut self,
+        formula: FormulaId,
+        before: (TermId, TermId),
+        left: TermId,
+        right: TermId,
+    ) -> Result<FormulaId, OutOfMemory>
+        requires there { HasFormula self.old formula (S.Eq (term_in self.old before.0) (term_in self.old before.1)) }
+        requires left { IsTerm self.old left }
+        requires right { IsTerm self.old right }
+        ensures id { IfOk result (λ k. HasFormula self.new k (S.Eq (term_in self.old left) (term_in self.old right))) }
+        ensures kept { Keeps self.old self.new }
+    {
+        if left == before.0 && right == before.1 {
+            return Ok(formula);
+        }
+        self.eq(left, right)
+    }
+
+    // A formula, replaced, which is not replaced yet.
+    #[cycle(replaced_formula)]
+    #[tactic(auto, using(crate::proofs::Later::kept_on, crate::proofs::Later::keeps_itself, crate::proofs::Later::is_term_later, crate::proofs::Later::is_term_still, crate::proofs::Later::is_formula_later, crate::proofs::Later::is_formula_still, crate::proofs::NodeReplacement::le_still, crate::proofs::NodeReplacement::eq_still))]
+    pub(crate) fn replaced_formula_node<R: Filled>(
+        &mut self,
+        alloc: Global,
+        put: &Filling<'_>,
+        done: &mut ReplacedNodes,
+        formula: FormulaId,
+        depth: u32,
+    ) -> Result<FormulaId, OutOfMemory>
+        requires there { IsFormula self.old formula }
+        requires done { Stands R.replacement self.old put.now done.old }
+        ensures id { IfOk result (λ k. HasFormula self.new k (replace (under_many depth R.replacement) (formula_in self.old formula))) }
+        ensures kept { Keeps self.old self.new }
+        ensures done { OnOk result (Stands R.replacement self.new put.now done.new) }
+    {
+        match self.formula_node(formula) {
+            FormulaNode::Le(left, right) => {
+                let (first, second) = (*left, *right);
+                let left = self.replaced_term::<R>(alloc, put, done, first, depth)?;
+                let right = self.replaced_term::<R>(alloc, put, done, second, depth)?;
+                self.enter_changed_le(formula, (first, second), left, right)
+            }
+            FormulaNode::Eq(left, right) => {
+                let (first, second) = (*left, *right);
+                let left = self.replaced_term::<R>(alloc, put, done, first, depth)?;
+                let right = self.replaced_term::<R>(alloc, put, done, second, depth)?;
+                self.enter_changed_eq(formula, (first, second), left, right)
+            }
+            FormulaNode::Not(formula) => {
+                let formula = *formula;
+                let formula = self.replaced_formula::<R>(alloc, put, done, formula, depth)?;
+                self.not(formula)
+            }
+            FormulaNode::And(parts) => {
+                let parts = Vec::from_slice(alloc, parts)?;
+                let parts = self.replaced_formulas::<R>(alloc, put, done, &parts, depth)?;
+                self.and(parts)
+            }
+            FormulaNode::Or(parts) => {
+                let parts = Vec::from_slice(alloc, parts)?;
+                let parts = self.replaced_formulas::<R>(alloc, put, done, &parts, depth)?;
+                self.or(parts)
+            }
+            FormulaNode::Implies(left, right) => {
+                let (left, right) = (*left, *right);
+                let left = self.replaced_formula::<R>(alloc, put, done, left, depth)?;
+                let right = self.replaced_formula::<R>(alloc, put, done, right, depth)?;
+                self.implies(left, right)
+            }
+            FormulaNode::Forall(body) => {
+                let body = *body;
+                let body = self.replaced_formula::<R>(alloc, put, done, body, below(depth)?)?;
+                self.forall(body)
+            }
+            FormulaNode::Exists(body) => {
+                let body = *body;
+                let body = self.replaced_formula::<R>(alloc, put, done, body, below(depth)?)?;
+                self.exists(body)
+            }
+        }
+    }
+
+    #[cycle(replaced_formula)]
+    #[tactic(auto, using(crate::proofs::Later::kept_on, crate::proofs::Later::keeps_itself))]
+    fn replaced_formulas<R: Filled>(
+        &mut self,
+        alloc: Global,
+        put: &Filling<'_>,
+        done: &mut ReplacedNodes,
+        formulas: &[FormulaId],
+        depth: u32,
+    ) -> Result<Vec<FormulaId>, OutOfMemory>
+        requires there { AreFormulas self.old formulas.now }
+        requires done { Stands R.replacement self.old put.now done.old }
+        ensures are { IfOk result (λ ks. AreFormulas self.new ks.items) }
+        ensures trees { IfOk result (λ ks. formulas_in self.new ks.items ≡ map (replace (under_many depth R.replacement)) (formulas_in self.old formulas.now)) }
+        ensures kept { Keeps self.old self.new }
+        ensures done { OnOk result (Stands R.replacement self.new put.now done.new) }
+    {
+        let mut entered = Vec::with_capacity(alloc, formulas.len())?;
+        for formula in formulas {
+            entered.push(self.replaced_formula::<R>(alloc, put, done, *formula, depth)?)?;
+        }
+        Ok(entered)
+    }
+}
+
+// One quantifier more.
+fn below(depth: u32) -> Result<u32, OutOfMemory>
+    ensures { IfOk result (λ n. n ≡ suc depth) }
+{
+    depth.checked_add(1).ok_or(OutOfMemory)
+}
+
+// Whether a column has no entry, so that it stays.
+fn is_absent(columns: &[(ColId, ColExpr)], column: ColId) -> bool
+    ensures { result ≡ true → columns_in columns.now column.0 ≡ S.Base column.0 }
+{
+    for entry in columns {
+        if entry.0 == column {
+            return false;
+        }
+    }
+    true
+}
+
+// Whether nothing is put in for a column.
+fn column_stays(put: &Put<'_>, column: ColId) -> bool
+    ensures { result ≡ true → columns_put put.now.columns column.0 ≡ S.Base column.0 }
+{
+    match put.columns {
+        PutColumns::Stored(columns) => is_absent(columns, column),
+        PutColumns::All(_) => false,
+    }
+}

@@ -1,0 +1,178 @@
+ghost use Rattle.std.specs.Prelude.{◌≡◌, IfOk, ◌↔◌};
+ghost use Rattle.lc_table.specs.declared.node.TermId.{TermId};
+ghost use Rattle.lc_table.specs.declared.node.ColExprId.{ColExprId};
+ghost use Rattle.lc_table.specs.declared.node.FormulaId.{FormulaId};
+ghost use Rattle.lc_table.specs.Tables.{term_in, column_in, formula_in, IsTerm, IsColumn, IsFormula};
+
+use crate::node::{ColExprId, FormulaId, FormulaNode, TermId, TermNode};
+use indexmap::IndexSet;
+use lc_base::OutOfMemory;
+use std::alloc::Global;
+use std::marker::Model;
+
+/// Terms, column expressions and formulas by number: each that is there stands there once, and is made of others by
+/// their numbers. So two numbers are equal exactly where their trees are, and what occurs often is kept once.
+///
+/// No call changes the tree of a number. A call that answers an error may leave more entries.
+pub struct Terms {
+    terms: IndexSet<TermNode>,
+    formulas: IndexSet<FormulaNode>,
+}
+
+impl Model for Terms {
+    ghost use Rattle.lc_table.specs.NodeTables.{Table, IsNodeTable};
+
+    ghost Value = { Table };
+
+    ghost view = { λ t. record { terms = t.terms.keys; formulas = t.formulas.keys } };
+
+    ghost invariant = { λ t. IsNodeTable t.terms.keys t.formulas.keys };
+}
+
+// Written out and not derived, so that a place where a table is let go has one call.
+impl Drop for Terms {
+    fn drop(self) {
+        let Terms {
+            terms: _,
+            formulas: _,
+        } = self;
+    }
+}
+
+impl Terms {
+    ghost use Rattle.std.specs.Prelude.{◌≡◌, ◌+◌, ◌-◌, ◌^◌, min, length, IfOk, slice_get, Some, [], is_some, true, false, IsTrue, ◌↔◌};
+    ghost use Rattle.lc_table.specs.Nodes.{part_of, PartFits, PartBelow, is_term_node, term_of_node, column_of_node, tree_of, TreeFits, PartsBelow};
+    ghost use Rattle.lc_table.specs.Tables.{parts, formulas, term_in, column_in, formula_in, IsTerm, IsColumn, IsFormula, Keeps};
+
+    /// No terms and no formulas.
+    pub fn new(alloc: Global) -> Terms
+        ensures parts { parts result ≡ [] }
+        ensures formulas { formulas result ≡ [] }
+    {
+        Terms {
+            terms: IndexSet::new(alloc),
+            formulas: IndexSet::new(alloc),
+        }
+    }
+
+    /// How many entries there are, of terms, column expressions and formulas together.
+    pub fn len(&self) -> usize
+        ensures { result ≡ min (length (parts self.now) + length (formulas self.now)) (2 ^ 64 - 1) }
+    {
+        self.terms.len().saturating_add(self.formulas.len())
+    }
+
+    // The number of a node of a term or a column expression, which is entered if it is not there.
+    pub(crate) fn enter_part(&mut self, node: TermNode) -> Result<u32, OutOfMemory>
+        requires { PartFits (parts self.old) node }
+        ensures part { IfOk result (λ k. slice_get (parts self.new) k ≡ Some (part_of (parts self.old) node)) }
+        ensures kept { Keeps self.old self.new }
+    {
+        let (index, _) = self.terms.insert_full(node)?;
+        number_of(index)
+    }
+
+    // The number of a node of a formula, which is entered if it is not there.
+    pub(crate) fn enter_node(&mut self, node: FormulaNode) -> Result<u32, OutOfMemory>
+        requires { TreeFits (parts self.old) (formulas self.old) node }
+        ensures formula { IfOk result (λ k. slice_get (formulas self.new) k ≡ Some (tree_of (parts self.old) (formulas self.old) node)) }
+        ensures kept { Keeps self.old self.new }
+    {
+        let (index, _) = self.formulas.insert_full(node)?;
+        number_of(index)
+    }
+
+    // The node at a number, of a term or a column expression.
+    pub(crate) fn part_node(&self, part: u32) -> TermNode
+        requires { is_some (slice_get (parts self.now) part) ≡ true }
+        ensures tree { slice_get (parts self.now) part ≡ Some (part_of (parts self.now) result) }
+        ensures fits { PartFits (parts self.now) result }
+        ensures below { PartBelow part result }
+    {
+        match self.terms.get_index(part as usize) {
+            Some(node) => *node,
+            None => unreachable!(),
+        }
+    }
+
+    /// A term by its head and the numbers of its parts.
+    pub fn term_node(&self, term: TermId) -> TermNode
+        requires { IsTerm self.now term }
+        ensures kind { is_term_node result ≡ true }
+        ensures tree { term_in self.now term ≡ term_of_node (parts self.now) result }
+        ensures fits { PartFits (parts self.now) result }
+        ensures below { PartBelow term.0 result }
+    {
+        self.part_node(term.0)
+    }
+
+    /// A column expression by its head and the numbers of its parts.
+    pub fn column_node(&self, column: ColExprId) -> TermNode
+        requires { IsColumn self.now column }
+        ensures kind { is_term_node result ≡ false }
+        ensures tree { column_in self.now column ≡ column_of_node (parts self.now) result }
+        ensures fits { PartFits (parts self.now) result }
+        ensures below { PartBelow column.0 result }
+    {
+        self.part_node(column.0)
+    }
+
+    /// A formula by its head and the numbers of its parts.
+    pub fn formula_node(&self, formula: FormulaId) -> &FormulaNode
+        requires { IsFormula self.now formula }
+        ensures tree { formula_in self.now formula ≡ tree_of (parts self.now) (formulas self.now) result.now }
+        ensures fits { TreeFits (parts self.now) (formulas self.now) result.now }
+        ensures below { PartsBelow formula.0 result.now }
+    {
+        match self.formulas.get_index(formula.0 as usize) {
+            Some(node) => node,
+            None => unreachable!(),
+        }
+    }
+
+    /// Whether two numbers stand for the same term: where they are the same number.
+    pub fn is_same_term(&self, left: TermId, right: TermId) -> bool
+        requires left { IsTerm self.now left }
+        requires right { IsTerm self.now right }
+        ensures { IsTrue result ↔ (term_in self.now left ≡ term_in self.now right) }
+    {
+        let _ = &self.terms;
+        left == right
+    }
+
+    /// Whether two numbers stand for the same column expression: where they are the same number.
+    pub fn is_same_column(&self, left: ColExprId, right: ColExprId) -> bool
+        requires left { IsColumn self.now left }
+        requires right { IsColumn self.now right }
+        ensures { IsTrue result ↔ (column_in self.now left ≡ column_in self.now right) }
+    {
+        let _ = &self.terms;
+        left == right
+    }
+
+    /// Whether two numbers stand for the same formula: where they are the same number.
+    pub fn is_same_formula(&self, left: FormulaId, right: FormulaId) -> bool
+        requires left { IsFormula self.now left }
+        requires right { IsFormula self.now right }
+        ensures { IsTrue result ↔ (formula_in self.now left ≡ formula_in self.now right) }
+    {
+        let _ = &self.formulas;
+        left == right
+    }
+}
+
+/// Two numbers of a table are the same exactly where they stand for the same.
+pub fn numbers_are_exact(terms: &Terms)
+    ensures terms { (a b : TermId) → IsTerm terms.now a → IsTerm terms.now b → (a ≡ b) ↔ (term_in terms.now a ≡ term_in terms.now b) }
+    ensures columns { (a b : ColExprId) → IsColumn terms.now a → IsColumn terms.now b → (a ≡ b) ↔ (column_in terms.now a ≡ column_in terms.now b) }
+    ensures formulas { (a b : FormulaId) → IsFormula terms.now a → IsFormula terms.now b → (a ≡ b) ↔ (formula_in terms.now a ≡ formula_in terms.now b) }
+{
+    let _ = &terms.formulas;
+}
+
+// The number of an entry. Tables hold no more entries than there are numbers of 32 bits.
+fn number_of(index: usize) -> Result<u32, OutOfMemory>
+    ensures { IfOk result (λ k. k ≡ index) }
+{
+    u32::try_from(index).map_err(|_| OutOfMemory)
+}

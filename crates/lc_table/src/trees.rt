@@ -1,0 +1,113 @@
+//! The trees that numbers of a table stand for.
+ghost use Rattle.std.specs.Prelude.{◌≡◌, IfOk};
+ghost use Rattle.lc_term.specs.View.{term_of, column_of, formula_of, formulas_of};
+ghost use Rattle.lc_table.specs.Tables.{term_in, column_in, formula_in, formulas_in, IsTerm, IsColumn, IsFormula, AreFormulas};
+
+use crate::node::{ColExprId, FormulaId, FormulaNode, TermId, TermNode};
+use crate::table::Terms;
+use lc_base::OutOfMemory;
+use lc_term::{ColExpr, Formula, Term};
+use std::alloc::Global;
+
+impl Terms {
+    /// The term of a number.
+    #[cycle(term)]
+    pub fn term(&self, alloc: Global, term: TermId) -> Result<Term, OutOfMemory>
+        requires { IsTerm self.now term }
+        ensures { IfOk result (λ tree. term_of tree ≡ term_in self.now term) }
+    {
+        match self.term_node(term) {
+            TermNode::Number(number) => Ok(Term::Number(number)),
+            TermNode::Variable(number) => Ok(Term::Variable(number)),
+            TermNode::Bound(number) => Ok(Term::Bound(number)),
+            TermNode::Add(left, right) => Ok(Term::Add(
+                Box::new(alloc, self.term(alloc, left)?)?,
+                Box::new(alloc, self.term(alloc, right)?)?,
+            )),
+            TermNode::Subtract(left, right) => Ok(Term::Subtract(
+                Box::new(alloc, self.term(alloc, left)?)?,
+                Box::new(alloc, self.term(alloc, right)?)?,
+            )),
+            TermNode::Multiply(factor, term) => Ok(Term::Multiply(
+                factor,
+                Box::new(alloc, self.term(alloc, term)?)?,
+            )),
+            TermNode::Read(column, index) => Ok(Term::Read(
+                self.column(alloc, column)?,
+                Box::new(alloc, self.term(alloc, index)?)?,
+            )),
+            TermNode::Base(_) | TermNode::Store(_, _, _) | TermNode::Affine(_, _) => unreachable!(),
+        }
+    }
+
+    /// The column expression of a number.
+    #[cycle(term)]
+    pub fn column(&self, alloc: Global, column: ColExprId) -> Result<ColExpr, OutOfMemory>
+        requires { IsColumn self.now column }
+        ensures { IfOk result (λ tree. column_of tree ≡ column_in self.now column) }
+    {
+        match self.column_node(column) {
+            TermNode::Base(column) => Ok(ColExpr::Base(column)),
+            TermNode::Store(column, index, value) => Ok(ColExpr::Store(
+                Box::new(alloc, self.column(alloc, column)?)?,
+                Box::new(alloc, self.term(alloc, index)?)?,
+                Box::new(alloc, self.term(alloc, value)?)?,
+            )),
+            TermNode::Affine(slope, start) => Ok(ColExpr::Affine(slope, start)),
+            _ => unreachable!(),
+        }
+    }
+
+    /// The formula of a number.
+    #[cycle(formula)]
+    pub fn formula(&self, alloc: Global, formula: FormulaId) -> Result<Formula, OutOfMemory>
+        requires { IsFormula self.now formula }
+        ensures { IfOk result (λ tree. formula_of tree ≡ formula_in self.now formula) }
+    {
+        match self.formula_node(formula) {
+            FormulaNode::Le(left, right) => Ok(Formula::Le(
+                self.term(alloc, *left)?,
+                self.term(alloc, *right)?,
+            )),
+            FormulaNode::Eq(left, right) => Ok(Formula::Eq(
+                self.term(alloc, *left)?,
+                self.term(alloc, *right)?,
+            )),
+            FormulaNode::Not(formula) => Ok(Formula::Not(Box::new(
+                alloc,
+                self.formula(alloc, *formula)?,
+            )?)),
+            FormulaNode::And(parts) => Ok(Formula::And(self.formulas(alloc, parts)?)),
+            FormulaNode::Or(parts) => Ok(Formula::Or(self.formulas(alloc, parts)?)),
+            FormulaNode::Implies(left, right) => Ok(Formula::Implies(
+                Box::new(alloc, self.formula(alloc, *left)?)?,
+                Box::new(alloc, self.formula(alloc, *right)?)?,
+            )),
+            FormulaNode::Forall(body) => Ok(Formula::Forall(Box::new(
+                alloc,
+                self.formula(alloc, *body)?,
+            )?)),
+            FormulaNode::Exists(body) => Ok(Formula::Exists(Box::new(
+                alloc,
+                self.formula(alloc, *body)?,
+            )?)),
+        }
+    }
+
+    /// The formulas of numbers.
+    #[cycle(formula)]
+    pub fn formulas(
+        &self,
+        alloc: Global,
+        formulas: &[FormulaId],
+    ) -> Result<Vec<Formula>, OutOfMemory>
+        requires { AreFormulas self.now formulas.now }
+        ensures { IfOk result (λ trees. formulas_of trees.items ≡ formulas_in self.now formulas.now) }
+    {
+        let mut trees = Vec::with_capacity(alloc, formulas.len())?;
+        for formula in formulas {
+            trees.push(self.formula(alloc, *formula)?)?;
+        }
+        Ok(trees)
+    }
+}

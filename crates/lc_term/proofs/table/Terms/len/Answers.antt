@@ -1,8 +1,0 @@
-use Rattle.std.proofs.Common.{rules}
-use Rattle.lc_term.proofs.Tables.{entry_count}
-use Rattle.lc_term.proofs.table.Terms.len.Goals as goal
-
-pub returns : goal.returns
-returns c =
-    let count = entry_count c.args.self.now c.self.inside.terms.keys c.self.inside.formulas.keys c.self.view_is in
-    search (rules, count)
