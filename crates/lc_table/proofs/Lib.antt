@@ -1,0 +1,14 @@
+pub mod Rows
+pub mod TermNodes
+pub mod FormulaNodes
+pub mod Tables
+pub mod Later
+pub mod Taken
+pub mod Listed
+pub mod Copied
+pub mod NodeReplacement
+pub mod ByNumber
+pub mod NodeClosed
+pub mod Entries
+pub mod Remembered
+pub mod Filled

@@ -1,0 +1,10 @@
+pub mod Copies
+pub mod Filling
+pub mod NodeClosed
+pub mod NodeReplacement
+pub mod NodeTables
+pub mod Nodes
+pub mod Put
+pub mod PutNumbers
+pub mod Rows
+pub mod Tables
