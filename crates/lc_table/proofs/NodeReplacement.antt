@@ -7,16 +7,17 @@ use Rattle.lc_table.specs.declared.node.TermId.{TermId}
 use Rattle.lc_table.specs.declared.node.ColExprId.{ColExprId}
 use Rattle.lc_table.specs.declared.node.FormulaId.{FormulaId}
 use Rattle.lc_table.specs.declared.node.TermNode.{TermNode}
-use Rattle.lc_table.specs.Nodes.{Part, term, column, part_of, PartFits}
+use Rattle.lc_table.specs.declared.node.FormulaNode.{FormulaNode}
+use Rattle.lc_table.specs.Nodes.{Part, term, column, part_of, PartFits, tree_of}
 use Rattle.lc_table.specs.NodeTables.{Table}
 use Rattle.lc_term.specs.Replacement.{Replacement, replace_term, replace_column}
 use Rattle.lc_term.specs.Syntax as S
 use Rattle.lc_table.specs.Tables.{parts, formulas, term_in, column_in, formula_in, HasTerm, HasColumn, HasFormula, IsTerm, IsColumn, IsFormula, Keeps}
 use Rattle.lc_table.specs.NodeReplacement.{as_part, part_in, replaced_part, AreReplaced}
 use Rattle.lc_table.proofs.Rows.{kept_left}
-use Rattle.lc_table.proofs.FormulaNodes.{formula-there}
+use Rattle.lc_table.proofs.FormulaNodes.{formula-there, formula_node_eq, node_eq-tree}
 use Rattle.lc_table.proofs.TermNodes.{term-there, column-there, part-kept, node_eq, node_eq-part}
-use Rattle.lc_table.proofs.Later.{term_later, column_later, formula_later, term_is, column_is, term_still}
+use Rattle.lc_table.proofs.Later.{term_later, column_later, term_is, column_is, term_still}
 
 some_same : {T : Type 0} (x y : T) → Some x ≡ Some y → x ≡ y
 some_same x y e = cc
@@ -41,25 +42,10 @@ node_later old new k n at fits kept =
 pub same_nodes : (ts : List Part) (k : ℕ) (m n : TermNode) → node_eq m n ≡ true → slice_get ts k ≡ Some (part_of ts n) → slice_get ts k ≡ Some (part_of ts m)
 same_nodes ts k m n h at = at ∙ ap Some (sym (node_eq-part ts m n h))
 
--- a comparison stays one of the same sides
-pub le_still : (old new : Table) (k : FormulaId) (a b : TermId) → IsFormula old k → formula_in old k ≡ S.Le (term_in old a) (term_in old b) → IsTerm old a → IsTerm old b → Keeps old new
-    → HasFormula new k (S.Le (term_in new a) (term_in new b))
-le_still old new k a b there at left right kept =
-    formula_later old new k _ (formula-there (formulas old) k there) kept
-    ∙ ap Some (at ∙ ap₂ S.Le (sym (term_still old new a left kept)) (sym (term_still old new b right kept)))
-
-pub eq_still : (old new : Table) (k : FormulaId) (a b : TermId) → IsFormula old k → formula_in old k ≡ S.Eq (term_in old a) (term_in old b) → IsTerm old a → IsTerm old b → Keeps old new
-    → HasFormula new k (S.Eq (term_in new a) (term_in new b))
-eq_still old new k a b there at left right kept =
-    formula_later old new k _ (formula-there (formulas old) k there) kept
-    ∙ ap Some (at ∙ ap₂ S.Eq (sym (term_still old new a left kept)) (sym (term_still old new b right kept)))
-
--- and of equal ones
-pub same_le : (ts : Table) (k : FormulaId) (a b c d : TermId) → a ≡ c → b ≡ d → HasFormula ts k (S.Le (term_in ts c) (term_in ts d)) → HasFormula ts k (S.Le (term_in ts a) (term_in ts b))
-same_le ts k a b c d e f at = at ∙ ap Some (ap₂ S.Le (ap (term_in ts) (sym e)) (ap (term_in ts) (sym f)))
-
-pub same_eq : (ts : Table) (k : FormulaId) (a b c d : TermId) → a ≡ c → b ≡ d → HasFormula ts k (S.Eq (term_in ts c) (term_in ts d)) → HasFormula ts k (S.Eq (term_in ts a) (term_in ts b))
-same_eq ts k a b c d e f at = at ∙ ap Some (ap₂ S.Eq (ap (term_in ts) (sym e)) (ap (term_in ts) (sym f)))
+-- a formula that is equal
+pub same_formula_node : (ts : Table) (k : FormulaId) (m n : FormulaNode) → formula_node_eq m n ≡ true → IsFormula ts k → formula_in ts k ≡ tree_of (parts ts) (formulas ts) m
+    → HasFormula ts k (tree_of (parts ts) (formulas ts) n)
+same_formula_node ts k m n h is at = formula-there (formulas ts) k is ∙ ap Some (at ∙ node_eq-tree (parts ts) (formulas ts) m n h)
 
 pub column_still : (old new : Table) (k : ColExprId) → IsColumn old k → Keeps old new → column_in new k ≡ column_in old k
 column_still old new k h kept = column_is new k _ (column_later old new k _ (column-there (parts old) k h) kept)

@@ -2,11 +2,11 @@
 ghost use Rattle.std.specs.Prelude.{◌≡◌, suc, IfOk, OnOk, map, slice_get, Some, is_some, true};
 ghost use Rattle.lc_table.specs.NodeReplacement.{part_in, replaced_part};
 ghost use Rattle.lc_table.specs.Filling.{IsFilled, Stands};
-ghost use Rattle.lc_table.specs.Nodes.{term, column, part_of, PartFits};
+ghost use Rattle.lc_table.specs.Nodes.{term, column, part_of, PartFits, tree_of, TreeFits};
 ghost use Rattle.lc_table.specs.Put.{columns_put, columns_in, variables_put, replacement_of, Remembers};
 ghost use Rattle.lc_term.specs.Replacement.{replace, replace_term, replace_column, under_many};
 ghost use Rattle.lc_term.specs.Syntax as S;
-ghost use Rattle.lc_table.specs.Tables.{parts, term_in, column_in, formula_in, formulas_in, IsTerm, IsColumn, IsFormula, AreFormulas, HasTerm, HasColumn, HasFormula, Keeps};
+ghost use Rattle.lc_table.specs.Tables.{parts, formulas, term_in, column_in, formula_in, formulas_in, IsTerm, IsColumn, IsFormula, AreFormulas, HasTerm, HasColumn, HasFormula, Keeps};
 
 use crate::filling::{Filled, Filling};
 use crate::node::{ColExprId, FormulaId, FormulaNode, TermId, TermNode};
@@ -399,51 +399,27 @@ impl Terms {
         Ok(number)
     }
 
-    // The number of a comparison whose sides are replaced: the number `formula` of the one before, where neither changed.
-    #[tactic(auto, using(crate::proofs::Later::keeps_itself, crate::proofs::NodeReplacement::same_le))]
-    fn enter_changed_le(
+    // The number of a formula whose parts are replaced: the number `formula` of the one before, where none of them changed.
+    #[tactic(auto, using(crate::proofs::Later::keeps_itself, crate::proofs::NodeReplacement::same_formula_node))]
+    fn enter_changed_formula(
         &mut self,
         formula: FormulaId,
-        before: (TermId, TermId),
-        left: TermId,
-        right: TermId,
+        node: FormulaNode,
     ) -> Result<FormulaId, OutOfMemory>
-        requires there { HasFormula self.old formula (S.Le (term_in self.old before.0) (term_in self.old before.1)) }
-        requires left { IsTerm self.old left }
-        requires right { IsTerm self.old right }
-        ensures id { IfOk result (λ k. HasFormula self.new k (S.Le (term_in self.old left) (term_in self.old right))) }
+        requires there { IsFormula self.old formula }
+        requires fits { TreeFits (parts self.old) (formulas self.old) node }
+        ensures id { IfOk result (λ k. HasFormula self.new k (tree_of (parts self.old) (formulas self.old) node)) }
         ensures kept { Keeps self.old self.new }
     {
-        if left == before.0 && right == before.1 {
+        if *self.formula_node(formula) == node {
             return Ok(formula);
         }
-        self.le(left, right)
-    }
-
-    // The same of terms that are to be equal.
-    #[tactic(auto, using(crate::proofs::Later::keeps_itself, crate::proofs::NodeReplacement::same_eq))]
-    fn enter_changed_eq(
-        &mut self,
-        formula: FormulaId,
-        before: (TermId, TermId),
-        left: TermId,
-        right: TermId,
-    ) -> Result<FormulaId, OutOfMemory>
-        requires there { HasFormula self.old formula (S.Eq (term_in self.old before.0) (term_in self.old before.1)) }
-        requires left { IsTerm self.old left }
-        requires right { IsTerm self.old right }
-        ensures id { IfOk result (λ k. HasFormula self.new k (S.Eq (term_in self.old left) (term_in self.old right))) }
-        ensures kept { Keeps self.old self.new }
-    {
-        if left == before.0 && right == before.1 {
-            return Ok(formula);
-        }
-        self.eq(left, right)
+        Ok(FormulaId(self.enter_node(node)?))
     }
 
     // A formula, replaced, which is not replaced yet.
     #[cycle(replaced_formula)]
-    #[tactic(auto, using(crate::proofs::Later::kept_on, crate::proofs::Later::keeps_itself, crate::proofs::Later::is_term_later, crate::proofs::Later::is_term_still, crate::proofs::Later::is_formula_later, crate::proofs::Later::is_formula_still, crate::proofs::NodeReplacement::le_still, crate::proofs::NodeReplacement::eq_still))]
+    #[tactic(auto, using(crate::proofs::Later::kept_on, crate::proofs::Later::keeps_itself, crate::proofs::Later::is_term_later, crate::proofs::Later::is_term_still, crate::proofs::Later::is_formula_later, crate::proofs::Later::is_formula_still))]
     pub(crate) fn replaced_formula_node<R: Filled>(
         &mut self,
         alloc: Global,
@@ -460,16 +436,16 @@ impl Terms {
     {
         match self.formula_node(formula) {
             FormulaNode::Le(left, right) => {
-                let (first, second) = (*left, *right);
-                let left = self.replaced_term::<R>(alloc, put, done, first, depth)?;
-                let right = self.replaced_term::<R>(alloc, put, done, second, depth)?;
-                self.enter_changed_le(formula, (first, second), left, right)
+                let (left, right) = (*left, *right);
+                let left = self.replaced_term::<R>(alloc, put, done, left, depth)?;
+                let right = self.replaced_term::<R>(alloc, put, done, right, depth)?;
+                self.enter_changed_formula(formula, FormulaNode::Le(left, right))
             }
             FormulaNode::Eq(left, right) => {
-                let (first, second) = (*left, *right);
-                let left = self.replaced_term::<R>(alloc, put, done, first, depth)?;
-                let right = self.replaced_term::<R>(alloc, put, done, second, depth)?;
-                self.enter_changed_eq(formula, (first, second), left, right)
+                let (left, right) = (*left, *right);
+                let left = self.replaced_term::<R>(alloc, put, done, left, depth)?;
+                let right = self.replaced_term::<R>(alloc, put, done, right, depth)?;
+                self.enter_changed_formula(formula, FormulaNode::Eq(left, right))
             }
             FormulaNode::Not(formula) => {
                 let formula = *formula;

@@ -6,7 +6,7 @@ use Rattle.lc_term.specs.Replacement.{under_many, replace, replace_all}
 use Rattle.lc_table.specs.Tables.{term_in, formula_in, formulas_in, IsTerm, IsFormula, AreFormulas}
 use Rattle.lc_table.proofs.Later.{kept_on, are_formulas_pushed, formulas_pushed, is_formula_still, formula_still}
 use Rattle.lc_table.proofs.Listed.{beyond-le, get-beyond, are_formulas-get}
-use Rattle.lc_table.proofs.NodeReplacement.{first_term, second_term, le_still, eq_still}
+use Rattle.lc_table.proofs.NodeReplacement.{first_term, second_term}
 use Rattle.lc_table.proofs.Remembered.{stands_later, formula_remembered, formula_noted, first_formula, second_formula, replaced_parts, replaced_more}
 use Rattle.lc_table.proofs.table.Terms.+replaced_formula.Goals as goal
 
@@ -35,22 +35,6 @@ replaced_formula_node-replaced_formulas-requires-in-Or g t c =
     let least = beyond-le c.args.formula.0 c.deref-in-Or-2.result.now (subst (AllBelow c.args.formula.0) (sym same) parts_below) in
     λ κs lives. (omega arith, (lives, (subst (AreFormulas c.args.self.now) (sym same) parts_fit, c.requires.done)))
 
-pub replaced_formula_node-enter_changed_le-requires-clause-there : goal.replaced_formula_node-enter_changed_le-requires-clause-there
-replaced_formula_node-enter_changed_le-requires-clause-there g t c =
-    let t0 = c.args.self.now in
-    let at : formula_in t0 c.args.formula ≡ S.Le (term_in t0 c.in-Le.left) (term_in t0 c.in-Le.right) = search rules in
-    let left : IsTerm t0 c.in-Le.left = search rules in
-    let right : IsTerm t0 c.in-Le.right = search rules in
-    le_still t0 _ c.args.formula _ _ c.requires.there at left right (kept_on _ _ _ c.in_ok-left-in-Le.ensures.kept c.in_ok-right-in-Le.ensures.kept)
-
-pub replaced_formula_node-enter_changed_eq-requires-clause-there : goal.replaced_formula_node-enter_changed_eq-requires-clause-there
-replaced_formula_node-enter_changed_eq-requires-clause-there g t c =
-    let t0 = c.args.self.now in
-    let at : formula_in t0 c.args.formula ≡ S.Eq (term_in t0 c.in-Eq.left) (term_in t0 c.in-Eq.right) = search rules in
-    let left : IsTerm t0 c.in-Eq.left = search rules in
-    let right : IsTerm t0 c.in-Eq.right = search rules in
-    eq_still t0 _ c.args.formula _ _ c.requires.there at left right (kept_on _ _ _ c.in_ok-left-in-Eq.ensures.kept c.in_ok-right-in-Eq.ensures.kept)
-
 pub replaced_formula_node-returns-in_ok-right-in-Le-clause-id : goal.replaced_formula_node-returns-in_ok-right-in-Le-clause-id
 replaced_formula_node-returns-in_ok-right-in-Le-clause-id g t c =
     let t0 = c.args.self.now in
@@ -61,7 +45,7 @@ replaced_formula_node-returns-in_ok-right-in-Le-clause-id g t c =
     let is : IsTerm t0 c.in-Le.right = search rules in
     let left = first_term r t0 t1 t2 c.in-Le.left c.in_ok-left-in-Le.left c.in_ok-right-in-Le.ensures.kept c.in_ok-left-in-Le.ensures.id in
     let right = second_term r r t0 t1 t2 c.in-Le.right c.in_ok-right-in-Le.right refl is c.in_ok-left-in-Le.ensures.kept c.in_ok-right-in-Le.ensures.id in
-    IfOk-weaker c.enter_changed_le.result _ _ (λ k h. h ∙ ap Some (ap₂ S.Le left right) ∙ ap (λ f. Some (replace r f)) (sym there)) c.enter_changed_le.ensures.id
+    IfOk-weaker c.enter_changed_formula.result _ _ (λ k h. h ∙ ap Some (ap₂ S.Le left right) ∙ ap (λ f. Some (replace r f)) (sym there)) c.enter_changed_formula.ensures.id
 
 pub replaced_formula_node-returns-in_ok-right-in-Eq-clause-id : goal.replaced_formula_node-returns-in_ok-right-in-Eq-clause-id
 replaced_formula_node-returns-in_ok-right-in-Eq-clause-id g t c =
@@ -73,7 +57,7 @@ replaced_formula_node-returns-in_ok-right-in-Eq-clause-id g t c =
     let is : IsTerm t0 c.in-Eq.right = search rules in
     let left = first_term r t0 t1 t2 c.in-Eq.left c.in_ok-left-in-Eq.left c.in_ok-right-in-Eq.ensures.kept c.in_ok-left-in-Eq.ensures.id in
     let right = second_term r r t0 t1 t2 c.in-Eq.right c.in_ok-right-in-Eq.right refl is c.in_ok-left-in-Eq.ensures.kept c.in_ok-right-in-Eq.ensures.id in
-    IfOk-weaker c.enter_changed_eq.result _ _ (λ k h. h ∙ ap Some (ap₂ S.Eq left right) ∙ ap (λ f. Some (replace r f)) (sym there)) c.enter_changed_eq.ensures.id
+    IfOk-weaker c.enter_changed_formula-in-Eq.result _ _ (λ k h. h ∙ ap Some (ap₂ S.Eq left right) ∙ ap (λ f. Some (replace r f)) (sym there)) c.enter_changed_formula-in-Eq.ensures.id
 
 pub replaced_formula_node-returns-in_ok-right-in-Implies-clause-id : goal.replaced_formula_node-returns-in_ok-right-in-Implies-clause-id
 replaced_formula_node-returns-in_ok-right-in-Implies-clause-id g t c =
@@ -88,10 +72,10 @@ replaced_formula_node-returns-in_ok-right-in-Implies-clause-id g t c =
     IfOk-weaker c.implies.result _ _ (λ k h. h ∙ ap Some (ap₂ S.Implies left right) ∙ ap (λ f. Some (replace r f)) (sym there)) c.implies.ensures.id
 
 pub replaced_formula_node-returns-in_ok-right-in-Le-clause-done : goal.replaced_formula_node-returns-in_ok-right-in-Le-clause-done
-replaced_formula_node-returns-in_ok-right-in-Le-clause-done g t c = IfOk-weaker c.enter_changed_le.result _ _ (λ k h. stands_later g.R.Filled.replacement c.args.put.now _ _ _ c.in_ok-right-in-Le.ensures.done c.enter_changed_le.ensures.kept) c.enter_changed_le.ensures.id
+replaced_formula_node-returns-in_ok-right-in-Le-clause-done g t c = IfOk-weaker c.enter_changed_formula.result _ _ (λ k h. stands_later g.R.Filled.replacement c.args.put.now _ _ _ c.in_ok-right-in-Le.ensures.done c.enter_changed_formula.ensures.kept) c.enter_changed_formula.ensures.id
 
 pub replaced_formula_node-returns-in_ok-right-in-Eq-clause-done : goal.replaced_formula_node-returns-in_ok-right-in-Eq-clause-done
-replaced_formula_node-returns-in_ok-right-in-Eq-clause-done g t c = IfOk-weaker c.enter_changed_eq.result _ _ (λ k h. stands_later g.R.Filled.replacement c.args.put.now _ _ _ c.in_ok-right-in-Eq.ensures.done c.enter_changed_eq.ensures.kept) c.enter_changed_eq.ensures.id
+replaced_formula_node-returns-in_ok-right-in-Eq-clause-done g t c = IfOk-weaker c.enter_changed_formula-in-Eq.result _ _ (λ k h. stands_later g.R.Filled.replacement c.args.put.now _ _ _ c.in_ok-right-in-Eq.ensures.done c.enter_changed_formula-in-Eq.ensures.kept) c.enter_changed_formula-in-Eq.ensures.id
 
 pub replaced_formula_node-returns-in_ok-right-in-Implies-clause-done : goal.replaced_formula_node-returns-in_ok-right-in-Implies-clause-done
 replaced_formula_node-returns-in_ok-right-in-Implies-clause-done g t c = IfOk-weaker c.implies.result _ _ (λ k h. stands_later g.R.Filled.replacement c.args.put.now _ _ _ c.in_ok-right-in-Implies.ensures.done c.implies.ensures.kept) c.implies.ensures.id
