@@ -2,6 +2,7 @@
 -- then the system columns from 2 on.
 use Rattle.std.specs.Prelude.{ℕ, [], ◌∷◌, pos, None, codes}
 use Rattle.lc_term.specs.Syntax.{Term, Number, Variable, Add, Read, Base, Formula, Eq, And, formulas}
+use Rattle.lc_seq.specs.Sequential.{InOrder}
 use Rattle.lc_seq.specs.Specification.{Specification}
 use Rattle.lc_object.specs.Syntax as O
 use Rattle.lc_object.specs.Syntax.{Load, Store, Cas, Return}
@@ -24,8 +25,8 @@ counter_specification = record {
   name = codes "counter";
   columns = record { name = codes "v"; slope = pos 0; start = pos 0 } ∷ [];
   operations =
-      record { name = codes "inc"; arguments = []; replies = 1; branches = record { guard = is_true; updates = record { column = 0; index = Number (pos 0); value = Add (rd 0 (Number (pos 0))) (Number (pos 1)) } ∷ []; replies = rd 0 (Number (pos 0)) ∷ [] } ∷ [] } ∷
-      record { name = codes "get"; arguments = []; replies = 1; branches = record { guard = is_true; updates = []; replies = rd 0 (Number (pos 0)) ∷ [] } ∷ [] } ∷ [];
+      record { name = codes "inc"; arguments = []; replies = 1; branches = record { label = InOrder; guard = is_true; updates = record { column = 0; index = Number (pos 0); value = Add (rd 0 (Number (pos 0))) (Number (pos 1)) } ∷ []; replies = rd 0 (Number (pos 0)) ∷ [] } ∷ [] } ∷
+      record { name = codes "get"; arguments = []; replies = 1; branches = record { label = InOrder; guard = is_true; updates = []; replies = rd 0 (Number (pos 0)) ∷ [] } ∷ [] } ∷ [];
 }
 
 abbrev pub counter_object : O.Object
@@ -81,9 +82,9 @@ counter_by marking = record {
   idle = [];
   outlines =
       record { asserts = pending ∷ []; ons = [] } ∷
-      record { asserts = pending ∷ []; ons = record { edge = Then; action = 0; arguments = []; riders = record { condition = None; deed = Marks marking } ∷ [] } ∷ [] } ∷
+      record { asserts = pending ∷ []; ons = record { edge = Then; action = 0; arguments = []; riders = record { condition = None; deed = Marks marking InOrder } ∷ [] } ∷ [] } ∷
       record { asserts = settled ∷ replied ∷ []; ons = [] } ∷
-      record { asserts = pending ∷ []; ons = record { edge = Next; action = 1; arguments = []; riders = record { condition = None; deed = Marks Own } ∷ [] } ∷ [] } ∷
+      record { asserts = pending ∷ []; ons = record { edge = Next; action = 1; arguments = []; riders = record { condition = None; deed = Marks Own InOrder } ∷ [] } ∷ [] } ∷
       record { asserts = settled ∷ replied ∷ []; ons = [] } ∷ [];
 }
 
@@ -118,9 +119,9 @@ racy = record {
   idle = [];
   outlines =
       record { asserts = pending ∷ []; ons = [] } ∷
-      record { asserts = pending ∷ []; ons = record { edge = Next; action = 0; arguments = []; riders = record { condition = None; deed = Marks Own } ∷ [] } ∷ [] } ∷
+      record { asserts = pending ∷ []; ons = record { edge = Next; action = 0; arguments = []; riders = record { condition = None; deed = Marks Own InOrder } ∷ [] } ∷ [] } ∷
       record { asserts = settled ∷ replied ∷ []; ons = [] } ∷
-      record { asserts = pending ∷ []; ons = record { edge = Next; action = 1; arguments = []; riders = record { condition = None; deed = Marks Own } ∷ [] } ∷ [] } ∷
+      record { asserts = pending ∷ []; ons = record { edge = Next; action = 1; arguments = []; riders = record { condition = None; deed = Marks Own InOrder } ∷ [] } ∷ [] } ∷
       record { asserts = settled ∷ replied ∷ []; ons = [] } ∷ [];
 }
 
@@ -138,7 +139,7 @@ register = record {
   specification = record {
     name = codes "reg";
     columns = record { name = codes "r"; slope = pos 0; start = pos 0 } ∷ [];
-    operations = record { name = codes "get"; arguments = []; replies = 1; branches = record { guard = is_true; updates = []; replies = rd 0 (Number (pos 0)) ∷ [] } ∷ [] } ∷ [];
+    operations = record { name = codes "get"; arguments = []; replies = 1; branches = record { label = InOrder; guard = is_true; updates = []; replies = rd 0 (Number (pos 0)) ∷ [] } ∷ [] } ∷ [];
   };
   object = record {
     name = codes "reg";
@@ -156,6 +157,6 @@ register = record {
   conjuncts = record { name = codes "tied"; formula = Eq (rd 1 (Number (pos 0))) (rd 0 (Number (pos 0))) } ∷ [];
   idle = [];
   outlines =
-      record { asserts = pending ∷ []; ons = record { edge = Next; action = 0; arguments = []; riders = record { condition = None; deed = Marks Note } ∷ [] } ∷ [] } ∷
+      record { asserts = pending ∷ []; ons = record { edge = Next; action = 0; arguments = []; riders = record { condition = None; deed = Marks Note InOrder } ∷ [] } ∷ [] } ∷
       record { asserts = pending ∷ Eq (rd 10 (Variable 1)) (Number (pos 1)) ∷ Eq (rd 11 (Variable 1)) (Variable 2) ∷ []; ons = [] } ∷ [];
 }

@@ -1,22 +1,23 @@
 -- Histories of calls and returns, and when an order linearizes one (Herlihy and Wing 1990).
 use Rattle.std.specs.Prelude.{◌≡◌, ℕ, suc, ◌<◌, Bool, true, false, ◌==◌, cond, ◌⊎◌, List, [], ◌∷◌, ◌++◌, ℤ, Option, Some, None, take, slice_get}
-use Rattle.lc_seq.specs.Sequential.{Call, Sequential, Step}
+use Rattle.lc_seq.specs.Sequential.{Call, Choice, Sequential, Step}
 
 -- a client begins a call, or its call returns with a reply
 pub data Event : Type 0 where
   Called : (client : ℕ) (call : Call) → Event
   Replied : (client : ℕ) (reply : List ℤ) → Event
 
--- an entry of an order: a client's call, with its reply
+-- an entry of an order: a client's call, how its branch is chosen, and its reply
 pub record Entry : Type 0 where
   pub client : ℕ
   pub call : Call
+  pub choice : Choice
   pub reply : List ℤ
 
--- the order replays from this state, with exactly these replies
+-- the order replays from this state under the choices that stand in it, with exactly these replies
 abbrev pub IsLegal : {A : Type 0} → Sequential A → A → List Entry → Type 0
 IsLegal step s [] = Unit {0}
-IsLegal {A} step s (e ∷ es) = (t : A) × Step step s e.client e.call t e.reply × IsLegal step t es
+IsLegal {A} step s (e ∷ es) = (t : A) × Step step s e.client e.call e.choice t e.reply × IsLegal step t es
 
 -- it is a call of this client
 abbrev pub is_call : ℕ → Event → Bool

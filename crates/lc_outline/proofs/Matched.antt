@@ -1,14 +1,15 @@
 -- What a development's specification and object agree on.
-use Rattle.std.proofs.Common.{◌≡◌, ℕ, zero, suc, ◌+◌, ◌≤◌, true, ◌&&◌, ◌==◌, if◌then◌else◌, List, [], ◌∷◌, ℤ, Some, None, Option, length, take, refl, sym, ap, ◌∙◌, subst, arith}
+use Rattle.std.proofs.Common.{◌≡◌, ℕ, zero, suc, ◌+◌, ◌≤◌, true, ◌&&◌, ◌==◌, if◌then◌else◌, List, [], ◌∷◌, ◌++◌, ℤ, Some, None, Option, length, take, refl, sym, ap, ◌∙◌, subst, arith}
 use Rattle.std.specs.Prelude.{slice_get, nat_le, option_map}
 use Rattle.std.specs.List.{list_all}
 use Rattle.std.proofs.lemmas.Bool.Decides.{nat_tests}
 use Rattle.std.proofs.lemmas.Option.{same_Some}
 use Rattle.lc_term.specs.Updates.{Write, stored_all}
 use Rattle.lc_term.specs.Meaning.{State}
-use Rattle.lc_seq.specs.Sequential.{Call}
-use Rattle.lc_seq.specs.Specification.{Branch, Operation, branch_is_resolved, operation_is_resolved, variables_of, branches_for}
+use Rattle.lc_seq.specs.Sequential.{Call, Choice, Chosen, given_in}
+use Rattle.lc_seq.specs.Specification.{Branch, Operation, branch_is_resolved, operation_is_resolved, branches_for, chosen}
 use Rattle.lc_seq.specs.Specification as Q
+use Rattle.lc_seq.proofs.Choosing.{resolved_behind, chosen-resolved, chosen-all}
 use Rattle.lc_seq.specs.TextStep.{run, call_env, text_step, outcome}
 use Rattle.lc_object.specs.Syntax as O
 use Rattle.lc_object.specs.WellFormed.{is_first, are_operations, has_limits}
@@ -25,7 +26,7 @@ use Rattle.lc_term.proofs.Stores.{if_true, same_self}
 -- ---- branches
 
 branches_all : (columns : ℕ) (found : Option Operation) → ((o : Operation) → found ≡ Some o → operation_is_resolved columns o ≡ true) →
-    list_all (branch_is_resolved columns (2 + arity_in found)) (branches_in found) ≡ true
+    list_all (resolved_behind columns (2 + arity_in found)) (branches_in found) ≡ true
 branches_all columns None h = refl
 branches_all columns (Some o) h = left_true _ _ (h o refl)
 
@@ -34,15 +35,21 @@ replies_all : (columns : ℕ) (found : Option Operation) → ((o : Operation) �
 replies_all columns None h = refl
 replies_all columns (Some o) h = right_true _ _ (h o refl)
 
-pub branches_resolved : (D : Development) → IsResolved D → (o : ℕ) →
-    list_all (branch_is_resolved (length D.specification.columns) (2 + arity D.specification.operations o)) (op_branches D.specification.operations o) ≡ true
-branches_resolved D R o = branches_all (length D.specification.columns) (slice_get D.specification.operations o)
+pub all_resolved : (D : Development) → IsResolved D → (o : ℕ) →
+    list_all (resolved_behind (length D.specification.columns) (2 + arity D.specification.operations o)) (op_branches D.specification.operations o) ≡ true
+all_resolved D R o = branches_all (length D.specification.columns) (slice_get D.specification.operations o)
     (λ x e. at_all (operation_is_resolved (length D.specification.columns)) D.specification.operations o x R.specification e)
 
-pub replies_resolved : (D : Development) → IsResolved D → (o : ℕ) →
-    list_all (λ (b : Branch). length b.replies == op_replies D.specification.operations o) (op_branches D.specification.operations o) ≡ true
-replies_resolved D R o = replies_all (length D.specification.columns) (slice_get D.specification.operations o)
-    (λ x e. at_all (operation_is_resolved (length D.specification.columns)) D.specification.operations o x R.specification e)
+pub branches_resolved : {A : Type 0} (D : Development) → IsResolved D → (o : ℕ) (by : Chosen A) →
+    list_all (branch_is_resolved (length D.specification.columns) (2 + arity D.specification.operations o + length (given_in by))) (chosen by (op_branches D.specification.operations o)) ≡ true
+branches_resolved D R o by = chosen-resolved (length D.specification.columns) (2 + arity D.specification.operations o) by (op_branches D.specification.operations o) (all_resolved D R o)
+
+pub replies_resolved : {A : Type 0} (D : Development) → IsResolved D → (o : ℕ) (by : Chosen A) →
+    list_all (λ (b : Branch). length b.replies == op_replies D.specification.operations o) (chosen by (op_branches D.specification.operations o)) ≡ true
+replies_resolved D R o by =
+    chosen-all (λ (b : Branch). length b.replies == op_replies D.specification.operations o) by (op_branches D.specification.operations o)
+    (replies_all (length D.specification.columns) (slice_get D.specification.operations o)
+    (λ x e. at_all (operation_is_resolved (length D.specification.columns)) D.specification.operations o x R.specification e))
 
 -- ---- the operation of the object and that of the specification
 
@@ -81,11 +88,11 @@ branches_with : (found : Option Operation) (n : ℕ) → n ≡ arity_in found �
 branches_with None n e = refl
 branches_with (Some o) n e = subst (λ k. (if length o.arguments == k then o.branches else []) ≡ o.branches) (sym e) (if_true (length o.arguments == length o.arguments) o.branches [] (same_self (length o.arguments)))
 
-pub stepped : (operations : List Operation) (s : State) (c : ℕ) (call : Call) (o : ℕ) (numbers : List ℤ) (ws : List Write) (vs : List ℤ) → call.op ≡ o → call.numbers ≡ numbers →
-    length call.numbers ≡ arity operations call.op → run s (call_env c numbers) (op_branches operations o) ≡ Some (ws, vs) → text_step operations s c call ≡ Some (stored_all s ws, vs)
-stepped operations s c call o numbers ws vs is same whole e =
+pub stepped : (operations : List Operation) (s : State) (c : ℕ) (call : Call) (choice : Choice) (o : ℕ) (numbers : List ℤ) (ws : List Write) (vs : List ℤ) → call.op ≡ o → call.numbers ≡ numbers →
+    length call.numbers ≡ arity operations call.op → run s (call_env c (numbers ++ given_in choice)) (chosen choice (op_branches operations o)) ≡ Some (ws, vs) → text_step operations s c call choice ≡ Some (stored_all s ws, vs)
+stepped operations s c call choice o numbers ws vs is same whole e =
     let there : branches_for operations call ≡ op_branches operations o = branches_with (slice_get operations call.op) (length call.numbers) whole ∙ ap (op_branches operations) is in
-    ap (option_map (outcome s)) ((λ i. run s (call_env c (same i)) (there i)) ∙ e)
+    ap (option_map (outcome s)) ((λ i. run s (call_env c (same i ++ given_in choice)) (chosen choice (there i))) ∙ e)
 
 -- ---- arguments are read back
 
@@ -98,4 +105,4 @@ padded_back (a ∷ b ∷ c ∷ d ∷ rest) le = absurd (omega arith)
 
 -- no guard of a specification has a quantifier
 pub grounds : (D : Development) → IsResolved D → (p : ℕ) → AreGround (op_branches D.specification.operations p)
-grounds D R p = ground_from (length D.specification.columns) (2 + arity D.specification.operations p) (op_branches D.specification.operations p) (branches_resolved D R p)
+grounds D R p = ground_from (length D.specification.columns) (2 + arity D.specification.operations p) (op_branches D.specification.operations p) (all_resolved D R p)

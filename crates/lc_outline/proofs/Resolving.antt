@@ -71,7 +71,7 @@ module _ (D : Development) where
 
   deed : (o : ℕ) (d : Deed) → deed_is_resolved D o d ≡ true → IsDeedResolved D o d
   deed o (Assign u) h = auxiliary u.column h
-  deed o (Marks k) h = nonempty _ h
+  deed o (Marks k by) h = nonempty _ h
 
   condition : (f : Option Formula) → condition_is_resolved f ≡ true → IsConditionResolved f
   condition None h = tt

@@ -6,7 +6,7 @@ use Rattle.lc_term.specs.Syntax.{Term, Formula}
 use Rattle.lc_term.specs.Places.{Test, term_passes, passes}
 use Rattle.lc_term.specs.Truth.{is_ground}
 use Rattle.lc_seq.specs.Specification as Q
-use Rattle.lc_seq.specs.Specification.{operation_is_resolved}
+use Rattle.lc_seq.specs.Specification.{operation_is_resolved, chosen}
 use Rattle.lc_object.specs.Syntax as O
 use Rattle.lc_object.specs.Edges.{Edge, edges}
 use Rattle.lc_object.specs.WellFormed.{is_object, variable_count}
@@ -48,7 +48,7 @@ IsAuxiliary D c = (length D.specification.columns + length D.object.concretes �
 
 abbrev pub IsDeedResolved : Development → ℕ → Deed → Type 0
 IsDeedResolved D o (Assign u) = IsAuxiliary D u.column
-IsDeedResolved D o (Marks k) = IsNonempty (op_branches D.specification.operations (marked_op o k))
+IsDeedResolved D o (Marks k by) = IsNonempty (chosen by (op_branches D.specification.operations (marked_op o k)))
 
 abbrev pub IsConditionResolved : Option Formula → Type 0
 IsConditionResolved None = Unit {0}
@@ -113,7 +113,7 @@ is_auxiliary D c = nat_le (length D.specification.columns + length D.object.conc
 
 abbrev pub deed_is_resolved : Development → ℕ → Deed → Bool
 deed_is_resolved D o (Assign u) = is_auxiliary D u.column
-deed_is_resolved D o (Marks k) = has_some (op_branches D.specification.operations (marked_op o k))
+deed_is_resolved D o (Marks k by) = has_some (chosen by (op_branches D.specification.operations (marked_op o k)))
 
 abbrev pub condition_is_resolved : Option Formula → Bool
 condition_is_resolved None = true

@@ -14,12 +14,14 @@ use Rattle.lc_term.proofs.Truth.{Decides-truth}
 use Rattle.lc_term.proofs.Stores.{Every-append, Every-map, Every_left, Every_right, if_true, if_false, stored-append, writes_other, writes_away, cell_indexes}
 use Rattle.lc_term.proofs.Symbolic.{columns_by-put, columns_by-after, write-said, value-said, Holds-told, each_left, each_right}
 use Rattle.lc_seq.specs.Branches.{op_branches}
-use Rattle.lc_seq.specs.Specification.{Branch, Operation}
+use Rattle.lc_seq.specs.Sequential.{Chosen, Choice}
+use Rattle.lc_seq.specs.Specification.{Branch, Operation, chosen}
 use Rattle.lc_seq.specs.TextStep.{run, call_env}
 use Rattle.lc_rider.specs.Rider.{Mark, Marking, Own, Other, Note, Deed, Assign, Marks, Rider, arguments_in, IsSettled, IsNoted, IsDone, IsDoneWhere, RideAll, mark_writes, note_writes}
 use Rattle.lc_rider.specs.Paths.{Path, Duty, observing_duty, is_empty, with_fact, mark_variables, mark_updates, marked_op, mark_duties, branch_paths, deed_paths, deed_paths_where, rider_paths, paths}
 use Rattle.lc_rider.specs.PathLaws.{AreGround, OnlyClients, LeavesCalls, DeedLeavesCalls, PathsAreTaken}
-use Rattle.lc_rider.proofs.Riding.{v, st, Facts, Lawful, be, branch_env_is, client, with_duties, settled_writes, noted_writes}
+use Rattle.lc_seq.proofs.Choosing.{chosen-map, chosen-every}
+use Rattle.lc_rider.proofs.Riding.{v, st, Facts, Lawful, be, terms, choice, branches, branches_ground, marked_env, marked_env_is, client, with_duties, settled_writes, noted_writes}
 
 -- ---- lists
 
@@ -94,14 +96,27 @@ module _ (ops : List Operation) (first : ℕ) (grounds : (p : ℕ) → AreGround
   abbrev V : Env
   V = v ops first grounds s e τ
 
-  abbrev B : ℕ → Path → Term → Env
-  B p q c = be ops first grounds s e τ p q c
+  abbrev B : ℕ → Path → Term → List Term → Env
+  B p q c ts = be ops first grounds s e τ p q c ts
+
+  -- the terms of a choice, its numbers, and the branches that it leaves
+  abbrev T : Chosen Term → Path → List Term
+  T by q = terms ops first grounds s e τ by q
+
+  abbrev H : Chosen Term → Path → Choice
+  H by q = choice ops first grounds s e τ by q
+
+  abbrev Bs : ℕ → Chosen Term → List Branch
+  Bs p by = branches ops first grounds s e τ p by
+
+  abbrev E : ℕ → ℕ → Chosen Term → Path → Env
+  E p x by q = marked_env ops first grounds s e τ p x by q
 
   abbrev C : Marking → Path → Term
   C k q = client ops first grounds s e τ k q
 
-  abbrev W : ℕ → Marking → ℕ → Path → Term → Path
-  W j k p q c = with_duties ops first grounds s e τ j k p q c
+  abbrev W : ℕ → Marking → ℕ → Chosen Term → Path → Term → Path
+  W j k p by q c = with_duties ops first grounds s e τ j k p by q c
 
   -- what is lawful on these is lawful on p
   abbrev Behind : Path → List Path → Type 0
@@ -110,28 +125,29 @@ module _ (ops : List Operation) (first : ℕ) (grounds : (p : ℕ) → AreGround
   less_facts : (p : Path) (f : Formula) → L (with_fact p f) → L p
   less_facts p f h = (each_left s e p.facts (f ∷ []) h.0, h.1)
 
-  branches_behind : (j o : ℕ) (k : Marking) (c : Term) (bs : List Branch) (p : Path) → Behind p (branch_paths ops first j o k c bs p)
-  branches_behind j o k c [] p = tt
-  branches_behind j o k c (b ∷ bs) p =
-      let g = told p.columns (mark_variables ops first o p c) b.guard in (
+  branches_behind : (j o : ℕ) (k : Marking) (c : Term) (ts : List Term) (bs : List Branch) (p : Path) → Behind p (branch_paths ops first j o k c ts bs p)
+  branches_behind j o k c ts [] p = tt
+  branches_behind j o k c ts (b ∷ bs) p =
+      let g = told p.columns (mark_variables ops first o p c ts) b.guard in (
         (λ h. (each_left s e p.facts (g ∷ []) h.0, Every_left Met p.duties (observing_duty ops first j k (p.facts ++ g ∷ []) b) h.1)),
-        Every-map (λ (x : Path). L x → L (with_fact p (Not g))) (λ (x : Path). L x → L p) (branch_paths ops first j o k c bs (with_fact p (Not g)))
-            (λ x f a. less_facts p (Not g) (f a)) (branches_behind j o k c bs (with_fact p (Not g))),
+        Every-map (λ (x : Path). L x → L (with_fact p (Not g))) (λ (x : Path). L x → L p) (branch_paths ops first j o k c ts bs (with_fact p (Not g)))
+            (λ x f a. less_facts p (Not g) (f a)) (branches_behind j o k c ts bs (with_fact p (Not g))),
       )
 
-  owing_behind : (j : ℕ) (k : Marking) (o : ℕ) (q : Path) (c : Term) → L (W j k o q c) → L q
-  owing_behind j k o q c h = (h.0, Every_left Met q.duties (mark_duties ops first j o k q c (op_branches ops o)) h.1)
+  owing_behind : (j : ℕ) (k : Marking) (o : ℕ) (by : Chosen Term) (q : Path) (c : Term) → L (W j k o by q c) → L q
+  owing_behind j k o by q c h = (h.0, Every_left Met q.duties (mark_duties ops first j o k q c (T by q) (Bs o by)) h.1)
 
-  mark_behind : (j o : ℕ) (k : Marking) (q : Path) → Behind q (branch_paths ops first j (marked_op o k) k (C k q) (op_branches ops (marked_op o k)) (W j k (marked_op o k) q (C k q)))
-  mark_behind j o k q =
-      let bs = op_branches ops (marked_op o k) in
-      let w = W j k (marked_op o k) q (C k q) in
-      Every-map (λ (x : Path). L x → L w) (λ (x : Path). L x → L q) (branch_paths ops first j (marked_op o k) k (C k q) bs w)
-      (λ x f a. owing_behind j k (marked_op o k) q (C k q) (f a)) (branches_behind j (marked_op o k) k (C k q) bs w)
+  mark_behind : (j o : ℕ) (k : Marking) (by : Chosen Term) (q : Path) → Behind q (branch_paths ops first j (marked_op o k) k (C k q) (T by q) (Bs (marked_op o k) by) (W j k (marked_op o k) by q (C k q)))
+  mark_behind j o k by q =
+      let ts = T by q in
+      let bs = Bs (marked_op o k) by in
+      let w = W j k (marked_op o k) by q (C k q) in
+      Every-map (λ (x : Path). L x → L w) (λ (x : Path). L x → L q) (branch_paths ops first j (marked_op o k) k (C k q) ts bs w)
+      (λ x f a. owing_behind j k (marked_op o k) by q (C k q) (f a)) (branches_behind j (marked_op o k) k (C k q) ts bs w)
 
   deed_behind : (j o : ℕ) (d : Deed) (q : Path) → Behind q (deed_paths ops first j o τ d q)
   deed_behind j o (Assign u) q = ((λ h. h), tt)
-  deed_behind j o (Marks k) q = mark_behind j o k q
+  deed_behind j o (Marks k by) q = mark_behind j o k by q
 
   way_behind : (c : Option Formula) (j o : ℕ) (d : Deed) (q : Path) → Behind q (deed_paths_where ops first c j o τ d q)
   way_behind None j o d q = deed_behind j o d q
@@ -167,30 +183,30 @@ module _ (ops : List Operation) (first : ℕ) (grounds : (p : ℕ) → AreGround
   observes j (Other t o) fs b h = tt
   observes j Note fs b h = no_updates b.updates h.0
 
-  record Chosen (k : Marking) (m : State) (a : Env) (bs : List Branch) (y : Path) : Type 0 where
+  record IsTaken (k : Marking) (m : State) (a : Env) (bs : List Branch) (y : Path) : Type 0 where
     branch : Branch
     among : IsIn branch bs
     runs : run m a bs ≡ Some (writes_of m a branch.updates, values_of m a branch.replies)
     columns : S y ≡ stored_all m (writes_of m a (mark_updates first k branch))
     observing : IsObserving k branch
 
-  chosen : (j p : ℕ) (k : Marking) (c : Term) (bs : List Branch) (q y : Path) (a : Env) → AreGround bs → B p q c ≡ a → L y → IsIn y (branch_paths ops first j p k c bs q) → Chosen k (S q) a bs y
-  chosen j p k c [] q y a g h lawful among = absurd among
-  chosen j p k c (b ∷ bs) q y a g h lawful among =
-      by among (λ later. chosen j p k c bs (with_fact q (Not (told q.columns (mark_variables ops first p q c) b.guard))) y a g.1 h lawful later)
+  taking : (j p : ℕ) (k : Marking) (c : Term) (ts : List Term) (bs : List Branch) (q y : Path) (a : Env) → AreGround bs → B p q c ts ≡ a → L y → IsIn y (branch_paths ops first j p k c ts bs q) → IsTaken k (S q) a bs y
+  taking j p k c ts [] q y a g h lawful among = absurd among
+  taking j p k c ts (b ∷ bs) q y a g h lawful among =
+      by among (λ later. taking j p k c ts bs (with_fact q (Not (told q.columns (mark_variables ops first p q c ts) b.guard))) y a g.1 h lawful later)
     where
       guard : Formula
-      guard = told q.columns (mark_variables ops first p q c) b.guard
+      guard = told q.columns (mark_variables ops first p q c ts) b.guard
 
       tells : Holds s e outside guard ≡ Holds (S q) a outside b.guard
-      tells = Holds-told s e q.columns (mark_variables ops first p q c) b.guard ∙ (λ i. Holds (S q) (h i) outside b.guard)
+      tells = Holds-told s e q.columns (mark_variables ops first p q c ts) b.guard ∙ (λ i. Holds (S q) (h i) outside b.guard)
 
       d : (truth (S q) a outside b.guard ≡ true → Holds (S q) a outside b.guard) × (Holds (S q) a outside b.guard → truth (S q) a outside b.guard ≡ true)
       d = Decides-truth (S q) a outside b.guard g.0
 
       here : Path
       here = record {
-        columns = Rattle.lc_term.specs.Said.after q.columns (mark_variables ops first p q c) (mark_updates first k b);
+        columns = Rattle.lc_term.specs.Said.after q.columns (mark_variables ops first p q c ts) (mark_updates first k b);
         facts = q.facts ++ guard ∷ [];
         duties = q.duties ++ observing_duty ops first j k (q.facts ++ guard ∷ []) b;
       }
@@ -202,20 +218,20 @@ module _ (ops : List Operation) (first : ℕ) (grounds : (p : ℕ) → AreGround
       is_false true z never = absurd (never (subst (λ X. X) (sym tells) (d.0 z)))
       is_false false z never = z
 
-      by : (y ≡ here) ⊎ IsIn y (branch_paths ops first j p k c bs (with_fact q (Not guard))) →
-          (IsIn y (branch_paths ops first j p k c bs (with_fact q (Not guard))) → Chosen k (S q) a bs y) → Chosen k (S q) a (b ∷ bs) y
+      by : (y ≡ here) ⊎ IsIn y (branch_paths ops first j p k c ts bs (with_fact q (Not guard))) →
+          (IsIn y (branch_paths ops first j p k c ts bs (with_fact q (Not guard))) → IsTaken k (S q) a bs y) → IsTaken k (S q) a (b ∷ bs) y
       by (inl is) go =
           let l : L here = subst L is lawful in
           record {
             branch = b;
             among = inl refl;
             runs = if_true (truth (S q) a outside b.guard) _ (run (S q) a bs) (is_true (each_right s e q.facts (guard ∷ []) l.0).0);
-            columns = ap S is ∙ (columns_by-after s e q.columns (mark_variables ops first p q c) (mark_updates first k b) ∙ (λ i. stored_all (S q) (writes_of (S q) (h i) (mark_updates first k b))));
+            columns = ap S is ∙ (columns_by-after s e q.columns (mark_variables ops first p q c ts) (mark_updates first k b) ∙ (λ i. stored_all (S q) (writes_of (S q) (h i) (mark_updates first k b))));
             observing = observes j k (q.facts ++ guard ∷ []) b (Every_right Met q.duties _ l.1);
           }
       by (inr later) go =
           let x = go later in
-          let behind : L (with_fact q (Not guard)) = Every-in (λ (z : Path). L z → L (with_fact q (Not guard))) (branch_paths ops first j p k c bs (with_fact q (Not guard))) y (branches_behind j p k c bs (with_fact q (Not guard))) later lawful in
+          let behind : L (with_fact q (Not guard)) = Every-in (λ (z : Path). L z → L (with_fact q (Not guard))) (branch_paths ops first j p k c ts bs (with_fact q (Not guard))) y (branches_behind j p k c ts bs (with_fact q (Not guard))) later lawful in
           record {
             branch = x.branch;
             among = inr x.among;
@@ -233,63 +249,66 @@ module _ (ops : List Operation) (first : ℕ) (grounds : (p : ℕ) → AreGround
     only : OnlyClients first (S y)
 
   module _ (leave : (p : ℕ) → Every (λ (b : Branch). LeavesCalls first b.updates) (op_branches ops p)) where
-    settle : (j p x : ℕ) (k : Marking) (q y : Path) →
+    settle : (j p x : ℕ) (k : Marking) (by : Chosen Term) (q y : Path) →
         ((b : Branch) → mark_updates first k b ≡ b.updates ++ (at_client (rep_columns first) b.replies ++ at_client (pend first ∷ []) (Number (pos 2) ∷ []))) →
         value s e outside (C k q) ≡ pos x → L y → OnlyClients first (S q) → S q (pend first) (value s e outside (C k q)) ≡ pos 1 →
-        IsIn y (branch_paths ops first j p k (C k q) (op_branches ops p) (W j k p q (C k q))) → Ridden y (λ ms m. IsSettled ops first (S q) x p ms m)
-    settle j p x k q y upd is lawful only one among =
-        let a : Env = call_env x (arguments_in ops first (S q) x p) in
-        let t = chosen j p k (C k q) (op_branches ops p) (W j k p q (C k q)) y a (grounds p) (branch_env_is ops first grounds s e τ p x q (C k q) is) lawful among in
+        IsIn y (branch_paths ops first j p k (C k q) (T by q) (Bs p by) (W j k p by q (C k q))) → Ridden y (λ ms m. IsSettled ops first (S q) x p (H by q) ms m)
+    settle j p x k by q y upd is lawful only one among =
+        let a : Env = E p x by q in
+        let back = ap (run (S q) a) (chosen-map (value (S q) V outside) by (op_branches ops p)) in
+        let t = taking j p k (C k q) (T by q) (Bs p by) (W j k p by q (C k q)) y a (branches_ground ops first grounds s e τ p by) (marked_env_is ops first grounds s e τ p x by q (C k q) is) lawful among in
         let ws : List Write = writes_of (S q) a (t.branch).updates in
         let reply : List ℤ = values_of (S q) a (t.branch).replies in
         let here : S y ≡ stored_all (S q) (ws ++ mark_writes first x reply) =
         t.columns ∙ (ap (λ us. stored_all (S q) (writes_of (S q) a us)) (upd t.branch) ∙ ap (stored_all (S q)) (settled_writes ops first grounds s e τ (S q) x a t.branch refl)) in
         record {
-          marks = record { client = x; note = false; reply = reply } ∷ [];
-          is = (ws, reply, subst (λ i. S q (pend first) i ≡ pos 1) is one, t.runs, refl, here);
+          marks = record { client = x; note = false; choice = H by q; reply = reply } ∷ [];
+          is = (ws, reply, subst (λ i. S q (pend first) i ≡ pos 1) is one, back ∙ t.runs, refl, here);
           only = subst (OnlyClients first) (sym here)
-              (only_after first x (S q) ws (mark_writes first x reply) only (writes_leave first (S q) a (t.branch).updates (Every-in (λ (b : Branch). LeavesCalls first b.updates) (op_branches ops p) t.branch (leave p) t.among)) (mark_at first x reply));
+              (only_after first x (S q) ws (mark_writes first x reply) only (writes_leave first (S q) a (t.branch).updates (Every-in (λ (b : Branch). LeavesCalls first b.updates) (Bs p by) t.branch (chosen-every (λ (b : Branch). LeavesCalls first b.updates) by (op_branches ops p) (leave p)) t.among)) (mark_at first x reply));
         }
 
-    note : (j p x : ℕ) (q y : Path) → value s e outside (C Note q) ≡ pos x → L y → OnlyClients first (S q) → S q (pend first) (value s e outside (C Note q)) ≡ pos 1 →
-        IsIn y (branch_paths ops first j p Note (C Note q) (op_branches ops p) (W j Note p q (C Note q))) → Ridden y (λ ms m. IsNoted ops first (S q) x p ms m)
-    note j p x q y is lawful only one among =
-        let a : Env = call_env x (arguments_in ops first (S q) x p) in
-        let t = chosen j p Note (C Note q) (op_branches ops p) (W j Note p q (C Note q)) y a (grounds p) (branch_env_is ops first grounds s e τ p x q (C Note q) is) lawful among in
+    note : (j p x : ℕ) (by : Chosen Term) (q y : Path) → value s e outside (C Note q) ≡ pos x → L y → OnlyClients first (S q) → S q (pend first) (value s e outside (C Note q)) ≡ pos 1 →
+        IsIn y (branch_paths ops first j p Note (C Note q) (T by q) (Bs p by) (W j Note p by q (C Note q))) → Ridden y (λ ms m. IsNoted ops first (S q) x p (H by q) ms m)
+    note j p x by q y is lawful only one among =
+        let a : Env = E p x by q in
+        let back = ap (run (S q) a) (chosen-map (value (S q) V outside) by (op_branches ops p)) in
+        let t = taking j p Note (C Note q) (T by q) (Bs p by) (W j Note p by q (C Note q)) y a (branches_ground ops first grounds s e τ p by) (marked_env_is ops first grounds s e τ p x by q (C Note q) is) lawful among in
         let reply : List ℤ = values_of (S q) a (t.branch).replies in
         let here : S y ≡ stored_all (S q) (note_writes first x reply) = t.columns ∙ ap (stored_all (S q)) (noted_writes ops first grounds s e τ (S q) x a t.branch refl) in
         record {
-          marks = record { client = x; note = true; reply = reply } ∷ [];
-          is = (reply, subst (λ i. S q (pend first) i ≡ pos 1) is one, t.runs ∙ ap (λ us. Some (writes_of (S q) a us, reply)) t.observing, refl, here);
+          marks = record { client = x; note = true; choice = H by q; reply = reply } ∷ [];
+          is = (reply, subst (λ i. S q (pend first) i ≡ pos 1) is one, back ∙ (t.runs ∙ ap (λ us. Some (writes_of (S q) a us, reply)) t.observing), refl, here);
           only = subst (OnlyClients first) (sym here) (only_after first x (S q) [] (note_writes first x reply) only tt (note_at first x reply));
         }
 
     -- the duties of a mark, where a path behind it is lawful
-    owed : (j o : ℕ) (k : Marking) (q y : Path) → L y → IsIn y (branch_paths ops first j (marked_op o k) k (C k q) (op_branches ops (marked_op o k)) (W j k (marked_op o k) q (C k q))) →
-        Every Met (mark_duties ops first j (marked_op o k) k q (C k q) (op_branches ops (marked_op o k)))
-    owed j o k q y lawful among =
-        let w = W j k (marked_op o k) q (C k q) in
-        let bs = op_branches ops (marked_op o k) in
-        let l : L w = Every-in (λ (z : Path). L z → L w) (branch_paths ops first j (marked_op o k) k (C k q) bs w) y (branches_behind j (marked_op o k) k (C k q) bs w) among lawful in
-        Every_right Met q.duties (mark_duties ops first j (marked_op o k) k q (C k q) bs) l.1
+    owed : (j o : ℕ) (k : Marking) (by : Chosen Term) (q y : Path) → L y → IsIn y (branch_paths ops first j (marked_op o k) k (C k q) (T by q) (Bs (marked_op o k) by) (W j k (marked_op o k) by q (C k q))) →
+        Every Met (mark_duties ops first j (marked_op o k) k q (C k q) (T by q) (Bs (marked_op o k) by))
+    owed j o k by q y lawful among =
+        let w = W j k (marked_op o k) by q (C k q) in
+        let ts = T by q in
+      let bs = Bs (marked_op o k) by in
+        let l : L w = Every-in (λ (z : Path). L z → L w) (branch_paths ops first j (marked_op o k) k (C k q) ts bs w) y (branches_behind j (marked_op o k) k (C k q) ts bs w) among lawful in
+        Every_right Met q.duties (mark_duties ops first j (marked_op o k) k q (C k q) ts bs) l.1
 
     module _ (self o : ℕ) (mine : V 1 ≡ pos self) where
-      other : (j p : ℕ) (t : Term) (q y : Path) → L y → OnlyClients first (S q) →
-          IsIn y (branch_paths ops first j p (Other t p) (C (Other t p) q) (op_branches ops p) (W j (Other t p) p q (C (Other t p) q))) →
-          Ridden y (λ ms m. IsDone ops first self o V (S q) (Marks (Other t p)) ms m)
-      other j p t q y lawful only among = by (only (value s e outside (C (Other t p) q)))
+      other : (j p : ℕ) (t : Term) (by : Chosen Term) (q y : Path) → L y → OnlyClients first (S q) →
+          IsIn y (branch_paths ops first j p (Other t p) (C (Other t p) q) (T by q) (Bs p by) (W j (Other t p) p by q (C (Other t p) q))) →
+          Ridden y (λ ms m. IsDone ops first self o V (S q) (Marks (Other t p) by) ms m)
+      other j p t by q y lawful only among = go (only (value s e outside (C (Other t p) q)))
         where
-          duties : Every Met (mark_duties ops first j p (Other t p) q (C (Other t p) q) (op_branches ops p))
-          duties = owed j o (Other t p) q y lawful among
+          duties : Every Met (mark_duties ops first j p (Other t p) q (C (Other t p) q) (T by q) (Bs p by))
+          duties = owed j o (Other t p) by q y lawful among
 
           told-value : value s e outside (C (Other t p) q) ≡ value (S q) V outside t
           told-value = value-said s e q.columns τ t
 
-          by : (S q (pend first) (value s e outside (C (Other t p) q)) ≡ pos 0) ⊎ ((x : ℕ) × (value s e outside (C (Other t p) q) ≡ pos x)) →
-              Ridden y (λ ms m. IsDone ops first self o V (S q) (Marks (Other t p)) ms m)
-          by (inl z) = let one : S q (pend first) (value s e outside (C (Other t p) q)) ≡ pos 1 = duties.0 in absurd (omega (arith, ints, z, one))
-          by (inr (x, is)) =
-              let r = settle j p x (Other t p) q y (λ b. refl) is lawful only duties.0 among in
+          go : (S q (pend first) (value s e outside (C (Other t p) q)) ≡ pos 0) ⊎ ((x : ℕ) × (value s e outside (C (Other t p) q) ≡ pos x)) →
+              Ridden y (λ ms m. IsDone ops first self o V (S q) (Marks (Other t p) by) ms m)
+          go (inl z) = let one : S q (pend first) (value s e outside (C (Other t p) q)) ≡ pos 1 = duties.0 in absurd (omega (arith, ints, z, one))
+          go (inr (x, is)) =
+              let r = settle j p x (Other t p) by q y (λ b. refl) is lawful only duties.0 among in
               record {
                 marks = r.marks;
                 is = (x, sym told-value ∙ is, subst (λ i. S q (op_column first) i ≡ pos p) is duties.1.0, r.is);
@@ -305,11 +324,11 @@ module _ (ops : List Operation) (first : ℕ) (grounds : (p : ℕ) → AreGround
             only = λ i. subst (λ z. (z ≡ pos 0) ⊎ ((c : ℕ) × (i ≡ pos c))) (sym ((λ k. here k (pend first) i) ∙ (λ k. writes_other (S q) (write_of (S q) V u ∷ []) (pend first) (h.0, tt) k i))) (only i);
           }
       ride_deed j (Assign u) q y h lawful only (inr none) = absurd none
-      ride_deed j (Marks Own) q y h lawful only among =
-          settle j o self Own q y (λ b. refl) (value-said s e q.columns τ (Variable 1) ∙ mine) lawful only (owed j o Own q y lawful among).0 among
-      ride_deed j (Marks (Other t p)) q y h lawful only among = other j p t q y lawful only among
-      ride_deed j (Marks Note) q y h lawful only among =
-          note j o self q y (value-said s e q.columns τ (Variable 1) ∙ mine) lawful only (owed j o Note q y lawful among).0 among
+      ride_deed j (Marks Own by) q y h lawful only among =
+          settle j o self Own by q y (λ b. refl) (value-said s e q.columns τ (Variable 1) ∙ mine) lawful only (owed j o Own by q y lawful among).0 among
+      ride_deed j (Marks (Other t p) by) q y h lawful only among = other j p t by q y lawful only among
+      ride_deed j (Marks Note by) q y h lawful only among =
+          note j o self by q y (value-said s e q.columns τ (Variable 1) ∙ mine) lawful only (owed j o Note by q y lawful among).0 among
 
       ride_way : (j : ℕ) (c : Option Formula) (d : Deed) (q y : Path) → DeedLeavesCalls first d → L y → OnlyClients first (S q) → IsIn y (deed_paths_where ops first c j o τ d q) →
           Ridden y (λ ms m. IsDoneWhere ops first c self o V (S q) d ms m)

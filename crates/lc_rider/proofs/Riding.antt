@@ -8,10 +8,12 @@ use Rattle.lc_term.specs.Updates.{Update, Write, stored_all, write_of, writes_of
 use Rattle.lc_term.specs.Syntax.{formulas, Term, Number, Variable, Formula, Not}
 use Rattle.lc_term.specs.Meaning.{NoneHolds, State, Env, outside, value, Holds, EachHolds}
 use Rattle.lc_term.specs.Replacement.{replacing, replace_term}
-use Rattle.lc_term.specs.Truth.{truth}
+use Rattle.lc_term.specs.Truth.{is_ground, truth}
 use Rattle.lc_term.proofs.Truth.{Decides-truth}
-use Rattle.lc_seq.specs.Specification.{Branch, Operation, branch_is_resolved}
+use Rattle.lc_seq.specs.Sequential.{Chosen, Choice, given_in, choose_map}
+use Rattle.lc_seq.specs.Specification.{Branch, Operation, branch_is_resolved, chosen}
 use Rattle.lc_seq.specs.TextStep.{run, call_env}
+use Rattle.lc_seq.proofs.Choosing.{chosen-map, given-map, chosen-every, resolved_behind}
 use Rattle.lc_term.specs.Lists.{Every, concat_map, numbered, concat_places}
 use Rattle.lc_term.proofs.Tests.{left_true, right_true}
 use Rattle.lc_seq.specs.Branches.{op_branches, arity}
@@ -36,9 +38,9 @@ pub Every-numbered : {A B : Type 0} (P : B → Type 0) (f : ℕ → A → B) (j 
 Every-numbered P f j [] p = tt
 Every-numbered P f j (x ∷ xs) p = ((j, p.0), Every-numbered P f (suc j) xs p.1)
 
-pub ground_from : (n vars : ℕ) (bs : List Branch) → list_all (branch_is_resolved n vars) bs ≡ true → AreGround bs
+pub ground_from : (n vars : ℕ) (bs : List Branch) → list_all (resolved_behind n vars) bs ≡ true → AreGround bs
 ground_from n vars [] h = tt
-ground_from n vars (b ∷ bs) h = (left_true _ _ (left_true _ _ (left_true (branch_is_resolved n vars b) (list_all (branch_is_resolved n vars) bs) h)), ground_from n vars bs (right_true (branch_is_resolved n vars b) _ h))
+ground_from n vars (b ∷ bs) h = (left_true _ _ (left_true _ _ (left_true (resolved_behind n vars b) (list_all (resolved_behind n vars) bs) h)), ground_from n vars bs (right_true (resolved_behind n vars b) _ h))
 
 -- the variables of a call, as numbers in order
 call_variables : (x : ℕ) (ns : List ℤ) → call_env x ns ≡ variable (pos 0 ∷ pos x ∷ ns)
@@ -71,15 +73,48 @@ module _ (ops : List Operation) (first : ℕ) (grounds : (p : ℕ) → AreGround
   one_more fs f h g = each-append s e fs (f ∷ []) h (g, tt)
 
   -- the variables of a branch at a call of the client that the term c says
-  abbrev pub be : ℕ → Path → Term → Env
-  be p q c = variable (values_by s e (mark_variables ops first p q c))
+  abbrev pub be : ℕ → Path → Term → List Term → Env
+  be p q c ts = variable (values_by s e (mark_variables ops first p q c ts))
 
-  pub branch_env_is : (p x : ℕ) (q : Path) (c : Term) → value s e outside c ≡ pos x → be p q c ≡ call_env x (arguments_in ops first (st q) x p)
-  branch_env_is p x q c h =
+  pub branch_env_is : (p x : ℕ) (q : Path) (c : Term) (ts : List Term) → value s e outside c ≡ pos x → be p q c ts ≡ call_env x (arguments_in ops first (st q) x p ++ values_by s e ts)
+  branch_env_is p x q c ts h =
       let args : values_by s e (take (arity ops p) (Rattle.lc_term.specs.Said.reads q.columns (arg_columns first) c)) ≡ arguments_in ops first (st q) x p =
       sym (take-map (value s e outside) (arity ops p) (Rattle.lc_term.specs.Said.reads q.columns (arg_columns first) c))
       ∙ (ap (take (arity ops p)) (values_of_reads s e q.columns (arg_columns first) c) ∙ ap (λ i. take (arity ops p) (row (st q) (arg_columns first) i)) h) in
-      (λ i. variable (pos 0 ∷ h i ∷ args i)) ∙ sym (call_variables x (arguments_in ops first (st q) x p))
+      (λ i. variable (pos 0 ∷ h i ∷ map-append (value s e outside) (take (arity ops p) (Rattle.lc_term.specs.Said.reads q.columns (arg_columns first) c)) ts i))
+      ∙ ((λ i. variable (pos 0 ∷ pos x ∷ args i ++ values_by s e ts)) ∙ sym (call_variables x (arguments_in ops first (st q) x p ++ values_by s e ts)))
+
+  -- the terms of a choice, and that their numbers are those that are chosen
+  abbrev pub terms : Chosen Term → Path → List Term
+  terms by q = map (replace_term (replacing q.columns (term_at τ))) (given_in by)
+
+  abbrev pub choice : Chosen Term → Path → Choice
+  choice by q = choose_map (value (st q) v outside) by
+
+  terms_said : (ts : List Term) (q : Path) → values_by s e (map (replace_term (replacing q.columns (term_at τ))) ts) ≡ map (value (st q) v outside) ts
+  terms_said [] q = refl
+  terms_said (t ∷ ts) q = ap₂ (λ x xs. x ∷ xs) (value-said s e q.columns τ t) (terms_said ts q)
+
+  pub terms_are : (by : Chosen Term) (q : Path) → values_by s e (terms by q) ≡ given_in (choice by q)
+  terms_are by q = terms_said (given_in by) q ∙ sym (given-map (value (st q) v outside) by)
+
+  -- the variables of a branch at a marked call, and the branches that its choice leaves
+  abbrev pub marked_env : ℕ → ℕ → Chosen Term → Path → Env
+  marked_env p x by q = call_env x (arguments_in ops first (st q) x p ++ given_in (choice by q))
+
+  abbrev pub branches : ℕ → Chosen Term → List Branch
+  branches p by = chosen by (op_branches ops p)
+
+  pub branches_ground : (p : ℕ) (by : Chosen Term) → AreGround (branches p by)
+  branches_ground p by = chosen-every (λ (b : Branch). is_ground b.guard ≡ true) by (op_branches ops p) (grounds p)
+
+  pub marked_env_is : (p x : ℕ) (by : Chosen Term) (q : Path) (c : Term) → value s e outside c ≡ pos x → be p q c (terms by q) ≡ marked_env p x by q
+  marked_env_is p x by q c h = branch_env_is p x q c (terms by q) h ∙ (λ i. call_env x (arguments_in ops first (st q) x p ++ terms_are by q i))
+
+  -- the choice leaves the same branches by its terms and by their numbers
+  pub run_chosen : (p x : ℕ) (by : Chosen Term) (q : Path) (r : Option (List Write × List ℤ)) →
+      run (st q) (marked_env p x by q) (chosen (choice by q) (op_branches ops p)) ≡ r → run (st q) (marked_env p x by q) (branches p by) ≡ r
+  run_chosen p x by q r is = ap (run (st q) (marked_env p x by q)) (sym (chosen-map (value (st q) v outside) by (op_branches ops p))) ∙ is
 
   -- ---- what is stored
 
@@ -125,19 +160,19 @@ module _ (ops : List Operation) (first : ℕ) (grounds : (p : ℕ) → AreGround
       none [] h = tt
       none (u ∷ us) h = absurd (cc h)
 
-  branch_along : (P : Path → Type 0) (j p : ℕ) (k : Marking) (c : Term) (bs : List Branch) (q : Path) (a : Env) (ws : List Write) (reply : List ℤ) → AreGround bs → Quiet k ws → be p q c ≡ a → Lawful q →
-      run (st q) a bs ≡ Some (ws, reply) → Every P (branch_paths ops first j p k c bs q) → Taken P k (st q) a ws reply
-  branch_along P j p k c [] q a ws reply g quiet h f is r = absurd cc
-  branch_along P j p k c (b ∷ bs) q a ws reply g quiet h f is r =
+  branch_along : (P : Path → Type 0) (j p : ℕ) (k : Marking) (c : Term) (ts : List Term) (bs : List Branch) (q : Path) (a : Env) (ws : List Write) (reply : List ℤ) → AreGround bs → Quiet k ws → be p q c ts ≡ a → Lawful q →
+      run (st q) a bs ≡ Some (ws, reply) → Every P (branch_paths ops first j p k c ts bs q) → Taken P k (st q) a ws reply
+  branch_along P j p k c ts [] q a ws reply g quiet h f is r = absurd cc
+  branch_along P j p k c ts (b ∷ bs) q a ws reply g quiet h f is r =
       by (truth (st q) a outside b.guard) refl is
-      (λ e' is'. branch_along P j p k c bs (with_fact q (Not (told q.columns (mark_variables ops first p q c) b.guard))) a ws reply g.1 quiet h (
-        one_more q.facts (Not (told q.columns (mark_variables ops first p q c) b.guard)) f.0
+      (λ e' is'. branch_along P j p k c ts bs (with_fact q (Not (told q.columns (mark_variables ops first p q c ts) b.guard))) a ws reply g.1 quiet h (
+        one_more q.facts (Not (told q.columns (mark_variables ops first p q c ts) b.guard)) f.0
             (λ x. Rattle.std.proofs.Common.true≢false (sym (d.1 (subst (λ X. X) tells x)) ∙ e')),
         f.1,
       ) is' r.1)
     where
-      tells : Holds s e outside (told q.columns (mark_variables ops first p q c) b.guard) ≡ Holds (st q) a outside b.guard
-      tells = Holds-told s e q.columns (mark_variables ops first p q c) b.guard ∙ (λ i. Holds (st q) (h i) outside b.guard)
+      tells : Holds s e outside (told q.columns (mark_variables ops first p q c ts) b.guard) ≡ Holds (st q) a outside b.guard
+      tells = Holds-told s e q.columns (mark_variables ops first p q c ts) b.guard ∙ (λ i. Holds (st q) (h i) outside b.guard)
 
       d : (truth (st q) a outside b.guard ≡ true → Holds (st q) a outside b.guard) × (Holds (st q) a outside b.guard → truth (st q) a outside b.guard ≡ true)
       d = Decides-truth (st q) a outside b.guard g.0
@@ -151,32 +186,32 @@ module _ (ops : List Operation) (first : ℕ) (grounds : (p : ℕ) → AreGround
             branch = b;
             given = r.0;
             facts = (
-              one_more q.facts (told q.columns (mark_variables ops first p q c) b.guard) f.0 (subst (λ X. X) (sym tells) (d.0 e')),
-              Every-append (λ (x : Duty). Holds s e outside x.goal) q.duties (observing_duty ops first j k (q.facts ++ told q.columns (mark_variables ops first p q c) b.guard ∷ []) b) f.1
-                  (observed j k (q.facts ++ told q.columns (mark_variables ops first p q c) b.guard ∷ []) b (st q) a ws (ap (λ (x : List Write × List ℤ). x.0) pair) quiet),
+              one_more q.facts (told q.columns (mark_variables ops first p q c ts) b.guard) f.0 (subst (λ X. X) (sym tells) (d.0 e')),
+              Every-append (λ (x : Duty). Holds s e outside x.goal) q.duties (observing_duty ops first j k (q.facts ++ told q.columns (mark_variables ops first p q c ts) b.guard ∷ []) b) f.1
+                  (observed j k (q.facts ++ told q.columns (mark_variables ops first p q c ts) b.guard ∷ []) b (st q) a ws (ap (λ (x : List Write × List ℤ). x.0) pair) quiet),
             );
-            columns = columns_by-after s e q.columns (mark_variables ops first p q c) (mark_updates first k b) ∙ (λ i. stored_all (st q) (writes_of (st q) (h i) (mark_updates first k b)));
+            columns = columns_by-after s e q.columns (mark_variables ops first p q c ts) (mark_updates first k b) ∙ (λ i. stored_all (st q) (writes_of (st q) (h i) (mark_updates first k b)));
             writes = ap (λ (x : List Write × List ℤ). x.0) pair;
             replies = ap (λ (x : List Write × List ℤ). x.1) pair;
           }
       by false e' is' later = later e' is'
 
-  abbrev pub with_duties : ℕ → Marking → ℕ → Path → Term → Path
-  with_duties j k p q c = record q { duties = q.duties ++ mark_duties ops first j p k q c (op_branches ops p) }
+  abbrev pub with_duties : ℕ → Marking → ℕ → Chosen Term → Path → Term → Path
+  with_duties j k p by q c = record q { duties = q.duties ++ mark_duties ops first j p k q c (terms by q) (branches p by) }
 
   abbrev pub client : Marking → Path → Term
   client k q = replace_term (replacing q.columns (term_at τ)) (marked_client k)
 
   -- ---- the duties of a mark that was made
 
-  enabled : (p : ℕ) (c : Term) (bs : List Branch) (q : Path) (a : Env) (ws : List Write) (reply : List ℤ) → AreGround bs → be p q c ≡ a → run (st q) a bs ≡ Some (ws, reply) →
-      NoneHolds s e outside (formulas (map (λ (b : Branch). told q.columns (mark_variables ops first p q c) b.guard) bs)) → ⊥
-  enabled p c [] q a ws reply g h is none = absurd (cc is)
-  enabled p c (b ∷ bs) q a ws reply g h is none =
-      by (truth (st q) a outside b.guard) refl is (λ is'. enabled p c bs q a ws reply g.1 h is' none.1)
+  enabled : (p : ℕ) (c : Term) (ts : List Term) (bs : List Branch) (q : Path) (a : Env) (ws : List Write) (reply : List ℤ) → AreGround bs → be p q c ts ≡ a → run (st q) a bs ≡ Some (ws, reply) →
+      NoneHolds s e outside (formulas (map (λ (b : Branch). told q.columns (mark_variables ops first p q c ts) b.guard) bs)) → ⊥
+  enabled p c ts [] q a ws reply g h is none = absurd (cc is)
+  enabled p c ts (b ∷ bs) q a ws reply g h is none =
+      by (truth (st q) a outside b.guard) refl is (λ is'. enabled p c ts bs q a ws reply g.1 h is' none.1)
     where
-      tells : Holds s e outside (told q.columns (mark_variables ops first p q c) b.guard) ≡ Holds (st q) a outside b.guard
-      tells = Holds-told s e q.columns (mark_variables ops first p q c) b.guard ∙ (λ i. Holds (st q) (h i) outside b.guard)
+      tells : Holds s e outside (told q.columns (mark_variables ops first p q c ts) b.guard) ≡ Holds (st q) a outside b.guard
+      tells = Holds-told s e q.columns (mark_variables ops first p q c ts) b.guard ∙ (λ i. Holds (st q) (h i) outside b.guard)
 
       by : (t : Bool) → truth (st q) a outside b.guard ≡ t → (if t then Some (writes_of (st q) a b.updates, values_of (st q) a b.replies) else run (st q) a bs) ≡ Some (ws, reply) → (run (st q) a bs ≡ Some (ws, reply) → ⊥) → ⊥
       by true e' is' later = none.0 (subst (λ X. X) (sym tells) ((Decides-truth (st q) a outside b.guard g.0).0 e'))
@@ -188,31 +223,31 @@ module _ (ops : List Operation) (first : ℕ) (grounds : (p : ℕ) → AreGround
   IsNamed (Other t o) q x = st q (op_column first) (pos x) ≡ pos o
   IsNamed Note q x = Unit {0}
 
-  mark_met : (j p : ℕ) (k : Marking) (q : Path) (x : ℕ) (ws : List Write) (reply : List ℤ) → value s e outside (client k q) ≡ pos x → st q (pend first) (pos x) ≡ pos 1 → IsNamed k q x →
-      run (st q) (call_env x (arguments_in ops first (st q) x p)) (op_branches ops p) ≡ Some (ws, reply) → AreMet (mark_duties ops first j p k q (client k q) (op_branches ops p))
-  mark_met j p Own q x ws reply h one named is =
-      (subst (λ i. st q (pend first) i ≡ pos 1) (sym h) one, (enabled p (client Own q) (op_branches ops p) q (call_env x (arguments_in ops first (st q) x p)) ws reply (grounds p) (branch_env_is p x q (client Own q) h) is, tt))
-  mark_met j p (Other t o) q x ws reply h one named is = (
+  mark_met : (j p : ℕ) (k : Marking) (by : Chosen Term) (q : Path) (x : ℕ) (ws : List Write) (reply : List ℤ) → value s e outside (client k q) ≡ pos x → st q (pend first) (pos x) ≡ pos 1 → IsNamed k q x →
+      run (st q) (marked_env p x by q) (branches p by) ≡ Some (ws, reply) → AreMet (mark_duties ops first j p k q (client k q) (terms by q) (branches p by))
+  mark_met j p Own by q x ws reply h one named is =
+      (subst (λ i. st q (pend first) i ≡ pos 1) (sym h) one, (enabled p (client Own q) (terms by q) (branches p by) q (marked_env p x by q) ws reply (branches_ground p by) (marked_env_is p x by q (client Own q) h) is, tt))
+  mark_met j p (Other t o) by q x ws reply h one named is = (
     subst (λ i. st q (pend first) i ≡ pos 1) (sym h) one,
     (
       subst (λ i. st q (op_column first) i ≡ pos o) (sym h) named,
-      (enabled p (client (Other t o) q) (op_branches ops p) q (call_env x (arguments_in ops first (st q) x p)) ws reply (grounds p) (branch_env_is p x q (client (Other t o) q) h) is, tt),
+      (enabled p (client (Other t o) q) (terms by q) (branches p by) q (marked_env p x by q) ws reply (branches_ground p by) (marked_env_is p x by q (client (Other t o) q) h) is, tt),
     ),
   )
-  mark_met j p Note q x ws reply h one named is =
-      (subst (λ i. st q (pend first) i ≡ pos 1) (sym h) one, (enabled p (client Note q) (op_branches ops p) q (call_env x (arguments_in ops first (st q) x p)) ws reply (grounds p) (branch_env_is p x q (client Note q) h) is, tt))
+  mark_met j p Note by q x ws reply h one named is =
+      (subst (λ i. st q (pend first) i ≡ pos 1) (sym h) one, (enabled p (client Note q) (terms by q) (branches p by) q (marked_env p x by q) ws reply (branches_ground p by) (marked_env_is p x by q (client Note q) h) is, tt))
 
-  with_met : (j p : ℕ) (k : Marking) (q : Path) → Lawful q → AreMet (mark_duties ops first j p k q (client k q) (op_branches ops p)) → Lawful (with_duties j k p q (client k q))
-  with_met j p k q f owed = (f.0, Every-append (λ (x : Duty). Holds s e outside x.goal) q.duties (mark_duties ops first j p k q (client k q) (op_branches ops p)) f.1 owed)
+  with_met : (j p : ℕ) (k : Marking) (by : Chosen Term) (q : Path) → Lawful q → AreMet (mark_duties ops first j p k q (client k q) (terms by q) (branches p by)) → Lawful (with_duties j k p by q (client k q))
+  with_met j p k by q f owed = (f.0, Every-append (λ (x : Duty). Holds s e outside x.goal) q.duties (mark_duties ops first j p k q (client k q) (terms by q) (branches p by)) f.1 owed)
 
-  settle_along : (P : Path → Type 0) (j p : ℕ) (k : Marking) (q : Path) (x : ℕ) (ws : List Write) (reply : List ℤ) (m : State) →
+  settle_along : (P : Path → Type 0) (j p : ℕ) (k : Marking) (by : Chosen Term) (q : Path) (x : ℕ) (ws : List Write) (reply : List ℤ) (m : State) →
       ((b : Branch) → mark_updates first k b ≡ b.updates ++ (at_client (rep_columns first) b.replies ++ at_client (pend first ∷ []) (Number (pos 2) ∷ []))) →
-      value s e outside (client k q) ≡ pos x → run (st q) (call_env x (arguments_in ops first (st q) x p)) (op_branches ops p) ≡ Some (ws, reply) → m ≡ stored_all (st q) (ws ++ mark_writes first x reply) →
-      Quiet k ws → st q (pend first) (pos x) ≡ pos 1 → IsNamed k q x → Lawful q → Every P (branch_paths ops first j p k (client k q) (op_branches ops p) (with_duties j k p q (client k q))) → Along P m
-  settle_along P j p k q x ws reply m upd h is m-is quiet one named f r =
-      let a : Env = call_env x (arguments_in ops first (st q) x p) in
-      let t = branch_along P j p k (client k q) (op_branches ops p) (with_duties j k p q (client k q)) a ws reply
-      (grounds p) quiet (branch_env_is p x q (client k q) h) (with_met j p k q f (mark_met j p k q x ws reply h one named is)) is r in (
+      value s e outside (client k q) ≡ pos x → run (st q) (marked_env p x by q) (branches p by) ≡ Some (ws, reply) → m ≡ stored_all (st q) (ws ++ mark_writes first x reply) →
+      Quiet k ws → st q (pend first) (pos x) ≡ pos 1 → IsNamed k q x → Lawful q → Every P (branch_paths ops first j p k (client k q) (terms by q) (branches p by) (with_duties j k p by q (client k q))) → Along P m
+  settle_along P j p k by q x ws reply m upd h is m-is quiet one named f r =
+      let a : Env = marked_env p x by q in
+      let t = branch_along P j p k (client k q) (terms by q) (branches p by) (with_duties j k p by q (client k q)) a ws reply
+      (branches_ground p by) quiet (marked_env_is p x by q (client k q) h) (with_met j p k by q f (mark_met j p k by q x ws reply h one named is)) is r in (
         t.path,
         (
           t.given,
@@ -224,13 +259,13 @@ module _ (ops : List Operation) (first : ℕ) (grounds : (p : ℕ) → AreGround
         ),
       )
 
-  note_along : (P : Path → Type 0) (j p : ℕ) (q : Path) (x : ℕ) (reply : List ℤ) (m : State) →
-      value s e outside (client Note q) ≡ pos x → run (st q) (call_env x (arguments_in ops first (st q) x p)) (op_branches ops p) ≡ Some ([], reply) → m ≡ stored_all (st q) (note_writes first x reply) →
-      st q (pend first) (pos x) ≡ pos 1 → Lawful q → Every P (branch_paths ops first j p Note (client Note q) (op_branches ops p) (with_duties j Note p q (client Note q))) → Along P m
-  note_along P j p q x reply m h is m-is one f r =
-      let a : Env = call_env x (arguments_in ops first (st q) x p) in
-      let t = branch_along P j p Note (client Note q) (op_branches ops p) (with_duties j Note p q (client Note q)) a [] reply
-      (grounds p) refl (branch_env_is p x q (client Note q) h) (with_met j p Note q f (mark_met j p Note q x [] reply h one tt is)) is r in (
+  note_along : (P : Path → Type 0) (j p : ℕ) (by : Chosen Term) (q : Path) (x : ℕ) (reply : List ℤ) (m : State) →
+      value s e outside (client Note q) ≡ pos x → run (st q) (marked_env p x by q) (branches p by) ≡ Some ([], reply) → m ≡ stored_all (st q) (note_writes first x reply) →
+      st q (pend first) (pos x) ≡ pos 1 → Lawful q → Every P (branch_paths ops first j p Note (client Note q) (terms by q) (branches p by) (with_duties j Note p by q (client Note q))) → Along P m
+  note_along P j p by q x reply m h is m-is one f r =
+      let a : Env = marked_env p x by q in
+      let t = branch_along P j p Note (client Note q) (terms by q) (branches p by) (with_duties j Note p by q (client Note q)) a [] reply
+      (branches_ground p by) refl (marked_env_is p x by q (client Note q) h) (with_met j p Note by q f (mark_met j p Note by q x [] reply h one tt is)) is r in (
         t.path,
         (
           t.given,
@@ -245,12 +280,12 @@ module _ (ops : List Operation) (first : ℕ) (grounds : (p : ℕ) → AreGround
     pub deed_along : (P : Path → Type 0) (j : ℕ) (d : Deed) (q : Path) (ms : List Mark) (m : State) → Lawful q → IsDone ops first self o v (st q) d ms m → Every P (deed_paths ops first j o τ d q) → Along P m
     deed_along P j (Assign u) q ms m f t r =
         (_, (r.0, (f, columns_by-put s e q.columns (said q.columns τ u) ∙ (ap (λ w. stored_all (st q) (w ∷ [])) (write-said s e q.columns τ u) ∙ sym t.1))))
-    deed_along P j (Marks Own) q ms m f (ws, reply, one, is, ms-is, m-is) r =
-        settle_along P j o Own q self ws reply m (λ b. refl) (value-said s e q.columns τ (Variable 1) ∙ mine) is m-is tt one tt f r
-    deed_along P j (Marks (Other t x)) q ms m f (c, c-is, op-is, (ws, reply, one, is, ms-is, m-is)) r =
-        settle_along P j x (Other t x) q c ws reply m (λ b. refl) (value-said s e q.columns τ t ∙ c-is) is m-is tt one op-is f r
-    deed_along P j (Marks Note) q ms m f (reply, one, is, ms-is, m-is) r =
-        note_along P j o q self reply m (value-said s e q.columns τ (Variable 1) ∙ mine) is m-is one f r
+    deed_along P j (Marks Own by) q ms m f (ws, reply, one, is, ms-is, m-is) r =
+        settle_along P j o Own by q self ws reply m (λ b. refl) (value-said s e q.columns τ (Variable 1) ∙ mine) (run_chosen o self by q _ is) m-is tt one tt f r
+    deed_along P j (Marks (Other t x) by) q ms m f (c, c-is, op-is, (ws, reply, one, is, ms-is, m-is)) r =
+        settle_along P j x (Other t x) by q c ws reply m (λ b. refl) (value-said s e q.columns τ t ∙ c-is) (run_chosen x c by q _ is) m-is tt one op-is f r
+    deed_along P j (Marks Note by) q ms m f (reply, one, is, ms-is, m-is) r =
+        note_along P j o by q self reply m (value-said s e q.columns τ (Variable 1) ∙ mine) (run_chosen o self by q _ is) m-is one f r
 
     way_along : (P : Path → Type 0) (j : ℕ) (c : Option Formula) (d : Deed) (q : Path) (ms : List Mark) (m : State) → Lawful q → IsDoneWhere ops first c self o v (st q) d ms m → Every P (deed_paths_where ops first c j o τ d q) → Along P m
     way_along P j None d q ms m f t r = deed_along P j d q ms m f t r

@@ -60,7 +60,7 @@ LeavesCalls first us = Every (λ (u : Update). u.column ≡ pend first → ⊥) 
 
 abbrev pub DeedLeavesCalls : ℕ → Deed → Type 0
 DeedLeavesCalls first (Assign u) = LeavesCalls first (u ∷ [])
-DeedLeavesCalls first (Marks k) = Unit {0}
+DeedLeavesCalls first (Marks k by) = Unit {0}
 
 -- where only clients are in calls, and neither branches nor riders' own stores change that: where the facts of a path hold
 -- and its duties are met, the riders run, and leave its columns

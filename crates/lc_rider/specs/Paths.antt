@@ -3,7 +3,8 @@ use Rattle.std.specs.Prelude.{ℕ, suc, List, [], ◌∷◌, ◌++◌, pos, Opti
 use Rattle.lc_term.specs.Updates.{Update, assigned}
 use Rattle.lc_term.specs.Syntax.{Term, Number, Variable, Read, Column, Base, Formula, Eq, Not, And, Or, formulas}
 use Rattle.lc_term.specs.Replacement.{replacing, replace_term}
-use Rattle.lc_seq.specs.Specification.{Branch, Operation}
+use Rattle.lc_seq.specs.Sequential.{Chosen, given_in}
+use Rattle.lc_seq.specs.Specification.{Branch, Operation, chosen}
 use Rattle.lc_term.specs.Lists.{concat_map}
 use Rattle.lc_object.specs.Edges as E
 use Rattle.lc_seq.specs.Branches.{op_branches, arity}
@@ -22,9 +23,10 @@ edge_variables n e = assigned (variables_from 0 n) e.targets e.values
 
 -- ---- marks
 
--- the variables of a branch at a call of c: no specification reads the number of clients
-abbrev pub branch_variables : (ℕ → Column) → ℕ → ℕ → Term → List Term
-branch_variables σ first n c = Number (pos 0) ∷ c ∷ take n (reads σ (arg_columns first) c)
+-- The variables of a branch at a call of c, with these terms for its parameters: no specification reads the number of
+-- clients.
+abbrev pub branch_variables : (ℕ → Column) → ℕ → ℕ → Term → List Term → List Term
+branch_variables σ first n c ts = Number (pos 0) ∷ c ∷ take n (reads σ (arg_columns first) c) ++ ts
 
 -- what a mark by a branch stores, in the branch's words
 abbrev pub mark_updates : ℕ → Marking → Branch → List Update
@@ -81,36 +83,37 @@ module _ (operations : List Operation) (first : ℕ) where
   observing_duty n (Other t o) facts b = []
   observing_duty n Note facts b = record { kind = Observing; rider = n; facts = facts; goal = is_empty b.updates } ∷ []
 
-  abbrev pub mark_variables : ℕ → Path → Term → List Term
-  mark_variables o p c = branch_variables p.columns first (arity operations o) c
+  abbrev pub mark_variables : ℕ → Path → Term → List Term → List Term
+  mark_variables o p c ts = branch_variables p.columns first (arity operations o) c ts
 
-  abbrev pub mark_duties : ℕ → ℕ → Marking → Path → Term → List Branch → List Duty
-  mark_duties n o k p c bs =
+  abbrev pub mark_duties : ℕ → ℕ → Marking → Path → Term → List Term → List Branch → List Duty
+  mark_duties n o k p c ts bs =
       record { kind = Pending; rider = n; facts = p.facts; goal = Eq (Read (p.columns (pend first)) c) (Number (pos 1)) } ∷
       named_duty n k p c ++
-      (record { kind = Enabled; rider = n; facts = p.facts; goal = Or (formulas (map (λ (b : Branch). told p.columns (mark_variables o p c) b.guard) bs)) } ∷ [])
+      (record { kind = Enabled; rider = n; facts = p.facts; goal = Or (formulas (map (λ (b : Branch). told p.columns (mark_variables o p c ts) b.guard) bs)) } ∷ [])
 
   -- the guards of the branches before fail, and that of this one holds
-  abbrev pub branch_paths : ℕ → ℕ → Marking → Term → List Branch → Path → List Path
-  branch_paths n o k c [] p = []
-  branch_paths n o k c (b ∷ bs) p =
-      (let g = told p.columns (mark_variables o p c) b.guard in
+  abbrev pub branch_paths : ℕ → ℕ → Marking → Term → List Term → List Branch → Path → List Path
+  branch_paths n o k c ts [] p = []
+  branch_paths n o k c ts (b ∷ bs) p =
+      (let g = told p.columns (mark_variables o p c ts) b.guard in
       record {
-        columns = after p.columns (mark_variables o p c) (mark_updates first k b);
+        columns = after p.columns (mark_variables o p c ts) (mark_updates first k b);
         facts = p.facts ++ g ∷ [];
         duties = p.duties ++ observing_duty n k (p.facts ++ g ∷ []) b;
-      } ∷ branch_paths n o k c bs (with_fact p (Not g)))
+      } ∷ branch_paths n o k c ts bs (with_fact p (Not g)))
 
-  -- a mark in the body of o, whose variables are τ
-  abbrev pub mark_paths : ℕ → ℕ → List Term → Marking → Path → List Path
-  mark_paths n o τ k p =
+  -- a mark in the body of o, whose variables are τ, by the branches that its choice leaves; its terms are said here
+  abbrev pub mark_paths : ℕ → ℕ → List Term → Marking → Chosen Term → Path → List Path
+  mark_paths n o τ k by p =
       (let c = replace_term (replacing p.columns (term_at τ)) (marked_client k) in
-      let bs = op_branches operations (marked_op o k) in
-      branch_paths n (marked_op o k) k c bs (record p { duties = p.duties ++ mark_duties n (marked_op o k) k p c bs }))
+      let ts = map (replace_term (replacing p.columns (term_at τ))) (given_in by) in
+      let bs = chosen by (op_branches operations (marked_op o k)) in
+      branch_paths n (marked_op o k) k c ts bs (record p { duties = p.duties ++ mark_duties n (marked_op o k) k p c ts bs }))
 
   abbrev pub deed_paths : ℕ → ℕ → List Term → Deed → Path → List Path
   deed_paths n o τ (Assign u) p = record p { columns = put p.columns (said p.columns τ u) } ∷ []
-  deed_paths n o τ (Marks k) p = mark_paths n o τ k p
+  deed_paths n o τ (Marks k by) p = mark_paths n o τ k by p
 
   abbrev pub deed_paths_where : Option Formula → ℕ → ℕ → List Term → Deed → Path → List Path
   deed_paths_where None n o τ d p = deed_paths n o τ d p

@@ -1,5 +1,5 @@
 -- Laws of specifications in text.
-use Rattle.std.specs.Prelude.{◌≡◌, ◌↔◌, ℕ, Bool, true, false, List, [], ℤ, Option, Some, None, option_map, refl, length, slice_get, ◌==◌, if◌then◌else◌}
+use Rattle.std.specs.Prelude.{◌≡◌, ◌↔◌, ℕ, Bool, true, false, List, [], ℤ, Option, Some, None, option_map, refl, length, slice_get, ◌==◌, if◌then◌else◌, ◌++◌}
 use Rattle.std.specs.Prelude.{◌&&◌}
 use Rattle.std.specs.Ordering.{int_eq}
 use Rattle.std.specs.Bool.{nat_eq}
@@ -9,22 +9,23 @@ use Rattle.std.proofs.lemmas.Bool.{eqb-true, eq-eqb}
 use Rattle.std.proofs.lemmas.Bool.Decides.{Decides-int_eq}
 use Rattle.std.proofs.lemmas.Slice.Eq.{slice_eq-Decides}
 use Rattle.lc_term.specs.Meaning.{State}
-use Rattle.lc_seq.specs.Sequential.{Call, Step}
-use Rattle.lc_seq.specs.Specification.{Operation, branches_in, takes, has_call}
+use Rattle.lc_seq.specs.Sequential.{Call, Choice, Step, given_in}
+use Rattle.lc_seq.specs.Specification.{Operation, branches_in, chosen, takes, has_call}
 use Rattle.lc_seq.specs.TextStep.{text_step, run, call_env, outcome}
 
-has_branches : (o : Option Operation) (n : ℕ) (s : State) (client : ℕ) (numbers : List ℤ) (x : State × List ℤ)
-    → option_map (outcome s) (run s (call_env client numbers) (branches_in o n)) ≡ Some x → takes o n ≡ true
-has_branches None n s client numbers x e = absurd cc
-has_branches (Some o) n s client numbers x e = step (length o.arguments == n) refl e
+has_branches : (o : Option Operation) (n : ℕ) (s : State) (client : ℕ) (numbers : List ℤ) (choice : Choice) (x : State × List ℤ)
+    → option_map (outcome s) (run s (call_env client numbers) (chosen choice (branches_in o n))) ≡ Some x → takes o n ≡ true
+has_branches None n s client numbers choice x e = absurd cc
+has_branches (Some o) n s client numbers choice x e = step (length o.arguments == n) refl e
   where
-    step : (b : Bool) → (length o.arguments == n) ≡ b → option_map (outcome s) (run s (call_env client numbers) (if b then o.branches else [])) ≡ Some x → (length o.arguments == n) ≡ true
+    step : (b : Bool) → (length o.arguments == n) ≡ b → option_map (outcome s) (run s (call_env client numbers) (chosen choice (if b then o.branches else []))) ≡ Some x → (length o.arguments == n) ≡ true
     step true is e = is
     step false is e = absurd cc
 
 -- only a call that is there takes a step
-pub text_steps_by_calls : (operations : List Operation) (s : State) (client : ℕ) (call : Call) (t : State) (reply : List ℤ) → Step (text_step operations) s client call t reply → has_call operations call ≡ true
-text_steps_by_calls operations s client call t reply e = has_branches (slice_get operations call.op) (length call.numbers) s client call.numbers (t, reply) e
+pub text_steps_by_calls : (operations : List Operation) (s : State) (client : ℕ) (call : Call) (choice : Choice) (t : State) (reply : List ℤ) → Step (text_step operations) s client call choice t reply → has_call operations call ≡ true
+text_steps_by_calls operations s client call choice t reply e =
+    has_branches (slice_get operations call.op) (length call.numbers) s client (call.numbers ++ given_in choice) choice (t, reply) e
 
 left : (a b : Bool) → (a && b) ≡ true → a ≡ true
 left true b e = refl

@@ -6,8 +6,8 @@ use Rattle.std.proofs.lemmas.List.{map-append}
 use Rattle.std.proofs.lemmas.Bool.{eqb-false}
 use Rattle.lc_term.specs.Updates.{Write, stored_all, write_of, row}
 use Rattle.lc_term.specs.Meaning.{State, Env}
-use Rattle.lc_seq.specs.Sequential.{Call, Sequential}
-use Rattle.lc_seq.specs.Specification.{Operation}
+use Rattle.lc_seq.specs.Sequential.{Call, Choice, Sequential, given_in}
+use Rattle.lc_seq.specs.Specification.{Operation, chosen}
 use Rattle.lc_seq.specs.TextStep.{run, call_env, text_step}
 use Rattle.lc_hist.specs.History.{Entry}
 use Rattle.lc_object.specs.Syntax.{Point, Object}
@@ -20,7 +20,7 @@ use Rattle.lc_term.specs.Lists.{Every}
 use Rattle.lc_seq.specs.Branches.{op_branches, arity, op_replies}
 use Rattle.lc_object.specs.Places.{operation_at}
 use Rattle.lc_term.specs.SystemColumns.{pend, op_column, arg_columns}
-use Rattle.lc_rider.specs.Rider.{Mark, Own, Other, Note, Deed, Assign, Marks, Rider, arguments_in, IsSettled, IsNoted, IsDone, IsDoneWhere, RideAll, mark_writes, note_writes}
+use Rattle.lc_rider.specs.Rider.{Mark, Own, Other, Note, Deed, Assign, Marks, Rider, arguments_in, choice_at, IsSettled, IsNoted, IsDone, IsDoneWhere, RideAll, mark_writes, note_writes}
 use Rattle.lc_outline.specs.Development.{Development, On, first_system, on_at, riders_in, riders_at}
 use Rattle.lc_outline.specs.Resolved.{IsResolved, IsRiderResolved, IsDeedResolved, IsOnResolved}
 use Rattle.lc_sound.specs.Happening.{Happening, Marked, put}
@@ -152,12 +152,12 @@ module _ (D : Development) (R : IsResolved D) where
         let op : (last c).op ≡ o = named (last c) here of_call.op in
         record { here = here; of_call = of_call; op = op; numbers = sym of_call.arguments ∙ ap (λ k. take (arity ops k) (row s (arg_columns first) (pos c))) op }
 
-    one_mark : (phases : ℕ → Phase) (s t : State) (c : ℕ) (note : Bool) (reply : List ℤ) (q : Phase) → Tells phases last s
+    one_mark : (phases : ℕ → Phase) (s t : State) (c : ℕ) (note : Bool) (choice : Choice) (reply : List ℤ) (q : Phase) → Tells phases last s
         → call_in q ≡ call_in (phases c) → Matches ops q (row_of first t c) → ((d : ℕ) → (d ≡ c → ⊥) → row_of first t d ≡ row_of first s d)
-        → Takes (phases c) (Marked note (record { client = c; call = last c; reply = reply })) q
-        → Leaves step (abs s) (Marked note (record { client = c; call = last c; reply = reply })) (abs t)
-        → Leads last phases s (record { client = c; note = note; reply = reply } ∷ []) t
-    one_mark phases s t c note reply q tells same-call matches away takes leaves = record {
+        → Takes (phases c) (Marked note (record { client = c; call = last c; choice = choice; reply = reply })) q
+        → Leaves step (abs s) (Marked note (record { client = c; call = last c; choice = choice; reply = reply })) (abs t)
+        → Leads last phases s (record { client = c; note = note; choice = choice; reply = reply } ∷ []) t
+    one_mark phases s t c note choice reply q tells same-call matches away takes leaves = record {
       after = put phases c q;
       tells = record {
         matches = matched phases s t c q tells.matches matches away;
@@ -168,44 +168,44 @@ module _ (D : Development) (R : IsResolved D) where
     }
 
     -- what the branch that is taken stores and replies, and that it is a step of the specification
-    record IsTaken (s : State) (c o : ℕ) (ws : List Write) (vs : List ℤ) : Type 0 where
+    record IsTaken (s : State) (c o : ℕ) (choice : Choice) (ws : List Write) (vs : List ℤ) : Type 0 where
       pub runs : IsRun n (op_replies ops (last c).op) ws vs
-      pub steps : step (abs s) c (last c) ≡ Some (stored_all (abs s) ws, vs)
+      pub steps : step (abs s) c (last c) choice ≡ Some (stored_all (abs s) ws, vs)
 
-    taken : (phases : ℕ → Phase) (s : State) (c o : ℕ) (ws : List Write) (vs : List ℤ) → Found phases s c o → run s (call_env c (arguments_in ops first s c o)) (op_branches ops o) ≡ Some (ws, vs) → IsTaken s c o ws vs
-    taken phases s c o ws vs f is = record {
+    taken : (phases : ℕ → Phase) (s : State) (c o : ℕ) (choice : Choice) (ws : List Write) (vs : List ℤ) → Found phases s c o → run s (call_env c (arguments_in ops first s c o ++ given_in choice)) (chosen choice (op_branches ops o)) ≡ Some (ws, vs) → IsTaken s c o choice ws vs
+    taken phases s c o choice ws vs f is = record {
       runs = subst (λ k. IsRun n (op_replies ops k) ws vs) (sym f.op)
-          (run_is n (2 + arity ops o) (op_replies ops o) s (call_env c (arguments_in ops first s c o)) (op_branches ops o) ws vs (branches_resolved D R o) (replies_resolved D R o) is);
-      steps = stepped ops (abs s) c (last c) o (arguments_in ops first s c o) ws vs f.op f.numbers f.of_call.whole
-          (run-abstract n (2 + arity ops o) s (call_env c (arguments_in ops first s c o)) (op_branches ops o) (branches_resolved D R o) ∙ is);
+          (run_is n (2 + arity ops o + length (given_in choice)) (op_replies ops o) s (call_env c (arguments_in ops first s c o ++ given_in choice)) (chosen choice (op_branches ops o)) ws vs (branches_resolved D R o choice) (replies_resolved D R o choice) is);
+      steps = stepped ops (abs s) c (last c) choice o (arguments_in ops first s c o) ws vs f.op f.numbers f.of_call.whole
+          (run-abstract n (2 + arity ops o + length (given_in choice)) s (call_env c (arguments_in ops first s c o ++ given_in choice)) (chosen choice (op_branches ops o)) (branches_resolved D R o choice) ∙ is);
     }
 
-    mark : (phases : ℕ → Phase) (s t : State) (c o : ℕ) (ms : List Mark) → Tells phases last s → Names phases s c o → IsSettled ops first s c o ms t → Leads last phases s ms t
-    mark phases s t c o ms tells named (ws, reply, one, is, ms-are, t-is) =
+    mark : (phases : ℕ → Phase) (s t : State) (c o : ℕ) (choice : Choice) (ms : List Mark) → Tells phases last s → Names phases s c o → IsSettled ops first s c o choice ms t → Leads last phases s ms t
+    mark phases s t c o choice ms tells named (ws, reply, one, is, ms-are, t-is) =
         let f = found phases s c o tells named one in
-        let k = taken phases s c o ws reply f is in
+        let k = taken phases s c o choice ws reply f is in
         let a : State = stored_all s ws in
         let u : State = stored_all a (mark_writes first c reply) in
-        let e : Entry = record { client = c; call = last c; reply = reply } in
+        let e : Entry = record { client = c; call = last c; choice = choice; reply = reply } in
         let cells : abs u ≡ stored_all (abs s) ws =
         same-abstract n u a (specification_kept n first a (mark_writes first c reply) below (mark_behind first c reply)) ∙ stored-abstract n s ws k.runs.columns in
-        let leads : Leads last phases s (record { client = c; note = false; reply = reply } ∷ []) u =
-        one_mark phases s u c false reply (Done (last c) reply) tells (sym f.here)
+        let leads : Leads last phases s (record { client = c; note = false; choice = choice; reply = reply } ∷ []) u =
+        one_mark phases s u c false choice reply (Done (last c) reply) tells (sym f.here)
         (marked_row ops first a c (last c) reply k.runs.count (few D R (last c).op).1)
         (λ d ne. rows_away first a c d (mark_writes first c reply) ne (mark_at first c reply) ∙ rows_kept n first s d ws below k.runs.columns)
         (takes_mark ops (phases c) (row_of first s c) e (tells.matches c) one f.here)
-        (subst (λ x. step (abs s) c (last c) ≡ Some (x, reply)) (sym cells) k.steps) in
+        (subst (λ x. step (abs s) c (last c) choice ≡ Some (x, reply)) (sym cells) k.steps) in
         subst (λ x. Leads last phases s ms x) (sym (t-is ∙ stored-append s ws (mark_writes first c reply))) (subst (λ m. Leads last phases s m u) (sym ms-are) leads)
 
-    note : (phases : ℕ → Phase) (s t : State) (c o : ℕ) (ms : List Mark) → Tells phases last s → Names phases s c o → IsNoted ops first s c o ms t → Leads last phases s ms t
-    note phases s t c o ms tells named (reply, one, is, ms-are, t-is) =
+    note : (phases : ℕ → Phase) (s t : State) (c o : ℕ) (choice : Choice) (ms : List Mark) → Tells phases last s → Names phases s c o → IsNoted ops first s c o choice ms t → Leads last phases s ms t
+    note phases s t c o choice ms tells named (reply, one, is, ms-are, t-is) =
         let f = found phases s c o tells named one in
-        let k = taken phases s c o [] reply f is in
+        let k = taken phases s c o choice [] reply f is in
         let u : State = stored_all s (note_writes first c reply) in
-        let e : Entry = record { client = c; call = last c; reply = reply } in
+        let e : Entry = record { client = c; call = last c; choice = choice; reply = reply } in
         let cells : abs u ≡ abs s = same-abstract n u s (specification_kept n first s (note_writes first c reply) below (note_behind first c reply)) in
-        let leads : Leads last phases s (record { client = c; note = true; reply = reply } ∷ []) u =
-        one_mark phases s u c true reply (Noted (last c) reply) tells (sym f.here)
+        let leads : Leads last phases s (record { client = c; note = true; choice = choice; reply = reply } ∷ []) u =
+        one_mark phases s u c true choice reply (Noted (last c) reply) tells (sym f.here)
         (noted_row ops first s c (last c) reply one f.of_call k.runs.count (few D R (last c).op).1)
         (λ d ne. rows_away first s c d (note_writes first c reply) ne (note_at first c reply))
         (takes_note ops (phases c) (row_of first s c) e (tells.matches c) one f.here)
@@ -219,9 +219,9 @@ module _ (D : Development) (R : IsResolved D) where
         nothing phases s t ms tells none
         (λ c. ap (λ x. row_of first x c) is ∙ row_same first (stored_all s ws) s c (λ k le. λ i. writes_other s ws k ((λ x. let lt = res.1 in omega arith), tt) i (pos c)))
         (ap abs is ∙ same-abstract n (stored_all s ws) s (λ c lt. writes_other s ws c ((λ x. let le = res.0 in omega arith), tt)))
-    does phases self o e s (Marks Own) ms t res tells named d = mark phases s t self o ms tells (λ call is op. named call is) d
-    does phases self o e s (Marks (Other x p)) ms t res tells named (c, is, op, d) = mark phases s t c p ms tells (λ call is' op'. omega (arith, ints, op, op')) d
-    does phases self o e s (Marks Note) ms t res tells named d = note phases s t self o ms tells (λ call is op. named call is) d
+    does phases self o e s (Marks Own by) ms t res tells named d = mark phases s t self o (choice_at s e by) ms tells (λ call is op. named call is) d
+    does phases self o e s (Marks (Other x p) by) ms t res tells named (c, is, op, d) = mark phases s t c p (choice_at s e by) ms tells (λ call is' op'. omega (arith, ints, op, op')) d
+    does phases self o e s (Marks Note by) ms t res tells named d = note phases s t self o (choice_at s e by) ms tells (λ call is op. named call is) d
 
     does_where : (phases : ℕ → Phase) (self o : ℕ) (e : Env) (s : State) (f : Option Rattle.lc_term.specs.Syntax.Formula) (d : Deed) (ms : List Mark) (t : State) → IsDeedResolved D o d → Tells phases last s → IsNamed phases self o
         → IsDoneWhere ops first f self o e s d ms t → Leads last phases s ms t

@@ -14,7 +14,9 @@ use Rattle.lc_term.proofs.Stores.{Every-map}
 use Rattle.lc_term.proofs.Symbolic.{columns_by, values_by, columns_by-put, each_told, each_told_back}
 use Rattle.lc_term.proofs.Tests.{left_true, right_true}
 use Rattle.lc_seq.specs.Branches.{op_branches}
+use Rattle.lc_seq.specs.Sequential.{given_in}
 use Rattle.lc_seq.specs.Specification.{Branch, Operation, branch_is_resolved, update_is_resolved}
+use Rattle.lc_seq.proofs.Choosing.{resolved_behind}
 use Rattle.lc_hist.proofs.Tables.{slice_get-set}
 use Rattle.lc_object.specs.Edges.{Edge, edges}
 use Rattle.lc_object.specs.Places.{operation_at}
@@ -33,7 +35,7 @@ use Rattle.lc_rider.proofs.PathLaw.{exclude, go_along}
 use Rattle.lc_rider.proofs.PathTaken.{taken}
 use Rattle.lc_outline.specs.Development.{Development, first_system, on_at, riders_at}
 use Rattle.lc_outline.specs.Resolved.{IsResolved, IsRiderResolved, IsDeedResolved}
-use Rattle.lc_outline.proofs.Matched.{grounds, branches_resolved, match_at, few}
+use Rattle.lc_outline.proofs.Matched.{grounds, all_resolved, match_at, few}
 use Rattle.lc_cond.specs.Conditions.{hold_terms, justified, at_end, reply_goals}
 use Rattle.lc_sound.specs.EdgePaths.{edge_paths, IsGone, IsOrdinary, EdgePathsExclude, StepsArePaths}
 use Rattle.lc_sound.specs.Instrumented.{Instrumented, with_columns}
@@ -74,15 +76,15 @@ updates_leave n vars first (u ∷ us) le h =
     let lt = Rattle.std.proofs.Common.ltb-true u.column n (left_true (Rattle.std.proofs.Common.nat_lt u.column n) _ here) in
     ((λ e. omega arith), updates_leave n vars first us le (right_true (update_is_resolved n vars u) _ h))
 
-branches_leave : (n vars first : ℕ) (bs : List Branch) → n ≤ first → list_all (branch_is_resolved n vars) bs ≡ true → Every (λ (b : Branch). LeavesCalls first b.updates) bs
+branches_leave : (n vars first : ℕ) (bs : List Branch) → n ≤ first → list_all (resolved_behind n vars) bs ≡ true → Every (λ (b : Branch). LeavesCalls first b.updates) bs
 branches_leave n vars first [] le h = tt
 branches_leave n vars first (b ∷ bs) le h =
-    let here = left_true (branch_is_resolved n vars b) (list_all (branch_is_resolved n vars) bs) h in
-    (updates_leave n vars first b.updates le (left_true _ _ (right_true _ _ here)), branches_leave n vars first bs le (right_true (branch_is_resolved n vars b) _ h))
+    let here = left_true (resolved_behind n vars b) (list_all (resolved_behind n vars) bs) h in
+    (updates_leave n (vars + length (given_in b.label)) first b.updates le (left_true _ _ (right_true _ _ here)), branches_leave n vars first bs le (right_true (resolved_behind n vars b) _ h))
 
 deed_leaves : (D : Development) (o : ℕ) (d : Deed) → IsDeedResolved D o d → DeedLeavesCalls (first_system D) d
 deed_leaves D o (Assign u) h = ((λ e. let lt = h.1 in omega arith), tt)
-deed_leaves D o (Marks k) h = tt
+deed_leaves D o (Marks k by) h = tt
 
 -- ---- an edge that is gone
 
@@ -169,7 +171,7 @@ module _ (D : Development) (R : IsResolved D) (w : World) (c : ℕ) (vs : List �
   ridden : (p : Path) → IsIn p (edge_paths D (length vs) e) → EachHolds s env p.facts → AreMet s env p.duties → (marks : List Mark) × Ride marks (columns_by s env p.columns)
   ridden p is hold met =
       let t = taken ops first 0 c o τ riders (path_start e) s env p (grounds D R)
-      (λ a. branches_leave (length D.specification.columns) (2 + Rattle.lc_seq.specs.Branches.arity ops a) first (op_branches ops a) (omega arith) (branches_resolved D R a))
+      (λ a. branches_leave (length D.specification.columns) (2 + Rattle.lc_seq.specs.Branches.arity ops a) first (op_branches ops a) (omega arith) (all_resolved D R a))
       own-stores mine kept is hold met in
       (t.0, subst (λ X. X) (λ i. RideAll ops first c o (variable (vars-are i)) (cols-are i) riders t.0 (columns_by s env p.columns)) t.1)
 

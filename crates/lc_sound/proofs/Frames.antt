@@ -6,11 +6,13 @@ use Rattle.lc_term.specs.Updates.{Write, stored_all, write_of, cell_writes}
 use Rattle.lc_term.specs.Syntax.{Formula}
 use Rattle.lc_term.specs.Meaning.{State, Env, stored}
 use Rattle.lc_term.specs.State.{with_cell}
+use Rattle.lc_seq.specs.Sequential.{Choice, given_in}
+use Rattle.lc_seq.specs.Specification.{chosen}
 use Rattle.lc_seq.specs.TextStep.{run, call_env}
 use Rattle.lc_term.specs.Lists.{Every}
 use Rattle.lc_seq.specs.Branches.{op_branches, arity, op_replies}
 use Rattle.lc_term.specs.SystemColumns.{pend, rep_columns, noted, note_columns}
-use Rattle.lc_rider.specs.Rider.{Mark, Own, Other, Note, Deed, Assign, Marks, Rider, arguments_in, IsSettled, IsDone, IsDoneWhere, RideAll, note_writes}
+use Rattle.lc_rider.specs.Rider.{Mark, Own, Other, Note, Deed, Assign, Marks, Rider, arguments_in, choice_at, IsSettled, IsDone, IsDoneWhere, RideAll, note_writes}
 use Rattle.lc_outline.specs.Development.{Development, first_system}
 use Rattle.lc_outline.specs.Resolved.{IsResolved, IsRiderResolved, IsDeedResolved}
 use Rattle.lc_term.proofs.Stores.{Every-append, Every-map, stored-append, writes_other, cell_columns, cell_other, cell_same, stored_here, stored_there}
@@ -79,16 +81,16 @@ module _ (D : Development) (R : IsResolved D) where
   few = Rattle.std.proofs.Common.length D.specification.columns
 
   -- what a branch stores is in the first columns
-  stored_first : (m : State) (c o : ℕ) (ws : List Write) (reply : List ℤ) → run m (call_env c (arguments_in ops first m c o)) (op_branches ops o) ≡ Some (ws, reply) → Every (λ (w : Write). Away first w.column) ws
-  stored_first m c o ws reply is =
+  stored_first : (m : State) (c o : ℕ) (choice : Choice) (ws : List Write) (reply : List ℤ) → run m (call_env c (arguments_in ops first m c o ++ given_in choice)) (chosen choice (op_branches ops o)) ≡ Some (ws, reply) → Every (λ (w : Write). Away first w.column) ws
+  stored_first m c o choice ws reply is =
       Every-map (λ (w : Write). w.column < Rattle.std.proofs.Common.length D.specification.columns) (λ (w : Write). Away first w.column) ws (λ w lt. inl (omega arith))
-      (run_is (Rattle.std.proofs.Common.length D.specification.columns) (2 + arity ops o) (op_replies ops o) m (call_env c (arguments_in ops first m c o)) (op_branches ops o) ws reply (branches_resolved D R o) (replies_resolved D R o) is).columns
+      (run_is (Rattle.std.proofs.Common.length D.specification.columns) (2 + arity ops o + Rattle.std.proofs.Common.length (given_in choice)) (op_replies ops o) m (call_env c (arguments_in ops first m c o ++ given_in choice)) (chosen choice (op_branches ops o)) ws reply (branches_resolved D R o choice) (replies_resolved D R o choice) is).columns
 
-  Kept_settled : (m m' : State) (c o : ℕ) (ms : List Mark) → IsSettled ops first m c o ms m' → Kept first m m'
-  Kept_settled m m' c o ms (ws, reply, one, is, ms-is, m-is) =
+  Kept_settled : (m m' : State) (c o : ℕ) (choice : Choice) (ms : List Mark) → IsSettled ops first m c o choice ms m' → Kept first m m'
+  Kept_settled m m' c o choice ms (ws, reply, one, is, ms-is, m-is) =
       let reps : List Write = cell_writes (rep_columns first) (pos c) reply in
       let away : Every (λ (w : Write). Away first w.column) (ws ++ reps) =
-      Every-append (λ (w : Write). Away first w.column) ws reps (stored_first m c o ws reply is)
+      Every-append (λ (w : Write). Away first w.column) ws reps (stored_first m c o choice ws reply is)
       (cell_columns (Away first) (rep_columns first) (pos c) reply (inr (omega arith, omega arith), (inr (omega arith, omega arith), (inr (omega arith, omega arith), tt)))) in
       let mid : State = stored_all m (ws ++ reps) in
       let k = Kept_writes first m (ws ++ reps) away in
@@ -99,9 +101,9 @@ module _ (D : Development) (R : IsResolved D) where
 
   Kept_done : (self o : ℕ) (e : Env) (m m' : State) (d : Deed) (ms : List Mark) → IsDeedResolved D o d → IsDone ops first self o e m d ms m' → Kept first m m'
   Kept_done self o e m m' (Assign u) ms h (none, is) = subst (Kept first m) (sym is) (Kept_writes first m (write_of m e u ∷ []) (inl h.1, tt))
-  Kept_done self o e m m' (Marks Own) ms h d = Kept_settled m m' self o ms d
-  Kept_done self o e m m' (Marks (Other t p)) ms h (c, is, op, d) = Kept_settled m m' c p ms d
-  Kept_done self o e m m' (Marks Note) ms h (reply, one, is, ms-is, m-is) =
+  Kept_done self o e m m' (Marks Own by) ms h d = Kept_settled m m' self o (choice_at m e by) ms d
+  Kept_done self o e m m' (Marks (Other t p) by) ms h (c, is, op, d) = Kept_settled m m' c p (choice_at m e by) ms d
+  Kept_done self o e m m' (Marks Note by) ms h (reply, one, is, ms-is, m-is) =
       subst (Kept first m) (sym m-is) (Kept_writes first m (note_writes first self reply)
       (cell_columns (Away first) (noted first ∷ note_columns first) (pos self) (pos 1 ∷ reply)
       (inr (omega arith, omega arith), (inr (omega arith, omega arith), (inr (omega arith, omega arith), (inr (omega arith, omega arith), tt))))))

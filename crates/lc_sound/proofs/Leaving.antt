@@ -7,6 +7,8 @@ use Rattle.lc_term.specs.Syntax.{Term, Formula}
 use Rattle.lc_term.specs.Meaning.{State, Env, outside}
 use Rattle.lc_term.specs.Places.{known}
 use Rattle.lc_term.proofs.Agree.{value-agree}
+use Rattle.lc_seq.specs.Sequential.{Choice, given_in}
+use Rattle.lc_seq.specs.Specification.{chosen}
 use Rattle.lc_seq.specs.TextStep.{call_env}
 use Rattle.lc_object.specs.Syntax.{Instr, Load, Store, Cas, Set, If, Return, Operation, Object}
 use Rattle.lc_object.specs.Edges.{Edge, edges_at}
@@ -16,7 +18,7 @@ use Rattle.lc_machine.proofs.Known.{known_term}
 use Rattle.lc_term.specs.Lists.{Every}
 use Rattle.lc_term.proofs.Tests.{left_true, right_true}
 use Rattle.lc_seq.specs.Branches.{op_branches, arity, op_replies}
-use Rattle.lc_rider.specs.Rider.{Mark, Own, Other, Note, Deed, Assign, Marks, Rider, arguments_in, IsSettled, IsDone, IsDoneWhere, RideAll, mark_writes, note_writes}
+use Rattle.lc_rider.specs.Rider.{Mark, Own, Other, Note, Deed, Assign, Marks, Rider, arguments_in, choice_at, IsSettled, IsDone, IsDoneWhere, RideAll, mark_writes, note_writes}
 use Rattle.lc_outline.specs.Development.{Development, first_system}
 use Rattle.lc_sound.specs.Instrumented.{IsConcrete}
 use Rattle.lc_outline.specs.Resolved.{IsResolved, IsRiderResolved, IsDeedResolved}
@@ -30,20 +32,20 @@ behind_other first k [] lt h = tt
 behind_other first k (w ∷ ws) lt h = ((λ e. let le = h.0 in omega arith), behind_other first k ws lt h.1)
 
 module _ (D : Development) (R : IsResolved D) (k : ℕ) (own : IsConcrete D k) where
-  leaves_settled : (m m' : State) (c o : ℕ) (ms : List Mark) → IsSettled D.specification.operations (first_system D) m c o ms m' → m' k ≡ m k
-  leaves_settled m m' c o ms (ws, reply, one, is, ms-is, m-is) =
+  leaves_settled : (m m' : State) (c o : ℕ) (choice : Choice) (ms : List Mark) → IsSettled D.specification.operations (first_system D) m c o choice ms m' → m' k ≡ m k
+  leaves_settled m m' c o choice ms (ws, reply, one, is, ms-is, m-is) =
       (λ i. m-is i k) ∙ writes_other m (ws ++ mark_writes (first_system D) c reply) k
       (Every-append (λ (w : Write). w.column ≡ k → ⊥) ws (mark_writes (first_system D) c reply)
       (Every-map (λ (w : Write). w.column < length D.specification.columns) (λ (w : Write). w.column ≡ k → ⊥) ws (λ w lt e. let a = own.0 in omega arith)
-      (run_is (length D.specification.columns) (2 + arity D.specification.operations o) (op_replies D.specification.operations o) m (call_env c (arguments_in D.specification.operations (first_system D) m c o)) (op_branches D.specification.operations o) ws reply
-      (branches_resolved D R o) (replies_resolved D R o) is).columns)
+      (run_is (length D.specification.columns) (2 + arity D.specification.operations o + length (given_in choice)) (op_replies D.specification.operations o) m (call_env c (arguments_in D.specification.operations (first_system D) m c o ++ given_in choice)) (chosen choice (op_branches D.specification.operations o)) ws reply
+      (branches_resolved D R o choice) (replies_resolved D R o choice) is).columns)
       (behind_other (first_system D) k (mark_writes (first_system D) c reply) (let b = own.1 in omega arith) (mark_behind (first_system D) c reply)))
 
   leaves_done : (self o : ℕ) (e : Env) (m m' : State) (d : Deed) (ms : List Mark) → IsDeedResolved D o d → IsDone D.specification.operations (first_system D) self o e m d ms m' → m' k ≡ m k
   leaves_done self o e m m' (Assign u) ms h (none, is) = (λ i. is i k) ∙ writes_other m (write_of m e u ∷ []) k ((λ x. let a = h.0 in let b = own.1 in omega arith), tt)
-  leaves_done self o e m m' (Marks Own) ms h d = leaves_settled m m' self o ms d
-  leaves_done self o e m m' (Marks (Other t p)) ms h (c, is, op, d) = leaves_settled m m' c p ms d
-  leaves_done self o e m m' (Marks Note) ms h (reply, one, is, ms-is, m-is) =
+  leaves_done self o e m m' (Marks Own by) ms h d = leaves_settled m m' self o (choice_at m e by) ms d
+  leaves_done self o e m m' (Marks (Other t p) by) ms h (c, is, op, d) = leaves_settled m m' c p (choice_at m e by) ms d
+  leaves_done self o e m m' (Marks Note by) ms h (reply, one, is, ms-is, m-is) =
       (λ i. m-is i k) ∙ writes_other m (note_writes (first_system D) self reply) k (behind_other (first_system D) k (note_writes (first_system D) self reply) (let b = own.1 in omega arith) (note_behind (first_system D) self reply))
 
   leaves_where : (self o : ℕ) (e : Env) (m m' : State) (c : Option Formula) (d : Deed) (ms : List Mark) → IsDeedResolved D o d → IsDoneWhere D.specification.operations (first_system D) c self o e m d ms m' → m' k ≡ m k

@@ -5,7 +5,7 @@ use Rattle.lc_hist.specs.History.{Entry, IsLegal}
 use Rattle.lc_sound.specs.Happening.{Happening, Happens, Marked, client_of, returns_next, counted, put}
 use Rattle.lc_sound.specs.Lawful.{Phase, IsLawful}
 
-with_or_without : {A : Type 0} (step : Sequential A) (s : A) (e : Entry) (es : List Entry) → step s e.client e.call ≡ Some (s, e.reply) → IsLegal step s es
+with_or_without : {A : Type 0} (step : Sequential A) (s : A) (e : Entry) (es : List Entry) → step s e.client e.call e.choice ≡ Some (s, e.reply) → IsLegal step s es
     → (b : Bool) → IsLegal step s (cond b (e ∷ es) es)
 with_or_without step s e es is rest true = (s, is, rest)
 with_or_without step s e es is rest false = rest

@@ -7,7 +7,7 @@ use Rattle.std.proofs.lemmas.Option.{same_Some}
 use Rattle.lc_term.specs.Syntax.{Number, Variable, Add}
 use Rattle.lc_term.specs.Meaning.{State}
 use Rattle.lc_term.specs.State.{with_cell}
-use Rattle.lc_seq.specs.Sequential.{Call}
+use Rattle.lc_seq.specs.Sequential.{Call, Choice, Sequential, InOrder, ByName}
 use Rattle.lc_seq.specs.Specification.{Specification}
 use Rattle.lc_seq.specs.TextStep.{text_step, start_of}
 use Rattle.lc_hist.specs.History.{Event, Entry, IsLegal, AreCalls, entries_of, Linearizes, IsLinearizable}
@@ -99,7 +99,7 @@ inc = record { op = 0; numbers = [] }
 abbrev one : List (Call × List ℤ)
 one = (inc, pos 0 ∷ []) ∷ []
 
-abbrev step : State → ℕ → Call → Option (State × List ℤ)
+abbrev step : Sequential State
 step = text_step counter_specification.operations
 
 -- an entry in front is its client's first
@@ -107,19 +107,30 @@ in_front : (e : Entry) (es : List Entry) (c : ℕ) → e.client ≡ c → entrie
 in_front e es c is = ap (λ d. cond (d == c) ((e.call, e.reply) ∷ entries_of c es) (entries_of c es)) is ∙ ap (λ b. cond b ((e.call, e.reply) ∷ entries_of c es) (entries_of c es)) (same_self c)
 
 -- an increment that replies 0 finds 0, and leaves 1
-incremented : (s t : State) (c : ℕ) (e : Entry) (es : List Entry) → step s e.client e.call ≡ Some (t, e.reply) → (e.call, e.reply) ∷ entries_of c es ≡ one → (s 0 (pos 0) ≡ pos 0) × (t 0 (pos 0) ≡ pos 1) × (entries_of c es ≡ [])
+incremented : (s t : State) (c : ℕ) (e : Entry) (es : List Entry) → step s e.client e.call e.choice ≡ Some (t, e.reply) → (e.call, e.reply) ∷ entries_of c es ≡ one → (s 0 (pos 0) ≡ pos 0) × (t 0 (pos 0) ≡ pos 1) × (entries_of c es ≡ [])
 incremented s t c e es st is =
     let front : (e.call, e.reply) ≡ (inc, pos 0 ∷ []) = first_is (e.call, e.reply) (inc, pos 0 ∷ []) (entries_of c es) [] is in
     let call : e.call ≡ inc = ap (λ p. p.0) front in
     let reply : e.reply ≡ pos 0 ∷ [] = ap (λ p. p.1) front in
     let none : entries_of c es ≡ [] = rest_is (e.call, e.reply) (inc, pos 0 ∷ []) (entries_of c es) [] is in
-    let took : step s e.client inc ≡ Some (t, pos 0 ∷ []) = subst (λ r. step s e.client inc ≡ Some (t, r)) reply (subst (λ k. step s e.client k ≡ Some (t, e.reply)) call st) in
-    let both : (step_of s, s 0 (pos 0) ∷ []) ≡ (t, pos 0 ∷ []) = same_Some (step_of s, s 0 (pos 0) ∷ []) (t, pos 0 ∷ []) took in
+    let took : step s e.client inc e.choice ≡ Some (t, pos 0 ∷ []) = subst (λ r. step s e.client inc e.choice ≡ Some (t, r)) reply (subst (λ k. step s e.client k e.choice ≡ Some (t, e.reply)) call st) in
+    let both : (step_of s, s 0 (pos 0) ∷ []) ≡ (t, pos 0 ∷ []) = by_choice e.choice took in
     let found : s 0 (pos 0) ≡ pos 0 = head_is (s 0 (pos 0)) (pos 0) (ap (λ p. p.1) both) in
     (found, (λ i. (sym (ap (λ p. p.0) both)) i 0 (pos 0)) ∙ ap (λ x. x +ℤ pos 1) found, none)
   where
     step_of : State → State
     step_of s = with_cell s 0 (pos 0) (s 0 (pos 0) +ℤ pos 1)
+
+    given : State × List ℤ
+    given = (step_of s, s 0 (pos 0) ∷ [])
+
+    wanted : State × List ℤ
+    wanted = (t, pos 0 ∷ [])
+
+    -- the counter has no branch of a name
+    by_choice : (choice : Choice) → step s e.client inc choice ≡ Some wanted → given ≡ wanted
+    by_choice InOrder took = same_Some (step_of s, s 0 (pos 0) ∷ []) (t, pos 0 ∷ []) took
+    by_choice (ByName name ns) took = absurd cc
 
     first_is : {A : Type 0} (x y : A) (xs ys : List A) → x ∷ xs ≡ y ∷ ys → x ≡ y
     first_is x y xs ys e = cc

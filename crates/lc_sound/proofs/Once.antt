@@ -6,6 +6,7 @@ use Rattle.std.proofs.lemmas.Option.{same_Some}
 use Rattle.lc_term.specs.Updates.{Write, stored_all, variable}
 use Rattle.lc_term.specs.Syntax.{Formula}
 use Rattle.lc_term.specs.Meaning.{State, Env}
+use Rattle.lc_seq.specs.Sequential.{Choice}
 use Rattle.lc_seq.specs.Specification.{Operation}
 use Rattle.lc_object.specs.Syntax.{Instr, Load, Store, Cas, Set, If, Return, Object, Point}
 use Rattle.lc_object.specs.declared.instr.EdgeKind.{EdgeKind}
@@ -13,7 +14,7 @@ use Rattle.lc_object.specs.declared.instr.EdgeKind.TheVariants.{Next}
 use Rattle.lc_machine.specs.World.{Idle, In, World, first_variables}
 use Rattle.lc_machine.specs.Step.{Event, Invoked, Moved, Returned, IsRunning, Does, Outcome, Goes, Answers, after}
 use Rattle.lc_object.specs.Places.{operation_at}
-use Rattle.lc_rider.specs.Rider.{Marking, Own, Other, Note, Deed, Assign, Marks, Rider, Mark, IsSettled, IsMarked, IsDone, IsDoneWhere, RideAll, mark_writes, note_writes, invocation_writes, return_writes}
+use Rattle.lc_rider.specs.Rider.{Marking, Own, Other, Note, Deed, Assign, Marks, Rider, Mark, choice_at, IsSettled, IsMarked, IsDone, IsDoneWhere, RideAll, mark_writes, note_writes, invocation_writes, return_writes}
 use Rattle.lc_outline.specs.Development.{Development, first_system, riders_at}
 use Rattle.lc_sound.specs.Instrumented.{Label, Runs, start_world, Instrumented, with_columns}
 use Rattle.lc_sound.specs.Claims.{RunsExtend, StepsAreDetermined}
@@ -44,28 +45,28 @@ does_once object s vs (Return us) k l x y o p (d, e, f) (g, h, j) = (d ∙ sym g
 -- ---- riders
 
 module _ (operations : List Operation) (first : ℕ) where
-  settled_once : (m : State) (c o : ℕ) (ms ns : List Mark) (a b : State) → IsSettled operations first m c o ms a → IsSettled operations first m c o ns b → (ms ≡ ns) × (a ≡ b)
-  settled_once m c o ms ns a b (ws, reply, one, is, ms-is, a-is) (us, said, one', is', ns-is, b-is) =
+  settled_once : (m : State) (c o : ℕ) (choice : Choice) (ms ns : List Mark) (a b : State) → IsSettled operations first m c o choice ms a → IsSettled operations first m c o choice ns b → (ms ≡ ns) × (a ≡ b)
+  settled_once m c o choice ms ns a b (ws, reply, one, is, ms-is, a-is) (us, said, one', is', ns-is, b-is) =
       let same : (ws, reply) ≡ (us, said) = same_Some (ws, reply) (us, said) (sym is ∙ is') in (
-        ms-is ∙ (ap (λ (p : List Write × List ℤ). record { client = c; note = false; reply = p.1 } ∷ []) same ∙ sym ns-is),
+        ms-is ∙ (ap (λ (p : List Write × List ℤ). record { client = c; note = false; choice = choice; reply = p.1 } ∷ []) same ∙ sym ns-is),
         a-is ∙ (ap (λ (p : List Write × List ℤ). stored_all m (p.0 ++ mark_writes first c p.1)) same ∙ sym b-is),
       )
 
-  marked_once : (self o : ℕ) (e : Env) (m : State) (k : Marking) (ms ns : List Mark) (a b : State) → IsMarked operations first self o e m k ms a → IsMarked operations first self o e m k ns b → (ms ≡ ns) × (a ≡ b)
-  marked_once self o e m Own ms ns a b d f = settled_once m self o ms ns a b d f
-  marked_once self o e m (Other t p) ms ns a b (c, is, op, d) (c', is', op', f) =
+  marked_once : (self o : ℕ) (e : Env) (m : State) (k : Marking) (choice : Choice) (ms ns : List Mark) (a b : State) → IsMarked operations first self o e m k choice ms a → IsMarked operations first self o e m k choice ns b → (ms ≡ ns) × (a ≡ b)
+  marked_once self o e m Own choice ms ns a b d f = settled_once m self o choice ms ns a b d f
+  marked_once self o e m (Other t p) choice ms ns a b (c, is, op, d) (c', is', op', f) =
       let same : c' ≡ c = omega (arith, ints, sym is' ∙ is) in
-      settled_once m c p ms ns a b d (subst (λ x. IsSettled operations first m x p ns b) same f)
-  marked_once self o e m Note ms ns a b (reply, one, is, ms-is, a-is) (said, one', is', ns-is, b-is) =
+      settled_once m c p choice ms ns a b d (subst (λ x. IsSettled operations first m x p choice ns b) same f)
+  marked_once self o e m Note choice ms ns a b (reply, one, is, ms-is, a-is) (said, one', is', ns-is, b-is) =
       let none : List Write = [] in
       let same : (none, reply) ≡ (none, said) = same_Some (none, reply) (none, said) (sym is ∙ is') in (
-        ms-is ∙ (ap (λ (p : List Write × List ℤ). record { client = self; note = true; reply = p.1 } ∷ []) same ∙ sym ns-is),
+        ms-is ∙ (ap (λ (p : List Write × List ℤ). record { client = self; note = true; choice = choice; reply = p.1 } ∷ []) same ∙ sym ns-is),
         a-is ∙ (ap (λ (p : List Write × List ℤ). stored_all m (note_writes first self p.1)) same ∙ sym b-is),
       )
 
   done_once : (self o : ℕ) (e : Env) (m : State) (d : Deed) (ms ns : List Mark) (a b : State) → IsDone operations first self o e m d ms a → IsDone operations first self o e m d ns b → (ms ≡ ns) × (a ≡ b)
   done_once self o e m (Assign u) ms ns a b (x, y) (z, w) = (x ∙ sym z, y ∙ sym w)
-  done_once self o e m (Marks k) ms ns a b d f = marked_once self o e m k ms ns a b d f
+  done_once self o e m (Marks k by) ms ns a b d f = marked_once self o e m k (choice_at m e by) ms ns a b d f
 
   where_once : (condition : Option Formula) (self o : ℕ) (e : Env) (m : State) (d : Deed) (ms ns : List Mark) (a b : State) → IsDoneWhere operations first condition self o e m d ms a → IsDoneWhere operations first condition self o e m d ns b → (ms ≡ ns) × (a ≡ b)
   where_once None self o e m d ms ns a b x y = done_once self o e m d ms ns a b x y

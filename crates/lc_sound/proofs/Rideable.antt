@@ -8,7 +8,9 @@ use Rattle.lc_term.specs.Syntax.{Term, Variable, Formula, Not, formulas}
 use Rattle.lc_term.specs.Meaning.{State, Env, outside, value, Holds, NoneHolds, EachHolds}
 use Rattle.lc_term.specs.Truth.{truth}
 use Rattle.lc_term.proofs.Truth.{Decides-truth}
-use Rattle.lc_seq.specs.Specification.{Branch, Operation}
+use Rattle.lc_seq.specs.Sequential.{Chosen, Choice, given_in}
+use Rattle.lc_seq.specs.Specification.{Branch, Operation, chosen}
+use Rattle.lc_seq.proofs.Choosing.{chosen-map}
 use Rattle.lc_seq.specs.TextStep.{run, call_env}
 use Rattle.lc_term.specs.Lists.{Every}
 use Rattle.lc_seq.specs.Branches.{op_branches, arity, op_replies}
@@ -24,7 +26,7 @@ use Rattle.lc_seq.proofs.Abstract.{run_is}
 use Rattle.lc_outline.proofs.Matched.{grounds, branches_resolved, replies_resolved}
 use Rattle.lc_sound.proofs.RowChanges.{AreAt, AreFirst, mark_at, note_at}
 use Rattle.lc_term.proofs.Symbolic.{columns_by-put, columns_by-after, write-said, value-said, Holds-told}
-use Rattle.lc_rider.proofs.Riding.{Every-concat, ground_from, v, st, Facts, be, one_more, branch_env_is, client, with_duties, settled_writes, noted_writes}
+use Rattle.lc_rider.proofs.Riding.{Every-concat, v, st, Facts, be, terms, choice, branches, branches_ground, marked_env, marked_env_is, one_more, client, with_duties, settled_writes, noted_writes}
 use Rattle.lc_rider.specs.PathLaws.{AreGround}
 
 -- only clients below n are in calls
@@ -65,6 +67,22 @@ module _ (D : Development) (R : IsResolved D) (s : State) (e : Env) (τ : List T
   abbrev first' : ℕ
   first' = first_system D
 
+  -- the terms of a choice, its numbers, and the branches that it leaves
+  abbrev T : Chosen Term → Path → List Term
+  T by q = terms D.specification.operations (first_system D) (grounds D R) s e τ by q
+
+  abbrev H : Chosen Term → Path → Choice
+  H by q = choice D.specification.operations (first_system D) (grounds D R) s e τ by q
+
+  abbrev Bs : ℕ → Chosen Term → List Branch
+  Bs p by = branches D.specification.operations (first_system D) (grounds D R) s e τ p by
+
+  abbrev E : ℕ → ℕ → Chosen Term → Path → Env
+  E p x by q = marked_env D.specification.operations (first_system D) (grounds D R) s e τ p x by q
+
+  abbrev W : ℕ → Marking → ℕ → Chosen Term → Path → Term → Path
+  W j k p by q c = with_duties D.specification.operations (first_system D) (grounds D R) s e τ j k p by q c
+
   abbrev pub Met : Duty → Type 0
   Met d = EachHolds s e d.facts → Holds s e outside d.goal
 
@@ -73,14 +91,14 @@ module _ (D : Development) (R : IsResolved D) (s : State) (e : Env) (τ : List T
 
   -- ---- the duties so far are among those of the paths that go on
 
-  some_branch : (P : Path → Type 0) (j p : ℕ) (k : Marking) (c : Term) (bs : List Branch) (q : Path) → IsNonempty bs → Every P (branch_paths ops' first' j p k c bs q) → (x : Path) × (P x × (AllMet x → AllMet q))
-  some_branch P j p k c [] q h r = absurd h
-  some_branch P j p k c (b ∷ bs) q h r = (_, (r.0, Every_left Met q.duties _))
+  some_branch : (P : Path → Type 0) (j p : ℕ) (k : Marking) (c : Term) (ts : List Term) (bs : List Branch) (q : Path) → IsNonempty bs → Every P (branch_paths ops' first' j p k c ts bs q) → (x : Path) × (P x × (AllMet x → AllMet q))
+  some_branch P j p k c ts [] q h r = absurd h
+  some_branch P j p k c ts (b ∷ bs) q h r = (_, (r.0, Every_left Met q.duties _))
 
   some_deed : (P : Path → Type 0) (j o : ℕ) (d : Deed) (q : Path) → IsDeedResolved D o d → Every P (deed_paths ops' first' j o τ d q) → (x : Path) × (P x × (AllMet x → AllMet q))
   some_deed P j o (Assign u) q h r = (_, (r.0, λ x. x))
-  some_deed P j o (Marks k) q h r =
-      let y = some_branch P j (marked_op o k) k (client D.specification.operations (first_system D) (grounds D R) s e τ k q) (op_branches ops' (marked_op o k)) (with_duties D.specification.operations (first_system D) (grounds D R) s e τ j k (marked_op o k) q (client D.specification.operations (first_system D) (grounds D R) s e τ k q)) h r in
+  some_deed P j o (Marks k by) q h r =
+      let y = some_branch P j (marked_op o k) k (client D.specification.operations (first_system D) (grounds D R) s e τ k q) (T by q) (Bs (marked_op o k) by) (W j k (marked_op o k) by q (client D.specification.operations (first_system D) (grounds D R) s e τ k q)) h r in
       (y.0, (y.1.0, λ x. Every_left Met q.duties _ (y.1.1 x)))
 
   some_way : (P : Path → Type 0) (j o : ℕ) (c : Option Formula) (d : Deed) (q : Path) → IsDeedResolved D o d → Every P (deed_paths_where ops' first' c j o τ d q) → (x : Path) × (P x × (AllMet x → AllMet q))
@@ -109,7 +127,7 @@ module _ (D : Development) (R : IsResolved D) (s : State) (e : Env) (τ : List T
   observes j (Other t o) fs b f h = tt
   observes j Note fs b f h = no_updates b.updates (h.0 f)
 
-  pub record Chosen (P : Path → Type 0) (j p : ℕ) (k : Marking) (m : State) (a : Env) (bs : List Branch) : Type 0 where
+  pub record Taking (P : Path → Type 0) (j p : ℕ) (k : Marking) (m : State) (a : Env) (bs : List Branch) : Type 0 where
     pub path : Path
     pub branch : Branch
     pub given : P path
@@ -118,35 +136,35 @@ module _ (D : Development) (R : IsResolved D) (s : State) (e : Env) (τ : List T
     pub columns : S path ≡ stored_all m (writes_of m a (mark_updates first' k branch))
     pub observing : AllMet path → IsObserving k branch
 
-  choose : (P : Path → Type 0) (j p : ℕ) (k : Marking) (c : Term) (bs : List Branch) (q : Path) (a : Env) → AreGround bs → be D.specification.operations (first_system D) (grounds D R) s e τ p q c ≡ a → F q →
-      (NoneHolds s e outside (formulas (map (λ (b : Branch). told q.columns (mark_variables ops' first' p q c) b.guard) bs)) → ⊥) → Every P (branch_paths ops' first' j p k c bs q) → Chosen P j p k (S q) a bs
-  choose P j p k c [] q a g h f some r = absurd (some tt)
-  choose P j p k c (b ∷ bs) q a g h f some r =
+  choose : (P : Path → Type 0) (j p : ℕ) (k : Marking) (c : Term) (ts : List Term) (bs : List Branch) (q : Path) (a : Env) → AreGround bs → be D.specification.operations (first_system D) (grounds D R) s e τ p q c ts ≡ a → F q →
+      (NoneHolds s e outside (formulas (map (λ (b : Branch). told q.columns (mark_variables ops' first' p q c ts) b.guard) bs)) → ⊥) → Every P (branch_paths ops' first' j p k c ts bs q) → Taking P j p k (S q) a bs
+  choose P j p k c ts [] q a g h f some r = absurd (some tt)
+  choose P j p k c ts (b ∷ bs) q a g h f some r =
       by (truth (S q) a outside b.guard) refl
-      (λ e'. choose P j p k c bs (with_fact q (Not (told q.columns (mark_variables ops' first' p q c) b.guard))) a g.1 h
-      (one_more D.specification.operations (first_system D) (grounds D R) s e τ q.facts (Not (told q.columns (mark_variables ops' first' p q c) b.guard)) f (fails e')) (λ no. some (fails e', no)) r.1)
+      (λ e'. choose P j p k c ts bs (with_fact q (Not (told q.columns (mark_variables ops' first' p q c ts) b.guard))) a g.1 h
+      (one_more D.specification.operations (first_system D) (grounds D R) s e τ q.facts (Not (told q.columns (mark_variables ops' first' p q c ts) b.guard)) f (fails e')) (λ no. some (fails e', no)) r.1)
     where
-      tells : Holds s e outside (told q.columns (mark_variables ops' first' p q c) b.guard) ≡ Holds (S q) a outside b.guard
-      tells = Holds-told s e q.columns (mark_variables ops' first' p q c) b.guard ∙ (λ i. Holds (S q) (h i) outside b.guard)
+      tells : Holds s e outside (told q.columns (mark_variables ops' first' p q c ts) b.guard) ≡ Holds (S q) a outside b.guard
+      tells = Holds-told s e q.columns (mark_variables ops' first' p q c ts) b.guard ∙ (λ i. Holds (S q) (h i) outside b.guard)
 
       d : (truth (S q) a outside b.guard ≡ true → Holds (S q) a outside b.guard) × (Holds (S q) a outside b.guard → truth (S q) a outside b.guard ≡ true)
       d = Decides-truth (S q) a outside b.guard g.0
 
-      fails : truth (S q) a outside b.guard ≡ false → Holds s e outside (told q.columns (mark_variables ops' first' p q c) b.guard) → ⊥
+      fails : truth (S q) a outside b.guard ≡ false → Holds s e outside (told q.columns (mark_variables ops' first' p q c ts) b.guard) → ⊥
       fails e' x = true≢false (sym (d.1 (subst (λ X. X) tells x)) ∙ e')
 
       by : (t : Bool) → truth (S q) a outside b.guard ≡ t →
-          (truth (S q) a outside b.guard ≡ false → Chosen P j p k (S q) a bs) → Chosen P j p k (S q) a (b ∷ bs)
+          (truth (S q) a outside b.guard ≡ false → Taking P j p k (S q) a bs) → Taking P j p k (S q) a (b ∷ bs)
       by true e' later =
-          let fact = one_more D.specification.operations (first_system D) (grounds D R) s e τ q.facts (told q.columns (mark_variables ops' first' p q c) b.guard) f (subst (λ X. X) (sym tells) (d.0 e')) in
+          let fact = one_more D.specification.operations (first_system D) (grounds D R) s e τ q.facts (told q.columns (mark_variables ops' first' p q c ts) b.guard) f (subst (λ X. X) (sym tells) (d.0 e')) in
           record {
             path = _;
             branch = b;
             given = r.0;
             facts = fact;
             runs = if_true (truth (S q) a outside b.guard) _ (run (S q) a bs) e';
-            columns = columns_by-after s e q.columns (mark_variables ops' first' p q c) (mark_updates first' k b) ∙ (λ i. stored_all (S q) (writes_of (S q) (h i) (mark_updates first' k b)));
-            observing = λ met. observes j k (q.facts ++ told q.columns (mark_variables ops' first' p q c) b.guard ∷ []) b fact (Every_right Met q.duties _ met);
+            columns = columns_by-after s e q.columns (mark_variables ops' first' p q c ts) (mark_updates first' k b) ∙ (λ i. stored_all (S q) (writes_of (S q) (h i) (mark_updates first' k b)));
+            observing = λ met. observes j k (q.facts ++ told q.columns (mark_variables ops' first' p q c ts) b.guard ∷ []) b fact (Every_right Met q.duties _ met);
           }
       by false e' later =
           let x = later e' in
@@ -174,63 +192,65 @@ module _ (D : Development) (R : IsResolved D) (s : State) (e : Env) (τ : List T
     pub only : Only first' n (S path)
 
   -- what the first duties of a mark say
-  pub record Owed (j p : ℕ) (k : Marking) (q : Path) (c : Term) : Type 0 where
+  pub record Owed (j p : ℕ) (k : Marking) (by : Chosen Term) (q : Path) (c : Term) : Type 0 where
     pub pending : S q first' (value s e outside c) ≡ pos 1
     pub named : EachHolds s e (map (λ (d : Duty). d.goal) (named_duty ops' first' j k q c))
-    pub enabled : NoneHolds s e outside (formulas (map (λ (b : Branch). told q.columns (mark_variables ops' first' p q c) b.guard) (op_branches ops' p))) → ⊥
+    pub enabled : NoneHolds s e outside (formulas (map (λ (b : Branch). told q.columns (mark_variables ops' first' p q c (T by q)) b.guard) (Bs p by))) → ⊥
 
   named_goals : (j : ℕ) (k : Marking) (q : Path) (c : Term) → F q → Every Met (named_duty ops' first' j k q c) → EachHolds s e (map (λ (d : Duty). d.goal) (named_duty ops' first' j k q c))
   named_goals j Own q c f h = tt
   named_goals j (Other t o) q c f h = (h.0 f, tt)
   named_goals j Note q c f h = tt
 
-  owed : (P : Path → Type 0) (met : (x : Path) → P x → AllMet x) (j p : ℕ) (k : Marking) (q : Path) (c : Term) → IsNonempty (op_branches ops' p) → F q →
-      Every P (branch_paths ops' first' j p k c (op_branches ops' p) (with_duties D.specification.operations (first_system D) (grounds D R) s e τ j k p q c)) → Owed j p k q c
-  owed P met j p k q c h f r =
-      let y = some_branch P j p k c (op_branches ops' p) (with_duties D.specification.operations (first_system D) (grounds D R) s e τ j k p q c) h r in
-      let m = Every_right Met q.duties (mark_duties ops' first' j p k q c (op_branches ops' p)) (y.1.1 (met y.0 y.1.0)) in
+  owed : (P : Path → Type 0) (met : (x : Path) → P x → AllMet x) (j p : ℕ) (k : Marking) (by : Chosen Term) (q : Path) (c : Term) → IsNonempty (Bs p by) → F q →
+      Every P (branch_paths ops' first' j p k c (T by q) (Bs p by) (W j k p by q c)) → Owed j p k by q c
+  owed P met j p k by q c h f r =
+      let y = some_branch P j p k c (T by q) (Bs p by) (W j k p by q c) h r in
+      let m = Every_right Met q.duties (mark_duties ops' first' j p k q c (T by q) (Bs p by)) (y.1.1 (met y.0 y.1.0)) in
       record {
         pending = m.0 f;
         named = named_goals j k q c f (Every_left Met (named_duty ops' first' j k q c) _ m.1);
         enabled = (Every_right Met (named_duty ops' first' j k q c) _ m.1).0 f;
       }
 
-  chosen : (P : Path → Type 0) (met : (x : Path) → P x → AllMet x) (j p x : ℕ) (k : Marking) (q : Path) (c : Term) → value s e outside c ≡ pos x → F q → Owed j p k q c →
-      Every P (branch_paths ops' first' j p k c (op_branches ops' p) (with_duties D.specification.operations (first_system D) (grounds D R) s e τ j k p q c)) → Chosen P j p k (S q) (call_env x (arguments_in ops' first' (S q) x p)) (op_branches ops' p)
-  chosen P met j p x k q c is f o r =
-      choose P j p k c (op_branches ops' p) (with_duties D.specification.operations (first_system D) (grounds D R) s e τ j k p q c) (call_env x (arguments_in ops' first' (S q) x p))
-      (ground_from few (2 + arity ops' p) (op_branches ops' p) (branches_resolved D R p)) (branch_env_is D.specification.operations (first_system D) (grounds D R) s e τ p x q c is) f o.enabled r
+  taking : (P : Path → Type 0) (met : (x : Path) → P x → AllMet x) (j p x : ℕ) (k : Marking) (by : Chosen Term) (q : Path) (c : Term) → value s e outside c ≡ pos x → F q → Owed j p k by q c →
+      Every P (branch_paths ops' first' j p k c (T by q) (Bs p by) (W j k p by q c)) → Taking P j p k (S q) (E p x by q) (Bs p by)
+  taking P met j p x k by q c is f o r =
+      choose P j p k c (T by q) (Bs p by) (W j k p by q c) (E p x by q)
+      (branches_ground D.specification.operations (first_system D) (grounds D R) s e τ p by) (marked_env_is D.specification.operations (first_system D) (grounds D R) s e τ p x by q c is) f o.enabled r
 
-  settle : (P : Path → Type 0) (met : (x : Path) → P x → AllMet x) (j p x : ℕ) (k : Marking) (q : Path) (c : Term) →
+  settle : (P : Path → Type 0) (met : (x : Path) → P x → AllMet x) (j p x : ℕ) (k : Marking) (by : Chosen Term) (q : Path) (c : Term) →
       ((b : Branch) → mark_updates first' k b ≡ b.updates ++ (at_client (rep_columns first') b.replies ++ at_client (pend first' ∷ []) (Number (pos 2) ∷ []))) →
-      value s e outside c ≡ pos x → IsNonempty (op_branches ops' p) → F q → Only first' n (S q) →
-      Every P (branch_paths ops' first' j p k c (op_branches ops' p) (with_duties D.specification.operations (first_system D) (grounds D R) s e τ j k p q c)) → Ridden P (λ ms m. Rattle.lc_rider.specs.Rider.IsSettled ops' first' (S q) x p ms m)
-  settle P met j p x k q c upd is h f only r =
-      let o = owed P met j p k q c h f r in
-      let y = chosen P met j p x k q c is f o r in
-      let a : Env = call_env x (arguments_in ops' first' (S q) x p) in
+      value s e outside c ≡ pos x → IsNonempty (Bs p by) → F q → Only first' n (S q) →
+      Every P (branch_paths ops' first' j p k c (T by q) (Bs p by) (W j k p by q c)) → Ridden P (λ ms m. Rattle.lc_rider.specs.Rider.IsSettled ops' first' (S q) x p (H by q) ms m)
+  settle P met j p x k by q c upd is h f only r =
+      let o = owed P met j p k by q c h f r in
+      let y = taking P met j p x k by q c is f o r in
+      let a : Env = E p x by q in
+      let back = ap (run (S q) a) (chosen-map (value (S q) (v D.specification.operations (first_system D) (grounds D R) s e τ) outside) by (op_branches ops' p)) in
       let ws : List Write = writes_of (S q) a (y.branch).updates in
       let reply : List ℤ = values_of (S q) a (y.branch).replies in
       let one : S q first' (pos x) ≡ pos 1 = subst (λ i. S q first' i ≡ pos 1) is o.pending in
       let here : S y.path ≡ stored_all (S q) (ws ++ mark_writes first' x reply) =
       y.columns ∙ (ap (λ us. stored_all (S q) (writes_of (S q) a us)) (upd y.branch) ∙ ap (stored_all (S q)) (settled_writes D.specification.operations (first_system D) (grounds D R) s e τ (S q) x a y.branch refl)) in
-      let fine = run_is few (2 + arity ops' p) (op_replies ops' p) (S q) a (op_branches ops' p) ws reply (branches_resolved D R p) (replies_resolved D R p) y.runs in
+      let fine = run_is few (2 + arity ops' p + length (given_in by)) (op_replies ops' p) (S q) a (Bs p by) ws reply (branches_resolved D R p by) (replies_resolved D R p by) y.runs in
       record {
         path = y.path;
         given = y.given;
         facts = y.facts;
-        marks = record { client = x; note = false; reply = reply } ∷ [];
-        is = (ws, reply, one, y.runs, refl, here);
+        marks = record { client = x; note = false; choice = H by q; reply = reply } ∷ [];
+        is = (ws, reply, one, back ∙ y.runs, refl, here);
         only = subst (Only first' n) (sym here) (only_after first' n few x (S q) ws (mark_writes first' x reply) (omega arith) only one fine.columns (mark_at first' x reply));
       }
 
-  note : (P : Path → Type 0) (met : (x : Path) → P x → AllMet x) (j p x : ℕ) (q : Path) (c : Term) →
-      value s e outside c ≡ pos x → IsNonempty (op_branches ops' p) → F q → Only first' n (S q) →
-      Every P (branch_paths ops' first' j p Note c (op_branches ops' p) (with_duties D.specification.operations (first_system D) (grounds D R) s e τ j Note p q c)) → Ridden P (λ ms m. Rattle.lc_rider.specs.Rider.IsNoted ops' first' (S q) x p ms m)
-  note P met j p x q c is h f only r =
-      let o = owed P met j p Note q c h f r in
-      let y = chosen P met j p x Note q c is f o r in
-      let a : Env = call_env x (arguments_in ops' first' (S q) x p) in
+  note : (P : Path → Type 0) (met : (x : Path) → P x → AllMet x) (j p x : ℕ) (by : Chosen Term) (q : Path) (c : Term) →
+      value s e outside c ≡ pos x → IsNonempty (Bs p by) → F q → Only first' n (S q) →
+      Every P (branch_paths ops' first' j p Note c (T by q) (Bs p by) (W j Note p by q c)) → Ridden P (λ ms m. Rattle.lc_rider.specs.Rider.IsNoted ops' first' (S q) x p (H by q) ms m)
+  note P met j p x by q c is h f only r =
+      let o = owed P met j p Note by q c h f r in
+      let y = taking P met j p x Note by q c is f o r in
+      let a : Env = E p x by q in
+      let back = ap (run (S q) a) (chosen-map (value (S q) (v D.specification.operations (first_system D) (grounds D R) s e τ) outside) by (op_branches ops' p)) in
       let reply : List ℤ = values_of (S q) a (y.branch).replies in
       let one : S q first' (pos x) ≡ pos 1 = subst (λ i. S q first' i ≡ pos 1) is o.pending in
       let here : S y.path ≡ stored_all (S q) (note_writes first' x reply) = y.columns ∙ ap (stored_all (S q)) (noted_writes D.specification.operations (first_system D) (grounds D R) s e τ (S q) x a y.branch refl) in
@@ -238,8 +258,8 @@ module _ (D : Development) (R : IsResolved D) (s : State) (e : Env) (τ : List T
         path = y.path;
         given = y.given;
         facts = y.facts;
-        marks = record { client = x; note = true; reply = reply } ∷ [];
-        is = (reply, one, y.runs ∙ ap (λ us. Some (writes_of (S q) a us, reply)) (y.observing (met y.path y.given)), refl, here);
+        marks = record { client = x; note = true; choice = H by q; reply = reply } ∷ [];
+        is = (reply, one, back ∙ (y.runs ∙ ap (λ us. Some (writes_of (S q) a us, reply)) (y.observing (met y.path y.given))), refl, here);
         only = subst (Only first' n) (sym here) (only_after first' n few x (S q) [] (note_writes first' x reply) (omega arith) only one tt (note_at first' x reply));
       }
 
@@ -247,24 +267,24 @@ module _ (D : Development) (R : IsResolved D) (s : State) (e : Env) (τ : List T
     abbrev V : Env
     V = v D.specification.operations (first_system D) (grounds D R) s e τ
 
-    other : (P : Path → Type 0) (met : (x : Path) → P x → AllMet x) (j p : ℕ) (t : Term) (q : Path) → IsNonempty (op_branches ops' p) → F q → Only first' n (S q) →
-        Every P (branch_paths ops' first' j p (Other t p) (client D.specification.operations (first_system D) (grounds D R) s e τ (Other t p) q) (op_branches ops' p) (with_duties D.specification.operations (first_system D) (grounds D R) s e τ j (Other t p) p q (client D.specification.operations (first_system D) (grounds D R) s e τ (Other t p) q))) →
-        Ridden P (λ ms m. IsDone ops' first' self o V (S q) (Marks (Other t p)) ms m)
-    other P met j p t q h f only r = by (only (value s e outside c))
+    other : (P : Path → Type 0) (met : (x : Path) → P x → AllMet x) (j p : ℕ) (t : Term) (by : Chosen Term) (q : Path) → IsNonempty (Bs p by) → F q → Only first' n (S q) →
+        Every P (branch_paths ops' first' j p (Other t p) (client D.specification.operations (first_system D) (grounds D R) s e τ (Other t p) q) (T by q) (Bs p by) (W j (Other t p) p by q (client D.specification.operations (first_system D) (grounds D R) s e τ (Other t p) q))) →
+        Ridden P (λ ms m. IsDone ops' first' self o V (S q) (Marks (Other t p) by) ms m)
+    other P met j p t by q h f only r = go (only (value s e outside c))
       where
         c : Term
         c = client D.specification.operations (first_system D) (grounds D R) s e τ (Other t p) q
 
-        w : Owed j p (Other t p) q c
-        w = owed P met j p (Other t p) q c h f r
+        w : Owed j p (Other t p) by q c
+        w = owed P met j p (Other t p) by q c h f r
 
         told-value : value s e outside c ≡ value (S q) V outside t
         told-value = value-said s e q.columns τ t
 
-        by : (S q first' (value s e outside c) ≡ pos 0) ⊎ ((x : ℕ) × (x < n) × (value s e outside c ≡ pos x)) → Ridden P (λ ms m. IsDone ops' first' self o V (S q) (Marks (Other t p)) ms m)
-        by (inl z) = absurd (omega (arith, ints, z, w.pending))
-        by (inr (x, lt, is)) =
-            let y = settle P met j p x (Other t p) q c (λ b. refl) is h f only r in
+        go : (S q first' (value s e outside c) ≡ pos 0) ⊎ ((x : ℕ) × (x < n) × (value s e outside c ≡ pos x)) → Ridden P (λ ms m. IsDone ops' first' self o V (S q) (Marks (Other t p) by) ms m)
+        go (inl z) = absurd (omega (arith, ints, z, w.pending))
+        go (inr (x, lt, is)) =
+            let y = settle P met j p x (Other t p) by q c (λ b. refl) is h f only r in
             record {
               path = y.path;
               given = y.given;
@@ -285,9 +305,9 @@ module _ (D : Development) (R : IsResolved D) (s : State) (e : Env) (τ : List T
           is = (refl, here);
           only = λ i. subst (λ z. (z ≡ pos 0) ⊎ ((c : ℕ) × (c < n) × (i ≡ pos c))) (sym ((λ k. here k first' i) ∙ (λ k. writes_other (S q) (write_of (S q) V u ∷ []) first' ((λ x. let lt = h.1 in omega arith), tt) k i))) (only i);
         }
-    ride_deed P met j (Marks Own) q h f only r = settle P met j o self Own q (client D.specification.operations (first_system D) (grounds D R) s e τ Own q) (λ b. refl) (value-said s e q.columns τ (Variable 1) ∙ mine) h f only r
-    ride_deed P met j (Marks (Other t p)) q h f only r = other P met j p t q h f only r
-    ride_deed P met j (Marks Note) q h f only r = note P met j o self q (client D.specification.operations (first_system D) (grounds D R) s e τ Note q) (value-said s e q.columns τ (Variable 1) ∙ mine) h f only r
+    ride_deed P met j (Marks Own by) q h f only r = settle P met j o self Own by q (client D.specification.operations (first_system D) (grounds D R) s e τ Own q) (λ b. refl) (value-said s e q.columns τ (Variable 1) ∙ mine) h f only r
+    ride_deed P met j (Marks (Other t p) by) q h f only r = other P met j p t by q h f only r
+    ride_deed P met j (Marks Note by) q h f only r = note P met j o self by q (client D.specification.operations (first_system D) (grounds D R) s e τ Note q) (value-said s e q.columns τ (Variable 1) ∙ mine) h f only r
 
     ride_way : (P : Path → Type 0) (met : (x : Path) → P x → AllMet x) (j : ℕ) (c : Option Formula) (d : Deed) (q : Path) → IsConditionResolved c → IsDeedResolved D o d → F q → Only first' n (S q) → Every P (deed_paths_where ops' first' c j o τ d q) →
         Ridden P (λ ms m. IsDoneWhere ops' first' c self o V (S q) d ms m)

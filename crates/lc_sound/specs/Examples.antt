@@ -1,6 +1,7 @@
 -- Runs of small objects: a counter, and one that loses updates.
 use Rattle.std.specs.Prelude.{◌≡◌, List, [], ◌∷◌, pos, false}
 use Rattle.lc_term.specs.Syntax.{Number}
+use Rattle.lc_seq.specs.Sequential.{InOrder}
 use Rattle.lc_hist.specs.History.{Event, Called, Replied}
 use Rattle.lc_object.specs.declared.instr.EdgeKind.TheVariants.{Next, Then, Else}
 use Rattle.lc_machine.specs.World.{World}
@@ -60,7 +61,7 @@ abbrev pub helping : Development
 helping = counter_by (Other (Number (pos 0)) 0)
 
 abbrev pub helped_mark : Mark
-helped_mark = record { client = 0; note = false; reply = pos 0 ∷ [] }
+helped_mark = record { client = 0; note = false; choice = InOrder; reply = pos 0 ∷ [] }
 
 abbrev pub helped_labels : List Label
 helped_labels =
@@ -74,4 +75,4 @@ abbrev pub HelpedCall : Type 0
 HelpedCall =
     ((end : World) × Runs helping (start_world helping 2) helped_labels end)
     × (history helped_labels ≡ Called 0 (record { op = 0; numbers = [] }) ∷ Called 1 (record { op = 0; numbers = [] }) ∷ [])
-    × (order helped_labels ≡ record { client = 0; call = record { op = 0; numbers = [] }; reply = pos 0 ∷ [] } ∷ [])
+    × (order helped_labels ≡ record { client = 0; call = record { op = 0; numbers = [] }; choice = InOrder; reply = pos 0 ∷ [] } ∷ [])

@@ -24,8 +24,8 @@ pub data Takes : Phase → Happening → Phase → Type 0 where
 -- and the sequential state from s to t
 abbrev pub Leaves : {A : Type 0} → Sequential A → A → Happening → A → Type 0
 Leaves step s (Happens event) t = t ≡ s
-Leaves step s (Marked false e) t = Step step s e.client e.call t e.reply
-Leaves step s (Marked true e) t = (t ≡ s) × Step step s e.client e.call s e.reply
+Leaves step s (Marked false e) t = Step step s e.client e.call e.choice t e.reply
+Leaves step s (Marked true e) t = (t ≡ s) × Step step s e.client e.call e.choice s e.reply
 
 abbrev pub IsLawful : {A : Type 0} → Sequential A → A → (ℕ → Phase) → List Happening → Type 0
 IsLawful step s phases [] = Unit {0}

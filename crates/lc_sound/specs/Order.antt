@@ -13,9 +13,9 @@ called_last calls c (Invoked o numbers) = put calls c (record { op = o; numbers 
 called_last calls c (Moved point edge) = calls
 called_last calls c (Returned numbers) = calls
 
--- a mark is for the call that its client made last
+-- a mark is for the call that its client made last, by the choice that the mark has
 abbrev pub marked : (ℕ → Call) → Mark → Happening
-marked calls m = Marked m.note (record { client = m.client; call = calls m.client; reply = m.reply })
+marked calls m = Marked m.note (record { client = m.client; call = calls m.client; choice = m.choice; reply = m.reply })
 
 -- what happens in a run; the marks of a step come before its return
 abbrev pub happenings : (ℕ → Call) → List Label → List Happening
