@@ -8,12 +8,12 @@ use Rattle.std.proofs.lemmas.List.{length-map}
 use Rattle.std.proofs.lemmas.Option.{same_Some}
 use Rattle.lc_term.specs.Meaning.{State}
 use Rattle.lc_term.specs.State.{with_cell}
-use Rattle.lc_object.specs.Syntax.{Instr, Load, Store, Cas, Set, If, Return, Array, Operation, Point, Object}
+use Rattle.lc_object.specs.Syntax.{Instr, Load, Store, Cas, Set, Faa, If, Return, Array, Operation, Point, Object}
 use Rattle.lc_object.specs.Edges.{array_columns, columns_in}
 use Rattle.lc_object.specs.WellFormed.{is_object, is_array, is_point, is_instruction, is_label, is_first, are_operations, has_limits, passes_at}
 use Rattle.lc_object.specs.declared.instr.EdgeKind.{EdgeKind}
 use Rattle.lc_object.specs.declared.instr.EdgeKind.TheVariants.{Next}
-use Rattle.lc_machine.specs.Step.{with_row, number, numbers, Does, Goes, Answers}
+use Rattle.lc_machine.specs.Step.{with_row, number, numbers, Does, Goes, Answers, row, sums}
 use Rattle.lc_machine.proofs.ArrayColumns.{arrays_pass, points_pass}
 use Rattle.lc_term.specs.Lists.{Every}
 use Rattle.lc_term.proofs.Tests.{left_true, right_true, at_all}
@@ -66,6 +66,7 @@ module _ (object : Object) (op : ℕ) (o : Operation) (s : State) (vs : List ℤ
   goes_to (Cas a t old us l m) q new h (inl (_, _, _, out)) = let e : q ≡ l = cc out in ap (operation_at object) e ∙ label_is object op l (right_true _ _ (left_true _ _ h))
   goes_to (Cas a t old us l m) q new h (inr (_, _, _, out)) = let e : q ≡ m = cc out in ap (operation_at object) e ∙ label_is object op m (right_true _ _ h)
   goes_to (Set rs us l) q new h (_, _, out) = let e : q ≡ l = cc out in ap (operation_at object) e ∙ label_is object op l (right_true _ _ h)
+  goes_to (Faa a t rs ds l) q new h (_, _, out) = let e : q ≡ l = cc out in ap (operation_at object) e ∙ label_is object op l (right_true _ _ h)
   goes_to (If f l m) q new h (inl (_, _, _, out)) = let e : q ≡ l = cc out in ap (operation_at object) e ∙ label_is object op l (right_true _ _ (left_true _ _ h))
   goes_to (If f l m) q new h (inr (_, _, _, out)) = let e : q ≡ m = cc out in ap (operation_at object) e ∙ label_is object op m (right_true _ _ h)
   goes_to (Return us) q new h (_, _, out) = absurd (cc out)
@@ -76,6 +77,7 @@ module _ (object : Object) (op : ℕ) (o : Operation) (s : State) (vs : List ℤ
   answers_count (Cas a t old us l m) ns h (inl (_, _, _, out)) = absurd (cc out)
   answers_count (Cas a t old us l m) ns h (inr (_, _, _, out)) = absurd (cc out)
   answers_count (Set rs us l) ns h (_, _, out) = absurd (cc out)
+  answers_count (Faa a t rs ds l) ns h (_, _, out) = absurd (cc out)
   answers_count (If f l m) ns h (inl (_, _, _, out)) = absurd (cc out)
   answers_count (If f l m) ns h (inr (_, _, _, out)) = absurd (cc out)
   answers_count (Return us) ns h (_, _, out) =
@@ -89,6 +91,7 @@ module _ (object : Object) (op : ℕ) (o : Operation) (s : State) (vs : List ℤ
   answers_next (Cas a t old us l m) ns (inl (_, _, _, out)) = absurd (cc out)
   answers_next (Cas a t old us l m) ns (inr (_, _, _, out)) = absurd (cc out)
   answers_next (Set rs us l) ns (_, _, out) = absurd (cc out)
+  answers_next (Faa a t rs ds l) ns (_, _, out) = absurd (cc out)
   answers_next (If f l m) ns (inl (_, _, _, out)) = absurd (cc out)
   answers_next (If f l m) ns (inr (_, _, _, out)) = absurd (cc out)
   answers_next (Return us) ns (e, _, _) = e
@@ -133,6 +136,7 @@ module _ (object : Object) (well : is_object object ≡ true) (s : State) (vs : 
   does_outside (Cas a t old us l m) out d away (inl (_, _, e, _)) = same_at _ d e (row_other s (array_columns object a) (number s vs t) (numbers s vs us) d (columns_apart object well a d away))
   does_outside (Cas a t old us l m) out d away (inr (_, _, e, _)) = same_at s d e refl
   does_outside (Set rs us l) out d away (_, e, _) = same_at s d e refl
+  does_outside (Faa a t rs ds l) out d away (_, e, _) = same_at _ d e (row_other s (array_columns object a) (number s vs t) (sums (row s (array_columns object a) (number s vs t)) (numbers s vs ds)) d (columns_apart object well a d away))
   does_outside (If f l m) out d away (inl (_, _, e, _)) = same_at s d e refl
   does_outside (If f l m) out d away (inr (_, _, e, _)) = same_at s d e refl
   does_outside (Return us) out d away (_, e, _) = same_at s d e refl

@@ -1,17 +1,17 @@
 -- The table of edges gives the steps.
-use Rattle.std.proofs.Common.{◌≡◌, ℕ, ℤ, ◌+◌, ◌≤◌, ◌⊎◌, true, List, [], ◌∷◌, ◌++◌, length, Some, zero, suc, refl, sym, ap, ap₂, ◌∙◌, subst, inl, inr, arith, add-zero}
+use Rattle.std.proofs.Common.{◌≡◌, ℕ, ℤ, ◌+ℤ◌, ◌+◌, ◌≤◌, ◌⊎◌, true, List, [], ◌∷◌, ◌++◌, length, Some, zero, suc, refl, sym, ap, ap₂, ◌∙◌, subst, inl, inr, arith, add-zero}
 use Rattle.std.specs.Prelude.{slice_get}
 use Rattle.std.proofs.lemmas.Option.{same_Some}
 use Rattle.lc_term.specs.Syntax.{Term, Formula, Not, And, formulas}
 use Rattle.lc_term.specs.Meaning.{State, outside, AllHold, EachHolds}
 use Rattle.lc_term.specs.State.{with_cell}
-use Rattle.lc_object.specs.Syntax.{Instr, Load, Store, Cas, Set, If, Return, Point, Object}
+use Rattle.lc_object.specs.Syntax.{Instr, Load, Store, Cas, Set, Faa, If, Return, Point, Object}
 use Rattle.lc_object.specs.WellFormed.{is_object}
-use Rattle.lc_object.specs.Edges.{Edge, array_columns, reads, row_updates, row_facts, edges_at, edges_from}
+use Rattle.lc_object.specs.Edges.{Edge, array_columns, reads, row_updates, row_sums, row_facts, edges_at, edges_from}
 use Rattle.lc_object.specs.declared.instr.EdgeKind.{EdgeKind}
 use Rattle.lc_object.specs.declared.instr.EdgeKind.TheVariants.{Then, Else}
 use Rattle.lc_machine.specs.World.{variable}
-use Rattle.lc_machine.specs.Step.{number, numbers, row, with_row, assigned, Does, Outcome, Goes}
+use Rattle.lc_machine.specs.Step.{number, numbers, row, with_row, sums, assigned, Does, Outcome, Goes}
 use Rattle.lc_machine.specs.EdgeSteps.{updated, GoesBy, IsIn, GoesBySome}
 use Rattle.lc_machine.specs.MayRun.{MayRun}
 use Rattle.lc_machine.proofs.Promised.{may_run_with}
@@ -26,6 +26,15 @@ row_updated : (s : State) (vs : List ℤ) (m : State) (cs : List ℕ) (t : Term)
 row_updated s vs m [] t us = refl
 row_updated s vs m (c ∷ cs) t [] = refl
 row_updated s vs m (c ∷ cs) t (u ∷ us) = row_updated s vs (with_cell m c (number s vs t) (number s vs u)) cs t us
+
+row_summed : (s : State) (vs : List ℤ) (cs : List ℕ) (t : Term) (ds : List Term) → numbers s vs (row_sums cs t ds) ≡ sums (row s cs (number s vs t)) (numbers s vs ds)
+row_summed s vs [] t ds = refl
+row_summed s vs (c ∷ cs) t [] = refl
+row_summed s vs (c ∷ cs) t (d ∷ ds) = ap (λ ns. (s c (number s vs t) +ℤ number s vs d) ∷ ns) (row_summed s vs cs t ds)
+
+added : (s : State) (vs : List ℤ) (cs : List ℕ) (t : Term) (ds : List Term) →
+    updated s vs s (row_updates cs t (row_sums cs t ds)) ≡ with_row s cs (number s vs t) (sums (row s cs (number s vs t)) (numbers s vs ds))
+added s vs cs t ds = row_updated s vs s cs t (row_sums cs t ds) ∙ ap (with_row s cs (number s vs t)) (row_summed s vs cs t ds)
 
 -- the head and the rest of equal lists
 head_same : {A : Type 0} (x y : A) (xs ys : List A) → x ∷ xs ≡ y ∷ ys → x ≡ y
@@ -103,6 +112,8 @@ goes object p n (Cas a t old new l m) kind s vs s' outcome may (inr (differs, k,
   (((λ all. differs (row_held s vs (array_columns object a) t old may.0.1 (each_from_all s (variable vs) (row_facts (array_columns object a) t old) all))), tt), e, out),
 )
 goes object p n (Set rs us l) kind s vs s' outcome may (k, e, out) = (_, inl refl, sym k, (tt, e, out))
+goes object p n (Faa a t rs ds l) kind s vs s' outcome may (k, e, out) =
+    (_, inl refl, sym k, (tt, e ∙ sym (added s vs (array_columns object a) t ds), out ∙ ap (λ ns. Goes l (assigned vs rs ns)) (sym (row_read s vs (array_columns object a) t))))
 goes object p n (If f l m) kind s vs s' outcome may (inl (h, k, e, out)) = (_, inl refl, sym k, ((h, tt), e, out))
 goes object p n (If f l m) kind s vs s' outcome may (inr (h, k, e, out)) = (_, inr (inl refl), sym k, ((h, tt), e, out))
 goes object p n (Return us) kind s vs s' outcome may (k, e, out) = (_, inl refl, sym k, (tt, e, out))
@@ -116,6 +127,9 @@ does object p n (Store a t us l) kind s vs s' outcome may g =
     let h = one _ kind s vs s' outcome g in (sym h.0, h.1.1 ∙ row_updated s vs s (array_columns object a) t us, h.1.2)
 does object p n (Cas a t old new l m) kind s vs s' outcome may g = back_two object p a t old new l m kind s vs s' outcome may.0.1 (two _ _ kind s vs s' outcome g)
 does object p n (Set rs us l) kind s vs s' outcome may g = let h = one _ kind s vs s' outcome g in (sym h.0, h.1.1, h.1.2)
+does object p n (Faa a t rs ds l) kind s vs s' outcome may g =
+    let h = one _ kind s vs s' outcome g in
+    (sym h.0, h.1.1 ∙ added s vs (array_columns object a) t ds, h.1.2 ∙ ap (λ ns. Goes l (assigned vs rs ns)) (row_read s vs (array_columns object a) t))
 does object p n (If f l m) kind s vs s' outcome may g = back_test object f l m kind s vs s' outcome (two _ _ kind s vs s' outcome g)
 does object p n (Return us) kind s vs s' outcome may g = let h = one _ kind s vs s' outcome g in (sym h.0, h.1.1, h.1.2)
 
@@ -145,6 +159,8 @@ of_point object p (Cas a t old new l m) e (inr (inl is)) = ap (λ (x : Edge). x.
 of_point object p (Cas a t old new l m) e (inr (inr none)) = absurd none
 of_point object p (Set rs us l) e (inl is) = ap (λ (x : Edge). x.point) is
 of_point object p (Set rs us l) e (inr none) = absurd none
+of_point object p (Faa a t rs ds l) e (inl is) = ap (λ (x : Edge). x.point) is
+of_point object p (Faa a t rs ds l) e (inr none) = absurd none
 of_point object p (If f l m) e (inl is) = ap (λ (x : Edge). x.point) is
 of_point object p (If f l m) e (inr (inl is)) = ap (λ (x : Edge). x.point) is
 of_point object p (If f l m) e (inr (inr none)) = absurd none

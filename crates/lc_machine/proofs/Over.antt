@@ -9,13 +9,13 @@ use Rattle.lc_term.specs.Meaning.{State, outside, stored, Holds}
 use Rattle.lc_term.specs.State.{with_cell}
 use Rattle.lc_term.specs.Places.{known}
 use Rattle.lc_term.proofs.Agree.{value-agree, Holds-agree}
-use Rattle.lc_object.specs.Syntax.{Instr, Load, Store, Cas, Set, If, Return, Array, Point, Object}
+use Rattle.lc_object.specs.Syntax.{Instr, Load, Store, Cas, Set, Faa, If, Return, Array, Point, Object}
 use Rattle.lc_object.specs.Syntax as O
 use Rattle.lc_object.specs.Edges.{array_columns, columns_in}
 use Rattle.lc_object.specs.WellFormed.{is_object, is_array, is_instruction, variable_count, is_code_term, are_code_terms, is_code_formula}
 use Rattle.lc_object.specs.declared.instr.EdgeKind.{EdgeKind}
 use Rattle.lc_machine.specs.World.{Client, Idle, In, World}
-use Rattle.lc_machine.specs.Step.{number, numbers, with_row, Does, Outcome, Goes, Answers, Event, Invoked, Moved, Returned, IsClient, IsRunning, Steps, after}
+use Rattle.lc_machine.specs.Step.{number, numbers, with_row, Does, Outcome, Goes, Answers, Event, Invoked, Moved, Returned, IsClient, IsRunning, Steps, after, sums}
 use Rattle.lc_machine.proofs.Known.{known_term, known_formula}
 use Rattle.lc_machine.proofs.ArrayColumns.{arrays_pass}
 use Rattle.lc_term.specs.Lists.{Every}
@@ -83,6 +83,13 @@ module _ (object : Object) (well : is_object object ≡ true) (s t : State) (agr
   put_same a x us h k c own =
       (λ i. with_row s (array_columns object a) (number_same x h i) (numbers_same us k i) c) ∙ row_agree s t (array_columns object a) (number t vs x) (numbers t vs us) c (agree c own)
 
+  add_same : (a : ℕ) (x : Term) (ds : List Term) → is_code_term (variable_count o) x ≡ true → are_code_terms (variable_count o) ds ≡ true →
+      Agree object (with_row s (array_columns object a) (number s vs x) (sums (row s (array_columns object a) (number s vs x)) (numbers s vs ds)))
+      (with_row t (array_columns object a) (number t vs x) (sums (row t (array_columns object a) (number t vs x)) (numbers t vs ds)))
+  add_same a x ds h k c own =
+      (λ i. with_row s (array_columns object a) (number_same x h i) (sums (read_same a x h i) (numbers_same ds k i)) c)
+      ∙ row_agree s t (array_columns object a) (number t vs x) (sums (row t (array_columns object a) (number t vs x)) (numbers t vs ds)) c (agree c own)
+
   pub does_over : (i : Instr) (k : EdgeKind) (s' : State) (out : Outcome) → is_instruction object op o i ≡ true → Does object s vs i k s' out → (t' : State) × Does object t vs i k t' out × Agree object s' t'
   does_over (Load a x rs l) k s' out h (ke, e, is) =
       (t, (ke, refl, is ∙ ap (λ ns. Goes l (assigned vs rs ns)) (read_same a x (right_true _ _ (left_true _ _ (left_true _ _ h))))), λ c own. (λ j. e j c) ∙ agree c own)
@@ -101,6 +108,10 @@ module _ (object : Object) (well : is_object object ≡ true) (s t : State) (agr
       (t, inr ((λ same. differs (read_same a x x-code ∙ (same ∙ sym (numbers_same old old-code)))), ke, refl, is), λ c own. (λ j. e j c) ∙ agree c own)
   does_over (Set rs us l) k s' out h (ke, e, is) =
       (t, (ke, refl, is ∙ ap (λ ns. Goes l (assigned vs rs ns)) (numbers_same us (right_true _ _ (left_true _ _ h)))), λ c own. (λ j. e j c) ∙ agree c own)
+  does_over (Faa a x rs ds l) k s' out h (ke, e, is) =
+      let x-code = right_true _ _ (left_true _ _ (left_true _ _ (left_true _ _ h))) in
+      let ds-code = right_true _ _ (left_true _ _ h) in
+      (_, (ke, refl, is ∙ ap (λ ns. Goes l (assigned vs rs ns)) (read_same a x x-code)), λ c own. (λ j. e j c) ∙ add_same a x ds x-code ds-code c own)
   does_over (If f l m) k s' out h (inl (holds, ke, e, is)) =
       (t, inl (subst (λ X. X) (holds_same f (left_true _ _ (left_true _ _ h))) holds, ke, refl, is), λ c own. (λ j. e j c) ∙ agree c own)
   does_over (If f l m) k s' out h (inr (fails, ke, e, is)) =

@@ -6,7 +6,7 @@ use Rattle.std.proofs.lemmas.Bool.Decides.{nat_tests}
 use Rattle.std.proofs.lemmas.List.{length-append, length-replicate}
 use Rattle.std.proofs.lemmas.Bool.{eqb-true}
 use Rattle.std.proofs.lemmas.Option.{same_Some, slice_get_within}
-use Rattle.lc_object.specs.Syntax.{Instr, Load, Store, Cas, Set, If, Return, Array, Operation, Point, Object}
+use Rattle.lc_object.specs.Syntax.{Instr, Load, Store, Cas, Set, Faa, If, Return, Array, Operation, Point, Object}
 use Rattle.lc_object.proofs.ObjectParts.{first_stands}
 use Rattle.lc_object.specs.WellFormed.{is_object, is_point, is_instruction, is_label, is_first, has_width, has_limits, are_targets, are_operations, passes_at, variable_count}
 use Rattle.lc_machine.specs.World.{In, first_variables}
@@ -79,6 +79,14 @@ instruction_may_run object well op o e limits (Cas a t old new l m) h = (
 instruction_may_run object well op o e limits (Set rs vs l) h = (
   eqb-true (length vs) (length rs) (left_true _ _ (left_true _ _ (left_true _ _ h))),
   targets_few o rs (right_true _ _ (left_true _ _ (left_true _ _ h))),
+  targets_below o rs (right_true _ _ (left_true _ _ (left_true _ _ h))),
+  right_true _ _ (left_true _ _ h),
+  label object op l o e (right_true _ _ h),
+)
+instruction_may_run object well op o e limits (Faa a t rs ds l) h = (
+  row_of_width object well a (length rs) (left_true _ _ (left_true _ _ (left_true _ _ (left_true _ _ (left_true _ _ h))))),
+  row_of_width object well a (length ds) (right_true _ _ (left_true _ _ (left_true _ _ (left_true _ _ (left_true _ _ h))))),
+  right_true _ _ (left_true _ _ (left_true _ _ (left_true _ _ h))),
   targets_below o rs (right_true _ _ (left_true _ _ (left_true _ _ h))),
   right_true _ _ (left_true _ _ h),
   label object op l o e (right_true _ _ h),

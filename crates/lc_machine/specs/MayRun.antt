@@ -1,6 +1,6 @@
 -- What an instruction needs of the object and of the variables.
 use Rattle.std.specs.Prelude.{◌≡◌, ℕ, ◌<◌, ◌≤◌, true, length, slice_get, Option, Some, None, option_map}
-use Rattle.lc_object.specs.Syntax.{Instr, Load, Store, Cas, Set, If, Return, Point, Object}
+use Rattle.lc_object.specs.Syntax.{Instr, Load, Store, Cas, Set, Faa, If, Return, Point, Object}
 use Rattle.lc_object.specs.WellFormed.{variable_count, is_code_term, are_code_terms, is_code_formula}
 use Rattle.lc_object.specs.Edges.{array_columns}
 use Rattle.lc_machine.specs.Below.{AreBelow}
@@ -27,5 +27,7 @@ MayRun object n (Cas a t old new l m) =
     × (are_code_terms n new ≡ true) × (variables_at object l ≡ Some n) × (variables_at object m ≡ Some n)
 MayRun object n (Set rs vs l) =
     (length vs ≡ length rs) × (length rs ≤ 16) × AreBelow n rs × (are_code_terms n vs ≡ true) × (variables_at object l ≡ Some n)
+MayRun object n (Faa a t rs ds l) =
+    HasRow object a (length rs) × HasRow object a (length ds) × (is_code_term n t ≡ true) × AreBelow n rs × (are_code_terms n ds ≡ true) × (variables_at object l ≡ Some n)
 MayRun object n (If f l m) = (is_code_formula n f ≡ true) × (variables_at object l ≡ Some n) × (variables_at object m ≡ Some n)
 MayRun object n (Return vs) = (length vs ≤ 3) × (are_code_terms n vs ≡ true)

@@ -8,6 +8,7 @@ pub data Instr : Type 0 where
   Store : (array : ℕ) (index : Term) (values : List Term) (next : ℕ) → Instr
   Cas : (array : ℕ) (index : Term) (old new : List Term) (equal different : ℕ) → Instr
   Set : (targets : List ℕ) (values : List Term) (next : ℕ) → Instr
+  Faa : (array : ℕ) (index : Term) (targets : List ℕ) (added : List Term) (next : ℕ) → Instr
   If : (condition : Formula) (holds fails : ℕ) → Instr
   Return : (values : List Term) → Instr
 

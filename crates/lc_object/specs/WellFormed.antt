@@ -3,7 +3,7 @@ use Rattle.std.specs.Prelude.{ℕ, zero, suc, ◌+◌, ◌-◌, Bool, true, fals
 use Rattle.std.specs.List.{list_all, list_any}
 use Rattle.lc_term.specs.Syntax.{Term, Number, Variable, Bound, Add, Subtract, Multiply, Read}
 use Rattle.lc_term.specs.Syntax.{Formula, Le, Eq, Not, And, Or, Implies, Forall, Exists, Formulas, none, more}
-use Rattle.lc_object.specs.Syntax.{Instr, Load, Store, Cas, Set, If, Return, Array, Operation, Point, Object}
+use Rattle.lc_object.specs.Syntax.{Instr, Load, Store, Cas, Set, Faa, If, Return, Array, Operation, Point, Object}
 
 -- how many variables there are in an operation's code: the number of clients, the client, arguments and locals
 abbrev pub variable_count : Operation → ℕ
@@ -78,6 +78,9 @@ is_instruction object op o (Cas a t old new l m) =
     && are_code_terms (variable_count o) old && are_code_terms (variable_count o) new && is_label object op l && is_label object op m
 is_instruction object op o (Set rs vs l) =
     length vs == length rs && are_targets o rs && are_code_terms (variable_count o) vs && is_label object op l
+is_instruction object op o (Faa a t rs ds l) =
+    has_width object a (length rs) && has_width object a (length ds) && is_code_term (variable_count o) t && are_targets o rs
+    && are_code_terms (variable_count o) ds && is_label object op l
 is_instruction object op o (If f l m) = is_code_formula (variable_count o) f && is_label object op l && is_label object op m
 is_instruction object op o (Return vs) = length vs == o.replies && are_code_terms (variable_count o) vs
 

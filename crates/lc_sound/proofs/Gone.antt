@@ -5,7 +5,7 @@ use Rattle.std.proofs.lemmas.Bool.{eqb-true}
 use Rattle.std.proofs.lemmas.Option.{same_Some}
 use Rattle.lc_term.specs.Updates.{variable, assigned}
 use Rattle.lc_term.specs.Meaning.{State, EachHolds}
-use Rattle.lc_object.specs.Syntax.{Instr, Load, Store, Cas, Set, If, Return, Operation, Point, Object}
+use Rattle.lc_object.specs.Syntax.{Instr, Load, Store, Cas, Set, Faa, If, Return, Operation, Point, Object}
 use Rattle.lc_object.specs.Edges.{Edge, edges, edges_at, edges_from}
 use Rattle.lc_object.specs.WellFormed.{is_instruction, is_label, passes_at}
 use Rattle.lc_object.specs.declared.instr.EdgeKind.{EdgeKind}
@@ -39,6 +39,8 @@ point_of object p (Cas a t old new l m) e (inr (inl is)) = ap (λ (x : Edge). x.
 point_of object p (Cas a t old new l m) e (inr (inr none)) = absurd none
 point_of object p (Set rs us l) e (inl is) = ap (λ (x : Edge). x.point) is
 point_of object p (Set rs us l) e (inr none) = absurd none
+point_of object p (Faa a t rs ds l) e (inl is) = ap (λ (x : Edge). x.point) is
+point_of object p (Faa a t rs ds l) e (inr none) = absurd none
 point_of object p (If f l m) e (inl is) = ap (λ (x : Edge). x.point) is
 point_of object p (If f l m) e (inr (inl is)) = ap (λ (x : Edge). x.point) is
 point_of object p (If f l m) e (inr (inr none)) = absurd none
@@ -88,6 +90,8 @@ led object p op o (Cas a t old new l m) e h (inr (inl is)) q n = to object op m 
 led object p op o (Cas a t old new l m) e h (inr (inr none)) q n = absurd none
 led object p op o (Set rs us l) e h (inl is) q n = to object op l q e.next (right_true _ _ h) (next_of e _ is) n
 led object p op o (Set rs us l) e h (inr none) q n = absurd none
+led object p op o (Faa a t rs ds l) e h (inl is) q n = to object op l q e.next (right_true _ _ h) (next_of e _ is) n
+led object p op o (Faa a t rs ds l) e h (inr none) q n = absurd none
 led object p op o (If f l m) e h (inl is) q n = to object op l q e.next (right_true _ _ (left_true _ _ h)) (next_of e _ is) n
 led object p op o (If f l m) e h (inr (inl is)) q n = to object op m q e.next (right_true _ _ h) (next_of e _ is) n
 led object p op o (If f l m) e h (inr (inr none)) q n = absurd none

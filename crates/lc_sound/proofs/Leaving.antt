@@ -10,7 +10,7 @@ use Rattle.lc_term.proofs.Agree.{value-agree}
 use Rattle.lc_seq.specs.Sequential.{Choice, given_in}
 use Rattle.lc_seq.specs.Specification.{chosen}
 use Rattle.lc_seq.specs.TextStep.{call_env}
-use Rattle.lc_object.specs.Syntax.{Instr, Load, Store, Cas, Set, If, Return, Operation, Object}
+use Rattle.lc_object.specs.Syntax.{Instr, Load, Store, Cas, Set, Faa, If, Return, Operation, Object}
 use Rattle.lc_object.specs.Edges.{Edge, edges_at}
 use Rattle.lc_object.specs.WellFormed.{is_instruction, variable_count, is_code_term, are_code_terms}
 use Rattle.lc_machine.specs.EdgeSteps.{IsIn}
@@ -80,6 +80,8 @@ return_edge object p op o (Cas a t old new l m) e h (inr (inl is)) n = no_return
 return_edge object p op o (Cas a t old new l m) e h (inr (inr none)) n = absurd none
 return_edge object p op o (Set rs us l) e h (inl is) n = no_return o e _ l is refl n
 return_edge object p op o (Set rs us l) e h (inr none) n = absurd none
+return_edge object p op o (Faa a t rs ds l) e h (inl is) n = no_return o e _ l is refl n
+return_edge object p op o (Faa a t rs ds l) e h (inr none) n = absurd none
 return_edge object p op o (If f l m) e h (inl is) n = no_return o e _ l is refl n
 return_edge object p op o (If f l m) e h (inr (inl is)) n = no_return o e _ m is refl n
 return_edge object p op o (If f l m) e h (inr (inr none)) n = absurd none

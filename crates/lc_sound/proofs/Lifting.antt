@@ -8,7 +8,7 @@ use Rattle.std.proofs.lemmas.Option.{slice_get_within}
 use Rattle.lc_term.specs.Updates.{Update, stored_all, writes_of, variable, assigned}
 use Rattle.lc_term.specs.Syntax.{Term, Variable, Formula, Base}
 use Rattle.lc_term.specs.Meaning.{State, Env, outside, value, EachHolds}
-use Rattle.lc_object.specs.Syntax.{Instr, Load, Store, Cas, Set, If, Return, Point, Operation, Object}
+use Rattle.lc_object.specs.Syntax.{Instr, Load, Store, Cas, Set, Faa, If, Return, Point, Operation, Object}
 use Rattle.lc_object.specs.Edges.{Edge, edges, edges_at}
 use Rattle.lc_object.specs.WellFormed.{is_instruction, are_targets, variable_count}
 use Rattle.lc_machine.specs.World.{In, World}
@@ -83,6 +83,8 @@ edge_targets object p op o (Cas a t old new l m) e h (inr (inl is)) = subst (λ 
 edge_targets object p op o (Cas a t old new l m) e h (inr (inr none)) = absurd none
 edge_targets object p op o (Set rs us l) e h (inl is) = subst (λ (x : Edge). AreBehind (2 + length o.arguments) x.targets) (sym is) (targets_behind o rs (right_true _ _ (left_true _ _ (left_true _ _ h))))
 edge_targets object p op o (Set rs us l) e h (inr none) = absurd none
+edge_targets object p op o (Faa a t rs ds l) e h (inl is) = subst (λ (x : Edge). AreBehind (2 + length o.arguments) x.targets) (sym is) (targets_behind o rs (right_true _ _ (left_true _ _ (left_true _ _ h))))
+edge_targets object p op o (Faa a t rs ds l) e h (inr none) = absurd none
 edge_targets object p op o (If f l m) e h (inl is) = subst (λ (x : Edge). AreBehind (2 + length o.arguments) x.targets) (sym is) tt
 edge_targets object p op o (If f l m) e h (inr (inl is)) = subst (λ (x : Edge). AreBehind (2 + length o.arguments) x.targets) (sym is) tt
 edge_targets object p op o (If f l m) e h (inr (inr none)) = absurd none

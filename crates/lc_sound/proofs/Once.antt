@@ -8,7 +8,7 @@ use Rattle.lc_term.specs.Syntax.{Formula}
 use Rattle.lc_term.specs.Meaning.{State, Env}
 use Rattle.lc_seq.specs.Sequential.{Choice}
 use Rattle.lc_seq.specs.Specification.{Operation}
-use Rattle.lc_object.specs.Syntax.{Instr, Load, Store, Cas, Set, If, Return, Object, Point}
+use Rattle.lc_object.specs.Syntax.{Instr, Load, Store, Cas, Set, Faa, If, Return, Object, Point}
 use Rattle.lc_object.specs.declared.instr.EdgeKind.{EdgeKind}
 use Rattle.lc_object.specs.declared.instr.EdgeKind.TheVariants.{Next}
 use Rattle.lc_machine.specs.World.{Idle, In, World, first_variables}
@@ -36,6 +36,7 @@ does_once object s vs (Cas a t old new m q) k l x y o p (inl (is, d, e, f)) (inr
 does_once object s vs (Cas a t old new m q) k l x y o p (inr (not, d, e, f)) (inl (is, g, h, j)) = absurd (not is)
 does_once object s vs (Cas a t old new m q) k l x y o p (inr (not, d, e, f)) (inr (not', g, h, j)) = (d ∙ sym g, e ∙ sym h, f ∙ sym j)
 does_once object s vs (Set rs us m) k l x y o p (d, e, f) (g, h, j) = (d ∙ sym g, e ∙ sym h, f ∙ sym j)
+does_once object s vs (Faa a t rs us m) k l x y o p (d, e, f) (g, h, j) = (d ∙ sym g, e ∙ sym h, f ∙ sym j)
 does_once object s vs (If t m q) k l x y o p (inl (is, d, e, f)) (inl (is', g, h, j)) = (d ∙ sym g, e ∙ sym h, f ∙ sym j)
 does_once object s vs (If t m q) k l x y o p (inl (is, d, e, f)) (inr (not, g, h, j)) = absurd (not is)
 does_once object s vs (If t m q) k l x y o p (inr (not, d, e, f)) (inl (is, g, h, j)) = absurd (not is)
