@@ -31,6 +31,10 @@ agree-length InOrder (ByName name ys) h = absurd cc
 agree-length (ByName name xs) InOrder h = absurd cc
 agree-length (ByName name xs) (ByName other ys) h = eqb-true (length xs) (length ys) (right_true (bytes_eq name other) _ h)
 
+-- a branch that may be taken is left
+pub left_in : {A : Type 0} (by : Chosen A) (b : Branch) (bs : List Branch) → agree b.label by ≡ true → chosen by (b ∷ bs) ≡ b ∷ chosen by bs
+left_in by b bs e = ap (λ t. if t then b ∷ chosen by bs else chosen by bs) e
+
 both_true : (a b : Bool) → a ≡ true → b ≡ true → (a && b) ≡ true
 both_true true b e f = f
 both_true false b e f = e

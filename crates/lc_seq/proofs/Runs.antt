@@ -18,7 +18,9 @@ use Rattle.std.specs.Prelude.{Vec}
 use Rattle.std.specs.declared.alloc.Global.{Global}
 use Rattle.lc_seq.specs.Applied.{IsApplied}
 use Rattle.lc_seq.specs.Run.{seq_says, outcome_of, outcome_in}
-use Rattle.lc_seq.specs.Specification.{Branch, Operation, update_is_resolved, branch_is_resolved, operation_is_resolved, variables_of, branches_in}
+use Rattle.lc_seq.specs.Specification.{Branch, Operation, update_is_resolved, branch_is_resolved, operation_is_resolved, branches_in, chosen}
+use Rattle.lc_seq.specs.Sequential.{Chosen, given_in}
+use Rattle.lc_seq.proofs.Choosing.{resolved_behind, chosen-resolved}
 use Rattle.lc_seq.specs.TextStep.{stored_all, outcome, TermsFit, UpdatesFit, RunFits, values_of, writes_of, run}
 use Rattle.lc_seq.specs.declared.fault.SeqFault.{SeqFault}
 use Rattle.lc_seq.specs.declared.fault.SeqFault.TheVariants.{Overflow, OutOfMemory}
@@ -143,19 +145,20 @@ each p [] i x all at = absurd cc
 each p (y ∷ xs) zero x all at = let same : y ≡ x = cc in subst (λ z. p z ≡ true) same (and_left (p y) (list_all p xs) all)
 each p (y ∷ xs) (suc i) x all at = each p xs i x (and_right (p y) (list_all p xs) all) at
 
-pub resolved_in : (columns : ℕ) (operations : List Operation) (i n : ℕ) → list_all (operation_is_resolved columns) operations ≡ true → list_all (branch_is_resolved columns (2 + n)) (branches_in (slice_get operations i) n) ≡ true
-resolved_in columns operations i n all = by_operation (slice_get operations i) refl
+pub resolved_in : {A : Type 0} (columns : ℕ) (operations : List Operation) (i n : ℕ) (by : Chosen A) → list_all (operation_is_resolved columns) operations ≡ true →
+    list_all (branch_is_resolved columns (2 + n + length (given_in by))) (chosen by (branches_in (slice_get operations i) n)) ≡ true
+resolved_in columns operations i n by all = chosen-resolved columns (2 + n) by (branches_in (slice_get operations i) n) (by_operation (slice_get operations i) refl)
   where
-    by_operation : (o : Option Operation) → slice_get operations i ≡ o → list_all (branch_is_resolved columns (2 + n)) (branches_in o n) ≡ true
+    by_operation : (o : Option Operation) → slice_get operations i ≡ o → list_all (resolved_behind columns (2 + n)) (branches_in o n) ≡ true
     by_operation None at = refl
     by_operation (Some o) at = by_count (length o.arguments == n) refl
       where
-        by_count : (b : Bool) → (length o.arguments == n) ≡ b → list_all (branch_is_resolved columns (2 + n)) (if b then o.branches else []) ≡ true
+        by_count : (b : Bool) → (length o.arguments == n) ≡ b → list_all (resolved_behind columns (2 + n)) (if b then o.branches else []) ≡ true
         by_count false is = refl
         by_count true is =
             let whole = each (operation_is_resolved columns) operations i o all at in
-            let branches = and_left (list_all (branch_is_resolved columns (variables_of o.arguments)) o.branches) (list_all (λ b. length b.replies == o.replies) o.branches) whole in
-            subst (λ m. list_all (branch_is_resolved columns (2 + m)) o.branches ≡ true) (elim (eqb_tells (length o.arguments) n) [ inl h ↦ h.1 | inr h ↦ absurd (cc (h.0, is)) ]) branches
+            let branches = and_left (list_all (resolved_behind columns (2 + length o.arguments)) o.branches) (list_all (λ b. length b.replies == o.replies) o.branches) whole in
+            subst (λ m. list_all (resolved_behind columns (2 + m)) o.branches ≡ true) (elim (eqb_tells (length o.arguments) n) [ inl h ↦ h.1 | inr h ↦ absurd (cc (h.0, is)) ]) branches
 
 -- what is computed of a call's branches is what is answered to the call
 pub computed_at : (s t : State) (e f : Env) (bs cs : List Branch) (r : Result (Option Outcome) SeqFault) → s ≡ t → e ≡ f → bs ≡ cs

@@ -1,6 +1,7 @@
 //! Sequential objects: what a call does to a state, and what it replies. Specifications, and their steps.
 #![tactic(auto)]
 
+mod choice;
 mod fault;
 mod object;
 mod resolving;
@@ -10,6 +11,7 @@ mod text_call;
 mod text_object;
 mod text_state;
 
+pub use choice::{Label, Pick};
 pub use fault::SeqFault;
 pub use lc_term::Update;
 pub use object::SeqObject;

@@ -6,13 +6,15 @@ use std::alloc::Global;
 /// numbers; a reply is known by its numbers, so two replies with equal numbers are equal.
 pub trait SeqObject {
     ghost use Rattle.std.specs.Prelude.{◌≡◌, ◌↔◌, ℕ, List, ℤ, Option, true, IsTrue, IfOk, MatchOption};
-    ghost use Rattle.lc_seq.specs.Sequential.{Call, Sequential, Step};
+    ghost use Rattle.lc_seq.specs.Sequential.{Call, Choice, Sequential, Step};
     ghost use Rattle.lc_seq.specs.Applied.{IsApplied};
 
     /// What the object keeps between calls.
     type State: Drop;
     /// An operation with the numbers that it is given.
     type Call: Eq + Drop;
+    /// How the call's branch is chosen.
+    type Choice: Drop;
     /// What a call answers.
     type Reply: Eq + Drop;
 
@@ -27,6 +29,9 @@ pub trait SeqObject {
     /// What a call stands for.
     ghost call_meant: { Self.Call → Call };
 
+    /// What a choice stands for.
+    ghost choice_meant: { Self.Choice → Choice };
+
     /// The numbers of a reply.
     ghost numbers: { Self.Reply → List ℤ };
 
@@ -36,18 +41,18 @@ pub trait SeqObject {
     /// The state in which it starts.
     ghost start: { Self → Meaning };
 
-    /// What a call does.
+    /// What a call does under a choice.
     ghost step: { Self → Sequential Meaning };
 
-    /// Every number that is reached where a client's call is applied to a state fits.
-    ghost Fits: { Self → Meaning → ℕ → Call → Type 0 };
+    /// Every number that is reached where a client's call is applied to a state under a choice fits.
+    ghost Fits: { Self → Meaning → ℕ → Call → Choice → Type 0 };
 
     /// The state in which the object starts.
     fn initial(&self, alloc: Global) -> Result<Self::State, OutOfMemory>
         ensures start { IfOk result (λ state. meaning state ≡ start self.now) }
         ensures state { IfOk result (HasState self.now) };
 
-    /// Applies a client's call to a state: a reply, or none where the object allows no step. Without a reply the
+    /// Applies a client's call to a state under a choice: a reply, or none where the object allows no step. Without a reply the
     /// state stays as it was. `Overflow` is answered exactly where a number that is reached does not fit.
     fn apply(
         &self,
@@ -55,9 +60,10 @@ pub trait SeqObject {
         state: &mut Self::State,
         client: u32,
         call: &Self::Call,
+        choice: &Self::Choice,
     ) -> Result<Option<Self::Reply>, SeqFault>
         requires { HasState self.now state.old }
-        ensures applied { IsApplied numbers (step self.now (meaning state.old) client (call_meant call.now)) (Fits self.now (meaning state.old) client (call_meant call.now)) (meaning state.old) (meaning state.new) result }
+        ensures applied { IsApplied numbers (step self.now (meaning state.old) client (call_meant call.now) (choice_meant choice.now)) (Fits self.now (meaning state.old) client (call_meant call.now) (choice_meant choice.now)) (meaning state.old) (meaning state.new) result }
         ensures state { HasState self.now state.new };
 
     /// The call of this code and these numbers, if the object has one.
@@ -85,5 +91,5 @@ pub trait SeqObject {
     ghost equal_replies: { (a b : Self.Reply) → (Self.Reply.eq a b ≡ true) ↔ (numbers a ≡ numbers b) };
 
     /// Only a call that the object has takes a step.
-    ghost steps_by_calls: { (object : Self) (s : Meaning) (client : ℕ) (call : Call) (t : Meaning) (reply : List ℤ) → Step (step object) s client call t reply → HasCall object call };
+    ghost steps_by_calls: { (object : Self) (s : Meaning) (client : ℕ) (call : Call) (choice : Choice) (t : Meaning) (reply : List ℤ) → Step (step object) s client call choice t reply → HasCall object call };
 }

@@ -5,7 +5,7 @@ ghost use Rattle.lc_term.specs.Places.{known, term_passes, column_passes, is_kno
 ghost use Rattle.lc_term.specs.Syntax.{formulas};
 ghost use Rattle.lc_term.specs.Truth.{is_ground, are_ground};
 ghost use Rattle.lc_term.specs.View.{term_of, column_of, formula_of, formulas_of};
-ghost use Rattle.lc_seq.specs.Specification.{update_is_resolved, branch_is_resolved, operation_is_resolved, names_differ, are_resolved};
+ghost use Rattle.lc_seq.specs.Specification.{update_is_resolved, branch_is_resolved, variables_of, operation_is_resolved, names_differ, are_resolved};
 ghost use Rattle.lc_seq.specs.SpecView.{update_of, updates_of, branch_of, branches_of, operation_of, operations_of};
 
 use crate::specification::{Branch, Operation};
@@ -118,11 +118,16 @@ fn branch_is_resolved(branch: &Branch, columns: usize, variables: usize) -> bool
         && terms_are_known(&branch.replies, columns, variables)
 }
 
-fn branches_are_resolved(branches: &[Branch], columns: usize, variables: usize) -> bool
-    ensures { result ≡ list_all (branch_is_resolved columns variables) (branches_of branches.now) }
+// The same of branches, each with its parameters behind so many arguments.
+fn branches_are_resolved(branches: &[Branch], columns: usize, arguments: &[Name]) -> bool
+    ensures { result ≡ list_all (λ b. branch_is_resolved columns (variables_of (map bytes_of arguments.now) b) b) (branches_of branches.now) }
 {
     for branch in branches {
-        if !branch_is_resolved(branch, columns, variables) {
+        if !branch_is_resolved(
+            branch,
+            columns,
+            arguments.len() + branch.label.parameters().len() + 2,
+        ) {
             return false;
         }
     }
@@ -143,7 +148,7 @@ fn have_replies(branches: &[Branch], count: usize) -> bool
 fn operation_is_resolved(operation: &Operation, columns: usize) -> bool
     ensures { result ≡ operation_is_resolved columns (operation_of operation.now) }
 {
-    branches_are_resolved(&operation.branches, columns, operation.arguments.len() + 2)
+    branches_are_resolved(&operation.branches, columns, &operation.arguments)
         && have_replies(&operation.branches, operation.replies as usize)
 }
 

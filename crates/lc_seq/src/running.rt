@@ -1,4 +1,4 @@
-ghost use Rattle.std.specs.Prelude.{◌≡◌, ◌+◌, true, IfOk, IfSome, length, map};
+ghost use Rattle.std.specs.Prelude.{◌≡◌, ◌+◌, ◌++◌, true, IfOk, IfSome, length, map};
 ghost use Rattle.std.specs.List.{list_all};
 ghost use Rattle.lc_term.specs.Places.{known, term_passes};
 ghost use Rattle.lc_term.specs.State.{state_of, env_of, column_count, variable_count};
@@ -8,10 +8,11 @@ ghost use Rattle.lc_term.specs.Reached.{TermsFit};
 ghost use Rattle.lc_term.specs.Updates.{UpdatesFit, AreWithin, writes_of, values_of};
 ghost use Rattle.lc_term.specs.UpdateView.{updates_of, writes_shown};
 ghost use Rattle.lc_seq.specs.Run.{seq_says, outcome_of, outcome_in};
-ghost use Rattle.lc_seq.specs.Specification.{update_is_resolved, branch_is_resolved};
-ghost use Rattle.lc_seq.specs.SpecView.{branch_of, branches_of};
+ghost use Rattle.lc_seq.specs.Specification.{update_is_resolved, branch_is_resolved, chosen};
+ghost use Rattle.lc_seq.specs.SpecView.{branch_of, branches_of, choice_of};
 ghost use Rattle.lc_seq.specs.TextStep.{run, RunFits, call_env};
 
+use crate::choice::Pick;
 use crate::fault::SeqFault;
 use crate::specification::Branch;
 use lc_base::OutOfMemory;
@@ -25,15 +26,21 @@ pub struct Outcome {
     pub replies: Vec<i64>,
 }
 
-/// The variables of a branch at a client's call.
-pub fn call_env(alloc: Global, client: u32, numbers: &[i64]) -> Result<Env, OutOfMemory>
-    ensures env { IfOk result (λ env. env_of env ≡ call_env client numbers.now) }
-    ensures count { IfOk result (λ env. variable_count env ≡ 2 + length numbers.now) }
+/// The variables of a branch at a client's call, where it is given these numbers for its parameters.
+pub fn call_env(
+    alloc: Global,
+    client: u32,
+    numbers: &[i64],
+    given: &[i64],
+) -> Result<Env, OutOfMemory>
+    ensures env { IfOk result (λ env. env_of env ≡ call_env client (numbers.now ++ given.now)) }
+    ensures count { IfOk result (λ env. variable_count env ≡ 2 + length numbers.now + length given.now) }
 {
     let mut values = Vec::new(alloc);
     values.push(0)?;
     values.push(i64::from(client))?;
     values.extend_from_slice(numbers)?;
+    values.extend_from_slice(given)?;
     Ok(Env { values })
 }
 
@@ -92,19 +99,25 @@ fn run_branch(alloc: Global, branch: &Branch, state: &State, env: &Env) -> Resul
     Ok(Outcome { writes, replies })
 }
 
-/// What the first branch stores and replies whose guard holds, if there is one. Nothing is stored. `Overflow` is answered
-/// exactly where a number that is reached does not fit: guards up to that one, then its updates, then its replies.
+/// What the first branch stores and replies whose guard holds, of those that a choice leaves, if there is one. Nothing is
+/// stored. `Overflow` is answered exactly where a number that is reached does not fit: guards of these up to that one, then
+/// its updates, then its replies.
 pub fn run(
     alloc: Global,
     branches: &[Branch],
+    pick: &Pick,
     state: &State,
     env: &Env,
 ) -> Result<Option<Outcome>, SeqFault>
-    requires { list_all (branch_is_resolved (column_count state.now) (variable_count env.now)) (branches_of branches.now) ≡ true }
-    ensures computed { IsComputed seq_says outcome_in (RunFits (state_of state.now) (env_of env.now) (branches_of branches.now)) (run (state_of state.now) (env_of env.now) (branches_of branches.now)) result }
+    requires { list_all (branch_is_resolved (column_count state.now) (variable_count env.now)) (chosen (choice_of pick.now) (branches_of branches.now)) ≡ true }
+    ensures computed { let bs = chosen (choice_of pick.now) (branches_of branches.now) in
+        IsComputed seq_says outcome_in (RunFits (state_of state.now) (env_of env.now) bs) (run (state_of state.now) (env_of env.now) bs) result }
     ensures columns { IfOk result (λ found. IfSome found (λ outcome. AreWithin (column_count state.now) (writes_shown outcome.writes.items))) }
 {
     for branch in branches {
+        if !branch.label.agrees(pick) {
+            continue;
+        }
         if eval(&branch.guard, state, env)? {
             let outcome = run_branch(alloc, branch, state, env)?;
             return Ok(Some(outcome));

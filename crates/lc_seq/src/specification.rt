@@ -2,6 +2,7 @@ ghost use Rattle.std.specs.Prelude.{◌≡◌, true, length};
 ghost use Rattle.lc_seq.specs.Specification.{are_resolved};
 ghost use Rattle.lc_seq.specs.SpecView.{operations_of};
 
+use crate::choice::Label;
 use crate::resolving::are_resolved;
 use lc_base::{Name, OpId};
 use lc_term::{Formula, Term, Update};
@@ -14,16 +15,17 @@ pub struct Column {
     pub start: i64,
 }
 
-/// What is stored and replied where a guard holds. Variable 0 is the number of clients, which no specification
-/// reads, variable 1 is the client, and the arguments follow.
+/// What is stored and replied where a guard holds, and how it may be taken. Variable 0 is the number of clients, which no
+/// specification reads, variable 1 is the client, and the arguments and the branch's parameters follow.
 #[derive(Drop)]
 pub struct Branch {
+    pub label: Label,
     pub guard: Formula,
     pub updates: Vec<Update>,
     pub replies: Vec<Term>,
 }
 
-/// An operation. A call of it takes the first branch whose guard holds.
+/// An operation. A call of it takes, of the branches that its choice leaves, the first whose guard holds.
 #[derive(Drop)]
 pub struct Operation {
     pub name: Name,

@@ -1,5 +1,6 @@
 ghost use Rattle.std.specs.Prelude.{◌≡◌, ◌↔◌, IsTrue};
 
+use crate::choice::Pick;
 use crate::fault::SeqFault;
 use crate::object::SeqObject;
 use crate::running::{call_env, run};
@@ -21,7 +22,7 @@ impl SeqObject for TextSpec {
     ghost use Rattle.std.specs.Prelude.{◌≡◌, true, length};
     ghost use Rattle.lc_term.specs.Meaning.{State};
     ghost use Rattle.lc_seq.specs.Specification.{has_call};
-    ghost use Rattle.lc_seq.specs.SpecView.{operations_of, columns_of, text_call_of};
+    ghost use Rattle.lc_seq.specs.SpecView.{operations_of, columns_of, text_call_of, choice_of};
     ghost use Rattle.lc_seq.specs.TextStep.{text_step, TextFits, start_of};
     ghost use Rattle.lc_seq.specs.TextView.{text_state_of, IsStateOf};
     ghost use Rattle.lc_seq.specs.TextLaws.{calls_are_equal, replies_are_equal, text_steps_by_calls};
@@ -29,6 +30,8 @@ impl SeqObject for TextSpec {
     type State = TextState;
 
     type Call = TextCall;
+
+    type Choice = Pick;
 
     type Reply = Vec<i64>;
 
@@ -39,6 +42,8 @@ impl SeqObject for TextSpec {
     ghost HasState = { λ spec state. IsStateOf (length spec.columns.items) state };
 
     ghost call_meant = { text_call_of };
+
+    ghost choice_meant = { choice_of };
 
     ghost numbers = { λ reply. reply.items };
 
@@ -72,10 +77,11 @@ impl SeqObject for TextSpec {
         state: &mut TextState,
         client: u32,
         call: &TextCall,
+        choice: &Pick,
     ) -> Result<Option<Vec<i64>>, SeqFault> {
         let branches = self.branches_for(call.op, call.numbers.len());
-        let env = call_env(alloc, client, &call.numbers)?;
-        match run(alloc, branches, &state.cells, &env)? {
+        let env = call_env(alloc, client, &call.numbers, choice.numbers())?;
+        match run(alloc, branches, choice, &state.cells, &env)? {
             Some(outcome) => {
                 state.cells.write_all(alloc, &outcome.writes)?;
                 Ok(Some(outcome.replies))
