@@ -1,19 +1,19 @@
--- What is written of histories: it has no floats, nests four deep, and says nothing else.
+-- What is written of histories: it has no floats, nests five deep, and says nothing else.
 use Rattle.std.proofs.Common.{◌≡◌, ℕ, suc, ◌≤◌, Bool, true, false, cond, ℤ, pos, negsuc, List, [], ◌∷◌, ◌++◌, Option, Some, None, option_map, option_and_then, map, slice_get, length, codes, refl, ap, sym, subst, ◌∙◌, arith, append_assoc, append-nil}
 use Rattle.std.specs.Prelude.{bytes_eq, nat_le, nat_lt}
 use Rattle.std.proofs.lemmas.Bool.{and_parts, eqb-true}
-use Rattle.serde_json.specs.Data.{Data, number, object, member, no_members, unsigned, depth, items_depth}
+use Rattle.serde_json.specs.Data.{Data, number, string, object, member, no_members, unsigned, depth, items_depth}
 use Rattle.serde_json.specs.Read.{read}
 use Rattle.serde_json.specs.View.{items_of}
-use Rattle.serde_json.specs.Written.{has_float, compact_text}
-use Rattle.lc_seq.specs.Sequential.{Call}
+use Rattle.serde_json.specs.Written.{has_float, items_have_float, compact_text}
+use Rattle.lc_seq.specs.Sequential.{Call, Choice, InOrder, ByName, given_in}
 use Rattle.lc_seq.specs.Specification.{Operation, takes}
 use Rattle.lc_hist.specs.History.{Event, Called, Replied, Entry}
 use Rattle.lc_hist.specs.JsonHistories.{parts_in, AreNext, AreEntries}
 use Rattle.lc_hist.specs.JsonKept.{AreKept, IsKeptEvent, IsKeptEntry, Each}
-use Rattle.lc_hist.specs.JsonValues.{all_in, numbers_in, client_in, place_of, number_within, operation_of, call_with, call_in, has_replies, entry_with, event_in, entry_in}
+use Rattle.lc_hist.specs.JsonValues.{all_in, numbers_in, client_in, place_of, number_within, operation_of, call_with, call_in, has_replies, has_choice, choice_with, pick_in, entry_with, done_from, event_in, entry_in}
 use Rattle.lc_hist.proofs.JsonLists.{both_parts, values_in-items_of}
-use Rattle.lc_hist.specs.JsonWritten.{list_data, number_data, numbers_data, name_of, name_data, event_data, entry_data, history_data, history_text, SaysOnly}
+use Rattle.lc_hist.specs.JsonWritten.{list_data, number_data, numbers_data, name_of, name_data, event_data, entry_data, choice_data, history_data, history_text, SaysOnly}
 use Rattle.lc_hist.proofs.NamesApart.{NamesDiffer}
 
 -- ---- no floats
@@ -37,8 +37,12 @@ event_has_no_float : (operations : List Operation) (e : Event) → has_float (ev
 event_has_no_float operations (Called c call) = rw (name_has_no_float (slice_get operations call.op), numbers_have_no_float call.numbers) refl
 event_has_no_float operations (Replied c reply) = rw (numbers_have_no_float reply) refl
 
+choice_has_no_float : (choice : Choice) → items_have_float (items_of (choice_data choice)) ≡ false
+choice_has_no_float InOrder = refl
+choice_has_no_float (ByName name numbers) = rw (numbers_have_no_float numbers) refl
+
 entry_has_no_float : (operations : List Operation) (e : Entry) → has_float (entry_data operations e) ≡ false
-entry_has_no_float operations e = rw (name_has_no_float (slice_get operations e.call.op), numbers_have_no_float e.call.numbers, numbers_have_no_float e.reply) refl
+entry_has_no_float operations e = rw (name_has_no_float (slice_get operations e.call.op), numbers_have_no_float e.call.numbers, numbers_have_no_float e.reply, choice_has_no_float e.choice) refl
 
 pub history_has_no_float : (operations : List Operation) (events : List Event) (order : List Entry) → has_float (history_data operations events order) ≡ false
 history_has_no_float operations events order =
@@ -64,12 +68,17 @@ shallow_event : (operations : List Operation) (e : Event) → depth (event_data 
 shallow_event operations (Called c call) = omega (arith, shallow_name (slice_get operations call.op), shallow_numbers call.numbers)
 shallow_event operations (Replied c reply) = omega (arith, shallow_numbers reply)
 
-shallow_entry : (operations : List Operation) (e : Entry) → depth (entry_data operations e) ≤ 2
-shallow_entry operations e = omega (arith, shallow_name (slice_get operations e.call.op), shallow_numbers e.call.numbers, shallow_numbers e.reply)
+shallow_choice : (choice : Choice) → items_depth (items_of (choice_data choice)) ≤ 2
+shallow_choice InOrder = omega arith
+shallow_choice (ByName name numbers) = omega (arith, shallow_numbers numbers)
+
+shallow_entry : (operations : List Operation) (e : Entry) → depth (entry_data operations e) ≤ 3
+shallow_entry operations e =
+    omega (arith, shallow_name (slice_get operations e.call.op), shallow_numbers e.call.numbers, shallow_numbers e.reply, shallow_choice e.choice)
 
 pub history_is_shallow : (operations : List Operation) (events : List Event) (order : List Entry) → depth (history_data operations events order) ≤ 127
 history_is_shallow operations events order =
-    omega (arith, shallow_items (event_data operations) 2 (shallow_event operations) events, shallow_items (entry_data operations) 2 (shallow_entry operations) order)
+    omega (arith, shallow_items (event_data operations) 2 (shallow_event operations) events, shallow_items (entry_data operations) 3 (shallow_entry operations) order)
 
 -- ---- what is written says nothing else
 
@@ -142,27 +151,61 @@ event_is operations differ (Replied c reply) said kept h =
     let same : reply ≡ parts.1 = cc (kept, parts.3) in
     (λ i. Replied (client i) (same i)) ∙ parts.4
 
-entry_of_parts : (operations : List Operation) (c : ℕ) (call : Call) (reply : List ℤ) (b : Bool) (said : Entry) → cond b (Some (record { client = c; call = call; reply = reply })) None ≡ Some said
-    → record { client = c; call = call; reply = reply } ≡ said
-entry_of_parts operations c call reply true said h = cc
-entry_of_parts operations c call reply false said h = absurd cc
+entry_of_parts : (operations : List Operation) (c : ℕ) (call : Call) (choice : Choice) (reply : List ℤ) (b : Bool) (said : Entry)
+    → cond b (Some (record { client = c; call = call; choice = choice; reply = reply })) None ≡ Some said
+    → record { client = c; call = call; choice = choice; reply = reply } ≡ said
+entry_of_parts operations c call choice reply true said h = cc
+entry_of_parts operations c call choice reply false said h = absurd cc
 
-three_parts : {A B C D : Type 0} (f : A → B → C → Option D) (a : Option A) (b : Option B) (c : Option C) (x : D)
-    → option_and_then (λ y. option_and_then (λ z. option_and_then (f y z) c) b) a ≡ Some x
-    → (y : A) × (z : B) × (w : C) × (a ≡ Some y) × (b ≡ Some z) × (c ≡ Some w) × (f y z w ≡ Some x)
-three_parts f None b c x h = absurd cc
-three_parts f (Some y) None c x h = absurd cc
-three_parts f (Some y) (Some z) None x h = absurd cc
-three_parts f (Some y) (Some z) (Some w) x h = (y, z, w, refl, refl, refl, h)
+four_parts : {A B C D E : Type 0} (f : A → B → C → D → Option E) (a : Option A) (b : Option B) (c : B → Option C) (d : Option D) (x : E)
+    → option_and_then (λ y. option_and_then (λ z. option_and_then (λ u. option_and_then (f y z u) d) (c z)) b) a ≡ Some x
+    → (y : A) × (z : B) × (u : C) × (w : D) × (a ≡ Some y) × (b ≡ Some z) × (c z ≡ Some u) × (d ≡ Some w) × (f y z u w ≡ Some x)
+four_parts f None b c d x h = absurd cc
+four_parts f (Some y) None c d x h = absurd cc
+four_parts f (Some y) (Some z) c d x h = by (c z) refl d refl h
+  where
+    by : (k : Option _) → c z ≡ k → (l : Option _) → d ≡ l → option_and_then (λ u. option_and_then (f y z u) l) k ≡ Some x
+        → (y' : _) × (z' : _) × (u : _) × (w : _) × (Some y ≡ Some y') × (Some z ≡ Some z') × (c z' ≡ Some u) × (d ≡ Some w) × (f y' z' u w ≡ Some x)
+    by None is l at h = absurd cc
+    by (Some u) is None at h = absurd cc
+    by (Some u) is (Some w) at h = (y, z, u, w, refl, refl, is, at, h)
+
+-- how a choice is said in a history
+abbrev said : Choice → Option Data
+said InOrder = None
+said (ByName name numbers) = Some (list_data (string name ∷ numbers_data numbers ∷ []))
+
+choice_of_parts : (b : Bool) (choice other : Choice) → cond b (Some choice) None ≡ Some other → choice ≡ other
+choice_of_parts true choice other h = cc
+choice_of_parts false choice other h = absurd cc
+
+choice_is : (operations : List Operation) (op : ℕ) (choice other : Choice) → AreKept (given_in choice) → pick_in operations op (said choice) ≡ Some other → choice ≡ other
+choice_is operations op InOrder other kept h = choice_of_parts (has_choice (slice_get operations op) InOrder) InOrder other h
+choice_is operations op (ByName name numbers) other kept h =
+    choice_of_parts (has_choice (slice_get operations op) (ByName name numbers)) (ByName name numbers) other (rw kept at h)
+
+entry_parts : (operations : List Operation) → NamesDiffer operations → (c : ℕ) (call : Call) (choice : Choice) (reply : List ℤ) (other : Entry) → AreKept call.numbers → AreKept reply → AreKept (given_in choice)
+    → done_from operations (number (unsigned c)) (name_data operations call.op) (numbers_data call.numbers) (numbers_data reply) (said choice) ≡ Some other
+    → record { client = c; call = call; choice = choice; reply = reply } ≡ other
+entry_parts operations differ c call choice reply other kept replied given h =
+    let parts = four_parts (entry_with operations) (client_in (number (unsigned c))) (call_in operations (name_data operations call.op) (numbers_data call.numbers))
+    (λ k. pick_in operations k.op (said choice)) (numbers_in (numbers_data reply)) other h in
+    let client = client_is c parts.0 parts.4 in
+    let same = named_call operations differ call parts.1 (slice_get operations call.op) refl kept parts.5 in
+    let how = choice_is operations (parts.1).op choice parts.2 given parts.6 in
+    let answer : reply ≡ parts.3 = cc (replied, parts.7) in
+    let whole = entry_of_parts operations parts.0 parts.1 parts.2 parts.3 (has_replies (slice_get operations parts.1.op) (length parts.3)) other parts.8 in
+    (λ i. record { client = client i; call = same i; choice = how i; reply = answer i }) ∙ whole
+
+entry_by : (operations : List Operation) → NamesDiffer operations → (c : ℕ) (call : Call) (choice : Choice) (reply : List ℤ) (other : Entry) → AreKept call.numbers → AreKept reply → AreKept (given_in choice)
+    → entry_in operations (entry_data operations (record { client = c; call = call; choice = choice; reply = reply })) ≡ Some other
+    → record { client = c; call = call; choice = choice; reply = reply } ≡ other
+entry_by operations differ c call InOrder reply other kept replied given h = entry_parts operations differ c call InOrder reply other kept replied given h
+entry_by operations differ c call (ByName name numbers) reply other kept replied given h =
+    entry_parts operations differ c call (ByName name numbers) reply other kept replied given h
 
 pub entry_is : (operations : List Operation) → NamesDiffer operations → (e said : Entry) → IsKeptEntry e → entry_in operations (entry_data operations e) ≡ Some said → e ≡ said
-entry_is operations differ e said kept h =
-    let parts = three_parts (entry_with operations) (client_in (number (unsigned e.client))) (call_in operations (name_data operations e.call.op) (numbers_data e.call.numbers)) (numbers_in (numbers_data e.reply)) said h in
-    let client = client_is e.client parts.0 parts.3 in
-    let same = named_call operations differ e.call parts.1 (slice_get operations e.call.op) refl kept.0 parts.4 in
-    let reply : e.reply ≡ parts.2 = cc (kept.1, parts.5) in
-    let whole = entry_of_parts operations parts.0 parts.1 parts.2 (has_replies (slice_get operations parts.1.op) (length parts.2)) said parts.6 in
-    (λ i. record { client = client i; call = same i; reply = reply i }) ∙ whole
+entry_is operations differ e other kept h = entry_by operations differ e.client e.call e.choice e.reply other kept.0 kept.1 kept.2 h
 
 each_behind : {A : Type 0} (P : A → Type 0) (x : A) (xs : List A) → Each P (x ∷ xs) → Each P xs
 each_behind P x xs each i y at = each (suc i) y at

@@ -3,7 +3,7 @@ use Rattle.std.proofs.Common.{◌≡◌, ℕ, suc, ◌<◌, List, ℤ, Some, Ok,
 use Rattle.std.specs.Prelude.{◌==◌, if◌then◌else◌}
 use Rattle.std.proofs.lemmas.Bool.{cases_order}
 use Rattle.std.proofs.lemmas.Option.{slice_get_within}
-use Rattle.lc_seq.specs.Sequential.{Call, Sequential}
+use Rattle.lc_seq.specs.Sequential.{Call, Sequential, Choice}
 use Rattle.lc_hist.specs.History.{Event, Entry}
 use Rattle.lc_hist.specs.Judged.{IsFirstFailure, FitsAlong, applied, IsOverflow, IsJudged, IsTold}
 use Rattle.lc_hist.specs.Tests.{IsTested, Passes, rank}
@@ -52,12 +52,12 @@ one_failure step start h order p q r s a b =
     ap₂ Order place (sym (ranked r) ∙ ap by_rank rank_same ∙ ranked s)
 
 -- where the numbers fit, there is no overflow
-fits_whole : {A : Type 0} (step : Sequential A) (Fits : A → ℕ → Call → Type 0) (start : A) (h : List Event) (order : List Entry) (p : ℕ) →
+fits_whole : {A : Type 0} (step : Sequential A) (Fits : A → ℕ → Call → Choice → Type 0) (start : A) (h : List Event) (order : List Entry) (p : ℕ) →
     FitsAlong step Fits start order → IsOverflow step Fits start h order p → ⊥
 fits_whole step Fits start h order p fits o =
     o.overflows (fits_at step Fits start o.state order (length order) p o.entry (slice_get_within order p o.entry o.stands) o.stands o.leads (subst (FitsAlong step Fits start) (sym (take_whole order)) fits))
 
-fits_before : {A : Type 0} (step : Sequential A) (Fits : A → ℕ → Call → Type 0) (start : A) (h : List Event) (order : List Entry) (n p : ℕ) → p < n →
+fits_before : {A : Type 0} (step : Sequential A) (Fits : A → ℕ → Call → Choice → Type 0) (start : A) (h : List Event) (order : List Entry) (n p : ℕ) → p < n →
     FitsAlong step Fits start (take n order) → IsOverflow step Fits start h order p → ⊥
 fits_before step Fits start h order n p lt fits o = o.overflows (fits_at step Fits start o.state order n p o.entry lt o.stands o.leads fits)
 
@@ -69,7 +69,7 @@ at_least NoStep p q lt = omega arith
 at_least Preceded p q lt = omega arith
 
 -- nor at the place of a test that is not passed
-not_here : {A : Type 0} (step : Sequential A) (Fits : A → ℕ → Call → Type 0) (start : A) (h : List Event) (order : List Entry) (p : ℕ) (reason : Reason) →
+not_here : {A : Type 0} (step : Sequential A) (Fits : A → ℕ → Call → Choice → Type 0) (start : A) (h : List Event) (order : List Entry) (p : ℕ) (reason : Reason) →
     IsFirstFailure step start h order p reason → FitsAlong step Fits start (take (applied reason p) order) → IsOverflow step Fits start h order p → ⊥
 not_here step Fits start h order p OtherCall f fits o = f.fails o.call
 not_here step Fits start h order p OtherReply f fits o = f.fails o.reply
@@ -77,7 +77,7 @@ not_here step Fits start h order p MissingCall f fits o = let lt = slice_get_wit
 not_here step Fits start h order p NoStep f fits o = fits_before step Fits start h order (suc p) p (omega arith) fits o
 not_here step Fits start h order p Preceded f fits o = fits_before step Fits start h order (suc p) p (omega arith) fits o
 
-no_overflow : {A : Type 0} (step : Sequential A) (Fits : A → ℕ → Call → Type 0) (start : A) (h : List Event) (order : List Entry) (q p : ℕ) (reason : Reason) →
+no_overflow : {A : Type 0} (step : Sequential A) (Fits : A → ℕ → Call → Choice → Type 0) (start : A) (h : List Event) (order : List Entry) (q p : ℕ) (reason : Reason) →
     IsFirstFailure step start h order q reason → FitsAlong step Fits start (take (applied reason q) order) → IsOverflow step Fits start h order p → ⊥
 no_overflow step Fits start h order q p reason f fits o =
     elim (cases_order p q) [
@@ -86,7 +86,7 @@ no_overflow step Fits start h order q p reason f fits o =
       | inr (inr more) ↦ f.fails (o.places q reason more f.tested)
     ]
 
-pub one_judgement : {A : Type 0} (step : Sequential A) (Fits : A → ℕ → Call → Type 0) (start : A) (h : List Event) (order : List Entry) (r s : Result (Unit {0}) JudgeFault) →
+pub one_judgement : {A : Type 0} (step : Sequential A) (Fits : A → ℕ → Call → Choice → Type 0) (start : A) (h : List Event) (order : List Entry) (r s : Result (Unit {0}) JudgeFault) →
     IsJudged step Fits start h order r → IsTold r → IsJudged step Fits start h order s → IsTold s → r ≡ s
 one_judgement step Fits start h order (Ok x) (Ok y) a told b also = refl
 one_judgement step Fits start h order (Ok x) (Err (Order p r)) a told b also = absurd (b.1 a.0)

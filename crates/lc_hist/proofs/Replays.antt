@@ -3,7 +3,7 @@ use Rattle.std.proofs.Common.{◌≡◌, ℕ, zero, suc, ◌+◌, ◌<◌, ◌�
 use Rattle.std.proofs.lemmas.Bool.{cases_order}
 use Rattle.std.proofs.Math.Seq.{take-append_seam}
 use Rattle.std.proofs.lemmas.Option.{slice_get_within, slice_get-get_or, get_or_from_slice_get}
-use Rattle.lc_seq.specs.Sequential.{Call, Sequential, Step}
+use Rattle.lc_seq.specs.Sequential.{Call, Sequential, Step, Choice}
 use Rattle.lc_hist.specs.Checked.{call_at, reply_at, IsNamed, IsReplied, AreNames, IsChecked, IsReplayed, IsWithin}
 use Rattle.lc_hist.specs.Faults.{judge_fault}
 use Rattle.lc_hist.specs.WellFormed.{IsWellFormed}
@@ -22,64 +22,64 @@ use Rattle.lc_hist.specs.declared.reason.Reason.TheVariants.{OtherCall, OtherRep
 use Rattle.lc_hist.specs.declared.spans.Span.{Span}
 use Rattle.lc_hist.proofs.Naming.{place_from, length-places_from, call_at-span, span_of-call, reply_at-span, span_of-reply, told_preceded, told_free}
 
-pub leads_next : {A : Type 0} (step : Sequential A) (s u t : A) (order : List Entry) (p : ℕ) (e : Entry) → slice_get order p ≡ Some e → Leads step s (take p order) u → Step step u e.client e.call t e.reply
+pub leads_next : {A : Type 0} (step : Sequential A) (s u t : A) (order : List Entry) (p : ℕ) (e : Entry) → slice_get order p ≡ Some e → Leads step s (take p order) u → Step step u e.client e.call e.choice t e.reply
     → Leads step s (take (suc p) order) t
 leads_next step s u t [] p e at l to = absurd cc
 leads_next step s u t (d ∷ es) zero e at l to =
     let same : e ≡ d = cc in
-    (t, subst (λ z. Step step s z.client z.call t z.reply) same (subst (λ z. Step step z e.client e.call t e.reply) (sym l) to), refl)
+    (t, subst (λ z. Step step s z.client z.call z.choice t z.reply) same (subst (λ z. Step step z e.client e.call e.choice t e.reply) (sym l) to), refl)
 leads_next step s u t (d ∷ es) (suc p) e at l to = (l.0, l.1, leads_next step l.0 u t es p e at l.2 to)
 
-pub legal_next : {A : Type 0} (step : Sequential A) (s u t : A) (order : List Entry) (p : ℕ) (e : Entry) → slice_get order p ≡ Some e → Leads step s (take p order) u → Step step u e.client e.call t e.reply
+pub legal_next : {A : Type 0} (step : Sequential A) (s u t : A) (order : List Entry) (p : ℕ) (e : Entry) → slice_get order p ≡ Some e → Leads step s (take p order) u → Step step u e.client e.call e.choice t e.reply
     → IsLegal step s (take (suc p) order)
 legal_next step s u t [] p e at l to = absurd cc
 legal_next step s u t (d ∷ es) zero e at l to =
     let same : e ≡ d = cc in
-    (t, subst (λ z. Step step s z.client z.call t z.reply) same (subst (λ z. Step step z e.client e.call t e.reply) (sym l) to), tt)
+    (t, subst (λ z. Step step s z.client z.call z.choice t z.reply) same (subst (λ z. Step step z e.client e.call e.choice t e.reply) (sym l) to), tt)
 legal_next step s u t (d ∷ es) (suc p) e at l to = (l.0, l.1, legal_next step l.0 u t es p e at l.2 to)
 
 abbrev state_in : {A : Type 0} → A → Option (A × List ℤ) → A
 state_in s None = s
 state_in s (Some x) = x.0
 
-one_state : {A : Type 0} (step : Sequential A) (s u v : A) (e : Entry) → Step step s e.client e.call u e.reply → Step step s e.client e.call v e.reply → u ≡ v
+one_state : {A : Type 0} (step : Sequential A) (s u v : A) (e : Entry) → Step step s e.client e.call e.choice u e.reply → Step step s e.client e.call e.choice v e.reply → u ≡ v
 one_state step s u v e a b = ap (state_in s) (sym a ∙ b)
 
 pub step_of_legal : {A : Type 0} (step : Sequential A) (s u : A) (order : List Entry) (p : ℕ) (e : Entry) → slice_get order p ≡ Some e → Leads step s (take p order) u → IsLegal step s (take (suc p) order)
-    → (t : A) × Step step u e.client e.call t e.reply
+    → (t : A) × Step step u e.client e.call e.choice t e.reply
 step_of_legal step s u [] p e at l legal = absurd cc
 step_of_legal step s u (d ∷ es) zero e at l legal =
     let same : d ≡ e = cc in
-    (legal.0, subst (λ z. Step step z e.client e.call legal.0 e.reply) l (subst (λ z. Step step s z.client z.call legal.0 z.reply) same legal.1))
+    (legal.0, subst (λ z. Step step z e.client e.call e.choice legal.0 e.reply) l (subst (λ z. Step step s z.client z.call z.choice legal.0 z.reply) same legal.1))
 step_of_legal step s u (d ∷ es) (suc p) e at l legal =
     step_of_legal step l.0 u es p e at l.2 (subst (λ z. IsLegal step z (take (suc p) es)) (one_state step s legal.0 l.0 d legal.1 l.1) legal.2)
 
 -- numbers that fit up to one more place
-pub fits_next : {A : Type 0} (step : Sequential A) (Fits : A → ℕ → Call → Type 0) (s u : A) (order : List Entry) (p : ℕ) (e : Entry) → slice_get order p ≡ Some e → Leads step s (take p order) u
-    → FitsAlong step Fits s (take p order) → Fits u e.client e.call → FitsAlong step Fits s (take (suc p) order)
+pub fits_next : {A : Type 0} (step : Sequential A) (Fits : A → ℕ → Call → Choice → Type 0) (s u : A) (order : List Entry) (p : ℕ) (e : Entry) → slice_get order p ≡ Some e → Leads step s (take p order) u
+    → FitsAlong step Fits s (take p order) → Fits u e.client e.call e.choice → FitsAlong step Fits s (take (suc p) order)
 fits_next step Fits s u [] p e at l fits here = absurd cc
 fits_next step Fits s u (d ∷ es) zero e at l fits here =
     let same : e ≡ d = cc in
-    (subst (λ z. Fits s z.client z.call) same (subst (λ z. Fits z e.client e.call) (sym l) here), λ t taken. tt)
+    (subst (λ z. Fits s z.client z.call z.choice) same (subst (λ z. Fits z e.client e.call e.choice) (sym l) here), λ t taken. tt)
 fits_next step Fits s u (d ∷ es) (suc p) e at l fits here =
     let rest = fits_next step Fits l.0 u es p e at l.2 (fits.1 l.0 l.1) here in
     (fits.0, λ t taken. subst (λ z. FitsAlong step Fits z (take (suc p) es)) (one_state step s l.0 t d l.1 taken) rest)
 
 -- where numbers fit up to a place, they fit at an earlier one
-pub fits_at : {A : Type 0} (step : Sequential A) (Fits : A → ℕ → Call → Type 0) (s u : A) (order : List Entry) (n p : ℕ) (e : Entry) → p < n → slice_get order p ≡ Some e → Leads step s (take p order) u
-    → FitsAlong step Fits s (take n order) → Fits u e.client e.call
+pub fits_at : {A : Type 0} (step : Sequential A) (Fits : A → ℕ → Call → Choice → Type 0) (s u : A) (order : List Entry) (n p : ℕ) (e : Entry) → p < n → slice_get order p ≡ Some e → Leads step s (take p order) u
+    → FitsAlong step Fits s (take n order) → Fits u e.client e.call e.choice
 fits_at step Fits s u [] n p e lt at l fits = absurd cc
 fits_at step Fits s u (d ∷ es) zero p e lt at l fits = absurd (omega arith)
 fits_at step Fits s u (d ∷ es) (suc n) zero e lt at l fits =
     let same : d ≡ e = cc in
-    subst (λ z. Fits z e.client e.call) l (subst (λ z. Fits s z.client z.call) same fits.0)
+    subst (λ z. Fits z e.client e.call e.choice) l (subst (λ z. Fits s z.client z.call z.choice) same fits.0)
 fits_at step Fits s u (d ∷ es) (suc n) (suc p) e lt at l fits = fits_at step Fits l.0 u es n p e (omega arith) at l.2 (fits.1 l.0 l.1)
 
 pub take_whole : {A : Type 0} (xs : List A) → take (length xs) xs ≡ xs
 take_whole [] = refl
 take_whole (x ∷ xs) = ap (λ ys. x ∷ ys) (take_whole xs)
 
-pub fits_all : {A : Type 0} (step : Sequential A) (Fits : A → ℕ → Call → Type 0) (s : A) (order : List Entry) → FitsAlong step Fits s (take (length order) order) → FitsAlong step Fits s order
+pub fits_all : {A : Type 0} (step : Sequential A) (Fits : A → ℕ → Call → Choice → Type 0) (s : A) (order : List Entry) → FitsAlong step Fits s (take (length order) order) → FitsAlong step Fits s order
 fits_all step Fits s order fits = subst (FitsAlong step Fits s) (take_whole order) fits
 
 this_entry : (order : List Entry) (p : ℕ) (e d : Entry) → slice_get order p ≡ Some e → slice_get order p ≡ Some d → e ≡ d
@@ -158,7 +158,7 @@ lesser step start h order p limit within names replies legal free NoStep lt test
 lesser step start h order p limit within names replies legal free Preceded lt tested = free lt
 
 -- an entry passes its tests
-pub passing : {A : Type 0} (step : Sequential A) (Fits : A → ℕ → Call → Type 0) (start : A) (h : List Event) (order : List Entry) (spans : List (Option Span)) (flags : List Bool) (p : ℕ) (e : Entry) (span : Option Span) (flag : Bool) (s t : A)
+pub passing : {A : Type 0} (step : Sequential A) (Fits : A → ℕ → Call → Choice → Type 0) (start : A) (h : List Event) (order : List Entry) (spans : List (Option Span)) (flags : List Bool) (p : ℕ) (e : Entry) (span : Option Span) (flag : Bool) (s t : A)
     → AreNames h order spans flags → PassesBefore step start h order p → Leads step start (take p order) s → FitsAlong step Fits start (take p order) → slice_get order p ≡ Some e → slice_get spans p ≡ Some span → slice_get flags p ≡ Some flag
     → IsChecked step Fits h span flag e s t (Ok None) → PassesBefore step start h order (p + 1) × Leads step start (take (p + 1) order) t × FitsAlong step Fits start (take (p + 1) order)
 passing step Fits start h order spans flags p e span flag s t names before leads fits at is told checked = (
@@ -172,7 +172,7 @@ passing step Fits start h order spans flags p e span flag s t names before leads
 )
 
 -- an entry does not pass them
-pub failing : {A : Type 0} (step : Sequential A) (Fits : A → ℕ → Call → Type 0) (start : A) (h : List Event) (order : List Entry) (spans : List (Option Span)) (flags : List Bool) (p : ℕ) (e : Entry) (span : Option Span) (flag : Bool) (s t : A) (reason : Reason)
+pub failing : {A : Type 0} (step : Sequential A) (Fits : A → ℕ → Call → Choice → Type 0) (start : A) (h : List Event) (order : List Entry) (spans : List (Option Span)) (flags : List Bool) (p : ℕ) (e : Entry) (span : Option Span) (flag : Bool) (s t : A) (reason : Reason)
     → AreNames h order spans flags → PassesBefore step start h order p → Leads step start (take p order) s → slice_get order p ≡ Some e → slice_get spans p ≡ Some span → slice_get flags p ≡ Some flag
     → IsChecked step Fits h span flag e s t (Ok (Some reason)) → IsFirstFailure step start h order p reason
 failing step Fits start h order spans flags p e span flag s t OtherCall names before leads at is told checked = record {
@@ -204,7 +204,7 @@ failing step Fits start h order spans flags p e span flag s t Preceded names bef
 }
 
 -- and the numbers fit that were reached
-pub failing_fits : {A : Type 0} (step : Sequential A) (Fits : A → ℕ → Call → Type 0) (start : A) (h : List Event) (order : List Entry) (p : ℕ) (e : Entry) (span : Option Span) (flag : Bool) (s t : A) (reason : Reason)
+pub failing_fits : {A : Type 0} (step : Sequential A) (Fits : A → ℕ → Call → Choice → Type 0) (start : A) (h : List Event) (order : List Entry) (p : ℕ) (e : Entry) (span : Option Span) (flag : Bool) (s t : A) (reason : Reason)
     → Leads step start (take p order) s → FitsAlong step Fits start (take p order) → slice_get order p ≡ Some e → IsChecked step Fits h span flag e s t (Ok (Some reason)) → FitsAlong step Fits start (take (applied reason p) order)
 failing_fits step Fits start h order p e span flag s t OtherCall leads fits at checked = fits
 failing_fits step Fits start h order p e span flag s t OtherReply leads fits at checked = fits
@@ -213,7 +213,7 @@ failing_fits step Fits start h order p e span flag s t NoStep leads fits at chec
 failing_fits step Fits start h order p e span flag s t Preceded leads fits at checked = fits_next step Fits start s order p e at leads fits checked.2
 
 -- a number does not fit where an entry's call is applied
-pub overflowing : {A : Type 0} (step : Sequential A) (Fits : A → ℕ → Call → Type 0) (start : A) (h : List Event) (order : List Entry) (spans : List (Option Span)) (flags : List Bool) (p : ℕ) (e : Entry) (span : Option Span) (flag : Bool) (s t : A)
+pub overflowing : {A : Type 0} (step : Sequential A) (Fits : A → ℕ → Call → Choice → Type 0) (start : A) (h : List Event) (order : List Entry) (spans : List (Option Span)) (flags : List Bool) (p : ℕ) (e : Entry) (span : Option Span) (flag : Bool) (s t : A)
     → AreNames h order spans flags → PassesBefore step start h order p → Leads step start (take p order) s → FitsAlong step Fits start (take p order) → slice_get order p ≡ Some e → slice_get spans p ≡ Some span → slice_get flags p ≡ Some flag
     → IsChecked step Fits h span flag e s t (Err Overflow) → IsOverflow step Fits start h order p
 overflowing step Fits start h order spans flags p e span flag s t names before leads fits at is told checked = record {
@@ -229,7 +229,7 @@ overflowing step Fits start h order spans flags p e span flag s t names before l
 }
 
 -- what a fault of the object is to the judge
-pub faulting : {A : Type 0} (step : Sequential A) (Fits : A → ℕ → Call → Type 0) (start : A) (h : List Event) (order : List Entry) (spans : List (Option Span)) (flags : List Bool) (p : ℕ) (e : Entry) (span : Option Span) (flag : Bool) (s t : A) (fault : SeqFault)
+pub faulting : {A : Type 0} (step : Sequential A) (Fits : A → ℕ → Call → Choice → Type 0) (start : A) (h : List Event) (order : List Entry) (spans : List (Option Span)) (flags : List Bool) (p : ℕ) (e : Entry) (span : Option Span) (flag : Bool) (s t : A) (fault : SeqFault)
     → AreNames h order spans flags → PassesBefore step start h order p → Leads step start (take p order) s → FitsAlong step Fits start (take p order) → slice_get order p ≡ Some e → slice_get spans p ≡ Some span → slice_get flags p ≡ Some flag
     → IsChecked step Fits h span flag e s t (Err fault) → IsReplayed step Fits start h order (Err (judge_fault fault))
 faulting step Fits start h order spans flags p e span flag s t Overflow names before leads fits at is told checked =
@@ -251,13 +251,13 @@ within_history h c k = there (slice_get (places_from (is_call c) 0 h) k) refl
         let lt = slice_get_within h f.index f.place.element f.place.stands in
         (omega (arith, f.is, lt), return_there (slice_get (places_from (is_return c) 0 h) k) refl)
 
-pub handed_on : {A : Type 0} (step : Sequential A) (Fits : A → ℕ → Call → Type 0) (start : A) (h : List Event) (order : List Entry) (r : Result (Unit {0}) JudgeFault) (fault : JudgeFault)
+pub handed_on : {A : Type 0} (step : Sequential A) (Fits : A → ℕ → Call → Choice → Type 0) (start : A) (h : List Event) (order : List Entry) (r : Result (Unit {0}) JudgeFault) (fault : JudgeFault)
     → IsErrAnd r (λ y. y ≡ fault) → IsReplayed step Fits start h order (Err fault) → IsReplayed step Fits start h order r
 handed_on step Fits start h order (Ok x) fault e known = absurd e
 handed_on step Fits start h order (Err y) fault e known = subst (λ z. IsReplayed step Fits start h order (Err z)) (sym e) known
 
 -- what is answered of the entries is what is answered of the order, where a fault stands
-pub judged_so : {A : Type 0} (step : Sequential A) (Fits : A → ℕ → Call → Type 0) (start : A) (h : List Event) (order : List Entry) (r : Result (Unit {0}) JudgeFault) (fault : JudgeFault)
+pub judged_so : {A : Type 0} (step : Sequential A) (Fits : A → ℕ → Call → Choice → Type 0) (start : A) (h : List Event) (order : List Entry) (r : Result (Unit {0}) JudgeFault) (fault : JudgeFault)
     → IsWellFormed h → IsErrAnd r (λ y. y ≡ fault) → IsReplayed step Fits start h order (Err fault) → IsJudged step Fits start h order r
 judged_so step Fits start h order (Ok x) fault w e known = absurd e
 judged_so step Fits start h order (Err y) fault w e known = subst (λ z. IsJudged step Fits start h order (Err z)) (sym e) (judged fault known)
@@ -322,7 +322,7 @@ pub seam : {A : Type 0} (n : ℕ) (xs ys : List A) → n ≡ length xs → take 
 seam n xs ys e = ap (λ k. take k (xs ++ ys)) e ∙ take-append_seam xs ys
 
 -- what is answered where the entries pass and the clients are complete
-pub all_pass : {A : Type 0} (step : Sequential A) (Fits : A → ℕ → Call → Type 0) (start : A) (h : List Event) (order : List Entry) (clients : List Client)
+pub all_pass : {A : Type 0} (step : Sequential A) (Fits : A → ℕ → Call → Choice → Type 0) (start : A) (h : List Event) (order : List Entry) (clients : List Client)
     → IsWellFormed h → AreClients h clients → HaveSeen (λ c. count (is_of c) order) clients → PassesBefore step start h order (length order) × FitsAlong step Fits start order
     → All (λ client. length client.returns.items ≤ client.entries) clients → Linearizes step start h order × FitsAlong step Fits start order
 all_pass step Fits start h order clients w are seen known all = (
@@ -331,7 +331,7 @@ all_pass step Fits start h order clients w are seen known all = (
 )
 
 -- what is answered where the entries pass and the clients are not complete
-pub some_missing : {A : Type 0} (step : Sequential A) (Fits : A → ℕ → Call → Type 0) (start : A) (h : List Event) (order : List Entry) (clients : List Client) (place : ℕ)
+pub some_missing : {A : Type 0} (step : Sequential A) (Fits : A → ℕ → Call → Choice → Type 0) (start : A) (h : List Event) (order : List Entry) (clients : List Client) (place : ℕ)
     → IsWellFormed h → AreClients h clients → HaveSeen (λ c. count (is_of c) order) clients → PassesBefore step start h order (length order) × FitsAlong step Fits start order
     → (All (λ client. length client.returns.items ≤ client.entries) clients → ⊥) → place ≡ length order
     → IsFirstFailure step start h order place MissingCall × (Linearizes step start h order → ⊥) × FitsAlong step Fits start (take place order)

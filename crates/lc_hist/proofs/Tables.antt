@@ -10,7 +10,7 @@ use Rattle.lc_hist.specs.declared.spans.Client.{Client}
 use Rattle.lc_hist.specs.declared.spans.Span.{Span}
 use Rattle.lc_hist.specs.declared.event.Done.{Done}
 use Rattle.lc_hist.specs.View.{entry_of, entries_in}
-use Rattle.lc_seq.specs.Sequential.{Call}
+use Rattle.lc_seq.specs.Sequential.{Call, Choice}
 use Rattle.lc_hist.specs.Tests.{named}
 use Rattle.lc_hist.proofs.Turns.{count-take_suc}
 use Rattle.lc_hist.proofs.Clients.{same_self}
@@ -229,10 +229,10 @@ count-take-le test (suc n) (x ∷ xs) = step (test x) (count-take-le test n xs)
     step false h = omega arith
 
 -- an entry of the code, by its place
-pub entry_at : {C R : Type 0} (call : C → Call) (numbers : R → List ℤ) (order : List (Done C R)) (i : ℕ) (x : Done C R) → i < length order → x ≡ get_or order i x
-    → slice_get (entries_in call numbers order) i ≡ Some (entry_of call numbers x)
-entry_at call numbers order i x lt is =
-    slice_get-map (entry_of call numbers) order i ∙ ap (option_map (entry_of call numbers)) (slice_get_read order (length order) i x refl lt is)
+pub entry_at : {C H R : Type 0} (call : C → Call) (choice : H → Choice) (numbers : R → List ℤ) (order : List (Done C H R)) (i : ℕ) (x : Done C H R) → i < length order → x ≡ get_or order i x
+    → slice_get (entries_in call choice numbers order) i ≡ Some (entry_of call choice numbers x)
+entry_at call choice numbers order i x lt is =
+    slice_get-map (entry_of call choice numbers) order i ∙ ap (option_map (entry_of call choice numbers)) (slice_get_read order (length order) i x refl lt is)
 
 pub element_at : {A : Type 0} (xs : List A) (i : ℕ) (x : A) → i < length xs → x ≡ get_or xs i x → slice_get xs i ≡ Some x
 element_at xs i x lt is = slice_get_read xs (length xs) i x refl lt is

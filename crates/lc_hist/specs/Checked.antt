@@ -1,6 +1,6 @@
 -- What is tested of one entry of an order, by where its call stands.
 use Rattle.std.specs.Prelude.{◌≡◌, ◌<◌, ℕ, Bool, true, false, List, ℤ, Option, Some, None, IfSome, Result, Ok, Err, length, take, slice_get}
-use Rattle.lc_seq.specs.Sequential.{Call, Sequential, Step}
+use Rattle.lc_seq.specs.Sequential.{Call, Sequential, Step, Choice}
 use Rattle.lc_seq.specs.declared.fault.SeqFault.{SeqFault}
 use Rattle.lc_seq.specs.declared.fault.SeqFault.TheVariants.{Overflow, OutOfMemory}
 use Rattle.lc_hist.specs.History.{Event, Called, Replied, Entry}
@@ -52,24 +52,24 @@ abbrev pub IsReplied : List Event → Option Span → List ℤ → Type 0
 IsReplied h span reply = (given : List ℤ) → reply_at h span ≡ Some given → reply ≡ given
 
 -- whether a step with this reply is taken, where the numbers that are reached fit
-abbrev pub IsTaken : {A : Type 0} → Sequential A → (A → ℕ → Call → Type 0) → A → A → Entry → Result Bool SeqFault → Type 0
-IsTaken step Fits old new e (Ok true) = Fits old e.client e.call × Step step old e.client e.call new e.reply
-IsTaken {A} step Fits old new e (Ok false) = Fits old e.client e.call × ((t : A) → Step step old e.client e.call t e.reply → ⊥)
-IsTaken step Fits old new e (Err Overflow) = Fits old e.client e.call → ⊥
+abbrev pub IsTaken : {A : Type 0} → Sequential A → (A → ℕ → Call → Choice → Type 0) → A → A → Entry → Result Bool SeqFault → Type 0
+IsTaken step Fits old new e (Ok true) = Fits old e.client e.call e.choice × Step step old e.client e.call e.choice new e.reply
+IsTaken {A} step Fits old new e (Ok false) = Fits old e.client e.call e.choice × ((t : A) → Step step old e.client e.call e.choice t e.reply → ⊥)
+IsTaken step Fits old new e (Err Overflow) = Fits old e.client e.call e.choice → ⊥
 IsTaken step Fits old new e (Err OutOfMemory) = Unit {0}
 
 -- the first test that an entry does not pass, if there is one, and that the numbers fit that were reached
-abbrev pub IsChecked : {A : Type 0} → Sequential A → (A → ℕ → Call → Type 0) → List Event → Option Span → Bool → Entry → A → A → Result (Option Reason) SeqFault → Type 0
+abbrev pub IsChecked : {A : Type 0} → Sequential A → (A → ℕ → Call → Choice → Type 0) → List Event → Option Span → Bool → Entry → A → A → Result (Option Reason) SeqFault → Type 0
 IsChecked step Fits h span preceded e old new (Ok None) =
-    IsNamed h span e.call × IsReplied h span e.reply × Fits old e.client e.call × Step step old e.client e.call new e.reply × (preceded ≡ false)
+    IsNamed h span e.call × IsReplied h span e.reply × Fits old e.client e.call e.choice × Step step old e.client e.call e.choice new e.reply × (preceded ≡ false)
 IsChecked step Fits h span preceded e old new (Ok (Some OtherCall)) = IsNamed h span e.call → ⊥
 IsChecked step Fits h span preceded e old new (Ok (Some OtherReply)) = IsNamed h span e.call × (IsReplied h span e.reply → ⊥)
 IsChecked {A} step Fits h span preceded e old new (Ok (Some NoStep)) =
-    IsNamed h span e.call × IsReplied h span e.reply × Fits old e.client e.call × ((t : A) → Step step old e.client e.call t e.reply → ⊥)
+    IsNamed h span e.call × IsReplied h span e.reply × Fits old e.client e.call e.choice × ((t : A) → Step step old e.client e.call e.choice t e.reply → ⊥)
 IsChecked step Fits h span preceded e old new (Ok (Some Preceded)) =
-    IsNamed h span e.call × IsReplied h span e.reply × Fits old e.client e.call × Step step old e.client e.call new e.reply × (preceded ≡ true)
+    IsNamed h span e.call × IsReplied h span e.reply × Fits old e.client e.call e.choice × Step step old e.client e.call e.choice new e.reply × (preceded ≡ true)
 IsChecked step Fits h span preceded e old new (Ok (Some MissingCall)) = ⊥
-IsChecked step Fits h span preceded e old new (Err Overflow) = IsNamed h span e.call × IsReplied h span e.reply × (Fits old e.client e.call → ⊥)
+IsChecked step Fits h span preceded e old new (Err Overflow) = IsNamed h span e.call × IsReplied h span e.reply × (Fits old e.client e.call e.choice → ⊥)
 IsChecked step Fits h span preceded e old new (Err OutOfMemory) = Unit {0}
 
 -- it is known where the calls stand that the entries name, and which places are preceded
@@ -81,7 +81,7 @@ pub record AreNames (h : List Event) (order : List Entry) (spans : List (Option 
   pub flags : length preceded ≡ length spans
 
 -- what is answered of the entries
-abbrev pub IsReplayed : {A : Type 0} → Sequential A → (A → ℕ → Call → Type 0) → A → List Event → List Entry → Result (Unit {0}) F.JudgeFault → Type 0
+abbrev pub IsReplayed : {A : Type 0} → Sequential A → (A → ℕ → Call → Choice → Type 0) → A → List Event → List Entry → Result (Unit {0}) F.JudgeFault → Type 0
 IsReplayed step Fits start h order (Ok done) = PassesBefore step start h order (length order) × FitsAlong step Fits start order
 IsReplayed step Fits start h order (Err (V.Order place reason)) = IsFirstFailure step start h order place reason × FitsAlong step Fits start (take (applied reason place) order)
 IsReplayed step Fits start h order (Err V.Overflow) = (place : ℕ) × IsOverflow step Fits start h order place

@@ -10,7 +10,8 @@ use Rattle.lc_base.specs.declared.refusal.Fault.TheVariants.{Refused, OutOfMemor
 use Rattle.lc_base.specs.declared.refusal.Refusal.TheVariants.{HistoryShape}
 use Rattle.lc_seq.specs.Sequential.{Call}
 use Rattle.lc_seq.specs.Specification.{Operation}
-use Rattle.lc_seq.specs.SpecView.{text_call_of}
+use Rattle.lc_seq.specs.SpecView.{text_call_of, choice_of}
+use Rattle.lc_seq.specs.declared.choice.Pick.{Pick}
 use Rattle.lc_seq.specs.declared.text_call.TextCall.{TextCall}
 use Rattle.lc_hist.specs.History.{Event, Called, Replied, Entry, pending_of}
 use Rattle.lc_hist.specs.Histories.{events_in}
@@ -109,11 +110,11 @@ IsWrongItem operations bytes item =
     ⊎ ((parts : Parts) × HasParts bytes parts × (IsWrongInEvents operations parts item ⊎ IsWrongInOrder operations parts item))
 
 -- an entry of a call of a specification
-abbrev pub entry_seen : Done TextCall (Vec ℤ Global) → Entry
-entry_seen done = entry_of text_call_of (λ reply. reply.items) done
+abbrev pub entry_seen : Done TextCall Pick (Vec ℤ Global) → Entry
+entry_seen done = entry_of text_call_of choice_of (λ reply. reply.items) done
 
 -- the entries of an order of calls of a specification
-abbrev pub entries_seen : List (Done TextCall (Vec ℤ Global)) → List Entry
+abbrev pub entries_seen : List (Done TextCall Pick (Vec ℤ Global)) → List Entry
 entries_seen order = map entry_seen order
 
 -- a refusal at an item of which this is known, or want of memory
@@ -123,6 +124,6 @@ IsRefusedAt IsWrong (Refused refusal) = ⊥
 IsRefusedAt IsWrong OutOfMemory = Unit {0}
 
 -- What is answered to a text: the history and the order that it says, else the first item that is wrong, or want of memory
-abbrev pub IsHistoryOf : List Operation → List ℕ → Result (History × Vec (Done TextCall (Vec ℤ Global)) Global) Fault → Type 0
+abbrev pub IsHistoryOf : List Operation → List ℕ → Result (History × Vec (Done TextCall Pick (Vec ℤ Global)) Global) Fault → Type 0
 IsHistoryOf operations bytes (Ok answer) = SaysHistory operations bytes (events_in answer.0) (entries_seen answer.1.items)
 IsHistoryOf operations bytes (Err fault) = IsRefusedAt (IsWrongItem operations bytes) fault

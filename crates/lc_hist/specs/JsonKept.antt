@@ -1,5 +1,6 @@
 -- Numbers that are read back.
 use Rattle.std.specs.Prelude.{◌≡◌, ℕ, List, ℤ, Some, slice_get}
+use Rattle.lc_seq.specs.Sequential.{given_in}
 use Rattle.lc_hist.specs.History.{Event, Called, Replied, Entry}
 use Rattle.lc_hist.specs.JsonValues.{numbers_in}
 use Rattle.lc_hist.specs.JsonWritten.{numbers_data}
@@ -15,7 +16,7 @@ IsKeptEvent (Replied c reply) = AreKept reply
 
 -- the numbers of an entry
 abbrev pub IsKeptEntry : Entry → Type 0
-IsKeptEntry e = AreKept e.call.numbers × AreKept e.reply
+IsKeptEntry e = AreKept e.call.numbers × AreKept e.reply × AreKept (given_in e.choice)
 
 -- of each element this holds
 abbrev pub Each : {A : Type 0} → (A → Type 0) → List A → Type 0

@@ -2,7 +2,9 @@
 use Rattle.std.specs.Prelude.{◌≡◌, ◌≤◌, ◌+◌, ℕ, Bool, true, false, List, Option, Some, None, option_map, slice_index_or, slice_get, length, map, IsUtf8}
 use Rattle.serde_json.specs.Data.{Data}
 use Rattle.serde_json.specs.Read.{read}
+use Rattle.std.specs.Borrow.{Bor}
 use Rattle.serde_json.specs.View.{view}
+use Rattle.serde_json.specs.declared.value.Value.{Value}
 use Rattle.lc_base.specs.declared.ids.OpId.{OpId}
 use Rattle.lc_seq.specs.Specification.{Operation}
 use Rattle.lc_seq.specs.SpecView.{operations_of}
@@ -12,6 +14,11 @@ use Rattle.lc_hist.specs.JsonValues.{has_replies}
 use Rattle.lc_hist.specs.declared.json_reading.Parts.{Parts as SeenParts}
 use Rattle.lc_hist.specs.declared.open_calls.OpenCalls.{OpenCalls}
 use Rattle.lc_hist.specs.declared.operations.Operations.{Operations}
+
+-- the value that is said, if one is
+abbrev pub said_in : Option (Bor Value) → Option Data
+said_in None = None
+said_in (Some value) = Some (view value.now)
 
 -- the operations that are found by their names
 abbrev pub all_of : Operations → List Operation

@@ -2,8 +2,9 @@
 use Rattle.std.specs.Prelude.{ℕ, suc, ◌==◌, Bool, false, List, [], ◌∷◌, ℤ, Option, Some, None, option_map, option_and_then, unwrap_or, if◌then◌else◌, nat_le, nat_lt, codes, length, slice_get, bytes_eq}
 use Rattle.serde_json.specs.Data.{Data, Items, no_items, item}
 use Rattle.serde_json.specs.Find.{as_number, as_i64, as_u64, as_array, as_str}
-use Rattle.lc_seq.specs.Sequential.{Call}
-use Rattle.lc_seq.specs.Specification.{Operation, takes}
+use Rattle.std.specs.List.{list_any}
+use Rattle.lc_seq.specs.Sequential.{Call, Choice, InOrder, ByName}
+use Rattle.lc_seq.specs.Specification.{Operation, agree, takes}
 use Rattle.lc_hist.specs.History.{Event, Called, Replied, Entry}
 
 -- the values of an array, in order
@@ -81,19 +82,44 @@ event_from operations ds = None
 abbrev pub event_in : List Operation → Data → Option Event
 event_in operations d = option_and_then (λ ds. event_from operations (values_in ds)) (as_array d)
 
--- an entry of this client and this call, if its reply has as many numbers as the operation replies
-abbrev pub entry_with : List Operation → ℕ → Call → List ℤ → Option Entry
-entry_with operations client call reply =
-    if has_replies (slice_get operations call.op) (length reply) then Some (record { client = client; call = call; reply = reply }) else None
+-- `["NAME",[NUMBER,..]]`
+abbrev pub choice_from : List Data → Option Choice
+choice_from (name ∷ numbers ∷ []) = option_and_then (λ text. option_map (ByName text) (numbers_in numbers)) (as_str name)
+choice_from ds = None
 
--- a call of a client, with a reply
-abbrev pub done_from : List Operation → Data → Data → Data → Data → Option Entry
-done_from operations client name numbers reply =
-    option_and_then (λ c. option_and_then (λ call. option_and_then (entry_with operations c call) (numbers_in reply)) (call_in operations name numbers)) (client_in client)
+-- how a branch is chosen: in order, where nothing says it
+abbrev pub choice_in : Option Data → Option Choice
+choice_in None = Some InOrder
+choice_in (Some d) = option_and_then (λ ds. choice_from (values_in ds)) (as_array d)
 
--- `[CLIENT,NAME,[NUMBER,..],[NUMBER,..]]`
+-- a branch of the operation may be taken by this choice
+abbrev pub has_choice : Option Operation → Choice → Bool
+has_choice None choice = false
+has_choice (Some o) choice = list_any (λ b. agree b.label choice) o.branches
+
+-- this choice, if a branch of the operation may be taken by it
+abbrev pub choice_with : List Operation → ℕ → Choice → Option Choice
+choice_with operations op choice = if has_choice (slice_get operations op) choice then Some choice else None
+
+-- the choice that is said of a call of this operation
+abbrev pub pick_in : List Operation → ℕ → Option Data → Option Choice
+pick_in operations op said = option_and_then (choice_with operations op) (choice_in said)
+
+-- an entry of this client, this call and this choice, if its reply has as many numbers as the operation replies
+abbrev pub entry_with : List Operation → ℕ → Call → Choice → List ℤ → Option Entry
+entry_with operations client call choice reply =
+    if has_replies (slice_get operations call.op) (length reply) then Some (record { client = client; call = call; choice = choice; reply = reply }) else None
+
+-- a call of a client, with how its branch is chosen, and a reply
+abbrev pub done_from : List Operation → Data → Data → Data → Data → Option Data → Option Entry
+done_from operations client name numbers reply said =
+    option_and_then (λ c. option_and_then (λ call. option_and_then (λ choice. option_and_then (entry_with operations c call choice) (numbers_in reply))
+    (pick_in operations call.op said)) (call_in operations name numbers)) (client_in client)
+
+-- `[CLIENT,NAME,[NUMBER,..],[NUMBER,..]]`, and behind these `["NAME",[NUMBER,..]]` where the operation has choices
 abbrev pub entry_from : List Operation → List Data → Option Entry
-entry_from operations (client ∷ name ∷ numbers ∷ reply ∷ []) = done_from operations client name numbers reply
+entry_from operations (client ∷ name ∷ numbers ∷ reply ∷ []) = done_from operations client name numbers reply None
+entry_from operations (client ∷ name ∷ numbers ∷ reply ∷ choice ∷ []) = done_from operations client name numbers reply (Some choice)
 entry_from operations ds = None
 
 -- an entry of an order

@@ -4,6 +4,7 @@ use Rattle.serde_json.specs.Data.{Data, null, number, string, array, object, uns
 use Rattle.serde_json.specs.Find.{of_integer}
 use Rattle.serde_json.specs.View.{items_of}
 use Rattle.serde_json.specs.Written.{compact_text}
+use Rattle.lc_seq.specs.Sequential.{Choice, InOrder, ByName}
 use Rattle.lc_seq.specs.Specification.{Operation}
 use Rattle.lc_hist.specs.History.{Event, Called, Replied, Entry}
 use Rattle.lc_hist.specs.JsonHistories.{SaysHistory}
@@ -34,9 +35,15 @@ abbrev pub event_data : List Operation → Event → Data
 event_data operations (Called c call) = list_data (number (unsigned c) ∷ string (codes "call") ∷ name_data operations call.op ∷ numbers_data call.numbers ∷ [])
 event_data operations (Replied c reply) = list_data (number (unsigned c) ∷ string (codes "return") ∷ numbers_data reply ∷ [])
 
--- `[CLIENT,NAME,[NUMBER,..],[NUMBER,..]]`
+-- `["NAME",[NUMBER,..]]`, where a branch is chosen by its name
+abbrev pub choice_data : Choice → List Data
+choice_data InOrder = []
+choice_data (ByName name numbers) = list_data (string name ∷ numbers_data numbers ∷ []) ∷ []
+
+-- `[CLIENT,NAME,[NUMBER,..],[NUMBER,..]]`, and behind these the choice
 abbrev pub entry_data : List Operation → Entry → Data
-entry_data operations e = list_data (number (unsigned e.client) ∷ name_data operations e.call.op ∷ numbers_data e.call.numbers ∷ numbers_data e.reply ∷ [])
+entry_data operations e =
+    list_data (number (unsigned e.client) ∷ name_data operations e.call.op ∷ numbers_data e.call.numbers ∷ numbers_data e.reply ∷ choice_data e.choice)
 
 -- `{"events":[..],"order":[..]}`
 abbrev pub history_data : List Operation → List Event → List Entry → Data

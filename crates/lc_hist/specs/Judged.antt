@@ -1,6 +1,6 @@
 -- What the judge of an order answers.
 use Rattle.std.specs.Prelude.{◌≡◌, ◌<◌, ℕ, suc, List, [], ◌∷◌, Some, length, take, slice_get, Result, Ok, Err}
-use Rattle.lc_seq.specs.Sequential.{Call, Sequential, Step}
+use Rattle.lc_seq.specs.Sequential.{Call, Sequential, Step, Choice}
 use Rattle.lc_hist.specs.History.{Event, Entry, Linearizes}
 use Rattle.lc_hist.specs.Tests.{Passes, IsTested, NamesItsCall, HasItsReply, rank}
 use Rattle.lc_hist.specs.declared.reason.Reason.{Reason}
@@ -23,12 +23,12 @@ pub record IsFirstFailure {A : Type 0} (step : Sequential A) (start : A) (histor
 -- the entries lead from one state to another
 abbrev pub Leads : {A : Type 0} → Sequential A → A → List Entry → A → Type 0
 Leads step s [] t = s ≡ t
-Leads {A} step s (e ∷ es) t = (u : A) × Step step s e.client e.call u e.reply × Leads step u es t
+Leads {A} step s (e ∷ es) t = (u : A) × Step step s e.client e.call e.choice u e.reply × Leads step u es t
 
 -- the numbers that are reached fit where the calls of entries are applied one after the other
-abbrev pub FitsAlong : {A : Type 0} → Sequential A → (A → ℕ → Call → Type 0) → A → List Entry → Type 0
+abbrev pub FitsAlong : {A : Type 0} → Sequential A → (A → ℕ → Call → Choice → Type 0) → A → List Entry → Type 0
 FitsAlong step Fits s [] = Unit {0}
-FitsAlong {A} step Fits s (e ∷ es) = Fits s e.client e.call × ((t : A) → Step step s e.client e.call t e.reply → FitsAlong step Fits t es)
+FitsAlong {A} step Fits s (e ∷ es) = Fits s e.client e.call e.choice × ((t : A) → Step step s e.client e.call e.choice t e.reply → FitsAlong step Fits t es)
 
 -- how many calls are applied up to a test: the call of its own place only where the test speaks of its step
 abbrev pub applied : Reason → ℕ → ℕ
@@ -39,7 +39,7 @@ applied NoStep place = suc place
 applied Preceded place = suc place
 
 -- the numbers fit up to this place, the entry is its client's call with its reply, and a number leaves what the object computes with where that call is applied
-pub record IsOverflow {A : Type 0} (step : Sequential A) (Fits : A → ℕ → Call → Type 0) (start : A) (history : List Event) (order : List Entry) (place : ℕ) : Type 0 where
+pub record IsOverflow {A : Type 0} (step : Sequential A) (Fits : A → ℕ → Call → Choice → Type 0) (start : A) (history : List Event) (order : List Entry) (place : ℕ) : Type 0 where
   pub entry : Entry
   pub state : A
   pub stands : slice_get order place ≡ Some entry
@@ -48,10 +48,10 @@ pub record IsOverflow {A : Type 0} (step : Sequential A) (Fits : A → ℕ → C
   pub reply : HasItsReply history order place
   pub leads : Leads step start (take place order) state
   pub fits : FitsAlong step Fits start (take place order)
-  pub overflows : Fits state entry.client entry.call → ⊥
+  pub overflows : Fits state entry.client entry.call entry.choice → ⊥
 
 -- what is answered of an order: whether it linearizes the history, and that the numbers fit that were reached; or that they do not
-abbrev pub IsJudged : {A : Type 0} → Sequential A → (A → ℕ → Call → Type 0) → A → List Event → List Entry → Result (Unit {0}) JudgeFault → Type 0
+abbrev pub IsJudged : {A : Type 0} → Sequential A → (A → ℕ → Call → Choice → Type 0) → A → List Event → List Entry → Result (Unit {0}) JudgeFault → Type 0
 IsJudged step Fits start history order (Ok done) = Linearizes step start history order × FitsAlong step Fits start order
 IsJudged step Fits start history order (Err (Order place reason)) =
     IsFirstFailure step start history order place reason × (Linearizes step start history order → ⊥) × FitsAlong step Fits start (take (applied reason place) order)

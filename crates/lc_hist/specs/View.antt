@@ -1,6 +1,6 @@
 -- What events and entries of the code stand for.
 use Rattle.std.specs.Prelude.{List, ℤ, map}
-use Rattle.lc_seq.specs.Sequential.{Call}
+use Rattle.lc_seq.specs.Sequential.{Call, Choice}
 use Rattle.lc_hist.specs.History as H
 use Rattle.lc_hist.specs.History.{Called, Replied, Entry}
 use Rattle.lc_hist.specs.declared.event.Event.{Event}
@@ -16,10 +16,10 @@ event_of (Respond client numbers) = Replied client numbers.items
 abbrev pub events_of : List Event → List H.Event
 events_of events = map event_of events
 
--- an entry, where it is known what its call and its reply stand for
-abbrev pub entry_of : {C R : Type 0} → (C → Call) → (R → List ℤ) → Done C R → Entry
-entry_of call numbers done = record { client = done.client; call = call done.call; reply = numbers done.reply }
+-- an entry, where it is known what its call, its choice and its reply stand for
+abbrev pub entry_of : {C H R : Type 0} → (C → Call) → (H → Choice) → (R → List ℤ) → Done C H R → Entry
+entry_of call choice numbers done = record { client = done.client; call = call done.call; choice = choice done.choice; reply = numbers done.reply }
 
 -- entries in order
-abbrev pub entries_in : {C R : Type 0} → (C → Call) → (R → List ℤ) → List (Done C R) → List Entry
-entries_in call numbers order = map (entry_of call numbers) order
+abbrev pub entries_in : {C H R : Type 0} → (C → Call) → (H → Choice) → (R → List ℤ) → List (Done C H R) → List Entry
+entries_in call choice numbers order = map (entry_of call choice numbers) order

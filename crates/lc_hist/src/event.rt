@@ -41,10 +41,11 @@ impl Event {
     }
 }
 
-/// An entry of an order: a client's call, and the reply that it gets there.
+/// An entry of an order: a client's call, how its branch is chosen, and the reply that it gets there.
 #[derive(Drop)]
-pub struct Done<C, R> {
+pub struct Done<C, H, R> {
     pub client: u32,
     pub call: C,
+    pub choice: H,
     pub reply: R,
 }

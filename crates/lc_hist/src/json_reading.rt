@@ -12,7 +12,7 @@ use crate::json_values::{read_entry, read_event};
 use crate::open_calls::{OpenCalls, opened};
 use crate::operations::Operations;
 use lc_base::{Fault, OpId, OutOfMemory, Refusal};
-use lc_seq::{TextCall, TextSpec};
+use lc_seq::{Pick, TextCall, TextSpec};
 use serde_json::Value;
 use std::alloc::Global;
 
@@ -104,7 +104,7 @@ fn read_order(
     operations: &Operations<'_>,
     values: &[Value],
     before: usize,
-) -> Result<Vec<Done<TextCall, Vec<i64>>>, Fault>
+) -> Result<Vec<Done<TextCall, Pick, Vec<i64>>>, Fault>
     requires { before + length values.now < 2 ^ 64 }
     ensures { MatchResult result
         (λ order. AreEntries (all_of operations.now) (map view values.now) (entries_seen order.items))
@@ -122,7 +122,8 @@ fn read_order(
 
 /// The history and the order that a JSON text says, of calls of a specification:
 /// `{"events":[E,..],"order":[D,..]}` without another key, where each E is `[CLIENT,"call",NAME,[NUMBER,..]]` or
-/// `[CLIENT,"return",[NUMBER,..]]`, and each D is `[CLIENT,NAME,[NUMBER,..],[NUMBER,..]]`.
+/// `[CLIENT,"return",[NUMBER,..]]`, and each D is `[CLIENT,NAME,[NUMBER,..],[NUMBER,..]]`, with a fifth item
+/// `["NAME",[NUMBER,..]]` exactly where the operation has choices.
 ///
 /// Else `HistoryShape` has the first item that is wrong: 0 where the bytes are beyond the limit of a file, no JSON, or
 /// no such object; then the events from 1, each of which is wrong where it is not of the form, out of turn, or a return
@@ -131,7 +132,7 @@ pub fn history_from_json(
     alloc: Global,
     spec: &TextSpec,
     bytes: &[u8],
-) -> Result<(History, Vec<Done<TextCall, Vec<i64>>>), Fault>
+) -> Result<(History, Vec<Done<TextCall, Pick, Vec<i64>>>), Fault>
     ensures { IsHistoryOf (specification_of spec.now).operations bytes.now result }
 {
     let Some(value) = parse(alloc, bytes)? else {

@@ -1,15 +1,15 @@
-ghost use Rattle.std.specs.Prelude.{◌≡◌, IfOk, option_map, map, codes};
+ghost use Rattle.std.specs.Prelude.{◌≡◌, IfOk, option_map, option_and_then, map, codes};
 ghost use Rattle.serde_json.specs.View.{view};
-ghost use Rattle.lc_seq.specs.SpecView.{text_call_of};
-ghost use Rattle.lc_hist.specs.JsonSeen.{all_of};
+ghost use Rattle.lc_seq.specs.SpecView.{text_call_of, choice_of};
+ghost use Rattle.lc_hist.specs.JsonSeen.{all_of, said_in};
 ghost use Rattle.lc_hist.specs.JsonHistories.{entry_seen};
-ghost use Rattle.lc_hist.specs.JsonValues.{numbers_in, client_in, is_word, call_in, invoke_from, respond_from, event_from, event_in, done_from, entry_from, entry_in};
+ghost use Rattle.lc_hist.specs.JsonValues.{numbers_in, client_in, is_word, call_in, invoke_from, respond_from, event_from, event_in, pick_in, choice_from, choice_with, done_from, entry_from, entry_in};
 ghost use Rattle.lc_hist.specs.View.{event_of};
 
 use crate::event::{CLIENT_LIMIT, Done, Event};
 use crate::operations::Operations;
-use lc_base::OutOfMemory;
-use lc_seq::TextCall;
+use lc_base::{OpId, OutOfMemory};
+use lc_seq::{Pick, TextCall};
 use serde_json::Value;
 use std::alloc::Global;
 
@@ -160,6 +160,48 @@ pub(crate) fn read_event(
     }
 }
 
+/// The choice of an operation that has the name that a value says, with the numbers that another lists.
+fn read_named_pick(
+    alloc: Global,
+    operations: &Operations<'_>,
+    op: OpId,
+    items: &[Value],
+) -> Result<Option<Pick>, OutOfMemory>
+    ensures { IfOk result (λ found. option_map choice_of found ≡ option_and_then (choice_with (all_of operations.now) op.0) (choice_from (map view items.now))) }
+{
+    let [name, numbers] = items else {
+        return Ok(None);
+    };
+    let Some(text) = name.as_str() else {
+        return Ok(None);
+    };
+    let Some(numbers) = read_numbers(alloc, numbers)? else {
+        return Ok(None);
+    };
+    let Some(name) = operations.choice(op, text, numbers.len()) else {
+        return Ok(None);
+    };
+    Ok(Some(Pick::Named { name, numbers }))
+}
+
+/// How the branch of a call of an operation is chosen, where a value says it, or none does.
+fn read_pick(
+    alloc: Global,
+    operations: &Operations<'_>,
+    op: OpId,
+    said: Option<&Value>,
+) -> Result<Option<Pick>, OutOfMemory>
+    ensures { IfOk result (λ found. option_map choice_of found ≡ pick_in (all_of operations.now) op.0 (said_in said.entry)) }
+{
+    let Some(value) = said else {
+        return Ok(operations.is_ordered(op).then_some(Pick::First));
+    };
+    match value.as_array() {
+        Some(items) => read_named_pick(alloc, operations, op, items),
+        None => Ok(None),
+    }
+}
+
 /// A call of a client, with its reply.
 fn read_done(
     alloc: Global,
@@ -168,13 +210,17 @@ fn read_done(
     name: &Value,
     numbers: &Value,
     reply: &Value,
-) -> Result<Option<Done<TextCall, Vec<i64>>>, OutOfMemory>
-    ensures { IfOk result (λ found. option_map entry_seen found ≡ done_from (all_of operations.now) (view client.now) (view name.now) (view numbers.now) (view reply.now)) }
+    choice: Option<&Value>,
+) -> Result<Option<Done<TextCall, Pick, Vec<i64>>>, OutOfMemory>
+    ensures { IfOk result (λ found. option_map entry_seen found ≡ done_from (all_of operations.now) (view client.now) (view name.now) (view numbers.now) (view reply.now) (said_in choice.entry)) }
 {
     let Some(client) = read_client(client) else {
         return Ok(None);
     };
     let Some(call) = read_call(alloc, operations, name, numbers)? else {
+        return Ok(None);
+    };
+    let Some(choice) = read_pick(alloc, operations, call.op, choice)? else {
         return Ok(None);
     };
     let Some(reply) = read_numbers(alloc, reply)? else {
@@ -186,6 +232,7 @@ fn read_done(
     Ok(Some(Done {
         client,
         call,
+        choice,
         reply,
     }))
 }
@@ -194,13 +241,22 @@ fn read_entry_items(
     alloc: Global,
     operations: &Operations<'_>,
     items: &[Value],
-) -> Result<Option<Done<TextCall, Vec<i64>>>, OutOfMemory>
+) -> Result<Option<Done<TextCall, Pick, Vec<i64>>>, OutOfMemory>
     ensures { IfOk result (λ found. option_map entry_seen found ≡ entry_from (all_of operations.now) (map view items.now)) }
 {
     match items {
         [client, name, numbers, reply] => {
-            read_done(alloc, operations, client, name, numbers, reply)
+            read_done(alloc, operations, client, name, numbers, reply, None)
         }
+        [client, name, numbers, reply, choice] => read_done(
+            alloc,
+            operations,
+            client,
+            name,
+            numbers,
+            reply,
+            Some(choice),
+        ),
         _ => Ok(None),
     }
 }
@@ -210,7 +266,7 @@ pub(crate) fn read_entry(
     alloc: Global,
     operations: &Operations<'_>,
     value: &Value,
-) -> Result<Option<Done<TextCall, Vec<i64>>>, OutOfMemory>
+) -> Result<Option<Done<TextCall, Pick, Vec<i64>>>, OutOfMemory>
     ensures { IfOk result (λ found. option_map entry_seen found ≡ entry_in (all_of operations.now) (view value.now)) }
 {
     match value.as_array() {

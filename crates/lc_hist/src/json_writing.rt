@@ -13,7 +13,7 @@ ghost use Rattle.lc_hist.specs.View.{event_of, events_of};
 use crate::event::{Done, Event};
 use crate::history::History;
 use lc_base::{OpId, OutOfMemory};
-use lc_seq::{Operation, TextCall, TextSpec};
+use lc_seq::{Operation, Pick, TextCall, TextSpec};
 use serde_json::{Value, json};
 use std::alloc::{AllocError, Global};
 
@@ -78,6 +78,30 @@ fn done_value(
     Ok(Value::from(items))
 }
 
+/// The same, and behind these a choice.
+fn chosen_value(
+    alloc: Global,
+    client: u32,
+    name: Value,
+    numbers: Value,
+    reply: Value,
+    choice: Value,
+) -> Result<Value, AllocError>
+    ensures { IfOk result (λ value. view value ≡ list_data (number (unsigned client) ∷ view name ∷ view numbers ∷ view reply ∷ view choice ∷ [])) }
+{
+    let items = Vec::from_array(alloc, [Value::from(client), name, numbers, reply, choice])?;
+    Ok(Value::from(items))
+}
+
+/// `["NAME",[NUMBER,..]]`
+fn choice_value(alloc: Global, name: &str, numbers: Value) -> Result<Value, AllocError>
+    ensures { IfOk result (λ value. view value ≡ list_data (string name.now ∷ view numbers ∷ [])) }
+{
+    let name = Value::try_from_str(alloc, name)?;
+    let items = Vec::from_array(alloc, [name, numbers])?;
+    Ok(Value::from(items))
+}
+
 /// `{"events":[..],"order":[..]}`
 fn history_value(alloc: Global, events: Value, order: Value) -> Result<Value, AllocError>
     ensures { IfOk result (λ value. view value ≡ object (member (codes "events") (view events) (member (codes "order") (view order) no_members))) }
@@ -109,7 +133,7 @@ fn event_value(alloc: Global, operations: &[Operation], event: &Event) -> Result
 fn entry_value(
     alloc: Global,
     operations: &[Operation],
-    done: &Done<TextCall, Vec<i64>>,
+    done: &Done<TextCall, Pick, Vec<i64>>,
 ) -> Result<Value, OutOfMemory>
     ensures value { IfOk result (λ value. view value ≡ entry_data (operations_of operations.now) (entry_seen done.now)) }
     ensures kept { IfOk result (λ value. IsKeptEntry (entry_seen done.now)) }
@@ -117,7 +141,14 @@ fn entry_value(
     let name = name_value(alloc, operations, done.call.op)?;
     let numbers = numbers_value(alloc, &done.call.numbers)?;
     let reply = numbers_value(alloc, &done.reply)?;
-    Ok(done_value(alloc, done.client, name, numbers, reply)?)
+    match &done.choice {
+        Pick::First => Ok(done_value(alloc, done.client, name, numbers, reply)?),
+        Pick::Named { name: chosen, numbers: given } => {
+            let given = numbers_value(alloc, given)?;
+            let choice = choice_value(alloc, chosen.as_str(), given)?;
+            Ok(chosen_value(alloc, done.client, name, numbers, reply, choice)?)
+        }
+    }
 }
 
 fn events_value(
@@ -138,7 +169,7 @@ fn events_value(
 fn order_value(
     alloc: Global,
     operations: &[Operation],
-    order: &[Done<TextCall, Vec<i64>>],
+    order: &[Done<TextCall, Pick, Vec<i64>>],
 ) -> Result<Value, OutOfMemory>
     ensures value { IfOk result (λ value. view value ≡ list_data (map (entry_data (operations_of operations.now)) (entries_seen order.now))) }
     ensures kept { IfOk result (λ value. Each IsKeptEntry (entries_seen order.now)) }
@@ -157,7 +188,7 @@ pub fn history_to_json(
     alloc: Global,
     spec: &TextSpec,
     history: &History,
-    order: &[Done<TextCall, Vec<i64>>],
+    order: &[Done<TextCall, Pick, Vec<i64>>],
 ) -> Result<Vec<u8>, OutOfMemory>
     ensures text { IfOk result (λ bytes. bytes.items ≡ history_text (specification_of spec.now).operations (events_in history.now) (entries_seen order.now)) }
     ensures reads_back { IfOk result (λ bytes. SaysOnly (specification_of spec.now).operations bytes.items (events_in history.now) (entries_seen order.now)) }

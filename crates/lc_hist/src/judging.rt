@@ -60,9 +60,9 @@ pub fn judge<S: SeqObject>(
     alloc: Global,
     object: &S,
     history: &History,
-    order: &[Done<S::Call, S::Reply>],
+    order: &[Done<S::Call, S::Choice, S::Reply>],
 ) -> Result<(), JudgeFault>
-    ensures { IsJudged (S.step object.now) (S.Fits object.now) (S.start object.now) (events_in history.now) (entries_in S.call_meant S.numbers order.now) result }
+    ensures { IsJudged (S.step object.now) (S.Fits object.now) (S.start object.now) (events_in history.now) (entries_in S.call_meant S.choice_meant S.numbers order.now) result }
 {
     let events = history.events();
     let mut clients = clients_of(alloc, events)?;
@@ -83,12 +83,12 @@ fn replay<S: SeqObject>(
     alloc: Global,
     object: &S,
     events: &[Event],
-    order: &[Done<S::Call, S::Reply>],
+    order: &[Done<S::Call, S::Choice, S::Reply>],
     spans: &[Option<Span>],
     preceded: &[bool],
 ) -> Result<(), JudgeFault>
-    requires { AreNames (events_of events.now) (entries_in S.call_meant S.numbers order.now) spans.now preceded.now }
-    ensures { IsReplayed (S.step object.now) (S.Fits object.now) (S.start object.now) (events_of events.now) (entries_in S.call_meant S.numbers order.now) result }
+    requires { AreNames (events_of events.now) (entries_in S.call_meant S.choice_meant S.numbers order.now) spans.now preceded.now }
+    ensures { IsReplayed (S.step object.now) (S.Fits object.now) (S.start object.now) (events_of events.now) (entries_in S.call_meant S.choice_meant S.numbers order.now) result }
 {
     let mut state = object.initial(alloc)?;
     for (place, done) in order.iter().enumerate() {
@@ -118,12 +118,12 @@ fn failure_of<S: SeqObject>(
     events: &[Event],
     span: Option<Span>,
     is_preceded: bool,
-    done: &Done<S::Call, S::Reply>,
+    done: &Done<S::Call, S::Choice, S::Reply>,
     state: &mut S::State,
 ) -> Result<Option<Reason>, SeqFault>
     requires within { IsWithin (length events.now) span }
     requires state { S.HasState object.now state.old }
-    ensures checked { IsChecked (S.step object.now) (S.Fits object.now) (events_of events.now) span is_preceded (entry_of S.call_meant S.numbers done.now) (S.meaning state.old) (S.meaning state.new) result }
+    ensures checked { IsChecked (S.step object.now) (S.Fits object.now) (events_of events.now) span is_preceded (entry_of S.call_meant S.choice_meant S.numbers done.now) (S.meaning state.old) (S.meaning state.new) result }
     ensures state { S.HasState object.now state.new }
 {
     if !is_its_call(object, events, span, &done.call) {
@@ -192,14 +192,14 @@ fn are_equal(a: &[i64], b: &[i64]) -> bool
 fn takes_step<S: SeqObject>(
     alloc: Global,
     object: &S,
-    done: &Done<S::Call, S::Reply>,
+    done: &Done<S::Call, S::Choice, S::Reply>,
     state: &mut S::State,
 ) -> Result<bool, SeqFault>
     requires { S.HasState object.now state.old }
-    ensures taken { IsTaken (S.step object.now) (S.Fits object.now) (S.meaning state.old) (S.meaning state.new) (entry_of S.call_meant S.numbers done.now) result }
+    ensures taken { IsTaken (S.step object.now) (S.Fits object.now) (S.meaning state.old) (S.meaning state.new) (entry_of S.call_meant S.choice_meant S.numbers done.now) result }
     ensures state { S.HasState object.now state.new }
 {
-    match object.apply(alloc, state, done.client, &done.call)? {
+    match object.apply(alloc, state, done.client, &done.call, &done.choice)? {
         Some(reply) => {
             let given = object.numbers_of(alloc, &reply)?;
             let wanted = object.numbers_of(alloc, &done.reply)?;

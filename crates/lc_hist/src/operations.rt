@@ -1,12 +1,15 @@
-ghost use Rattle.std.specs.Prelude.{◌≡◌, ℕ, List, Some, None, OnOk, if◌then◌else◌, bytes_eq};
+ghost use Rattle.std.specs.Prelude.{◌≡◌, ℕ, List, true, false, Some, None, OnOk, MatchOption, if◌then◌else◌, bytes_eq};
+ghost use Rattle.std.specs.List.{list_any};
+ghost use Rattle.lc_base.specs.Name.{bytes_of};
+ghost use Rattle.lc_seq.specs.Specification.{names, is_in_order};
 ghost use Rattle.std.specs.Map.{lookup};
 ghost use Rattle.std.specs.Option.{option_or};
-ghost use Rattle.lc_seq.specs.SpecView.{operations_of};
+ghost use Rattle.lc_seq.specs.SpecView.{operations_of, branches_of};
 ghost use Rattle.lc_hist.specs.JsonValues.{place_of};
 
 use indexmap::IndexMap;
-use lc_base::{OpId, OutOfMemory};
-use lc_seq::Operation;
+use lc_base::{Name, OpId, OutOfMemory};
+use lc_seq::{Branch, Label, Operation};
 use std::alloc::Global;
 
 /// The operations of a specification, which are found by their names.
@@ -38,12 +41,36 @@ fn note_place<'a>(
     Ok(())
 }
 
+/// The name of a branch that has this name, and so many parameters.
+fn named_branch(branches: &[Branch], text: &str, count: usize) -> Option<Name>
+    ensures { MatchOption result (list_any (λ b. names b.label text.now count) (branches_of branches.now) ≡ false)
+        (λ name. (bytes_of name ≡ text.now) × (list_any (λ b. names b.label text.now count) (branches_of branches.now) ≡ true)) }
+{
+    let (branch, others) = branches.split_first()?;
+    match &branch.label {
+        Label::Named { name, .. } if branch.label.names(text, count) => Some(*name),
+        _ => named_branch(others, text, count),
+    }
+}
+
+/// Whether a branch has no name.
+fn has_ordered(branches: &[Branch]) -> bool
+    ensures { result ≡ list_any (λ b. is_in_order b.label) (branches_of branches.now) }
+{
+    match branches.split_first() {
+        None => false,
+        Some((branch, others)) => branch.label.is_in_order() || has_ordered(others),
+    }
+}
+
 impl<'a> Operations<'a> {
-    ghost use Rattle.std.specs.Prelude.{◌≡◌, IfOk, slice_get, option_map};
+    ghost use Rattle.std.specs.Prelude.{◌≡◌, ℤ, List, true, false, length, IfOk, MatchOption, slice_get, option_map};
     ghost use Rattle.lc_seq.specs.Specification.{takes};
     ghost use Rattle.lc_seq.specs.SpecView.{operations_of};
     ghost use Rattle.lc_hist.specs.JsonSeen.{all_of, number_of};
-    ghost use Rattle.lc_hist.specs.JsonValues.{operation_of, has_replies};
+    ghost use Rattle.lc_hist.specs.JsonValues.{operation_of, has_replies, has_choice};
+    ghost use Rattle.lc_seq.specs.Sequential.{InOrder, ByName};
+    ghost use Rattle.lc_base.specs.Name.{bytes_of};
 
     /// These operations, by their names.
     pub(crate) fn new(alloc: Global, all: &'a [Operation]) -> Result<Operations<'a>, OutOfMemory>
@@ -70,6 +97,28 @@ impl<'a> Operations<'a> {
     {
         match self.all.get(op.0 as usize) {
             Some(operation) => operation.arguments.len() == count,
+            None => false,
+        }
+    }
+
+    /// The name of the choice of an operation that has this name, and so many parameters.
+    pub(crate) fn choice(&self, op: OpId, text: &str, count: usize) -> Option<Name>
+        ensures { (given : List ℤ) → length given ≡ count →
+            MatchOption result (has_choice (slice_get (all_of self.now) op.0) (ByName text.now given) ≡ false)
+            (λ name. (bytes_of name ≡ text.now) × (has_choice (slice_get (all_of self.now) op.0) (ByName text.now given) ≡ true)) }
+    {
+        match self.all.get(op.0 as usize) {
+            Some(operation) => named_branch(&operation.branches, text, count),
+            None => None,
+        }
+    }
+
+    /// Whether an operation has a branch that is taken in order.
+    pub(crate) fn is_ordered(&self, op: OpId) -> bool
+        ensures { result ≡ has_choice (slice_get (all_of self.now) op.0) InOrder }
+    {
+        match self.all.get(op.0 as usize) {
+            Some(operation) => has_ordered(&operation.branches),
             None => false,
         }
     }

@@ -130,14 +130,14 @@ fn next_span(clients: &mut [Client], client: u32) -> Option<Span>
 pub(crate) fn spans_of<S: SeqObject>(
     alloc: Global,
     clients: &mut [Client],
-    order: &[Done<S::Call, S::Reply>],
+    order: &[Done<S::Call, S::Choice, S::Reply>],
 ) -> Result<Vec<Option<Span>>, OutOfMemory>
     requires { HaveSeen (λ _. 0) clients.old }
-    ensures spans { IfOk result (λ spans. (h : List _) → AreClients h clients.old → (p : ℕ) (e : Entry) → slice_get (entries_in S.call_meant S.numbers order.now) p ≡ Some e →
-        slice_get spans.items p ≡ Some (span_of h e.client (named (entries_in S.call_meant S.numbers order.now) p e))) }
+    ensures spans { IfOk result (λ spans. (h : List _) → AreClients h clients.old → (p : ℕ) (e : Entry) → slice_get (entries_in S.call_meant S.choice_meant S.numbers order.now) p ≡ Some e →
+        slice_get spans.items p ≡ Some (span_of h e.client (named (entries_in S.call_meant S.choice_meant S.numbers order.now) p e))) }
     ensures length { IfOk result (λ spans. length spans.items ≡ length order.now) }
     ensures clients { (h : List _) → AreClients h clients.old → AreClients h clients.new }
-    ensures seen { OnOk result (HaveSeen (λ c. count (is_of c) (entries_in S.call_meant S.numbers order.now)) clients.new) }
+    ensures seen { OnOk result (HaveSeen (λ c. count (is_of c) (entries_in S.call_meant S.choice_meant S.numbers order.now)) clients.new) }
 {
     let mut spans = Vec::with_capacity(alloc, order.len())?;
     for done in order {

@@ -9,7 +9,7 @@ use Rattle.lc_term.specs.declared.term.Term.{Term}
 use Rattle.lc_object.specs.Syntax as S
 use Rattle.lc_object.specs.declared.instr.LocalId.{LocalId}
 use Rattle.lc_object.specs.declared.instr.Instr.{Instr}
-use Rattle.lc_object.specs.declared.instr.Instr.TheVariants.{Load, Store, Cas, Set, If, Return}
+use Rattle.lc_object.specs.declared.instr.Instr.TheVariants.{Load, Store, Cas, Set, Faa, If, Return}
 use Rattle.lc_object.specs.declared.parts.Column.{Column}
 use Rattle.lc_object.specs.declared.parts.Array.{Array}
 use Rattle.lc_object.specs.declared.parts.Operation.{Operation}
@@ -33,6 +33,7 @@ instruction_of (Load a t rs l) = S.Load a.0 (term_of t) (locals_of rs.items) l.0
 instruction_of (Store a t vs l) = S.Store a.0 (term_of t) (terms_of vs.items) l.0
 instruction_of (Cas a t old new l m) = S.Cas a.0 (term_of t) (terms_of old.items) (terms_of new.items) l.0 m.0
 instruction_of (Set rs vs l) = S.Set (locals_of rs.items) (terms_of vs.items) l.0
+instruction_of (Faa a t rs ds l) = S.Faa a.0 (term_of t) (locals_of rs.items) (terms_of ds.items) l.0
 instruction_of (If f l m) = S.If (formula_of f) l.0 m.0
 instruction_of (Return vs) = S.Return (terms_of vs.items)
 

@@ -1,7 +1,7 @@
 ghost use Rattle.std.specs.Prelude.{◌≡◌, ◌++◌, [], map, option_map, IfOk, OnOk};
 ghost use Rattle.lc_term.specs.Syntax.{Read, Base};
 ghost use Rattle.lc_term.specs.View.{term_of, formulas_of};
-ghost use Rattle.lc_object.specs.Edges.{array_columns, reads, row_updates, row_facts, edges_at, edges};
+ghost use Rattle.lc_object.specs.Edges.{array_columns, reads, row_updates, row_sums, row_facts, edges_at, edges};
 ghost use Rattle.lc_object.specs.EdgeView.{update_of, edge_of};
 ghost use Rattle.lc_object.specs.Objects.{object_shown};
 ghost use Rattle.lc_object.specs.View.{columns_of, terms_of, instruction_of};
@@ -98,6 +98,27 @@ fn row_updates(
     Ok(updates)
 }
 
+// What stands in a cell of these columns, with these terms added to it, one to each.
+fn row_sums(
+    alloc: Global,
+    columns: &[ColId],
+    index: &Term,
+    added: &[Term],
+) -> Result<Vec<Term>, OutOfMemory>
+    ensures { IfOk result (λ ts. terms_of ts.items ≡ row_sums (columns_of columns.now) (term_of index.now) (terms_of added.now)) }
+{
+    let mut sums = Vec::with_capacity(alloc, columns.len())?;
+    for (i, column) in columns.iter().enumerate() {
+        let Some(added) = added.get(i) else {
+            return Ok(sums);
+        };
+        let before = Box::new(alloc, read(alloc, *column, index)?)?;
+        let added = Box::new(alloc, added.try_clone(alloc)?)?;
+        sums.push(Term::Add(before, added))?;
+    }
+    Ok(sums)
+}
+
 // These terms stand in a cell, one in each column.
 fn row_facts(
     alloc: Global,
@@ -191,6 +212,21 @@ fn push_edges(
             let mut edge = plain(alloc, point, EdgeKind::Next, Some(*next));
             edge.targets = copy_locals(alloc, targets)?;
             edge.values = copy_terms(alloc, values)?;
+            edges.push(edge)?;
+        }
+        Instr::Faa {
+            array,
+            index,
+            targets,
+            added,
+            next,
+        } => {
+            let columns = row_columns(object, *array);
+            let mut edge = plain(alloc, point, EdgeKind::Next, Some(*next));
+            edge.targets = copy_locals(alloc, targets)?;
+            edge.values = reads(alloc, columns, index)?;
+            let sums = row_sums(alloc, columns, index, added)?;
+            edge.updates = row_updates(alloc, columns, index, &sums)?;
             edges.push(edge)?;
         }
         Instr::If {

@@ -13,7 +13,7 @@ pub struct LocalId(pub u32);
 /// By which of its edges an instruction goes.
 #[derive(Clone, Copy)]
 pub enum EdgeKind {
-    /// The one edge of `load`, `store`, `set` and `return`.
+    /// The one edge of `load`, `store`, `set`, `faa` and `return`.
     Next,
     /// `cas` where the row is the old one, and `if` where the formula holds.
     Then,
@@ -51,6 +51,15 @@ pub enum Instr {
     Set {
         targets: Vec<LocalId>,
         values: Vec<Term>,
+        next: PointId,
+    },
+    /// A row is read into locals, and a number is added to each of its columns, in one access. Index and numbers are those
+    /// from before.
+    Faa {
+        array: ArrayId,
+        index: Term,
+        targets: Vec<LocalId>,
+        added: Vec<Term>,
         next: PointId,
     },
     /// A test of the locals.

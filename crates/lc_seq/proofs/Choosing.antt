@@ -7,13 +7,11 @@ use Rattle.std.proofs.lemmas.List.{length-map}
 use Rattle.lc_term.specs.Lists.{Every, IsIn}
 use Rattle.lc_term.proofs.Tests.{left_true, right_true}
 use Rattle.lc_seq.specs.Sequential.{Chosen, InOrder, ByName, given_in, choose_map}
-use Rattle.lc_seq.specs.Specification.{Branch, branch_is_resolved, agree, chosen}
+use Rattle.lc_seq.specs.Specification.{Branch, branch_is_resolved, names, agree, chosen}
 
 pub agree-map : {A B C : Type 0} (f : B → C) (a : Chosen A) (b : Chosen B) → agree a (choose_map f b) ≡ agree a b
-agree-map f InOrder InOrder = refl
-agree-map f InOrder (ByName name ys) = refl
-agree-map f (ByName name xs) InOrder = refl
-agree-map f (ByName name xs) (ByName other ys) = ap (λ n. bytes_eq name other && length xs == n) (length-map ys f)
+agree-map f a InOrder = refl
+agree-map f a (ByName name ys) = ap (names a name) (length-map ys f)
 
 -- which branches are left is decided by the name, and by how many things are given
 pub chosen-map : {A B : Type 0} (f : A → B) (by : Chosen A) (bs : List Branch) → chosen (choose_map f by) bs ≡ chosen by bs

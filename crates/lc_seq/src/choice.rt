@@ -19,7 +19,7 @@ pub enum Pick {
 impl Label {
     ghost use Rattle.std.specs.Prelude.{◌≡◌, length};
     ghost use Rattle.lc_seq.specs.Sequential.{given_in};
-    ghost use Rattle.lc_seq.specs.Specification.{agree};
+    ghost use Rattle.lc_seq.specs.Specification.{is_in_order, names, agree};
     ghost use Rattle.lc_seq.specs.SpecView.{label_of, choice_of};
 
     /// The names of its parameters.
@@ -32,16 +32,32 @@ impl Label {
         }
     }
 
+    /// Whether it has no name.
+    pub fn is_in_order(&self) -> bool
+        ensures { result ≡ is_in_order (label_of self.now) }
+    {
+        matches!(self, Label::First)
+    }
+
+    /// Whether it has this name, and so many parameters.
+    pub fn names(&self, text: &str, count: usize) -> bool
+        ensures { result ≡ names (label_of self.now) text.now count }
+    {
+        match self {
+            Label::First => false,
+            Label::Named { name, parameters } => {
+                name.as_str() == text && parameters.len() == count
+            }
+        }
+    }
+
     /// Whether a branch of this label may be taken by this choice.
     pub fn agrees(&self, pick: &Pick) -> bool
         ensures { result ≡ agree (label_of self.now) (choice_of pick.now) }
     {
-        match (self, pick) {
-            (Label::First, Pick::First) => true,
-            (Label::Named { name, parameters }, Pick::Named { name: other, numbers }) => {
-                name == other && parameters.len() == numbers.len()
-            }
-            _ => false,
+        match pick {
+            Pick::First => self.is_in_order(),
+            Pick::Named { name, numbers } => self.names(name.as_str(), numbers.len()),
         }
     }
 }

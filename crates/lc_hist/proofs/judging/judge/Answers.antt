@@ -12,7 +12,7 @@ pub returns-in_err-replay : goal.returns-in_err-replay
 returns-in_err-replay g c =
     let o = g.S.SeqObject in
     let x = c.args.object.now in
-    let order = entries_in o.call_meant o.numbers c.args.order.now in
+    let order = entries_in o.call_meant o.choice_meant o.numbers c.args.order.now in
     let h = events_in c.args.history.now in
     let same : events_of c.events-events.result.now ≡ h = c.events-events.ensures in
     judged_so (o.step x) (o.Fits x) (o.start x) h order c.from_residual-in_err-replay.result c.in_err-replay.field-0.0
@@ -23,7 +23,7 @@ pub returns-then-not-are_complete : goal.returns-then-not-are_complete
 returns-then-not-are_complete g c =
     let o = g.S.SeqObject in
     let x = c.args.object.now in
-    let order = entries_in o.call_meant o.numbers c.args.order.now in
+    let order = entries_in o.call_meant o.choice_meant o.numbers c.args.order.now in
     let h = events_in c.args.history.now in
     let same : events_of c.events-events.result.now ≡ h = c.events-events.ensures in
     let known = subst (λ z. PassesBefore (o.step x) (o.start x) z order (length order) × FitsAlong (o.step x) (o.Fits x) (o.start x) order) same c.in_ok-replay.ensures in
@@ -32,13 +32,13 @@ returns-then-not-are_complete g c =
     let back : c.deref-4.result.now ≡ c.spans_of.new.clients = c.deref-4.ensures.value ∙ seam c.in_ok-clients.clients.len c.spans_of.new.clients (drop (length c.spans_of.new.clients) c.in_ok-clients.clients.items) (omega (arith, c.spans_of.auto.clients, c.deref_mut.ensures.len)) in
     some_missing (o.step x) (o.Fits x) (o.start x) h order c.spans_of.new.clients (length c.args.order.now) c.args.history.now.well_formed kept c.in_ok-spans.ensures.seen known
     (λ all. let yes = c.are_complete.ensures.1 (subst (λ z. All (λ client. length client.returns.items ≤ client.entries) z) (sym back) all) in let no = c.if-not-are_complete.true in cc (yes, no))
-    (sym (length-map c.args.order.now (entry_of o.call_meant o.numbers)))
+    (sym (length-map c.args.order.now (entry_of o.call_meant o.choice_meant o.numbers)))
 
 pub returns : goal.returns
 returns g c =
     let o = g.S.SeqObject in
     let x = c.args.object.now in
-    let order = entries_in o.call_meant o.numbers c.args.order.now in
+    let order = entries_in o.call_meant o.choice_meant o.numbers c.args.order.now in
     let h = events_in c.args.history.now in
     let same : events_of c.events-events.result.now ≡ h = c.events-events.ensures in
     let known = subst (λ z. PassesBefore (o.step x) (o.start x) z order (length order) × FitsAlong (o.step x) (o.Fits x) (o.start x) order) same c.in_ok-replay.ensures in

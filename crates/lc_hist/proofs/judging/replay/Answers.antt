@@ -13,12 +13,12 @@ use Rattle.lc_hist.proofs.judging.replay.Goals as goal
 pub failure_of-requires-clause-within : goal.failure_of-requires-clause-within
 failure_of-requires-clause-within g c =
     let o = g.S.SeqObject in
-    let order = entries_in o.call_meant o.numbers c.args.order.now in
+    let order = entries_in o.call_meant o.choice_meant o.numbers c.args.order.now in
     let h = events_of c.args.events.now in
     let p = c.loop-place.place in
-    let e = entry_of o.call_meant o.numbers c.index-order-place.result in
-    let at = entry_at o.call_meant o.numbers c.args.order.now p c.index-order-place.result (omega arith) c.index-order-place.is in
-    let within : p < length c.args.spans.now = omega (arith, c.requires.places, length-map c.args.order.now (entry_of o.call_meant o.numbers)) in
+    let e = entry_of o.call_meant o.choice_meant o.numbers c.index-order-place.result in
+    let at = entry_at o.call_meant o.choice_meant o.numbers c.args.order.now p c.index-order-place.result (omega arith) c.index-order-place.is in
+    let within : p < length c.args.spans.now = omega (arith, c.requires.places, length-map c.args.order.now (entry_of o.call_meant o.choice_meant o.numbers)) in
     let same : get_or c.args.spans.now p None ≡ span_of h e.client (named order p e) = cc (slice_get-get_or c.args.spans.now p None within, c.requires.found p e at) in
     let size : length h ≡ length c.args.events.now = length-map c.args.events.now event_of in
     subst (λ n. IsWithin n (get_or c.args.spans.now p None)) size (subst (λ z. IsWithin (length h) z) (sym same) (within_history h e.client (named order p e)))
@@ -27,12 +27,12 @@ pub returns-in_err-failure : goal.returns-in_err-failure
 returns-in_err-failure g c =
     let o = g.S.SeqObject in
     let x = c.args.object.now in
-    let order = entries_in o.call_meant o.numbers c.args.order.now in
+    let order = entries_in o.call_meant o.choice_meant o.numbers c.args.order.now in
     let h = events_of c.args.events.now in
     let p = c.loop-place.place in
-    let e = entry_of o.call_meant o.numbers c.index-order-place.result in
-    let at = entry_at o.call_meant o.numbers c.args.order.now p c.index-order-place.result (omega arith) c.index-order-place.is in
-    let within : p < length c.args.spans.now = omega (arith, c.requires.places, length-map c.args.order.now (entry_of o.call_meant o.numbers)) in
+    let e = entry_of o.call_meant o.choice_meant o.numbers c.index-order-place.result in
+    let at = entry_at o.call_meant o.choice_meant o.numbers c.args.order.now p c.index-order-place.result (omega arith) c.index-order-place.is in
+    let within : p < length c.args.spans.now = omega (arith, c.requires.places, length-map c.args.order.now (entry_of o.call_meant o.choice_meant o.numbers)) in
     let is = slice_get-get_or c.args.spans.now p None within in
     let told = slice_get-get_or c.args.preceded.now p false (omega (arith, within, c.requires.flags)) in
     let cause = c.in_err-failure.field-0.0 in
@@ -44,12 +44,12 @@ pub returns-in-Some : goal.returns-in-Some
 returns-in-Some g c =
     let o = g.S.SeqObject in
     let x = c.args.object.now in
-    let order = entries_in o.call_meant o.numbers c.args.order.now in
+    let order = entries_in o.call_meant o.choice_meant o.numbers c.args.order.now in
     let h = events_of c.args.events.now in
     let p = c.loop-place.place in
-    let e = entry_of o.call_meant o.numbers c.index-order-place.result in
-    let at = entry_at o.call_meant o.numbers c.args.order.now p c.index-order-place.result (omega arith) c.index-order-place.is in
-    let within : p < length c.args.spans.now = omega (arith, c.requires.places, length-map c.args.order.now (entry_of o.call_meant o.numbers)) in
+    let e = entry_of o.call_meant o.choice_meant o.numbers c.index-order-place.result in
+    let at = entry_at o.call_meant o.choice_meant o.numbers c.args.order.now p c.index-order-place.result (omega arith) c.index-order-place.is in
+    let within : p < length c.args.spans.now = omega (arith, c.requires.places, length-map c.args.order.now (entry_of o.call_meant o.choice_meant o.numbers)) in
     let is = slice_get-get_or c.args.spans.now p None within in
     let told = slice_get-get_or c.args.preceded.now p false (omega (arith, within, c.requires.flags)) in
     let checked = subst (λ f. IsChecked (o.step x) (o.Fits x) h (get_or c.args.spans.now p None) (get_or c.args.preceded.now p false) e (o.meaning c.loop-place.state) (o.meaning c.failure_of.new.state) (Ok f))
@@ -64,12 +64,12 @@ pub loop-place-preserved : goal.loop-place-preserved
 loop-place-preserved g c =
     let o = g.S.SeqObject in
     let x = c.args.object.now in
-    let order = entries_in o.call_meant o.numbers c.args.order.now in
+    let order = entries_in o.call_meant o.choice_meant o.numbers c.args.order.now in
     let h = events_of c.args.events.now in
     let p = c.loop-place.place in
-    let e = entry_of o.call_meant o.numbers c.index-order-place.result in
-    let at = entry_at o.call_meant o.numbers c.args.order.now p c.index-order-place.result (omega arith) c.index-order-place.is in
-    let within : p < length c.args.spans.now = omega (arith, c.requires.places, length-map c.args.order.now (entry_of o.call_meant o.numbers)) in
+    let e = entry_of o.call_meant o.choice_meant o.numbers c.index-order-place.result in
+    let at = entry_at o.call_meant o.choice_meant o.numbers c.args.order.now p c.index-order-place.result (omega arith) c.index-order-place.is in
+    let within : p < length c.args.spans.now = omega (arith, c.requires.places, length-map c.args.order.now (entry_of o.call_meant o.choice_meant o.numbers)) in
     let is = slice_get-get_or c.args.spans.now p None within in
     let told = slice_get-get_or c.args.preceded.now p false (omega (arith, within, c.requires.flags)) in
     let next = passing (o.step x) (o.Fits x) (o.start x) h order c.args.spans.now c.args.preceded.now p e (get_or c.args.spans.now p None) (get_or c.args.preceded.now p false)

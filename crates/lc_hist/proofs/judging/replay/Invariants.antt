@@ -6,7 +6,7 @@ use Rattle.lc_hist.proofs.judging.replay.Given as goal
 abbrev pub invariant-loop-place : goal.invariant-loop-place
 invariant-loop-place g l =
     let o = g.S.SeqObject in
-    let order = entries_in o.call_meant o.numbers l.order in
+    let order = entries_in o.call_meant o.choice_meant o.numbers l.order in
     record {
       state : o.HasState l.object l.state;
       leads : Leads (o.step l.object) (o.start l.object) (take l.place order) (o.meaning l.state);

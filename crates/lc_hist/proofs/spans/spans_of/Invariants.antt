@@ -7,7 +7,7 @@ use Rattle.lc_hist.proofs.spans.spans_of.Given as goal
 
 abbrev pub invariant-loop-done : goal.invariant-loop-done
 invariant-loop-done g l =
-    let order = entries_in g.S.SeqObject.call_meant g.S.SeqObject.numbers l.order in
+    let order = entries_in g.S.SeqObject.call_meant g.S.SeqObject.choice_meant g.S.SeqObject.numbers l.order in
     record {
       spans : (h : List Event) → AreClients h l.fn.clients → (p : ℕ) (e : Entry) → p < l.done-index → slice_get order p ≡ Some e →
           slice_get l.spans.items p ≡ Some (span_of h e.client (named order p e));
