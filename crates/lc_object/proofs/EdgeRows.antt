@@ -11,7 +11,7 @@ use Rattle.lc_term.specs.declared.formula.Formula.{Formula}
 use Rattle.lc_term.specs.declared.formula.Formula as F
 use Rattle.lc_object.specs.Syntax as S
 use Rattle.lc_object.specs.View.{columns_of, terms_of, point_of}
-use Rattle.lc_object.specs.Edges.{row_updates, row_facts, edges_at, edges_from, Update, Edge}
+use Rattle.lc_object.specs.Edges.{row_updates, row_sums, row_facts, edges_at, edges_from, Update, Edge}
 use Rattle.lc_object.specs.declared.parts.Point.{Point}
 
 nothing_left : {A : Type 0} (xs : List A) (i : ℕ) → length xs ≤ i → drop i xs ≡ []
@@ -24,6 +24,15 @@ updates_none (c ∷ cs) t = refl
 facts_none : (cs : List ℕ) (t : T.Term) → row_facts cs t [] ≡ []
 facts_none [] t = refl
 facts_none (c ∷ cs) t = refl
+
+sums_none : (cs : List ℕ) (t : T.Term) → row_sums cs t [] ≡ []
+sums_none [] t = refl
+sums_none (c ∷ cs) t = refl
+
+pub sums_end : (cs : List ColId) (t : T.Term) (ds : List Term) (i : ℕ) (done whole : List T.Term) → length ds ≤ i →
+    done ++ row_sums (columns_of (drop i cs)) t (terms_of (drop i ds)) ≡ whole → done ≡ whole
+sums_end cs t ds i done whole h e =
+    sym (append-nil done) ∙ ap (λ r. done ++ r) (sym (ap (λ l. row_sums (columns_of (drop i cs)) t (terms_of l)) (nothing_left ds i h) ∙ sums_none (columns_of (drop i cs)) t)) ∙ e
 
 -- no term is left
 pub updates_end : (cs : List ColId) (t : T.Term) (vs : List Term) (i : ℕ) (done whole : List Update) → length vs ≤ i →

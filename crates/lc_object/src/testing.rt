@@ -216,6 +216,20 @@ fn is_instruction(parts: &Parts, number: OpId, operation: &Operation, instructio
                 && are_code_terms(values, variables)
                 && is_label(parts, number, *next)
         }
+        Instr::Faa {
+            array,
+            index,
+            targets,
+            added,
+            next,
+        } => {
+            has_width(parts, *array, targets.len())
+                && has_width(parts, *array, added.len())
+                && is_code_term(index, variables)
+                && are_targets(operation, targets)
+                && are_code_terms(added, variables)
+                && is_label(parts, number, *next)
+        }
         Instr::If {
             condition,
             holds,
