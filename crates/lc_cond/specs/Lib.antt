@@ -12,3 +12,4 @@ pub mod Stream
 pub mod Sizes
 pub mod VariableCounts
 pub mod CounterCount
+pub mod Chosen

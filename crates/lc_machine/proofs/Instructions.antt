@@ -7,13 +7,13 @@ use Rattle.lc_term.specs.Syntax.{Term, Formula}
 use Rattle.lc_term.specs.Meaning.{State, outside, Holds}
 use Rattle.lc_term.specs.Reached.{TermFits, TermsFit, FormulaFits}
 use Rattle.lc_term.specs.Updates.{Write, cell_writes, stored_all, AreWithin}
-use Rattle.lc_object.specs.Syntax.{Instr, Load, Store, Cas, Set, If, Return, Object}
+use Rattle.lc_object.specs.Syntax.{Instr, Load, Store, Cas, Set, Faa, If, Return, Object}
 use Rattle.lc_object.specs.declared.instr.EdgeKind.{EdgeKind}
 use Rattle.lc_object.specs.declared.instr.EdgeKind.TheVariants.{Next, Then, Else}
 use Rattle.lc_machine.specs.World.{variable, initial_numbers}
-use Rattle.lc_machine.specs.Step.{number, numbers, row, with_row, assigned, Does, Outcome, Goes, Answers}
+use Rattle.lc_machine.specs.Step.{number, numbers, row, with_row, sums, assigned, Does, Outcome, Goes, Answers}
 use Rattle.lc_object.specs.Edges.{array_columns}
-use Rattle.lc_machine.specs.Fits.{RowFits, ComparisonFits, InstructionFits}
+use Rattle.lc_machine.specs.Fits.{RowFits, ComparisonFits, NumbersFit, InstructionFits}
 use Rattle.lc_machine.specs.Effects.{writes_in, HasParts, IsEffect, IsReached}
 use Rattle.lc_machine.specs.MayRun.{variables_at}
 use Rattle.lc_machine.specs.Below.{AreBelow}
@@ -59,6 +59,43 @@ pub sets : (object : Object) (s : State) (vs : List ℤ) (rs : List ℕ) (us : L
 sets object s vs rs us l ns e fits values label parts =
     effect_is object (Set rs us l) s vs Next [] (Goes l (assigned vs rs ns)) e parts fits
     (refl, refl, ap (λ ms. Goes l (assigned vs rs ms)) values) (label ∙ ap Some (sym (assigned_length vs rs ns))) tt
+
+-- what is read, and what is added to it
+pub adds_fits : (object : Object) (s : State) (vs : List ℤ) (a : ℕ) (t : Term) (rs : List ℕ) (ds : List Term) (l : ℕ) (i : ℤ) (cs : List ℕ) (ns ms : List ℤ) →
+    TermFits s (variable vs) t → i ≡ number s vs t → TermsFit s (variable vs) ds → ms ≡ numbers s vs ds → cs ≡ array_columns object a →
+    RowFits s cs i → ns ≡ row s cs i → NumbersFit (sums ns ms) → InstructionFits object s vs (Faa a t rs ds l)
+adds_fits object s vs a t rs ds l i cs ns ms fits index ds_fit added columns row_fits read sums_fit = (
+  fits,
+  ds_fit,
+  subst (λ x. x) (ap₂ (RowFits s) columns index) row_fits,
+  subst NumbersFit (ap₂ sums (read ∙ ap₂ (row s) columns index) added) sums_fit,
+)
+
+pub adds : (object : Object) (s : State) (vs : List ℤ) (a : ℕ) (t : Term) (rs : List ℕ) (ds : List Term) (l : ℕ) (i : ℤ) (cs : List ℕ) (ns ms ks : List ℤ) (ws : List Write) (e : Effect) →
+    TermFits s (variable vs) t → i ≡ number s vs t → TermsFit s (variable vs) ds → ms ≡ numbers s vs ds → cs ≡ array_columns object a →
+    RowFits s cs i → ns ≡ row s cs i → NumbersFit (sums ns ms) → ks ≡ sums ns ms →
+    AreBelow (length (initial_numbers object)) cs → ws ≡ cell_writes cs i ks → variables_at object l ≡ Some (length vs) →
+    HasParts Next ws (Goes l (assigned vs rs ns)) e → IsEffect object (Faa a t rs ds l) s vs (Ok e)
+adds object s vs a t rs ds l i cs ns ms ks ws e fits index ds_fit added columns row_fits read sums_fit total there writes label parts =
+    let cells : ns ≡ row s (array_columns object a) (number s vs t) = read ∙ ap₂ (row s) columns index in
+    let new : ks ≡ sums (row s (array_columns object a) (number s vs t)) (numbers s vs ds) = total ∙ ap₂ sums cells added in
+    effect_is object (Faa a t rs ds l) s vs Next ws (Goes l (assigned vs rs ns)) e parts
+    (adds_fits object s vs a t rs ds l i cs ns ms fits index ds_fit added columns row_fits read sums_fit)
+    (refl, ap (stored_all s) writes ∙ row_stored s cs i ks ∙ (λ p. with_row s (columns p) (index p) (new p)), ap (λ xs. Goes l (assigned vs rs xs)) cells)
+    (label ∙ ap Some (sym (assigned_length vs rs ns)))
+    (subst (AreWithin (length (initial_numbers object))) (sym writes) (row_within (length (initial_numbers object)) cs i ks there))
+
+-- a sum that does not fit
+pub not_added : (object : Object) (s : State) (vs : List ℤ) (a : ℕ) (t : Term) (rs : List ℕ) (ds : List Term) (l : ℕ) (i : ℤ) (cs : List ℕ) (ns ms : List ℤ) →
+    i ≡ number s vs t → ms ≡ numbers s vs ds → cs ≡ array_columns object a → ns ≡ row s cs i →
+    (NumbersFit (sums ns ms) → ⊥) → InstructionFits object s vs (Faa a t rs ds l) → ⊥
+not_added object s vs a t rs ds l i cs ns ms index added columns read wrong fits =
+    wrong (subst NumbersFit (sym (ap₂ sums (read ∙ ap₂ (row s) columns index) added)) fits.3)
+
+-- a cell that does not
+pub not_read : (object : Object) (s : State) (vs : List ℤ) (a : ℕ) (t : Term) (rs : List ℕ) (ds : List Term) (l : ℕ) (i : ℤ) (cs : List ℕ) →
+    i ≡ number s vs t → cs ≡ array_columns object a → (RowFits s cs i → ⊥) → InstructionFits object s vs (Faa a t rs ds l) → ⊥
+not_read object s vs a t rs ds l i cs index columns wrong fits = wrong (subst (λ x. x) (sym (ap₂ (RowFits s) columns index)) fits.2)
 
 pub tests_true : (object : Object) (s : State) (vs : List ℤ) (f : Formula) (l m : ℕ) (e : Effect) →
     FormulaFits s (variable vs) f → Holds s (variable vs) outside f → variables_at object l ≡ Some (length vs) → HasParts Then [] (Goes l vs) e → IsEffect object (If f l m) s vs (Ok e)

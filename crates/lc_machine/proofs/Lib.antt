@@ -10,3 +10,4 @@ pub mod Worlds
 pub mod EdgeLaw
 pub mod Bodies
 pub mod Over
+pub mod Sums

@@ -13,7 +13,7 @@ ghost use Rattle.lc_machine.specs.View.{variables_of};
 
 use crate::effects::{Effect, Place, answering, assigning, moving};
 use crate::fault::StepFault;
-use crate::numbers::compute;
+use crate::numbers::{add, compute};
 use crate::rows::{is_row, read_row, row_writes};
 use arrayvec::ArrayVec;
 use lc_base::{ColId, PointId};
@@ -70,6 +70,33 @@ fn store(
     let numbers = compute(values, state, variables)?;
     let writes = row_writes(row_columns(object, array), index, &numbers);
     Ok(moving(alloc, variables, EdgeKind::Next, writes, next)?)
+}
+
+#[tactic(auto, using(crate::proofs::Known::known_term, crate::proofs::Lengths::below_more))]
+fn fetch_and_add(
+    alloc: Global,
+    object: &Object,
+    state: &State,
+    variables: &Env,
+    array: ArrayId,
+    index: &Term,
+    targets: &[LocalId],
+    added: &[Term],
+    next: PointId,
+) -> Result<Effect, StepFault>
+    requires may_run { MayRun (object_shown object.now) (variable_count variables.now) (S.Faa array.0 (term_of index.now) (locals_of targets.now) (terms_of added.now) next.0) }
+    requires columns { length (initial_numbers (object_shown object.now)) ≤ column_count state.now }
+    ensures { IsEffect (object_shown object.now) (S.Faa array.0 (term_of index.now) (locals_of targets.now) (terms_of added.now) next.0) (state_of state.now) variables.now.values.items result }
+{
+    let index = eval_term(index, state, variables)?;
+    let added = compute(added, state, variables)?;
+    let columns = row_columns(object, array);
+    let numbers = read_row(state, columns, index)?;
+    let sums = add(&numbers, &added)?;
+    let writes = row_writes(columns, index, &sums);
+    let mut effect = assigning(alloc, variables, targets, &numbers, next)?;
+    effect.writes = writes;
+    Ok(effect)
 }
 
 // The points behind an instruction of two edges.
@@ -222,6 +249,15 @@ fn effect_of(
             values,
             next,
         } => set(alloc, object, state, variables, targets, values, *next),
+        Instr::Faa {
+            array,
+            index,
+            targets,
+            added,
+            next,
+        } => fetch_and_add(
+            alloc, object, state, variables, *array, index, targets, added, *next,
+        ),
         Instr::If {
             condition,
             holds,

@@ -2,7 +2,8 @@ ghost use Rattle.std.specs.Prelude.{◌≡◌, ◌≤◌, ◌<◌, true, length}
 ghost use Rattle.lc_object.specs.View.{terms_of, locals_of};
 ghost use Rattle.lc_object.specs.WellFormed.{are_code_terms};
 ghost use Rattle.lc_term.specs.State.{state_of, variable_count};
-ghost use Rattle.lc_machine.specs.Step.{numbers, assigned};
+ghost use Rattle.lc_machine.specs.Step.{numbers, sums, assigned};
+ghost use Rattle.lc_machine.specs.Fits.{NumbersFit};
 ghost use Rattle.lc_term.specs.Computed.{IsComputed, overflow_says};
 ghost use Rattle.lc_term.specs.Reached.{TermsFit};
 ghost use Rattle.lc_machine.specs.World.{variable};
@@ -29,6 +30,22 @@ pub(crate) fn compute(terms: &[Term], state: &State, variables: &Env) -> Result<
         numbers.push(eval_term(term, state, variables)?);
     }
     Ok(numbers)
+}
+
+/// These numbers with others added to them, one to each.
+pub(crate) fn add(numbers: &[i64], added: &[i64]) -> Result<Numbers, EvalFault>
+    requires few { length numbers.now ≤ 16 }
+    requires each { length numbers.now ≡ length added.now }
+    ensures { IsComputed overflow_says (λ numbers. numbers.items) (NumbersFit (sums numbers.now added.now)) (sums numbers.now added.now) result }
+{
+    let mut sums = ArrayVec::new();
+    for (i, number) in numbers.iter().enumerate() {
+        let Some(sum) = number.checked_add(added[i]) else {
+            return Err(EvalFault::Overflow);
+        };
+        sums.push(sum);
+    }
+    Ok(sums)
 }
 
 /// Puts numbers to locals, one to each.

@@ -31,3 +31,4 @@ pub mod Counting
 pub mod Losing
 pub mod Helping
 pub mod Proven
+pub mod Choosing

@@ -8,3 +8,4 @@ pub mod Valid
 pub mod Derived
 pub mod Claims
 pub mod Examples
+pub mod ExamplesChosen
