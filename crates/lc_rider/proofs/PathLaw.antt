@@ -7,9 +7,9 @@ use Rattle.lc_term.specs.Replacement.{replacing, replace_term}
 use Rattle.lc_seq.specs.Sequential.{given_in}
 use Rattle.lc_seq.specs.Specification.{Branch, Operation, chosen}
 use Rattle.lc_term.specs.Said.{told, term_at}
-use Rattle.lc_seq.specs.Branches.{op_branches}
+use Rattle.lc_seq.specs.Branches.{op_branches, arity}
 use Rattle.lc_rider.specs.Rider.{Marking, Deed, Assign, Marks, Rider}
-use Rattle.lc_rider.specs.Paths.{Path, with_fact, mark_variables, marked_client, marked_op, mark_duties, branch_paths, deed_paths, deed_paths_where, rider_paths, paths}
+use Rattle.lc_rider.specs.Paths.{Path, with_fact, branch_variables, marked_client, marked_op, owing, branch_paths, deed_paths, deed_paths_where, rider_paths, paths}
 use Rattle.lc_rider.specs.PathLaws.{AreApart, PathsExclude, RunsGoAlong}
 use Rattle.lc_term.proofs.Stores.{Every-append, Every-map}
 use Rattle.lc_term.proofs.Symbolic.{each_left, each_right}
@@ -64,22 +64,22 @@ module _ (s : State) (e : Env) where
   fails fs f a b = last_of fs (Not f) b (last_of fs f a)
 
   module _ (operations : List Operation) (first : ℕ) where
-    branches_behind : (n o : ℕ) (k : Marking) (c : Term) (ts : List Term) (bs : List Branch) (p : Path) → Behind p (branch_paths operations first n o k c ts bs p)
-    branches_behind n o k c ts [] p = tt
-    branches_behind n o k c ts (b ∷ bs) p =
-        let g = told p.columns (mark_variables operations first o p c ts) b.guard in (
+    branches_behind : (n : ℕ) (k : Marking) (τ : List Term) (bs : List Branch) (p : Path) → Behind p (branch_paths operations first n k τ bs p)
+    branches_behind n k τ [] p = tt
+    branches_behind n k τ (b ∷ bs) p =
+        let g = told p.columns τ b.guard in (
           (λ h. each_left s e p.facts (g ∷ []) h),
-          Every-map (λ (x : Path). Facts x → Facts (with_fact p (Not g))) (λ (x : Path). Facts x → Facts p) (branch_paths operations first n o k c ts bs (with_fact p (Not g)))
-              (λ x f a. each_left s e p.facts (Not g ∷ []) (f a)) (branches_behind n o k c ts bs (with_fact p (Not g))),
+          Every-map (λ (x : Path). Facts x → Facts (with_fact p (Not g))) (λ (x : Path). Facts x → Facts p) (branch_paths operations first n k τ bs (with_fact p (Not g)))
+              (λ x f a. each_left s e p.facts (Not g ∷ []) (f a)) (branches_behind n k τ bs (with_fact p (Not g))),
         )
 
-    branches_apart : (n o : ℕ) (k : Marking) (c : Term) (ts : List Term) (bs : List Branch) (p : Path) → AreApart s e (branch_paths operations first n o k c ts bs p)
-    branches_apart n o k c ts [] p = tt
-    branches_apart n o k c ts (b ∷ bs) p =
-        let g = told p.columns (mark_variables operations first o p c ts) b.guard in (
-          Every-map (λ (x : Path). Facts x → Facts (with_fact p (Not g))) (λ (x : Path). EachHolds s e (p.facts ++ g ∷ []) → Facts x → ⊥) (branch_paths operations first n o k c ts bs (with_fact p (Not g)))
-              (λ x f a b. fails p.facts g a (f b)) (branches_behind n o k c ts bs (with_fact p (Not g))),
-          branches_apart n o k c ts bs (with_fact p (Not g)),
+    branches_apart : (n : ℕ) (k : Marking) (τ : List Term) (bs : List Branch) (p : Path) → AreApart s e (branch_paths operations first n k τ bs p)
+    branches_apart n k τ [] p = tt
+    branches_apart n k τ (b ∷ bs) p =
+        let g = told p.columns τ b.guard in (
+          Every-map (λ (x : Path). Facts x → Facts (with_fact p (Not g))) (λ (x : Path). EachHolds s e (p.facts ++ g ∷ []) → Facts x → ⊥) (branch_paths operations first n k τ bs (with_fact p (Not g)))
+              (λ x f a b. fails p.facts g a (f b)) (branches_behind n k τ bs (with_fact p (Not g))),
+          branches_apart n k τ bs (with_fact p (Not g)),
         )
 
     deed_behind : (n o : ℕ) (τ : List Term) (d : Deed) (p : Path) → Behind p (deed_paths operations first n o τ d p)
@@ -88,7 +88,8 @@ module _ (s : State) (e : Env) where
         let c = replace_term (replacing p.columns (term_at τ)) (marked_client k) in
         let ts = map (replace_term (replacing p.columns (term_at τ))) (given_in by) in
         let bs = chosen by (op_branches operations (marked_op o k)) in
-        branches_behind n (marked_op o k) k c ts bs (record p { duties = p.duties ++ mark_duties operations first n (marked_op o k) k p c ts bs })
+        let υ = branch_variables p.columns first (arity operations (marked_op o k)) c ts in
+        branches_behind n k υ bs (owing operations first n k c υ bs p)
 
     deed_apart : (n o : ℕ) (τ : List Term) (d : Deed) (p : Path) → AreApart s e (deed_paths operations first n o τ d p)
     deed_apart n o τ (Assign u) p = (tt, tt)
@@ -96,7 +97,8 @@ module _ (s : State) (e : Env) where
         let c = replace_term (replacing p.columns (term_at τ)) (marked_client k) in
         let ts = map (replace_term (replacing p.columns (term_at τ))) (given_in by) in
         let bs = chosen by (op_branches operations (marked_op o k)) in
-        branches_apart n (marked_op o k) k c ts bs (record p { duties = p.duties ++ mark_duties operations first n (marked_op o k) k p c ts bs })
+        let υ = branch_variables p.columns first (arity operations (marked_op o k)) c ts in
+        branches_apart n k υ bs (owing operations first n k c υ bs p)
 
     where_behind : (c : Option Formula) (n o : ℕ) (τ : List Term) (d : Deed) (p : Path) → Behind p (deed_paths_where operations first c n o τ d p)
     where_behind None n o τ d p = deed_behind n o τ d p

@@ -3,7 +3,7 @@ use Rattle.std.proofs.Common.{◌≡◌, ℕ, suc, ◌⊎◌, Bool, true, false,
 use Rattle.std.specs.Ordering.{int_eq}
 use Rattle.std.proofs.lemmas.Bool.Decides.{Decides-int_eq}
 use Rattle.std.proofs.lemmas.Int.{ints}
-use Rattle.lc_term.specs.Updates.{Update, Write, stored_all, write_of, writes_of, values_of, cell_writes}
+use Rattle.lc_term.specs.Updates.{variable, Update, Write, stored_all, write_of, writes_of, values_of, cell_writes}
 use Rattle.lc_term.specs.Syntax.{Term, Variable, Number, Formula, Not}
 use Rattle.lc_term.specs.Meaning.{State, Env, outside, value, Holds}
 use Rattle.lc_term.specs.Truth.{truth}
@@ -12,16 +12,16 @@ use Rattle.lc_term.specs.Said.{told, said, at_client, term_at}
 use Rattle.lc_term.specs.SystemColumns.{pend, op_column, rep_columns, noted, note_columns}
 use Rattle.lc_term.proofs.Truth.{Decides-truth}
 use Rattle.lc_term.proofs.Stores.{Every-append, Every-map, Every_left, Every_right, if_true, if_false, stored-append, writes_other, writes_away, cell_indexes}
-use Rattle.lc_term.proofs.Symbolic.{columns_by-put, columns_by-after, write-said, value-said, Holds-told, each_left, each_right}
+use Rattle.lc_term.proofs.Symbolic.{values_by, columns_by-put, columns_by-after, write-said, value-said, Holds-told, each_left, each_right}
 use Rattle.lc_seq.specs.Branches.{op_branches}
 use Rattle.lc_seq.specs.Sequential.{Chosen, Choice}
 use Rattle.lc_seq.specs.Specification.{Branch, Operation, chosen}
 use Rattle.lc_seq.specs.TextStep.{run, call_env}
 use Rattle.lc_rider.specs.Rider.{Mark, Marking, Own, Other, Note, Deed, Assign, Marks, Rider, arguments_in, IsSettled, IsNoted, IsDone, IsDoneWhere, RideAll, mark_writes, note_writes}
-use Rattle.lc_rider.specs.Paths.{Path, Duty, observing_duty, is_empty, with_fact, mark_variables, mark_updates, marked_op, mark_duties, branch_paths, deed_paths, deed_paths_where, rider_paths, paths}
+use Rattle.lc_rider.specs.Paths.{Path, Duty, observing_duty, is_empty, with_fact, mark_updates, marked_op, mark_duties, branch_paths, deed_paths, deed_paths_where, rider_paths, paths}
 use Rattle.lc_rider.specs.PathLaws.{AreGround, OnlyClients, LeavesCalls, DeedLeavesCalls, PathsAreTaken}
 use Rattle.lc_seq.proofs.Choosing.{chosen-map, chosen-every}
-use Rattle.lc_rider.proofs.Riding.{v, st, Facts, Lawful, be, terms, choice, branches, branches_ground, marked_env, marked_env_is, client, with_duties, settled_writes, noted_writes}
+use Rattle.lc_rider.proofs.Riding.{v, st, Facts, Lawful, terms, marked_variables, choice, branches, branches_ground, marked_env, marked_env_is, client, with_duties, settled_writes, noted_writes}
 
 -- ---- lists
 
@@ -96,13 +96,11 @@ module _ (ops : List Operation) (first : ℕ) (grounds : (p : ℕ) → AreGround
   abbrev V : Env
   V = v ops first grounds s e τ
 
-  abbrev B : ℕ → Path → Term → List Term → Env
-  B p q c ts = be ops first grounds s e τ p q c ts
+  -- the variables of a branch, for a choice
+  abbrev U : ℕ → Chosen Term → Path → Term → List Term
+  U p by q c = marked_variables ops first grounds s e τ p q c (terms ops first grounds s e τ by q)
 
-  -- the terms of a choice, its numbers, and the branches that it leaves
-  abbrev T : Chosen Term → Path → List Term
-  T by q = terms ops first grounds s e τ by q
-
+  -- the numbers of a choice, and the branches that it leaves
   abbrev H : Chosen Term → Path → Choice
   H by q = choice ops first grounds s e τ by q
 
@@ -125,25 +123,25 @@ module _ (ops : List Operation) (first : ℕ) (grounds : (p : ℕ) → AreGround
   less_facts : (p : Path) (f : Formula) → L (with_fact p f) → L p
   less_facts p f h = (each_left s e p.facts (f ∷ []) h.0, h.1)
 
-  branches_behind : (j o : ℕ) (k : Marking) (c : Term) (ts : List Term) (bs : List Branch) (p : Path) → Behind p (branch_paths ops first j o k c ts bs p)
-  branches_behind j o k c ts [] p = tt
-  branches_behind j o k c ts (b ∷ bs) p =
-      let g = told p.columns (mark_variables ops first o p c ts) b.guard in (
+  branches_behind : (j : ℕ) (k : Marking) (υ : List Term) (bs : List Branch) (p : Path) → Behind p (branch_paths ops first j k υ bs p)
+  branches_behind j k υ [] p = tt
+  branches_behind j k υ (b ∷ bs) p =
+      let g = told p.columns υ b.guard in (
         (λ h. (each_left s e p.facts (g ∷ []) h.0, Every_left Met p.duties (observing_duty ops first j k (p.facts ++ g ∷ []) b) h.1)),
-        Every-map (λ (x : Path). L x → L (with_fact p (Not g))) (λ (x : Path). L x → L p) (branch_paths ops first j o k c ts bs (with_fact p (Not g)))
-            (λ x f a. less_facts p (Not g) (f a)) (branches_behind j o k c ts bs (with_fact p (Not g))),
+        Every-map (λ (x : Path). L x → L (with_fact p (Not g))) (λ (x : Path). L x → L p) (branch_paths ops first j k υ bs (with_fact p (Not g)))
+            (λ x f a. less_facts p (Not g) (f a)) (branches_behind j k υ bs (with_fact p (Not g))),
       )
 
   owing_behind : (j : ℕ) (k : Marking) (o : ℕ) (by : Chosen Term) (q : Path) (c : Term) → L (W j k o by q c) → L q
-  owing_behind j k o by q c h = (h.0, Every_left Met q.duties (mark_duties ops first j o k q c (T by q) (Bs o by)) h.1)
+  owing_behind j k o by q c h = (h.0, Every_left Met q.duties (mark_duties ops first j k q c (U o by q c) (Bs o by)) h.1)
 
-  mark_behind : (j o : ℕ) (k : Marking) (by : Chosen Term) (q : Path) → Behind q (branch_paths ops first j (marked_op o k) k (C k q) (T by q) (Bs (marked_op o k) by) (W j k (marked_op o k) by q (C k q)))
+  mark_behind : (j o : ℕ) (k : Marking) (by : Chosen Term) (q : Path) → Behind q (branch_paths ops first j k (U (marked_op o k) by q (C k q)) (Bs (marked_op o k) by) (W j k (marked_op o k) by q (C k q)))
   mark_behind j o k by q =
-      let ts = T by q in
+      let υ = U (marked_op o k) by q (C k q) in
       let bs = Bs (marked_op o k) by in
       let w = W j k (marked_op o k) by q (C k q) in
-      Every-map (λ (x : Path). L x → L w) (λ (x : Path). L x → L q) (branch_paths ops first j (marked_op o k) k (C k q) ts bs w)
-      (λ x f a. owing_behind j k (marked_op o k) by q (C k q) (f a)) (branches_behind j (marked_op o k) k (C k q) ts bs w)
+      Every-map (λ (x : Path). L x → L w) (λ (x : Path). L x → L q) (branch_paths ops first j k υ bs w)
+      (λ x f a. owing_behind j k (marked_op o k) by q (C k q) (f a)) (branches_behind j k υ bs w)
 
   deed_behind : (j o : ℕ) (d : Deed) (q : Path) → Behind q (deed_paths ops first j o τ d q)
   deed_behind j o (Assign u) q = ((λ h. h), tt)
@@ -190,23 +188,23 @@ module _ (ops : List Operation) (first : ℕ) (grounds : (p : ℕ) → AreGround
     columns : S y ≡ stored_all m (writes_of m a (mark_updates first k branch))
     observing : IsObserving k branch
 
-  taking : (j p : ℕ) (k : Marking) (c : Term) (ts : List Term) (bs : List Branch) (q y : Path) (a : Env) → AreGround bs → B p q c ts ≡ a → L y → IsIn y (branch_paths ops first j p k c ts bs q) → IsTaken k (S q) a bs y
-  taking j p k c ts [] q y a g h lawful among = absurd among
-  taking j p k c ts (b ∷ bs) q y a g h lawful among =
-      by among (λ later. taking j p k c ts bs (with_fact q (Not (told q.columns (mark_variables ops first p q c ts) b.guard))) y a g.1 h lawful later)
+  taking : (j : ℕ) (k : Marking) (υ : List Term) (bs : List Branch) (q y : Path) (a : Env) → AreGround bs → variable (values_by s e υ) ≡ a → L y → IsIn y (branch_paths ops first j k υ bs q) → IsTaken k (S q) a bs y
+  taking j k υ [] q y a g h lawful among = absurd among
+  taking j k υ (b ∷ bs) q y a g h lawful among =
+      by among (λ later. taking j k υ bs (with_fact q (Not (told q.columns υ b.guard))) y a g.1 h lawful later)
     where
       guard : Formula
-      guard = told q.columns (mark_variables ops first p q c ts) b.guard
+      guard = told q.columns υ b.guard
 
       tells : Holds s e outside guard ≡ Holds (S q) a outside b.guard
-      tells = Holds-told s e q.columns (mark_variables ops first p q c ts) b.guard ∙ (λ i. Holds (S q) (h i) outside b.guard)
+      tells = Holds-told s e q.columns υ b.guard ∙ (λ i. Holds (S q) (h i) outside b.guard)
 
       d : (truth (S q) a outside b.guard ≡ true → Holds (S q) a outside b.guard) × (Holds (S q) a outside b.guard → truth (S q) a outside b.guard ≡ true)
       d = Decides-truth (S q) a outside b.guard g.0
 
       here : Path
       here = record {
-        columns = Rattle.lc_term.specs.Said.after q.columns (mark_variables ops first p q c ts) (mark_updates first k b);
+        columns = Rattle.lc_term.specs.Said.after q.columns υ (mark_updates first k b);
         facts = q.facts ++ guard ∷ [];
         duties = q.duties ++ observing_duty ops first j k (q.facts ++ guard ∷ []) b;
       }
@@ -218,20 +216,20 @@ module _ (ops : List Operation) (first : ℕ) (grounds : (p : ℕ) → AreGround
       is_false true z never = absurd (never (subst (λ X. X) (sym tells) (d.0 z)))
       is_false false z never = z
 
-      by : (y ≡ here) ⊎ IsIn y (branch_paths ops first j p k c ts bs (with_fact q (Not guard))) →
-          (IsIn y (branch_paths ops first j p k c ts bs (with_fact q (Not guard))) → IsTaken k (S q) a bs y) → IsTaken k (S q) a (b ∷ bs) y
+      by : (y ≡ here) ⊎ IsIn y (branch_paths ops first j k υ bs (with_fact q (Not guard))) →
+          (IsIn y (branch_paths ops first j k υ bs (with_fact q (Not guard))) → IsTaken k (S q) a bs y) → IsTaken k (S q) a (b ∷ bs) y
       by (inl is) go =
           let l : L here = subst L is lawful in
           record {
             branch = b;
             among = inl refl;
             runs = if_true (truth (S q) a outside b.guard) _ (run (S q) a bs) (is_true (each_right s e q.facts (guard ∷ []) l.0).0);
-            columns = ap S is ∙ (columns_by-after s e q.columns (mark_variables ops first p q c ts) (mark_updates first k b) ∙ (λ i. stored_all (S q) (writes_of (S q) (h i) (mark_updates first k b))));
+            columns = ap S is ∙ (columns_by-after s e q.columns υ (mark_updates first k b) ∙ (λ i. stored_all (S q) (writes_of (S q) (h i) (mark_updates first k b))));
             observing = observes j k (q.facts ++ guard ∷ []) b (Every_right Met q.duties _ l.1);
           }
       by (inr later) go =
           let x = go later in
-          let behind : L (with_fact q (Not guard)) = Every-in (λ (z : Path). L z → L (with_fact q (Not guard))) (branch_paths ops first j p k c ts bs (with_fact q (Not guard))) y (branches_behind j p k c ts bs (with_fact q (Not guard))) later lawful in
+          let behind : L (with_fact q (Not guard)) = Every-in (λ (z : Path). L z → L (with_fact q (Not guard))) (branch_paths ops first j k υ bs (with_fact q (Not guard))) y (branches_behind j k υ bs (with_fact q (Not guard))) later lawful in
           record {
             branch = x.branch;
             among = inr x.among;
@@ -252,11 +250,11 @@ module _ (ops : List Operation) (first : ℕ) (grounds : (p : ℕ) → AreGround
     settle : (j p x : ℕ) (k : Marking) (by : Chosen Term) (q y : Path) →
         ((b : Branch) → mark_updates first k b ≡ b.updates ++ (at_client (rep_columns first) b.replies ++ at_client (pend first ∷ []) (Number (pos 2) ∷ []))) →
         value s e outside (C k q) ≡ pos x → L y → OnlyClients first (S q) → S q (pend first) (value s e outside (C k q)) ≡ pos 1 →
-        IsIn y (branch_paths ops first j p k (C k q) (T by q) (Bs p by) (W j k p by q (C k q))) → Ridden y (λ ms m. IsSettled ops first (S q) x p (H by q) ms m)
+        IsIn y (branch_paths ops first j k (U p by q (C k q)) (Bs p by) (W j k p by q (C k q))) → Ridden y (λ ms m. IsSettled ops first (S q) x p (H by q) ms m)
     settle j p x k by q y upd is lawful only one among =
         let a : Env = E p x by q in
         let back = ap (run (S q) a) (chosen-map (value (S q) V outside) by (op_branches ops p)) in
-        let t = taking j p k (C k q) (T by q) (Bs p by) (W j k p by q (C k q)) y a (branches_ground ops first grounds s e τ p by) (marked_env_is ops first grounds s e τ p x by q (C k q) is) lawful among in
+        let t = taking j k (U p by q (C k q)) (Bs p by) (W j k p by q (C k q)) y a (branches_ground ops first grounds s e τ p by) (marked_env_is ops first grounds s e τ p x by q (C k q) is) lawful among in
         let ws : List Write = writes_of (S q) a (t.branch).updates in
         let reply : List ℤ = values_of (S q) a (t.branch).replies in
         let here : S y ≡ stored_all (S q) (ws ++ mark_writes first x reply) =
@@ -269,11 +267,11 @@ module _ (ops : List Operation) (first : ℕ) (grounds : (p : ℕ) → AreGround
         }
 
     note : (j p x : ℕ) (by : Chosen Term) (q y : Path) → value s e outside (C Note q) ≡ pos x → L y → OnlyClients first (S q) → S q (pend first) (value s e outside (C Note q)) ≡ pos 1 →
-        IsIn y (branch_paths ops first j p Note (C Note q) (T by q) (Bs p by) (W j Note p by q (C Note q))) → Ridden y (λ ms m. IsNoted ops first (S q) x p (H by q) ms m)
+        IsIn y (branch_paths ops first j Note (U p by q (C Note q)) (Bs p by) (W j Note p by q (C Note q))) → Ridden y (λ ms m. IsNoted ops first (S q) x p (H by q) ms m)
     note j p x by q y is lawful only one among =
         let a : Env = E p x by q in
         let back = ap (run (S q) a) (chosen-map (value (S q) V outside) by (op_branches ops p)) in
-        let t = taking j p Note (C Note q) (T by q) (Bs p by) (W j Note p by q (C Note q)) y a (branches_ground ops first grounds s e τ p by) (marked_env_is ops first grounds s e τ p x by q (C Note q) is) lawful among in
+        let t = taking j Note (U p by q (C Note q)) (Bs p by) (W j Note p by q (C Note q)) y a (branches_ground ops first grounds s e τ p by) (marked_env_is ops first grounds s e τ p x by q (C Note q) is) lawful among in
         let reply : List ℤ = values_of (S q) a (t.branch).replies in
         let here : S y ≡ stored_all (S q) (note_writes first x reply) = t.columns ∙ ap (stored_all (S q)) (noted_writes ops first grounds s e τ (S q) x a t.branch refl) in
         record {
@@ -283,22 +281,22 @@ module _ (ops : List Operation) (first : ℕ) (grounds : (p : ℕ) → AreGround
         }
 
     -- the duties of a mark, where a path behind it is lawful
-    owed : (j o : ℕ) (k : Marking) (by : Chosen Term) (q y : Path) → L y → IsIn y (branch_paths ops first j (marked_op o k) k (C k q) (T by q) (Bs (marked_op o k) by) (W j k (marked_op o k) by q (C k q))) →
-        Every Met (mark_duties ops first j (marked_op o k) k q (C k q) (T by q) (Bs (marked_op o k) by))
+    owed : (j o : ℕ) (k : Marking) (by : Chosen Term) (q y : Path) → L y → IsIn y (branch_paths ops first j k (U (marked_op o k) by q (C k q)) (Bs (marked_op o k) by) (W j k (marked_op o k) by q (C k q))) →
+        Every Met (mark_duties ops first j k q (C k q) (U (marked_op o k) by q (C k q)) (Bs (marked_op o k) by))
     owed j o k by q y lawful among =
         let w = W j k (marked_op o k) by q (C k q) in
-        let ts = T by q in
+        let υ = U (marked_op o k) by q (C k q) in
       let bs = Bs (marked_op o k) by in
-        let l : L w = Every-in (λ (z : Path). L z → L w) (branch_paths ops first j (marked_op o k) k (C k q) ts bs w) y (branches_behind j (marked_op o k) k (C k q) ts bs w) among lawful in
-        Every_right Met q.duties (mark_duties ops first j (marked_op o k) k q (C k q) ts bs) l.1
+        let l : L w = Every-in (λ (z : Path). L z → L w) (branch_paths ops first j k υ bs w) y (branches_behind j k υ bs w) among lawful in
+        Every_right Met q.duties (mark_duties ops first j k q (C k q) υ bs) l.1
 
     module _ (self o : ℕ) (mine : V 1 ≡ pos self) where
       other : (j p : ℕ) (t : Term) (by : Chosen Term) (q y : Path) → L y → OnlyClients first (S q) →
-          IsIn y (branch_paths ops first j p (Other t p) (C (Other t p) q) (T by q) (Bs p by) (W j (Other t p) p by q (C (Other t p) q))) →
+          IsIn y (branch_paths ops first j (Other t p) (U p by q (C (Other t p) q)) (Bs p by) (W j (Other t p) p by q (C (Other t p) q))) →
           Ridden y (λ ms m. IsDone ops first self o V (S q) (Marks (Other t p) by) ms m)
       other j p t by q y lawful only among = go (only (value s e outside (C (Other t p) q)))
         where
-          duties : Every Met (mark_duties ops first j p (Other t p) q (C (Other t p) q) (T by q) (Bs p by))
+          duties : Every Met (mark_duties ops first j (Other t p) q (C (Other t p) q) (U p by q (C (Other t p) q)) (Bs p by))
           duties = owed j o (Other t p) by q y lawful among
 
           told-value : value s e outside (C (Other t p) q) ≡ value (S q) V outside t

@@ -20,7 +20,7 @@ use Rattle.lc_seq.specs.Branches.{op_branches, arity}
 use Rattle.lc_term.specs.Said.{told, after, put, said, term_at, at_client}
 use Rattle.lc_term.specs.SystemColumns.{op_column, pend, arg_columns, rep_columns, noted, note_columns}
 use Rattle.lc_rider.specs.Rider.{Mark, Marking, Own, Other, Note, Deed, Assign, Marks, Rider, arguments_in, IsDone, IsDoneWhere, RideAll, mark_writes, note_writes}
-use Rattle.lc_rider.specs.Paths.{Path, Duty, observing_duty, is_empty, with_fact, mark_variables, mark_updates, marked_client, mark_duties, branch_paths, deed_paths, deed_paths_where, rider_paths, paths}
+use Rattle.lc_rider.specs.Paths.{Path, Duty, observing_duty, is_empty, with_fact, branch_variables, mark_updates, marked_client, owing, mark_duties, branch_paths, deed_paths, deed_paths_where, rider_paths, paths}
 use Rattle.lc_rider.specs.PathLaws.{AreGround}
 use Rattle.lc_term.proofs.Stores.{Every-append, Every_left, Every_right}
 use Rattle.lc_term.proofs.Symbolic.{columns_by, values_by, columns_by-put, columns_by-after, write-said, value-said, Holds-told, each-append, values_of_reads, writes_at_client}
@@ -73,8 +73,11 @@ module _ (ops : List Operation) (first : ℕ) (grounds : (p : ℕ) → AreGround
   one_more fs f h g = each-append s e fs (f ∷ []) h (g, tt)
 
   -- the variables of a branch at a call of the client that the term c says
+  abbrev pub marked_variables : ℕ → Path → Term → List Term → List Term
+  marked_variables p q c ts = branch_variables q.columns first (arity ops p) c ts
+
   abbrev pub be : ℕ → Path → Term → List Term → Env
-  be p q c ts = variable (values_by s e (mark_variables ops first p q c ts))
+  be p q c ts = variable (values_by s e (marked_variables p q c ts))
 
   pub branch_env_is : (p x : ℕ) (q : Path) (c : Term) (ts : List Term) → value s e outside c ≡ pos x → be p q c ts ≡ call_env x (arguments_in ops first (st q) x p ++ values_by s e ts)
   branch_env_is p x q c ts h =
@@ -160,19 +163,19 @@ module _ (ops : List Operation) (first : ℕ) (grounds : (p : ℕ) → AreGround
       none [] h = tt
       none (u ∷ us) h = absurd (cc h)
 
-  branch_along : (P : Path → Type 0) (j p : ℕ) (k : Marking) (c : Term) (ts : List Term) (bs : List Branch) (q : Path) (a : Env) (ws : List Write) (reply : List ℤ) → AreGround bs → Quiet k ws → be p q c ts ≡ a → Lawful q →
-      run (st q) a bs ≡ Some (ws, reply) → Every P (branch_paths ops first j p k c ts bs q) → Taken P k (st q) a ws reply
-  branch_along P j p k c ts [] q a ws reply g quiet h f is r = absurd cc
-  branch_along P j p k c ts (b ∷ bs) q a ws reply g quiet h f is r =
+  branch_along : (P : Path → Type 0) (j : ℕ) (k : Marking) (υ : List Term) (bs : List Branch) (q : Path) (a : Env) (ws : List Write) (reply : List ℤ) → AreGround bs → Quiet k ws → variable (values_by s e υ) ≡ a → Lawful q →
+      run (st q) a bs ≡ Some (ws, reply) → Every P (branch_paths ops first j k υ bs q) → Taken P k (st q) a ws reply
+  branch_along P j k υ [] q a ws reply g quiet h f is r = absurd cc
+  branch_along P j k υ (b ∷ bs) q a ws reply g quiet h f is r =
       by (truth (st q) a outside b.guard) refl is
-      (λ e' is'. branch_along P j p k c ts bs (with_fact q (Not (told q.columns (mark_variables ops first p q c ts) b.guard))) a ws reply g.1 quiet h (
-        one_more q.facts (Not (told q.columns (mark_variables ops first p q c ts) b.guard)) f.0
+      (λ e' is'. branch_along P j k υ bs (with_fact q (Not (told q.columns υ b.guard))) a ws reply g.1 quiet h (
+        one_more q.facts (Not (told q.columns υ b.guard)) f.0
             (λ x. Rattle.std.proofs.Common.true≢false (sym (d.1 (subst (λ X. X) tells x)) ∙ e')),
         f.1,
       ) is' r.1)
     where
-      tells : Holds s e outside (told q.columns (mark_variables ops first p q c ts) b.guard) ≡ Holds (st q) a outside b.guard
-      tells = Holds-told s e q.columns (mark_variables ops first p q c ts) b.guard ∙ (λ i. Holds (st q) (h i) outside b.guard)
+      tells : Holds s e outside (told q.columns υ b.guard) ≡ Holds (st q) a outside b.guard
+      tells = Holds-told s e q.columns υ b.guard ∙ (λ i. Holds (st q) (h i) outside b.guard)
 
       d : (truth (st q) a outside b.guard ≡ true → Holds (st q) a outside b.guard) × (Holds (st q) a outside b.guard → truth (st q) a outside b.guard ≡ true)
       d = Decides-truth (st q) a outside b.guard g.0
@@ -186,32 +189,32 @@ module _ (ops : List Operation) (first : ℕ) (grounds : (p : ℕ) → AreGround
             branch = b;
             given = r.0;
             facts = (
-              one_more q.facts (told q.columns (mark_variables ops first p q c ts) b.guard) f.0 (subst (λ X. X) (sym tells) (d.0 e')),
-              Every-append (λ (x : Duty). Holds s e outside x.goal) q.duties (observing_duty ops first j k (q.facts ++ told q.columns (mark_variables ops first p q c ts) b.guard ∷ []) b) f.1
-                  (observed j k (q.facts ++ told q.columns (mark_variables ops first p q c ts) b.guard ∷ []) b (st q) a ws (ap (λ (x : List Write × List ℤ). x.0) pair) quiet),
+              one_more q.facts (told q.columns υ b.guard) f.0 (subst (λ X. X) (sym tells) (d.0 e')),
+              Every-append (λ (x : Duty). Holds s e outside x.goal) q.duties (observing_duty ops first j k (q.facts ++ told q.columns υ b.guard ∷ []) b) f.1
+                  (observed j k (q.facts ++ told q.columns υ b.guard ∷ []) b (st q) a ws (ap (λ (x : List Write × List ℤ). x.0) pair) quiet),
             );
-            columns = columns_by-after s e q.columns (mark_variables ops first p q c ts) (mark_updates first k b) ∙ (λ i. stored_all (st q) (writes_of (st q) (h i) (mark_updates first k b)));
+            columns = columns_by-after s e q.columns υ (mark_updates first k b) ∙ (λ i. stored_all (st q) (writes_of (st q) (h i) (mark_updates first k b)));
             writes = ap (λ (x : List Write × List ℤ). x.0) pair;
             replies = ap (λ (x : List Write × List ℤ). x.1) pair;
           }
       by false e' is' later = later e' is'
 
   abbrev pub with_duties : ℕ → Marking → ℕ → Chosen Term → Path → Term → Path
-  with_duties j k p by q c = record q { duties = q.duties ++ mark_duties ops first j p k q c (terms by q) (branches p by) }
+  with_duties j k p by q c = owing ops first j k c (marked_variables p q c (terms by q)) (branches p by) q
 
   abbrev pub client : Marking → Path → Term
   client k q = replace_term (replacing q.columns (term_at τ)) (marked_client k)
 
   -- ---- the duties of a mark that was made
 
-  enabled : (p : ℕ) (c : Term) (ts : List Term) (bs : List Branch) (q : Path) (a : Env) (ws : List Write) (reply : List ℤ) → AreGround bs → be p q c ts ≡ a → run (st q) a bs ≡ Some (ws, reply) →
-      NoneHolds s e outside (formulas (map (λ (b : Branch). told q.columns (mark_variables ops first p q c ts) b.guard) bs)) → ⊥
-  enabled p c ts [] q a ws reply g h is none = absurd (cc is)
-  enabled p c ts (b ∷ bs) q a ws reply g h is none =
-      by (truth (st q) a outside b.guard) refl is (λ is'. enabled p c ts bs q a ws reply g.1 h is' none.1)
+  enabled : (υ : List Term) (bs : List Branch) (q : Path) (a : Env) (ws : List Write) (reply : List ℤ) → AreGround bs → variable (values_by s e υ) ≡ a → run (st q) a bs ≡ Some (ws, reply) →
+      NoneHolds s e outside (formulas (map (λ (b : Branch). told q.columns υ b.guard) bs)) → ⊥
+  enabled υ [] q a ws reply g h is none = absurd (cc is)
+  enabled υ (b ∷ bs) q a ws reply g h is none =
+      by (truth (st q) a outside b.guard) refl is (λ is'. enabled υ bs q a ws reply g.1 h is' none.1)
     where
-      tells : Holds s e outside (told q.columns (mark_variables ops first p q c ts) b.guard) ≡ Holds (st q) a outside b.guard
-      tells = Holds-told s e q.columns (mark_variables ops first p q c ts) b.guard ∙ (λ i. Holds (st q) (h i) outside b.guard)
+      tells : Holds s e outside (told q.columns υ b.guard) ≡ Holds (st q) a outside b.guard
+      tells = Holds-told s e q.columns υ b.guard ∙ (λ i. Holds (st q) (h i) outside b.guard)
 
       by : (t : Bool) → truth (st q) a outside b.guard ≡ t → (if t then Some (writes_of (st q) a b.updates, values_of (st q) a b.replies) else run (st q) a bs) ≡ Some (ws, reply) → (run (st q) a bs ≡ Some (ws, reply) → ⊥) → ⊥
       by true e' is' later = none.0 (subst (λ X. X) (sym tells) ((Decides-truth (st q) a outside b.guard g.0).0 e'))
@@ -224,29 +227,29 @@ module _ (ops : List Operation) (first : ℕ) (grounds : (p : ℕ) → AreGround
   IsNamed Note q x = Unit {0}
 
   mark_met : (j p : ℕ) (k : Marking) (by : Chosen Term) (q : Path) (x : ℕ) (ws : List Write) (reply : List ℤ) → value s e outside (client k q) ≡ pos x → st q (pend first) (pos x) ≡ pos 1 → IsNamed k q x →
-      run (st q) (marked_env p x by q) (branches p by) ≡ Some (ws, reply) → AreMet (mark_duties ops first j p k q (client k q) (terms by q) (branches p by))
+      run (st q) (marked_env p x by q) (branches p by) ≡ Some (ws, reply) → AreMet (mark_duties ops first j k q (client k q) (marked_variables p q (client k q) (terms by q)) (branches p by))
   mark_met j p Own by q x ws reply h one named is =
-      (subst (λ i. st q (pend first) i ≡ pos 1) (sym h) one, (enabled p (client Own q) (terms by q) (branches p by) q (marked_env p x by q) ws reply (branches_ground p by) (marked_env_is p x by q (client Own q) h) is, tt))
+      (subst (λ i. st q (pend first) i ≡ pos 1) (sym h) one, (enabled (marked_variables p q (client Own q) (terms by q)) (branches p by) q (marked_env p x by q) ws reply (branches_ground p by) (marked_env_is p x by q (client Own q) h) is, tt))
   mark_met j p (Other t o) by q x ws reply h one named is = (
     subst (λ i. st q (pend first) i ≡ pos 1) (sym h) one,
     (
       subst (λ i. st q (op_column first) i ≡ pos o) (sym h) named,
-      (enabled p (client (Other t o) q) (terms by q) (branches p by) q (marked_env p x by q) ws reply (branches_ground p by) (marked_env_is p x by q (client (Other t o) q) h) is, tt),
+      (enabled (marked_variables p q (client (Other t o) q) (terms by q)) (branches p by) q (marked_env p x by q) ws reply (branches_ground p by) (marked_env_is p x by q (client (Other t o) q) h) is, tt),
     ),
   )
   mark_met j p Note by q x ws reply h one named is =
-      (subst (λ i. st q (pend first) i ≡ pos 1) (sym h) one, (enabled p (client Note q) (terms by q) (branches p by) q (marked_env p x by q) ws reply (branches_ground p by) (marked_env_is p x by q (client Note q) h) is, tt))
+      (subst (λ i. st q (pend first) i ≡ pos 1) (sym h) one, (enabled (marked_variables p q (client Note q) (terms by q)) (branches p by) q (marked_env p x by q) ws reply (branches_ground p by) (marked_env_is p x by q (client Note q) h) is, tt))
 
-  with_met : (j p : ℕ) (k : Marking) (by : Chosen Term) (q : Path) → Lawful q → AreMet (mark_duties ops first j p k q (client k q) (terms by q) (branches p by)) → Lawful (with_duties j k p by q (client k q))
-  with_met j p k by q f owed = (f.0, Every-append (λ (x : Duty). Holds s e outside x.goal) q.duties (mark_duties ops first j p k q (client k q) (terms by q) (branches p by)) f.1 owed)
+  with_met : (j p : ℕ) (k : Marking) (by : Chosen Term) (q : Path) → Lawful q → AreMet (mark_duties ops first j k q (client k q) (marked_variables p q (client k q) (terms by q)) (branches p by)) → Lawful (with_duties j k p by q (client k q))
+  with_met j p k by q f owed = (f.0, Every-append (λ (x : Duty). Holds s e outside x.goal) q.duties (mark_duties ops first j k q (client k q) (marked_variables p q (client k q) (terms by q)) (branches p by)) f.1 owed)
 
   settle_along : (P : Path → Type 0) (j p : ℕ) (k : Marking) (by : Chosen Term) (q : Path) (x : ℕ) (ws : List Write) (reply : List ℤ) (m : State) →
       ((b : Branch) → mark_updates first k b ≡ b.updates ++ (at_client (rep_columns first) b.replies ++ at_client (pend first ∷ []) (Number (pos 2) ∷ []))) →
       value s e outside (client k q) ≡ pos x → run (st q) (marked_env p x by q) (branches p by) ≡ Some (ws, reply) → m ≡ stored_all (st q) (ws ++ mark_writes first x reply) →
-      Quiet k ws → st q (pend first) (pos x) ≡ pos 1 → IsNamed k q x → Lawful q → Every P (branch_paths ops first j p k (client k q) (terms by q) (branches p by) (with_duties j k p by q (client k q))) → Along P m
+      Quiet k ws → st q (pend first) (pos x) ≡ pos 1 → IsNamed k q x → Lawful q → Every P (branch_paths ops first j k (marked_variables p q (client k q) (terms by q)) (branches p by) (with_duties j k p by q (client k q))) → Along P m
   settle_along P j p k by q x ws reply m upd h is m-is quiet one named f r =
       let a : Env = marked_env p x by q in
-      let t = branch_along P j p k (client k q) (terms by q) (branches p by) (with_duties j k p by q (client k q)) a ws reply
+      let t = branch_along P j k (marked_variables p q (client k q) (terms by q)) (branches p by) (with_duties j k p by q (client k q)) a ws reply
       (branches_ground p by) quiet (marked_env_is p x by q (client k q) h) (with_met j p k by q f (mark_met j p k by q x ws reply h one named is)) is r in (
         t.path,
         (
@@ -261,10 +264,10 @@ module _ (ops : List Operation) (first : ℕ) (grounds : (p : ℕ) → AreGround
 
   note_along : (P : Path → Type 0) (j p : ℕ) (by : Chosen Term) (q : Path) (x : ℕ) (reply : List ℤ) (m : State) →
       value s e outside (client Note q) ≡ pos x → run (st q) (marked_env p x by q) (branches p by) ≡ Some ([], reply) → m ≡ stored_all (st q) (note_writes first x reply) →
-      st q (pend first) (pos x) ≡ pos 1 → Lawful q → Every P (branch_paths ops first j p Note (client Note q) (terms by q) (branches p by) (with_duties j Note p by q (client Note q))) → Along P m
+      st q (pend first) (pos x) ≡ pos 1 → Lawful q → Every P (branch_paths ops first j Note (marked_variables p q (client Note q) (terms by q)) (branches p by) (with_duties j Note p by q (client Note q))) → Along P m
   note_along P j p by q x reply m h is m-is one f r =
       let a : Env = marked_env p x by q in
-      let t = branch_along P j p Note (client Note q) (terms by q) (branches p by) (with_duties j Note p by q (client Note q)) a [] reply
+      let t = branch_along P j Note (marked_variables p q (client Note q) (terms by q)) (branches p by) (with_duties j Note p by q (client Note q)) a [] reply
       (branches_ground p by) refl (marked_env_is p x by q (client Note q) h) (with_met j p Note by q f (mark_met j p Note by q x [] reply h one tt is)) is r in (
         t.path,
         (

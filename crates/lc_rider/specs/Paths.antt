@@ -83,33 +83,38 @@ module _ (operations : List Operation) (first : ℕ) where
   observing_duty n (Other t o) facts b = []
   observing_duty n Note facts b = record { kind = Observing; rider = n; facts = facts; goal = is_empty b.updates } ∷ []
 
-  abbrev pub mark_variables : ℕ → Path → Term → List Term → List Term
-  mark_variables o p c ts = branch_variables p.columns first (arity operations o) c ts
-
-  abbrev pub mark_duties : ℕ → ℕ → Marking → Path → Term → List Term → List Branch → List Duty
-  mark_duties n o k p c ts bs =
+  -- what a mark asks for, where one of these branches is to be taken with these variables
+  abbrev pub mark_duties : ℕ → Marking → Path → Term → List Term → List Branch → List Duty
+  mark_duties n k p c τ bs =
       record { kind = Pending; rider = n; facts = p.facts; goal = Eq (Read (p.columns (pend first)) c) (Number (pos 1)) } ∷
       named_duty n k p c ++
-      (record { kind = Enabled; rider = n; facts = p.facts; goal = Or (formulas (map (λ (b : Branch). told p.columns (mark_variables o p c ts) b.guard) bs)) } ∷ [])
+      (record { kind = Enabled; rider = n; facts = p.facts; goal = Or (formulas (map (λ (b : Branch). told p.columns τ b.guard) bs)) } ∷ [])
 
-  -- the guards of the branches before fail, and that of this one holds
-  abbrev pub branch_paths : ℕ → ℕ → Marking → Term → List Term → List Branch → Path → List Path
-  branch_paths n o k c ts [] p = []
-  branch_paths n o k c ts (b ∷ bs) p =
-      (let g = told p.columns (mark_variables o p c ts) b.guard in
+  -- the guards of the branches before fail, and that of this one holds; their variables are τ
+  abbrev pub branch_paths : ℕ → Marking → List Term → List Branch → Path → List Path
+  branch_paths n k τ [] p = []
+  branch_paths n k τ (b ∷ bs) p =
+      (let g = told p.columns τ b.guard in
       record {
-        columns = after p.columns (mark_variables o p c ts) (mark_updates first k b);
+        columns = after p.columns τ (mark_updates first k b);
         facts = p.facts ++ g ∷ [];
         duties = p.duties ++ observing_duty n k (p.facts ++ g ∷ []) b;
-      } ∷ branch_paths n o k c ts bs (with_fact p (Not g)))
+      } ∷ branch_paths n k τ bs (with_fact p (Not g)))
 
-  -- a mark in the body of o, whose variables are τ, by the branches that its choice leaves; its terms are said here
+  abbrev pub owing : ℕ → Marking → Term → List Term → List Branch → Path → Path
+  owing n k c τ bs p = record p { duties = p.duties ++ mark_duties n k p c τ bs }
+
+  -- a mark of the call of o by this client, by the branches that a choice leaves, with these terms for their parameters
+  abbrev pub choice_paths : ℕ → ℕ → Marking → Term → List Term → List Branch → Path → List Path
+  choice_paths n o k c ts bs p =
+      (let τ = branch_variables p.columns first (arity operations o) c ts in
+      branch_paths n k τ bs (owing n k c τ bs p))
+
+  -- a mark in the body of o, whose variables are τ, by the branches that its choice leaves; client and terms are said here
   abbrev pub mark_paths : ℕ → ℕ → List Term → Marking → Chosen Term → Path → List Path
   mark_paths n o τ k by p =
-      (let c = replace_term (replacing p.columns (term_at τ)) (marked_client k) in
-      let ts = map (replace_term (replacing p.columns (term_at τ))) (given_in by) in
-      let bs = chosen by (op_branches operations (marked_op o k)) in
-      branch_paths n (marked_op o k) k c ts bs (record p { duties = p.duties ++ mark_duties n (marked_op o k) k p c ts bs }))
+      (let said = replace_term (replacing p.columns (term_at τ)) in
+      choice_paths n (marked_op o k) k (said (marked_client k)) (map said (given_in by)) (chosen by (op_branches operations (marked_op o k))) p)
 
   abbrev pub deed_paths : ℕ → ℕ → List Term → Deed → Path → List Path
   deed_paths n o τ (Assign u) p = record p { columns = put p.columns (said p.columns τ u) } ∷ []

@@ -3,7 +3,7 @@ use Rattle.std.proofs.Common.{◌≡◌, ℕ, suc, ◌+◌, ◌<◌, ◌≤◌, 
 use Rattle.std.specs.Ordering.{int_eq}
 use Rattle.std.proofs.lemmas.Bool.Decides.{Decides-int_eq}
 use Rattle.std.proofs.lemmas.Int.{ints}
-use Rattle.lc_term.specs.Updates.{Update, Write, stored_all, write_of, writes_of, values_of}
+use Rattle.lc_term.specs.Updates.{variable, Update, Write, stored_all, write_of, writes_of, values_of}
 use Rattle.lc_term.specs.Syntax.{Term, Variable, Formula, Not, formulas}
 use Rattle.lc_term.specs.Meaning.{State, Env, outside, value, Holds, NoneHolds, EachHolds}
 use Rattle.lc_term.specs.Truth.{truth}
@@ -18,15 +18,15 @@ use Rattle.lc_term.specs.Said.{told, said, at_client}
 use Rattle.lc_term.specs.SystemColumns.{pend, op_column, rep_columns}
 use Rattle.lc_rider.specs.Rider.{Mark, Marking, Own, Other, Note, Deed, Assign, Marks, Rider, arguments_in, IsDone, IsDoneWhere, RideAll, mark_writes, note_writes}
 use Rattle.lc_outline.specs.Development.{Development, first_system}
-use Rattle.lc_rider.specs.Paths.{Path, Duty, with_fact, mark_variables, mark_updates, marked_op, observing_duty, named_duty, mark_duties, branch_paths, deed_paths, deed_paths_where, rider_paths, paths, is_empty}
+use Rattle.lc_rider.specs.Paths.{Path, Duty, with_fact, mark_updates, marked_op, observing_duty, named_duty, mark_duties, branch_paths, deed_paths, deed_paths_where, rider_paths, paths, is_empty}
 use Rattle.lc_term.specs.Syntax.{Number}
 use Rattle.lc_outline.specs.Resolved.{IsNonempty, IsResolved, IsRiderResolved, IsDeedResolved, IsConditionResolved}
 use Rattle.lc_term.proofs.Stores.{Every_left, Every_right, if_true, if_false, stored-append, writes_other, writes_away}
 use Rattle.lc_seq.proofs.Abstract.{run_is}
 use Rattle.lc_outline.proofs.Matched.{grounds, branches_resolved, replies_resolved}
 use Rattle.lc_sound.proofs.RowChanges.{AreAt, AreFirst, mark_at, note_at}
-use Rattle.lc_term.proofs.Symbolic.{columns_by-put, columns_by-after, write-said, value-said, Holds-told}
-use Rattle.lc_rider.proofs.Riding.{Every-concat, v, st, Facts, be, terms, choice, branches, branches_ground, marked_env, marked_env_is, one_more, client, with_duties, settled_writes, noted_writes}
+use Rattle.lc_term.proofs.Symbolic.{values_by, columns_by-put, columns_by-after, write-said, value-said, Holds-told}
+use Rattle.lc_rider.proofs.Riding.{Every-concat, v, st, Facts, terms, marked_variables, choice, branches, branches_ground, marked_env, marked_env_is, one_more, client, with_duties, settled_writes, noted_writes}
 use Rattle.lc_rider.specs.PathLaws.{AreGround}
 
 -- only clients below n are in calls
@@ -67,10 +67,11 @@ module _ (D : Development) (R : IsResolved D) (s : State) (e : Env) (τ : List T
   abbrev first' : ℕ
   first' = first_system D
 
-  -- the terms of a choice, its numbers, and the branches that it leaves
-  abbrev T : Chosen Term → Path → List Term
-  T by q = terms D.specification.operations (first_system D) (grounds D R) s e τ by q
+  -- the variables of a branch, for a choice
+  abbrev U : ℕ → Chosen Term → Path → Term → List Term
+  U p by q c = marked_variables D.specification.operations (first_system D) (grounds D R) s e τ p q c (terms D.specification.operations (first_system D) (grounds D R) s e τ by q)
 
+  -- the numbers of a choice, and the branches that it leaves
   abbrev H : Chosen Term → Path → Choice
   H by q = choice D.specification.operations (first_system D) (grounds D R) s e τ by q
 
@@ -91,14 +92,14 @@ module _ (D : Development) (R : IsResolved D) (s : State) (e : Env) (τ : List T
 
   -- ---- the duties so far are among those of the paths that go on
 
-  some_branch : (P : Path → Type 0) (j p : ℕ) (k : Marking) (c : Term) (ts : List Term) (bs : List Branch) (q : Path) → IsNonempty bs → Every P (branch_paths ops' first' j p k c ts bs q) → (x : Path) × (P x × (AllMet x → AllMet q))
-  some_branch P j p k c ts [] q h r = absurd h
-  some_branch P j p k c ts (b ∷ bs) q h r = (_, (r.0, Every_left Met q.duties _))
+  some_branch : (P : Path → Type 0) (j : ℕ) (k : Marking) (υ : List Term) (bs : List Branch) (q : Path) → IsNonempty bs → Every P (branch_paths ops' first' j k υ bs q) → (x : Path) × (P x × (AllMet x → AllMet q))
+  some_branch P j k υ [] q h r = absurd h
+  some_branch P j k υ (b ∷ bs) q h r = (_, (r.0, Every_left Met q.duties _))
 
   some_deed : (P : Path → Type 0) (j o : ℕ) (d : Deed) (q : Path) → IsDeedResolved D o d → Every P (deed_paths ops' first' j o τ d q) → (x : Path) × (P x × (AllMet x → AllMet q))
   some_deed P j o (Assign u) q h r = (_, (r.0, λ x. x))
   some_deed P j o (Marks k by) q h r =
-      let y = some_branch P j (marked_op o k) k (client D.specification.operations (first_system D) (grounds D R) s e τ k q) (T by q) (Bs (marked_op o k) by) (W j k (marked_op o k) by q (client D.specification.operations (first_system D) (grounds D R) s e τ k q)) h r in
+      let y = some_branch P j k (U (marked_op o k) by q (client D.specification.operations (first_system D) (grounds D R) s e τ k q)) (Bs (marked_op o k) by) (W j k (marked_op o k) by q (client D.specification.operations (first_system D) (grounds D R) s e τ k q)) h r in
       (y.0, (y.1.0, λ x. Every_left Met q.duties _ (y.1.1 x)))
 
   some_way : (P : Path → Type 0) (j o : ℕ) (c : Option Formula) (d : Deed) (q : Path) → IsDeedResolved D o d → Every P (deed_paths_where ops' first' c j o τ d q) → (x : Path) × (P x × (AllMet x → AllMet q))
@@ -127,7 +128,7 @@ module _ (D : Development) (R : IsResolved D) (s : State) (e : Env) (τ : List T
   observes j (Other t o) fs b f h = tt
   observes j Note fs b f h = no_updates b.updates (h.0 f)
 
-  pub record Taking (P : Path → Type 0) (j p : ℕ) (k : Marking) (m : State) (a : Env) (bs : List Branch) : Type 0 where
+  pub record Taking (P : Path → Type 0) (j : ℕ) (k : Marking) (m : State) (a : Env) (bs : List Branch) : Type 0 where
     pub path : Path
     pub branch : Branch
     pub given : P path
@@ -136,35 +137,35 @@ module _ (D : Development) (R : IsResolved D) (s : State) (e : Env) (τ : List T
     pub columns : S path ≡ stored_all m (writes_of m a (mark_updates first' k branch))
     pub observing : AllMet path → IsObserving k branch
 
-  choose : (P : Path → Type 0) (j p : ℕ) (k : Marking) (c : Term) (ts : List Term) (bs : List Branch) (q : Path) (a : Env) → AreGround bs → be D.specification.operations (first_system D) (grounds D R) s e τ p q c ts ≡ a → F q →
-      (NoneHolds s e outside (formulas (map (λ (b : Branch). told q.columns (mark_variables ops' first' p q c ts) b.guard) bs)) → ⊥) → Every P (branch_paths ops' first' j p k c ts bs q) → Taking P j p k (S q) a bs
-  choose P j p k c ts [] q a g h f some r = absurd (some tt)
-  choose P j p k c ts (b ∷ bs) q a g h f some r =
+  choose : (P : Path → Type 0) (j : ℕ) (k : Marking) (υ : List Term) (bs : List Branch) (q : Path) (a : Env) → AreGround bs → variable (values_by s e υ) ≡ a → F q →
+      (NoneHolds s e outside (formulas (map (λ (b : Branch). told q.columns υ b.guard) bs)) → ⊥) → Every P (branch_paths ops' first' j k υ bs q) → Taking P j k (S q) a bs
+  choose P j k υ [] q a g h f some r = absurd (some tt)
+  choose P j k υ (b ∷ bs) q a g h f some r =
       by (truth (S q) a outside b.guard) refl
-      (λ e'. choose P j p k c ts bs (with_fact q (Not (told q.columns (mark_variables ops' first' p q c ts) b.guard))) a g.1 h
-      (one_more D.specification.operations (first_system D) (grounds D R) s e τ q.facts (Not (told q.columns (mark_variables ops' first' p q c ts) b.guard)) f (fails e')) (λ no. some (fails e', no)) r.1)
+      (λ e'. choose P j k υ bs (with_fact q (Not (told q.columns υ b.guard))) a g.1 h
+      (one_more D.specification.operations (first_system D) (grounds D R) s e τ q.facts (Not (told q.columns υ b.guard)) f (fails e')) (λ no. some (fails e', no)) r.1)
     where
-      tells : Holds s e outside (told q.columns (mark_variables ops' first' p q c ts) b.guard) ≡ Holds (S q) a outside b.guard
-      tells = Holds-told s e q.columns (mark_variables ops' first' p q c ts) b.guard ∙ (λ i. Holds (S q) (h i) outside b.guard)
+      tells : Holds s e outside (told q.columns υ b.guard) ≡ Holds (S q) a outside b.guard
+      tells = Holds-told s e q.columns υ b.guard ∙ (λ i. Holds (S q) (h i) outside b.guard)
 
       d : (truth (S q) a outside b.guard ≡ true → Holds (S q) a outside b.guard) × (Holds (S q) a outside b.guard → truth (S q) a outside b.guard ≡ true)
       d = Decides-truth (S q) a outside b.guard g.0
 
-      fails : truth (S q) a outside b.guard ≡ false → Holds s e outside (told q.columns (mark_variables ops' first' p q c ts) b.guard) → ⊥
+      fails : truth (S q) a outside b.guard ≡ false → Holds s e outside (told q.columns υ b.guard) → ⊥
       fails e' x = true≢false (sym (d.1 (subst (λ X. X) tells x)) ∙ e')
 
       by : (t : Bool) → truth (S q) a outside b.guard ≡ t →
-          (truth (S q) a outside b.guard ≡ false → Taking P j p k (S q) a bs) → Taking P j p k (S q) a (b ∷ bs)
+          (truth (S q) a outside b.guard ≡ false → Taking P j k (S q) a bs) → Taking P j k (S q) a (b ∷ bs)
       by true e' later =
-          let fact = one_more D.specification.operations (first_system D) (grounds D R) s e τ q.facts (told q.columns (mark_variables ops' first' p q c ts) b.guard) f (subst (λ X. X) (sym tells) (d.0 e')) in
+          let fact = one_more D.specification.operations (first_system D) (grounds D R) s e τ q.facts (told q.columns υ b.guard) f (subst (λ X. X) (sym tells) (d.0 e')) in
           record {
             path = _;
             branch = b;
             given = r.0;
             facts = fact;
             runs = if_true (truth (S q) a outside b.guard) _ (run (S q) a bs) e';
-            columns = columns_by-after s e q.columns (mark_variables ops' first' p q c ts) (mark_updates first' k b) ∙ (λ i. stored_all (S q) (writes_of (S q) (h i) (mark_updates first' k b)));
-            observing = λ met. observes j k (q.facts ++ told q.columns (mark_variables ops' first' p q c ts) b.guard ∷ []) b fact (Every_right Met q.duties _ met);
+            columns = columns_by-after s e q.columns υ (mark_updates first' k b) ∙ (λ i. stored_all (S q) (writes_of (S q) (h i) (mark_updates first' k b)));
+            observing = λ met. observes j k (q.facts ++ told q.columns υ b.guard ∷ []) b fact (Every_right Met q.duties _ met);
           }
       by false e' later =
           let x = later e' in
@@ -195,7 +196,7 @@ module _ (D : Development) (R : IsResolved D) (s : State) (e : Env) (τ : List T
   pub record Owed (j p : ℕ) (k : Marking) (by : Chosen Term) (q : Path) (c : Term) : Type 0 where
     pub pending : S q first' (value s e outside c) ≡ pos 1
     pub named : EachHolds s e (map (λ (d : Duty). d.goal) (named_duty ops' first' j k q c))
-    pub enabled : NoneHolds s e outside (formulas (map (λ (b : Branch). told q.columns (mark_variables ops' first' p q c (T by q)) b.guard) (Bs p by))) → ⊥
+    pub enabled : NoneHolds s e outside (formulas (map (λ (b : Branch). told q.columns (U p by q c) b.guard) (Bs p by))) → ⊥
 
   named_goals : (j : ℕ) (k : Marking) (q : Path) (c : Term) → F q → Every Met (named_duty ops' first' j k q c) → EachHolds s e (map (λ (d : Duty). d.goal) (named_duty ops' first' j k q c))
   named_goals j Own q c f h = tt
@@ -203,10 +204,10 @@ module _ (D : Development) (R : IsResolved D) (s : State) (e : Env) (τ : List T
   named_goals j Note q c f h = tt
 
   owed : (P : Path → Type 0) (met : (x : Path) → P x → AllMet x) (j p : ℕ) (k : Marking) (by : Chosen Term) (q : Path) (c : Term) → IsNonempty (Bs p by) → F q →
-      Every P (branch_paths ops' first' j p k c (T by q) (Bs p by) (W j k p by q c)) → Owed j p k by q c
+      Every P (branch_paths ops' first' j k (U p by q c) (Bs p by) (W j k p by q c)) → Owed j p k by q c
   owed P met j p k by q c h f r =
-      let y = some_branch P j p k c (T by q) (Bs p by) (W j k p by q c) h r in
-      let m = Every_right Met q.duties (mark_duties ops' first' j p k q c (T by q) (Bs p by)) (y.1.1 (met y.0 y.1.0)) in
+      let y = some_branch P j k (U p by q c) (Bs p by) (W j k p by q c) h r in
+      let m = Every_right Met q.duties (mark_duties ops' first' j k q c (U p by q c) (Bs p by)) (y.1.1 (met y.0 y.1.0)) in
       record {
         pending = m.0 f;
         named = named_goals j k q c f (Every_left Met (named_duty ops' first' j k q c) _ m.1);
@@ -214,15 +215,15 @@ module _ (D : Development) (R : IsResolved D) (s : State) (e : Env) (τ : List T
       }
 
   taking : (P : Path → Type 0) (met : (x : Path) → P x → AllMet x) (j p x : ℕ) (k : Marking) (by : Chosen Term) (q : Path) (c : Term) → value s e outside c ≡ pos x → F q → Owed j p k by q c →
-      Every P (branch_paths ops' first' j p k c (T by q) (Bs p by) (W j k p by q c)) → Taking P j p k (S q) (E p x by q) (Bs p by)
+      Every P (branch_paths ops' first' j k (U p by q c) (Bs p by) (W j k p by q c)) → Taking P j k (S q) (E p x by q) (Bs p by)
   taking P met j p x k by q c is f o r =
-      choose P j p k c (T by q) (Bs p by) (W j k p by q c) (E p x by q)
+      choose P j k (U p by q c) (Bs p by) (W j k p by q c) (E p x by q)
       (branches_ground D.specification.operations (first_system D) (grounds D R) s e τ p by) (marked_env_is D.specification.operations (first_system D) (grounds D R) s e τ p x by q c is) f o.enabled r
 
   settle : (P : Path → Type 0) (met : (x : Path) → P x → AllMet x) (j p x : ℕ) (k : Marking) (by : Chosen Term) (q : Path) (c : Term) →
       ((b : Branch) → mark_updates first' k b ≡ b.updates ++ (at_client (rep_columns first') b.replies ++ at_client (pend first' ∷ []) (Number (pos 2) ∷ []))) →
       value s e outside c ≡ pos x → IsNonempty (Bs p by) → F q → Only first' n (S q) →
-      Every P (branch_paths ops' first' j p k c (T by q) (Bs p by) (W j k p by q c)) → Ridden P (λ ms m. Rattle.lc_rider.specs.Rider.IsSettled ops' first' (S q) x p (H by q) ms m)
+      Every P (branch_paths ops' first' j k (U p by q c) (Bs p by) (W j k p by q c)) → Ridden P (λ ms m. Rattle.lc_rider.specs.Rider.IsSettled ops' first' (S q) x p (H by q) ms m)
   settle P met j p x k by q c upd is h f only r =
       let o = owed P met j p k by q c h f r in
       let y = taking P met j p x k by q c is f o r in
@@ -245,7 +246,7 @@ module _ (D : Development) (R : IsResolved D) (s : State) (e : Env) (τ : List T
 
   note : (P : Path → Type 0) (met : (x : Path) → P x → AllMet x) (j p x : ℕ) (by : Chosen Term) (q : Path) (c : Term) →
       value s e outside c ≡ pos x → IsNonempty (Bs p by) → F q → Only first' n (S q) →
-      Every P (branch_paths ops' first' j p Note c (T by q) (Bs p by) (W j Note p by q c)) → Ridden P (λ ms m. Rattle.lc_rider.specs.Rider.IsNoted ops' first' (S q) x p (H by q) ms m)
+      Every P (branch_paths ops' first' j Note (U p by q c) (Bs p by) (W j Note p by q c)) → Ridden P (λ ms m. Rattle.lc_rider.specs.Rider.IsNoted ops' first' (S q) x p (H by q) ms m)
   note P met j p x by q c is h f only r =
       let o = owed P met j p Note by q c h f r in
       let y = taking P met j p x Note by q c is f o r in
@@ -268,7 +269,7 @@ module _ (D : Development) (R : IsResolved D) (s : State) (e : Env) (τ : List T
     V = v D.specification.operations (first_system D) (grounds D R) s e τ
 
     other : (P : Path → Type 0) (met : (x : Path) → P x → AllMet x) (j p : ℕ) (t : Term) (by : Chosen Term) (q : Path) → IsNonempty (Bs p by) → F q → Only first' n (S q) →
-        Every P (branch_paths ops' first' j p (Other t p) (client D.specification.operations (first_system D) (grounds D R) s e τ (Other t p) q) (T by q) (Bs p by) (W j (Other t p) p by q (client D.specification.operations (first_system D) (grounds D R) s e τ (Other t p) q))) →
+        Every P (branch_paths ops' first' j (Other t p) (U p by q (client D.specification.operations (first_system D) (grounds D R) s e τ (Other t p) q)) (Bs p by) (W j (Other t p) p by q (client D.specification.operations (first_system D) (grounds D R) s e τ (Other t p) q))) →
         Ridden P (λ ms m. IsDone ops' first' self o V (S q) (Marks (Other t p) by) ms m)
     other P met j p t by q h f only r = go (only (value s e outside c))
       where
