@@ -10,8 +10,8 @@ use Rattle.lc_term.specs.Syntax.{Formula, Le, Eq, Not, And, Or, Implies, Forall,
 use Rattle.lc_term.specs.Places.{all_pass}
 use Rattle.lc_term.proofs.Stores.{Every-append, Every-map}
 use Rattle.lc_term.proofs.Tests.{left_true, right_true, at_all}
-use Rattle.lc_object.specs.Syntax.{Instr, Load, Store, Cas, Set, If, Return, Operation, Point, Object}
-use Rattle.lc_object.specs.Edges.{Edge, array_columns, reads, row_updates, row_facts, edges_at, edges_from, edges}
+use Rattle.lc_object.specs.Syntax.{Instr, Load, Store, Cas, Set, Faa, If, Return, Operation, Point, Object}
+use Rattle.lc_object.specs.Edges.{Edge, array_columns, reads, row_updates, row_sums, row_facts, edges_at, edges_from, edges}
 use Rattle.lc_object.specs.WellFormed.{variable_count, has_limits, is_code_term, are_code_terms, is_code_formula, are_code_formulas, passes_at, is_instruction, is_point, is_object}
 use Rattle.lc_kernel.specs.Below.{below, term_below, formula_below}
 use Rattle.lc_cond.proofs.Below.{TermsBelow, FormulasBelow}
@@ -60,6 +60,11 @@ row_updates-below : (n : ℕ) (cs : List ℕ) (t : Term) (vs : List Term) → Is
 row_updates-below n [] t vs h g = tt
 row_updates-below n (c ∷ cs) t [] h g = tt
 row_updates-below n (c ∷ cs) t (v ∷ vs) h g = ((h, g.0), row_updates-below n cs t vs h g.1)
+
+row_sums-below : (n : ℕ) (cs : List ℕ) (t : Term) (ds : List Term) → IsTrue (term_below n t) → TermsBelow n ds → TermsBelow n (row_sums cs t ds)
+row_sums-below n [] t ds h g = tt
+row_sums-below n (c ∷ cs) t [] h g = tt
+row_sums-below n (c ∷ cs) t (d ∷ ds) h g = (and_from _ _ h g.0, row_sums-below n cs t ds h g.1)
 
 row_facts-below : (n : ℕ) (cs : List ℕ) (t : Term) (vs : List Term) → IsTrue (term_below n t) → TermsBelow n vs → FormulasBelow n (row_facts cs t vs)
 row_facts-below n [] t vs h g = tt
@@ -112,6 +117,21 @@ edges_at-below object op k (Cas a t old new l m) h =
     ))
 edges_at-below object op k (Set rs vs l) h =
     ((refl, λ o is. record { facts = tt; values = code_terms-below (variable_count o) vs (right_true _ _ (left_true _ _ (h o is))); updates = tt }), tt)
+edges_at-below object op k (Faa a t rs ds l) h =
+    (let index : (o : Operation) → slice_get object.operations op ≡ Some o → IsTrue (term_below (variable_count o) t) =
+    λ o is. code_term-below (variable_count o) t (right_true _ _ (left_true _ _ (left_true _ _ (left_true _ _ (h o is)))))
+    in (
+      (
+        refl,
+        λ o is. record {
+          facts = tt;
+          values = reads-below (variable_count o) (array_columns object a) t (index o is);
+          updates = row_updates-below (variable_count o) (array_columns object a) t (row_sums (array_columns object a) t ds) (index o is)
+              (row_sums-below (variable_count o) (array_columns object a) t ds (index o is) (code_terms-below (variable_count o) ds (right_true _ _ (left_true _ _ (h o is)))));
+        },
+      ),
+      tt,
+    ))
 edges_at-below object op k (If f l m) h =
     (let condition : (o : Operation) → slice_get object.operations op ≡ Some o → IsTrue (formula_below (variable_count o) f) =
     λ o is. code_formula-below (variable_count o) f (left_true _ _ (left_true _ _ (h o is)))

@@ -16,15 +16,17 @@ use Rattle.lc_term.specs.SystemColumns.{pend, rep_columns, noted, note_columns, 
 use Rattle.lc_term.proofs.Stores.{Every-append, same_self}
 use Rattle.lc_term.proofs.Tests.{left_true, right_true}
 use Rattle.lc_seq.specs.Specification as Q
-use Rattle.lc_seq.specs.Specification.{Branch, branch_is_resolved, update_is_resolved, operation_is_resolved}
-use Rattle.lc_seq.specs.Branches.{op_branches, branches_in}
+use Rattle.lc_seq.specs.Specification.{Branch, branch_is_resolved, update_is_resolved, operation_is_resolved, chosen}
+use Rattle.lc_seq.specs.Branches.{op_branches, branches_in, arity}
+use Rattle.lc_seq.specs.Sequential.{given_in}
+use Rattle.lc_seq.proofs.Choosing.{chosen-every}
 use Rattle.lc_object.specs.Syntax as O
-use Rattle.lc_object.specs.Edges.{Edge, edges, edges_at, edges_from, row_updates, array_columns, columns_in}
+use Rattle.lc_object.specs.Edges.{Edge, edges, edges_at, edges_from, row_updates, row_sums, array_columns, columns_in}
 use Rattle.lc_object.specs.Places.{operation_at}
 use Rattle.lc_object.specs.WellFormed.{variable_count, is_array, is_width, are_distinct, are_operations, is_point}
 use Rattle.lc_action.specs.Action.{Action, enter, leave, post_columns, acting_variables}
 use Rattle.lc_rider.specs.Rider.{Marking, Own, Other, Note, Deed, Assign, Marks, Rider}
-use Rattle.lc_rider.specs.Paths.{Path, with_fact, edge_variables, path_start, observing_duty, mark_duties, mark_variables, mark_updates, marked_op, marked_client, branch_paths, deed_paths, deed_paths_where, rider_paths, paths}
+use Rattle.lc_rider.specs.Paths.{Path, with_fact, edge_variables, path_start, observing_duty, mark_duties, branch_variables, mark_updates, marked_op, marked_client, branch_paths, deed_paths, deed_paths_where, rider_paths, paths}
 use Rattle.lc_outline.specs.Development.{Development, On, first_system, invariant_of, on_at, asserts_at, riders_in, all_actions}
 use Rattle.lc_outline.specs.Resolved.{IsDeedResolved, IsRiderResolved, IsOnResolved, IsResolved, is_resolved}
 use Rattle.lc_outline.proofs.Resolving.{resolved}
@@ -83,10 +85,10 @@ observed ops first n Own fs b = refl
 observed ops first n (Other t o) fs b = refl
 observed ops first n Note fs b = refl
 
-owed : (ops : List Q.Operation) (first n o : ℕ) (k : Marking) (p : Path) (c : Term) (bs : List Branch) → length (mark_duties ops first n o k p c bs) + noting k ≡ asked_of k
-owed ops first n o Own p c bs = refl
-owed ops first n o (Other t q) p c bs = refl
-owed ops first n o Note p c bs = refl
+owed : (ops : List Q.Operation) (first n : ℕ) (k : Marking) (p : Path) (c : Term) (υ : List Term) (bs : List Branch) → length (mark_duties ops first n k p c υ bs) + noting k ≡ asked_of k
+owed ops first n Own p c υ bs = refl
+owed ops first n (Other t q) p c υ bs = refl
+owed ops first n Note p c υ bs = refl
 
 at_columns : (P : ℕ → Type 0) (cs : List ℕ) (ts : List Term) → Every P cs → Every P (columns_of (at_client cs ts))
 at_columns P [] ts h = tt
@@ -154,24 +156,24 @@ module _ (D : Development) (base : ℕ) (ends : List ℕ) where
     abbrev over : ℕ → List ℕ → Way → ℕ
     over a cs way = G (a + way.asked) (cs ++ way.columns)
 
-    branch_sum : (n o : ℕ) (k : Marking) (c : Term) (bs : List Branch) (p : Path) (a : ℕ) (cs : List ℕ) → base + length p.duties + noting k ≡ a + asked_of k → Stores p cs → AllBelow cs → Branches bs →
-        sum_by F (branch_paths ops first n o k c bs p) ≡ sum_by (over a cs) (map (mark_way first k) bs)
-    branch_sum n o k c [] p a cs e h below all = refl
-    branch_sum n o k c (b ∷ bs) p a cs e h below all =
-        let g = told p.columns (mark_variables ops first o p c) b.guard in
+    branch_sum : (n : ℕ) (k : Marking) (υ : List Term) (bs : List Branch) (p : Path) (a : ℕ) (cs : List ℕ) → base + length p.duties + noting k ≡ a + asked_of k → Stores p cs → AllBelow cs → Branches bs →
+        sum_by F (branch_paths ops first n k υ bs p) ≡ sum_by (over a cs) (map (mark_way first k) bs)
+    branch_sum n k υ [] p a cs e h below all = refl
+    branch_sum n k υ (b ∷ bs) p a cs e h below all =
+        let g = told p.columns υ b.guard in
         let facts = p.facts ++ g ∷ [] in
         let us = mark_updates first k b in
         let owes = observing_duty ops first n k facts b in
-        let q : Path = record { columns = after p.columns (mark_variables ops first o p c) us; facts = facts; duties = p.duties ++ owes } in
+        let q : Path = record { columns = after p.columns υ us; facts = facts; duties = p.duties ++ owes } in
         let longer = length-append p.duties owes in
         let extra = observed ops first n k facts b in
         let fits : Fits q (a + asked_of k) (cs ++ columns_of us) = record {
           asked = omega (arith, longer, extra, e);
-          stores = stores_more p q cs (columns_of us) h (after_base p.columns (mark_variables ops first o p c) us);
+          stores = stores_more p q cs (columns_of us) h (after_base p.columns υ us);
           below = Every-append (λ d. d < column_count first) cs (columns_of us) below (mark_below first k b all.0);
         } in
-        sum_by-cons F q (branch_paths ops first n o k c bs (with_fact p (Not g)))
-        ∙ ap₂ (λ x y. x + y) (same q (a + asked_of k) (cs ++ columns_of us) fits) (branch_sum n o k c bs (with_fact p (Not g)) a cs e h below all.1)
+        sum_by-cons F q (branch_paths ops first n k υ bs (with_fact p (Not g)))
+        ∙ ap₂ (λ x y. x + y) (same q (a + asked_of k) (cs ++ columns_of us) fits) (branch_sum n k υ bs (with_fact p (Not g)) a cs e h below all.1)
         ∙ sym (sum_by-cons (over a cs) (mark_way first k b) (map (mark_way first k) bs))
 
     -- one way
@@ -193,14 +195,17 @@ module _ (D : Development) (base : ℕ) (ends : List ℕ) where
         let asked = h.asked in
         alone q a cs (record { asked = 0; columns = u.column ∷ [] })
         (fits_more p q a (a + 0) cs (u.column ∷ []) h (omega (arith, asked)) (puts_base p.columns (v ∷ [])) (low u refl, tt))
-    deed_sum n o τ (Marks k) p a cs h low all =
-        let c = replace_term (replacing p.columns (term_at τ)) (marked_client k) in
-        let bs = op_branches ops (marked_op o k) in
-        let owes = mark_duties ops first n (marked_op o k) k p c bs in
+    deed_sum n o τ (Marks k by) p a cs h low all =
+        let said : Term → Term = replace_term (replacing p.columns (term_at τ)) in
+        let c = said (marked_client k) in
+        let bs = chosen by (op_branches ops (marked_op o k)) in
+        let υ = branch_variables p.columns first (arity ops (marked_op o k)) c (map said (given_in by)) in
+        let owes = mark_duties ops first n k p c υ bs in
         let longer = length-append p.duties owes in
-        let extra = owed ops first n (marked_op o k) k p c bs in
+        let extra = owed ops first n k p c υ bs in
         let asked = h.asked in
-        branch_sum n (marked_op o k) k c bs (record p { duties = p.duties ++ owes }) a cs (omega (arith, longer, extra, asked)) h.stores h.below (all (marked_op o k))
+        branch_sum n k υ bs (record p { duties = p.duties ++ owes }) a cs (omega (arith, longer, extra, asked)) h.stores h.below
+        (chosen-every (λ (b : Branch). AllBelow (columns_of b.updates)) by (op_branches ops (marked_op o k)) (all (marked_op o k)))
 
     where_sum : (f : Option Formula) (n o : ℕ) (τ : List Term) (d : Deed) (p : Path) (a : ℕ) (cs : List ℕ) → Fits p a cs → ((u : Update) → d ≡ Assign u → u.column < column_count first) → ((q : ℕ) → Branches (op_branches ops q)) →
         sum_by F (deed_paths_where ops first f n o τ d p) ≡ sum_by (over a cs) (ways_where f (deed_ways D o d))
@@ -250,8 +255,9 @@ module _ (D : Development) (R : IsResolved D) where
 
   operation_low : (o : Q.Operation) → operation_is_resolved (length D.specification.columns) o ≡ true → AllBranches o.branches
   operation_low o h =
-      passed (λ (b : Branch). AllLow (columns_of b.updates)) (branch_is_resolved (length D.specification.columns) (Q.variables_of o.arguments)) (branch_low (Q.variables_of o.arguments)) o.branches
-      (left_true (list_all (branch_is_resolved (length D.specification.columns) (Q.variables_of o.arguments)) o.branches) _ h)
+      passed (λ (b : Branch). AllLow (columns_of b.updates)) (λ (b : Branch). branch_is_resolved (length D.specification.columns) (Q.variables_of o.arguments b) b)
+      (λ b. branch_low (Q.variables_of o.arguments b) b) o.branches
+      (left_true (list_all (λ (b : Branch). branch_is_resolved (length D.specification.columns) (Q.variables_of o.arguments b) b) o.branches) _ h)
 
   branches_low : (q : ℕ) → AllBranches (op_branches D.specification.operations q)
   branches_low q = of (slice_get D.specification.operations q) refl
@@ -300,6 +306,7 @@ module _ (D : Development) (R : IsResolved D) where
   edges_low p (O.Store a t vs l) = (row_low (array_columns D.object a) t vs (columns_low a), tt)
   edges_low p (O.Cas a t old new l m) = (row_low (array_columns D.object a) t new (columns_low a), (tt, tt))
   edges_low p (O.Set rs vs l) = (tt, tt)
+  edges_low p (O.Faa a t rs ds l) = (row_low (array_columns D.object a) t (row_sums (array_columns D.object a) t ds) (columns_low a), tt)
   edges_low p (O.If f l m) = (tt, (tt, tt))
   edges_low p (O.Return vs) = (tt, tt)
 

@@ -5,7 +5,7 @@ use Rattle.lc_term.specs.Lists.{concat_map, concat_places}
 use Rattle.lc_term.specs.Syntax.{Formula}
 use Rattle.lc_term.specs.SystemColumns.{pend}
 use Rattle.lc_term.specs.Updates.{Update}
-use Rattle.lc_seq.specs.Specification.{Branch}
+use Rattle.lc_seq.specs.Specification.{Branch, chosen}
 use Rattle.lc_seq.specs.Branches.{op_branches}
 use Rattle.lc_object.specs.Syntax as O
 use Rattle.lc_object.specs.Edges.{Edge, edges}
@@ -45,10 +45,10 @@ asked_of Note = 3
 abbrev pub mark_way : ℕ → Marking → Branch → Way
 mark_way first k b = record { asked = asked_of k; columns = columns_of (mark_updates first k b) }
 
--- a mark has one way for each branch
+-- a mark has one way for each branch that its choice leaves
 abbrev pub deed_ways : Development → ℕ → Deed → List Way
 deed_ways D o (Assign u) = record { asked = 0; columns = u.column ∷ [] } ∷ []
-deed_ways D o (Marks k) = map (mark_way (first_system D) k) (op_branches D.specification.operations (marked_op o k))
+deed_ways D o (Marks k by) = map (mark_way (first_system D) k) (chosen by (op_branches D.specification.operations (marked_op o k)))
 
 abbrev pub no_way : Way
 no_way = record { asked = 0; columns = [] }
