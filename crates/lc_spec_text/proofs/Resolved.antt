@@ -29,7 +29,8 @@ use Rattle.lc_text.specs.DeclaredColumn.{column_parts_reading}
 use Rattle.lc_text.specs.Formulas.{formula_reading}
 use Rattle.lc_text.specs.Terms.{pair, triple, number_reading, term_reading}
 use Rattle.lc_seq.specs.Specification as S
-use Rattle.lc_seq.specs.Specification.{Branch, Operation, Specification, update_is_resolved, branch_is_resolved, operation_is_resolved, names_differ, are_resolved, variables_of}
+use Rattle.lc_seq.proofs.Choosing.{resolved_behind}
+use Rattle.lc_seq.specs.Specification.{Branch, Operation, Specification, update_is_resolved, branch_is_resolved, operation_is_resolved, names_differ, are_resolved}
 use Rattle.lc_seq.specs.SpecView.{column_of}
 use Rattle.lc_seq.specs.declared.specification.Column.{Column as ColumnValue}
 use Rattle.lc_seq.specs.declared.specification.Operation.{Operation as OperationValue}
@@ -154,8 +155,11 @@ replies_hold columns variables (Some count) n t =
       weaker (flawed f) h = tt
 
 -- branches
+no_more : (n : ℕ) → n ≡ n + 0
+no_more n = omega arith
+
 abbrev Branched : ℕ → ℕ → Option ℕ → Branch → Type 0
-Branched c v count b = (branch_is_resolved c v b ≡ true) × ((k : ℕ) → count ≡ Some k → length b.replies ≡ k)
+Branched c v count b = (resolved_behind c v b ≡ true) × ((k : ℕ) → count ≡ Some k → length b.replies ≡ k)
 
 branch_parts_hold : (columns : Columns) (variables : List (List ℕ)) (count : Option ℕ) (n m : ℕ) (ts : Trees)
     → Holds (λ p. Branched (length columns.own) (suc (length variables)) count (the_branch p)) (branch_parts_reading columns (branch_names columns.own variables) count n m ts)
@@ -170,7 +174,8 @@ branch_parts_hold columns variables count n m (t ▸ u ▸ x ▸ ts) =
     (three_holds (FormulaKnown c v) (λ us. list_all test us ≡ true) (Replied c v count) (λ p. Branched c v count (the_branch p)) triple _ _ _
     (known_guard columns.own variables m t) (updates_hold columns variables _ u) (replies_hold columns.own variables count _ x)
     (λ f us rs g1 g2 g3. (
-      and_true (is_ground f && is_known c v f) (list_all test us && list_all (term_passes (known c v)) rs) (and_true (is_ground f) (is_known c v f) g1.0 g1.1) (and_true (list_all test us) (list_all (term_passes (known c v)) rs) g2 g3.0),
+      subst (λ k. branch_is_resolved c k (the_branch ((f, us), rs)) ≡ true) (no_more v)
+          (and_true (is_ground f && is_known c v f) (list_all test us && list_all (term_passes (known c v)) rs) (and_true (is_ground f) (is_known c v f) g1.0 g1.1) (and_true (list_all test us) (list_all (term_passes (known c v)) rs) g2 g3.0)),
       g3.1,
     )))
 
@@ -182,7 +187,7 @@ branch_holds columns variables count n t =
     mapped_holds (λ p. P (the_branch p)) P the_branch _ (behind_holds (λ p. P (the_branch p)) (codes "branch") N n t (branch_parts_hold columns variables count)) (λ p h. h)
 
 abbrev AllBranched : ℕ → ℕ → Option ℕ → List Branch → Type 0
-AllBranched c v count bs = (list_all (branch_is_resolved c v) bs ≡ true) × ((k : ℕ) → count ≡ Some k → list_all (λ (b : Branch). length b.replies == k) bs ≡ true)
+AllBranched c v count bs = (list_all (resolved_behind c v) bs ≡ true) × ((k : ℕ) → count ≡ Some k → list_all (λ (b : Branch). length b.replies == k) bs ≡ true)
 
 branches_hold : (columns : Columns) (variables : List (List ℕ)) (count : Option ℕ) (m : ℕ) (ts : Trees)
     → Holds (AllBranched (length columns.own) (suc (length variables)) count) (each_reading (branch_reading columns (branch_names columns.own variables) count) m ts)
@@ -193,7 +198,7 @@ branches_hold columns variables count m (t ▸ ts) =
     both_holds (Branched c v count) (AllBranched c v count) (AllBranched c v count) (λ b bs. b ∷ bs) _ _
     (branch_holds columns variables count m t) (branches_hold columns variables count (m + item_count t) ts)
     (λ b bs h g. (
-      and_true (branch_is_resolved c v b) (list_all (branch_is_resolved c v) bs) h.0 g.0,
+      and_true (resolved_behind c v b) (list_all (resolved_behind c v) bs) h.0 g.0,
       λ k e. and_true (length b.replies == k) (list_all (λ (b : Branch). length b.replies == k) bs) (eq-eqb (length b.replies) k (h.1 k e)) (g.1 k e),
     ))
 
@@ -234,10 +239,10 @@ one_argument before n (atom w) = always (name_reading (Some 4) before n (atom w)
   always (fine v) = refl
   always (flawed f) = tt
 
-arguments_hold : (n : ℕ) (t : Tree) → Holds (λ ws. suc (length (variables_in t)) ≡ variables_of ws) (arguments_reading n t)
+arguments_hold : (n : ℕ) (t : Tree) → Holds (λ ws. suc (length (variables_in t)) ≡ 2 + length ws) (arguments_reading n t)
 arguments_hold n (atom w) = tt
 arguments_hold n (list ts) = counted (declared_reading (name_reading (Some 4)) declared_by client (n + 1) ts) (declared_counts (name_reading (Some 4)) declared_by one_argument client (n + 1) ts) where
-  counted : (r : Reading (List (List ℕ))) → Holds (λ ws. length ws ≡ length (all_declared declared_by ts)) r → Holds (λ ws. suc (length (client ++ all_declared declared_by ts)) ≡ variables_of ws) r
+  counted : (r : Reading (List (List ℕ))) → Holds (λ ws. length ws ≡ length (all_declared declared_by ts)) r → Holds (λ ws. suc (length (client ++ all_declared declared_by ts)) ≡ 2 + length ws) r
   counted (fine ws) h = omega (arith, h, length-append client (all_declared declared_by ts))
   counted (flawed f) h = tt
 
@@ -245,10 +250,10 @@ arguments_hold n (list ts) = counted (declared_reading (name_reading (Some 4)) d
 abbrev OperationMade : ℕ → ((List ℕ × List (List ℕ)) × ℕ) × List Branch → Type 0
 OperationMade c p = operation_is_resolved c (the_operation p) ≡ true
 
-operation_made : (c v : ℕ) (count : Option ℕ) (name : List ℕ) (ws : List (List ℕ)) (k : ℕ) (bs : List Branch) → v ≡ variables_of ws → count ≡ Some k → AllBranched c v count bs → OperationMade c (((name, ws), k), bs)
+operation_made : (c v : ℕ) (count : Option ℕ) (name : List ℕ) (ws : List (List ℕ)) (k : ℕ) (bs : List Branch) → v ≡ 2 + length ws → count ≡ Some k → AllBranched c v count bs → OperationMade c (((name, ws), k), bs)
 operation_made c v count name ws k bs e g h =
-    and_true (list_all (branch_is_resolved c (variables_of ws)) bs) (list_all (λ (b : Branch). length b.replies == k) bs)
-    (subst (λ v. list_all (branch_is_resolved c v) bs ≡ true) e h.0) (h.1 k g)
+    and_true (list_all (resolved_behind c (2 + length ws)) bs) (list_all (λ (b : Branch). length b.replies == k) bs)
+    (subst (λ v. list_all (resolved_behind c v) bs ≡ true) e h.0) (h.1 k g)
 
 operation_parts_hold : (columns : Columns) (before : List (List ℕ)) (n m : ℕ) (ts : Trees) → Holds (OperationMade (length columns.own)) (operation_parts_reading columns before n m ts)
 operation_parts_hold columns before n m none = tt
@@ -258,8 +263,8 @@ operation_parts_hold columns before n m (t ▸ u ▸ x ▸ none) = tt
 operation_parts_hold columns before n m (t ▸ u ▸ x ▸ b ▸ bs) =
     let c = length columns.own in
     let v = suc (length (variables_in u)) in
-    both_holds (λ (p : (List ℕ × List (List ℕ)) × ℕ). (v ≡ variables_of p.0.1) × (count_in x ≡ Some p.1)) (AllBranched c v (count_in x)) (OperationMade c) pair _ _
-    (three_holds (λ (w : List ℕ). Unit {0}) (λ ws. v ≡ variables_of ws) (λ k. count_in x ≡ Some k) (λ (p : (List ℕ × List (List ℕ)) × ℕ). (v ≡ variables_of p.0.1) × (count_in x ≡ Some p.1)) triple _ _ _
+    both_holds (λ (p : (List ℕ × List (List ℕ)) × ℕ). (v ≡ 2 + length p.0.1) × (count_in x ≡ Some p.1)) (AllBranched c v (count_in x)) (OperationMade c) pair _ _
+    (three_holds (λ (w : List ℕ). Unit {0}) (λ ws. v ≡ 2 + length ws) (λ k. count_in x ≡ Some k) (λ (p : (List ℕ × List (List ℕ)) × ℕ). (v ≡ 2 + length p.0.1) × (count_in x ≡ Some p.1)) triple _ _ _
     (anything (name_reading None before m t)) (arguments_hold (m + item_count t) u) (count_holds (m + item_count t + item_count u) x) (λ w ws k h g e. (g, e)))
     (branches_hold columns (variables_in u) (count_in x) (m + item_count t + item_count u + item_count x) (b ▸ bs))
     (λ p bs h g. operation_made c v (count_in x) p.0.0 p.0.1 p.1 bs h.0 h.1 g)

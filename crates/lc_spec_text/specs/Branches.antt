@@ -15,6 +15,7 @@ use Rattle.lc_reading.specs.declared.pass.Pass.TheVariants.{Shape, Unknown}
 use Rattle.lc_text.specs.Formulas.{formula_reading}
 use Rattle.lc_text.specs.Terms.{triple, term_reading}
 use Rattle.lc_term.specs.Updates.{Update}
+use Rattle.lc_seq.specs.Sequential.{InOrder}
 use Rattle.lc_seq.specs.Specification.{Branch}
 use Rattle.lc_spec_text.specs.Scopes.{Columns}
 
@@ -51,7 +52,7 @@ replies_reading names None n t = wrong Shape n
 replies_reading names (Some count) n t = listed_reading (λ n. counted_reading (term_reading names []) n count) n t
 
 abbrev pub the_branch : (Formula × List Update) × List Term → Branch
-the_branch p = record { guard = p.0.0; updates = p.0.1; replies = p.1 }
+the_branch p = record { label = InOrder; guard = p.0.0; updates = p.0.1; replies = p.1 }
 
 -- F (UPDATE*) (T*): the parts of the list n, numbered from m on
 abbrev pub branch_parts_reading : Columns → Names → Option ℕ → ℕ → ℕ → Trees → Reading ((Formula × List Update) × List Term)

@@ -15,7 +15,7 @@ use crate::update::Updates;
 use lc_reading::{
     Part, Pass, ReadFault, Reads, behind_word, both, ended, read_counted, read_each, three, wrong,
 };
-use lc_seq::Branch;
+use lc_seq::{Branch, Label};
 use lc_sexp::{Cursor, Item};
 use lc_term::{Formula, Term, Update};
 use lc_text::{Scope, Terms, read_formula};
@@ -79,6 +79,7 @@ fn made_branch(
 {
     let ((guard, updates), replies) = parts?;
     Ok(Branch {
+        label: Label::First,
         guard,
         updates,
         replies,
