@@ -19,7 +19,7 @@ use Rattle.lc_reading.specs.Readings.{Reading, fine, wrong}
 use Rattle.lc_reading.specs.Rows.{each_reading, declared_reading, first_name}
 use Rattle.lc_reading.specs.Words.{is, is_long}
 use Rattle.lc_reading.specs.declared.pass.Pass.TheVariants.{Shape, Bound}
-use Rattle.lc_object.specs.Syntax.{Instr, Load, Store, Cas, Set, If, Return}
+use Rattle.lc_object.specs.Syntax.{Instr, Load, Store, Cas, Set, Faa, If, Return}
 use Rattle.lc_object.specs.WellFormed.{is_code_term, are_code_terms, is_code_formula, are_code_formulas, are_distinct}
 use Rattle.lc_object_text.proofs.Distinct.{is_between}
 use Rattle.lc_object_text.proofs.Holding.{Counted, counted_holds, row_holds, behind_holds}
@@ -27,7 +27,7 @@ use Rattle.lc_object_text.specs.Cells.{found, array_reading, label_reading, row_
 use Rattle.lc_object_text.specs.CodeNames.{CodeNames}
 use Rattle.lc_object_text.specs.Counts.{count_reading}
 use Rattle.lc_object_text.specs.Heads.{head_of, own_parts}
-use Rattle.lc_object_text.specs.Instructions.{place_reading, labels_reading, load_of, load_reading, store_of, store_reading, cas_of, cas_reading, set_of, set_reading, if_of, if_reading, own_reading, code_reading, return_of, return_reading, instruction_reading}
+use Rattle.lc_object_text.specs.Instructions.{place_reading, labels_reading, load_of, load_reading, store_of, store_reading, cas_of, cas_reading, set_of, set_reading, faa_of, faa_reading, if_of, if_reading, own_reading, code_reading, return_of, return_reading, instruction_reading}
 use Rattle.lc_object_text.specs.declared.words.Head.{Head}
 use Rattle.lc_object_text.specs.declared.words.Head.TheVariants as H
 
@@ -72,6 +72,7 @@ Fits code low count (Store a t vs l) = IsRow code a (length vs) × IsTerm count 
 Fits code low count (Cas a t old new l m) =
     (IsRow code a (length old) × IsRow code a (length new)) × IsTerm count t × (AreTerms count old × AreTerms count new) × (IsLabel code l × IsLabel code m)
 Fits code low count (Set rs vs l) = (length vs ≡ length rs) × AreTargets low count rs × AreTerms count vs × IsLabel code l
+Fits code low count (Faa a t rs ds l) = (IsRow code a (length rs) × IsRow code a (length ds)) × IsTerm count t × AreTargets low count rs × AreTerms count ds × IsLabel code l
 Fits code low count (If f l m) = IsFormula count f × (IsLabel code l × IsLabel code m)
 Fits code low count (Return vs) = Counted code.replies (length vs) × AreTerms count vs
 
@@ -324,6 +325,24 @@ set_holds names code low count scope n m (cells ▸ l ▸ ts) =
     both_holds (AreAssigned low count) (IsLabel code) (Fits code low count) set_of (assignments_reading names code m cells) (label_reading code (m + item_count cells) l)
     (assignments_hold names code low count scope m cells) (label_holds code (m + item_count cells) l) (λ cells k h g. (h.0, h.1, h.2, g))
 
+faa_holds : (names : Names) (code : CodeNames) (low count : ℕ) → Scope names code low count → (n m : ℕ) (ts : Trees) → Holds (Fits code low count) (faa_reading names code n m ts)
+faa_holds names code low count scope n m none = tt
+faa_holds names code low count scope n m (a ▸ none) = tt
+faa_holds names code low count scope n m (a ▸ t ▸ none) = tt
+faa_holds names code low count scope n m (a ▸ t ▸ row ▸ none) = tt
+faa_holds names code low count scope n m (a ▸ t ▸ row ▸ added ▸ none) = tt
+faa_holds names code low count scope n m (a ▸ t ▸ row ▸ added ▸ l ▸ ts) =
+    let width = row_width code a in
+    let Stored = λ (q : List Term × ℕ). ValuesOf count width q.0 × IsLabel code q.1 in
+    let Adding = λ (q : List ℕ × (List Term × ℕ)). TargetsOf low count width q.0 × Stored q.1 in
+    let i = m + item_count a + item_count t in
+    let j = i + item_count row in
+    both_holds (IsPlace code count a) Adding (Fits code low count) faa_of _ _
+    (place_holds names code low count scope m a (m + item_count a) t)
+    (both_holds (TargetsOf low count width) Stored Adding pair _ _ (row_of_targets names code low count scope width i row)
+    (both_holds (ValuesOf count width) (IsLabel code) Stored pair _ _ (values_hold names code low count scope width j added) (label_holds code (j + item_count added) l) (λ vs k h g. (h, g))) (λ x y h g. (h, g)))
+    (λ p q h g. ((row_of code a p.0 (length q.0) h.0 g.0.1, row_of code a p.0 (length q.1.0) h.0 g.1.0.1), h.1, g.0.0, g.1.0.0, g.1.1))
+
 if_parts_hold : (names : Names) (code : CodeNames) (low count : ℕ) → Scope names code low count → (n m : ℕ) (ts : Trees) → Holds (Fits code low count) (if_reading names code n m ts)
 if_parts_hold names code low count scope n m none = tt
 if_parts_hold names code low count scope n m (f ▸ none) = tt
@@ -337,6 +356,7 @@ own_holds names code low count scope H.Load n m ts = load_holds names code low c
 own_holds names code low count scope H.Store n m ts = store_holds names code low count scope n m ts
 own_holds names code low count scope H.Cas n m ts = cas_holds names code low count scope n m ts
 own_holds names code low count scope H.Set n m ts = set_holds names code low count scope n m ts
+own_holds names code low count scope H.Faa n m ts = faa_holds names code low count scope n m ts
 own_holds names code low count scope H.If n m ts = if_parts_hold names code low count scope n m ts
 
 code_holds : (names : Names) (code : CodeNames) (low count : ℕ) → Scope names code low count → (n m : ℕ) (ts : Trees) (o : Option Head) → Holds (Fits code low count) (code_reading names code n m ts o)

@@ -18,7 +18,7 @@ use Rattle.lc_object_text.proofs.Distinct.{is_between, few_between, not_false, a
 use Rattle.lc_reading.proofs.Places.{place_below}
 use Rattle.lc_object_text.specs.CodeNames.{CodeNames}
 use Rattle.lc_object_text.specs.ObjectNames.{Span, Declared, Body, later, spans_from, row_at, body_names}
-use Rattle.lc_object.specs.Syntax.{Instr, Load, Store, Cas, Set, If, Return, Array, Operation, Point, Object}
+use Rattle.lc_object.specs.Syntax.{Instr, Load, Store, Cas, Set, Faa, If, Return, Array, Operation, Point, Object}
 use Rattle.lc_object.specs.WellFormed.{variable_count, has_limits, are_code_terms, is_code_term, is_code_formula, are_distinct, are_targets, passes_at, has_width, is_label, is_instruction, is_point, is_first, numbers_from, are_operations, is_width, is_array, stands_in, are_apart}
 
 and_three : (a b c : Bool) → a ≡ true → b ≡ true → c ≡ true → (a && b && c) ≡ true
@@ -26,6 +26,9 @@ and_three a b c h g k = cc
 
 and_four : (a b c d : Bool) → a ≡ true → b ≡ true → c ≡ true → d ≡ true → (a && b && c && d) ≡ true
 and_four a b c d h g k i = cc
+
+and_six : (a b c d e f : Bool) → a ≡ true → b ≡ true → c ≡ true → d ≡ true → e ≡ true → f ≡ true → (a && b && c && d && e && f) ≡ true
+and_six a b c d e f p q r s t u = cc
 
 and_seven : (a b c d e f g : Bool) → a ≡ true → b ≡ true → c ≡ true → d ≡ true → e ≡ true → f ≡ true → g ≡ true → (a && b && c && d && e && f && g) ≡ true
 and_seven a b c d e f g p q r s t u v = cc
@@ -58,6 +61,9 @@ instruction_is object op o code rows labels replies few (Cas a t old new l m) h 
     (rows a (length old) h.0.0) (rows a (length new) h.0.1) h.1 h.2.0 h.2.1 (labels l h.3.0) (labels m h.3.1)
 instruction_is object op o code rows labels replies few (Set rs vs l) h =
     and_four (length vs == length rs) (are_targets o rs) (are_code_terms (variable_count o) vs) (is_label object op l) (is_equal (length vs) (length rs) h.0) (targets_are o rs few h.1) h.2 (labels l h.3)
+instruction_is object op o code rows labels replies few (Faa a t rs ds l) h =
+    and_six (has_width object a (length rs)) (has_width object a (length ds)) (is_code_term (variable_count o) t) (are_targets o rs) (are_code_terms (variable_count o) ds) (is_label object op l)
+    (rows a (length rs) h.0.0) (rows a (length ds) h.0.1) h.1 (targets_are o rs few h.2) h.3 (labels l h.4)
 instruction_is object op o code rows labels replies few (If f l m) h =
     and_three (is_code_formula (variable_count o) f) (is_label object op l) (is_label object op m) h.0 (labels l h.1.0) (labels m h.1.1)
 instruction_is object op o code rows labels replies few (Return vs) h =

@@ -14,7 +14,7 @@ use Rattle.lc_reading.specs.Readings.{both}
 use Rattle.lc_reading.specs.Results.{IsReading}
 use Rattle.lc_object_text.specs.Cells.{row_width, label_reading, assignments_reading}
 use Rattle.lc_object_text.specs.CodeNames.{CodeNames}
-use Rattle.lc_object_text.specs.Instructions.{place_reading, exchange_reading, cas_of, cas_reading, set_of, set_reading}
+use Rattle.lc_object_text.specs.Instructions.{place_reading, exchange_reading, cas_of, cas_reading, set_of, set_reading, adding_reading, faa_of, faa_reading}
 use Rattle.lc_object_text.specs.ObjectNames.{Declared, call_or}
 use Rattle.lc_object_text.specs.Objects.{signature_of, call_reading, operation_name_reading, signature_parts}
 use Rattle.lc_object_text.specs.Own.{IsLeft}
@@ -54,6 +54,36 @@ cas_read names code l l₁ l₂ l₃ l₄ l₅ l₆ a t old new e d width result
           (rest_of l₆) (rest_of l) same at1 (at2 ∙ b1.number) (at3 ∙ n2) (at4 ∙ n3) (at5 ∙ n4) (at6 ∙ n5) wide))
           h,
       left_six (number_of l) (tree_of a) (tree_of t) (tree_of old) (tree_of new) (tree_of e) (tree_of d) (rest_of l) l₆ same n6,
+    )
+
+left_five : (m : ℕ) (a t r d e : Tree) (us : Trees) (rest : Cursor) → us ≡ a ▸ t ▸ r ▸ d ▸ e ▸ rest_of rest
+    → number_of rest ≡ m + item_count a + item_count t + item_count r + item_count d + item_count e → IsLeft 5 m us rest
+left_five m a t r d e us rest same number = subst (λ vs. IsLeft 5 m vs rest) (sym same) (number, refl)
+
+faa_from : (names : Names) (code : CodeNames) (n m i j k h p : ℕ) (width : Option ℕ) (a t r d e : Tree) (ts us : Trees)
+    → us ≡ a ▸ t ▸ r ▸ d ▸ e ▸ ts → i ≡ m → j ≡ m + item_count a → k ≡ m + item_count a + item_count t → h ≡ m + item_count a + item_count t + item_count r
+    → p ≡ m + item_count a + item_count t + item_count r + item_count d → width ≡ row_width code a
+    → faa_reading names code n m us ≡ both faa_of (place_reading names code i a j t) (adding_reading names code width k r h d p e)
+faa_from names code n m i j k h p width a t r d e ts us same first second third fourth fifth wide = rw (same, first, second, third, fourth, fifth, wide) refl
+
+-- the five parts of `faa`, and what is left behind them
+pub faa_read : (names : Names) (code : CodeNames) (l l₁ l₂ l₃ l₄ l₅ : Cursor) (a t r d e : Part) (width : Option ℕ) (result : Result Instr ReadFault)
+    → IsNext l (Ok a) l₁ → IsNext l₁ (Ok t) l₂ → IsNext l₂ (Ok r) l₃ → IsNext l₃ (Ok d) l₄ → IsNext l₄ (Ok e) l₅ → width ≡ row_width code (tree_of a)
+    → IsReading instruction_of (both faa_of (place_reading names code (place_of a) (tree_of a) (place_of t) (tree_of t))
+    (adding_reading names code width (place_of r) (tree_of r) (place_of d) (tree_of d) (place_of e) (tree_of e))) result
+    → IsReading instruction_of (faa_reading names code (owner_of l) (number_of l) (rest_of l)) result × IsLeft 5 (number_of l) (rest_of l) l₅
+faa_read names code l l₁ l₂ l₃ l₄ l₅ a t r d e width result (at1, b1) (at2, b2) (at3, b3) (at4, b4) (at5, b5) wide h =
+    let n2 : number_of l₂ ≡ number_of l + item_count (tree_of a) + item_count (tree_of t) = b2.number ∙ ap (λ m. m + item_count (tree_of t)) b1.number in
+    let n3 : number_of l₃ ≡ number_of l + item_count (tree_of a) + item_count (tree_of t) + item_count (tree_of r) = b3.number ∙ ap (λ m. m + item_count (tree_of r)) n2 in
+    let n4 : number_of l₄ ≡ number_of l + item_count (tree_of a) + item_count (tree_of t) + item_count (tree_of r) + item_count (tree_of d) = b4.number ∙ ap (λ m. m + item_count (tree_of d)) n3 in
+    let n5 = b5.number ∙ ap (λ m. m + item_count (tree_of e)) n4 in
+    let same : rest_of l ≡ tree_of a ▸ tree_of t ▸ tree_of r ▸ tree_of d ▸ tree_of e ▸ rest_of l₅ =
+    b1.rest ∙ ap (λ us. tree_of a ▸ us) (b2.rest ∙ ap (λ us. tree_of t ▸ us) (b3.rest ∙ ap (λ us. tree_of r ▸ us) (b4.rest ∙ ap (λ us. tree_of d ▸ us) b5.rest))) in (
+      subst (λ x. IsReading instruction_of x result)
+          (sym (faa_from names code (owner_of l) (number_of l) (place_of a) (place_of t) (place_of r) (place_of d) (place_of e) width (tree_of a) (tree_of t) (tree_of r) (tree_of d) (tree_of e)
+          (rest_of l₅) (rest_of l) same at1 (at2 ∙ b1.number) (at3 ∙ n2) (at4 ∙ n3) (at5 ∙ n4) wide))
+          h,
+      left_five (number_of l) (tree_of a) (tree_of t) (tree_of r) (tree_of d) (tree_of e) (rest_of l) l₅ same n5,
     )
 
 set_from : (names : Names) (code : CodeNames) (n m i j : ℕ) (t u : Tree) (ts us : Trees) → us ≡ t ▸ u ▸ ts → i ≡ m → j ≡ m + item_count t

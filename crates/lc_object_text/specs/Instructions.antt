@@ -81,6 +81,21 @@ abbrev pub set_reading : Names → CodeNames → ℕ → ℕ → Trees → Readi
 set_reading names code n m (cells ▸ l ▸ ts) = both set_of (assignments_reading names code m cells) (label_reading code (m + item_count cells) l)
 set_reading names code n m _ = wrong Shape n
 
+-- (r ..) (T ..) L, where rows have this width
+abbrev pub adding_reading : Names → CodeNames → Option ℕ → ℕ → Tree → ℕ → Tree → ℕ → Tree → Reading (List ℕ × (List Term × ℕ))
+adding_reading names code width i t j u k v = both pair (targets_reading code width i t) (stored_reading names code width j u k v)
+
+abbrev pub faa_of : ℕ × Term → List ℕ × (List Term × ℕ) → Instr
+faa_of p q = S.Faa p.0 p.1 q.0 q.1.0 q.1.1
+
+-- A T (r ..) (T ..) L
+abbrev pub faa_reading : Names → CodeNames → ℕ → ℕ → Trees → Reading Instr
+faa_reading names code n m (a ▸ t ▸ r ▸ d ▸ l ▸ ts) =
+    both faa_of (place_reading names code m a (m + item_count a) t)
+    (adding_reading names code (row_width code a) (m + item_count a + item_count t) r (m + item_count a + item_count t + item_count r) d
+    (m + item_count a + item_count t + item_count r + item_count d) l)
+faa_reading names code n m _ = wrong Shape n
+
 abbrev pub if_of : Formula → ℕ × ℕ → Instr
 if_of f labels = S.If f labels.0 labels.1
 
@@ -96,6 +111,7 @@ own_reading names code H.Load = load_reading names code
 own_reading names code H.Store = store_reading names code
 own_reading names code H.Cas = cas_reading names code
 own_reading names code H.Set = set_reading names code
+own_reading names code H.Faa = faa_reading names code
 own_reading names code H.If = if_reading names code
 
 abbrev pub headed_reading : Names → CodeNames → ℕ → ℕ → Trees → Head → Reading Instr

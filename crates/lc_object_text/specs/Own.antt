@@ -56,6 +56,9 @@ rows_seen p = (terms_of p.0.items, terms_of p.1.items)
 abbrev pub exchange_seen : (Vec Term Global × Vec Term Global) × (PointId × PointId) → (List T.Term × List T.Term) × (ℕ × ℕ)
 exchange_seen p = (rows_seen p.0, labels_seen p.1)
 
+abbrev pub adding_seen : Vec LocalId Global × (Vec Term Global × PointId) → List ℕ × (List T.Term × ℕ)
+adding_seen p = (locals_of p.0.items, stored_seen p.1)
+
 abbrev pub assigned_seen : LocalId × Term → ℕ × T.Term
 assigned_seen p = (p.0.0, term_of p.1)
 

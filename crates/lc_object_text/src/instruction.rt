@@ -6,8 +6,8 @@ ghost use Rattle.lc_reading.specs.Parts.{tree_of, place_of};
 ghost use Rattle.lc_reading.specs.Readings.{Reading, both};
 ghost use Rattle.lc_reading.specs.Results.{IsReading};
 ghost use Rattle.lc_object_text.specs.Heads.{own_parts};
-ghost use Rattle.lc_object_text.specs.Instructions.{place_reading, labels_reading, moved_reading, stored_reading, rows_reading, exchange_reading, cas_of, set_of, load_reading, store_reading, cas_reading, set_reading, if_reading, own_reading, headed_reading, return_reading, instruction_reading};
-ghost use Rattle.lc_object_text.specs.Own.{IsOwn, place_seen, labels_seen, moved_seen, stored_seen, rows_seen, exchange_seen, assignments_seen};
+ghost use Rattle.lc_object_text.specs.Instructions.{place_reading, labels_reading, moved_reading, stored_reading, rows_reading, exchange_reading, cas_of, set_of, load_reading, store_reading, cas_reading, set_reading, adding_reading, faa_of, faa_reading, if_reading, own_reading, headed_reading, return_reading, instruction_reading};
+ghost use Rattle.lc_object_text.specs.Own.{IsOwn, place_seen, labels_seen, moved_seen, stored_seen, rows_seen, exchange_seen, adding_seen, assignments_seen};
 
 use crate::cells::{
     read_array, read_assignments, read_label, read_targets, read_values, row_width,
@@ -262,6 +262,67 @@ fn read_set<'a, S: Scope + CodeScope>(
     Ok((made_set(alloc, cells, label), rest))
 }
 
+/// What an instruction is read into before it is made: of `faa`, the targets, and what is added and the label.
+type Adding = (Vec<LocalId>, (Vec<Term>, PointId));
+
+/// `(r ..) (T ..) L`
+fn read_adding<S: Scope + CodeScope>(
+    alloc: Global,
+    scope: &S,
+    width: Option<u64>,
+    first: Part<'_>,
+    second: Part<'_>,
+    third: Part<'_>,
+) -> Result<Adding, ReadFault>
+    ensures { IsReading adding_seen (adding_reading (S.names scope.now) (S.code scope.now) width (place_of first.entry) (tree_of first.entry)
+        (place_of second.entry) (tree_of second.entry) (place_of third.entry) (tree_of third.entry)) result }
+{
+    both(
+        read_targets(alloc, scope, width, first),
+        read_stored(alloc, scope, width, second, third),
+    )
+}
+
+/// The instruction `faa` of its parts.
+fn made_faa(
+    place: Result<(ArrayId, Term), ReadFault>,
+    adding: Result<Adding, ReadFault>,
+) -> Result<Instr, ReadFault>
+    ensures { (p : Reading (ℕ × T.Term)) (q : Reading (List ℕ × (List T.Term × ℕ))) → IsReading place_seen p place → IsReading adding_seen q adding →
+        IsReading instruction_of (both faa_of p q) result }
+{
+    match both(place, adding) {
+        Ok(((array, index), (targets, (added, next)))) => Ok(Instr::Faa {
+            array,
+            index,
+            targets,
+            added,
+            next,
+        }),
+        Err(fault) => Err(fault),
+    }
+}
+
+/// `A T (r ..) (T ..) L`
+fn read_faa<'a, S: Scope + CodeScope>(
+    alloc: Global,
+    scope: &S,
+    list: Cursor<'a>,
+) -> Result<(Result<Instr, ReadFault>, Cursor<'a>), Misfit>
+    ensures { IsOwn (faa_reading (S.names scope.now) (S.code scope.now) (owner_of list.entry) (number_of list.entry) (rest_of list.entry)) 5 list.entry result }
+{
+    let mut rest = list;
+    let array = next_part(&mut rest)?;
+    let index = next_part(&mut rest)?;
+    let row = next_part(&mut rest)?;
+    let added = next_part(&mut rest)?;
+    let label = next_part(&mut rest)?;
+    let place = read_place(alloc, scope, array, index);
+    let width = row_width(scope, array);
+    let adding = read_adding(alloc, scope, width, row, added, label);
+    Ok((made_faa(place, adding), rest))
+}
+
 /// `F L M`
 fn read_if<'a, S: Scope + CodeScope>(
     alloc: Global,
@@ -298,6 +359,7 @@ fn read_own<'a, S: Scope + CodeScope>(
         Head::Store => read_store(alloc, scope, list),
         Head::Cas => read_cas(alloc, scope, list),
         Head::Set => read_set(alloc, scope, list),
+        Head::Faa => read_faa(alloc, scope, list),
         Head::If => read_if(alloc, scope, list),
     }
 }

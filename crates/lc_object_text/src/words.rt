@@ -8,6 +8,7 @@ pub(crate) enum Head {
     Store,
     Cas,
     Set,
+    Faa,
     If,
 }
 
@@ -20,6 +21,7 @@ pub(crate) fn head_of(word: &str) -> Option<Head>
         "store" => Some(Head::Store),
         "cas" => Some(Head::Cas),
         "set" => Some(Head::Set),
+        "faa" => Some(Head::Faa),
         "if" => Some(Head::If),
         _ => None,
     }
