@@ -12,16 +12,17 @@ use Rattle.lc_table.proofs.ByNumber.{terms_still}
 use Rattle.lc_table.proofs.Later.{formula_is, term_still}
 use Rattle.lc_seq.specs.Specification as Q
 use Rattle.lc_seq.specs.Specification.{Operation}
-use Rattle.lc_seq.specs.SpecView.{branch_of, branches_of}
+use Rattle.lc_seq.specs.SpecView.{branch_of}
 use Rattle.lc_seq.specs.declared.specification.Branch.{Branch}
-use Rattle.lc_rider.specs.MarkView.{marking_of, branch_path}
-use Rattle.lc_rider.specs.Paths.{Path, Duty, Observing, is_empty, mark_updates, observing_duty, mark_variables, branch_paths, with_fact}
+use Rattle.lc_rider.specs.MarkView.{marking_of, branches_at, branch_path}
+use Rattle.lc_rider.specs.Paths.{Path, Duty, Observing, is_empty, mark_updates, observing_duty, branch_paths, with_fact}
 use Rattle.lc_rider.specs.PathView.{path_in, HasPath, with_columns, with_duty}
 use Rattle.lc_rider.specs.Rider.{Marking, Note}
 use Rattle.lc_rider.specs.declared.marking.Marking as M
 use Rattle.lc_rider.specs.declared.marking.Marking.TheVariants as V
 use Rattle.lc_rider.specs.declared.path.Path as P
-use Rattle.lc_rider.proofs.Marked.{branches_more}
+use Rattle.std.specs.Borrow.{Bor}
+use Rattle.std.proofs.lemmas.List.{drop_more}
 use Rattle.lc_rider.proofs.PathsAdded.{has_same}
 
 -- a guard, with the variables as they were
@@ -57,20 +58,19 @@ module _ (operations : List Operation) (first n : ℕ) where
   noted_path p σ τ b g stored =
       ap (λ (ρ : ℕ → Column). (let q : Path = record { columns = ρ; facts = p.facts ++ g ∷ []; duties = p.duties ++ observing_duty operations first n Note (p.facts ++ g ∷ []) b } in q)) stored
 
-module _ (operations : List Operation) (first n o : ℕ) (k : Marking) (c : Term) where
+module _ (operations : List Operation) (first n : ℕ) (k : Marking) (τ : List Term) where
   -- one more branch
-  pub branches_step : (bs : List Branch) (i : ℕ) (b : Branch) (done : List Path) (x q r : Path) (vs : List Term) (g : Formula) (whole : List Path) →
-      i < length bs → b ≡ get_or bs i b → vs ≡ mark_variables operations first o q c → g ≡ told q.columns vs (formula_of b.guard) →
-      x ≡ branch_path operations first n k vs (branch_of b) g q → r ≡ with_fact q (Not g) →
-      done ++ branch_paths operations first n o k c (branches_of (drop i bs)) q ≡ whole →
-      (done ++ x ∷ []) ++ branch_paths operations first n o k c (branches_of (drop (i + 1) bs)) r ≡ whole
-  branches_step bs i b done x q r vs g whole h e ev eg ex er before =
-      let τ = mark_variables operations first o q c in
-      let guard : g ≡ told q.columns τ (formula_of b.guard) = eg ∙ ap (λ (υ : List Term). told q.columns υ (formula_of b.guard)) ev in
-      let rest = branch_paths operations first n o k c (branches_of (drop (i + 1) bs)) r in
-      let one : x ≡ branch_path operations first n k τ (branch_of b) (told q.columns τ (formula_of b.guard)) q =
-      ex ∙ ap₂ (λ (υ : List Term) (f : Formula). branch_path operations first n k υ (branch_of b) f q) ev guard in
-      let others : rest ≡ branch_paths operations first n o k c (branches_of (drop (i + 1) bs)) (with_fact q (Not (told q.columns τ (formula_of b.guard)))) =
-      ap (branch_paths operations first n o k c (branches_of (drop (i + 1) bs))) (er ∙ ap (λ (f : Formula). with_fact q (Not f)) guard) in
+  pub branches_step : (bs : List (Bor Branch)) (i : ℕ) (b : Bor Branch) (done : List Path) (x q r : Path) (g : Formula) (whole : List Path) →
+      i < length bs → b ≡ get_or bs i b → g ≡ told q.columns τ (formula_of b.now.guard) → x ≡ branch_path operations first n k τ (branch_of b.now) g q → r ≡ with_fact q (Not g) →
+      done ++ branch_paths operations first n k τ (branches_at (drop i bs)) q ≡ whole →
+      (done ++ x ∷ []) ++ branch_paths operations first n k τ (branches_at (drop (i + 1) bs)) r ≡ whole
+  branches_step bs i b done x q r g whole h e guard ex er before =
+      let rest = branch_paths operations first n k τ (branches_at (drop (i + 1) bs)) r in
+      let f : Formula = told q.columns τ (formula_of b.now.guard) in
+      let one : x ≡ branch_path operations first n k τ (branch_of b.now) f q = ex ∙ ap (λ (y : Formula). branch_path operations first n k τ (branch_of b.now) y q) guard in
+      let others : rest ≡ branch_paths operations first n k τ (branches_at (drop (i + 1) bs)) (with_fact q (Not f)) =
+      ap (branch_paths operations first n k τ (branches_at (drop (i + 1) bs))) (er ∙ ap (λ (y : Formula). with_fact q (Not y)) guard) in
+      let split : drop i bs ≡ b ∷ drop (i + 1) bs = drop_more bs i b h ∙ ap (λ (y : Bor Branch). y ∷ drop (i + 1) bs) (sym e) in
       append_assoc done (x ∷ []) rest
-      ∙ (ap₂ (λ (y : Path) (ys : List Path). done ++ y ∷ ys) one others ∙ (ap (λ (ys : List Path). done ++ ys) (sym (branches_more operations first n o k c bs i b q h e)) ∙ before))
+      ∙ (ap₂ (λ (y : Path) (ys : List Path). done ++ y ∷ ys) one others
+      ∙ (ap (λ (ys : List (Bor Branch)). done ++ branch_paths operations first n k τ (branches_at ys) q) (sym split) ∙ before))

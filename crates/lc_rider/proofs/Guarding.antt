@@ -11,8 +11,10 @@ use Rattle.lc_table.specs.declared.node.TermId.{TermId}
 use Rattle.lc_table.proofs.ByNumber.{terms_still}
 use Rattle.lc_table.proofs.Later.{formulas_pushed, are_formulas_pushed}
 use Rattle.lc_seq.specs.Specification as Q
-use Rattle.lc_seq.specs.SpecView.{branch_of, branches_of}
+use Rattle.lc_seq.specs.SpecView.{branch_of}
 use Rattle.lc_seq.specs.declared.specification.Branch.{Branch}
+use Rattle.std.specs.Borrow.{Bor}
+use Rattle.lc_rider.specs.MarkView.{branches_at}
 use Rattle.lc_rider.specs.PathView.{path_in, IsPath}
 use Rattle.lc_rider.specs.declared.path.Path.{Path}
 use Rattle.lc_rider.proofs.PathLater.{path_still}
@@ -27,15 +29,15 @@ pub told_still : (old now new : Table) (p : Path) (vs : List TermId) (k : Formul
 told_still old now new p vs k g is are kept at = subst (HasFormula new k) (λ i. told (path_still old now p is kept i).columns (terms_still old now vs are kept i) g) at
 
 -- one guard more
-pub guards_more : (old now new : Table) (p : Path) (vs : List TermId) (bs : List Branch) (i : ℕ) (b : Branch) (ks more : List FormulaId) (k : FormulaId) → i < length bs → b ≡ get_or bs i b →
-    more ≡ ks ++ k ∷ [] → AreFormulas now ks → Keeps now new → HasFormula new k (told (path_in old p).columns (terms_in old vs) (branch_of b).guard) →
-    formulas_in now ks ≡ guards_in old p vs (branches_of (take i bs)) → formulas_in new more ≡ guards_in old p vs (branches_of (take (i + 1) bs))
+pub guards_more : (old now new : Table) (p : Path) (vs : List TermId) (bs : List (Bor Branch)) (i : ℕ) (b : Bor Branch) (ks more : List FormulaId) (k : FormulaId) → i < length bs → b ≡ get_or bs i b →
+    more ≡ ks ++ k ∷ [] → AreFormulas now ks → Keeps now new → HasFormula new k (told (path_in old p).columns (terms_in old vs) (branch_of b.now).guard) →
+    formulas_in now ks ≡ guards_in old p vs (branches_at (take i bs)) → formulas_in new more ≡ guards_in old p vs (branches_at (take (i + 1) bs))
 guards_more old now new p vs bs i b ks more k h is e are kept at so =
     let said : Q.Branch → Formula = λ (x : Q.Branch). told (path_in old p).columns (terms_in old vs) x.guard in
-    ap (formulas_in new) e ∙ formulas_pushed now new ks k (said (branch_of b)) are kept at
-    ∙ ap (λ (fs : List Formula). fs ++ said (branch_of b) ∷ []) so
-    ∙ sym (map-append said (branches_of (take i bs)) (branch_of b ∷ []))
-    ∙ ap (map said) (ap (λ (x : Branch). branches_of (take i bs) ++ branch_of x ∷ []) is ∙ sym (map_more branch_of bs i b h))
+    ap (formulas_in new) e ∙ formulas_pushed now new ks k (said (branch_of b.now)) are kept at
+    ∙ ap (λ (fs : List Formula). fs ++ said (branch_of b.now) ∷ []) so
+    ∙ sym (map-append said (branches_at (take i bs)) (branch_of b.now ∷ []))
+    ∙ ap (map said) (ap (λ (x : Bor Branch). branches_at (take i bs) ++ branch_of x.now ∷ []) is ∙ sym (map_more (λ (x : Bor Branch). branch_of x.now) bs i b h))
 
 pub are_guards : (now new : Table) (ks more : List FormulaId) (k : FormulaId) (g : Formula) → more ≡ ks ++ k ∷ [] → AreFormulas now ks → Keeps now new → HasFormula new k g → AreFormulas new more
 are_guards now new ks more k g e are kept at = subst (AreFormulas new) (sym e) (are_formulas_pushed now new ks k g are kept at)

@@ -15,4 +15,5 @@ pub mod Assigned
 pub mod Ridden
 pub mod PathsAdded
 pub mod SaidStill
+pub mod SaidTerms
 pub mod BranchesTaken

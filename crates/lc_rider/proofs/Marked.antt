@@ -15,7 +15,7 @@ use Rattle.lc_seq.specs.declared.specification.Branch.{Branch}
 use Rattle.lc_seq.specs.declared.specification.Operation as D
 use Rattle.lc_rider.specs.Rider.{Marking, Own, Other, Note}
 use Rattle.lc_rider.specs.Paths as S
-use Rattle.lc_rider.specs.Paths.{Owing, Duty, Pending, Enabled, named_duty, mark_variables, branch_paths, with_fact}
+use Rattle.lc_rider.specs.Paths.{Owing, Duty, Pending, Enabled, named_duty, with_fact}
 use Rattle.lc_rider.specs.MarkView.{with_duties, branch_path}
 use Rattle.lc_rider.specs.PathView.{with_duty}
 
@@ -42,8 +42,8 @@ three (suc (suc (suc n))) a b c =
 -- the client, and its arguments in these columns
 pub call_is : (σ ρ : ℕ → Column) (first n k : ℕ) (args cells : List ColId) (c d : Term) (before after : List Term) →
     map (λ (x : ColId). x.0) args ≡ arg_columns first → k ≡ min n 3 → cells ≡ take k args → ρ ≡ σ → d ≡ c → before ≡ Number (pos 0) ∷ c ∷ [] →
-    after ≡ before ++ reads ρ (map (λ (x : ColId). x.0) cells) d → after ≡ S.branch_variables σ first n c
-call_is σ ρ first n k args cells c d before after ea ek ec er ed eb e =
+    (ts whole : List Term) → after ≡ before ++ reads ρ (map (λ (x : ColId). x.0) cells) d → whole ≡ after ++ ts → whole ≡ S.branch_variables σ first n c ts
+call_is σ ρ first n k args cells c d before after ea ek ec er ed eb ts whole e ew =
     let numbers : map (λ (x : ColId). x.0) cells ≡ take (min n 3) (arg_columns first) =
     ap (map (λ (x : ColId). x.0)) ec ∙ (sym (take-map (λ (x : ColId). x.0) k args) ∙ ap₂ (λ (j : ℕ) (xs : List ℕ). take j xs) ek ea) in
     let cell : ℕ → Term = λ j. Read (σ j) c in
@@ -51,9 +51,9 @@ call_is σ ρ first n k args cells c d before after ea ek ec er ed eb e =
     ap₂ (λ (τ : ℕ → Column) (xs : List ℕ). reads τ xs d) er numbers
     ∙ ap (reads σ (take (min n 3) (arg_columns first))) ed
     ∙ (sym (take-map cell (min n 3) (arg_columns first)) ∙ three n (cell (2 + first)) (cell (3 + first)) (cell (4 + first))) in
-    e ∙ ap₂ (λ (xs ys : List Term). xs ++ ys) eb seen
+    ew ∙ ap (λ (xs : List Term). xs ++ ts) (e ∙ ap₂ (λ (xs ys : List Term). xs ++ ys) eb seen)
 
-module _ (operations : List Operation) (first n o : ℕ) (k : Marking) (c : Term) where
+module _ (operations : List Operation) (first n : ℕ) (k : Marking) (c : Term) where
   -- ---- duties
 
   named_kept : (p : S.Path) (kind : Owing) (g : Formula) → named_duty operations first n k (with_duty p kind n g) c ≡ named_duty operations first n k p c
@@ -70,15 +70,3 @@ module _ (operations : List Operation) (first n o : ℕ) (k : Marking) (c : Term
       eb ∙ (ap (λ (x : S.Path). with_duties x (named_duty operations first n k x c)) ea ∙ ap (with_duties (with_duty p Pending n pending)) (named_kept p Pending pending)) in
       er ∙ (ap (λ (x : S.Path). with_duty x Enabled n enabled) b_is
       ∙ ap (λ (ds : List Duty). record p { duties = ds }) (append_assoc (p.duties ++ d ∷ []) named (e ∷ []) ∙ append_assoc p.duties (d ∷ []) (named ++ e ∷ [])))
-
-  -- ---- branches
-
-  pub branches_more : (bs : List Branch) (i : ℕ) (b : Branch) (q : S.Path) → i < length bs → b ≡ get_or bs i b →
-      branch_paths operations first n o k c (branches_of (drop i bs)) q
-      ≡ branch_path operations first n k (mark_variables operations first o q c) (branch_of b) (told q.columns (mark_variables operations first o q c) (formula_of b.guard)) q
-      ∷ branch_paths operations first n o k c (branches_of (drop (i + 1) bs)) (with_fact q (Not (told q.columns (mark_variables operations first o q c) (formula_of b.guard))))
-  branches_more bs i b q h e =
-      ap (λ (xs : List Branch). branch_paths operations first n o k c (branches_of xs) q) (drop_more bs i b h ∙ ap (λ (x : Branch). x ∷ drop (i + 1) bs) (sym e))
-
-  pub variables_kept : (q r : S.Path) (f : Formula) (vs : List Term) → r ≡ with_fact q f → vs ≡ mark_variables operations first o q c → vs ≡ mark_variables operations first o r c
-  variables_kept q r f vs er ev = ev ∙ ap (λ (x : S.Path). mark_variables operations first o x c) (sym er)

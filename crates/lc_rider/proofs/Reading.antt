@@ -27,6 +27,10 @@ are_terms_pushed old new ks more k e h kept at = subst (AreTerms new) (sym e) (b
     by [] h = (at, tt)
     by (x ∷ xs) h = (h.0, by xs h.1)
 
+pub are_terms_joined : (ts : Table) (ks js : List TermId) → AreTerms ts ks → AreTerms ts js → AreTerms ts (ks ++ js)
+are_terms_joined ts [] js h g = g
+are_terms_joined ts (k ∷ ks) js h g = (h.0, are_terms_joined ts ks js h.1 g)
+
 pub terms_pushed : (old new : Table) (ks more : List TermId) (k : TermId) (t : Term) → more ≡ ks ++ k ∷ [] → AreTerms old ks → Keeps old new → term_in new k ≡ t → terms_in new more ≡ terms_in old ks ++ t ∷ []
 terms_pushed old new ks more k t e h kept at =
     ap (terms_in new) e ∙ map-append (term_in new) ks (k ∷ []) ∙ ap₂ (λ (us : List Term) (u : Term). us ++ u ∷ []) (terms_still old new ks h kept) at

@@ -1,5 +1,8 @@
 -- What the marks of the code stand for.
-use Rattle.std.specs.Prelude.{ℕ, List, [], ◌∷◌, ◌++◌}
+use Rattle.std.specs.Prelude.{ℕ, List, [], ◌∷◌, ◌++◌, map}
+use Rattle.std.specs.Borrow.{Bor}
+use Rattle.lc_seq.specs.SpecView.{branch_of}
+use Rattle.lc_seq.specs.declared.specification.Branch as Y
 use Rattle.lc_term.specs.Syntax.{Term, Formula}
 use Rattle.lc_term.specs.Said.{after}
 use Rattle.lc_seq.specs.Specification.{Branch, Operation}
@@ -7,6 +10,10 @@ use Rattle.lc_rider.specs.Rider as S
 use Rattle.lc_rider.specs.Paths.{Path, Duty, mark_updates, observing_duty}
 use Rattle.lc_rider.specs.declared.marking.Marking.{Marking}
 use Rattle.lc_rider.specs.declared.marking.Marking.TheVariants.{Own, Other, Note}
+
+-- branches that are pointed at
+abbrev pub branches_at : List (Bor Y.Branch) → List Branch
+branches_at bs = map (λ b. branch_of b.now) bs
 
 -- which call is marked, of this client
 abbrev pub marking_of : Marking → Term → S.Marking

@@ -1,4 +1,4 @@
-ghost use Rattle.std.specs.Prelude.{IfOk, OnOk, map};
+ghost use Rattle.std.specs.Prelude.{◌≡◌, IfOk, OnOk, map};
 ghost use Rattle.lc_term.specs.Lists.{concat_map};
 ghost use Rattle.lc_table.specs.PutNumbers.{terms_in, AreTerms};
 ghost use Rattle.lc_term.specs.Replacement.{replacing, replace_term};
@@ -10,17 +10,19 @@ ghost use Rattle.lc_seq.specs.Branches.{op_branches};
 ghost use Rattle.lc_seq.specs.TextView.{specification_of};
 ghost use Rattle.lc_object.specs.EdgeView.{edge_of};
 ghost use Rattle.lc_action.specs.ActionView.{first_of};
-ghost use Rattle.lc_rider.specs.MarkView.{marking_of, with_duties};
-ghost use Rattle.lc_rider.specs.Paths.{mark_duties, branch_paths, deed_paths, rider_paths, paths, edge_variables, path_start};
+ghost use Rattle.lc_seq.specs.Sequential.{given_in};
+ghost use Rattle.lc_seq.specs.Specification.{chosen};
+ghost use Rattle.lc_rider.specs.MarkView.{marking_of};
+ghost use Rattle.lc_rider.specs.Paths.{choice_paths, deed_paths, rider_paths, paths, edge_variables, path_start};
 ghost use Rattle.lc_rider.specs.PathView.{path_in, with_columns, IsPath, ArePaths, HasPath, HavePaths};
 ghost use Rattle.lc_rider.specs.PathsAdded.{AddsPaths};
-ghost use Rattle.lc_rider.specs.RiderView.{rider_of, riders_of};
+ghost use Rattle.lc_rider.specs.RiderView.{choosing_of, rider_of, riders_of};
 
 use crate::edge::{Edge, edge_variables, path_start};
 use crate::mark_paths::mark_paths;
 use crate::marking::{Mark, Marking};
 use crate::path::Path;
-use crate::rider::Rider;
+use crate::rider::{Choosing, Rider};
 use lc_action::SystemColumns;
 use lc_base::{OpId, OutOfMemory};
 use lc_seq::TextSpec;
@@ -57,7 +59,30 @@ fn updated(
     path.with_store(terms, update.column, index, value)
 }
 
-// The paths behind a mark of the call of this client, behind other paths.
+// Terms over the columns of this path and these variables, said of the state before the edge.
+fn said_before(
+    alloc: Global,
+    terms: &mut Terms,
+    variables: &[TermId],
+    path: &Path,
+    these: &[Term],
+) -> Result<Vec<TermId>, OutOfMemory>
+    requires path { IsPath terms.old path.now }
+    requires variables { AreTerms terms.old variables.now }
+    ensures are { IfOk result (λ ks. AreTerms terms.new ks.items) }
+    ensures trees { IfOk result (λ ks. terms_in terms.new ks.items ≡
+        map (replace_term (replacing (path_in terms.old path.now).columns (term_at (terms_in terms.old variables.now)))) (map term_of these.now)) }
+    ensures kept { Keeps terms.old terms.new }
+{
+    let mut said = Vec::with_capacity(alloc, these.len())?;
+    for term in these {
+        let term = path.said_before(alloc, terms, variables, term)?;
+        said.push(term)?;
+    }
+    Ok(said)
+}
+
+// The paths behind a mark of the call of this client by a choice, behind other paths.
 fn marked(
     alloc: Global,
     terms: &mut Terms,
@@ -66,22 +91,23 @@ fn marked(
     marking: Marking,
     operation: OpId,
     client: &Term,
+    by: &Choosing,
     path: Path,
     paths: &mut Vec<Path>,
 ) -> Result<(), OutOfMemory>
     requires path { IsPath terms.old path }
     requires variables { AreTerms terms.old riding.variables.now }
     ensures paths { let p = path_in terms.old path in
-        let c = replace_term (replacing p.columns (term_at (terms_in terms.old riding.entry.variables.now))) (term_of client.now) in
+        let said = replace_term (replacing p.columns (term_at (terms_in terms.old riding.entry.variables.now))) in
+        let c = said (term_of client.now) in
         let operations = (specification_of riding.entry.specification.now).operations in
-        let first = first_of riding.entry.system in
-        let bs = op_branches operations operation.0 in
         OnOk result (AddsPaths paths.old.items terms.new paths.new.items
-        (branch_paths operations first rider operation.0 (marking_of marking c) c bs
-        (with_duties p (mark_duties operations first rider operation.0 (marking_of marking c) p c bs)))) }
+        (choice_paths operations (first_of riding.entry.system) rider operation.0 (marking_of marking c) c
+        (map said (given_in (choosing_of by.now))) (chosen (choosing_of by.now) (op_branches operations operation.0)) p)) }
     ensures kept { Keeps terms.old terms.new }
 {
     let client = path.said_before(alloc, terms, riding.variables, client)?;
+    let given = said_before(alloc, terms, riding.variables, &path, by.terms())?;
     let mark = Mark {
         specification: riding.specification,
         system: riding.system,
@@ -90,7 +116,7 @@ fn marked(
         operation,
         client,
     };
-    mark_paths(alloc, terms, mark, path, paths)
+    mark_paths(alloc, terms, mark, by, &given, path, paths)
 }
 
 // The paths behind what the rider at this place does, behind other paths.
@@ -117,7 +143,7 @@ fn deed_paths(
             paths.push(behind)?;
             Ok(())
         }
-        Rider::LinSelf { .. } => {
+        Rider::LinSelf { by, .. } => {
             let operation = riding.operation;
             marked(
                 alloc,
@@ -127,6 +153,7 @@ fn deed_paths(
                 Marking::Own,
                 operation,
                 &own,
+                by,
                 path,
                 paths,
             )
@@ -134,14 +161,15 @@ fn deed_paths(
         Rider::LinOther {
             client,
             operation,
+            by,
             ..
         } => {
             let marking = Marking::Other(*operation);
             marked(
-                alloc, terms, riding, number, marking, *operation, client, path, paths,
+                alloc, terms, riding, number, marking, *operation, client, by, path, paths,
             )
         }
-        Rider::Note { .. } => {
+        Rider::Note { by, .. } => {
             let operation = riding.operation;
             marked(
                 alloc,
@@ -151,6 +179,7 @@ fn deed_paths(
                 Marking::Note,
                 operation,
                 &own,
+                by,
                 path,
                 paths,
             )

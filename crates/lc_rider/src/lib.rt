@@ -16,5 +16,5 @@ pub use duty::{Duty, Owing};
 pub use edge::{Edge, edge_variables};
 pub use edge_paths::paths;
 pub use path::Path;
-pub use rider::{Rider, When};
+pub use rider::{Choosing, Rider, When};
 pub use stored::store_in;

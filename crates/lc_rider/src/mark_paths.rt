@@ -3,20 +3,23 @@ ghost use Rattle.lc_table.specs.PutNumbers.{terms_in, AreTerms};
 ghost use Rattle.lc_table.specs.Tables.{term_in, formula_in, IsTerm, IsFormula, HasFormula, Keeps};
 ghost use Rattle.lc_term.specs.UpdateView.{updates_of};
 ghost use Rattle.lc_seq.specs.Branches.{op_branches};
-ghost use Rattle.lc_seq.specs.SpecView.{branch_of, branches_of};
+ghost use Rattle.lc_seq.specs.Specification.{chosen};
+ghost use Rattle.lc_seq.specs.SpecView.{branch_of};
 ghost use Rattle.lc_seq.specs.TextView.{specification_of};
 ghost use Rattle.lc_action.specs.ActionView.{first_of};
-ghost use Rattle.lc_rider.specs.MarkView.{marking_of, with_duties, branch_path};
-ghost use Rattle.lc_rider.specs.Paths.{is_empty, named_duty, mark_variables, mark_duties, branch_paths};
+ghost use Rattle.lc_rider.specs.MarkView.{marking_of, branches_at, with_duties, branch_path};
+ghost use Rattle.lc_rider.specs.Paths.{is_empty, named_duty, owing, branch_paths, choice_paths};
 ghost use Rattle.lc_rider.specs.PathView.{path_in, IsPath, HasPath};
 ghost use Rattle.lc_rider.specs.PathsAdded.{AddsPaths};
+ghost use Rattle.lc_rider.specs.RiderView.{choosing_of};
 
 use crate::duty::Owing;
 use crate::marked_columns::marked_columns;
 use crate::marking::{
-    Mark, Marking, call_variables, cell_is, guard_on, operation_branches, some_guard,
+    Mark, Marking, call_variables, cell_is, chosen_branches, guard_on, operation_branches, some_guard,
 };
 use crate::path::Path;
+use crate::rider::Choosing;
 use lc_base::OutOfMemory;
 use lc_seq::Branch;
 use lc_table::{FormulaId, TermId, Terms};
@@ -48,19 +51,16 @@ fn with_mark_duties(
     alloc: Global,
     terms: &mut Terms,
     mark: Mark<'_>,
-    branches: &[Branch],
+    branches: &[&Branch],
     variables: &[TermId],
     path: Path,
 ) -> Result<Path, OutOfMemory>
     requires path { IsPath terms.old path }
     requires client { IsTerm terms.old mark.client }
-    requires terms { AreTerms terms.old variables.now }
-    requires variables { terms_in terms.old variables.now ≡
-        mark_variables (specification_of mark.specification.now).operations (first_of mark.system) mark.operation.0 (path_in terms.old path) (term_in terms.old mark.client) }
+    requires variables { AreTerms terms.old variables.now }
     ensures path { let c = term_in terms.old mark.entry.client in
-        IfOk result (λ r. HasPath terms.new r (with_duties (path_in terms.old path)
-        (mark_duties (specification_of mark.entry.specification.now).operations (first_of mark.entry.system) mark.entry.rider mark.entry.operation.0
-        (marking_of mark.entry.marking c) (path_in terms.old path) c (branches_of branches.now)))) }
+        IfOk result (λ r. HasPath terms.new r (owing (specification_of mark.entry.specification.now).operations (first_of mark.entry.system) mark.entry.rider
+        (marking_of mark.entry.marking c) c (terms_in terms.old variables.now) (branches_at branches.now) (path_in terms.old path))) }
     ensures kept { Keeps terms.old terms.new }
 {
     let pending = cell_is(terms, &path, mark.system.pend(), mark.client, 1)?;
@@ -123,20 +123,18 @@ fn branch_paths(
     alloc: Global,
     terms: &mut Terms,
     mark: Mark<'_>,
-    branches: &[Branch],
+    branches: &[&Branch],
     variables: &[TermId],
     mut path: Path,
     paths: &mut Vec<Path>,
 ) -> Result<(), OutOfMemory>
     requires path { IsPath terms.old path }
     requires client { IsTerm terms.old mark.client }
-    requires terms { AreTerms terms.old variables.now }
-    requires variables { terms_in terms.old variables.now ≡
-        mark_variables (specification_of mark.specification.now).operations (first_of mark.system) mark.operation.0 (path_in terms.old path) (term_in terms.old mark.client) }
+    requires variables { AreTerms terms.old variables.now }
     ensures paths { let c = term_in terms.old mark.entry.client in
         OnOk result (AddsPaths paths.old.items terms.new paths.new.items
-        (branch_paths (specification_of mark.entry.specification.now).operations (first_of mark.entry.system) mark.entry.rider mark.entry.operation.0
-        (marking_of mark.entry.marking c) c (branches_of branches.now) (path_in terms.old path))) }
+        (branch_paths (specification_of mark.entry.specification.now).operations (first_of mark.entry.system) mark.entry.rider
+        (marking_of mark.entry.marking c) (terms_in terms.old variables.now) (branches_at branches.now) (path_in terms.old path))) }
     ensures kept { Keeps terms.old terms.new }
 {
     for (number, branch) in branches.iter().enumerate() {
@@ -154,28 +152,29 @@ fn branch_paths(
     Ok(())
 }
 
-/// The paths behind a mark, behind other paths.
+/// The paths behind a mark by the branches that a choice leaves, with these terms for their parameters, behind other paths.
 pub(crate) fn mark_paths(
     alloc: Global,
     terms: &mut Terms,
     mark: Mark<'_>,
+    by: &Choosing,
+    given: &[TermId],
     path: Path,
     paths: &mut Vec<Path>,
 ) -> Result<(), OutOfMemory>
     requires path { IsPath terms.old path }
     requires client { IsTerm terms.old mark.client }
+    requires given { AreTerms terms.old given.now }
     ensures paths { let c = term_in terms.old mark.entry.client in
         let operations = (specification_of mark.entry.specification.now).operations in
-        let k = marking_of mark.entry.marking c in
-        let bs = op_branches operations mark.entry.operation.0 in
-        let p = path_in terms.old path in
         OnOk result (AddsPaths paths.old.items terms.new paths.new.items
-        (branch_paths operations (first_of mark.entry.system) mark.entry.rider mark.entry.operation.0 k c bs
-        (with_duties p (mark_duties operations (first_of mark.entry.system) mark.entry.rider mark.entry.operation.0 k p c bs)))) }
+        (choice_paths operations (first_of mark.entry.system) mark.entry.rider mark.entry.operation.0 (marking_of mark.entry.marking c) c
+        (terms_in terms.old given.now) (chosen (choosing_of by.now) (op_branches operations mark.entry.operation.0)) (path_in terms.old path))) }
     ensures kept { Keeps terms.old terms.new }
 {
     let branches = operation_branches(mark.specification, mark.operation);
-    let variables = call_variables(alloc, terms, mark, &path)?;
-    let owing = with_mark_duties(alloc, terms, mark, branches, &variables, path)?;
-    branch_paths(alloc, terms, mark, branches, &variables, owing, paths)
+    let branches = chosen_branches(alloc, branches, by)?;
+    let variables = call_variables(alloc, terms, mark, given, &path)?;
+    let owing = with_mark_duties(alloc, terms, mark, &branches, &variables, path)?;
+    branch_paths(alloc, terms, mark, &branches, &variables, owing, paths)
 }

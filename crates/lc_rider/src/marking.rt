@@ -7,10 +7,14 @@ ghost use Rattle.lc_seq.specs.Branches.{op_branches, arity};
 ghost use Rattle.lc_seq.specs.SpecView.{branch_of, branches_of};
 ghost use Rattle.lc_seq.specs.TextView.{specification_of};
 ghost use Rattle.lc_action.specs.ActionView.{first_of};
-ghost use Rattle.lc_rider.specs.Paths.{mark_variables};
+ghost use Rattle.lc_seq.specs.Specification.{chosen};
+ghost use Rattle.lc_rider.specs.MarkView.{branches_at};
+ghost use Rattle.lc_rider.specs.Paths.{branch_variables};
+ghost use Rattle.lc_rider.specs.RiderView.{choosing_of};
 ghost use Rattle.lc_rider.specs.PathView.{path_in, IsPath};
 
 use crate::path::Path;
+use crate::rider::Choosing;
 use lc_action::SystemColumns;
 use lc_base::{ColId, OpId, OutOfMemory};
 use lc_seq::{Branch, TextSpec};
@@ -40,6 +44,23 @@ pub(crate) struct Mark<'a> {
     pub operation: OpId,
     /// The client whose call is marked, said of the state before the edge.
     pub client: TermId,
+}
+
+/// The branches that a choice leaves.
+pub(crate) fn chosen_branches<'a>(
+    alloc: Global,
+    branches: &'a [Branch],
+    by: &Choosing,
+) -> Result<Vec<&'a Branch>, OutOfMemory>
+    ensures { IfOk result (λ left. branches_at left.items ≡ chosen (choosing_of by.now) (branches_of branches.now)) }
+{
+    let mut left = Vec::new(alloc);
+    for branch in branches {
+        if by.leaves(&branch.label) {
+            left.push(branch)?;
+        }
+    }
+    Ok(left)
 }
 
 /// The branches of an operation; none where there is no such operation.
@@ -85,19 +106,23 @@ fn push_reads(
     Ok(())
 }
 
-/// The variables of a branch at the call that is marked: the client, and its arguments as they stand on this path.
+/// The variables of a branch at the call that is marked: the client, its arguments as they stand on this path, and what is
+/// given for the branch's parameters.
 pub(crate) fn call_variables(
     alloc: Global,
     terms: &mut Terms,
     mark: Mark<'_>,
+    given: &[TermId],
     path: &Path,
 ) -> Result<Vec<TermId>, OutOfMemory>
     requires path { IsPath terms.old path.now }
     requires client { IsTerm terms.old mark.client }
+    requires given { AreTerms terms.old given.now }
     ensures are { IfOk result (λ ks. AreTerms terms.new ks.items) }
     ensures trees { IfOk result (λ ks. terms_in terms.new ks.items ≡
-        mark_variables (specification_of mark.entry.specification.now).operations (first_of mark.entry.system)
-        mark.entry.operation.0 (path_in terms.old path.now) (term_in terms.old mark.entry.client)) }
+        branch_variables (path_in terms.old path.now).columns (first_of mark.entry.system)
+        (arity (specification_of mark.entry.specification.now).operations mark.entry.operation.0) (term_in terms.old mark.entry.client)
+        (terms_in terms.old given.now)) }
     ensures kept { Keeps terms.old terms.new }
 {
     let mut variables = Vec::with_capacity(alloc, 5)?;
@@ -108,6 +133,7 @@ pub(crate) fn call_variables(
     let count = arity(mark.specification, mark.operation).min(3);
     let cells = &arguments[..count];
     push_reads(terms, path.columns(), cells, mark.client, &mut variables)?;
+    variables.extend_from_slice(given)?;
     Ok(variables)
 }
 
@@ -133,13 +159,13 @@ fn guards(
     terms: &mut Terms,
     path: &Path,
     variables: &[TermId],
-    branches: &[Branch],
+    branches: &[&Branch],
 ) -> Result<Vec<FormulaId>, OutOfMemory>
     requires path { IsPath terms.old path.now }
     requires variables { AreTerms terms.old variables.now }
     ensures are { IfOk result (λ ks. AreFormulas terms.new ks.items) }
     ensures trees { IfOk result (λ ks. formulas_in terms.new ks.items ≡
-        map (λ b. told (path_in terms.old path.now).columns (terms_in terms.old variables.now) b.guard) (branches_of branches.now)) }
+        map (λ b. told (path_in terms.old path.now).columns (terms_in terms.old variables.now) b.guard) (branches_at branches.now)) }
     ensures kept { Keeps terms.old terms.new }
 {
     let mut guards = Vec::with_capacity(alloc, branches.len())?;
@@ -156,12 +182,12 @@ pub(crate) fn some_guard(
     terms: &mut Terms,
     path: &Path,
     variables: &[TermId],
-    branches: &[Branch],
+    branches: &[&Branch],
 ) -> Result<FormulaId, OutOfMemory>
     requires path { IsPath terms.old path.now }
     requires variables { AreTerms terms.old variables.now }
     ensures id { IfOk result (λ k. HasFormula terms.new k
-        (Or (formulas (map (λ b. told (path_in terms.old path.now).columns (terms_in terms.old variables.now) b.guard) (branches_of branches.now))))) }
+        (Or (formulas (map (λ b. told (path_in terms.old path.now).columns (terms_in terms.old variables.now) b.guard) (branches_at branches.now))))) }
     ensures kept { Keeps terms.old terms.new }
 {
     let guards = guards(alloc, terms, path, variables, branches)?;

@@ -2,7 +2,8 @@ ghost use Rattle.std.specs.Prelude.{◌≡◌, true};
 ghost use Rattle.lc_term.specs.Truth.{is_ground};
 ghost use Rattle.lc_term.specs.View.{formula_of};
 
-use lc_base::OpId;
+use lc_base::{Name, OpId};
+use lc_seq::Label;
 use lc_term::{Formula, Term, Update, is_ground_of_quantifiers};
 
 /// A formula without quantifiers, under which a rider acts.
@@ -44,6 +45,42 @@ impl When {
     }
 }
 
+/// How a mark's branch is chosen: the first whose guard holds, or the one of a name, with terms for its parameters.
+#[derive(Drop)]
+pub enum Choosing {
+    First,
+    Named { name: Name, terms: Vec<Term> },
+}
+
+impl Choosing {
+    ghost use Rattle.std.specs.Prelude.{◌≡◌, map};
+    ghost use Rattle.lc_term.specs.View.{term_of};
+    ghost use Rattle.lc_seq.specs.Sequential.{given_in};
+    ghost use Rattle.lc_seq.specs.Specification.{agree};
+    ghost use Rattle.lc_seq.specs.SpecView.{label_of};
+    ghost use Rattle.lc_rider.specs.RiderView.{choosing_of};
+
+    /// The terms for its parameters.
+    pub fn terms(&self) -> &[Term]
+        ensures { map term_of result.now ≡ given_in (choosing_of self.now) }
+    {
+        match self {
+            Choosing::First => &[],
+            Choosing::Named { terms, .. } => terms,
+        }
+    }
+
+    /// Whether it leaves a branch of this label.
+    pub fn leaves(&self, label: &Label) -> bool
+        ensures { result ≡ agree (label_of label.now) (choosing_of self.now) }
+    {
+        match self {
+            Choosing::First => label.is_in_order(),
+            Choosing::Named { name, terms } => label.names(name.as_str(), terms.len()),
+        }
+    }
+}
+
 /// What is done beside an instruction, behind it, always or where a condition holds. Variables are those of the
 /// operation's code, behind the instruction.
 pub enum Rider {
@@ -55,16 +92,19 @@ pub enum Rider {
     /// The client's own call takes effect.
     LinSelf {
         condition: Option<When>,
+        by: Choosing,
     },
     /// The call of this operation by another client takes effect.
     LinOther {
         condition: Option<When>,
         client: Term,
         operation: OpId,
+        by: Choosing,
     },
     /// The replies of the client's own call are noted: if the call returns next, it has taken effect here.
     Note {
         condition: Option<When>,
+        by: Choosing,
     },
 }
 
@@ -76,11 +116,19 @@ impl Drop for Rider {
                 condition: _,
                 update: _,
             } => {}
-            Rider::LinSelf { condition: _ } | Rider::Note { condition: _ } => {}
+            Rider::LinSelf {
+                condition: _,
+                by: _,
+            }
+            | Rider::Note {
+                condition: _,
+                by: _,
+            } => {}
             Rider::LinOther {
                 condition: _,
                 client: _,
                 operation: _,
+                by: _,
             } => {}
         }
     }
@@ -96,9 +144,9 @@ impl Rider {
     {
         match self {
             Rider::Assign { condition, .. }
-            | Rider::LinSelf { condition }
+            | Rider::LinSelf { condition, .. }
             | Rider::LinOther { condition, .. }
-            | Rider::Note { condition } => condition.as_ref(),
+            | Rider::Note { condition, .. } => condition.as_ref(),
         }
     }
 }

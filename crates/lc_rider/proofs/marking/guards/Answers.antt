@@ -25,8 +25,8 @@ loop-branch-preserved c =
     let b = c.branch-item.result in
     let k = c.in_ok-guard.guard in
     let kept = c.guard_on.ensures.kept in
-    let at : HasFormula new k (told (path_in old p).columns (terms_in old vs) (branch_of b).guard) =
-    told_still old now new p vs k (branch_of b).guard c.requires.path c.requires.variables c.loop-branch.invariant.kept c.in_ok-guard.ensures.id in
+    let at : HasFormula new k (told (path_in old p).columns (terms_in old vs) (branch_of b.now).guard) =
+    told_still old now new p vs k (branch_of b.now).guard c.requires.path c.requires.variables c.loop-branch.invariant.kept c.in_ok-guard.ensures.id in
     record {
       kept = kept_on old now new c.loop-branch.invariant.kept kept;
       are = are_guards now new c.loop-branch.guards.items c.push.new.self.items k _ c.in_ok-push.ensures.items c.loop-branch.invariant.are kept at;
