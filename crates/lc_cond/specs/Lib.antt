@@ -12,4 +12,3 @@ pub mod Stream
 pub mod Sizes
 pub mod VariableCounts
 pub mod CounterCount
-pub mod Chosen

@@ -5,7 +5,7 @@ use Rattle.lc_seq.specs.Sequential.{InOrder, ByName}
 use Rattle.lc_seq.specs.TextStep.{text_step, start_of}
 use Rattle.lc_hist.specs.History.{IsLegal}
 use Rattle.lc_cond.specs.Conditions.{conditions}
-use Rattle.lc_cond.specs.Chosen.{adding, coin, heads, pick, flipped, noting, observing_goals}
+use Rattle.lc_sound.specs.Chosen.{adding, coin, heads, pick, flipped, noting, observing_goals}
 
 -- the counter by fetch-and-add has so many conditions
 abbrev pub AddingIsCounted : Type 0

@@ -8,4 +8,5 @@ pub mod Valid
 pub mod Derived
 pub mod Claims
 pub mod Examples
+pub mod Chosen
 pub mod ExamplesChosen
