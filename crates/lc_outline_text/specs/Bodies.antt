@@ -11,7 +11,7 @@ use Rattle.lc_object_text.specs.Points.{BodyText, body_reading}
 use Rattle.lc_object_text.specs.Rows.{placed_reading}
 use Rattle.lc_outline.specs.Development.{Outline}
 use Rattle.lc_rider_text.specs.Scopes.{beside_names}
-use Rattle.lc_outline_text.specs.Declarations.{Declarations, known_of, own_branches}
+use Rattle.lc_outline_text.specs.Declarations.{Declarations, known_of, own_ways}
 use Rattle.lc_outline_text.specs.Points.{beside}
 
 -- beside the code of a body its arguments and its locals are variables
@@ -21,7 +21,7 @@ names_in d b = beside_names d.declared.columns (Some (b.call.arguments ++ b.loca
 -- the item n where this body is due, of the operation of this number, if one is
 abbrev pub due_reading : Declarations → Option Body → ℕ → ℕ → Tree → Reading (BodyText (Point × Outline))
 due_reading d None o n t = wrong Shape n
-due_reading d (Some b) o n t = body_reading d.declared b (beside (known_of d) (names_in d b) (own_branches d o)) o n t
+due_reading d (Some b) o n t = body_reading d.declared b (beside (known_of d) (names_in d b) (own_ways d o)) o n t
 
 abbrev pub ith_reading : Declarations → ℕ → ℕ → Tree → Reading (BodyText (Point × Outline))
 ith_reading d i n t = due_reading d (slice_get d.declared.bodies i) i n t

@@ -4,10 +4,10 @@ use Rattle.lc_sexp.specs.TreeCode.{tree_count}
 use Rattle.lc_sexp.specs.Trees.{Trees, none}
 use Rattle.lc_object_text.specs.ObjectNames.{Declared, first_text, within_first, later, operations_in, declared_in_sections}
 use Rattle.lc_object_text.specs.Sections.{Sections, sections_of, forms_in, behind_first}
-use Rattle.lc_rider_text.specs.Known.{Known}
+use Rattle.lc_rider_text.specs.Known.{Known, Ways}
 
 -- The names, and what stands behind the word of each action, NAME (PARAM ..) F UPDATE .., and of each operation,
--- NAME (ARG ..) REPLIES BRANCH ..
+-- NAME (ARG ..) REPLIES, then BRANCH .. or CHOICE ..
 pub record Declarations : Type 0 where
   pub declared : Declared
   pub actions : List Trees
@@ -23,24 +23,34 @@ declarations_in s = record { declared = declared_in_sections s; actions = action
 abbrev pub declarations_of : Trees → Declarations
 declarations_of ts = declarations_in (sections_of ts)
 
--- the branches of an operation
+-- the branches or choices of an operation
 abbrev pub branches_in : Trees → Trees
 branches_in ts = later (later (later ts))
 
-abbrev pub branch_count : Trees → ℕ
-branch_count ts = tree_count (branches_in ts)
-
--- the parameters of an action
+-- the parameters of an action, or of a choice
 abbrev pub parameter_count : Trees → ℕ
 parameter_count ts = tree_count (within_first (later ts))
 
--- what stands beside the code sees of it the names and these counts
+-- what stands behind the word of each choice of an operation, NAME (PARAM ..) F (UPDATE ..) (T ..); an operation of which the first
+-- form is none has none
+abbrev pub choices_in : Trees → List Trees
+choices_in ts = forms_in (codes "choice") (branches_in ts)
+
+-- how an operation goes
+abbrev pub ways_in : Trees → Ways
+ways_in ts = record {
+  count = tree_count (branches_in ts);
+  choices = map first_text (choices_in ts);
+  parameters = map parameter_count (choices_in ts);
+}
+
+-- what stands beside the code sees of it the names, and these counts
 abbrev pub known_of : Declarations → Known
 known_of d = record {
   columns = d.declared.columns;
   auxiliaries = d.declared.auxiliaries;
   operations = d.declared.operations;
-  branches = map branch_count d.operations;
+  ways = map ways_in d.operations;
   actions = map first_text d.actions;
   parameters = map parameter_count d.actions;
 }
@@ -54,6 +64,6 @@ abbrev pub form_at : List Trees → Option ℕ → Trees
 form_at forms (Some k) = or_nothing (slice_get forms k)
 form_at forms None = none
 
--- how many branches the operation of this number has
-abbrev pub own_branches : Declarations → ℕ → ℕ
-own_branches d o = branch_count (form_at d.operations (Some o))
+-- how the operation of this number goes, if there is one
+abbrev pub own_ways : Declarations → ℕ → Option Ways
+own_ways d o = slice_get (known_of d).ways o

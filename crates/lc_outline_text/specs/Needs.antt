@@ -15,7 +15,7 @@ code_word t = first_text (items_within t)
 
 -- an instruction of this word has one edge; or two, where it holds and where it fails
 abbrev pub goes_next : List ℕ → Bool
-goes_next w = is w (codes "load") || is w (codes "store") || is w (codes "set") || is w (codes "return")
+goes_next w = is w (codes "load") || is w (codes "store") || is w (codes "faa") || is w (codes "set") || is w (codes "return")
 
 abbrev pub branches_off : List ℕ → Bool
 branches_off w = is w (codes "cas") || is w (codes "if")
@@ -25,7 +25,7 @@ edges_of w = record { next = goes_next w; holds = branches_off w; fails = branch
 
 -- it stores at this edge
 abbrev pub stores : List ℕ → EdgeKind → Bool
-stores w Next = is w (codes "store")
+stores w Next = is w (codes "store") || is w (codes "faa")
 stores w Then = is w (codes "cas")
 stores w Else = false
 

@@ -1,5 +1,5 @@
 -- What a text reads as where a point of a development is due: its code, what holds there, and what is done at its edges.
-use Rattle.std.specs.Prelude.{ℕ, ◌+◌, Bool, ◌&&◌, codes, if◌then◌else◌, List, []}
+use Rattle.std.specs.Prelude.{ℕ, ◌+◌, Bool, ◌&&◌, codes, if◌then◌else◌, List, [], Option}
 use Rattle.lc_sexp.specs.Trees.{Tree, Trees, none, ◌▸◌, item_count}
 use Rattle.lc_reading.specs.Readings.{Reading, wrong, both, behind_reading}
 use Rattle.lc_reading.specs.Rows.{each_reading}
@@ -11,7 +11,7 @@ use Rattle.lc_text.specs.Terms.{pair}
 use Rattle.lc_object.specs.Syntax.{Point}
 use Rattle.lc_object_text.specs.Sections.{forms_in}
 use Rattle.lc_outline.specs.Development.{On, Outline}
-use Rattle.lc_rider_text.specs.Known.{Known}
+use Rattle.lc_rider_text.specs.Known.{Known, Ways}
 use Rattle.lc_rider_text.specs.Ons.{ons_reading}
 use Rattle.lc_rider_text.specs.declared.edges.Edges.{Edges}
 use Rattle.lc_outline_text.specs.Needs.{code_word, edges_of, lacks_on}
@@ -23,15 +23,15 @@ formulas_in_reading word names n t = behind_reading word (λ n. each_reading (fo
 abbrev pub outline_of : List Formula → List On → Outline
 outline_of asserts ons = record { asserts = asserts; ons = ons }
 
--- (assert F ..) ON ..: the item i, and those from m on, at a point with these edges, in the body of an operation that has so
--- many branches
-abbrev pub outline_reading : Known → Names → ℕ → Edges → ℕ → Tree → ℕ → Trees → Reading Outline
+-- (assert F ..) ON ..: the item i, and those from m on, at a point with these edges, in the body of an operation that goes so, if it
+-- is known
+abbrev pub outline_reading : Known → Names → Option Ways → Edges → ℕ → Tree → ℕ → Trees → Reading Outline
 outline_reading known names own edges i t m ts =
     both outline_of (formulas_in_reading (codes "assert") names i t) (ons_reading known names own edges m ts)
 
 -- What stands behind the code of the point n, from m on, with what the point itself reads as. Where an edge lacks an `on` that it
 -- needs, this is told at the point; of a misshapen instruction no edges are known
-abbrev pub beside : Known → Names → ℕ → ℕ → Tree → Bool → Reading Point → ℕ → Trees → Reading (Point × Outline)
+abbrev pub beside : Known → Names → Option Ways → ℕ → Tree → Bool → Reading Point → ℕ → Trees → Reading (Point × Outline)
 beside known names own n code shaped point m none = wrong Shape n
 beside known names own n code shaped point m (t ▸ ts) =
     if shaped && lacks_on known.actions (code_word code) (forms_in (codes "on") ts) then wrong Shape n

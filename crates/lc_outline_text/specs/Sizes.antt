@@ -12,7 +12,7 @@ use Rattle.lc_object.specs.declared.instr.EdgeKind.TheVariants.{Next, Then, Else
 use Rattle.lc_object_text.specs.ObjectNames.{Declared, Body, Span, text_in, first_text, items_within, within_first, later, parts_in_first, points_in}
 use Rattle.lc_object_text.specs.Sections.{Sections, parts_in, forms_in}
 use Rattle.lc_rider_text.specs.Scopes.{column_place}
-use Rattle.lc_outline_text.specs.Declarations.{Declarations, branches_in, form_at}
+use Rattle.lc_outline_text.specs.Declarations.{Declarations, branches_in, choices_in, form_at}
 use Rattle.lc_outline_text.specs.Needs.{edge_word, goes_next, branches_off, stores}
 
 -- ---- columns that are stored in
@@ -51,17 +51,30 @@ abbrev pub mark_ways : (Trees → List ℕ) → ℕ → Trees → List Way
 mark_ways stored asked none = []
 mark_ways stored asked (b ▸ bs) = record { asked = asked; columns = stored (parts_in (codes "branch") b) } ∷ mark_ways stored asked bs
 
+-- behind the name and the parameters of the choice of this name of an operation, F (UPDATE ..) (T ..)
+abbrev pub choice_named : Trees → List ℕ → Trees
+choice_named ts w = later (later (form_at (choices_in ts) (place_of (map first_text (choices_in ts)) w)))
+
+-- the one for this choice
+abbrev pub choice_ways : (Trees → List ℕ) → ℕ → Trees → List Way
+choice_ways stored asked ts = record { asked = asked; columns = stored ts } ∷ []
+
 -- The call that is marked is pending, and a branch is enabled. Of another client's call it is asked too that it is one of the
 -- operation that is named; of a note that the branch stores nothing
 abbrev pub ways_with : Declarations → ℕ → List ℕ → Trees → List Way
 ways_with d o w ts =
     let settled = columns_settled d.declared.columns in
-    let own = branches_in (form_at d.operations (Some o)) in
+    let noted = columns_noted d.declared.columns in
+    let own = form_at d.operations (Some o) in
+    let other = form_at d.operations (place_of d.declared.operations (first_text (later ts))) in
     if is w (codes "set") then record { asked = 0; columns = column_named d.declared.columns (first_text ts) } ∷ []
-    else (if is w (codes "lin") then mark_ways settled 2 own
-    else (if is w (codes "lin-other") then mark_ways settled 3 (branches_in (form_at d.operations (place_of d.declared.operations (first_text (later ts)))))
-    else (if is w (codes "note") then mark_ways (columns_noted d.declared.columns) 3 own
-    else [])))
+    else (if is w (codes "lin") then mark_ways settled 2 (branches_in own)
+    else (if is w (codes "lin-other") then mark_ways settled 3 (branches_in other)
+    else (if is w (codes "note") then mark_ways noted 3 (branches_in own)
+    else (if is w (codes "lin-by") then choice_ways settled 2 (choice_named own (first_text ts))
+    else (if is w (codes "lin-other-by") then choice_ways settled 3 (choice_named other (first_text (later (later ts))))
+    else (if is w (codes "note-by") then choice_ways noted 3 (choice_named own (first_text ts))
+    else []))))))
 
 abbrev pub deed_ways : Declarations → ℕ → Trees → List Way
 deed_ways d o ts = ways_with d o (first_text ts) (later ts)
@@ -154,7 +167,7 @@ pub record Totals : Type 0 where
 
 -- the part of an instruction of this word that is the label to which this edge leads
 abbrev pub label_place : List ℕ → EdgeKind → ℕ
-label_place w Next = if is w (codes "set") then 2 else 4
+label_place w Next = if is w (codes "set") then 2 else (if is w (codes "faa") then 5 else 4)
 label_place w Then = if is w (codes "cas") then 5 else 2
 label_place w Else = if is w (codes "cas") then 6 else 3
 

@@ -5,6 +5,8 @@ pub mod Columns
 pub mod Conjuncts
 pub mod Updates
 pub mod Actions
+pub mod Terms
+pub mod Choices
 pub mod Riders
 pub mod Paths
 pub mod Edges

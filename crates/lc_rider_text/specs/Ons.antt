@@ -6,18 +6,18 @@ use Rattle.lc_reading.specs.Listed.{place_of}
 use Rattle.lc_reading.specs.Naming.{use_reading}
 use Rattle.lc_reading.specs.Readings.{Reading, fine, wrong, limited, both, behind_reading, listed_reading}
 use Rattle.lc_reading.specs.Reserved.{is_action_name}
-use Rattle.lc_reading.specs.Rows.{each_reading, counted_reading}
 use Rattle.lc_reading.specs.declared.pass.Pass.TheVariants.{Shape}
 use Rattle.lc_term.specs.Syntax.{Term}
 use Rattle.lc_text.specs.Names.{Names}
-use Rattle.lc_text.specs.Terms.{pair, term_reading}
+use Rattle.lc_text.specs.Terms.{pair}
 use Rattle.lc_rider.specs.Rider.{Rider}
 use Rattle.lc_outline.specs.Development.{On}
 use Rattle.lc_object_text.specs.Rows.{cons}
-use Rattle.lc_rider_text.specs.Known.{Known, count_at}
+use Rattle.lc_rider_text.specs.Known.{Known, Ways, entry_at}
 use Rattle.lc_rider_text.specs.Edges.{edge_of, edge_in, edge_reading, is_refused, without}
 use Rattle.lc_rider_text.specs.Paths.{path_count}
 use Rattle.lc_rider_text.specs.Riders.{riders_reading}
+use Rattle.lc_rider_text.specs.Terms.{arguments_reading}
 use Rattle.lc_rider_text.specs.declared.edges.Edges.{Edges}
 
 -- the item n where ACTION is due: a declared action, and none that is built in
@@ -27,13 +27,8 @@ action_use known n (list ts) = wrong Shape n
 
 -- how many terms its call has
 abbrev pub arguments_due : Known → Tree → Option ℕ
-arguments_due known (atom w) = if is_action_name w then None else count_at known.parameters (place_of known.actions w)
+arguments_due known (atom w) = if is_action_name w then None else entry_at known.parameters (place_of known.actions w)
 arguments_due known (list ts) = None
-
--- T*: the parts of the list n from m on, just so many where it is known how many
-abbrev pub arguments_reading : Names → Option ℕ → ℕ → ℕ → Trees → Reading (List Term)
-arguments_reading names None n m ts = each_reading (term_reading names []) m ts
-arguments_reading names (Some count) n m ts = counted_reading (term_reading names []) n count m ts
 
 -- ACTION T*: the parts of the list n, numbered from m on
 abbrev pub call_parts_reading : Known → Names → ℕ → ℕ → Trees → Reading (ℕ × List Term)
@@ -51,21 +46,21 @@ step_reading known names m t n u = both pair (edge_reading m t) (call_reading kn
 abbrev pub the_on : EdgeKind × (ℕ × List Term) → List Rider → On
 the_on p riders = record { edge = p.0; action = p.1.0; arguments = p.1.1; riders = riders }
 
--- EDGE (ACTION T*) RIDER*, at one of these edges, in the body of an operation that has so many branches: the parts of the list n,
--- numbered from m on. There are at most 64 paths
-abbrev pub on_parts_reading : Known → Names → ℕ → Edges → ℕ → ℕ → Trees → Reading On
+-- EDGE (ACTION T*) RIDER*, at one of these edges, in the body of an operation that goes so, if it is known: the parts of the list
+-- n, numbered from m on. There are at most 64 paths
+abbrev pub on_parts_reading : Known → Names → Option Ways → Edges → ℕ → ℕ → Trees → Reading On
 on_parts_reading known names own edges n m (t ▸ u ▸ ts) =
     if is_refused edges (edge_of t) then wrong Shape n
     else limited (nat_lt 64 (path_count known own ts)) n
-    (both the_on (step_reading known names m t (m + item_count t) u) (riders_reading known names (m + item_count t + item_count u) ts))
+    (both the_on (step_reading known names m t (m + item_count t) u) (riders_reading known names own (m + item_count t + item_count u) ts))
 on_parts_reading known names own edges n m _ = wrong Shape n
 
 -- (on EDGE (ACTION T*) RIDER*)
-abbrev pub on_reading : Known → Names → ℕ → Edges → ℕ → Tree → Reading On
+abbrev pub on_reading : Known → Names → Option Ways → Edges → ℕ → Tree → Reading On
 on_reading known names own edges n t = behind_reading (codes "on") (on_parts_reading known names own edges) n t
 
 -- ON*: the items from m on, each at an edge that those before it do not name
-abbrev pub ons_reading : Known → Names → ℕ → Edges → ℕ → Trees → Reading (List On)
+abbrev pub ons_reading : Known → Names → Option Ways → Edges → ℕ → Trees → Reading (List On)
 ons_reading known names own edges m none = fine []
 ons_reading known names own edges m (t ▸ ts) =
     both cons (on_reading known names own edges m t) (ons_reading known names own (without edges (edge_in t)) (m + item_count t) ts)
