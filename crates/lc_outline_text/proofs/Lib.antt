@@ -4,6 +4,7 @@ mod CodeAlone
 mod Counting
 mod FileReads
 pub mod Fitting
+pub mod Going
 mod MadeBodies
 mod Needed
 mod ObjectOf
