@@ -87,7 +87,7 @@ found (c ∷ bs) (o ∷ os) zero b h e = let same : c ≡ b = cc in (o, refl, su
 found (c ∷ bs) (o ∷ os) (suc k) b h e = found bs os k b h.1 e
 
 -- it is one of the specification's
-matched_below : (os : List O.Operation) (qs : List Q.Operation) (k : ℕ) (o : O.Operation) → are_matched os qs ≡ true → slice_get os k ≡ Some o → k < length qs
+pub matched_below : (os : List O.Operation) (qs : List Q.Operation) (k : ℕ) (o : O.Operation) → are_matched os qs ≡ true → slice_get os k ≡ Some o → k < length qs
 matched_below [] qs k o h e = absurd (cc)
 matched_below (p ∷ os) [] k o h e = absurd (cc)
 matched_below (p ∷ os) (q ∷ qs) zero o h e = omega arith

@@ -1,4 +1,4 @@
-mod Agreed
+pub mod Agreed
 pub mod Assembled
 mod CodeAlone
 mod Counting
