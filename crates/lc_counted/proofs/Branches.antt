@@ -9,7 +9,6 @@ use Rattle.lc_sexp.specs.Trees.{Tree, Trees, atom, list, none, ◌▸◌, item_c
 use Rattle.lc_reading.proofs.Holding.{Holds, anything, mapped_holds, both_holds, three_holds, ended_holds, limited_holds, if_holds, weaker}
 use Rattle.lc_reading.specs.Listed.{place_of}
 use Rattle.lc_reading.specs.Naming.{is_full, name_reading}
-use Rattle.lc_reading.specs.Parts.{begins}
 use Rattle.lc_reading.specs.Readings.{fine, wrong, listed_reading}
 use Rattle.lc_reading.specs.Reserved.{is_system_column}
 use Rattle.lc_reading.specs.Rows.{each_reading, first_name, second_name, all_declared, declared_reading}
@@ -23,14 +22,15 @@ use Rattle.lc_text.specs.Names.{Names}
 use Rattle.lc_text.specs.Terms.{pair, triple, number_reading, term_reading}
 use Rattle.lc_seq.specs.Specification.{Branch, Operation}
 use Rattle.lc_spec_text.specs.Branches.{stored, written_reading, the_update, update_parts_reading, update_reading, updates_reading, replies_reading, the_branch, branch_parts_reading, branch_reading}
-use Rattle.lc_spec_text.specs.Choices.{parameters_in, label_reading, choice_parts_reading, the_choice, choice_reading, ways_reading}
+use Rattle.lc_spec_text.specs.Choices.{parameters_in, label_reading, choice_parts_reading, the_choice, choice_reading, begin_with_choice, ways_reading}
 use Rattle.lc_spec_text.specs.Operations.{count_in, variables_in, signature_reading, the_operation, operation_parts_reading, operation_reading}
 use Rattle.lc_spec_text.specs.Scopes.{Columns, branch_names}
 use Rattle.lc_spec_text.specs.Specifications.{the_column, column_reading, columns_reading, columns_in, operations_reading, the_specification, specification_parts_reading, specification_reading}
 use Rattle.lc_object_text.proofs.Holding.{form_holds}
 use Rattle.lc_object_text.specs.ObjectNames.{text_in, first_text, items_within, later, parts_in_first, names_of_columns}
-use Rattle.lc_object_text.specs.Sections.{parts_of_fit, parts_in, before_others, forms_in, some_forms_in}
+use Rattle.lc_object_text.specs.Sections.{parts_of_fit, parts_in, forms_in, some_forms_in}
 use Rattle.lc_cond.specs.Sizes.{columns_of}
+use Rattle.lc_outline_text.proofs.Going.{no_choices}
 use Rattle.lc_outline_text.specs.Declarations.{branches_in}
 use Rattle.lc_outline_text.specs.Sizes.{columns_stored}
 use Rattle.lc_counted.proofs.Rows.{Alike, Along, each_along, declared_along, counted_count, IsForm, forms_alike, some_alike, for_all}
@@ -119,31 +119,17 @@ module _ (columns : Columns) (all : List (List ℕ)) (first : Leads columns.own 
 
 -- ---- operations
 
--- where no branch is a choice, each is that of its text; and each choice is that of its text, wherever it stands
+-- where the first form is no choice, each branch is that of its text; and each choice is that of its text, wherever it stands
 abbrev pub AreBranchesOf : List (List ℕ) → Trees → List Branch → Type 0
 AreBranchesOf all ts bs = Along (λ t b. IsBranchOf all (parts_in (codes "branch") t) b) ts bs
 
 pub record AreWaysSaid (all : List (List ℕ)) (ts : Trees) (bs : List Branch) : Type 0 where
-  pub branches : forms_in (codes "choice") ts ≡ [] → AreBranchesOf all ts bs
+  pub branches : begin_with_choice ts ≡ false → AreBranchesOf all ts bs
   pub choices : (j : ℕ) (f : Trees) (b : Branch) → slice_get (forms_in (codes "choice") ts) j ≡ Some f → slice_get bs j ≡ Some b → IsChoiceOf all f b
 
 -- an operation NAME (ARG ..) REPLIES, then BRANCH .. or CHOICE ..
 abbrev pub IsOperationOf : List (List ℕ) → Trees → Operation → Type 0
 IsOperationOf all us q = AreWaysSaid all (branches_in us) q.branches
-
--- a list that begins with the word of choices is one
-some_choice : (t : Tree) (ts : Trees) → begins (codes "choice") t ≡ true → forms_in (codes "choice") (t ▸ ts) ≡ [] → ⊥
-some_choice (atom w) ts e h = absurd (cc)
-some_choice (list none) ts e h = absurd (cc)
-some_choice (list (list us ▸ vs)) ts e h = absurd (cc)
-some_choice (list (atom w ▸ us)) ts e h =
-    let some : us ∷ forms_in (codes "choice") ts ≡ [] = sym (ap (λ b. before_others (cond b (fits us) misshapen) (forms_in (codes "choice") ts)) e) ∙ h in absurd (cc)
-
-no_choices : (t : Tree) (ts : Trees) → begins (codes "choice") t ≡ false → forms_in (codes "choice") (t ▸ ts) ≡ []
-no_choices (atom w) ts e = refl
-no_choices (list none) ts e = refl
-no_choices (list (list us ▸ vs)) ts e = refl
-no_choices (list (atom w ▸ us)) ts e = ap (λ b. before_others (cond b (fits us) misshapen) (forms_in (codes "choice") ts)) e
 
 -- of lists that go together
 both_there : {X Y : Type 0} (P : X → Y → Type 0) (xs : List X) (ys : List Y) (j : ℕ) (x : X) (y : Y) → Alike P xs ys → slice_get xs j ≡ Some x → slice_get ys j ≡ Some y → P x y
@@ -153,26 +139,25 @@ both_there P (v ∷ xs) (w ∷ ys) zero x y h e g = let left : v ≡ x = cc in l
 both_there P (v ∷ xs) (w ∷ ys) (suc j) x y h e g = both_there P xs ys j x y h.1 e g
 
 module _ (columns : Columns) (all : List (List ℕ)) (first : Leads columns.own all) where
-  ways_said : (variables : List (List ℕ)) (count : Option ℕ) (m : ℕ) (t : Tree) (ts : Trees) → Holds (AreWaysSaid all (t ▸ ts)) (ways_reading columns variables count m (t ▸ ts))
-  ways_said variables count m t ts = by_test (begins (codes "choice") t) refl where
-    by_test : (c : Bool) → begins (codes "choice") t ≡ c
-        → Holds (AreWaysSaid all (t ▸ ts)) (cond c (declared_reading (choice_reading columns variables count) second_name [] m (t ▸ ts)) (each_reading (branch_reading columns (branch_names columns.own variables) count) m (t ▸ ts)))
+  ways_said : (variables : List (List ℕ)) (count : Option ℕ) (m : ℕ) (ts : Trees) → Holds (AreWaysSaid all ts) (ways_reading columns variables count m ts)
+  ways_said variables count m ts = by_test (begin_with_choice ts) refl where
+    by_test : (c : Bool) → begin_with_choice ts ≡ c
+        → Holds (AreWaysSaid all ts) (cond c (declared_reading (choice_reading columns variables count) second_name [] m ts) (each_reading (branch_reading columns (branch_names columns.own variables) count) m ts))
     by_test true e =
-        let r = declared_reading (choice_reading columns variables count) second_name [] m (t ▸ ts) in
-        weaker (Along (IsForm (codes "choice") (IsChoiceOf all)) (t ▸ ts)) (AreWaysSaid all (t ▸ ts)) r
+        weaker (Along (IsForm (codes "choice") (IsChoiceOf all)) ts) (AreWaysSaid all ts) (declared_reading (choice_reading columns variables count) second_name [] m ts)
         (λ bs h. record {
-          branches = λ no. absurd (some_choice t ts e no);
-          choices = λ j f b at there. both_there (IsChoiceOf all) (forms_in (codes "choice") (t ▸ ts)) bs j f b (forms_alike (codes "choice") (IsChoiceOf all) (t ▸ ts) bs h) at there;
+          branches = λ no. absurd (let other : true ≡ false = sym e ∙ no in cc);
+          choices = λ j f b at there. both_there (IsChoiceOf all) (forms_in (codes "choice") ts) bs j f b (forms_alike (codes "choice") (IsChoiceOf all) ts bs h) at there;
         })
-        (declared_along (IsForm (codes "choice") (IsChoiceOf all)) (choice_reading columns variables count) second_name (choice_said columns all first variables count) [] m (t ▸ ts))
+        (declared_along (IsForm (codes "choice") (IsChoiceOf all)) (choice_reading columns variables count) second_name (choice_said columns all first variables count) [] m ts)
     by_test false e =
         let read = branch_reading columns (branch_names columns.own variables) count in
-        weaker (AreBranchesOf all (t ▸ ts)) (AreWaysSaid all (t ▸ ts)) (each_reading read m (t ▸ ts))
+        weaker (AreBranchesOf all ts) (AreWaysSaid all ts) (each_reading read m ts)
         (λ bs h. record {
           branches = λ none. h;
-          choices = λ j f b at there. absurd (let none : None ≡ Some f = sym (ap (λ fs. slice_get fs j) (no_choices t ts e)) ∙ at in cc);
+          choices = λ j f b at there. absurd (let other : None ≡ Some f = sym (ap (λ fs. slice_get fs j) (no_choices ts e)) ∙ at in cc);
         })
-        (each_along (λ t b. IsBranchOf all (parts_in (codes "branch") t) b) read (branch_said columns all first (branch_names columns.own variables) count) m (t ▸ ts))
+        (each_along (λ t b. IsBranchOf all (parts_in (codes "branch") t) b) read (branch_said columns all first (branch_names columns.own variables) count) m ts)
 
   operation_parts_said : (before : List (List ℕ)) (n m : ℕ) (us : Trees) → Holds (λ p. IsOperationOf all us (the_operation p)) (operation_parts_reading columns before n m us)
   operation_parts_said before n m none = tt
@@ -182,7 +167,7 @@ module _ (columns : Columns) (all : List (List ℕ)) (first : Leads columns.own 
   operation_parts_said before n m (t ▸ u ▸ v ▸ b ▸ bs) =
       let r = ways_reading columns (variables_in u) (count_in v) (m + item_count t + item_count u + item_count v) (b ▸ bs) in
       both_holds (λ x. Unit {0}) (AreWaysSaid all (b ▸ bs)) (λ p. IsOperationOf all (t ▸ u ▸ v ▸ b ▸ bs) (the_operation p)) pair (signature_reading before m t u v) r
-      (anything (signature_reading before m t u v)) (ways_said (variables_in u) (count_in v) (m + item_count t + item_count u + item_count v) b bs) (λ p xs h g. g)
+      (anything (signature_reading before m t u v)) (ways_said (variables_in u) (count_in v) (m + item_count t + item_count u + item_count v) (b ▸ bs)) (λ p xs h g. g)
 
   operation_said : (before : List (List ℕ)) (n : ℕ) (t : Tree) → Holds (IsForm (codes "op") (IsOperationOf all) t) (operation_reading columns before n t)
   operation_said before n t =

@@ -1,8 +1,8 @@
 -- A mark is passed in the ways that the text of its operation says: one for each branch, or the one of the choice that is named.
-use Rattle.std.proofs.Common.{◌≡◌, ℕ, zero, suc, ◌<◌, ◌==◌, Bool, true, false, ◌⊎◌, inl, inr, List, [], ◌∷◌, map, length, Option, Some, None, refl, sym, ap, ap₂, ◌∙◌, subst, arith}
+use Rattle.std.proofs.Common.{◌≡◌, ℕ, zero, suc, ◌<◌, Bool, true, false, List, [], ◌∷◌, map, length, Option, Some, None, refl, sym, ap, ap₂, ◌∙◌, subst, arith}
 use Rattle.std.proofs.lemmas.Bool.{eqb-true}
 use Rattle.std.proofs.lemmas.List.{length-map}
-use Rattle.std.specs.Prelude.{codes, nat_lt, not, slice_get}
+use Rattle.std.specs.Prelude.{codes, not, slice_get}
 use Rattle.lc_sexp.specs.Trees.{Trees, none, ◌▸◌}
 use Rattle.lc_reading.proofs.Places.{place_below}
 use Rattle.lc_reading.specs.Listed.{place_of}
@@ -11,16 +11,17 @@ use Rattle.lc_seq.specs.Branches.{op_branches}
 use Rattle.lc_seq.specs.Sequential.{Chosen, InOrder, ByName}
 use Rattle.lc_seq.specs.Specification.{Branch, Operation, chosen}
 use Rattle.lc_object_text.specs.ObjectNames.{first_text, later}
-use Rattle.lc_object_text.specs.Sections.{parts_in, forms_in}
+use Rattle.lc_object_text.specs.Sections.{parts_in}
 use Rattle.lc_rider.specs.Paths.{mark_updates}
 use Rattle.lc_rider.specs.Rider.{Marking}
 use Rattle.lc_rider_text.proofs.ChoicesKnown.{is_due, is_choice_at, is_choosing, IsInOrder}
 use Rattle.lc_rider_text.specs.Counted.{GoesSo}
 use Rattle.lc_rider_text.specs.Known.{Ways, has_choices}
+use Rattle.lc_spec_text.proofs.Ways.{IsLeft}
 use Rattle.lc_outline.specs.Development.{Development, first_system}
 use Rattle.lc_cond.specs.Sizes as C
 use Rattle.lc_outline_text.proofs.Agreed.{AllGo}
-use Rattle.lc_outline_text.proofs.Going.{AreChoices, AreWaysOf, IsAlone, chosen_one, goes_so}
+use Rattle.lc_outline_text.proofs.Going.{AreWaysOf, none_first, left_at, goes_so}
 use Rattle.lc_outline_text.specs.Declarations.{Declarations, branches_in, choices_in, ways_in, own_ways, parameter_count, or_nothing, form_at}
 use Rattle.lc_outline_text.specs.Sizes.{mark_ways, choice_named, choice_ways}
 use Rattle.lc_counted.proofs.Branches.{AreBranchesOf, AreWaysSaid, IsOperationOf}
@@ -76,10 +77,6 @@ all_left : (w : Ways) (bs : List Branch) → GoesSo w bs → (by : Chosen Term) 
 all_left w bs h InOrder (e, g) = let no = not_true (has_choices w) g in (no, h.in_order no)
 all_left w bs h (ByName name terms) (e, g) = absurd (cc)
 
-no_forms : (fs : List Trees) → nat_lt 0 (length (map first_text fs)) ≡ false → fs ≡ []
-no_forms [] e = refl
-no_forms (f ∷ fs) e = absurd (cc)
-
 -- ---- the branch of a choice
 
 -- a name has a place among the choices of this text, and the branch there is the one that it leaves
@@ -88,7 +85,7 @@ record IsTaken (name : List ℕ) (terms : List Term) (fs : List Trees) (bs : Lis
   form : Trees
   named : place_of (map first_text fs) name ≡ Some place
   text : slice_get fs place ≡ Some form
-  alone : IsAlone name terms bs place
+  left : IsLeft bs (ByName name terms) place
 
 taken : (name : List ℕ) (terms : List Term) (f : Trees) (bs : List Branch) → AreWaysOf (branches_in f) bs → is_choosing (Some (ways_in f)) (ByName name terms) ≡ true → IsTaken name terms (choices_in f) bs
 taken name terms f bs h e = by_place (place_of (map first_text (choices_in f)) name) refl e where
@@ -105,10 +102,7 @@ taken name terms f bs h e = by_place (place_of (map first_text (choices_in f)) n
         form = form;
         named = at;
         text = text;
-        alone = elim h.either [
-            inl p ↦ absurd (let no : None ≡ Some form = sym (ap (λ xs. slice_get xs j) p.0) ∙ text in cc)
-            | inr p ↦ chosen_one name terms [] fs bs j (parameter_count form) p at count due
-          ];
+        left = left_at (branches_in f) bs h name terms j (parameter_count form) at count due;
       }
 
 -- ---- marks
@@ -125,7 +119,7 @@ module _ (d : Declarations) (D : Development) (first : first_system D ≡ length
       let bs = op_branches D.specification.operations o in
       let known : own_ways d o ≡ Some (ways_in x.form) = mapped_there ways_in d.operations o x.form x.there in
       let (no, left) = all_left (ways_in x.form) bs (goes_so (branches_in x.form) bs x.ways) by (subst (λ w. IsInOrder w by) known h) in
-      ap₂ (λ n xs. map (C.mark_way n k) xs) first left ∙ marked d.declared.columns k (branches_in x.form) bs (x.said.branches (no_forms (choices_in x.form) no))
+      ap₂ (λ n xs. map (C.mark_way n k) xs) first left ∙ marked d.declared.columns k (branches_in x.form) bs (x.said.branches (none_first (branches_in x.form) bs x.ways no))
       ∙ ap (λ f. map way_of (mark_ways (stored_by d.declared.columns k) (C.asked_of k) (branches_in (or_nothing f)))) (sym x.there)
 
   pub by_name_said : (k : Marking) (o : ℕ) → o < length d.declared.operations → (name : List ℕ) (terms : List Term) → is_choosing (own_ways d o) (ByName name terms) ≡ true
@@ -135,10 +129,10 @@ module _ (d : Declarations) (D : Development) (first : first_system D ≡ length
       let x = at o few in
       let known : own_ways d o ≡ Some (ways_in x.form) = mapped_there ways_in d.operations o x.form x.there in
       let y = taken name terms x.form (op_branches D.specification.operations o) x.ways (subst (λ w. is_choosing w (ByName name terms) ≡ true) known h) in
-      let b = y.alone.branch in
-      let stored : C.columns_of (mark_updates (length d.declared.columns) k b) ≡ stored_by d.declared.columns k (later (later y.form)) = marked_columns d.declared.columns k (later (later y.form)) b (x.said.choices y.place y.form b y.text y.alone.there) in
+      let b = y.left.branch in
+      let stored : C.columns_of (mark_updates (length d.declared.columns) k b) ≡ stored_by d.declared.columns k (later (later y.form)) = marked_columns d.declared.columns k (later (later y.form)) b (x.said.choices y.place y.form b y.text y.left.there) in
       let text : choice_named (form_at d.operations (Some o)) name ≡ later (later y.form) =
       ap (λ f. choice_named (or_nothing f) name) x.there ∙ ap (λ p. later (later (form_at (choices_in x.form) p))) y.named ∙ ap (λ f. later (later (or_nothing f))) y.text in
-      ap₂ (λ n xs. map (C.mark_way n k) xs) first y.alone.alone ∙ ap one_way (stored ∙ ap (stored_by d.declared.columns k) (sym text)) where
+      ap₂ (λ n xs. map (C.mark_way n k) xs) first y.left.alone ∙ ap one_way (stored ∙ ap (stored_by d.declared.columns k) (sym text)) where
         one_way : List ℕ → List C.Way
         one_way cs = record { asked = C.asked_of k; columns = cs } ∷ []

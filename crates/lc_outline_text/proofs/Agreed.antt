@@ -27,10 +27,17 @@ use Rattle.lc_spec_text.specs.Scopes.{Columns, client}
 use Rattle.lc_spec_text.specs.Specifications.{column_reading, columns_reading, columns_in, operations_reading, specification_parts_reading, the_specification, specification_reading}
 use Rattle.lc_rider_text.specs.Counted.{Goes}
 use Rattle.lc_outline_text.proofs.Fitting.{same_number}
-use Rattle.lc_outline_text.proofs.Going.{row_counted, AreWaysOf, goes_so, ways_said}
+use Rattle.lc_outline_text.proofs.Going.{AreWaysOf, goes_so, ways_said}
 use Rattle.lc_outline_text.specs.Declarations.{branches_in, ways_in}
 
 -- ---- what the specification says
+
+-- there are as many as items
+row_counted : {X : Type 0} (read : List (List ℕ) → ℕ → Tree → Reading X) (declares : Tree → List (List ℕ)) (before : List (List ℕ)) (m : ℕ) (ts : Trees) → Holds (λ xs. length xs ≡ tree_count ts) (declared_reading read declares before m ts)
+row_counted read declares before m none = refl
+row_counted read declares before m (t ▸ ts) =
+    both_holds (λ x. Unit {0}) (λ xs. length xs ≡ tree_count ts) (λ xs. length xs ≡ tree_count (t ▸ ts)) (λ x xs. x ∷ xs) (read before m t) _ (anything (read before m t))
+    (row_counted read declares (before ++ declares t) (m + item_count t) ts) (λ x xs h g. ap suc g)
 
 -- each of a row
 each_declared : {X : Type 0} (P : ℕ → Tree → X → Type 0) (read : List (List ℕ) → ℕ → Tree → Reading X) (declares : Tree → List (List ℕ)) → ((before : List (List ℕ)) (i n : ℕ) (t : Tree) → Holds (P i t) (read before n t))
