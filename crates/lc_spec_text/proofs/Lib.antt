@@ -5,3 +5,4 @@ pub mod Behind
 pub mod Apart
 pub mod Named
 pub mod Resolved
+pub mod Ways
