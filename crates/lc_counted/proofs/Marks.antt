@@ -2,7 +2,8 @@
 use Rattle.std.proofs.Common.{◌≡◌, ℕ, zero, suc, ◌<◌, Bool, true, false, List, [], ◌∷◌, map, length, Option, Some, None, refl, sym, ap, ap₂, ◌∙◌, subst, arith}
 use Rattle.std.proofs.lemmas.Bool.{eqb-true}
 use Rattle.std.proofs.lemmas.List.{length-map}
-use Rattle.std.specs.Prelude.{codes, not, slice_get}
+use Rattle.std.proofs.lemmas.Option.{slice_get-map}
+use Rattle.std.specs.Prelude.{codes, not, option_map, slice_get}
 use Rattle.lc_sexp.specs.Trees.{Trees, none, ◌▸◌}
 use Rattle.lc_reading.proofs.Places.{place_below}
 use Rattle.lc_reading.specs.Listed.{place_of}
@@ -32,9 +33,7 @@ use Rattle.lc_counted.proofs.Ways.{way_of}
 -- ---- lists
 
 mapped_there : {X Y : Type 0} (f : X → Y) (xs : List X) (k : ℕ) (x : X) → slice_get xs k ≡ Some x → slice_get (map f xs) k ≡ Some (f x)
-mapped_there f [] k x e = absurd (cc)
-mapped_there f (y ∷ xs) zero x e = let same : y ≡ x = cc in ap (λ z. Some (f z)) same
-mapped_there f (y ∷ xs) (suc k) x e = mapped_there f xs k x e
+mapped_there f xs k x e = slice_get-map f xs k ∙ ap (option_map f) e
 
 found_there : {X : Type 0} (xs : List X) (k : ℕ) → k < length xs → (x : X) × (slice_get xs k ≡ Some x)
 found_there [] k few = absurd (omega (arith, few))

@@ -1,5 +1,6 @@
 -- An operation that is read goes as its text says: by branches, or by choices.
-use Rattle.std.proofs.Common.{◌≡◌, ℕ, Bool, true, false, cond, List, [], ◌∷◌, map, length, Option, Some, None, refl, sym, ap, ap₂, ◌∙◌}
+use Rattle.std.proofs.Common.{◌≡◌, ℕ, ◌<◌, Bool, true, false, cond, List, [], ◌∷◌, map, length, Option, Some, None, refl, sym, ap, ap₂, ◌∙◌, arith}
+use Rattle.std.proofs.lemmas.Bool.Decides.{nat_tests}
 use Rattle.std.proofs.lemmas.List.{length-map}
 use Rattle.std.specs.Prelude.{codes, nat_lt, slice_get}
 use Rattle.lc_sexp.specs.Parts.{fits, misshapen}
@@ -82,9 +83,12 @@ labels_same (t ▸ ts) (b ∷ bs) ((us, e, h), g) =
 
 -- ---- how the operation goes
 
+above : (n : ℕ) → 0 < n → nat_lt 0 n ≡ true
+above n h = grind (arith, nat_tests)
+
 some_named : (ts : Trees) (bs : List Branch) → HaveLabels (choices_of ts) bs → has_some bs ≡ true → has_choices (ways_of ts) ≡ true
 some_named ts [] h some = absurd (cc)
-some_named ts (b ∷ bs) h some = ap (λ (ws : List (List ℕ)). nat_lt 0 (length ws)) h.0
+some_named ts (b ∷ bs) h some = let e = ap length h.0 in above (length (map first_text (choices_of ts))) (omega (arith, e))
 
 -- where it goes by no choices, the first form is none
 pub none_first : (ts : Trees) (bs : List Branch) → AreWaysOf ts bs → has_choices (ways_of ts) ≡ false → begin_with_choice ts ≡ false

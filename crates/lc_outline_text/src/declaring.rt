@@ -6,7 +6,8 @@ ghost use Rattle.lc_object_text.specs.Seen.{sections_seen, forms_left};
 ghost use Rattle.lc_reading.specs.TableView.{listed};
 ghost use Rattle.lc_rider_text.specs.KnownView.{ways_seen};
 ghost use Rattle.lc_outline_text.specs.Declarations.{branches_in, choices_in, parameter_count, ways_in, declarations_in, form_at};
-ghost use Rattle.lc_outline_text.specs.DeclarationsView.{rests_of, lists_of_rests, declarations_seen};
+ghost use Rattle.lc_outline_text.specs.DeclarationsView.{declarations_seen};
+ghost use Rattle.lc_outline_text.specs.Rests.{rests_of, lists_of_rests};
 
 use crate::declarations::Declarations;
 use lc_base::OutOfMemory;

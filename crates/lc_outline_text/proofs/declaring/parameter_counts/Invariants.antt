@@ -1,6 +1,6 @@
 use Rattle.std.proofs.Common.{◌≡◌, map, take}
 use Rattle.lc_outline_text.specs.Declarations.{parameter_count}
-use Rattle.lc_outline_text.specs.DeclarationsView.{rests_of}
+use Rattle.lc_outline_text.specs.Rests.{rests_of}
 use Rattle.lc_outline_text.proofs.declaring.parameter_counts.Given as goal
 
 -- the counts so far

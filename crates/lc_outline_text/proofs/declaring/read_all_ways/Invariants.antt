@@ -1,7 +1,7 @@
 use Rattle.std.proofs.Common.{◌≡◌, map, take}
 use Rattle.lc_rider_text.specs.KnownView.{ways_seen}
 use Rattle.lc_outline_text.specs.Declarations.{ways_in, choices_in}
-use Rattle.lc_outline_text.specs.DeclarationsView.{rests_of, lists_of_rests}
+use Rattle.lc_outline_text.specs.Rests.{rests_of, lists_of_rests}
 use Rattle.lc_outline_text.proofs.declaring.read_all_ways.Given as goal
 
 -- those of the operations so far
