@@ -1,5 +1,6 @@
 pub mod Agreed
 pub mod Assembled
+mod Chosen
 mod CodeAlone
 mod Counting
 mod FileReads
