@@ -1,4 +1,4 @@
-use Rattle.std.proofs.Common.{◌≡◌, ℕ, ◌+◌, List, map, Some, ap, ◌∙◌}
+use Rattle.std.proofs.Common.{ℕ, ◌+◌, List, map, Some, ap, ◌∙◌}
 use Rattle.std.specs.Prelude.{sum, sum_by}
 use Rattle.lc_sexp.specs.Shown.{rest_of}
 use Rattle.lc_object_text.specs.DeclaredView.{body_seen}
