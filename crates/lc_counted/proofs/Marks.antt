@@ -117,8 +117,8 @@ module _ (d : Declarations) (D : Development) (first : first_system D ≡ length
       let x = at o few in
       let bs = op_branches D.specification.operations o in
       let known : own_ways d o ≡ Some (ways_in x.form) = mapped_there ways_in d.operations o x.form x.there in
-      let (no, left) = all_left (ways_in x.form) bs (goes_so (branches_in x.form) bs x.ways) by (subst (λ w. IsInOrder w by) known h) in
-      ap₂ (λ n xs. map (C.mark_way n k) xs) first left ∙ marked d.declared.columns k (branches_in x.form) bs (x.said.branches (none_first (branches_in x.form) bs x.ways no))
+      let (unnamed, left) = all_left (ways_in x.form) bs (goes_so (branches_in x.form) bs x.ways) by (subst (λ w. IsInOrder w by) known h) in
+      ap₂ (λ n xs. map (C.mark_way n k) xs) first left ∙ marked d.declared.columns k (branches_in x.form) bs (x.said.branches (none_first (branches_in x.form) bs x.ways unnamed))
       ∙ ap (λ f. map way_of (mark_ways (stored_by d.declared.columns k) (C.asked_of k) (branches_in (or_nothing f)))) (sym x.there)
 
   pub by_name_said : (k : Marking) (o : ℕ) → o < length d.declared.operations → (name : List ℕ) (terms : List Term) → is_choosing (own_ways d o) (ByName name terms) ≡ true

@@ -236,12 +236,12 @@ module _ (d : Declarations) (o : ℕ) where
   rider_said names n (list (list us ▸ ts)) = tt
   rider_said names n (list (atom w ▸ ts)) = by_word (is w (codes "when")) where
     by_word : (b : Bool) → Holds (HasRiderWays d o (cond b (when_ways ts) (Z.ways_with d o w ts)))
-        (cond b (mapped where_holds (when_reading (known_of d) names (own_ways d o) n (n + 2) ts)) (mapped always (deed_with (known_of d) names n (n + 2) ts (head_of w))))
+        (cond b (mapped where_holds (when_reading (known_of d) names (own_ways d o) n (n + 2) ts)) (mapped always (deed_with (known_of d) names (own_ways d o) n (n + 2) ts (head_of w))))
     by_word true =
         mapped_holds (λ (p : Formula × Deed). HasWays d o (Z.deed_ways d o (within_first (later ts))) p.1) (HasRiderWays d o (when_ways ts)) where_holds (when_reading (known_of d) names (own_ways d o) n (n + 2) ts) (when_said names n (n + 2) ts)
         (λ p h D a few. ap (λ l. l ++ C.no_way ∷ []) (h D a few) ∙ sym (map-append way_of (Z.deed_ways d o (within_first (later ts))) (Z.no_way ∷ [])))
     by_word false =
-        mapped_holds (HasWays d o (Z.ways_with d o w ts)) (HasRiderWays d o (Z.ways_with d o w ts)) always (deed_with (known_of d) names n (n + 2) ts (head_of w)) (begun_said names n (n + 2) w ts) (λ x h. h)
+        mapped_holds (HasWays d o (Z.ways_with d o w ts)) (HasRiderWays d o (Z.ways_with d o w ts)) always (deed_with (known_of d) names (own_ways d o) n (n + 2) ts (head_of w)) (begun_said names n (n + 2) w ts) (λ x h. h)
 
   abbrev HaveWays : Trees → List Rider → Type 0
   HaveWays ts rs = (D : Development) → Agrees d D → o < length d.declared.operations → map (C.rider_ways D o) rs ≡ map (map way_of) (Z.all_ways d o ts)
@@ -300,7 +300,7 @@ pub ons_said : (d : Declarations) (o : ℕ) (names : Names) (edges : Edges) (m :
 ons_said d o names edges m none = tt
 ons_said d o names edges m (t ▸ ts) =
     both_holds (IsForm (codes "on") (IsOnOf d o) t) (Alike (IsOnOf d o) (forms_in (codes "on") ts)) (Alike (IsOnOf d o) (forms_in (codes "on") (t ▸ ts))) cons (on_reading (known_of d) names (own_ways d o) edges m t)
-    (ons_reading (known_of d) names (own_ways d o) (without edges (edge_in t)) (m + item_count t) ts) (on_said d o names edges m t) (ons_said d o names (own_ways d o) (without edges (edge_in t)) (m + item_count t) ts)
+    (ons_reading (known_of d) names (own_ways d o) (without edges (edge_in t)) (m + item_count t) ts) (on_said d o names edges m t) (ons_said d o names (without edges (edge_in t)) (m + item_count t) ts)
     (λ x xs h g. subst (λ f. Alike (IsOnOf d o) (before_others f (forms_in (codes "on") ts)) (x ∷ xs)) (sym h.0) (h.1, g))
 
 -- ---- the edge of a kind
