@@ -123,7 +123,7 @@ module _ (d : Declarations) (D : Development) (first : first_system D ≡ length
 
   pub by_name_said : (k : Marking) (o : ℕ) → o < length d.declared.operations → (name : List ℕ) (terms : List Term) → is_choosing (own_ways d o) (ByName name terms) ≡ true
       → map (C.mark_way (first_system D) k) (chosen (ByName name terms) (op_branches D.specification.operations o))
-          ≡ map way_of (choice_ways (stored_by d.declared.columns k) (C.asked_of k) (choice_named (form_at d.operations (Some o)) name))
+      ≡ map way_of (choice_ways (stored_by d.declared.columns k) (C.asked_of k) (choice_named (form_at d.operations (Some o)) name))
   by_name_said k o few name terms h =
       let x = at o few in
       let known : own_ways d o ≡ Some (ways_in x.form) = mapped_there ways_in d.operations o x.form x.there in

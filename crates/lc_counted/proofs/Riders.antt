@@ -56,7 +56,7 @@ pub record Agrees (d : Declarations) (D : Development) : Type 0 where
       map (C.mark_way (first_system D) k) (chosen by (op_branches D.specification.operations o)) ≡ map way_of (mark_ways (stored_by d.declared.columns k) (C.asked_of k) (branches_in (form_at d.operations (Some o))))
   pub by_name : (k : Marking) (o : ℕ) → o < length d.declared.operations → (name : List ℕ) (terms : List Term) → is_choosing (own_ways d o) (ByName name terms) ≡ true →
       map (C.mark_way (first_system D) k) (chosen (ByName name terms) (op_branches D.specification.operations o))
-          ≡ map way_of (choice_ways (stored_by d.declared.columns k) (C.asked_of k) (choice_named (form_at d.operations (Some o)) name))
+      ≡ map way_of (choice_ways (stored_by d.declared.columns k) (C.asked_of k) (choice_named (form_at d.operations (Some o)) name))
   pub acted : (w : List ℕ) (a : ℕ) → place_of (map first_text d.actions) w ≡ Some a → option_map (λ (x : Action). columns_of x.updates) (slice_get D.actions a) ≡ Some (Z.columns_acted d w)
 
 -- ---- names
@@ -165,8 +165,8 @@ module _ (d : Declarations) (o : ℕ) where
   own_by_said k same names n m ts =
       mapped_holds (IsSaidBy (own_ways d o) ts) (HasWays d o (choice_ways (stored_by d.declared.columns k) (C.asked_of k) (choice_named own (first_text ts)))) (Marks k) _ (by_said names (own_ways d o) n m ts)
       (λ by h D a few.
-          let marked = λ (p : ℕ) (c : Chosen Term). map (C.mark_way (first_system D) k) (chosen c (op_branches D.specification.operations p)) in
-          ap₂ marked (same o) h.0.1 ∙ a.by_name k o few (first_text ts) h.0.0 (subst (λ c. is_choosing (own_ways d o) c ≡ true) h.0.1 h.1))
+      let marked = λ (p : ℕ) (c : Chosen Term). map (C.mark_way (first_system D) k) (chosen c (op_branches D.specification.operations p)) in
+      ap₂ marked (same o) h.0.1 ∙ a.by_name k o few (first_text ts) h.0.0 (subst (λ c. is_choosing (own_ways d o) c ≡ true) h.0.1 h.1))
 
   -- another client's call is marked
   others_said : (names : Names) (n m : ℕ) (ts : Trees) → Holds (HasWays d o (other_ways ts)) (lin_other_reading (known_of d) names n m ts)
@@ -189,9 +189,9 @@ module _ (d : Declarations) (o : ℕ) where
       both_holds (IsOtherAt (known_of d) u) (IsSaidBy ways ts) (HasWays d o (other_by_ways (t ▸ u ▸ ts))) mark_of_other (other_reading (known_of d) names m t (m + item_count t) u) (by_reading names ways n k ts)
       (other_said (known_of d) names m t (m + item_count t) u) (by_said names ways n k ts)
       (λ p by h g D a few.
-          let choosing : is_choosing (own_ways d p.1) (ByName (first_text ts) g.0.0) ≡ true = subst (λ ways. is_choosing ways (ByName (first_text ts) g.0.0) ≡ true) h.1.1 (subst (λ c. is_choosing ways c ≡ true) g.0.1 g.1) in
-          ap (λ c. map (C.mark_way (first_system D) (Other p.0 p.1)) (chosen c (op_branches D.specification.operations p.1))) g.0.1
-          ∙ a.by_name (Other p.0 p.1) p.1 h.1.0 (first_text ts) g.0.0 choosing ∙ ap (λ q. map way_of (choice_ways settled 3 (choice_named (form_at d.operations q) (first_text ts)))) (sym h.0))
+      let choosing : is_choosing (own_ways d p.1) (ByName (first_text ts) g.0.0) ≡ true = subst (λ ways. is_choosing ways (ByName (first_text ts) g.0.0) ≡ true) h.1.1 (subst (λ c. is_choosing ways c ≡ true) g.0.1 g.1) in
+      ap (λ c. map (C.mark_way (first_system D) (Other p.0 p.1)) (chosen c (op_branches D.specification.operations p.1))) g.0.1
+      ∙ a.by_name (Other p.0 p.1) p.1 h.1.0 (first_text ts) g.0.0 choosing ∙ ap (λ q. map way_of (choice_ways settled 3 (choice_named (form_at d.operations q) (first_text ts)))) (sym h.0))
 
   begun_said : (names : Names) (n m : ℕ) (w : List ℕ) (ts : Trees) → Holds (HasWays d o (Z.ways_with d o w ts)) (deed_with (known_of d) names (own_ways d o) n m ts (head_of w))
   begun_said names n m w ts =

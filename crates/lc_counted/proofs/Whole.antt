@@ -1,5 +1,5 @@
 -- A development has as many conditions as are counted from the forms that say it.
-use Rattle.std.proofs.Common.{◌≡◌, ℕ, zero, suc, ◌+◌, ◌*◌, ◌≤◌, List, [], ◌∷◌, ◌++◌, map, length, append_assoc, Some, refl, sym, ap, ap₂, ◌∙◌, subst, arith}
+use Rattle.std.proofs.Common.{◌≡◌, ℕ, ◌+◌, ◌*◌, ◌≤◌, List, ◌++◌, map, length, append_assoc, refl, sym, ap, ap₂, ◌∙◌, subst, arith}
 use Rattle.std.proofs.lemmas.List.{length-map}
 use Rattle.std.specs.Prelude.{codes, slice_get, sum_by}
 use Rattle.lc_sexp.specs.Parts.{fits, form_fit}
@@ -9,8 +9,7 @@ use Rattle.lc_reading.proofs.Holding.{Holds, held, anything, both_holds, ended_h
 use Rattle.lc_reading.specs.Readings.{fine}
 use Rattle.lc_text.specs.Terms.{pair}
 use Rattle.lc_term.specs.Lists.{concat_map, concat_places}
-use Rattle.lc_seq.specs.Branches.{op_branches}
-use Rattle.lc_seq.specs.Specification.{Branch, Operation, Specification}
+use Rattle.lc_seq.specs.Specification.{Operation, Specification}
 use Rattle.lc_spec_text.specs.Specifications as Q
 use Rattle.lc_object.specs.Edges.{edges}
 use Rattle.lc_object.specs.Syntax.{Point}
@@ -19,10 +18,8 @@ use Rattle.lc_object_text.proofs.Holding.{Each}
 use Rattle.lc_object_text.specs.ObjectNames.{first_text, later, call_of, parts_in_first, names_of_columns, columns_of_arrays, spans_from, bodies_due, abstracts_in, arrays_in, auxiliaries_in, operations_in, declared_in_sections}
 use Rattle.lc_object_text.specs.Objects as O
 use Rattle.lc_object_text.specs.Sections.{Sections, items_of_fit, items_in, behind_item, behind_first, parts_in, some_forms_in, sections_of}
-use Rattle.lc_rider.specs.Rider.{Marking}
-use Rattle.lc_outline.specs.Development.{Development, Outline, first_system}
+use Rattle.lc_outline.specs.Development.{Development, Outline}
 use Rattle.lc_cond.specs.Conditions.{conditions}
-use Rattle.lc_cond.specs.Sizes as C
 use Rattle.lc_cond.specs.Sizes.{edge_count, edge_sizes, assert_sizes, count, sizes_of}
 use Rattle.lc_cond.proofs.Sized.{are_counted}
 use Rattle.lc_outline_text.proofs.Assembled.{SpecificationHolds, specification_of_text, ObjectHolds, object_of_text, fits_declared, forms_resolved}
@@ -129,10 +126,10 @@ module _ (s : Sections) (p : O.SpecificationText × Specification) (o : Parts) (
         columns = fit.columns;
         own = λ o q is. omega (arith, fit.counted, matched_below D.object.operations D.specification.operations o q fit.matched is);
         agrees = record {
-            in_order = in_order_said d D fit.columns (length-map d.operations first_text) h.0.goes h.1;
-            by_name = by_name_said d D fit.columns (length-map d.operations first_text) h.0.goes h.1;
-            acted = acted_said d D.actions sides.actions;
-          };
+          in_order = in_order_said d D fit.columns (length-map d.operations first_text) h.0.goes h.1;
+          by_name = by_name_said d D fit.columns (length-map d.operations first_text) h.0.goes h.1;
+          acted = acted_said d D.actions sides.actions;
+        };
         arrays = array_said d.declared D.object.arrays spans;
       }
 
