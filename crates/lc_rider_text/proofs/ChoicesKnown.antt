@@ -5,7 +5,7 @@ use Rattle.std.proofs.lemmas.Option.{slice_get-get_or}
 use Rattle.std.specs.List.{list_all}
 use Rattle.std.specs.Prelude.{slice_get}
 use Rattle.lc_base.specs.NameText.{is_name}
-use Rattle.lc_sexp.specs.Trees.{Tree, Trees, atom, list, none, ◌▸◌, item_count}
+use Rattle.lc_sexp.specs.Trees.{Trees, atom, list, none, ◌▸◌, item_count}
 use Rattle.lc_outline.specs.Resolved.{has_some}
 use Rattle.lc_reading.proofs.Holding.{Holds, anything, weaker, mapped_holds, both_holds, if_holds, counted_holds}
 use Rattle.lc_reading.proofs.Places.{place_below}
@@ -98,7 +98,7 @@ choice_known names (Some ways) n m (atom w ▸ ts) =
     (mapped_holds (λ j. place_of ways.choices w ≡ Some j) (IsNamed ways w) (λ k. w) _ (use_placed ways.choices m w) (λ j e. (refl, (j, e))))
     (arguments_counted names (entry_at ways.parameters (place_of ways.choices w)) n (m + 1) ts)
     (λ v args (e, (j, at)) g.
-        (refl, ap (is_choice_at ways (length args)) (ap (place_of ways.choices) e ∙ at) ∙ met (slice_get ways.parameters j) (length args) (λ k due. g k (ap (entry_at ways.parameters) at ∙ due))))
+    (refl, ap (is_choice_at ways (length args)) (ap (place_of ways.choices) e ∙ at) ∙ met (slice_get ways.parameters j) (length args) (λ k due. g k (ap (entry_at ways.parameters) at ∙ due))))
 choice_known names (Some ways) n m (list us ▸ ts) =
     both_holds (λ v. ⊥) (λ args. Unit {0}) (IsByName (Some ways)) ByName (wrong Shape m) _ tt (anything (arguments_reading names None n (m + item_count (list us)) ts)) (λ v args h g. absurd h)
 
@@ -145,6 +145,7 @@ pub some_left : (ways : Option Ways) (bs : List Branch) → Goes ways bs → has
 some_left ways bs (w, same, h) some by g = by_kind (is_in_order by) refl where
   left : is_choosing (Some w) by ≡ true
   left = subst (λ o. is_choosing o by ≡ true) same g
+
   by_kind : (b : Bool) → is_in_order by ≡ b → has_some (chosen by bs) ≡ true
   by_kind true e = ap has_some (all_left w bs h by (e, left)) ∙ some
   by_kind false e = some_of_one (chosen by bs) (one_left w bs h by (e, left))

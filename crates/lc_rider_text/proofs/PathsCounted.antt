@@ -9,7 +9,7 @@ use Rattle.lc_reading.specs.Words.{is}
 use Rattle.lc_rider.specs.Paths.{Path, with_fact, branch_variables, branch_paths, owing, choice_paths, marked_client, deed_paths, deed_paths_where, rider_paths, paths, marked_op}
 use Rattle.lc_rider.specs.Rider.{Marking, Deed, Assign, Marks, Rider, Own, Note}
 use Rattle.lc_seq.specs.Branches.{op_branches, arity}
-use Rattle.lc_seq.specs.Sequential.{Chosen, given_in}
+use Rattle.lc_seq.specs.Sequential.{given_in}
 use Rattle.lc_seq.specs.Specification.{Branch, Operation, chosen}
 use Rattle.lc_term.specs.Lists.{concat_map}
 use Rattle.lc_term.specs.Replacement.{replacing, replace_term}
@@ -17,7 +17,7 @@ use Rattle.lc_term.specs.Said.{told, term_at}
 use Rattle.lc_term.specs.Syntax.{Term, Formula, Not}
 use Rattle.lc_text.specs.Formulas.{formula_reading}
 use Rattle.lc_text.specs.Names.{Names}
-use Rattle.lc_text.specs.Terms.{pair, term_reading}
+use Rattle.lc_text.specs.Terms.{pair}
 use Rattle.lc_object_text.specs.Rows.{cons, placed_reading}
 use Rattle.lc_rider_text.proofs.ChoicesKnown.{IsInOrder, IsByName, in_order_known, by_known, in_order_counted, by_name_counted}
 use Rattle.lc_rider_text.proofs.RidersKnown.{IsOther, other_known}

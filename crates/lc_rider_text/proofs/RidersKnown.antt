@@ -10,8 +10,8 @@ use Rattle.lc_outline.specs.Development.{On}
 use Rattle.lc_outline.specs.Resolved.{condition_is_resolved, has_some}
 use Rattle.lc_reading.proofs.Holding.{Holds, anything, mapped_holds, both_holds, three_holds, ended_holds, limited_holds, if_holds, listed_holds, behind_holds, and_true}
 use Rattle.lc_reading.specs.Listed.{place_of}
-use Rattle.lc_reading.specs.Naming.{within, known, use_reading}
-use Rattle.lc_reading.specs.Readings.{Reading, fine, flawed, wrong, both}
+use Rattle.lc_reading.specs.Naming.{within, use_reading}
+use Rattle.lc_reading.specs.Readings.{Reading, fine, wrong, both}
 use Rattle.lc_reading.specs.Reserved.{is_action_name}
 use Rattle.lc_reading.specs.Words.{is, is_long}
 use Rattle.lc_reading.specs.declared.pass.Pass.TheVariants.{Shape, Bound}

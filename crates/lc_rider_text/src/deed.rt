@@ -7,7 +7,9 @@ pub(crate) enum Deed {
     /// A value is stored.
     Assign(Update),
     /// The client's own call takes effect.
-    LinSelf { by: Choosing },
+    LinSelf {
+        by: Choosing,
+    },
     /// The call of this operation by another client takes effect.
     LinOther {
         client: Term,
@@ -15,7 +17,9 @@ pub(crate) enum Deed {
         by: Choosing,
     },
     /// The replies of the client's own call are noted.
-    Note { by: Choosing },
+    Note {
+        by: Choosing,
+    },
 }
 
 // Written out, so that a place where a deed is let go has one call.

@@ -41,7 +41,12 @@ fn other_ways(known: Known<'_, '_>, list: Cursor<'_>) -> u64
 
 /// In how many ways a list's other parts are done, if it begins so, in the body of an operation that goes so, if it is known; up
 /// to the cap.
-fn ways_with(known: Known<'_, '_>, own: Option<&Ways<'_>>, head: Option<Head>, list: Cursor<'_>) -> u64
+fn ways_with(
+    known: Known<'_, '_>,
+    own: Option<&Ways<'_>>,
+    head: Option<Head>,
+    list: Cursor<'_>,
+) -> u64
     ensures { result ≡ min 65 (ways_with (known_seen known.entry) (ways_there own.entry) (rest_of list.entry) head) }
 {
     match head {

@@ -25,7 +25,9 @@ use crate::update::{Stores, read_update};
 use crate::words::{Head, head_of};
 use lc_base::OpId;
 use lc_object_text::{ReadsPlaced, read_placed};
-use lc_reading::{Part, Pass, ReadFault, both, ended, headed, limited, next_part, read_use, two, wrong};
+use lc_reading::{
+    Part, Pass, ReadFault, both, ended, headed, limited, next_part, read_use, two, wrong,
+};
 use lc_rider::{Choosing, Rider, When};
 use lc_sexp::{Cursor, Item};
 use lc_term::{Term, Update};
