@@ -122,7 +122,13 @@ fn ways_with(
         }
         "lin-other-by" => {
             let name = first_text(&behind_first(behind_first(list)));
-            choice_ways(alloc, columns, false, 3, declarations.choice_named(other, name))
+            choice_ways(
+                alloc,
+                columns,
+                false,
+                3,
+                declarations.choice_named(other, name),
+            )
         }
         "note-by" => {
             let choice = declarations.choice_named(own, first_text(&list));
