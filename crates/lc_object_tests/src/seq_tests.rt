@@ -3,9 +3,7 @@ ghost use Rattle.std.specs.Prelude.{length};
 ghost use Rattle.lc_seq.specs.TextView.{IsStateOf};
 
 use lc_base::{Name, OpId, OutOfMemory};
-use lc_seq::{
-    Branch, Label, Operation, Pick, SeqFault, SeqObject, TextCall, TextSpec, TextState,
-};
+use lc_seq::{Branch, Label, Operation, Pick, SeqFault, SeqObject, TextCall, TextSpec, TextState};
 use lc_spec_text::spec_of;
 use lc_term::{Formula, Term};
 use std::alloc::Global;
