@@ -39,6 +39,7 @@ use Rattle.lc_spec_text.proofs.Named.{operations_differ}
 use Rattle.lc_spec_text.proofs.Places.{placed_below}
 use Rattle.lc_spec_text.specs.Scopes.{Columns, client, branch_names}
 use Rattle.lc_spec_text.specs.Branches.{stored, written_reading, the_update, update_parts_reading, update_reading, updates_reading, replies_reading, the_branch, branch_parts_reading, branch_reading}
+use Rattle.lc_spec_text.specs.Choices.{parameters_reading, parameters_in, label_reading, choice_parts_reading, the_choice, choice_reading, begin_with_choice, ways_reading}
 use Rattle.lc_spec_text.specs.Operations.{natural, few, count_reading, count_in, fitting_natural, arguments_reading, variables_in, operation_parts_reading, the_operation, operation_reading}
 use Rattle.lc_spec_text.specs.Specifications.{the_column, column_reading, columns_reading, columns_in, specification_parts_reading, the_specification, specification_reading}
 
@@ -189,6 +190,12 @@ branch_holds columns variables count n t =
 abbrev AllBranched : ℕ → ℕ → Option ℕ → List Branch → Type 0
 AllBranched c v count bs = (list_all (resolved_behind c v) bs ≡ true) × ((k : ℕ) → count ≡ Some k → list_all (λ (b : Branch). length b.replies == k) bs ≡ true)
 
+more_branched : (c v : ℕ) (count : Option ℕ) (b : Branch) (bs : List Branch) → Branched c v count b → AllBranched c v count bs → AllBranched c v count (b ∷ bs)
+more_branched c v count b bs h g = (
+  and_true (resolved_behind c v b) (list_all (resolved_behind c v) bs) h.0 g.0,
+  λ k e. and_true (length b.replies == k) (list_all (λ (b : Branch). length b.replies == k) bs) (eq-eqb (length b.replies) k (h.1 k e)) (g.1 k e),
+)
+
 branches_hold : (columns : Columns) (variables : List (List ℕ)) (count : Option ℕ) (m : ℕ) (ts : Trees)
     → Holds (AllBranched (length columns.own) (suc (length variables)) count) (each_reading (branch_reading columns (branch_names columns.own variables) count) m ts)
 branches_hold columns variables count m none = (refl, λ k e. refl)
@@ -196,11 +203,64 @@ branches_hold columns variables count m (t ▸ ts) =
     let c = length columns.own in
     let v = suc (length variables) in
     both_holds (Branched c v count) (AllBranched c v count) (AllBranched c v count) (λ b bs. b ∷ bs) _ _
-    (branch_holds columns variables count m t) (branches_hold columns variables count (m + item_count t) ts)
-    (λ b bs h g. (
-      and_true (resolved_behind c v b) (list_all (resolved_behind c v) bs) h.0 g.0,
-      λ k e. and_true (length b.replies == k) (list_all (λ (b : Branch). length b.replies == k) bs) (eq-eqb (length b.replies) k (h.1 k e)) (g.1 k e),
-    ))
+    (branch_holds columns variables count m t) (branches_hold columns variables count (m + item_count t) ts) (more_branched c v count)
+
+-- choices
+one_name : (limit : Option ℕ) (before : List (List ℕ)) (n : ℕ) (t : Tree) → Holds (λ w. length (declared_by t) ≡ 1) (name_reading limit before n t)
+one_name limit before n (list ts) = tt
+one_name limit before n (atom w) = always (name_reading limit before n (atom w)) where
+  always : (r : Reading (List ℕ)) → Holds (λ v. length (declared_by (atom w)) ≡ 1) r
+  always (fine v) = refl
+  always (flawed f) = tt
+
+parameters_hold : (variables : List (List ℕ)) (n : ℕ) (t : Tree) → Holds (λ ws. length ws ≡ length (parameters_in t)) (parameters_reading variables n t)
+parameters_hold variables n (atom w) = tt
+parameters_hold variables n (list ts) = let limit = Some (3 + length variables) in declared_counts (name_reading limit) declared_by (one_name limit) variables (n + 1) ts
+
+label_holds : (variables before : List (List ℕ)) (m : ℕ) (a b : Tree) → Holds (λ l. length l.1 ≡ length (parameters_in b)) (label_reading variables before m a b)
+label_holds variables before m a b =
+    both_holds (λ w. Unit {0}) (λ ws. length ws ≡ length (parameters_in b)) (λ l. length l.1 ≡ length (parameters_in b)) pair (name_reading None before m a) (parameters_reading variables (m + item_count a) b)
+    (anything (name_reading None before m a)) (parameters_hold variables (m + item_count a) b) (λ w ws h g. g)
+
+behind : (vs ps : List (List ℕ)) (n : ℕ) → n ≡ length ps → suc (length (vs ++ ps)) + 0 ≡ suc (length vs) + n
+behind vs ps n e = omega (arith, e, length-append vs ps)
+
+choice_parts_hold : (columns : Columns) (variables : List (List ℕ)) (count : Option ℕ) (before : List (List ℕ)) (n m : ℕ) (ts : Trees)
+    → Holds (λ p. Branched (length columns.own) (suc (length variables)) count (the_choice p)) (choice_parts_reading columns variables count before n m ts)
+choice_parts_hold columns variables count before n m none = tt
+choice_parts_hold columns variables count before n m (a ▸ none) = tt
+choice_parts_hold columns variables count before n m (a ▸ b ▸ none) = tt
+choice_parts_hold columns variables count before n m (a ▸ b ▸ t ▸ none) = tt
+choice_parts_hold columns variables count before n m (a ▸ b ▸ t ▸ u ▸ none) = tt
+choice_parts_hold columns variables count before n m (a ▸ b ▸ t ▸ u ▸ x ▸ ts) =
+    let c = length columns.own in
+    let v = suc (length variables) in
+    let all = variables ++ parameters_in b in
+    both_holds (λ (l : List ℕ × List (List ℕ)). length l.1 ≡ length (parameters_in b)) (λ q. Branched c (suc (length all)) count (the_branch q)) (λ p. Branched c v count (the_choice p)) pair
+    (label_reading variables before m a b) _
+    (label_holds variables before m a b) (branch_parts_hold columns all count n (m + item_count a + item_count b) (t ▸ u ▸ x ▸ ts))
+    (λ l q h g. (subst (λ k. branch_is_resolved c k (the_branch q) ≡ true) (behind variables (parameters_in b) (length l.1) h) g.0, g.1))
+
+choice_holds : (columns : Columns) (variables : List (List ℕ)) (count : Option ℕ) (before : List (List ℕ)) (n : ℕ) (t : Tree)
+    → Holds (Branched (length columns.own) (suc (length variables)) count) (choice_reading columns variables count before n t)
+choice_holds columns variables count before n t =
+    let P = Branched (length columns.own) (suc (length variables)) count in
+    let N = choice_parts_reading columns variables count before in
+    mapped_holds (λ p. P (the_choice p)) P the_choice _ (behind_holds (λ p. P (the_choice p)) (codes "choice") N n t (choice_parts_hold columns variables count before)) (λ p h. h)
+
+choices_hold : (columns : Columns) (variables : List (List ℕ)) (count : Option ℕ) (before : List (List ℕ)) (m : ℕ) (ts : Trees)
+    → Holds (AllBranched (length columns.own) (suc (length variables)) count) (declared_reading (choice_reading columns variables count) second_name before m ts)
+choices_hold columns variables count before m none = (refl, λ k e. refl)
+choices_hold columns variables count before m (t ▸ ts) =
+    let c = length columns.own in
+    let v = suc (length variables) in
+    both_holds (Branched c v count) (AllBranched c v count) (AllBranched c v count) (λ b bs. b ∷ bs) _ _
+    (choice_holds columns variables count before m t) (choices_hold columns variables count (before ++ second_name t) (m + item_count t) ts) (more_branched c v count)
+
+ways_hold : (columns : Columns) (variables : List (List ℕ)) (count : Option ℕ) (m : ℕ) (ts : Trees)
+    → Holds (AllBranched (length columns.own) (suc (length variables)) count) (ways_reading columns variables count m ts)
+ways_hold columns variables count m ts =
+    if_holds (AllBranched (length columns.own) (suc (length variables)) count) (begin_with_choice ts) _ _ (choices_hold columns variables count [] m ts) (branches_hold columns variables count m ts)
 
 -- a count that may stand there is due
 small_fits : (k : ℕ) → nat_lt 3 k ≡ false → fits_i64 (pos k) ≡ true
@@ -232,16 +292,9 @@ count_holds n (atom w) = weaker (few n (natural (integer_of w))) (few_small n (n
   weaker (flawed f) h = tt
 
 -- arguments
-one_argument : (before : List (List ℕ)) (n : ℕ) (t : Tree) → Holds (λ w. length (declared_by t) ≡ 1) (name_reading (Some 4) before n t)
-one_argument before n (list ts) = tt
-one_argument before n (atom w) = always (name_reading (Some 4) before n (atom w)) where
-  always : (r : Reading (List ℕ)) → Holds (λ v. length (declared_by (atom w)) ≡ 1) r
-  always (fine v) = refl
-  always (flawed f) = tt
-
 arguments_hold : (n : ℕ) (t : Tree) → Holds (λ ws. suc (length (variables_in t)) ≡ 2 + length ws) (arguments_reading n t)
 arguments_hold n (atom w) = tt
-arguments_hold n (list ts) = counted (declared_reading (name_reading (Some 4)) declared_by client (n + 1) ts) (declared_counts (name_reading (Some 4)) declared_by one_argument client (n + 1) ts) where
+arguments_hold n (list ts) = counted (declared_reading (name_reading (Some 4)) declared_by client (n + 1) ts) (declared_counts (name_reading (Some 4)) declared_by (one_name (Some 4)) client (n + 1) ts) where
   counted : (r : Reading (List (List ℕ))) → Holds (λ ws. length ws ≡ length (all_declared declared_by ts)) r → Holds (λ ws. suc (length (client ++ all_declared declared_by ts)) ≡ 2 + length ws) r
   counted (fine ws) h = omega (arith, h, length-append client (all_declared declared_by ts))
   counted (flawed f) h = tt
@@ -266,7 +319,7 @@ operation_parts_hold columns before n m (t ▸ u ▸ x ▸ b ▸ bs) =
     both_holds (λ (p : (List ℕ × List (List ℕ)) × ℕ). (v ≡ 2 + length p.0.1) × (count_in x ≡ Some p.1)) (AllBranched c v (count_in x)) (OperationMade c) pair _ _
     (three_holds (λ (w : List ℕ). Unit {0}) (λ ws. v ≡ 2 + length ws) (λ k. count_in x ≡ Some k) (λ (p : (List ℕ × List (List ℕ)) × ℕ). (v ≡ 2 + length p.0.1) × (count_in x ≡ Some p.1)) triple _ _ _
     (anything (name_reading None before m t)) (arguments_hold (m + item_count t) u) (count_holds (m + item_count t + item_count u) x) (λ w ws k h g e. (g, e)))
-    (branches_hold columns (variables_in u) (count_in x) (m + item_count t + item_count u + item_count x) (b ▸ bs))
+    (ways_hold columns (variables_in u) (count_in x) (m + item_count t + item_count u + item_count x) (b ▸ bs))
     (λ p bs h g. operation_made c v (count_in x) p.0.0 p.0.1 p.1 bs h.0 h.1 g)
 
 operation_holds : (columns : Columns) (before : List (List ℕ)) (n : ℕ) (t : Tree) → Holds (λ o. operation_is_resolved (length columns.own) o ≡ true) (operation_reading columns before n t)
@@ -277,13 +330,6 @@ operation_holds columns before n t =
     (behind_holds (OperationMade c) (codes "op") (operation_parts_reading columns before) n t (operation_parts_hold columns before)) (λ p h. h))
 
 -- columns
-one_name : (before : List (List ℕ)) (m : ℕ) (t : Tree) → Holds (λ w. length (declared_by t) ≡ 1) (name_reading None before m t)
-one_name before m (list ts) = tt
-one_name before m (atom w) = always (name_reading None before m (atom w)) where
-  always : (r : Reading (List ℕ)) → Holds (λ v. length (declared_by (atom w)) ≡ 1) r
-  always (fine v) = refl
-  always (flawed f) = tt
-
 column_parts_hold : (before : List (List ℕ)) (n m : ℕ) (ts : Trees) → Holds (λ p. length (first_name (list ts)) ≡ 1) (column_parts_reading before n m ts)
 column_parts_hold before n m none = tt
 column_parts_hold before n m (t ▸ none) = tt
@@ -291,7 +337,7 @@ column_parts_hold before n m (t ▸ u ▸ none) = tt
 column_parts_hold before n m (t ▸ u ▸ x ▸ ts) =
     ended_holds (λ p. length (declared_by t) ≡ 1) _ ts _
     (three_holds (λ w. length (declared_by t) ≡ 1) (λ z. Unit {0}) (λ z. Unit {0}) (λ p. length (declared_by t) ≡ 1) triple _ _ _
-    (one_name before m t) (anything (number_reading (m + item_count t) u)) (anything (number_reading (m + item_count t + item_count u) x)) (λ w z y h g e. h))
+    (one_name None before m t) (anything (number_reading (m + item_count t) u)) (anything (number_reading (m + item_count t + item_count u) x)) (λ w z y h g e. h))
 
 column_list_holds : (before : List (List ℕ)) (n : ℕ) (t : Tree) → Holds (λ p. length (first_name t) ≡ 1) (listed_reading (column_parts_reading before) n t)
 column_list_holds before n (atom w) = tt

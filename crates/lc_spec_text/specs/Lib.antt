@@ -1,5 +1,6 @@
 pub mod Scopes
 pub mod Branches
+pub mod Choices
 pub mod Operations
 pub mod Specifications
 pub mod Seen

@@ -6,12 +6,12 @@ use Rattle.lc_sexp.specs.Trees.{Tree, Trees, atom, list, ◌▸◌, item_count}
 use Rattle.lc_reading.specs.Listed.{declared_by}
 use Rattle.lc_reading.specs.Naming.{is_full, name_reading}
 use Rattle.lc_reading.specs.Readings.{Reading, fine, wrong, mapped, both, three, limited, behind_reading, listed_reading}
-use Rattle.lc_reading.specs.Rows.{each_reading, all_declared, declared_reading}
+use Rattle.lc_reading.specs.Rows.{all_declared, declared_reading}
 use Rattle.lc_reading.specs.declared.pass.Pass.TheVariants.{Shape, Bound}
 use Rattle.lc_text.specs.Terms.{pair, triple}
 use Rattle.lc_seq.specs.Specification.{Branch, Operation}
-use Rattle.lc_spec_text.specs.Scopes.{Columns, client, branch_names}
-use Rattle.lc_spec_text.specs.Branches.{branch_reading}
+use Rattle.lc_spec_text.specs.Choices.{ways_reading}
+use Rattle.lc_spec_text.specs.Scopes.{Columns, client}
 
 -- a number of at least 0
 abbrev pub natural : Option ℤ → Option ℕ
@@ -55,17 +55,17 @@ abbrev pub signature_reading : List (List ℕ) → ℕ → Tree → Tree → Tre
 signature_reading before m t u v =
     three triple (name_reading None before m t) (arguments_reading (m + item_count t) u) (count_reading (m + item_count t + item_count u) v)
 
--- NAME (ARG*) REPLIES BRANCH+: the parts of the list n, numbered from m on
+-- NAME (ARG*) REPLIES, then BRANCH+ or CHOICE+: the parts of the list n, numbered from m on
 abbrev pub operation_parts_reading : Columns → List (List ℕ) → ℕ → ℕ → Trees → Reading (((List ℕ × List (List ℕ)) × ℕ) × List Branch)
 operation_parts_reading columns before n m (t ▸ u ▸ v ▸ b ▸ bs) =
     both pair (signature_reading before m t u v)
-    (each_reading (branch_reading columns (branch_names columns.own (variables_in u)) (count_in v)) (m + item_count t + item_count u + item_count v) (b ▸ bs))
+    (ways_reading columns (variables_in u) (count_in v) (m + item_count t + item_count u + item_count v) (b ▸ bs))
 operation_parts_reading columns before n m _ = wrong Shape n
 
 abbrev pub the_operation : ((List ℕ × List (List ℕ)) × ℕ) × List Branch → Operation
 the_operation p = record { name = p.0.0.0; arguments = p.0.0.1; replies = p.0.1; branches = p.1 }
 
--- (op NAME (ARG*) REPLIES BRANCH+), of which there are at most 16
+-- (op NAME (ARG*) REPLIES BRANCH+) or (op NAME (ARG*) REPLIES CHOICE+), of which there are at most 16
 abbrev pub operation_reading : Columns → List (List ℕ) → ℕ → Tree → Reading Operation
 operation_reading columns before n t =
     limited (is_full (Some 16) (length before)) n (mapped the_operation (behind_reading (codes "op") (operation_parts_reading columns before) n t))

@@ -34,6 +34,12 @@ branches_of bs = map branch_of bs.items
 abbrev pub names_of : Vec Name Global → List (List ℕ)
 names_of ns = map bytes_of ns.items
 
+abbrev pub label_parts : Name × Vec Name Global → List ℕ × List (List ℕ)
+label_parts p = (bytes_of p.0, names_of p.1)
+
+abbrev pub choice_parts : (Name × Vec Name Global) × ((Formula × Vec Update Global) × Vec Term Global) → (List ℕ × List (List ℕ)) × ((T.Formula × List S.Update) × List T.Term)
+choice_parts p = (label_parts p.0, branch_parts p.1)
+
 abbrev pub signature_of : (Name × Vec Name Global) × ℕ → (List ℕ × List (List ℕ)) × ℕ
 signature_of p = ((bytes_of p.0.0, names_of p.0.1), p.1)
 

@@ -55,7 +55,7 @@ fn read_replies<S: Scope>(
 }
 
 /// `F (UPDATE*) (T*)`, which are all that is left in a list.
-fn read_branch_parts<S: Scope>(
+pub(crate) fn read_branch_parts<S: Scope>(
     alloc: Global,
     columns: Columns<'_, '_>,
     scope: &S,

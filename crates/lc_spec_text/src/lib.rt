@@ -2,6 +2,7 @@
 #![tactic(auto)]
 
 mod branch;
+mod choice;
 mod column;
 mod file;
 pub mod laws;
@@ -10,6 +11,7 @@ mod scope;
 mod signature;
 mod specification;
 mod update;
+mod way;
 
 pub use file::spec_of;
 pub use specification::read_specification;

@@ -1,24 +1,21 @@
-ghost use Rattle.std.specs.Prelude.{◌≡◌, ℕ, List, IfOk, codes};
+ghost use Rattle.std.specs.Prelude.{ℕ, List, codes};
 ghost use Rattle.lc_sexp.specs.Shown.{rest_of, number_of, owner_of};
 ghost use Rattle.lc_reading.specs.Parts.{tree_of, place_of};
 ghost use Rattle.lc_reading.specs.Readings.{Reading, mapped, behind_reading};
 ghost use Rattle.lc_reading.specs.Results.{IsReading};
-ghost use Rattle.lc_reading.specs.Rows.{each_reading};
 ghost use Rattle.lc_reading.specs.TableView.{listed};
 ghost use Rattle.lc_seq.specs.Specification as S;
 ghost use Rattle.lc_seq.specs.SpecView.{operation_of};
-ghost use Rattle.lc_spec_text.specs.Branches.{branch_reading};
 ghost use Rattle.lc_spec_text.specs.Operations.{operation_parts_reading, the_operation, operation_reading};
-ghost use Rattle.lc_spec_text.specs.Scopes.{branch_names};
 ghost use Rattle.lc_spec_text.specs.ScopeView.{columns_seen};
-ghost use Rattle.lc_spec_text.specs.Seen.{branches_of, operation_parts};
+ghost use Rattle.lc_spec_text.specs.Seen.{operation_parts};
 
-use crate::branch::Branches;
-use crate::scope::{Columns, InBranch};
+use crate::scope::Columns;
 use crate::signature::{count_in, read_arguments, read_signature};
+use crate::way::read_ways;
 use lc_base::{Name, OutOfMemory};
 use lc_reading::{
-    Declares, NameTable, Part, ReadFault, behind_word, both, is_full, limited, next_part, read_each,
+    Declares, NameTable, Part, ReadFault, behind_word, both, is_full, limited, next_part,
 };
 use lc_seq::{Branch, Operation};
 use lc_sexp::Cursor;
@@ -27,26 +24,7 @@ use std::alloc::Global;
 /// The most operations of a specification.
 const OPERATION_LIMIT: u64 = 16;
 
-/// The branches that are left in a list, with these variables and so many replies.
-fn read_branches(
-    alloc: Global,
-    columns: Columns<'_, '_>,
-    variables: NameTable<'_>,
-    count: Option<u64>,
-    list: Cursor<'_>,
-) -> Result<Vec<Branch>, ReadFault>
-    ensures { IsReading branches_of (each_reading (branch_reading (columns_seen columns.entry) (branch_names (columns_seen columns.entry).own (listed variables.entry)) count) (number_of list.entry) (rest_of list.entry)) result }
-{
-    let scope = InBranch::new(columns, variables)?;
-    let branches = Branches {
-        columns,
-        scope: &scope,
-        count,
-    };
-    read_each(alloc, &branches, list)
-}
-
-/// `NAME (ARG*) REPLIES BRANCH+`, behind these operations, which are all that is left in a list.
+/// `NAME (ARG*) REPLIES` and `BRANCH+` or `CHOICE+`, behind these operations, which are all that is left in a list.
 fn read_operation_parts(
     alloc: Global,
     columns: Columns<'_, '_>,
@@ -63,7 +41,7 @@ fn read_operation_parts(
     next_part(&mut ahead)?;
     let (variables, arguments) = read_arguments(alloc, arguments)?;
     let signature = read_signature(before, name, arguments, replies);
-    let branches = read_branches(alloc, columns, variables, count_in(replies), rest);
+    let branches = read_ways(alloc, columns, &variables, count_in(replies), rest);
     both(signature, branches)
 }
 
@@ -82,7 +60,7 @@ fn made_operation(
     })
 }
 
-/// `(op NAME (ARG*) REPLIES BRANCH+)`, behind these operations.
+/// `(op NAME (ARG*) REPLIES BRANCH+)` or `(op NAME (ARG*) REPLIES CHOICE+)`, behind these operations.
 fn read_form(
     alloc: Global,
     columns: Columns<'_, '_>,

@@ -6,6 +6,9 @@ use lc_base::{ColId, OutOfMemory};
 use lc_reading::NameTable;
 use lc_text::{ColumnUse, Extra, Scope};
 
+/// The most variables of an operation, and the most parameters of a branch, that have numbers of 32 bits.
+const NAMES_LIMIT: usize = u32::MAX as usize / 2;
+
 /// The names of columns that a file declares: those of the specification, and those of the rest of the file.
 #[derive(Clone, Copy)]
 pub(crate) struct Columns<'a, 'b> {
@@ -45,12 +48,14 @@ impl<'a, 'b> Columns<'a, 'b> {
     }
 }
 
-/// How names are read in the branches of an operation.
+/// How names are read in a branch of an operation.
 pub(crate) struct InBranch<'a, 'b> {
     columns: Columns<'a, 'b>,
     /// The client, and the arguments.
-    variables: NameTable<'a>,
-    ghost counted: { length (listed variables) + 1 < 2 ^ 32 },
+    variables: &'b NameTable<'a>,
+    /// The branch's own parameters.
+    parameters: NameTable<'a>,
+    ghost counted: { length (listed variables.now) + length (listed parameters) + 1 < 2 ^ 32 },
 }
 
 impl Drop for InBranch<'_, '_> {
@@ -58,6 +63,7 @@ impl Drop for InBranch<'_, '_> {
         let InBranch {
             columns: _,
             variables: _,
+            parameters: _,
         } = self;
     }
 }
@@ -72,35 +78,56 @@ fn column_at(place: Option<u32>) -> ColumnUse
 }
 
 impl<'a, 'b> InBranch<'a, 'b> {
-    ghost use Rattle.std.specs.Prelude.{◌≡◌, IfOk};
+    ghost use Rattle.std.specs.Prelude.{◌≡◌, ◌++◌, IfOk};
+    ghost use Rattle.lc_reading.specs.Listed.{place_of};
     ghost use Rattle.lc_reading.specs.TableView.{listed};
     ghost use Rattle.lc_spec_text.specs.ScopeView.{columns_seen};
 
-    /// These columns and variables. `OutOfMemory` is answered also where some number has more than 32 bits, as in no file.
+    /// These columns and variables, and a branch's parameters. `OutOfMemory` is answered also where some number has more than
+    /// 32 bits, as in no file.
     pub(crate) fn new(
         columns: Columns<'a, 'b>,
-        variables: NameTable<'a>,
+        variables: &'b NameTable<'a>,
+        parameters: NameTable<'a>,
     ) -> Result<InBranch<'a, 'b>, OutOfMemory>
         ensures columns { IfOk result (λ names. (columns_seen names.columns).own ≡ (columns_seen columns.entry).own) }
-        ensures variables { IfOk result (λ names. listed names.variables ≡ listed variables.entry) }
+        ensures variables { IfOk result (λ names. listed names.variables.now ++ listed names.parameters ≡ listed variables.now ++ listed parameters.entry) }
     {
-        if variables.len() >= u32::MAX as usize {
+        if variables.len() > NAMES_LIMIT || parameters.len() > NAMES_LIMIT {
             return Err(OutOfMemory);
         }
-        Ok(InBranch { columns, variables })
+        Ok(InBranch {
+            columns,
+            variables,
+            parameters,
+        })
+    }
+
+    /// The place of this name among those of the variables and of the parameters behind them.
+    fn place(&self, name: &str) -> Option<usize>
+        ensures { result ≡ place_of (listed self.now.variables.now ++ listed self.now.parameters) name.now }
+    {
+        match self.variables.place(name) {
+            Some(place) => Some(place),
+            None => match self.parameters.place(name) {
+                Some(place) => Some(self.variables.len() + place),
+                None => None,
+            },
+        }
     }
 }
 
 impl Scope for InBranch<'_, '_> {
+    ghost use Rattle.std.specs.Prelude.{◌++◌};
     ghost use Rattle.lc_reading.specs.TableView.{listed};
     ghost use Rattle.lc_spec_text.specs.Scopes.{branch_names};
     ghost use Rattle.lc_spec_text.specs.ScopeView.{columns_seen};
 
-    ghost names = { λ scope. branch_names (columns_seen scope.columns).own (listed scope.variables) };
+    ghost names = { λ scope. branch_names (columns_seen scope.columns).own (listed scope.variables.now ++ listed scope.parameters) };
 
     #[tactic(auto, using(lc_reading::proofs::Places::place_below))]
     fn variable(&self, name: &str) -> Option<u32> {
-        match self.variables.place(name) {
+        match self.place(name) {
             Some(place) => Some(place as u32 + 1),
             None => None,
         }

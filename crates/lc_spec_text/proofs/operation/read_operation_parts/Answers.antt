@@ -18,4 +18,4 @@ returns c =
     c.in_ok-name.name u c.in_ok-replies.replies c.in_ok-next_part.field-0 c.in_ok-name.ensures c.in_ok-arguments.ensures c.in_ok-replies.ensures c.in_ok-next_part.ensures))
     (rw c.both.ensures
     (both_read signature_of branches_of pair _ _ _ _ (c.read_signature-signature.ensures (arguments_reading (place_of u) (tree_of u)) c.in_ok-variables.ensures.read)
-    (rw (c.count_in.ensures, c.in_ok-variables.ensures.variables) at c.read_branches-branches.ensures)))
+    (rw (c.count_in.ensures, c.in_ok-variables.ensures.variables) at c.read_ways-branches.ensures)))
