@@ -1,10 +1,10 @@
 -- Products up to a cap.
-use Rattle.std.proofs.Common.{◌≡◌, ℕ, zero, suc, ◌*◌, ◌≤◌, ◌<◌, Bool, true, false, refl, sym, ap, ◌∙◌, arith}
+use Rattle.std.proofs.Common.{◌≡◌, ℕ, zero, suc, ◌*◌, ◌≤◌, ◌<◌, Bool, true, false, Option, refl, sym, ap, ◌∙◌, arith}
 use Rattle.std.specs.Prelude.{min, nat_le, nat_lt}
 use Rattle.std.proofs.Math.Nat.{mul_comm, mul_assoc, le-mul_of_pos_right}
 use Rattle.std.proofs.lemmas.Bool.Decides.{nat_tests}
 use Rattle.lc_sexp.specs.Trees.{Tree, Trees, none, ◌▸◌}
-use Rattle.lc_rider_text.specs.Known.{Known}
+use Rattle.lc_rider_text.specs.Known.{Known, Ways}
 use Rattle.lc_rider_text.specs.Paths.{rider_ways, path_count}
 
 both_beyond : (x y : ℕ) → 65 ≤ x → 65 ≤ y → min 65 x ≡ min 65 y
@@ -43,10 +43,10 @@ capped_step count ways rest =
     ∙ ap (min 65) (sym (turned count ways rest) ∙ mul_assoc count ways rest)
 
 -- the paths that one rider more makes
-pub paths_more : (known : Known) (own : ℕ) (t : Tree) (ts us : Trees) → us ≡ t ▸ ts → path_count known own us ≡ rider_ways known own t * path_count known own ts
+pub paths_more : (known : Known) (own : Option Ways) (t : Tree) (ts us : Trees) → us ≡ t ▸ ts → path_count known own us ≡ rider_ways known own t * path_count known own ts
 paths_more known own t ts us e = rw e refl
 
-pub paths_done : (known : Known) (own count all : ℕ) (us : Trees) → us ≡ none → count ≤ 65 → all ≡ min 65 (count * path_count known own us) → count ≡ all
+pub paths_done : (known : Known) (own : Option Ways) (count all : ℕ) (us : Trees) → us ≡ none → count ≤ 65 → all ≡ min 65 (count * path_count known own us) → count ≡ all
 paths_done known own count all us e few h =
     let one : path_count known own us ≡ 1 = ap (path_count known own) e in
     let same : min 65 (count * 1) ≡ count = omega (arith, few) in

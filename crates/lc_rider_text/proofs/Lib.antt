@@ -1,5 +1,6 @@
 pub mod ActionsKnown
 pub mod Capped
+pub mod ChoicesKnown
 pub mod FormulasWithin
 pub mod Ground
 pub mod Parts

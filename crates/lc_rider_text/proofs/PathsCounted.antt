@@ -1,32 +1,31 @@
 -- The paths of riders are as many as their texts say.
-use Rattle.std.proofs.Common.{◌≡◌, ℕ, suc, ◌+◌, ◌*◌, Bool, true, false, cond, List, [], ◌∷◌, ◌++◌, Option, Some, None, length, length-append, refl, sym, ap, ap₂, ◌∙◌, arith}
+use Rattle.std.proofs.Common.{◌≡◌, ℕ, suc, ◌+◌, ◌*◌, Bool, true, false, cond, List, [], ◌∷◌, ◌++◌, map, Option, Some, None, length, length-append, refl, sym, ap, ap₂, ◌∙◌, subst, arith}
 use Rattle.std.proofs.Math.Nat.{suc-mul}
-use Rattle.std.specs.Prelude.{codes}
-use Rattle.lc_base.specs.NameText.{is_name}
+use Rattle.std.specs.Prelude.{codes, slice_get}
 use Rattle.lc_sexp.specs.Trees.{Tree, Trees, atom, list, none, ◌▸◌, item_count}
-use Rattle.lc_reading.proofs.Holding.{Holds, held, anything, mapped_holds, both_holds, ended_holds, limited_holds, if_holds}
-use Rattle.lc_reading.specs.Listed.{place_of}
-use Rattle.lc_reading.specs.Naming.{known, use_reading}
-use Rattle.lc_reading.specs.Readings.{fine, wrong, mapped}
-use Rattle.lc_reading.specs.Words.{is, is_long}
-use Rattle.lc_reading.specs.declared.pass.Pass.TheVariants.{Shape, Bound}
-use Rattle.lc_rider.specs.Paths.{Path, with_fact, branch_paths, deed_paths, deed_paths_where, rider_paths, paths, marked_op}
+use Rattle.lc_reading.proofs.Holding.{Holds, held, anything, mapped_holds, both_holds, ended_holds, limited_holds}
+use Rattle.lc_reading.specs.Readings.{mapped}
+use Rattle.lc_reading.specs.Words.{is}
+use Rattle.lc_rider.specs.Paths.{Path, with_fact, branch_variables, branch_paths, owing, choice_paths, marked_client, deed_paths, deed_paths_where, rider_paths, paths, marked_op}
 use Rattle.lc_rider.specs.Rider.{Marking, Deed, Assign, Marks, Rider, Own, Note}
-use Rattle.lc_seq.specs.Branches.{op_branches}
-use Rattle.lc_seq.specs.Specification.{Branch, Operation}
+use Rattle.lc_seq.specs.Branches.{op_branches, arity}
+use Rattle.lc_seq.specs.Sequential.{given_in}
+use Rattle.lc_seq.specs.Specification.{Branch, Operation, chosen}
 use Rattle.lc_term.specs.Lists.{concat_map}
-use Rattle.lc_term.specs.Said.{told}
+use Rattle.lc_term.specs.Replacement.{replacing, replace_term}
+use Rattle.lc_term.specs.Said.{told, term_at}
 use Rattle.lc_term.specs.Syntax.{Term, Formula, Not}
 use Rattle.lc_text.specs.Formulas.{formula_reading}
 use Rattle.lc_text.specs.Names.{Names}
-use Rattle.lc_text.specs.Terms.{pair, term_reading}
+use Rattle.lc_text.specs.Terms.{pair}
 use Rattle.lc_object_text.specs.Rows.{cons, placed_reading}
-use Rattle.lc_reading.proofs.Places.{place_below}
-use Rattle.lc_rider_text.specs.Counted.{AreBranches, PathsAreCounted}
+use Rattle.lc_rider_text.proofs.ChoicesKnown.{IsInOrder, IsByName, in_order_known, by_known, in_order_counted, by_name_counted}
+use Rattle.lc_rider_text.proofs.RidersKnown.{IsOther, other_known}
+use Rattle.lc_rider_text.specs.Counted.{Goes, AreBranches, PathsAreCounted}
 use Rattle.lc_rider_text.specs.Heads.{head_of}
-use Rattle.lc_rider_text.specs.Known.{Known, count_at}
-use Rattle.lc_rider_text.specs.Paths.{or_one, other_ways, ways_with, deed_ways, when_ways, rider_ways, path_count}
-use Rattle.lc_rider_text.specs.Riders.{other_reading, mark_of, headed_reading, deed_with, deed_reading, when_reading, always, where_holds, rider_reading, ith_rider_reading, riders_reading}
+use Rattle.lc_rider_text.specs.Known.{Known, Ways}
+use Rattle.lc_rider_text.specs.Paths.{mark_ways, other_ways, ways_with, deed_ways, when_ways, rider_ways, path_count}
+use Rattle.lc_rider_text.specs.Riders.{ways_named, mark_of_other, lin_other_reading, lin_other_by_reading, headed_reading, deed_with, deed_reading, when_reading, always, where_holds, rider_reading, ith_rider_reading, riders_reading}
 use Rattle.lc_rider_text.specs.Scopes.{quiet}
 use Rattle.lc_rider_text.specs.Updates.{update_reading}
 use Rattle.lc_rider_text.specs.declared.update.Stores.TheVariants.{InAuxiliary}
@@ -38,7 +37,7 @@ use Rattle.lc_rider_text.specs.declared.words.Head.TheVariants as H
 -- in how many ways a rider is passed in the body of o
 abbrev deed_count : List Operation → ℕ → Deed → ℕ
 deed_count operations o (Assign u) = 1
-deed_count operations o (Marks k) = length (op_branches operations (marked_op o k))
+deed_count operations o (Marks k by) = length (chosen by (op_branches operations (marked_op o k)))
 
 abbrev count_where : Option Formula → ℕ → ℕ
 count_where None k = k
@@ -59,13 +58,20 @@ concat_length f c h (x ∷ xs) =
     let sum : length (f x) + length (concat_map f xs) ≡ length xs * c + c = omega (arith, h x, rest) in
     all ∙ sum ∙ sym (suc-mul (length xs) c)
 
-branches_counted : (operations : List Operation) (first n o : ℕ) (k : Marking) (c : Term) (bs : List Branch) (p : Path) → length (branch_paths operations first n o k c bs p) ≡ length bs
-branches_counted operations first n o k c [] p = refl
-branches_counted operations first n o k c (b ∷ bs) p = ap suc (branches_counted operations first n o k c bs _)
+branches_counted : (operations : List Operation) (first n : ℕ) (k : Marking) (τ : List Term) (bs : List Branch) (p : Path) → length (branch_paths operations first n k τ bs p) ≡ length bs
+branches_counted operations first n k τ [] p = refl
+branches_counted operations first n k τ (b ∷ bs) p = ap suc (branches_counted operations first n k τ bs _)
+
+choices_counted : (operations : List Operation) (first n o : ℕ) (k : Marking) (c : Term) (ts : List Term) (bs : List Branch) (p : Path) → length (choice_paths operations first n o k c ts bs p) ≡ length bs
+choices_counted operations first n o k c ts bs p =
+    let τ = branch_variables p.columns first (arity operations o) c ts in
+    branches_counted operations first n k τ bs (owing operations first n k c τ bs p)
 
 deed_counted : (operations : List Operation) (first n o : ℕ) (variables : List Term) (d : Deed) (p : Path) → length (deed_paths operations first n o variables d p) ≡ deed_count operations o d
 deed_counted operations first n o variables (Assign u) p = refl
-deed_counted operations first n o variables (Marks k) p = branches_counted operations first n (marked_op o k) k _ (op_branches operations (marked_op o k)) _
+deed_counted operations first n o variables (Marks k by) p =
+    let said = replace_term (replacing p.columns (term_at variables)) in
+    choices_counted operations first n (marked_op o k) k (said (marked_client k)) (map said (given_in by)) (chosen by (op_branches operations (marked_op o k))) p
 
 one_more : {A : Type 0} (xs : List A) (x : A) (k : ℕ) → length xs ≡ k → length (xs ++ x ∷ []) ≡ 1 + k
 one_more xs x k h = omega (arith, length-append xs (x ∷ []), h)
@@ -85,92 +91,108 @@ paths_counted operations first n o variables (r ∷ rs) p =
 
 -- ---- by their texts
 
-named_counted : (d : Known) (operations : List Operation) → AreBranches d operations → (n : ℕ) (w : List ℕ) (q : Option ℕ) → place_of d.operations w ≡ q
-    → Holds (λ k. length (op_branches operations k) ≡ or_one (count_at d.branches (place_of d.operations w))) (known n w q)
-named_counted d operations agree n w None e = tt
-named_counted d operations agree n w (Some k) e =
-    if_holds (λ k. length (op_branches operations k) ≡ or_one (count_at d.branches (place_of d.operations w))) (is_long w) (wrong Bound n) (fine k) tt
-    (sym (ap (λ q. or_one (count_at d.branches q)) e ∙ ap or_one (agree k (place_below d.operations w k e))))
-
-other_counted : (d : Known) (operations : List Operation) → AreBranches d operations → (names : Names) (n m : ℕ) (ts : Trees)
-    → Holds (λ (p : Term × ℕ). length (op_branches operations p.1) ≡ other_ways d ts) (other_reading d names n m ts)
-other_counted d operations agree names n m none = tt
-other_counted d operations agree names n m (t ▸ none) = tt
-other_counted d operations agree names n m (t ▸ list us ▸ ts) =
-    ended_holds (λ (p : Term × ℕ). length (op_branches operations p.1) ≡ 1) _ ts _
-    (both_holds (λ x. Unit {0}) (λ k. ⊥) (λ (p : Term × ℕ). length (op_branches operations p.1) ≡ 1) pair _ (use_reading d.operations (m + item_count t) (list us))
-    (anything (term_reading names [] m t)) tt (λ x k h g. absurd g))
-other_counted d operations agree names n m (t ▸ atom w ▸ ts) =
-    let P : Term × ℕ → Type 0 = λ p. length (op_branches operations p.1) ≡ or_one (count_at d.branches (place_of d.operations w)) in
-    let Q : ℕ → Type 0 = λ k. length (op_branches operations k) ≡ or_one (count_at d.branches (place_of d.operations w)) in
-    ended_holds P _ ts _
-    (both_holds (λ x. Unit {0}) Q P pair _ (use_reading d.operations (m + item_count t) (atom w)) (anything (term_reading names [] m t))
-    (if_holds Q (is_name w) _ (wrong Shape (m + item_count t)) (named_counted d operations agree (m + item_count t) w (place_of d.operations w) refl) tt) (λ x k h g. g))
-
 -- what is read is done in as many ways as its text says
 abbrev IsCounted : List Operation → ℕ → ℕ → Deed → Type 0
 IsCounted operations o ways x = deed_count operations o x ≡ ways
 
-abbrev own_count : List Operation → ℕ → ℕ
-own_count operations o = length (op_branches operations o)
+-- how the operation that is named goes
+named_goes : (d : Known) (operations : List Operation) → AreBranches d operations → (u : Tree) (p : Term × ℕ) → IsOther d u p → Goes (ways_named d u) (op_branches operations p.1)
+named_goes d operations agree u p h = subst (λ ways. Goes ways (op_branches operations p.1)) (sym h.1) (agree p.1 h.0)
 
-headed_counted : (d : Known) (operations : List Operation) → AreBranches d operations → (o : ℕ) (names : Names) (h : Head) (n m : ℕ) (ts : Trees)
-    → Holds (IsCounted operations o (ways_with d (own_count operations o) ts (Some h))) (headed_reading d names h n m ts)
-headed_counted d operations agree o names H.Set n m ts =
+other_counted : (d : Known) (t u : Tree) (ts : Trees) → other_ways d (t ▸ u ▸ ts) ≡ mark_ways (ways_named d u)
+other_counted d t (atom w) ts = refl
+other_counted d t (list us) ts = refl
+
+lin_other_counted : (d : Known) (operations : List Operation) → AreBranches d operations → (o : ℕ) (names : Names) (n m : ℕ) (ts : Trees)
+    → Holds (IsCounted operations o (other_ways d ts)) (lin_other_reading d names n m ts)
+lin_other_counted d operations agree o names n m none = tt
+lin_other_counted d operations agree o names n m (t ▸ none) = tt
+lin_other_counted d operations agree o names n m (t ▸ u ▸ ts) =
+    ended_holds (IsCounted operations o (other_ways d (t ▸ u ▸ ts))) _ ts _
+    (both_holds (IsOther d u) (IsInOrder (ways_named d u)) (IsCounted operations o (other_ways d (t ▸ u ▸ ts))) mark_of_other _ _ (other_known d names m t (m + item_count t) u)
+    (in_order_known (ways_named d u) n)
+    (λ p by h g. in_order_counted (ways_named d u) (op_branches operations p.1) (named_goes d operations agree u p h) by g ∙ sym (other_counted d t u ts)))
+
+lin_other_by_counted : (d : Known) (operations : List Operation) → AreBranches d operations → (o : ℕ) (names : Names) (n m : ℕ) (ts : Trees)
+    → Holds (IsCounted operations o 1) (lin_other_by_reading d names n m ts)
+lin_other_by_counted d operations agree o names n m none = tt
+lin_other_by_counted d operations agree o names n m (t ▸ none) = tt
+lin_other_by_counted d operations agree o names n m (t ▸ u ▸ ts) =
+    both_holds (IsOther d u) (IsByName (ways_named d u)) (IsCounted operations o 1) mark_of_other _ _ (other_known d names m t (m + item_count t) u)
+    (by_known names (ways_named d u) n (m + item_count t + item_count u) ts)
+    (λ p by h g. by_name_counted (ways_named d u) (op_branches operations p.1) (named_goes d operations agree u p h) by g)
+
+-- The body is that of the operation o, and it is known how it goes
+record IsWithin (d : Known) (operations : List Operation) (own : Option Ways) (o : ℕ) : Type 0 where
+  others : AreBranches d operations
+  itself : Goes own (op_branches operations o)
+
+headed_counted : (d : Known) (operations : List Operation) (own : Option Ways) (o : ℕ) → IsWithin d operations own o → (names : Names) (h : Head) (n m : ℕ) (ts : Trees)
+    → Holds (IsCounted operations o (ways_with d own ts (Some h))) (headed_reading d names own h n m ts)
+headed_counted d operations own o w names H.Set n m ts =
     mapped_holds (λ u. Unit {0}) (IsCounted operations o 1) Assign _ (anything (update_reading InAuxiliary d names n m ts)) (λ u h. refl)
-headed_counted d operations agree o names H.Lin n m ts = ended_holds (IsCounted operations o (own_count operations o)) m ts (fine (Marks Own)) refl
-headed_counted d operations agree o names H.LinOther n m ts =
-    mapped_holds (λ (p : Term × ℕ). length (op_branches operations p.1) ≡ other_ways d ts) (IsCounted operations o (other_ways d ts)) mark_of _
-    (other_counted d operations agree names n m ts) (λ p e. e)
-headed_counted d operations agree o names H.Note n m ts = ended_holds (IsCounted operations o (own_count operations o)) m ts (fine (Marks Note)) refl
+headed_counted d operations own o w names H.Lin n m ts =
+    ended_holds (IsCounted operations o (mark_ways own)) m ts _
+    (mapped_holds (IsInOrder own) (IsCounted operations o (mark_ways own)) (Marks Own) _ (in_order_known own n) (in_order_counted own (op_branches operations o) w.itself))
+headed_counted d operations own o w names H.LinOther n m ts = lin_other_counted d operations w.others o names n m ts
+headed_counted d operations own o w names H.Note n m ts =
+    ended_holds (IsCounted operations o (mark_ways own)) m ts _
+    (mapped_holds (IsInOrder own) (IsCounted operations o (mark_ways own)) (Marks Note) _ (in_order_known own n) (in_order_counted own (op_branches operations o) w.itself))
+headed_counted d operations own o w names H.LinBy n m ts =
+    mapped_holds (IsByName own) (IsCounted operations o 1) (Marks Own) _ (by_known names own n m ts) (by_name_counted own (op_branches operations o) w.itself)
+headed_counted d operations own o w names H.LinOtherBy n m ts = lin_other_by_counted d operations w.others o names n m ts
+headed_counted d operations own o w names H.NoteBy n m ts =
+    mapped_holds (IsByName own) (IsCounted operations o 1) (Marks Note) _ (by_known names own n m ts) (by_name_counted own (op_branches operations o) w.itself)
 
-begun_counted : (d : Known) (operations : List Operation) → AreBranches d operations → (o : ℕ) (names : Names) (n m : ℕ) (ts : Trees) (h : Option Head)
-    → Holds (IsCounted operations o (ways_with d (own_count operations o) ts h)) (deed_with d names n m ts h)
-begun_counted d operations agree o names n m ts None = tt
-begun_counted d operations agree o names n m ts (Some h) = headed_counted d operations agree o names h n m ts
+begun_counted : (d : Known) (operations : List Operation) (own : Option Ways) (o : ℕ) → IsWithin d operations own o → (names : Names) (n m : ℕ) (ts : Trees) (h : Option Head)
+    → Holds (IsCounted operations o (ways_with d own ts h)) (deed_with d names own n m ts h)
+begun_counted d operations own o w names n m ts None = tt
+begun_counted d operations own o w names n m ts (Some h) = headed_counted d operations own o w names h n m ts
 
-read_deed_counted : (d : Known) (operations : List Operation) → AreBranches d operations → (o : ℕ) (names : Names) (n : ℕ) (t : Tree)
-    → Holds (IsCounted operations o (deed_ways d (own_count operations o) t)) (deed_reading d names n t)
-read_deed_counted d operations agree o names n (atom w) = tt
-read_deed_counted d operations agree o names n (list none) = tt
-read_deed_counted d operations agree o names n (list (list us ▸ ts)) = tt
-read_deed_counted d operations agree o names n (list (atom w ▸ ts)) = begun_counted d operations agree o names n (n + 2) ts (head_of w)
+read_deed_counted : (d : Known) (operations : List Operation) (own : Option Ways) (o : ℕ) → IsWithin d operations own o → (names : Names) (n : ℕ) (t : Tree)
+    → Holds (IsCounted operations o (deed_ways d own t)) (deed_reading d names own n t)
+read_deed_counted d operations own o w names n (atom a) = tt
+read_deed_counted d operations own o w names n (list none) = tt
+read_deed_counted d operations own o w names n (list (list us ▸ ts)) = tt
+read_deed_counted d operations own o w names n (list (atom a ▸ ts)) = begun_counted d operations own o w names n (n + 2) ts (head_of a)
 
-when_counted : (d : Known) (operations : List Operation) → AreBranches d operations → (o : ℕ) (names : Names) (n m : ℕ) (ts : Trees)
-    → Holds (λ (p : Formula × Deed). 1 + deed_count operations o p.1 ≡ when_ways d (own_count operations o) ts) (when_reading d names n m ts)
-when_counted d operations agree o names n m none = tt
-when_counted d operations agree o names n m (t ▸ none) = tt
-when_counted d operations agree o names n m (t ▸ u ▸ ts) =
-    let ways = deed_ways d (own_count operations o) u in
+when_counted : (d : Known) (operations : List Operation) (own : Option Ways) (o : ℕ) → IsWithin d operations own o → (names : Names) (n m : ℕ) (ts : Trees)
+    → Holds (λ (p : Formula × Deed). 1 + deed_count operations o p.1 ≡ when_ways d own ts) (when_reading d names own n m ts)
+when_counted d operations own o w names n m none = tt
+when_counted d operations own o w names n m (t ▸ none) = tt
+when_counted d operations own o w names n m (t ▸ u ▸ ts) =
+    let ways = deed_ways d own u in
     ended_holds (λ (p : Formula × Deed). 1 + deed_count operations o p.1 ≡ 1 + ways) _ ts _
     (both_holds (λ f. Unit {0}) (IsCounted operations o ways) (λ (p : Formula × Deed). 1 + deed_count operations o p.1 ≡ 1 + ways) pair _ _
-    (anything (formula_reading (quiet names) [] m t)) (read_deed_counted d operations agree o names (m + item_count t) u) (λ f x h g. ap (λ k. 1 + k) g))
+    (anything (formula_reading (quiet names) [] m t)) (read_deed_counted d operations own o w names (m + item_count t) u) (λ f x h g. ap (λ k. 1 + k) g))
 
-rider_counted : (d : Known) (operations : List Operation) → AreBranches d operations → (o : ℕ) (names : Names) (n : ℕ) (t : Tree)
-    → Holds (λ r. rider_count operations o r ≡ rider_ways d (own_count operations o) t) (rider_reading d names n t)
-rider_counted d operations agree o names n (atom w) = tt
-rider_counted d operations agree o names n (list none) = tt
-rider_counted d operations agree o names n (list (list us ▸ ts)) = tt
-rider_counted d operations agree o names n (list (atom w ▸ ts)) = by_word (is w (codes "when")) where
-  by_word : (b : Bool) → Holds (λ r. rider_count operations o r ≡ cond b (when_ways d (own_count operations o) ts) (ways_with d (own_count operations o) ts (head_of w)))
-      (cond b (mapped where_holds (when_reading d names n (n + 2) ts)) (mapped always (deed_with d names n (n + 2) ts (head_of w))))
+rider_counted : (d : Known) (operations : List Operation) (own : Option Ways) (o : ℕ) → IsWithin d operations own o → (names : Names) (n : ℕ) (t : Tree)
+    → Holds (λ r. rider_count operations o r ≡ rider_ways d own t) (rider_reading d names own n t)
+rider_counted d operations own o w names n (atom a) = tt
+rider_counted d operations own o w names n (list none) = tt
+rider_counted d operations own o w names n (list (list us ▸ ts)) = tt
+rider_counted d operations own o w names n (list (atom a ▸ ts)) = by_word (is a (codes "when")) where
+  by_word : (b : Bool) → Holds (λ r. rider_count operations o r ≡ cond b (when_ways d own ts) (ways_with d own ts (head_of a)))
+      (cond b (mapped where_holds (when_reading d names own n (n + 2) ts)) (mapped always (deed_with d names own n (n + 2) ts (head_of a))))
   by_word true =
-      mapped_holds (λ (p : Formula × Deed). 1 + deed_count operations o p.1 ≡ when_ways d (own_count operations o) ts) (λ r. rider_count operations o r ≡ when_ways d (own_count operations o) ts)
-      where_holds _ (when_counted d operations agree o names n (n + 2) ts) (λ p e. e)
+      mapped_holds (λ (p : Formula × Deed). 1 + deed_count operations o p.1 ≡ when_ways d own ts) (λ r. rider_count operations o r ≡ when_ways d own ts)
+      where_holds _ (when_counted d operations own o w names n (n + 2) ts) (λ p e. e)
   by_word false =
-      mapped_holds (IsCounted operations o (ways_with d (own_count operations o) ts (head_of w))) (λ r. rider_count operations o r ≡ ways_with d (own_count operations o) ts (head_of w))
-      always _ (begun_counted d operations agree o names n (n + 2) ts (head_of w)) (λ x e. e)
+      mapped_holds (IsCounted operations o (ways_with d own ts (head_of a))) (λ r. rider_count operations o r ≡ ways_with d own ts (head_of a))
+      always _ (begun_counted d operations own o w names n (n + 2) ts (head_of a)) (λ x e. e)
 
-row_counted : (d : Known) (operations : List Operation) → AreBranches d operations → (o : ℕ) (names : Names) (i m : ℕ) (ts : Trees)
-    → Holds (λ rs. all_counts operations o rs ≡ path_count d (own_count operations o) ts) (placed_reading (ith_rider_reading d names) i m ts)
-row_counted d operations agree o names i m none = refl
-row_counted d operations agree o names i m (t ▸ ts) =
-    both_holds (λ r. rider_count operations o r ≡ rider_ways d (own_count operations o) t) (λ rs. all_counts operations o rs ≡ path_count d (own_count operations o) ts)
-    (λ rs. all_counts operations o rs ≡ rider_ways d (own_count operations o) t * path_count d (own_count operations o) ts) cons _ _
-    (limited_holds (λ r. rider_count operations o r ≡ rider_ways d (own_count operations o) t) _ m _ (rider_counted d operations agree o names m t))
-    (row_counted d operations agree o names (i + 1) (m + item_count t) ts) (λ r rs h g. ap₂ (λ a b. a * b) h g)
+row_counted : (d : Known) (operations : List Operation) (own : Option Ways) (o : ℕ) → IsWithin d operations own o → (names : Names) (i m : ℕ) (ts : Trees)
+    → Holds (λ rs. all_counts operations o rs ≡ path_count d own ts) (placed_reading (ith_rider_reading d names own) i m ts)
+row_counted d operations own o w names i m none = refl
+row_counted d operations own o w names i m (t ▸ ts) =
+    both_holds (λ r. rider_count operations o r ≡ rider_ways d own t) (λ rs. all_counts operations o rs ≡ path_count d own ts)
+    (λ rs. all_counts operations o rs ≡ rider_ways d own t * path_count d own ts) cons _ _
+    (limited_holds (λ r. rider_count operations o r ≡ rider_ways d own t) _ m _ (rider_counted d operations own o w names m t))
+    (row_counted d operations own o w names (i + 1) (m + item_count t) ts) (λ r rs h g. ap₂ (λ a b. a * b) h g)
 
 pub riders_counted : PathsAreCounted
-riders_counted d operations agree names m ts riders read first n o variables p =
+riders_counted d operations agree o below names m ts riders read first n variables p =
+    let own = slice_get d.ways o in
     paths_counted operations first n o variables riders p
-    ∙ held (λ rs. all_counts operations o rs ≡ path_count d (own_count operations o) ts) (riders_reading d names m ts) riders (row_counted d operations agree o names 0 m ts) read
+    ∙ held (λ rs. all_counts operations o rs ≡ path_count d own ts) (riders_reading d names own m ts) riders
+    (row_counted d operations own o (record { others = agree; itself = agree o below }) names 0 m ts) read

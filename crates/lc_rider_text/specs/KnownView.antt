@@ -1,5 +1,6 @@
 -- What clauses see of the names that a file declares.
-use Rattle.std.specs.Prelude.{ℕ, List, Option}
+use Rattle.std.specs.Borrow.{Bor}
+use Rattle.std.specs.Prelude.{ℕ, List, map, Option, Some, None}
 use Rattle.lc_reading.specs.TableView.{listed}
 use Rattle.lc_text.specs.Names.{Names}
 use Rattle.lc_rider_text.specs.Known as K
@@ -8,6 +9,7 @@ use Rattle.lc_rider_text.specs.Tables.{listed_there}
 use Rattle.lc_rider_text.specs.declared.columns.Columns.{Columns}
 use Rattle.lc_rider_text.specs.declared.variables.Variables.{Variables}
 use Rattle.lc_rider_text.specs.declared.known.Known.{Known}
+use Rattle.lc_rider_text.specs.declared.known.Ways.{Ways}
 use Rattle.lc_rider_text.specs.declared.scope.Beside.{Beside}
 
 -- the columns that are declared
@@ -18,12 +20,21 @@ columns_listed columns = listed columns.names.now
 abbrev pub others_listed : Variables → Option (List (List ℕ))
 others_listed variables = listed_there variables.others
 
+-- how an operation goes
+abbrev pub ways_seen : Ways → K.Ways
+ways_seen ways = record { count = ways.count; choices = listed ways.choices; parameters = ways.parameters.items }
+
+-- how one goes that is referred to, if it is known
+abbrev pub ways_there : Option (Bor Ways) → Option K.Ways
+ways_there None = None
+ways_there (Some ways) = Some (ways_seen ways.now)
+
 abbrev pub known_seen : Known → K.Known
 known_seen known = record {
   columns = columns_listed known.columns;
   auxiliaries = known.columns.auxiliaries;
   operations = listed known.operations.now;
-  branches = known.branches.now;
+  ways = map ways_seen known.ways.now;
   actions = listed known.actions.now;
   parameters = known.parameters.now;
 }

@@ -3,7 +3,7 @@ use Rattle.std.specs.Prelude.{ℕ, ◌+◌, nat_le, codes, if◌then◌else◌, 
 use Rattle.lc_sexp.specs.Trees.{Tree, Trees, atom, list, ◌▸◌, item_count}
 use Rattle.lc_reading.specs.Listed.{place_of}
 use Rattle.lc_reading.specs.Naming.{use_reading}
-use Rattle.lc_reading.specs.Readings.{Reading, fine, wrong, mapped, both, limited, ended, two_of}
+use Rattle.lc_reading.specs.Readings.{Reading, wrong, mapped, both, limited, ended, two_of}
 use Rattle.lc_reading.specs.Words.{is}
 use Rattle.lc_reading.specs.declared.pass.Pass.TheVariants.{Shape}
 use Rattle.lc_seq.specs.Sequential.{Chosen}

@@ -14,7 +14,7 @@ use Rattle.lc_term.specs.declared.term.Term.{Term}
 use Rattle.lc_term.specs.declared.formula.Formula.{Formula}
 use Rattle.lc_term.specs.declared.update.Update.{Update}
 use Rattle.lc_rider.specs.Rider as R
-use Rattle.lc_rider.specs.RiderView.{formula_in}
+use Rattle.lc_rider.specs.RiderView.{formula_in, choosing_of}
 use Rattle.lc_rider.specs.declared.rider.When.{When}
 use Rattle.lc_outline.specs.declared.parts.ActionId.{ActionId}
 use Rattle.lc_rider_text.specs.declared.deed.Deed.{Deed}
@@ -41,9 +41,9 @@ action_parts p = (heading_seen p.0, effect_seen p.1)
 -- what is done
 abbrev pub deed_of : Deed → R.Deed
 deed_of (Assign u) = R.Assign (update_of u)
-deed_of LinSelf = R.Marks R.Own
-deed_of (LinOther t o) = R.Marks (R.Other (term_of t) o.0)
-deed_of Note = R.Marks R.Note
+deed_of (LinSelf by) = R.Marks R.Own (choosing_of by)
+deed_of (LinOther t o by) = R.Marks (R.Other (term_of t) o.0) (choosing_of by)
+deed_of (Note by) = R.Marks R.Note (choosing_of by)
 
 abbrev pub other_parts : Term × OpId → T.Term × ℕ
 other_parts p = (term_of p.0, p.1.0)

@@ -1,5 +1,5 @@
 use lc_base::OpId;
-use lc_rider::{Rider, When};
+use lc_rider::{Choosing, Rider, When};
 use lc_term::{Term, Update};
 
 /// What a rider does.
@@ -7,18 +7,32 @@ pub(crate) enum Deed {
     /// A value is stored.
     Assign(Update),
     /// The client's own call takes effect.
-    LinSelf,
+    LinSelf {
+        by: Choosing,
+    },
     /// The call of this operation by another client takes effect.
-    LinOther(Term, OpId),
+    LinOther {
+        client: Term,
+        operation: OpId,
+        by: Choosing,
+    },
     /// The replies of the client's own call are noted.
-    Note,
+    Note {
+        by: Choosing,
+    },
 }
 
 // Written out, so that a place where a deed is let go has one call.
 impl Drop for Deed {
     fn drop(self) {
         match self {
-            Deed::Assign(_) | Deed::LinSelf | Deed::LinOther(_, _) | Deed::Note => {}
+            Deed::Assign(_) => {}
+            Deed::LinSelf { by: _ } | Deed::Note { by: _ } => {}
+            Deed::LinOther {
+                client: _,
+                operation: _,
+                by: _,
+            } => {}
         }
     }
 }
@@ -34,13 +48,18 @@ impl Deed {
     {
         match self {
             Deed::Assign(update) => Rider::Assign { condition, update },
-            Deed::LinSelf => Rider::LinSelf { condition },
-            Deed::LinOther(client, operation) => Rider::LinOther {
+            Deed::LinSelf { by } => Rider::LinSelf { condition, by },
+            Deed::LinOther {
+                client,
+                operation,
+                by,
+            } => Rider::LinOther {
                 condition,
                 client,
                 operation,
+                by,
             },
-            Deed::Note => Rider::Note { condition },
+            Deed::Note { by } => Rider::Note { condition, by },
         }
     }
 }

@@ -1,14 +1,67 @@
 use crate::columns::Columns;
-use lc_reading::NameTable;
+use lc_reading::{NameTable, Part};
+use lc_sexp::Item;
+
+/// How an operation goes, by its text: so many branches; or so many choices.
+pub struct Ways<'a> {
+    /// How many branches or choices it has.
+    pub count: u64,
+    /// The names of its choices, where it has choices.
+    pub choices: NameTable<'a>,
+    /// How many parameters each of these has.
+    pub parameters: Vec<u64>,
+}
+
+impl Drop for Ways<'_> {
+    fn drop(self) {
+        let Ways {
+            count: _,
+            choices: _,
+            parameters: _,
+        } = self;
+    }
+}
+
+impl Ways<'_> {
+    ghost use Rattle.std.specs.Prelude.{◌≡◌};
+    ghost use Rattle.lc_rider_text.specs.Known as K;
+    ghost use Rattle.lc_rider_text.specs.KnownView.{ways_seen};
+
+    /// Whether it goes by choices, and not by branches.
+    pub(crate) fn has_choices(&self) -> bool
+        ensures { result ≡ K.has_choices (ways_seen self.now) }
+    {
+        self.choices.len() > 0
+    }
+}
 
 /// The names that a development file declares, as what stands beside the code sees them.
 #[derive(Clone, Copy)]
 pub struct Known<'a, 'b> {
     pub columns: Columns<'a, 'b>,
     pub operations: &'b NameTable<'a>,
-    /// How many branches each operation has.
-    pub branches: &'b [u64],
+    /// How each operation goes.
+    pub ways: &'b [Ways<'a>],
     pub actions: &'b NameTable<'a>,
     /// How many parameters each action has.
     pub parameters: &'b [u64],
+}
+
+impl<'a, 'b> Known<'a, 'b> {
+    ghost use Rattle.std.specs.Prelude.{◌≡◌};
+    ghost use Rattle.lc_reading.specs.Parts.{tree_of};
+    ghost use Rattle.lc_rider_text.specs.KnownView.{known_seen, ways_there};
+    ghost use Rattle.lc_rider_text.specs.Riders.{ways_named};
+
+    /// How the operation goes that an item names, if it names one.
+    pub(crate) fn ways_named(self, part: Part<'_>) -> Option<&'b Ways<'a>>
+        ensures { ways_there result ≡ ways_named (known_seen self.entry) (tree_of part.entry) }
+    {
+        let atom = match part.item() {
+            Item::Atom(atom) => atom,
+            Item::List(_) => return None,
+        };
+        let place = self.operations.place(atom.text())?;
+        self.ways.get(place)
+    }
 }

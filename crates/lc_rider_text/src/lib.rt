@@ -4,6 +4,7 @@
 
 mod action;
 mod auxiliary;
+mod choice;
 mod columns;
 mod conjunct;
 mod deed;
@@ -17,6 +18,7 @@ mod parameters;
 mod paths;
 mod rider;
 mod scope;
+mod terms;
 mod update;
 mod variables;
 mod words;
@@ -27,7 +29,7 @@ pub use columns::Columns;
 pub use conjunct::Conjuncts;
 pub use edge_words::{edge_in, edge_of};
 pub use edges::Edges;
-pub use known::Known;
+pub use known::{Known, Ways};
 pub use numbers::number_at;
 pub use on::{read_on, read_ons};
 pub use paths::{path_count, rider_ways};

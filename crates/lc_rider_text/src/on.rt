@@ -10,27 +10,27 @@ ghost use Rattle.lc_rider.specs.Rider as R;
 ghost use Rattle.lc_rider.specs.RiderView.{riders_of};
 ghost use Rattle.lc_term.specs.Syntax as T;
 ghost use Rattle.lc_rider_text.specs.Known as K;
-ghost use Rattle.lc_rider_text.specs.KnownView.{known_seen};
-ghost use Rattle.lc_rider_text.specs.Ons.{action_use, arguments_due, arguments_reading, call_parts_reading, call_reading, step_reading, the_on, on_parts_reading, on_reading, ons_reading};
+ghost use Rattle.lc_rider_text.specs.KnownView.{known_seen, ways_there};
+ghost use Rattle.lc_rider_text.specs.Ons.{action_use, arguments_due, call_parts_reading, call_reading, step_reading, the_on, on_parts_reading, on_reading, ons_reading};
 ghost use Rattle.lc_rider_text.specs.Paths.{path_count};
 ghost use Rattle.lc_rider_text.specs.Seen.{terms_of, call_parts, step_parts};
 
 use crate::edge_words::{edge_in, edge_of, read_edge};
 use crate::edges::Edges;
-use crate::known::Known;
+use crate::known::{Known, Ways};
 use crate::numbers::number_at;
 use crate::paths::path_count;
 use crate::rider::read_riders;
+use crate::terms::read_arguments;
 use lc_object::EdgeKind;
 use lc_outline::{ActionId, On};
 use lc_reading::{
-    Part, Pass, ReadFault, behind_word, both, limited, next_part, pushed, read_counted, read_each,
-    read_use, wrong,
+    Part, Pass, ReadFault, behind_word, both, limited, next_part, pushed, read_use, wrong,
 };
 use lc_rider::Rider;
 use lc_sexp::{Cursor, Item};
 use lc_term::Term;
-use lc_text::{Scope, Terms};
+use lc_text::Scope;
 use std::alloc::Global;
 
 /// The most paths of an edge.
@@ -68,21 +68,6 @@ fn arguments_due(known: Known<'_, '_>, part: Part<'_>) -> Option<u64>
     }
     let place = known.actions.place(atom.text())?;
     known.parameters.get(place).copied()
-}
-
-/// The terms that are left in a list, just so many where it is known how many.
-fn read_arguments<S: Scope>(
-    alloc: Global,
-    scope: &S,
-    due: Option<u64>,
-    list: Cursor<'_>,
-) -> Result<Vec<Term>, ReadFault>
-    ensures { IsReading terms_of (arguments_reading (S.names scope.now) due (owner_of list.entry) (number_of list.entry) (rest_of list.entry)) result }
-{
-    match due {
-        Some(count) => read_counted(alloc, &Terms(scope), count, list),
-        None => read_each(alloc, &Terms(scope), list),
-    }
 }
 
 /// `ACTION T*`
@@ -154,15 +139,15 @@ fn made_on(
 }
 
 /// `EDGE (ACTION T*) RIDER*`
-fn read_on_parts<S: Scope>(
+fn read_on_parts<'a, 'b, S: Scope>(
     alloc: Global,
-    known: Known<'_, '_>,
+    known: Known<'a, 'b>,
     scope: &S,
-    own: u64,
+    own: Option<&'b Ways<'a>>,
     edges: Edges,
     list: Cursor<'_>,
 ) -> Result<On, ReadFault>
-    ensures { IsReading on_of (on_parts_reading (known_seen known.entry) (S.names scope.now) own edges (owner_of list.entry) (number_of list.entry) (rest_of list.entry)) result }
+    ensures { IsReading on_of (on_parts_reading (known_seen known.entry) (S.names scope.now) (ways_there own.entry) edges (owner_of list.entry) (number_of list.entry) (rest_of list.entry)) result }
 {
     let mut rest = list;
     let edge = next_part(&mut rest)?;
@@ -171,22 +156,22 @@ fn read_on_parts<S: Scope>(
         return Err(wrong(Pass::Shape, list.owner()));
     }
     let step = read_step(alloc, known, scope, edge, call);
-    let riders = read_riders(alloc, known, scope, rest);
+    let riders = read_riders(alloc, known, scope, own, rest);
     let on = made_on(step, riders);
     limited(path_count(known, own, rest) > PATH_LIMIT, list.owner(), on)
 }
 
-/// What is done at an edge, `(on EDGE (ACTION T*) RIDER*)`: at one of these edges, in the body of an operation that has so
-/// many branches.
-pub fn read_on<S: Scope>(
+/// What is done at an edge, `(on EDGE (ACTION T*) RIDER*)`: at one of these edges, in the body of an operation that goes
+/// so, if it is known.
+pub fn read_on<'a, 'b, S: Scope>(
     alloc: Global,
-    known: Known<'_, '_>,
+    known: Known<'a, 'b>,
     scope: &S,
-    own: u64,
+    own: Option<&'b Ways<'a>>,
     edges: Edges,
     part: Part<'_>,
 ) -> Result<On, ReadFault>
-    ensures { IsReading on_of (on_reading (known_seen known.entry) (S.names scope.now) own edges (place_of part.entry) (tree_of part.entry)) result }
+    ensures { IsReading on_of (on_reading (known_seen known.entry) (S.names scope.now) (ways_there own.entry) edges (place_of part.entry) (tree_of part.entry)) result }
 {
     let list = behind_word(part, "on")?;
     read_on_parts(alloc, known, scope, own, edges, list)
@@ -194,15 +179,15 @@ pub fn read_on<S: Scope>(
 
 /// What is done at the edges of an instruction, by the items that are left in a list: each at one of these edges, and at one
 /// that those before it do not name.
-pub fn read_ons<S: Scope>(
+pub fn read_ons<'a, 'b, S: Scope>(
     alloc: Global,
-    known: Known<'_, '_>,
+    known: Known<'a, 'b>,
     scope: &S,
-    own: u64,
+    own: Option<&'b Ways<'a>>,
     edges: Edges,
     list: Cursor<'_>,
 ) -> Result<Vec<On>, ReadFault>
-    ensures { IsReading (λ ons. map on_of ons.items) (ons_reading (known_seen known.entry) (S.names scope.now) own edges (number_of list.entry) (rest_of list.entry)) result }
+    ensures { IsReading (λ ons. map on_of ons.items) (ons_reading (known_seen known.entry) (S.names scope.now) (ways_there own.entry) edges (number_of list.entry) (rest_of list.entry)) result }
 {
     let mut rest = list;
     let mut left = edges;

@@ -1,11 +1,10 @@
 ghost use Rattle.std.specs.Prelude.{◌≡◌, min};
 ghost use Rattle.lc_sexp.specs.Shown.{rest_of};
 ghost use Rattle.lc_reading.specs.Parts.{tree_of};
-ghost use Rattle.lc_rider_text.specs.Known as K;
-ghost use Rattle.lc_rider_text.specs.KnownView.{known_seen};
-ghost use Rattle.lc_rider_text.specs.Paths.{or_one, other_ways, ways_with, deed_ways, when_ways, rider_ways, path_count};
+ghost use Rattle.lc_rider_text.specs.KnownView.{known_seen, ways_there};
+ghost use Rattle.lc_rider_text.specs.Paths.{mark_ways, other_ways, ways_with, deed_ways, when_ways, rider_ways, path_count};
 
-use crate::known::Known;
+use crate::known::{Known, Ways};
 use crate::words::{Head, head_of};
 use lc_reading::{Part, headed, next_part, two};
 use lc_sexp::{Cursor, Item};
@@ -20,15 +19,12 @@ fn capped(count: u64) -> u64
     if count < COUNT_CAP { count } else { COUNT_CAP }
 }
 
-/// How many branches the operation at this place has, or one where none is known; up to the cap.
-fn branches_at(known: Known<'_, '_>, place: Option<usize>) -> u64
-    ensures { result ≡ min 65 (or_one (K.count_at (known_seen known.entry).branches place)) }
+/// How many branches an operation has that goes so, or one where it is not known; up to the cap.
+fn mark_ways(ways: Option<&Ways<'_>>) -> u64
+    ensures { result ≡ min 65 (mark_ways (ways_there ways.entry)) }
 {
-    let Some(place) = place else {
-        return 1;
-    };
-    match known.branches.get(place) {
-        Some(count) => capped(*count),
+    match ways {
+        Some(ways) => capped(ways.count),
         None => 1,
     }
 }
@@ -37,30 +33,32 @@ fn branches_at(known: Known<'_, '_>, place: Option<usize>) -> u64
 fn other_ways(known: Known<'_, '_>, list: Cursor<'_>) -> u64
     ensures { result ≡ min 65 (other_ways (known_seen known.entry) (rest_of list.entry)) }
 {
-    let Ok((_, operation, _)) = two(list) else {
-        return 1;
-    };
-    match operation.item() {
-        Item::Atom(atom) => branches_at(known, known.operations.place(atom.text())),
-        Item::List(_) => 1,
+    match two(list) {
+        Ok((_, operation, _)) => mark_ways(known.ways_named(operation)),
+        Err(_) => 1,
     }
 }
 
-/// In how many ways a list's other parts are done, if it begins so, in the body of an operation that has so many branches; up
+/// In how many ways a list's other parts are done, if it begins so, in the body of an operation that goes so, if it is known; up
 /// to the cap.
-fn ways_with(known: Known<'_, '_>, own: u64, head: Option<Head>, list: Cursor<'_>) -> u64
-    ensures { result ≡ min 65 (ways_with (known_seen known.entry) own (rest_of list.entry) head) }
+fn ways_with(
+    known: Known<'_, '_>,
+    own: Option<&Ways<'_>>,
+    head: Option<Head>,
+    list: Cursor<'_>,
+) -> u64
+    ensures { result ≡ min 65 (ways_with (known_seen known.entry) (ways_there own.entry) (rest_of list.entry) head) }
 {
     match head {
-        None | Some(Head::Set) => 1,
-        Some(Head::Lin | Head::Note) => capped(own),
+        Some(Head::Lin | Head::Note) => mark_ways(own),
         Some(Head::LinOther) => other_ways(known, list),
+        None | Some(Head::Set | Head::LinBy | Head::LinOtherBy | Head::NoteBy) => 1,
     }
 }
 
 /// The same of an item that is no `when`.
-fn deed_ways(known: Known<'_, '_>, own: u64, part: Part<'_>) -> u64
-    ensures { result ≡ min 65 (deed_ways (known_seen known.entry) own (tree_of part.entry)) }
+fn deed_ways(known: Known<'_, '_>, own: Option<&Ways<'_>>, part: Part<'_>) -> u64
+    ensures { result ≡ min 65 (deed_ways (known_seen known.entry) (ways_there own.entry) (tree_of part.entry)) }
 {
     let list = match part.item() {
         Item::Atom(_) => return 1,
@@ -73,8 +71,8 @@ fn deed_ways(known: Known<'_, '_>, own: u64, part: Part<'_>) -> u64
 }
 
 /// `F RIDER`: one way more; up to the cap.
-fn when_ways(known: Known<'_, '_>, own: u64, list: Cursor<'_>) -> u64
-    ensures { result ≡ min 65 (when_ways (known_seen known.entry) own (rest_of list.entry)) }
+fn when_ways(known: Known<'_, '_>, own: Option<&Ways<'_>>, list: Cursor<'_>) -> u64
+    ensures { result ≡ min 65 (when_ways (known_seen known.entry) (ways_there own.entry) (rest_of list.entry)) }
 {
     match two(list) {
         Ok((_, rider, _)) => capped(1 + deed_ways(known, own, rider)),
@@ -82,9 +80,10 @@ fn when_ways(known: Known<'_, '_>, own: u64, list: Cursor<'_>) -> u64
     }
 }
 
-/// In how many ways a rider is passed, in the body of an operation that has so many branches; 65 where there are more than 64.
-pub fn rider_ways(known: Known<'_, '_>, own: u64, part: Part<'_>) -> u64
-    ensures { result ≡ min 65 (rider_ways (known_seen known.entry) own (tree_of part.entry)) }
+/// In how many ways a rider is passed, in the body of an operation that goes so, if it is known; 65 where there are more than
+/// 64.
+pub fn rider_ways(known: Known<'_, '_>, own: Option<&Ways<'_>>, part: Part<'_>) -> u64
+    ensures { result ≡ min 65 (rider_ways (known_seen known.entry) (ways_there own.entry) (tree_of part.entry)) }
 {
     let list = match part.item() {
         Item::Atom(_) => return 1,
@@ -97,10 +96,10 @@ pub fn rider_ways(known: Known<'_, '_>, own: u64, part: Part<'_>) -> u64
     }
 }
 
-/// How many paths the riders make that are left in a list, in the body of an operation that has so many branches; 65 where
-/// there are more than 64.
-pub fn path_count(known: Known<'_, '_>, own: u64, list: Cursor<'_>) -> u64
-    ensures { result ≡ min 65 (path_count (known_seen known.entry) own (rest_of list.entry)) }
+/// How many paths the riders make that are left in a list, in the body of an operation that goes so, if it is known; 65
+/// where there are more than 64.
+pub fn path_count(known: Known<'_, '_>, own: Option<&Ways<'_>>, list: Cursor<'_>) -> u64
+    ensures { result ≡ min 65 (path_count (known_seen known.entry) (ways_there own.entry) (rest_of list.entry)) }
 {
     let mut rest = list;
     let mut count = 1;

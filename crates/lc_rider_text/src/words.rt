@@ -10,6 +10,9 @@ pub(crate) enum Head {
     Lin,
     LinOther,
     Note,
+    LinBy,
+    LinOtherBy,
+    NoteBy,
 }
 
 /// What this word says.
@@ -21,6 +24,9 @@ pub(crate) fn head_of(word: &str) -> Option<Head>
         "lin" => Some(Head::Lin),
         "lin-other" => Some(Head::LinOther),
         "note" => Some(Head::Note),
+        "lin-by" => Some(Head::LinBy),
+        "lin-other-by" => Some(Head::LinOtherBy),
+        "note-by" => Some(Head::NoteBy),
         _ => None,
     }
 }

@@ -3,7 +3,7 @@ use Rattle.lc_sexp.specs.Shown.{rest_of, number_of}
 use Rattle.lc_outline.specs.PartsView.{on_of}
 use Rattle.lc_reading.proofs.SoFar.{IsSoFar}
 use Rattle.lc_object_text.specs.Rows.{cons}
-use Rattle.lc_rider_text.specs.KnownView.{known_seen}
+use Rattle.lc_rider_text.specs.KnownView.{known_seen, ways_there}
 use Rattle.lc_rider_text.specs.Ons.{ons_reading}
 use Rattle.lc_rider_text.proofs.on.read_ons.Given as goal
 
@@ -14,4 +14,5 @@ abbrev pub invariant-ons : goal.invariant-ons
 invariant-ons g l =
     let known = known_seen l.fn.known in
     let names = g.S.Scope.names l.scope in
-    IsSoFar on_of cons (ons_reading known names l.fn.own l.fn.edges (number_of l.fn.list) (rest_of l.fn.list)) (ons_reading known names l.fn.own l.left (number_of l.rest) (rest_of l.rest)) l.ons
+    let own = ways_there l.fn.own in
+    IsSoFar on_of cons (ons_reading known names own l.fn.edges (number_of l.fn.list) (rest_of l.fn.list)) (ons_reading known names own l.left (number_of l.rest) (rest_of l.rest)) l.ons

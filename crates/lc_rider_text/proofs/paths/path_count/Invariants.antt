@@ -2,7 +2,7 @@ use Rattle.std.proofs.Common.{◌≡◌, ◌*◌, ◌≤◌}
 use Rattle.std.specs.Prelude.{min}
 use Rattle.lc_sexp.specs.Shown.{rest_of}
 use Rattle.lc_sexp.specs.Trees.{item_count_of_all}
-use Rattle.lc_rider_text.specs.KnownView.{known_seen}
+use Rattle.lc_rider_text.specs.KnownView.{known_seen, ways_there}
 use Rattle.lc_rider_text.specs.Paths.{path_count}
 use Rattle.lc_rider_text.proofs.paths.path_count.Given as goal
 
@@ -10,7 +10,7 @@ abbrev pub invariant-riders : goal.invariant-riders
 invariant-riders l =
     record {
       few : l.count ≤ 65;
-      counted : min 65 (path_count (known_seen l.fn.known) l.fn.own (rest_of l.fn.list)) ≡ min 65 (l.count * path_count (known_seen l.fn.known) l.fn.own (rest_of l.rest));
+      counted : min 65 (path_count (known_seen l.fn.known) (ways_there l.fn.own) (rest_of l.fn.list)) ≡ min 65 (l.count * path_count (known_seen l.fn.known) (ways_there l.fn.own) (rest_of l.rest));
     }
 
 abbrev pub decreases-riders : goal.decreases-riders
