@@ -1,7 +1,7 @@
 -- The branches of a specification store in the columns that its text names.
-use Rattle.std.proofs.Common.{◌≡◌, ℕ, ◌+◌, Bool, true, false, cond, List, [], ◌∷◌, ◌++◌, length, Option, Some, None, refl, sym, ap₂, subst}
+use Rattle.std.proofs.Common.{◌≡◌, ℕ, zero, suc, ◌+◌, Bool, true, false, cond, List, [], ◌∷◌, ◌++◌, length, Option, Some, None, refl, sym, ap, ap₂, ◌∙◌, subst}
 use Rattle.std.specs.List.{list_any}
-use Rattle.std.specs.Prelude.{ℤ, codes, ◌||◌}
+use Rattle.std.specs.Prelude.{ℤ, codes, slice_get, ◌||◌}
 use Rattle.lc_base.specs.NameText.{is_name}
 use Rattle.lc_sexp.specs.Parts.{fits, misshapen, form_fit}
 use Rattle.lc_sexp.specs.TreeCode.{tree_count}
@@ -22,19 +22,25 @@ use Rattle.lc_text.specs.Names.{Names}
 use Rattle.lc_text.specs.Terms.{pair, triple, number_reading, term_reading}
 use Rattle.lc_seq.specs.Specification.{Branch, Operation}
 use Rattle.lc_spec_text.specs.Branches.{stored, written_reading, the_update, update_parts_reading, update_reading, updates_reading, replies_reading, the_branch, branch_parts_reading, branch_reading}
+use Rattle.lc_spec_text.specs.Choices.{parameters_in, label_reading, choice_parts_reading, the_choice, choice_reading, begin_with_choice, ways_reading}
 use Rattle.lc_spec_text.specs.Operations.{count_in, variables_in, signature_reading, the_operation, operation_parts_reading, operation_reading}
 use Rattle.lc_spec_text.specs.Scopes.{Columns, branch_names}
 use Rattle.lc_spec_text.specs.Specifications.{the_column, column_reading, columns_reading, columns_in, operations_reading, the_specification, specification_parts_reading, specification_reading}
 use Rattle.lc_object_text.proofs.Holding.{form_holds}
 use Rattle.lc_object_text.specs.ObjectNames.{text_in, first_text, items_within, later, parts_in_first, names_of_columns}
-use Rattle.lc_object_text.specs.Sections.{parts_of_fit, parts_in, some_forms_in}
+use Rattle.lc_object_text.specs.Sections.{parts_of_fit, parts_in, forms_in, some_forms_in}
 use Rattle.lc_cond.specs.Sizes.{columns_of}
+use Rattle.lc_outline_text.proofs.Going.{no_choices}
 use Rattle.lc_outline_text.specs.Declarations.{branches_in}
 use Rattle.lc_outline_text.specs.Sizes.{columns_stored}
-use Rattle.lc_counted.proofs.Rows.{Alike, Along, each_along, declared_along, counted_count, IsForm, some_alike, for_all}
+use Rattle.lc_counted.proofs.Rows.{Alike, Along, each_along, declared_along, counted_count, IsForm, forms_alike, some_alike, for_all}
 use Rattle.lc_counted.proofs.Updates.{IsColumn, Leads, IsBranchOf}
 
 -- ---- branches
+
+-- a choice NAME (PARAM ..) F (UPDATE ..) (T ..)
+abbrev pub IsChoiceOf : List (List ℕ) → Trees → Branch → Type 0
+IsChoiceOf all ts b = IsBranchOf all (later (later ts)) b
 
 module _ (columns : Columns) (all : List (List ℕ)) (first : Leads columns.own all) where
   stored_said : (n : ℕ) (t : Tree) → Holds (IsColumn all (text_in t)) (written_reading columns n t)
@@ -90,27 +96,78 @@ module _ (columns : Columns) (all : List (List ℕ)) (first : Leads columns.own 
       mapped_holds _ (IsBranchOf all (parts_in (codes "branch") t)) the_branch _
       (form_holds (λ ts p. IsBranchOf all ts (the_branch p)) (codes "branch") (branch_parts_reading columns names count) n t (branch_parts_said names count)) (λ p h. h.1)
 
+  -- ---- choices
+
+  module _ (variables : List (List ℕ)) (count : Option ℕ) where
+    choice_parts_said : (before : List (List ℕ)) (n m : ℕ) (ts : Trees) → Holds (λ p. IsBranchOf all (later (later ts)) (the_choice p)) (choice_parts_reading columns variables count before n m ts)
+    choice_parts_said before n m none = tt
+    choice_parts_said before n m (a ▸ none) = tt
+    choice_parts_said before n m (a ▸ b ▸ none) = tt
+    choice_parts_said before n m (a ▸ b ▸ t ▸ none) = tt
+    choice_parts_said before n m (a ▸ b ▸ t ▸ u ▸ none) = tt
+    choice_parts_said before n m (a ▸ b ▸ t ▸ u ▸ v ▸ ts) =
+        let parts = t ▸ u ▸ v ▸ ts in
+        let names = branch_names columns.own (variables ++ parameters_in b) in
+        let k = m + item_count a + item_count b in
+        both_holds (λ x. Unit {0}) (λ q. IsBranchOf all parts (the_branch q)) (λ p. IsBranchOf all parts (the_choice p)) pair (label_reading variables before m a b) (branch_parts_reading columns names count n k parts)
+        (anything (label_reading variables before m a b)) (branch_parts_said names count n k parts) (λ p q u h. h)
+
+    choice_said : (before : List (List ℕ)) (n : ℕ) (t : Tree) → Holds (IsForm (codes "choice") (IsChoiceOf all) t) (choice_reading columns variables count before n t)
+    choice_said before n t =
+        mapped_holds _ (IsForm (codes "choice") (IsChoiceOf all) t) the_choice _
+        (form_holds (λ ts p. IsChoiceOf all ts (the_choice p)) (codes "choice") (choice_parts_reading columns variables count before) n t (choice_parts_said before)) (λ p h. h)
+
 -- ---- operations
 
--- an operation NAME (ARG ..) REPLIES BRANCH ..
+-- where the first form is no choice, each branch is that of its text; and each choice is that of its text, wherever it stands
 abbrev pub AreBranchesOf : List (List ℕ) → Trees → List Branch → Type 0
 AreBranchesOf all ts bs = Along (λ t b. IsBranchOf all (parts_in (codes "branch") t) b) ts bs
 
+pub record AreWaysSaid (all : List (List ℕ)) (ts : Trees) (bs : List Branch) : Type 0 where
+  pub branches : begin_with_choice ts ≡ false → AreBranchesOf all ts bs
+  pub choices : (j : ℕ) (f : Trees) (b : Branch) → slice_get (forms_in (codes "choice") ts) j ≡ Some f → slice_get bs j ≡ Some b → IsChoiceOf all f b
+
+-- an operation NAME (ARG ..) REPLIES, then BRANCH .. or CHOICE ..
 abbrev pub IsOperationOf : List (List ℕ) → Trees → Operation → Type 0
-IsOperationOf all us q = AreBranchesOf all (branches_in us) q.branches
+IsOperationOf all us q = AreWaysSaid all (branches_in us) q.branches
+
+-- of lists that go together
+both_there : {X Y : Type 0} (P : X → Y → Type 0) (xs : List X) (ys : List Y) (j : ℕ) (x : X) (y : Y) → Alike P xs ys → slice_get xs j ≡ Some x → slice_get ys j ≡ Some y → P x y
+both_there P [] ys j x y h e g = absurd (cc)
+both_there P (v ∷ xs) [] j x y h e g = absurd (cc)
+both_there P (v ∷ xs) (w ∷ ys) zero x y h e g = let left : v ≡ x = cc in let right : w ≡ y = cc in subst (λ z. P z y) left (subst (P v) right h.0)
+both_there P (v ∷ xs) (w ∷ ys) (suc j) x y h e g = both_there P xs ys j x y h.1 e g
 
 module _ (columns : Columns) (all : List (List ℕ)) (first : Leads columns.own all) where
+  ways_said : (variables : List (List ℕ)) (count : Option ℕ) (m : ℕ) (ts : Trees) → Holds (AreWaysSaid all ts) (ways_reading columns variables count m ts)
+  ways_said variables count m ts = by_test (begin_with_choice ts) refl where
+    by_test : (c : Bool) → begin_with_choice ts ≡ c
+        → Holds (AreWaysSaid all ts) (cond c (declared_reading (choice_reading columns variables count) second_name [] m ts) (each_reading (branch_reading columns (branch_names columns.own variables) count) m ts))
+    by_test true e =
+        weaker (Along (IsForm (codes "choice") (IsChoiceOf all)) ts) (AreWaysSaid all ts) (declared_reading (choice_reading columns variables count) second_name [] m ts)
+        (λ bs h. record {
+          branches = λ no. absurd (let other : true ≡ false = sym e ∙ no in cc);
+          choices = λ j f b at there. both_there (IsChoiceOf all) (forms_in (codes "choice") ts) bs j f b (forms_alike (codes "choice") (IsChoiceOf all) ts bs h) at there;
+        })
+        (declared_along (IsForm (codes "choice") (IsChoiceOf all)) (choice_reading columns variables count) second_name (choice_said columns all first variables count) [] m ts)
+    by_test false e =
+        let read = branch_reading columns (branch_names columns.own variables) count in
+        weaker (AreBranchesOf all ts) (AreWaysSaid all ts) (each_reading read m ts)
+        (λ bs h. record {
+          branches = λ none. h;
+          choices = λ j f b at there. absurd (let other : None ≡ Some f = sym (ap (λ fs. slice_get fs j) (no_choices ts e)) ∙ at in cc);
+        })
+        (each_along (λ t b. IsBranchOf all (parts_in (codes "branch") t) b) read (branch_said columns all first (branch_names columns.own variables) count) m ts)
+
   operation_parts_said : (before : List (List ℕ)) (n m : ℕ) (us : Trees) → Holds (λ p. IsOperationOf all us (the_operation p)) (operation_parts_reading columns before n m us)
   operation_parts_said before n m none = tt
   operation_parts_said before n m (t ▸ none) = tt
   operation_parts_said before n m (t ▸ u ▸ none) = tt
   operation_parts_said before n m (t ▸ u ▸ v ▸ none) = tt
   operation_parts_said before n m (t ▸ u ▸ v ▸ b ▸ bs) =
-      let names = branch_names columns.own (variables_in u) in
-      let read = branch_reading columns names (count_in v) in
-      both_holds (λ x. Unit {0}) (AreBranchesOf all (b ▸ bs)) (λ p. IsOperationOf all (t ▸ u ▸ v ▸ b ▸ bs) (the_operation p)) pair (signature_reading before m t u v)
-      (each_reading read (m + item_count t + item_count u + item_count v) (b ▸ bs)) (anything (signature_reading before m t u v))
-      (each_along (λ t b. IsBranchOf all (parts_in (codes "branch") t) b) read (branch_said columns all first names (count_in v)) (m + item_count t + item_count u + item_count v) (b ▸ bs)) (λ p xs h g. g)
+      let r = ways_reading columns (variables_in u) (count_in v) (m + item_count t + item_count u + item_count v) (b ▸ bs) in
+      both_holds (λ x. Unit {0}) (AreWaysSaid all (b ▸ bs)) (λ p. IsOperationOf all (t ▸ u ▸ v ▸ b ▸ bs) (the_operation p)) pair (signature_reading before m t u v) r
+      (anything (signature_reading before m t u v)) (ways_said (variables_in u) (count_in v) (m + item_count t + item_count u + item_count v) (b ▸ bs)) (λ p xs h g. g)
 
   operation_said : (before : List (List ℕ)) (n : ℕ) (t : Tree) → Holds (IsForm (codes "op") (IsOperationOf all) t) (operation_reading columns before n t)
   operation_said before n t =

@@ -9,7 +9,7 @@ use Rattle.lc_reading.specs.Listed.{place_of}
 use Rattle.lc_term.specs.Syntax.{Term, Not, And, formulas}
 use Rattle.lc_term.specs.Lists.{concat_map}
 use Rattle.lc_term.specs.SystemColumns.{pend}
-use Rattle.lc_object.specs.Edges.{Edge, array_columns, reads, row_updates, row_facts, edges_at}
+use Rattle.lc_object.specs.Edges.{Edge, array_columns, reads, row_updates, row_facts, row_sums, edges_at}
 use Rattle.lc_object.specs.Syntax as S
 use Rattle.lc_object.specs.Syntax.{Instr, Operation, Point}
 use Rattle.lc_object.specs.declared.instr.EdgeKind.{EdgeKind}
@@ -36,6 +36,7 @@ pub record Meets (d : Declarations) (D : Development) (n : Totals) : Type 0 wher
   pub idle : length D.idle ≡ n.idle
   pub actions : length D.actions + 2 ≡ n.actions
   pub columns : first_system D ≡ length d.declared.columns
+  pub own : (o : ℕ) (q : Operation) → slice_get D.object.operations o ≡ Some q → o < length d.declared.operations
   pub agrees : Agrees d D
   pub arrays : (w : List ℕ) (a width : ℕ) → row_at d.declared.spans (place_of d.declared.arrays w) ≡ Some (a, width)
       → (array_columns D.object a ≡ Z.array_columns d.declared w) × (length (Z.array_columns d.declared w) ≡ width)
@@ -78,6 +79,12 @@ row_columns [] t vs e = refl
 row_columns (c ∷ cs) t [] e = absurd (omega (arith, e))
 row_columns (c ∷ cs) t (v ∷ vs) e = ap (λ l. c ∷ l) (row_columns cs t vs (omega (arith, e)))
 
+added : (cs : List ℕ) (t : Term) (ds : List Term) → length cs ≡ length ds → length (row_sums cs t ds) ≡ length ds
+added [] t [] e = refl
+added [] t (d ∷ ds) e = absurd (omega (arith, e))
+added (c ∷ cs) t [] e = absurd (omega (arith, e))
+added (c ∷ cs) t (d ∷ ds) e = ap suc (added cs t ds (omega (arith, e)))
+
 -- ---- a point
 
 module _ (d : Declarations) (D : Development) (n : Totals) (meets : Meets d D n) (b : Body) (o : ℕ) (q : Operation) (is : slice_get D.object.operations o ≡ Some q) (asserts : List ℕ) (lead : Leads d D b asserts) where
@@ -103,7 +110,7 @@ module _ (d : Declarations) (D : Development) (n : Totals) (meets : Meets d D n)
       ap (sum_by edge_count) sizes ∙ alone
       ∙ ap (λ x. way_count (columns_acted D x) (map (rider_ways D o) (riders_in x)) (asked_at e) (columns_at e)) on
       ∙ ap₂ (way_count (columns_acted D (on_for x.1.ons kind)) (map (rider_ways D o) (riders_in (on_for x.1.ons kind)))) same stored
-      ∙ edge_counted d o D meets.agrees (on_of (edge_word kind) (ons_of ts)) (on_for x.1.ons kind) (on_found d o kind (ons_of ts) x.1.ons said.ons) asked cs
+      ∙ edge_counted d o D meets.agrees (meets.own o q is) (on_of (edge_word kind) (ons_of ts)) (on_for x.1.ons kind) (on_found d o kind (ons_of ts) x.1.ons said.ons) asked cs
 
   -- ---- instructions
 
@@ -125,6 +132,14 @@ module _ (d : Declarations) (D : Development) (n : Totals) (meets : Meets d D n)
   row_written w a t vs e =
       let (columns, wide) = meets.arrays w a (length vs) e in
       append-nil (columns_of (row_updates (array_columns D.object a) t vs)) ∙ ap (λ cs. columns_of (row_updates cs t vs)) columns ∙ row_columns (Z.array_columns d.declared w) t vs wide
+
+  row_added : (w : List ℕ) (a : ℕ) (t : Term) (ds : List Term) → row_at d.declared.spans (place_of d.declared.arrays w) ≡ Some (a, length ds)
+      → columns_of (row_updates (array_columns D.object a) t (row_sums (array_columns D.object a) t ds)) ++ [] ≡ Z.array_columns d.declared w
+  row_added w a t ds e =
+      let (columns, wide) = meets.arrays w a (length ds) e in
+      let long : length (array_columns D.object a) ≡ length ds = ap length columns ∙ wide in
+      let sums = row_sums (array_columns D.object a) t ds in
+      row_written w a t sums (e ∙ ap (λ k. Some (a, k)) (sym (added (array_columns D.object a) t ds long)))
 
   module _ (p : ℕ) (x : Point × Outline) (ts : Trees) (said : IsPointOf d b o ts x) (at : IsThere D p x) where
     abbrev parts : Trees
@@ -162,6 +177,11 @@ module _ (d : Declarations) (D : Development) (n : Totals) (meets : Meets d D n)
     by_code (S.Set rs vs l) c =
         let e : Edge = record { point = p; kind = Next; facts = []; targets = rs; values = vs; updates = []; next = Some l; replies = [] } in
         alone (codes "set") e (edge_same p x ts said at e Next refl refl _ [] (asked_behind_label (text_at 2 parts) l c.1) refl) refl refl c.0
+    by_code (S.Faa a t rs ds l) c =
+        let columns = array_columns D.object a in
+        let e : Edge =
+        record { point = p; kind = Next; facts = []; targets = rs; values = reads columns t; updates = row_updates columns t (row_sums columns t ds); next = Some l; replies = [] } in
+        alone (codes "faa") e (edge_same p x ts said at e Next refl refl _ _ (asked_behind_label (text_at 5 parts) l c.2) (row_added (text_at 1 parts) a t ds c.1)) refl refl c.0
     by_code (S.If g l m) c =
         let e : Edge = record { point = p; kind = Then; facts = g ∷ []; targets = []; values = []; updates = []; next = Some l; replies = [] } in
         let f : Edge = record { point = p; kind = Else; facts = Not g ∷ []; targets = []; values = []; updates = []; next = Some m; replies = [] } in

@@ -19,7 +19,7 @@ use Rattle.lc_object_text.proofs.Holding.{Counted, row_holds, behind_holds}
 use Rattle.lc_object_text.specs.Cells.{found, array_reading, label_reading, row_width, values_reading, targets_reading}
 use Rattle.lc_object_text.specs.CodeNames.{CodeNames}
 use Rattle.lc_object_text.specs.Heads.{head_of}
-use Rattle.lc_object_text.specs.Instructions.{place_reading, labels_reading, moved_reading, stored_reading, rows_reading, exchange_reading, load_of, load_reading, store_of, store_reading, cas_of, cas_reading, set_of, set_reading, if_of, if_reading, code_reading, return_of, return_reading, instruction_reading}
+use Rattle.lc_object_text.specs.Instructions.{place_reading, labels_reading, moved_reading, stored_reading, rows_reading, exchange_reading, load_of, load_reading, store_of, store_reading, cas_of, cas_reading, set_of, set_reading, adding_reading, faa_of, faa_reading, if_of, if_reading, code_reading, return_of, return_reading, instruction_reading}
 use Rattle.lc_object_text.specs.ObjectNames.{text_in, first_text, items_within}
 use Rattle.lc_outline_text.specs.Sizes.{text_at}
 use Rattle.lc_counted.proofs.Rows.{each_count}
@@ -31,6 +31,7 @@ IsCoded code c (S.Store a t vs l) = (first_text c ≡ codes "store") × (code.ar
 IsCoded code c (S.Cas a t old new l m) =
     (first_text c ≡ codes "cas") × (code.array (text_at 1 c) ≡ Some (a, length new)) × (code.label (text_at 5 c) ≡ Some l) × (code.label (text_at 6 c) ≡ Some m)
 IsCoded code c (S.Set rs vs l) = (first_text c ≡ codes "set") × (code.label (text_at 2 c) ≡ Some l)
+IsCoded code c (S.Faa a t rs ds l) = (first_text c ≡ codes "faa") × (code.array (text_at 1 c) ≡ Some (a, length ds)) × (code.label (text_at 5 c) ≡ Some l)
 IsCoded code c (S.If f l m) = (first_text c ≡ codes "if") × (code.label (text_at 2 c) ≡ Some l) × (code.label (text_at 3 c) ≡ Some m)
 IsCoded code c (S.Return vs) = first_text c ≡ codes "return"
 
@@ -138,6 +139,25 @@ module _ (names : Names) (code : CodeNames) where
   sets w e n m (a ▸ l ▸ ts) =
       both_holds (λ p. Unit {0}) (IsLabel l) (IsCoded code (atom w ▸ a ▸ l ▸ ts)) set_of _ (label_reading code (m + item_count a) l) (anything _) (label_said (m + item_count a) l) (λ p q h g. (e, g))
 
+  adds : (w : List ℕ) → w ≡ codes "faa" → (n m : ℕ) (ts : Trees) → Holds (IsCoded code (atom w ▸ ts)) (faa_reading names code n m ts)
+  adds w e n m none = tt
+  adds w e n m (a ▸ none) = tt
+  adds w e n m (a ▸ t ▸ none) = tt
+  adds w e n m (a ▸ t ▸ r ▸ none) = tt
+  adds w e n m (a ▸ t ▸ r ▸ d ▸ none) = tt
+  adds w e n m (a ▸ t ▸ r ▸ d ▸ l ▸ ts) =
+      let width = row_width code a in
+      let i = m + item_count a + item_count t in
+      let j = i + item_count r in
+      let Stored : List Term × ℕ → Type 0 = λ q. HaveWidth width q.0 × IsLabel l q.1 in
+      let Added : List ℕ × (List Term × ℕ) → Type 0 = λ q. Stored q.1 in
+      both_holds (λ (p : ℕ × Term). IsArray a p.0) Added (IsCoded code (atom w ▸ a ▸ t ▸ r ▸ d ▸ l ▸ ts)) faa_of (place_reading names code m a (m + item_count a) t)
+      (adding_reading names code width i r j d (j + item_count d) l) (place_said m a (m + item_count a) t)
+      (both_holds (λ rs. Unit {0}) Stored Added pair (targets_reading code width i r) (stored_reading names code width j d (j + item_count d) l) (anything (targets_reading code width i r))
+      (both_holds (HaveWidth width) (IsLabel l) Stored pair (values_reading names width j d) (label_reading code (j + item_count d) l) (values_said width j d) (label_said (j + item_count d) l) (λ x y h g. (h, g)))
+      (λ x y u h. h))
+      (λ p q h g. (e, row_of a p.0 (length q.1.0) h g.0, g.1))
+
   tests : (w : List ℕ) → w ≡ codes "if" → (n m : ℕ) (ts : Trees) → Holds (IsCoded code (atom w ▸ ts)) (if_reading names code n m ts)
   tests w e n m none = tt
   tests w e n m (a ▸ none) = tt
@@ -150,24 +170,26 @@ module _ (names : Names) (code : CodeNames) where
   returns w e n m ts = both_holds (λ u. Unit {0}) (λ vs. Unit {0}) (IsCoded code (atom w ▸ ts)) return_of _ _ (anything _) (anything _) (λ p q h g. e)
 
   -- the first whose test holds
-  first_of : {X : Type 0} (P : Option X → Type 0) (o p q r s : Option X) (a b c d e : Bool) → (a ≡ true → P o) → (b ≡ true → P p) → (c ≡ true → P q) → (d ≡ true → P r) → (e ≡ true → P s) → P None
-      → P (cond a o (cond b p (cond c q (cond d r (cond e s None)))))
-  first_of P o p q r s true b c d e h i j k l m = h refl
-  first_of P o p q r s false true c d e h i j k l m = i refl
-  first_of P o p q r s false false true d e h i j k l m = j refl
-  first_of P o p q r s false false false true e h i j k l m = k refl
-  first_of P o p q r s false false false false true h i j k l m = l refl
-  first_of P o p q r s false false false false false h i j k l m = m
+  first_of : {X : Type 0} (P : Option X → Type 0) (o p q r s u : Option X) (a b c d e f : Bool) → (a ≡ true → P o) → (b ≡ true → P p) → (c ≡ true → P q) → (d ≡ true → P r) → (e ≡ true → P s) → (f ≡ true → P u) → P None
+      → P (cond a o (cond b p (cond c q (cond d r (cond e s (cond f u None))))))
+  first_of P o p q r s u true b c d e f h i j k l m n = h refl
+  first_of P o p q r s u false true c d e f h i j k l m n = i refl
+  first_of P o p q r s u false false true d e f h i j k l m n = j refl
+  first_of P o p q r s u false false false true e f h i j k l m n = k refl
+  first_of P o p q r s u false false false false true f h i j k l m n = l refl
+  first_of P o p q r s u false false false false false true h i j k l m n = m refl
+  first_of P o p q r s u false false false false false false h i j k l m n = n
 
   by_head : (w : List ℕ) (n m : ℕ) (ts : Trees) → Holds (IsCoded code (atom w ▸ ts)) (code_reading names code n m ts (head_of w))
   by_head w n m ts =
       let P = IsCoded code (atom w ▸ ts) in
-      first_of (λ o. Holds P (code_reading names code n m ts o)) (head_of (codes "load")) (head_of (codes "store")) (head_of (codes "cas")) (head_of (codes "set")) (head_of (codes "if"))
-      (is w (codes "load")) (is w (codes "store")) (is w (codes "cas")) (is w (codes "set")) (is w (codes "if"))
+      first_of (λ o. Holds P (code_reading names code n m ts o)) (head_of (codes "load")) (head_of (codes "store")) (head_of (codes "cas")) (head_of (codes "set")) (head_of (codes "faa")) (head_of (codes "if"))
+      (is w (codes "load")) (is w (codes "store")) (is w (codes "cas")) (is w (codes "set")) (is w (codes "faa")) (is w (codes "if"))
       (λ e. behind_holds P 4 m ts (load_reading names code n m ts) (loads w (is-true w (codes "load") e) n m ts))
       (λ e. behind_holds P 4 m ts (store_reading names code n m ts) (stores w (is-true w (codes "store") e) n m ts))
       (λ e. behind_holds P 6 m ts (cas_reading names code n m ts) (exchanges w (is-true w (codes "cas") e) n m ts))
       (λ e. behind_holds P 2 m ts (set_reading names code n m ts) (sets w (is-true w (codes "set") e) n m ts))
+      (λ e. behind_holds P 5 m ts (faa_reading names code n m ts) (adds w (is-true w (codes "faa") e) n m ts))
       (λ e. behind_holds P 3 m ts (if_reading names code n m ts) (tests w (is-true w (codes "if") e) n m ts)) tt
 
   by_return : (w : List ℕ) (n : ℕ) (ts : Trees) (b : Bool) → is w (codes "return") ≡ b → Holds (IsCoded code (atom w ▸ ts)) (cond b (return_reading names code n (n + 2) ts) (code_reading names code n (n + 2) ts (head_of w)))

@@ -4,6 +4,7 @@ mod Branches
 mod Edges
 mod Instructions
 mod Limit
+mod Marks
 mod Points
 mod Riders
 mod Rows

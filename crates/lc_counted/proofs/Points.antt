@@ -21,7 +21,7 @@ use Rattle.lc_outline.specs.Development.{Outline}
 use Rattle.lc_rider_text.specs.Ons.{ons_reading}
 use Rattle.lc_rider_text.specs.declared.edges.Edges.{Edges}
 use Rattle.lc_outline_text.specs.Bodies.{names_in, due_reading, ith_reading, bodies_reading}
-use Rattle.lc_outline_text.specs.Declarations.{Declarations, known_of, own_branches}
+use Rattle.lc_outline_text.specs.Declarations.{Declarations, known_of, own_ways}
 use Rattle.lc_outline_text.specs.Needs.{code_word, edges_of}
 use Rattle.lc_outline_text.specs.Points.{formulas_in_reading, outline_of, outline_reading, beside}
 use Rattle.lc_outline_text.specs.Sizes.{assert_count, ons_of}
@@ -46,26 +46,26 @@ formulas_said word names n t =
 abbrev IsOutlineOf : Declarations → ℕ → Tree → Trees → Outline → Type 0
 IsOutlineOf d o t ts x = (length x.asserts ≡ tree_count (parts_in (codes "assert") t)) × Alike (IsOnOf d o) (forms_in (codes "on") ts) x.ons
 
-outline_said : (d : Declarations) (o : ℕ) (names : Names) (own : ℕ) (edges : Edges) (i : ℕ) (t : Tree) (m : ℕ) (ts : Trees) → Holds (IsOutlineOf d o t ts) (outline_reading (known_of d) names own edges i t m ts)
-outline_said d o names own edges i t m ts =
+outline_said : (d : Declarations) (o : ℕ) (names : Names) (edges : Edges) (i : ℕ) (t : Tree) (m : ℕ) (ts : Trees) → Holds (IsOutlineOf d o t ts) (outline_reading (known_of d) names (own_ways d o) edges i t m ts)
+outline_said d o names edges i t m ts =
     both_holds (λ fs. length fs ≡ tree_count (parts_in (codes "assert") t)) (Alike (IsOnOf d o) (forms_in (codes "on") ts)) (IsOutlineOf d o t ts) outline_of (formulas_in_reading (codes "assert") names i t)
-    (ons_reading (known_of d) names own edges m ts) (formulas_said (codes "assert") names i t) (ons_said d o names own edges m ts) (λ fs ons h g. (h, g))
+    (ons_reading (known_of d) names (own_ways d o) edges m ts) (formulas_said (codes "assert") names i t) (ons_said d o names edges m ts) (λ fs ons h g. (h, g))
 
 -- its code
 abbrev IsCodeOf : Declarations → Body → ℕ → Trees → Point → Type 0
 IsCodeOf d b o c q = (q.operation ≡ o) × IsCoded (body_names d.declared b) c q.instruction
 
-beside_said : (d : Declarations) (b : Body) (o : ℕ) (name code : Tree) (names : Names) (own n : ℕ) (shaped : Bool) (r : Reading Point) → Holds (IsCodeOf d b o (within_first (code ▸ none))) r → (m : ℕ) (ts : Trees)
-    → Holds (IsPointOf d b o (name ▸ code ▸ ts)) (beside (known_of d) names own n code shaped r m ts)
-beside_said d b o name code names own n shaped r h m none = tt
-beside_said d b o name code names own n shaped r h m (t ▸ ts) =
+beside_said : (d : Declarations) (b : Body) (o : ℕ) (name code : Tree) (names : Names) (n : ℕ) (shaped : Bool) (r : Reading Point) → Holds (IsCodeOf d b o (within_first (code ▸ none))) r → (m : ℕ) (ts : Trees)
+    → Holds (IsPointOf d b o (name ▸ code ▸ ts)) (beside (known_of d) names (own_ways d o) n code shaped r m ts)
+beside_said d b o name code names n shaped r h m none = tt
+beside_said d b o name code names n shaped r h m (t ▸ ts) =
     let P = IsPointOf d b o (name ▸ code ▸ t ▸ ts) in
     if_holds P _ (wrong Shape n) _ tt
-    (both_holds (IsCodeOf d b o (within_first (code ▸ none))) (IsOutlineOf d o t ts) P pair r (outline_reading (known_of d) names own (edges_of (code_word code)) m t (m + item_count t) ts) h
-    (outline_said d o names own (edges_of (code_word code)) m t (m + item_count t) ts) (λ q x g k. record { operation = g.0; asserts = k.0; code = g.1; ons = k.1 }))
+    (both_holds (IsCodeOf d b o (within_first (code ▸ none))) (IsOutlineOf d o t ts) P pair r (outline_reading (known_of d) names (own_ways d o) (edges_of (code_word code)) m t (m + item_count t) ts) h
+    (outline_said d o names (edges_of (code_word code)) m t (m + item_count t) ts) (λ q x g k. record { operation = g.0; asserts = k.0; code = g.1; ons = k.1 }))
 
 abbrev side_of : Declarations → Body → ℕ → Beside (Point × Outline)
-side_of d b o = beside (known_of d) (names_in d b) (own_branches d o)
+side_of d b o = beside (known_of d) (names_in d b) (own_ways d o)
 
 parts_said : (d : Declarations) (b : Body) (o i n m : ℕ) (ts : Trees) → Holds (IsPointOf d b o ts) (point_parts d.declared b (side_of d b o) o i n m ts)
 parts_said d b o i n m none = tt
@@ -76,7 +76,7 @@ parts_said d b o i n m (name ▸ code ▸ ts) =
     let k = m + item_count name in
     let r = instruction_reading names own k code in
     let w = point_name_reading d.declared (b.first + i) n m name in
-    beside_said d b o name code (names_in d b) (own_branches d o) n (is_shaped r) _
+    beside_said d b o name code (names_in d b) n (is_shaped r) _
     (both_holds (λ w. Unit {0}) (IsCoded own (within_first (code ▸ none))) (IsCodeOf d b o (within_first (code ▸ none))) (point_of o) w r (anything w) (instruction_said names own k code) (λ w i u h. (refl, h)))
     (k + item_count code) ts
 

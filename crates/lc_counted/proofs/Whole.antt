@@ -26,46 +26,24 @@ use Rattle.lc_cond.specs.Sizes as C
 use Rattle.lc_cond.specs.Sizes.{edge_count, edge_sizes, assert_sizes, count, sizes_of}
 use Rattle.lc_cond.proofs.Sized.{are_counted}
 use Rattle.lc_outline_text.proofs.Assembled.{SpecificationHolds, specification_of_text, ObjectHolds, object_of_text, fits_declared, forms_resolved}
+use Rattle.lc_outline_text.proofs.Fitting.{matched_below}
 use Rattle.lc_outline_text.proofs.Outlined.{all_points}
 use Rattle.lc_outline_text.specs.Bodies.{bodies_reading}
-use Rattle.lc_outline_text.specs.Declarations.{Declarations, declarations_in, declarations_of, branches_in, or_nothing, form_at}
+use Rattle.lc_outline_text.specs.Declarations.{Declarations, declarations_in, declarations_of}
 use Rattle.lc_outline_text.specs.Developments.{specification_reading, Parts, tables_reading, object_reading, second_form_reading, development_of, forms_reading}
 use Rattle.lc_outline_text.specs.Sides.{Sides, sides_reading}
-use Rattle.lc_outline_text.specs.Sizes.{Totals, mark_ways, totals_of, condition_count}
+use Rattle.lc_outline_text.specs.Sizes.{Totals, totals_of, condition_count}
 use Rattle.lc_counted.specs.Counted.{counted}
 use Rattle.lc_counted.proofs.Arrays.{array_said}
 use Rattle.lc_counted.proofs.Bodies.{code_in, point_asserts, ArePlaced, placed, bodies_counted}
-use Rattle.lc_counted.proofs.Branches.{AreBranchesOf, IsOperationOf, own_names, AreOperationsOf, specification_said}
+use Rattle.lc_counted.proofs.Branches.{IsOperationOf, own_names, AreOperationsOf, specification_said}
 use Rattle.lc_counted.proofs.Edges.{Meets}
+use Rattle.lc_counted.proofs.Marks.{in_order_said, by_name_said}
 use Rattle.lc_counted.proofs.Points.{IsDue, bodies_said}
 use Rattle.lc_counted.proofs.Rows.{Alike, alike_length}
 use Rattle.lc_counted.proofs.Sides.{IsActionOf, AreSidesOf, sides_said, acted_said}
 use Rattle.lc_counted.proofs.Sums.{over, point_edges, edges_sum, places_sum, stand}
-use Rattle.lc_counted.proofs.Updates.{Leads, leads, stored_by, marked_columns}
-use Rattle.lc_counted.proofs.Ways.{way_of}
-
--- ---- marks
-
-marked : (all : List (List ℕ)) (k : Marking) (ts : Trees) (bs : List Branch) → AreBranchesOf all ts bs → map (C.mark_way (length all) k) bs ≡ map way_of (mark_ways (stored_by all k) (C.asked_of k) ts)
-marked all k none [] h = refl
-marked all k none (b ∷ bs) h = absurd h
-marked all k (t ▸ ts) [] h = absurd h
-marked all k (t ▸ ts) (b ∷ bs) h = ap₂ (λ x xs. x ∷ xs) (ap way (marked_columns all k (parts_in (codes "branch") t) b h.0)) (marked all k ts bs h.1) where
-  way : List ℕ → C.Way
-  way cs = record { asked = C.asked_of k; columns = cs }
-
-branches_at : (all : List (List ℕ)) (fs : List Trees) (qs : List Operation) (k : ℕ) → Alike (IsOperationOf all) fs qs → AreBranchesOf all (branches_in (or_nothing (slice_get fs k))) (op_branches qs k)
-branches_at all [] [] k h = tt
-branches_at all [] (q ∷ qs) k h = absurd h
-branches_at all (f ∷ fs) [] k h = absurd h
-branches_at all (f ∷ fs) (q ∷ qs) zero h = h.0
-branches_at all (f ∷ fs) (q ∷ qs) (suc k) h = branches_at all fs qs k h.1
-
-marks_said : (d : Declarations) (D : Development) → first_system D ≡ length d.declared.columns → Alike (IsOperationOf d.declared.columns) d.operations D.specification.operations → (k : Marking) (o : ℕ)
-    → map (C.mark_way (first_system D) k) (op_branches D.specification.operations o) ≡ map way_of (mark_ways (stored_by d.declared.columns k) (C.asked_of k) (branches_in (form_at d.operations (Some o))))
-marks_said d D first h k o =
-    let bs = op_branches D.specification.operations o in
-    ap (λ n. map (C.mark_way n k) bs) first ∙ marked d.declared.columns k (branches_in (or_nothing (slice_get d.operations o))) bs (branches_at d.declared.columns d.operations D.specification.operations o h)
+use Rattle.lc_counted.proofs.Updates.{Leads, leads}
 
 -- ---- the specification
 
@@ -149,7 +127,12 @@ module _ (s : Sections) (p : O.SpecificationText × Specification) (o : Parts) (
         idle = sides.idle;
         actions = omega (arith, actions);
         columns = fit.columns;
-        agrees = record { marks = marks_said d D fit.columns h.1; acted = acted_said d D.actions sides.actions };
+        own = λ o q is. omega (arith, fit.counted, matched_below D.object.operations D.specification.operations o q fit.matched is);
+        agrees = record {
+            in_order = in_order_said d D fit.columns (length-map d.operations first_text) h.0.goes h.1;
+            by_name = by_name_said d D fit.columns (length-map d.operations first_text) h.0.goes h.1;
+            acted = acted_said d D.actions sides.actions;
+          };
         arrays = array_said d.declared D.object.arrays spans;
       }
 

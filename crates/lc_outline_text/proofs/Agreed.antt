@@ -1,32 +1,34 @@
 -- A specification that is read says of its operations what its object sees of them.
-use Rattle.std.proofs.Common.{◌≡◌, ℕ, zero, suc, ◌+◌, ◌≤◌, ◌<◌, Bool, true, false, ◌&&◌, ◌==◌, cond, List, [], ◌∷◌, ◌++◌, length, Option, Some, None, refl, sym, ap, ◌∙◌, arith}
-use Rattle.std.specs.Prelude.{ℤ, pos, negsuc, codes, nat_lt}
+use Rattle.std.proofs.Common.{◌≡◌, ℕ, zero, suc, ◌+◌, ◌≤◌, ◌<◌, Bool, true, false, ◌&&◌, ◌==◌, cond, List, [], ◌∷◌, ◌++◌, map, length, Option, Some, None, refl, sym, ap, ◌∙◌, subst, arith}
+use Rattle.std.specs.Prelude.{ℤ, pos, negsuc, codes, nat_lt, slice_get}
 use Rattle.lc_sexp.specs.Numerals.{integer_of}
-use Rattle.lc_sexp.specs.Parts.{fits, beyond, integer_within}
+use Rattle.lc_sexp.specs.Parts.{fits, beyond, form_fit, integer_within}
 use Rattle.lc_sexp.specs.TreeCode.{tree_count}
 use Rattle.lc_sexp.specs.Trees.{Tree, Trees, atom, list, none, ◌▸◌, item_count}
 use Rattle.lc_reading.proofs.Holding.{Holds, anything, mapped_holds, both_holds, three_holds, limited_holds, if_holds, and_true, weaker}
 use Rattle.lc_reading.specs.Listed.{declared_by, names_among}
 use Rattle.lc_reading.specs.Naming.{is_full, name_reading}
 use Rattle.lc_reading.specs.Readings.{Reading, fine, wrong}
-use Rattle.lc_reading.specs.Rows.{each_reading, first_name, second_name, declared_reading}
+use Rattle.lc_reading.specs.Rows.{first_name, second_name, declared_reading}
 use Rattle.lc_reading.specs.declared.pass.Pass.TheVariants.{Bound}
 use Rattle.lc_text.specs.Terms.{pair, triple}
 use Rattle.lc_object.specs.Syntax.{Point}
-use Rattle.lc_object_text.proofs.Holding.{Each, form_holds}
+use Rattle.lc_object_text.proofs.Holding.{Each, form_holds, each_form, parts_of_all, some_forms}
 use Rattle.lc_object_text.proofs.SignatureHolds.{IsSignature, IsOperation, columns_behind}
 use Rattle.lc_object_text.specs.ObjectNames.{Declared, items_within, within_first, later, count_of_fit, reply_count}
 use Rattle.lc_object_text.specs.Objects.{Signature, operations_from}
 use Rattle.lc_object_text.specs.Points.{BodyText}
-use Rattle.lc_object_text.specs.Sections.{parts_in}
+use Rattle.lc_object_text.specs.Sections.{parts_in, some_forms_in}
 use Rattle.lc_outline.specs.Resolved.{has_some, are_matched}
 use Rattle.lc_seq.specs.Branches.{op_branches}
 use Rattle.lc_seq.specs.Specification.{Operation, Specification}
 use Rattle.lc_spec_text.specs.Operations.{natural, few, count_reading, arguments_reading, signature_reading, variables_in, operation_parts_reading, the_operation, operation_reading, count_in}
-use Rattle.lc_spec_text.specs.Branches.{branch_reading}
-use Rattle.lc_spec_text.specs.Scopes.{Columns, client, branch_names}
+use Rattle.lc_spec_text.specs.Scopes.{Columns, client}
 use Rattle.lc_spec_text.specs.Specifications.{column_reading, columns_reading, columns_in, operations_reading, specification_parts_reading, the_specification, specification_reading}
+use Rattle.lc_rider_text.specs.Counted.{Goes}
 use Rattle.lc_outline_text.proofs.Fitting.{same_number}
+use Rattle.lc_outline_text.proofs.Going.{AreWaysOf, goes_so, ways_said}
+use Rattle.lc_outline_text.specs.Declarations.{branches_in, ways_in}
 
 -- ---- what the specification says
 
@@ -70,20 +72,15 @@ replies_read : (n : ℕ) (t : Tree) → Holds (λ k. natural (number_of t) ≡ S
 replies_read n (atom w) = few_is n (natural (integer_of w))
 replies_read n (list ts) = tt
 
-some_branch : (columns : Columns) (names : List (List ℕ)) (count : Option ℕ) (m : ℕ) (b : Tree) (bs : Trees) → Holds (λ xs. has_some xs ≡ true) (each_reading (branch_reading columns (branch_names columns.own names) count) m (b ▸ bs))
-some_branch columns names count m b bs =
-    let read = branch_reading columns (branch_names columns.own names) count in
-    both_holds (λ x. Unit {0}) (λ xs. Unit {0}) (λ xs. has_some xs ≡ true) (λ x xs. x ∷ xs) (read m b) (each_reading read (m + item_count b) bs) (anything (read m b)) (anything (each_reading read (m + item_count b) bs)) (λ x xs h g. refl)
-
 abbrev SaysNumber : Trees → ℕ → Type 0
 SaysNumber none k = ⊥
 SaysNumber (t ▸ ts) k = natural (number_of t) ≡ Some k
 
--- the arguments, replies and branches of an operation, NAME (ARG ..) REPLIES BRANCH ..
+-- the arguments, replies and ways of an operation, NAME (ARG ..) REPLIES, then BRANCH .. or CHOICE ..
 pub record IsSaid (us : Trees) (q : Operation) : Type 0 where
   pub arguments : length q.arguments ≡ length (names_among (within_first (later us)))
   pub replies : SaysNumber (later (later us)) q.replies
-  pub branches : has_some q.branches ≡ true
+  pub ways : AreWaysOf (branches_in us) q.branches
 
 abbrev IsHead : Tree → Tree → (List ℕ × List (List ℕ)) × ℕ → Type 0
 IsHead u v p = (length p.0.1 ≡ length (names_among (items_within u))) × (natural (number_of v) ≡ Some p.1)
@@ -95,18 +92,18 @@ operation_parts_said columns before n m (t ▸ u ▸ none) = tt
 operation_parts_said columns before n m (t ▸ u ▸ v ▸ none) = tt
 operation_parts_said columns before n m (t ▸ u ▸ v ▸ b ▸ bs) =
     let k = m + item_count t in
-    both_holds (IsHead u v) (λ xs. has_some xs ≡ true) (λ p. IsSaid (t ▸ u ▸ v ▸ b ▸ bs) (the_operation p)) pair (signature_reading before m t u v) _
+    both_holds (IsHead u v) (AreWaysOf (b ▸ bs)) (λ p. IsSaid (t ▸ u ▸ v ▸ b ▸ bs) (the_operation p)) pair (signature_reading before m t u v) _
     (three_holds (λ w. Unit {0}) (λ ws. length ws ≡ length (names_among (items_within u))) (λ k. natural (number_of v) ≡ Some k) (IsHead u v) triple (name_reading None before m t) (arguments_reading k u) (count_reading (k + item_count u) v)
     (anything (name_reading None before m t)) (arguments_read k u) (replies_read (k + item_count u) v) (λ w ws j a h g. (h, g)))
-    (some_branch columns (variables_in u) (count_in v) (k + item_count u + item_count v) b bs) (λ p xs h g. record { arguments = h.0; replies = h.1; branches = g })
+    (ways_said columns (variables_in u) (count_in v) (k + item_count u + item_count v) b bs) (λ p xs h g. record { arguments = h.0; replies = h.1; ways = g })
 
 abbrev IsOperationSaid : ℕ → Tree → Operation → Type 0
-IsOperationSaid i t q = IsSaid (parts_in (codes "op") t) q
+IsOperationSaid i t q = (form_fit (codes "op") t ≡ fits (parts_in (codes "op") t)) × IsSaid (parts_in (codes "op") t) q
 
 operation_said : (columns : Columns) (before : List (List ℕ)) (i n : ℕ) (t : Tree) → Holds (IsOperationSaid i t) (operation_reading columns before n t)
 operation_said columns before i n t =
     limited_holds (IsOperationSaid i t) (is_full (Some 16) (length before)) n _
-    (mapped_holds _ (IsOperationSaid i t) the_operation _ (form_holds (λ us p. IsSaid us (the_operation p)) (codes "op") (operation_parts_reading columns before) n t (operation_parts_said columns before)) (λ p h. h.1))
+    (mapped_holds _ (IsOperationSaid i t) the_operation _ (form_holds (λ us p. IsSaid us (the_operation p)) (codes "op") (operation_parts_reading columns before) n t (operation_parts_said columns before)) (λ p h. h))
 
 -- NAME (abstract COL ..) OP ..
 pub record IsSpecificationSaid (us : Trees) (q : Specification) : Type 0 where
@@ -166,7 +163,7 @@ same d i (t ▸ ts) (s ∷ ss) [] h g = absurd g
 same d i (t ▸ ts) (s ∷ ss) (q ∷ qs) h g =
     let us = parts_in (codes "op") t in
     let c : IsSignature d i us s = h.0.1 in
-    ((c.arguments ∙ sym g.0.arguments, same_replies (later (later us)) s.replies q.replies c.replies c.at_most g.0.replies, g.0.branches), same d (i + 1) ts ss qs h.1 g.1)
+    ((c.arguments ∙ sym g.0.1.arguments, same_replies (later (later us)) s.replies q.replies c.replies c.at_most g.0.1.replies, g.0.1.ways.some), same d (i + 1) ts ss qs h.1 g.1)
 
 pub matched : (e : ℕ) (ss : List Signature) (bs : List (BodyText Point)) (qs : List Operation) → length ss ≤ length bs → AreSame ss qs → are_matched (operations_from e ss bs) qs ≡ true
 matched e [] bs [] room h = refl
@@ -184,3 +181,36 @@ branched [] qs k h room = absurd (omega (arith, room))
 branched (s ∷ ss) [] k h room = absurd h
 branched (s ∷ ss) (q ∷ qs) zero h room = h.0.2
 branched (s ∷ ss) (q ∷ qs) (suc k) h room = branched ss qs k h.1 (omega (arith, room))
+
+-- ---- how operations go
+
+-- each of these goes as its text says
+abbrev pub AllGo : List Trees → List Operation → Type 0
+AllGo [] [] = Unit {0}
+AllGo [] (q ∷ qs) = ⊥
+AllGo (f ∷ fs) [] = ⊥
+AllGo (f ∷ fs) (q ∷ qs) = AreWaysOf (branches_in f) q.branches × AllGo fs qs
+
+each_goes : (i : ℕ) (ts : Trees) (qs : List Operation) → Each IsOperationSaid i ts qs → AllGo (parts_of_all (codes "op") ts) qs
+each_goes i none [] h = tt
+each_goes i none (q ∷ qs) h = absurd h
+each_goes i (t ▸ ts) [] h = absurd h
+each_goes i (t ▸ ts) (q ∷ qs) h = (h.0.1.ways, each_goes (i + 1) ts qs h.1)
+
+pub all_go : (ts : Trees) (qs : List Operation) → Each IsOperationSaid 0 ts qs → AllGo (some_forms_in (codes "op") ts) qs
+all_go ts qs h =
+    let forms = each_form IsOperationSaid (codes "op") (λ i t q p. p.0) 0 ts qs h in
+    subst (λ fs. AllGo fs qs) (sym (some_forms (codes "op") ts forms)) (each_goes 0 ts qs h)
+
+-- there are as many
+pub go_counted : (fs : List Trees) (qs : List Operation) → AllGo fs qs → length qs ≡ length fs
+go_counted [] [] h = refl
+go_counted [] (q ∷ qs) h = absurd h
+go_counted (f ∷ fs) [] h = absurd h
+go_counted (f ∷ fs) (q ∷ qs) h = ap suc (go_counted fs qs h.1)
+
+pub goes_at : (fs : List Trees) (qs : List Operation) (k : ℕ) → AllGo fs qs → k < length fs → Goes (slice_get (map ways_in fs) k) (op_branches qs k)
+goes_at [] qs k h few = absurd (omega (arith, few))
+goes_at (f ∷ fs) [] k h few = absurd h
+goes_at (f ∷ fs) (q ∷ qs) zero h few = (ways_in f, refl, goes_so (branches_in f) q.branches h.0)
+goes_at (f ∷ fs) (q ∷ qs) (suc k) h few = goes_at fs qs k h.1 (omega (arith, few))

@@ -19,7 +19,7 @@ use Rattle.lc_object_text.proofs.SignatureHolds.{IsOperation, IsSpecification, s
 use Rattle.lc_object_text.specs.ObjectNames.{first_text, later, names_of_columns, columns_of_arrays, bodies_due, abstracts_in, arrays_in, auxiliaries_in, operations_in, declared_in_sections}
 use Rattle.lc_object_text.specs.Objects as O
 use Rattle.lc_object_text.specs.Points.{BodyText, code_alone}
-use Rattle.lc_object_text.specs.Sections.{parts_in, Sections, sections_of}
+use Rattle.lc_object_text.specs.Sections.{items_of_fit, behind_item, behind_first, parts_in, some_forms_in, Sections, sections_of}
 use Rattle.lc_outline.specs.Development.{Development, first_system, invariant_of}
 use Rattle.lc_outline.specs.Resolved.{is_below, are_matched, asserts_are_resolved, action_is_resolved, edge_is_resolved, is_resolved, arguments_are_resolved}
 use Rattle.lc_object.specs.Edges.{edges}
@@ -29,7 +29,7 @@ use Rattle.lc_seq.specs.TextView.{specification_of}
 use Rattle.lc_seq.specs.declared.specification.TextSpec.{TextSpec}
 use Rattle.lc_spec_text.proofs.Resolved.{specification_resolved}
 use Rattle.lc_spec_text.specs.Specifications as Q
-use Rattle.lc_outline_text.proofs.Agreed.{IsSpecificationSaid, specification_said, AreSame, same, matched, branched}
+use Rattle.lc_outline_text.proofs.Agreed.{IsSpecificationSaid, specification_said, AreSame, same, matched, branched, AllGo, all_go, go_counted, goes_at}
 use Rattle.lc_outline_text.proofs.Fitting.{Fits, left, same_number, actions_resolved, asserts_resolved, arguments_resolved, edges_resolved}
 use Rattle.lc_outline_text.proofs.ObjectOf.{IsObjectOf, objects, object_is_one}
 use Rattle.lc_outline_text.proofs.Outlined.{AreBodiesOf, bodies_outlined, all_points, each_point, code_points, outline_points}
@@ -47,6 +47,19 @@ pub record SpecificationHolds (s : Sections) (p : O.SpecificationText × Specifi
   pub fit : SpecificationFits (declared_in_sections s) s p.0
   columns : length p.0.abstracts ≡ length p.1.columns
   operations : AreSame p.0.signatures p.1.operations
+  pub goes : AllGo (operations_in s) p.1.operations
+
+behind_one : (n : ℕ) (ts : Trees) → (behind_item n ts).trees ≡ later ts
+behind_one n none = refl
+behind_one n (t ▸ ts) = refl
+
+behind_two : (n : ℕ) (ts : Trees) → (behind_first (behind_item n ts)).trees ≡ later (later ts)
+behind_two n none = refl
+behind_two n (t ▸ ts) = behind_one (n + item_count t) ts
+
+-- where its operations stand
+operations_there : (t u : Tree) (ts : Trees) → form_fit (codes "spec") t ≡ fits (parts_in (codes "spec") t) → (sections_of (t ▸ u ▸ ts)).operations.trees ≡ later (later (parts_in (codes "spec") t))
+operations_there t u ts fit = ap (λ f. (behind_first (behind_first (items_of_fit 0 f))).trees) fit ∙ behind_two 2 (parts_in (codes "spec") t)
 
 pub specification_of_text : (t u : Tree) (ts : Trees) → Holds (SpecificationHolds (sections_of (t ▸ u ▸ ts))) (specification_reading (declarations_of (t ▸ u ▸ ts)) 0 t)
 specification_of_text t u ts =
@@ -59,6 +72,7 @@ specification_of_text t u ts =
       fit = specification_fits t u ts text h.0 h.1;
       columns = h.1.abstracts ∙ sym g.columns;
       operations = same d 0 (later (later us)) text.signatures q.operations h.1.operations.1 g.operations;
+      goes = subst (λ vs. AllGo (some_forms_in (codes "op") vs) q.operations) (sym (operations_there t u ts h.0)) (all_go (later (later us)) q.operations g.operations);
     })
 
 -- ---- the object
@@ -134,6 +148,8 @@ fits_declared s p o h g =
       known = each_point d 0 o.1 g.bodies;
       operations = code.operations_fit;
       matched = matched 0 p.0.signatures bs p.1.operations (subst (λ n. n ≤ length bs) (sym counted) (enough_bodies s bs g.fit.1)) h.operations;
+      counted = go_counted d.operations p.1.operations h.goes ∙ sym (length-map d.operations first_text);
+      goes = λ k few. goes_at d.operations p.1.operations k h.goes (omega (arith, few, length-map d.operations first_text));
       branched = λ k few. branched p.0.signatures p.1.operations k h.operations (subst (λ n. k < n) (sym counted) few);
       columns = all_columns s p o h g;
       auxiliaries = first_auxiliary s p o h g;

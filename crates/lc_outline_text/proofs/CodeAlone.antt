@@ -18,12 +18,12 @@ use Rattle.lc_object_text.specs.Objects.{due_body_reading, ith_body_reading, bod
 use Rattle.lc_object_text.specs.Points.{Beside, is_shaped, point_of, point_name_reading, point_parts, point_reading, points_reading, body_of, locals_reading, is_of_another, body_parts, point_alone, nothing_of, sides_reading, code_alone}
 use Rattle.lc_object_text.specs.Rows.{cons, placed_reading}
 use Rattle.lc_outline.specs.Development.{Outline}
-use Rattle.lc_rider_text.specs.Known.{Known}
+use Rattle.lc_rider_text.specs.Known.{Known, Ways}
 use Rattle.lc_rider_text.specs.Ons.{on_parts_reading, on_reading, ons_reading}
 use Rattle.lc_rider_text.specs.Edges.{without, edge_in}
 use Rattle.lc_rider_text.specs.declared.edges.Edges.{Edges}
 use Rattle.lc_outline_text.specs.Bodies.{names_in, due_reading, ith_reading, bodies_reading}
-use Rattle.lc_outline_text.specs.Declarations.{Declarations, known_of, own_branches}
+use Rattle.lc_outline_text.specs.Declarations.{Declarations, known_of, own_ways}
 use Rattle.lc_outline_text.specs.Developments.{code_of}
 use Rattle.lc_outline_text.specs.Needs.{code_word, edges_of}
 use Rattle.lc_outline_text.specs.Points.{formulas_in_reading, outline_of, outline_reading, beside}
@@ -50,7 +50,7 @@ one_more : (m : ℕ) (t : Tree) (ts : Trees) (us : List (Unit {0})) → headed_r
     → each_reading (headed_reading (codes "on")) m (t ▸ ts) ≡ fine (tt ∷ us)
 one_more m t ts us h g = ap₂ (both (λ x xs. x ∷ xs)) h g
 
-ons_headed : (known : Known) (names : Names) (own : ℕ) (edges : Edges) (m : ℕ) (ts : Trees)
+ons_headed : (known : Known) (names : Names) (own : Option Ways) (edges : Edges) (m : ℕ) (ts : Trees)
     → Holds (λ ons. (us : List (Unit {0})) × (each_reading (headed_reading (codes "on")) m ts ≡ fine us)) (ons_reading known names own edges m ts)
 ons_headed known names own edges m none = ([], refl)
 ons_headed known names own edges m (t ▸ ts) =
@@ -65,7 +65,7 @@ sides_fine : (n m : ℕ) (t : Tree) (ts : Trees) (us : List (Unit {0})) → head
     → sides_reading n m (t ▸ ts) ≡ fine tt
 sides_fine n m t ts us h g = ap₂ (both nothing_of) h g
 
-outline_sides : (known : Known) (names : Names) (own : ℕ) (edges : Edges) (n m : ℕ) (t : Tree) (ts : Trees)
+outline_sides : (known : Known) (names : Names) (own : Option Ways) (edges : Edges) (n m : ℕ) (t : Tree) (ts : Trees)
     → Holds (λ o. sides_reading n m (t ▸ ts) ≡ fine tt) (outline_reading known names own edges m t (m + item_count t) ts)
 outline_sides known names own edges n m t ts =
     both_holds (λ fs. headed_reading (codes "assert") m t ≡ fine tt) (λ ons. (us : List (Unit {0})) × (each_reading (headed_reading (codes "on")) (m + item_count t) ts ≡ fine us))
@@ -84,7 +84,7 @@ alone_fine point q s h g = ap₂ (both point_alone) h g
 abbrev pub IsCode : ℕ → Tree → Bool → Reading Point → ℕ → Trees → Point × Outline → Type 0
 IsCode n code shaped point m ts p = code_alone n code shaped point m ts ≡ fine p.0
 
-pub beside_code : (known : Known) (names : Names) (own n : ℕ) (code : Tree) (shaped : Bool) (point : Reading Point) (m : ℕ) (ts : Trees)
+pub beside_code : (known : Known) (names : Names) (own : Option Ways) (n : ℕ) (code : Tree) (shaped : Bool) (point : Reading Point) (m : ℕ) (ts : Trees)
     → Holds (IsCode n code shaped point m ts) (beside known names own n code shaped point m ts)
 beside_code known names own n code shaped point m none = tt
 beside_code known names own n code shaped point m (t ▸ ts) =
@@ -149,9 +149,9 @@ body_code d b side h o n m (op ▸ locals ▸ ts) = by_test (is_of_another d.ope
 due_code : (d : Declarations) (i n : ℕ) (t : Tree) (o : Option Body) → Holds (λ x. due_body_reading d.declared code_alone o i n t ≡ fine (code_of x)) (due_reading d o i n t)
 due_code d i n t None = tt
 due_code d i n t (Some b) =
-    let side = beside (known_of d) (names_in d b) (own_branches d i) in
+    let side = beside (known_of d) (names_in d b) (own_ways d i) in
     by_word code_of (codes "body") (body_parts d.declared b side i) (body_parts d.declared b code_alone i)
-    (body_code d.declared b side (λ n code shaped point m ts. beside_code (known_of d) (names_in d b) (own_branches d i) n code shaped point m ts) i) n t
+    (body_code d.declared b side (λ n code shaped point m ts. beside_code (known_of d) (names_in d b) (own_ways d i) n code shaped point m ts) i) n t
 
 -- what reads as bodies with their outlines reads as their code
 pub bodies_code : (d : Declarations) (n m : ℕ) (ts : Trees) → Holds (λ bs. code_bodies_reading d.declared code_alone n m ts ≡ fine (map code_of bs)) (bodies_reading d n m ts)

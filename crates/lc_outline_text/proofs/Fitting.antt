@@ -21,16 +21,17 @@ use Rattle.lc_object_text.proofs.BodiesHold.{IsOperationOf, AreOperationsOf}
 use Rattle.lc_object_text.specs.ObjectNames.{Body, first_text}
 use Rattle.lc_outline.specs.Development.{Development, On, Outline, first_system, same_kind, on_for, ons_in, asserts_in, ons_at, on_at, asserts_at}
 use Rattle.lc_outline.specs.Resolved.{has_some, is_empty, is_below, variables_at, is_matched, are_matched, deed_is_resolved, condition_is_resolved, rider_is_resolved, takes, on_is_resolved, action_is_resolved, edge_is_resolved, asserts_are_resolved, arguments_are_below, arguments_are_resolved}
-use Rattle.lc_rider.specs.Rider.{Deed, Assign, Marks, Own, Other, Note, Rider}
+use Rattle.lc_rider.specs.Rider.{Deed, Assign, Marks, Rider}
 use Rattle.lc_rider_text.proofs.ActionsKnown.{has_bounds}
 use Rattle.lc_rider_text.proofs.FormulasWithin.{variable_total}
-use Rattle.lc_rider_text.proofs.RidersKnown.{deed_is_known, rider_is_known, IsOnKnown}
+use Rattle.lc_rider_text.proofs.RidersKnown.{deed_is_known, rider_is_known, IsOnKnown, mark_leaves}
+use Rattle.lc_rider_text.specs.Counted.{AreBranches}
 use Rattle.lc_rider_text.specs.Known.{Known}
 use Rattle.lc_seq.specs.Branches.{op_branches}
 use Rattle.lc_seq.specs.Specification as Q
 use Rattle.lc_outline_text.proofs.Needed.{IsMet}
 use Rattle.lc_outline_text.proofs.Outlined.{IsAPoint}
-use Rattle.lc_outline_text.specs.Declarations.{Declarations, known_of, parameter_count}
+use Rattle.lc_outline_text.specs.Declarations.{Declarations, known_of, own_ways, parameter_count}
 
 -- actions with so many parameters, which store in columns that there are
 abbrev pub AreActionsOf : Known → List Trees → List Action → Type 0
@@ -47,6 +48,8 @@ pub record Fits (d : Declarations) (D : Development) (ps : List (Point × Outlin
   pub known : Every (IsAPoint d) ps
   pub operations : AreOperationsOf d.declared.bodies D.object.operations
   pub matched : are_matched D.object.operations D.specification.operations ≡ true
+  pub counted : length D.specification.operations ≡ length d.declared.operations
+  pub goes : AreBranches (known_of d) D.specification.operations
   pub branched : (k : ℕ) → k < length d.declared.operations → has_some (op_branches D.specification.operations k) ≡ true
   pub columns : first_system D ≡ length d.declared.columns
   pub auxiliaries : length D.specification.columns + length D.object.concretes ≡ d.declared.auxiliaries
@@ -56,9 +59,6 @@ pub record Fits (d : Declarations) (D : Development) (ps : List (Point × Outlin
 
 pub same_number : (m n : ℕ) → m ≡ n → (m == n) ≡ true
 same_number m n e = eq-eqb m n e
-
-below_of : (k n : ℕ) → nat_lt k n ≡ true → k < n
-below_of k n e = grind (arith, nat_tests)
 
 pub left : (a b : Bool) → (a && b) ≡ true → a ≡ true
 left true b h = refl
@@ -86,13 +86,12 @@ found (c ∷ bs) [] k b h e = absurd h
 found (c ∷ bs) (o ∷ os) zero b h e = let same : c ≡ b = cc in (o, refl, subst (λ x. IsOperationOf x o) same h.0)
 found (c ∷ bs) (o ∷ os) (suc k) b h e = found bs os k b h.1 e
 
--- it has a branch
-matched_some : (os : List O.Operation) (qs : List Q.Operation) (k : ℕ) (o : O.Operation) → are_matched os qs ≡ true → slice_get os k ≡ Some o → has_some (op_branches qs k) ≡ true
-matched_some [] qs k o h e = absurd (cc)
-matched_some (p ∷ os) [] k o h e = absurd (cc)
-matched_some (p ∷ os) (q ∷ qs) zero o h e =
-    right (p.replies == q.replies) (has_some q.branches) (right (length p.arguments == length q.arguments) _ (left (is_matched p q) (are_matched os qs) h))
-matched_some (p ∷ os) (q ∷ qs) (suc k) o h e = matched_some os qs k o (right (is_matched p q) (are_matched os qs) h) e
+-- it is one of the specification's
+pub matched_below : (os : List O.Operation) (qs : List Q.Operation) (k : ℕ) (o : O.Operation) → are_matched os qs ≡ true → slice_get os k ≡ Some o → k < length qs
+matched_below [] qs k o h e = absurd (cc)
+matched_below (p ∷ os) [] k o h e = absurd (cc)
+matched_below (p ∷ os) (q ∷ qs) zero o h e = omega arith
+matched_below (p ∷ os) (q ∷ qs) (suc k) o h e = omega (arith, matched_below os qs k o (right (is_matched p q) (are_matched os qs) h) e)
 
 -- ---- actions
 
@@ -117,23 +116,21 @@ actions_resolved d D ps h = actions_stored (known_of d) D d.actions D.actions h.
 
 -- ---- riders
 
-deed_resolved : (d : Declarations) (D : Development) (ps : List (Point × Outline)) (o : ℕ) (x : Deed) → Fits d D ps → has_some (op_branches D.specification.operations o) ≡ true → deed_is_known (known_of d) x ≡ true → deed_is_resolved D o x ≡ true
+deed_resolved : (d : Declarations) (D : Development) (ps : List (Point × Outline)) (o : ℕ) (x : Deed) → Fits d D ps → o < length d.declared.operations → deed_is_known (known_of d) (own_ways d o) x ≡ true → deed_is_resolved D o x ≡ true
 deed_resolved d D ps o (Assign u) h b e =
     subst (λ n. (nat_le n u.column && nat_lt u.column (first_system D)) ≡ true) (sym h.auxiliaries) (subst (λ n. (nat_le d.declared.auxiliaries u.column && nat_lt u.column n) ≡ true) (sym h.columns) e)
-deed_resolved d D ps o (Marks Own) h b e = b
-deed_resolved d D ps o (Marks (Other t p)) h b e = h.branched p (below_of p (length d.declared.operations) e)
-deed_resolved d D ps o (Marks Note) h b e = b
+deed_resolved d D ps o (Marks k by) h b e = mark_leaves (known_of d) D.specification.operations h.goes h.branched o b k by e
 
-rider_resolved : (d : Declarations) (D : Development) (ps : List (Point × Outline)) (o : ℕ) → Fits d D ps → has_some (op_branches D.specification.operations o) ≡ true → (r : Rider) → rider_is_known (known_of d) r ≡ true → rider_is_resolved D o r ≡ true
+rider_resolved : (d : Declarations) (D : Development) (ps : List (Point × Outline)) (o : ℕ) → Fits d D ps → o < length d.declared.operations → (r : Rider) → rider_is_known (known_of d) (own_ways d o) r ≡ true → rider_is_resolved D o r ≡ true
 rider_resolved d D ps o h b r e =
-    and_true (condition_is_resolved r.condition) (deed_is_resolved D o r.deed) (left (condition_is_resolved r.condition) (deed_is_known (known_of d) r.deed) e)
-    (deed_resolved d D ps o r.deed h b (right (condition_is_resolved r.condition) (deed_is_known (known_of d) r.deed) e))
+    and_true (condition_is_resolved r.condition) (deed_is_resolved D o r.deed) (left (condition_is_resolved r.condition) (deed_is_known (known_of d) (own_ways d o) r.deed) e)
+    (deed_resolved d D ps o r.deed h b (right (condition_is_resolved r.condition) (deed_is_known (known_of d) (own_ways d o) r.deed) e))
 
 -- ---- edges
 
 -- what is done at an edge is known; and without it nothing is stored there
-on_resolved : (d : Declarations) (D : Development) (ps : List (Point × Outline)) (o : ℕ) (e : Edge) (kind : EdgeKind) (ons : List On) → Fits d D ps → has_some (op_branches D.specification.operations o) ≡ true
-    → Every (IsOnKnown (known_of d)) ons → (is_some (on_for ons kind) ≡ false → is_empty e.updates ≡ true) → on_is_resolved D o e (on_for ons kind) ≡ true
+on_resolved : (d : Declarations) (D : Development) (ps : List (Point × Outline)) (o : ℕ) (e : Edge) (kind : EdgeKind) (ons : List On) → Fits d D ps → o < length d.declared.operations
+    → Every (IsOnKnown (known_of d) (own_ways d o)) ons → (is_some (on_for ons kind) ≡ false → is_empty e.updates ≡ true) → on_is_resolved D o e (on_for ons kind) ≡ true
 on_resolved d D ps o e kind [] h b g f = f refl
 on_resolved d D ps o e kind (x ∷ ons) h b g f = by_kind (same_kind x.edge kind) (on_resolved d D ps o e kind ons h b g.1) f where
   by_kind : (c : Bool) → ((is_some (on_for ons kind) ≡ false → is_empty e.updates ≡ true) → on_is_resolved D o e (on_for ons kind) ≡ true)
@@ -141,7 +138,7 @@ on_resolved d D ps o e kind (x ∷ ons) h b g f = by_kind (same_kind x.edge kind
   by_kind true next f =
       and_true (takes (slice_get D.actions x.action) (length x.arguments)) (list_all (rider_is_resolved D o) x.riders)
       (taken (known_of d) d.actions D.actions x.action (length x.arguments) h.actions g.0.0.0 g.0.0.1)
-      (all_weaker (rider_is_known (known_of d)) (rider_is_resolved D o) (rider_resolved d D ps o h b) x.riders g.0.1)
+      (all_weaker (rider_is_known (known_of d) (own_ways d o)) (rider_is_resolved D o) (rider_resolved d D ps o h b) x.riders g.0.1)
   by_kind false next f = next f
 
 not_both : {P : Type 0} (b : Bool) → b ≡ true → b ≡ false → P
@@ -156,6 +153,7 @@ edges_of_point : (object : O.Object) (k : ℕ) (i : O.Instr) (ons : List On) →
 edges_of_point object k (O.Load a t rs l) ons m = ((refl, λ n. refl), tt)
 edges_of_point object k (O.Store a t vs l) ons m = ((refl, λ n. not_both (is_some (on_for ons Next)) m n), tt)
 edges_of_point object k (O.Cas a t old new l r) ons m = ((refl, λ n. not_both (is_some (on_for ons Then)) m n), ((refl, λ n. refl), tt))
+edges_of_point object k (O.Faa a t rs ds l) ons m = ((refl, λ n. not_both (is_some (on_for ons Next)) m n), tt)
 edges_of_point object k (O.Set rs vs l) ons m = ((refl, λ n. refl), tt)
 edges_of_point object k (O.If c l r) ons m = ((refl, λ n. refl), ((refl, λ n. refl), tt))
 edges_of_point object k (O.Return vs) ons m = ((refl, λ n. refl), tt)
@@ -164,8 +162,8 @@ edges_of_point object k (O.Return vs) ons m = ((refl, λ n. refl), tt)
 abbrev AtPlace : Development → ℕ → ℕ → List On → Type 0
 AtPlace D k o ons = (operation_at D.object k ≡ o) × ((kind : EdgeKind) → on_at D k kind ≡ on_for ons kind)
 
-placed_edges : (d : Declarations) (D : Development) (ps : List (Point × Outline)) (k o : ℕ) (ons : List On) (es : List Edge) → Fits d D ps → has_some (op_branches D.specification.operations o) ≡ true
-    → Every (IsOnKnown (known_of d)) ons → AtPlace D k o ons → Every (IsEdgeOf k ons) es → list_all (edge_is_resolved D) es ≡ true
+placed_edges : (d : Declarations) (D : Development) (ps : List (Point × Outline)) (k o : ℕ) (ons : List On) (es : List Edge) → Fits d D ps → o < length d.declared.operations
+    → Every (IsOnKnown (known_of d) (own_ways d o)) ons → AtPlace D k o ons → Every (IsEdgeOf k ons) es → list_all (edge_is_resolved D) es ≡ true
 placed_edges d D ps k o ons [] h b g at f = refl
 placed_edges d D ps k o ons (e ∷ es) h b g at f =
     and_true (edge_is_resolved D e) (list_all (edge_is_resolved D) es)
@@ -205,13 +203,13 @@ pub record IsGood (D : Development) (k : ℕ) (p : Point × Outline) : Type 0 wh
 good : (d : Declarations) (D : Development) (ps : List (Point × Outline)) (k : ℕ) (p : Point × Outline) → Fits d D ps → IsAPoint d p → IsThere D k p → IsGood D k p
 good d D ps k p h (b, e, g) at =
     let (o, f, fit) = found d.declared.bodies D.object.operations p.0.operation b h.operations e in
-    let some = matched_some D.object.operations D.specification.operations p.0.operation o h.matched f in
+    let own : p.0.operation < length d.declared.operations = omega (arith, h.counted, matched_below D.object.operations D.specification.operations p.0.operation o h.matched f) in
     let count = variable_total (Some (b.call.arguments ++ b.locals)) in
     let same : count ≡ variables_at D.object (slice_get D.object.operations p.0.operation) = variables b o fit ∙ sym (ap (variables_at D.object) f) in
     record {
       asserts = subst (λ n. list_all (is_below n) (asserts_at D k) ≡ true) same (subst (λ fs. list_all (is_below count) fs ≡ true) (sym (ap asserts_in at.outline)) g.asserts);
       arguments = subst (λ n. list_all (arguments_are_below n) (ons_at D k) ≡ true) same (subst (λ ons. list_all (arguments_are_below count) ons ≡ true) (sym (ap ons_in at.outline)) g.arguments);
-      edges = placed_edges d D ps k p.0.operation p.1.ons (edges_at D.object k p.0.instruction) h some g.named (ap operation_in at.code, λ kind. ap (λ x. on_for (ons_in x) kind) at.outline)
+      edges = placed_edges d D ps k p.0.operation p.1.ons (edges_at D.object k p.0.instruction) h own g.named (ap operation_in at.code, λ kind. ap (λ x. on_for (ons_in x) kind) at.outline)
           (edges_of_point D.object k p.0.instruction p.1.ons g.met);
     }
 

@@ -1,9 +1,11 @@
-mod Agreed
+pub mod Agreed
 pub mod Assembled
+mod Chosen
 mod CodeAlone
 mod Counting
 mod FileReads
 pub mod Fitting
+pub mod Going
 mod MadeBodies
 mod Needed
 mod ObjectOf

@@ -18,14 +18,14 @@ use Rattle.lc_object.specs.declared.instr.EdgeKind.TheVariants.{Next, Then, Else
 use Rattle.lc_object_text.proofs.Holding.{form_holds, behind_holds}
 use Rattle.lc_object_text.specs.CodeNames.{CodeNames}
 use Rattle.lc_object_text.specs.Heads.{head_of}
-use Rattle.lc_object_text.specs.Instructions.{load_of, load_reading, store_of, store_reading, cas_of, cas_reading, set_of, set_reading, if_of, if_reading, return_of, return_reading, code_reading, instruction_reading}
+use Rattle.lc_object_text.specs.Instructions.{load_of, load_reading, store_of, store_reading, cas_of, cas_reading, set_of, set_reading, faa_of, faa_reading, if_of, if_reading, return_of, return_reading, code_reading, instruction_reading}
 use Rattle.lc_object_text.specs.ObjectNames.{text_in, first_text}
 use Rattle.lc_object_text.specs.Rows.{cons}
 use Rattle.lc_object_text.specs.Sections.{parts_in, before_others, forms_in}
 use Rattle.lc_outline.specs.Development.{On, on_for, same_kind}
 use Rattle.lc_rider_text.specs.Edges.{edge_of, edge_in, found_edge, is_refused, without}
 use Rattle.lc_rider_text.specs.Heads.{kind_of}
-use Rattle.lc_rider_text.specs.Known.{Known}
+use Rattle.lc_rider_text.specs.Known.{Known, Ways}
 use Rattle.lc_rider_text.specs.Ons.{the_on, on_parts_reading, on_reading, ons_reading}
 use Rattle.lc_rider_text.specs.declared.edges.Edges.{Edges}
 use Rattle.lc_outline_text.specs.Needs.{code_word, edge_word, acts, lacks_on}
@@ -38,6 +38,7 @@ IsOfWord w (S.Load a t rs l) = Unit {0}
 IsOfWord w (S.Store a t vs l) = is w (codes "store") ≡ true
 IsOfWord w (S.Cas a t old new l m) = is w (codes "cas") ≡ true
 IsOfWord w (S.Set rs vs l) = Unit {0}
+IsOfWord w (S.Faa a t rs ds l) = is w (codes "faa") ≡ true
 IsOfWord w (S.If f l m) = Unit {0}
 IsOfWord w (S.Return vs) = Unit {0}
 
@@ -69,6 +70,14 @@ sets w names code n m none = tt
 sets w names code n m (a ▸ none) = tt
 sets w names code n m (a ▸ l ▸ ts) = both_holds (λ p. Unit {0}) (λ q. Unit {0}) (IsOfWord w) set_of _ _ (anything _) (anything _) (λ p q h g. tt)
 
+adds : (w : List ℕ) → is w (codes "faa") ≡ true → (names : Names) (code : CodeNames) (n m : ℕ) (ts : Trees) → Holds (IsOfWord w) (faa_reading names code n m ts)
+adds w e names code n m none = tt
+adds w e names code n m (a ▸ none) = tt
+adds w e names code n m (a ▸ t ▸ none) = tt
+adds w e names code n m (a ▸ t ▸ r ▸ none) = tt
+adds w e names code n m (a ▸ t ▸ r ▸ d ▸ none) = tt
+adds w e names code n m (a ▸ t ▸ r ▸ d ▸ l ▸ ts) = both_holds (λ p. Unit {0}) (λ q. Unit {0}) (IsOfWord w) faa_of _ _ (anything _) (anything _) (λ p q h g. e)
+
 tests : (w : List ℕ) (names : Names) (code : CodeNames) (n m : ℕ) (ts : Trees) → Holds (IsOfWord w) (if_reading names code n m ts)
 tests w names code n m none = tt
 tests w names code n m (a ▸ none) = tt
@@ -76,22 +85,25 @@ tests w names code n m (a ▸ l ▸ none) = tt
 tests w names code n m (a ▸ l ▸ k ▸ ts) = both_holds (λ p. Unit {0}) (λ q. Unit {0}) (IsOfWord w) if_of _ _ (anything _) (anything _) (λ p q h g. tt)
 
 -- the first whose test holds
-first_of : {X : Type 0} (P : Option X → Type 0) (o p q r s : Option X) (a b c d e : Bool) → P o → (b ≡ true → P p) → (c ≡ true → P q) → P r → P s → P None → P (cond a o (cond b p (cond c q (cond d r (cond e s None)))))
-first_of P o p q r s true b c d e h i j k l m = h
-first_of P o p q r s false true c d e h i j k l m = i refl
-first_of P o p q r s false false true d e h i j k l m = j refl
-first_of P o p q r s false false false true e h i j k l m = k
-first_of P o p q r s false false false false true h i j k l m = l
-first_of P o p q r s false false false false false h i j k l m = m
+first_of : {X : Type 0} (P : Option X → Type 0) (o p q r s u : Option X) (a b c d e f : Bool) → P o → (b ≡ true → P p) → (c ≡ true → P q) → P r → (e ≡ true → P s) → P u → P None
+    → P (cond a o (cond b p (cond c q (cond d r (cond e s (cond f u None))))))
+first_of P o p q r s u true b c d e f h i j k l m n = h
+first_of P o p q r s u false true c d e f h i j k l m n = i refl
+first_of P o p q r s u false false true d e f h i j k l m n = j refl
+first_of P o p q r s u false false false true e f h i j k l m n = k
+first_of P o p q r s u false false false false true f h i j k l m n = l refl
+first_of P o p q r s u false false false false false true h i j k l m n = m
+first_of P o p q r s u false false false false false false h i j k l m n = n
 
 by_head : (w : List ℕ) (names : Names) (code : CodeNames) (n m : ℕ) (ts : Trees) → Holds (IsOfWord w) (code_reading names code n m ts (head_of w))
 by_head w names code n m ts =
-    first_of (λ o. Holds (IsOfWord w) (code_reading names code n m ts o)) (head_of (codes "load")) (head_of (codes "store")) (head_of (codes "cas")) (head_of (codes "set")) (head_of (codes "if"))
-    (is w (codes "load")) (is w (codes "store")) (is w (codes "cas")) (is w (codes "set")) (is w (codes "if"))
+    first_of (λ o. Holds (IsOfWord w) (code_reading names code n m ts o)) (head_of (codes "load")) (head_of (codes "store")) (head_of (codes "cas")) (head_of (codes "set")) (head_of (codes "faa")) (head_of (codes "if"))
+    (is w (codes "load")) (is w (codes "store")) (is w (codes "cas")) (is w (codes "set")) (is w (codes "faa")) (is w (codes "if"))
     (behind_holds (IsOfWord w) 4 m ts (load_reading names code n m ts) (loads w names code n m ts))
     (λ e. behind_holds (IsOfWord w) 4 m ts (store_reading names code n m ts) (stores_row w e names code n m ts))
     (λ e. behind_holds (IsOfWord w) 6 m ts (cas_reading names code n m ts) (exchanges w e names code n m ts))
     (behind_holds (IsOfWord w) 2 m ts (set_reading names code n m ts) (sets w names code n m ts))
+    (λ e. behind_holds (IsOfWord w) 5 m ts (faa_reading names code n m ts) (adds w e names code n m ts))
     (behind_holds (IsOfWord w) 3 m ts (if_reading names code n m ts) (tests w names code n m ts)) tt
 
 pub instruction_word : (names : Names) (code : CodeNames) (n : ℕ) (t : Tree) → Holds (IsOfWord (code_word t)) (instruction_reading names code n t)
@@ -113,7 +125,7 @@ edge_found n None = tt
 edge_found n (Some kind) = refl
 
 -- it is at the edge that stands behind the word
-parts_at : (known : Known) (names : Names) (own : ℕ) (edges : Edges) (n m : ℕ) (ts : Trees) → Holds (λ x. kind_of (first_text ts) ≡ Some x.edge) (on_parts_reading known names own edges n m ts)
+parts_at : (known : Known) (names : Names) (own : Option Ways) (edges : Edges) (n m : ℕ) (ts : Trees) → Holds (λ x. kind_of (first_text ts) ≡ Some x.edge) (on_parts_reading known names own edges n m ts)
 parts_at known names own edges n m none = tt
 parts_at known names own edges n m (t ▸ none) = tt
 parts_at known names own edges n m (t ▸ u ▸ ts) =
@@ -123,7 +135,7 @@ parts_at known names own edges n m (t ▸ u ▸ ts) =
     (both_holds (λ k. edge_of t ≡ Some k) (λ c. Unit {0}) (λ p. kind_of (text_in t) ≡ Some p.0) pair _ _ (edge_found m (edge_of t)) (anything _) (λ k c h g. sym (edge_text t) ∙ h))
     (anything _) (λ p rs h g. h)))
 
-on_at : (known : Known) (names : Names) (own : ℕ) (edges : Edges) (n : ℕ) (t : Tree)
+on_at : (known : Known) (names : Names) (own : Option Ways) (edges : Edges) (n : ℕ) (t : Tree)
     → Holds (λ x. (form_fit (codes "on") t ≡ fits (parts_in (codes "on") t)) × (kind_of (first_text (parts_in (codes "on") t)) ≡ Some x.edge)) (on_reading known names own edges n t)
 on_at known names own edges n t = form_holds (λ ts x. kind_of (first_text ts) ≡ Some x.edge) (codes "on") (on_parts_reading known names own edges) n t (parts_at known names own edges)
 
@@ -162,7 +174,7 @@ either x xs kind false true f g h = by_kind (same_kind x.edge kind) where
   by_kind false = g refl
 either x xs kind false false f g h = absurd (cc)
 
-pub on_found : (known : Known) (names : Names) (own : ℕ) (edges : Edges) (kind : EdgeKind) (m : ℕ) (ts : Trees)
+pub on_found : (known : Known) (names : Names) (own : Option Ways) (edges : Edges) (kind : EdgeKind) (m : ℕ) (ts : Trees)
     → Holds (λ ons. list_any (acts known.actions (edge_word kind)) (forms_in (codes "on") ts) ≡ true → is_some (on_for ons kind) ≡ true) (ons_reading known names own edges m ts)
 on_found known names own edges kind m none = λ h. absurd (cc)
 on_found known names own edges kind m (t ▸ ts) =
@@ -181,6 +193,7 @@ IsMet (S.Load a t rs l) ons = Unit {0}
 IsMet (S.Store a t vs l) ons = is_some (on_for ons Next) ≡ true
 IsMet (S.Cas a t old new l m) ons = is_some (on_for ons Then) ≡ true
 IsMet (S.Set rs vs l) ons = Unit {0}
+IsMet (S.Faa a t rs ds l) ons = is_some (on_for ons Next) ≡ true
 IsMet (S.If f l m) ons = Unit {0}
 IsMet (S.Return vs) ons = Unit {0}
 
@@ -191,6 +204,11 @@ not_lacking false y h = absurd (cc)
 store_acts : (actions : List (List ℕ)) (w : List ℕ) (ons : List Trees) → is w (codes "store") ≡ true → lacks_on actions w ons ≡ false → list_any (acts actions (edge_word Next)) ons ≡ true
 store_acts actions w ons e h =
     let word = is-true w (codes "store") e in
+    not_lacking (list_any (acts actions (edge_word Next)) ons) false (sym (ap (λ v. lacks_on actions v ons) word) ∙ h)
+
+faa_acts : (actions : List (List ℕ)) (w : List ℕ) (ons : List Trees) → is w (codes "faa") ≡ true → lacks_on actions w ons ≡ false → list_any (acts actions (edge_word Next)) ons ≡ true
+faa_acts actions w ons e h =
+    let word = is-true w (codes "faa") e in
     not_lacking (list_any (acts actions (edge_word Next)) ons) false (sym (ap (λ v. lacks_on actions v ons) word) ∙ h)
 
 cas_acts : (actions : List (List ℕ)) (w : List ℕ) (ons : List Trees) → is w (codes "cas") ≡ true → lacks_on actions w ons ≡ false → list_any (acts actions (edge_word Then)) ons ≡ true
@@ -207,5 +225,6 @@ met actions w forms ons (S.Load a t rs l) h e f = tt
 met actions w forms ons (S.Store a t vs l) h e f = f Next (store_acts actions w forms h e)
 met actions w forms ons (S.Cas a t old new l m) h e f = f Then (cas_acts actions w forms h e)
 met actions w forms ons (S.Set rs vs l) h e f = tt
+met actions w forms ons (S.Faa a t rs ds l) h e f = f Next (faa_acts actions w forms h e)
 met actions w forms ons (S.If g l m) h e f = tt
 met actions w forms ons (S.Return vs) h e f = tt

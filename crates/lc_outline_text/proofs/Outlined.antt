@@ -24,13 +24,13 @@ use Rattle.lc_outline.specs.Resolved.{is_below, arguments_are_below}
 use Rattle.lc_rider_text.proofs.FormulasWithin.{variable_total, formula_within}
 use Rattle.lc_rider_text.proofs.RidersKnown.{IsOnKnown, ons_known}
 use Rattle.lc_rider_text.proofs.TermsWithin.{ons_within}
-use Rattle.lc_rider_text.specs.Known.{Known}
+use Rattle.lc_rider_text.specs.Known.{Known, Ways}
 use Rattle.lc_rider_text.specs.Ons.{ons_reading}
 use Rattle.lc_rider_text.specs.Scopes.{beside_names}
 use Rattle.lc_rider_text.specs.declared.edges.Edges.{Edges}
 use Rattle.lc_outline_text.proofs.Needed.{IsOfWord, instruction_word, IsMet, AreFound, met, on_found}
 use Rattle.lc_outline_text.specs.Bodies.{names_in, due_reading, ith_reading, bodies_reading}
-use Rattle.lc_outline_text.specs.Declarations.{Declarations, known_of, own_branches}
+use Rattle.lc_outline_text.specs.Declarations.{Declarations, known_of, own_ways}
 use Rattle.lc_outline_text.specs.Developments.{code_of, outlines_of}
 use Rattle.lc_outline_text.specs.Needs.{code_word, edge_word, edges_of, acts, lacks_on}
 use Rattle.lc_outline_text.specs.Points.{formulas_in_reading, outline_of, outline_reading, beside}
@@ -49,32 +49,32 @@ formulas_below word columns others n t =
 
 -- Its operation has this number, its assertions and the arguments at its edges speak of so many variables, what is done at its
 -- edges is known, and an edge that stores has an `on`
-pub record IsOutlined (known : Known) (v o : ℕ) (p : Point × Outline) : Type 0 where
+pub record IsOutlined (known : Known) (own : Option Ways) (v o : ℕ) (p : Point × Outline) : Type 0 where
   pub operation : p.0.operation ≡ o
   pub asserts : list_all (is_below v) p.1.asserts ≡ true
   pub arguments : list_all (arguments_are_below v) p.1.ons ≡ true
-  pub named : Every (IsOnKnown known) p.1.ons
+  pub named : Every (IsOnKnown known own) p.1.ons
   pub met : IsMet p.0.instruction p.1.ons
 
 all_kinds : {X : Type 0} (P : EdgeKind → X → Type 0) (r : Reading X) → ((k : EdgeKind) → Holds (P k) r) → Holds (λ x. (k : EdgeKind) → P k x) r
 all_kinds P (fine x) h = h
 all_kinds P (flawed f) h = tt
 
-abbrev HasOns : Known → Trees → List On → Type 0
-HasOns known ts ons = Every (IsOnKnown known) ons × AreFound known.actions (forms_in (codes "on") ts) ons
+abbrev HasOns : Known → Option Ways → Trees → List On → Type 0
+HasOns known own ts ons = Every (IsOnKnown known own) ons × AreFound known.actions (forms_in (codes "on") ts) ons
 
-abbrev HasOutline : Known → ℕ → Trees → Outline → Type 0
-HasOutline known v ts o = (list_all (is_below v) o.asserts ≡ true) × (list_all (arguments_are_below v) o.ons ≡ true) × HasOns known ts o.ons
+abbrev HasOutline : Known → Option Ways → ℕ → Trees → Outline → Type 0
+HasOutline known own v ts o = (list_all (is_below v) o.asserts ≡ true) × (list_all (arguments_are_below v) o.ons ≡ true) × HasOns known own ts o.ons
 
-outline_holds : (known : Known) (columns : List (List ℕ)) (others : Option (List (List ℕ))) (own : ℕ) (edges : Edges) (i : ℕ) (t : Tree) (m : ℕ) (ts : Trees)
-    → Holds (HasOutline known (variable_total others) ts) (outline_reading known (beside_names columns others) own edges i t m ts)
+outline_holds : (known : Known) (columns : List (List ℕ)) (others : Option (List (List ℕ))) (own : Option Ways) (edges : Edges) (i : ℕ) (t : Tree) (m : ℕ) (ts : Trees)
+    → Holds (HasOutline known own (variable_total others) ts) (outline_reading known (beside_names columns others) own edges i t m ts)
 outline_holds known columns others own edges i t m ts =
     let names = beside_names columns others in
     let count = variable_total others in
-    both_holds (λ fs. list_all (is_below count) fs ≡ true) (λ ons. (list_all (arguments_are_below count) ons ≡ true) × HasOns known ts ons) (HasOutline known count ts) outline_of _ (ons_reading known names own edges m ts)
+    both_holds (λ fs. list_all (is_below count) fs ≡ true) (λ ons. (list_all (arguments_are_below count) ons ≡ true) × HasOns known own ts ons) (HasOutline known own count ts) outline_of _ (ons_reading known names own edges m ts)
     (formulas_below (codes "assert") columns others i t)
-    (and_holds (λ ons. list_all (arguments_are_below count) ons ≡ true) (HasOns known ts) (ons_reading known names own edges m ts) (ons_within columns others known own edges m ts)
-    (and_holds (Every (IsOnKnown known)) (AreFound known.actions (forms_in (codes "on") ts)) (ons_reading known names own edges m ts) (ons_known known names own edges m ts)
+    (and_holds (λ ons. list_all (arguments_are_below count) ons ≡ true) (HasOns known own ts) (ons_reading known names own edges m ts) (ons_within columns others known own edges m ts)
+    (and_holds (Every (IsOnKnown known own)) (AreFound known.actions (forms_in (codes "on") ts)) (ons_reading known names own edges m ts) (ons_known known names own edges m ts)
     (all_kinds (λ kind ons. list_any (acts known.actions (edge_word kind)) (forms_in (codes "on") ts) ≡ true → _) (ons_reading known names own edges m ts) (λ kind. on_found known names own edges kind m ts))))
     (λ fs ons h g. (h, g.0, g.1))
 
@@ -86,19 +86,19 @@ of_instruction : (o : ℕ) (name : Reading (List ℕ)) (i : Instr) → Holds (λ
 of_instruction o (fine w) i = (refl, refl)
 of_instruction o (flawed g) i = tt
 
-beside_holds : (known : Known) (columns : List (List ℕ)) (others : Option (List (List ℕ))) (own n o : ℕ) (code : Tree) (name : Reading (List ℕ)) (r : Reading Instr) → Holds (IsOfWord (code_word code)) r → (m : ℕ) (ts : Trees)
-    → Holds (IsOutlined known (variable_total others) o) (beside known (beside_names columns others) own n code (is_shaped r) (both (point_of o) name r) m ts)
+beside_holds : (known : Known) (columns : List (List ℕ)) (others : Option (List (List ℕ))) (own : Option Ways) (n o : ℕ) (code : Tree) (name : Reading (List ℕ)) (r : Reading Instr) → Holds (IsOfWord (code_word code)) r → (m : ℕ) (ts : Trees)
+    → Holds (IsOutlined known own (variable_total others) o) (beside known (beside_names columns others) own n code (is_shaped r) (both (point_of o) name r) m ts)
 beside_holds known columns others own n o code name r h m none = tt
 beside_holds known columns others own n o code name (flawed f) h m (t ▸ ts) =
-    let P = IsOutlined known (variable_total others) o in
+    let P = IsOutlined known own (variable_total others) o in
     if_holds P _ (wrong Shape n) _ tt (both_holds (λ q. ⊥) (λ x. Unit {0}) P pair (both (point_of o) name (flawed f)) _ (never o name f) (anything _) (λ q x h g. absurd h))
 beside_holds known columns others own n o code name (fine i) h m (t ▸ ts) = by_test (lacks_on known.actions (code_word code) (forms_in (codes "on") ts)) refl where
   by_test : (c : Bool) → lacks_on known.actions (code_word code) (forms_in (codes "on") ts) ≡ c
-      → Holds (IsOutlined known (variable_total others) o)
+      → Holds (IsOutlined known own (variable_total others) o)
       (cond c (wrong Shape n) (both pair (both (point_of o) name (fine i)) (outline_reading known (beside_names columns others) own (edges_of (code_word code)) m t (m + item_count t) ts)))
   by_test true e = tt
   by_test false e =
-      both_holds (λ q. (q.operation ≡ o) × (q.instruction ≡ i)) (HasOutline known (variable_total others) ts) (IsOutlined known (variable_total others) o) pair (both (point_of o) name (fine i)) _
+      both_holds (λ q. (q.operation ≡ o) × (q.instruction ≡ i)) (HasOutline known own (variable_total others) ts) (IsOutlined known own (variable_total others) o) pair (both (point_of o) name (fine i)) _
       (of_instruction o name i) (outline_holds known columns others own (edges_of (code_word code)) m t (m + item_count t) ts)
       (λ q x g k. record {
         operation = g.0;
@@ -112,10 +112,10 @@ beside_holds known columns others own n o code name (fine i) h m (t ▸ ts) = by
 
 -- a point of the body of the operation of this number
 abbrev pub IsPointOf : Declarations → Body → ℕ → Point × Outline → Type 0
-IsPointOf d b o p = IsOutlined (known_of d) (variable_total (Some (b.call.arguments ++ b.locals))) o p
+IsPointOf d b o p = IsOutlined (known_of d) (own_ways d o) (variable_total (Some (b.call.arguments ++ b.locals))) o p
 
 abbrev side_of : Declarations → Body → ℕ → Beside (Point × Outline)
-side_of d b o = beside (known_of d) (names_in d b) (own_branches d o)
+side_of d b o = beside (known_of d) (names_in d b) (own_ways d o)
 
 parts_outlined : (d : Declarations) (b : Body) (o i n m : ℕ) (ts : Trees) → Holds (IsPointOf d b o) (point_parts d.declared b (side_of d b o) o i n m ts)
 parts_outlined d b o i n m none = tt
@@ -123,7 +123,7 @@ parts_outlined d b o i n m (name ▸ none) = tt
 parts_outlined d b o i n m (name ▸ code ▸ ts) =
     let names = code_names d.declared b in
     let own = body_names d.declared b in
-    beside_holds (known_of d) d.declared.columns (Some (b.call.arguments ++ b.locals)) (own_branches d o) n o code (point_name_reading d.declared (b.first + i) n m name) (instruction_reading names own (m + item_count name) code)
+    beside_holds (known_of d) d.declared.columns (Some (b.call.arguments ++ b.locals)) (own_ways d o) n o code (point_name_reading d.declared (b.first + i) n m name) (instruction_reading names own (m + item_count name) code)
     (instruction_word names own (m + item_count name) code) (m + item_count name + item_count code) ts
 
 placed_every : {X : Type 0} (P : X → Type 0) (read : ℕ → ℕ → Tree → Reading X) → ((i n : ℕ) (t : Tree) → Holds P (read i n t)) → (i m : ℕ) (ts : Trees) → Holds (Every P) (placed_reading read i m ts)

@@ -5,5 +5,6 @@ pub mod Bodies
 pub mod Sides
 pub mod Sizes
 pub mod Developments
+pub mod Rests
 pub mod DeclarationsView
 pub mod Views

@@ -91,6 +91,11 @@ declared_numbers abstracts concretes auxiliaries =
 abbrev pub capped : ℕ → ℕ
 capped n = min 100001 n
 
+-- the columns in which is stored by a branch F (UPDATE ..) (T ..) that notes replies, or settles a call
+abbrev pub columns_marked : Bool → List (List ℕ) → Trees → List ℕ
+columns_marked true = Z.columns_noted
+columns_marked false = Z.columns_settled
+
 abbrev pub way_seen : Way → Z.Way
 way_seen way = record { asked = way.asked; columns = columns_of way.columns.items }
 

@@ -50,7 +50,7 @@ fn read_ith(
             columns: known.columns,
             variables: Variables::of_client(&body.variables)?,
         },
-        own: declarations.own_branches(place),
+        own: declarations.own_ways(place),
     };
     let reader = Points {
         scope: InBody {

@@ -4,8 +4,10 @@ ghost use Rattle.lc_sexp.specs.Shown.{rest_of};
 ghost use Rattle.lc_object_text.specs.ObjectNames as N;
 ghost use Rattle.lc_object_text.specs.Seen.{sections_seen, forms_left};
 ghost use Rattle.lc_reading.specs.TableView.{listed};
-ghost use Rattle.lc_outline_text.specs.Declarations.{branches_in, branch_count, parameter_count, declarations_in, form_at};
-ghost use Rattle.lc_outline_text.specs.DeclarationsView.{rests_of, declarations_seen};
+ghost use Rattle.lc_rider_text.specs.KnownView.{ways_seen};
+ghost use Rattle.lc_outline_text.specs.Declarations.{branches_in, choices_in, parameter_count, ways_in, declarations_in, form_at};
+ghost use Rattle.lc_outline_text.specs.DeclarationsView.{declarations_seen};
+ghost use Rattle.lc_outline_text.specs.Rests.{rests_of, lists_of_rests};
 
 use crate::declarations::Declarations;
 use lc_base::OutOfMemory;
@@ -13,7 +15,7 @@ use lc_object_text::{
     Sections, behind_first, first_text, next_form, read_declarations, within_first,
 };
 use lc_reading::NameTable;
-use lc_rider_text::{Columns, Known};
+use lc_rider_text::{Columns, Known, Ways};
 use lc_sexp::Cursor;
 use std::alloc::Global;
 
@@ -41,34 +43,60 @@ fn read_forms<'a>(
     }
 }
 
-/// The branches of an operation.
-pub(crate) fn branches_in<'a>(operation: Cursor<'a>) -> Cursor<'a>
+/// The branches or choices of an operation.
+fn branches_in<'a>(operation: Cursor<'a>) -> Cursor<'a>
     ensures { rest_of result ≡ branches_in (rest_of operation.entry) }
 {
     behind_first(behind_first(behind_first(operation)))
 }
 
-/// How many branches each of these operations has.
-fn branch_counts(alloc: Global, operations: &[Cursor<'_>]) -> Result<Vec<u64>, OutOfMemory>
-    ensures { IfOk result (λ counts. counts.items ≡ map branch_count (rests_of operations.now)) }
+/// How many parameters each of these actions or choices has.
+fn parameter_counts(alloc: Global, forms: &[Cursor<'_>]) -> Result<Vec<u64>, OutOfMemory>
+    ensures { IfOk result (λ counts. counts.items ≡ map parameter_count (rests_of forms.now)) }
 {
-    let mut counts = Vec::with_capacity(alloc, operations.len())?;
-    for operation in operations {
-        counts.push(branches_in(*operation).len() as u64)?;
+    let mut counts = Vec::with_capacity(alloc, forms.len())?;
+    for form in forms {
+        let parameters = within_first(behind_first(*form));
+        counts.push(parameters.len() as u64)?;
     }
     Ok(counts)
 }
 
-/// How many parameters each of these actions has.
-fn parameter_counts(alloc: Global, actions: &[Cursor<'_>]) -> Result<Vec<u64>, OutOfMemory>
-    ensures { IfOk result (λ counts. counts.items ≡ map parameter_count (rests_of actions.now)) }
+/// How an operation goes, and what stands behind the word of each of its choices.
+fn read_ways<'a>(
+    alloc: Global,
+    operation: Cursor<'a>,
+) -> Result<(Ways<'a>, Vec<Cursor<'a>>), OutOfMemory>
+    ensures ways { IfOk result (λ r. ways_seen r.0 ≡ ways_in (rest_of operation.entry)) }
+    ensures choices { IfOk result (λ r. rests_of r.1.items ≡ choices_in (rest_of operation.entry)) }
 {
-    let mut counts = Vec::with_capacity(alloc, actions.len())?;
-    for action in actions {
-        let parameters = within_first(behind_first(*action));
-        counts.push(parameters.len() as u64)?;
+    let branches = branches_in(operation);
+    let (names, choices) = read_forms(alloc, branches, "choice", false)?;
+    let parameters = parameter_counts(alloc, &choices)?;
+    let ways = Ways {
+        count: branches.len() as u64,
+        choices: names,
+        parameters,
+    };
+    Ok((ways, choices))
+}
+
+/// The same of each of these operations.
+fn read_all_ways<'a>(
+    alloc: Global,
+    operations: &[Cursor<'a>],
+) -> Result<(Vec<Ways<'a>>, Vec<Vec<Cursor<'a>>>), OutOfMemory>
+    ensures ways { IfOk result (λ r. map ways_seen r.0.items ≡ map ways_in (rests_of operations.now)) }
+    ensures choices { IfOk result (λ r. lists_of_rests r.1.items ≡ map choices_in (rests_of operations.now)) }
+{
+    let mut ways = Vec::with_capacity(alloc, operations.len())?;
+    let mut choices = Vec::with_capacity(alloc, operations.len())?;
+    for operation in operations {
+        let (goes, chosen) = read_ways(alloc, *operation)?;
+        ways.push(goes)?;
+        choices.push(chosen)?;
     }
-    Ok(counts)
+    Ok((ways, choices))
 }
 
 /// What these sections of a file declare, whatever else is wrong in it.
@@ -83,14 +111,15 @@ pub(crate) fn read_all_declarations<'a>(
     let (action_names, actions) = read_forms(alloc, behind_auxiliaries, "action", false)?;
     let (_, operations) = read_forms(alloc, sections.operations, "op", true)?;
     let parameters = parameter_counts(alloc, &actions)?;
-    let branches = branch_counts(alloc, &operations)?;
+    let (ways, choices) = read_all_ways(alloc, &operations)?;
     Ok(Declarations {
         declared,
         action_names,
         actions,
         parameters,
         operations,
-        branches,
+        ways,
+        choices,
     })
 }
 
@@ -109,9 +138,11 @@ pub(crate) fn form_at<'a>(forms: &[Cursor<'a>], place: Option<usize>) -> Cursor<
 
 impl<'a> Declarations<'a> {
     ghost use Rattle.std.specs.Prelude.{◌≡◌, IfOk};
-    ghost use Rattle.lc_rider_text.specs.KnownView.{known_seen};
-    ghost use Rattle.lc_outline_text.specs.Declarations.{known_of, own_branches};
+    ghost use Rattle.lc_sexp.specs.Shown.{rest_of};
+    ghost use Rattle.lc_rider_text.specs.KnownView.{known_seen, ways_there};
+    ghost use Rattle.lc_outline_text.specs.Declarations.{branches_in, known_of, own_ways, form_at};
     ghost use Rattle.lc_outline_text.specs.DeclarationsView.{declarations_seen};
+    ghost use Rattle.lc_outline_text.specs.Sizes.{choice_named};
 
     /// What is seen of it beside the code.
     pub(crate) fn known<'b>(&'b self) -> Result<Known<'a, 'b>, OutOfMemory>
@@ -121,19 +152,39 @@ impl<'a> Declarations<'a> {
         Ok(Known {
             columns,
             operations: &self.declared.operations,
-            branches: &self.branches,
+            ways: &self.ways,
             actions: &self.action_names,
             parameters: &self.parameters,
         })
     }
 
-    /// How many branches the operation of this number has.
-    pub(crate) fn own_branches(&self, operation: u32) -> u64
-        ensures { result ≡ own_branches (declarations_seen self.now) operation }
+    /// How the operation of this number goes, if there is one.
+    pub(crate) fn own_ways(&self, operation: u32) -> Option<&Ways<'a>>
+        ensures { ways_there result ≡ own_ways (declarations_seen self.now) operation }
     {
-        match self.branches.get(operation as usize) {
-            Some(count) => *count,
-            None => 0,
-        }
+        self.ways.get(operation as usize)
+    }
+
+    /// The branches or choices of the operation at this place.
+    pub(crate) fn branches(&self, operation: Option<usize>) -> Cursor<'a>
+        ensures { rest_of result ≡ branches_in (form_at (declarations_seen self.now).operations operation) }
+    {
+        branches_in(form_at(&self.operations, operation))
+    }
+
+    /// What stands behind the name and the parameters of the choice of this name, of the operation at this place.
+    pub(crate) fn choice_named(&self, operation: Option<usize>, name: &str) -> Cursor<'a>
+        ensures { rest_of result ≡ choice_named (form_at (declarations_seen self.now).operations operation) name.now }
+    {
+        let Some(operation) = operation else {
+            return Cursor::empty();
+        };
+        let Some(ways) = self.ways.get(operation) else {
+            return Cursor::empty();
+        };
+        let Some(choices) = self.choices.get(operation) else {
+            return Cursor::empty();
+        };
+        behind_first(behind_first(form_at(choices, ways.choices.place(name))))
     }
 }

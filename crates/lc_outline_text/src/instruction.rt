@@ -42,6 +42,7 @@ fn label_place(word: &str, kind: EdgeKind) -> u8
 {
     match kind {
         EdgeKind::Next if word == "set" => 2,
+        EdgeKind::Next if word == "faa" => 5,
         EdgeKind::Next => 4,
         EdgeKind::Then if word == "cas" => 5,
         EdgeKind::Then => 2,

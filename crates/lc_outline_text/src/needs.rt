@@ -57,7 +57,7 @@ pub(crate) fn code_word<'a>(part: Part<'a>) -> &'a str
 pub(crate) fn goes_next(word: &str) -> bool
     ensures { result ≡ goes_next word.now }
 {
-    matches!(word, "load" | "store" | "set" | "return")
+    matches!(word, "load" | "store" | "faa" | "set" | "return")
 }
 
 /// Whether an instruction of this word has an edge where it holds, and one where it fails.
@@ -84,7 +84,7 @@ pub(crate) fn stores(word: &str, kind: EdgeKind) -> bool
     ensures { result ≡ stores word.now kind }
 {
     match kind {
-        EdgeKind::Next => word == "store",
+        EdgeKind::Next => matches!(word, "store" | "faa"),
         EdgeKind::Then => word == "cas",
         EdgeKind::Else => false,
     }

@@ -5,7 +5,7 @@ ghost use Rattle.lc_outline.specs.PartsView.{outline_of};
 ghost use Rattle.lc_reading.specs.Parts.{tree_of, place_of};
 ghost use Rattle.lc_reading.specs.Readings.{Reading, both};
 ghost use Rattle.lc_reading.specs.Results.{IsReading};
-ghost use Rattle.lc_rider_text.specs.KnownView.{known_seen, names_beside};
+ghost use Rattle.lc_rider_text.specs.KnownView.{known_seen, names_beside, ways_there};
 ghost use Rattle.lc_text.specs.Terms.{pair};
 ghost use Rattle.lc_outline_text.specs.Needs.{edges_of};
 ghost use Rattle.lc_outline_text.specs.Points.{outline_reading};
@@ -17,7 +17,7 @@ use lc_object::Point;
 use lc_object_text::ReadsBeside;
 use lc_outline::Outline;
 use lc_reading::{Part, Pass, ReadFault, both, next_part, wrong};
-use lc_rider_text::{Beside, Edges, Known, read_ons};
+use lc_rider_text::{Beside, Edges, Known, Ways, read_ons};
 use lc_sexp::Cursor;
 use std::alloc::Global;
 
@@ -26,8 +26,8 @@ use std::alloc::Global;
 pub(crate) struct Outlines<'a, 'b> {
     pub(crate) known: Known<'a, 'b>,
     pub(crate) scope: Beside<'a, 'b>,
-    /// How many branches the body's operation has.
-    pub(crate) own: u64,
+    /// How the body's operation goes, if it is known.
+    pub(crate) own: Option<&'b Ways<'a>>,
 }
 
 /// `(assert F ..) ON ..`, at a point with these edges.
@@ -38,7 +38,7 @@ fn read_outline(
     asserts: Part<'_>,
     ons: Cursor<'_>,
 ) -> Result<Outline, ReadFault>
-    ensures { IsReading outline_of (outline_reading (known_seen reader.now.known) (names_beside reader.now.scope) reader.now.own edges (place_of asserts.entry) (tree_of asserts.entry) (number_of ons.entry) (rest_of ons.entry)) result }
+    ensures { IsReading outline_of (outline_reading (known_seen reader.now.known) (names_beside reader.now.scope) (ways_there reader.now.own) edges (place_of asserts.entry) (tree_of asserts.entry) (number_of ons.entry) (rest_of ons.entry)) result }
 {
     let asserts = read_formulas_in(alloc, &reader.scope, "assert", asserts);
     let ons = read_ons(alloc, reader.known, &reader.scope, reader.own, edges, ons);
@@ -58,7 +58,7 @@ fn read_outlined(
     ons: Cursor<'_>,
 ) -> Result<(Point, Outline), ReadFault>
     ensures { (r : Reading O.Point) → IsReading point_of r point → IsReading outlined_of
-        (both pair r (outline_reading (known_seen reader.now.known) (names_beside reader.now.scope) reader.now.own (edges_of word.now) (place_of asserts.entry) (tree_of asserts.entry) (number_of ons.entry) (rest_of ons.entry))) result }
+        (both pair r (outline_reading (known_seen reader.now.known) (names_beside reader.now.scope) (ways_there reader.now.own) (edges_of word.now) (place_of asserts.entry) (tree_of asserts.entry) (number_of ons.entry) (rest_of ons.entry))) result }
 {
     let outline = read_outline(alloc, reader, edges_of(word), asserts, ons);
     both(point, outline)
@@ -83,7 +83,7 @@ impl Outlines<'_, '_> {
 impl ReadsBeside for Outlines<'_, '_> {
     ghost use Rattle.lc_object.specs.Syntax as O;
     ghost use Rattle.lc_outline.specs.Development as D;
-    ghost use Rattle.lc_rider_text.specs.KnownView.{known_seen, names_beside};
+    ghost use Rattle.lc_rider_text.specs.KnownView.{known_seen, names_beside, ways_there};
     ghost use Rattle.lc_outline_text.specs.Points.{beside};
     ghost use Rattle.lc_outline_text.specs.Views.{outlined_of};
 
@@ -93,7 +93,7 @@ impl ReadsBeside for Outlines<'_, '_> {
 
     ghost meaning = { outlined_of };
 
-    ghost reading = { λ reader. beside (known_seen reader.known) (names_beside reader.scope) reader.own };
+    ghost reading = { λ reader. beside (known_seen reader.known) (names_beside reader.scope) (ways_there reader.own) };
 
     fn read(
         &self,

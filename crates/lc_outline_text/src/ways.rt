@@ -1,15 +1,14 @@
 //! The ways in which riders are passed, told from a text.
-ghost use Rattle.std.specs.Prelude.{◌≡◌, ◌∷◌, [], if◌then◌else◌, IfOk};
+ghost use Rattle.std.specs.Prelude.{◌≡◌, ◌∷◌, [], IfOk};
 ghost use Rattle.lc_sexp.specs.Shown.{rest_of};
 ghost use Rattle.lc_object_text.specs.DeclaredView.{declared_seen};
 ghost use Rattle.lc_reading.specs.TableView.{listed};
 ghost use Rattle.lc_outline_text.specs.DeclarationsView.{declarations_seen};
-ghost use Rattle.lc_outline_text.specs.Views.{ways_seen, way_lists};
-ghost use Rattle.lc_outline_text.specs.Sizes.{column_named, columns_settled, columns_noted, mark_ways, ways_with, deed_ways, rider_ways, all_ways};
+ghost use Rattle.lc_outline_text.specs.Views.{columns_marked, way_seen, ways_seen, way_lists};
+ghost use Rattle.lc_outline_text.specs.Sizes.{column_named, mark_ways, choice_ways, ways_with, deed_ways, rider_ways, all_ways};
 
 use crate::columns_stored::{columns_noted, columns_settled, push_column};
 use crate::declarations::Declarations;
-use crate::declaring::{branches_in, form_at};
 use crate::needs::{items_within, parts_in};
 use lc_base::{ColId, OutOfMemory};
 use lc_object_text::{behind_first, first_text, within_first};
@@ -34,7 +33,25 @@ impl Drop for Way {
     }
 }
 
-/// One way for each of these branches, by which a call is settled, or noted.
+/// The way by a branch, `F (UPDATE ..) (T ..)`, by which a call is settled, or noted.
+fn mark_way(
+    alloc: Global,
+    columns: &NameTable<'_>,
+    is_note: bool,
+    asked: u64,
+    branch: Cursor<'_>,
+) -> Result<Way, OutOfMemory>
+    ensures { IfOk result (λ way. way_seen way ≡ record { asked = asked; columns = columns_marked is_note (listed columns.now) (rest_of branch.entry) }) }
+{
+    let columns = if is_note {
+        columns_noted(alloc, columns, branch)?
+    } else {
+        columns_settled(alloc, columns, branch)?
+    };
+    Ok(Way { asked, columns })
+}
+
+/// One way for each of these branches.
 fn mark_ways(
     alloc: Global,
     columns: &NameTable<'_>,
@@ -42,7 +59,7 @@ fn mark_ways(
     asked: u64,
     branches: Cursor<'_>,
 ) -> Result<Vec<Way>, OutOfMemory>
-    ensures { IfOk result (λ ways. ways_seen ways ≡ mark_ways (if is_note then columns_noted (listed columns.now) else columns_settled (listed columns.now)) asked (rest_of branches.entry)) }
+    ensures { IfOk result (λ ways. ways_seen ways ≡ mark_ways (columns_marked is_note (listed columns.now)) asked (rest_of branches.entry)) }
 {
     let mut ways = Vec::new(alloc);
     let mut rest = branches;
@@ -51,16 +68,23 @@ fn mark_ways(
             return Ok(ways);
         };
         let branch = parts_in(part, "branch");
-        let stored = if is_note {
-            columns_noted(alloc, columns, branch)?
-        } else {
-            columns_settled(alloc, columns, branch)?
-        };
-        ways.push(Way {
-            asked,
-            columns: stored,
-        })?;
+        ways.push(mark_way(alloc, columns, is_note, asked, branch)?)?;
     }
+}
+
+/// The one way by this choice.
+fn choice_ways(
+    alloc: Global,
+    columns: &NameTable<'_>,
+    is_note: bool,
+    asked: u64,
+    choice: Cursor<'_>,
+) -> Result<Vec<Way>, OutOfMemory>
+    ensures { IfOk result (λ ways. ways_seen ways ≡ choice_ways (columns_marked is_note (listed columns.now)) asked (rest_of choice.entry)) }
+{
+    let mut ways = Vec::new(alloc);
+    ways.push(mark_way(alloc, columns, is_note, asked, choice)?)?;
+    Ok(ways)
 }
 
 /// The one way in which a column of this name is set.
@@ -83,18 +107,27 @@ fn ways_with(
 ) -> Result<Vec<Way>, OutOfMemory>
     ensures { IfOk result (λ ways. ways_seen ways ≡ ways_with (declarations_seen declarations.now) operation word.now (rest_of list.entry)) }
 {
-    let declared = &declarations.declared;
-    let columns = &declared.columns;
-    let own = branches_in(form_at(&declarations.operations, Some(operation as usize)));
+    let columns = &declarations.declared.columns;
+    let named = first_text(&behind_first(list));
+    let own = Some(operation as usize);
+    let other = declarations.declared.operations.place(named);
     match word {
         "set" => set_way(alloc, columns, first_text(&list)),
-        "lin" => mark_ways(alloc, columns, false, 2, own),
-        "lin-other" => {
-            let place = declared.operations.place(first_text(&behind_first(list)));
-            let others = branches_in(form_at(&declarations.operations, place));
-            mark_ways(alloc, columns, false, 3, others)
+        "lin" => mark_ways(alloc, columns, false, 2, declarations.branches(own)),
+        "lin-other" => mark_ways(alloc, columns, false, 3, declarations.branches(other)),
+        "note" => mark_ways(alloc, columns, true, 3, declarations.branches(own)),
+        "lin-by" => {
+            let choice = declarations.choice_named(own, first_text(&list));
+            choice_ways(alloc, columns, false, 2, choice)
         }
-        "note" => mark_ways(alloc, columns, true, 3, own),
+        "lin-other-by" => {
+            let name = first_text(&behind_first(behind_first(list)));
+            choice_ways(alloc, columns, false, 3, declarations.choice_named(other, name))
+        }
+        "note-by" => {
+            let choice = declarations.choice_named(own, first_text(&list));
+            choice_ways(alloc, columns, true, 3, choice)
+        }
         _ => Ok(Vec::new(alloc)),
     }
 }

@@ -3,7 +3,7 @@ use Rattle.lc_sexp.specs.Shown.{rest_of}
 use Rattle.lc_object_text.specs.ObjectNames.{first_text}
 use Rattle.lc_object_text.specs.Seen.{size, forms_left}
 use Rattle.lc_reading.specs.TableView.{listed}
-use Rattle.lc_outline_text.specs.DeclarationsView.{rests_of}
+use Rattle.lc_outline_text.specs.Rests.{rests_of}
 use Rattle.lc_outline_text.proofs.declaring.read_forms.Given as goal
 
 -- the forms so far, and those that are left, are all that will be there
