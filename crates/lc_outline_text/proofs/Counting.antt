@@ -1,5 +1,5 @@
 -- Counts up to a cap.
-use Rattle.std.proofs.Common.{◌≡◌, ℕ, ◌+◌, ◌≤◌, ◌<◌, List, ◌∷◌, ◌++◌, map, take, get_or, length, sym, ap, ◌∙◌, subst, arith}
+use Rattle.std.proofs.Common.{rules, ◌≡◌, ℕ, ◌+◌, ◌*◌, ◌≤◌, ◌<◌, List, ◌∷◌, ◌++◌, map, take, get_or, length, sym, ap, ◌∙◌, subst, arith}
 use Rattle.std.proofs.lemmas.List.{map_more, take-map}
 use Rattle.std.proofs.lemmas.List.Sums.{sum_by_push, sum_by-take-le}
 use Rattle.std.specs.Prelude.{sum_by, Option, Vec}
@@ -44,3 +44,14 @@ counted_more n more own rest s next whole h g e k = omega arith
 
 pub few_counted : (n m : ℕ) → n ≡ capped m → n ≤ 100001
 few_counted n m h = omega arith
+
+-- a count up to the cap, so many times
+product_capped : (a n : ℕ) → capped (capped a * n) ≡ capped (a * n)
+product_capped a n = search rules
+
+-- what holds where calls begin, at the edges, and so often at the points
+pub whole_counted : (i e s a n entry edges total stable first all : ℕ) → entry ≡ capped (i + e) → edges ≡ capped s → total ≡ capped a → stable ≡ capped (total * n) → first ≡ capped (entry + edges) → all ≡ capped (first + stable)
+    → all ≡ capped (i + e + s + a * n)
+whole_counted i e s a n entry edges total stable first all h g k l m o =
+    let product : stable ≡ capped (a * n) = l ∙ ap (λ t. capped (t * n)) k ∙ product_capped a n in
+    omega (arith, h, g, product, m, o)
