@@ -46,21 +46,25 @@ fn named_branch(branches: &[Branch], text: &str, count: usize) -> Option<Name>
     ensures { MatchOption result (list_any (λ b. names b.label text.now count) (branches_of branches.now) ≡ false)
         (λ name. (bytes_of name ≡ text.now) × (list_any (λ b. names b.label text.now count) (branches_of branches.now) ≡ true)) }
 {
-    let (branch, others) = branches.split_first()?;
-    match &branch.label {
-        Label::Named { name, .. } if branch.label.names(text, count) => Some(*name),
-        _ => named_branch(others, text, count),
+    for branch in branches {
+        match &branch.label {
+            Label::Named { name, .. } if branch.label.names(text, count) => return Some(*name),
+            _ => {}
+        }
     }
+    None
 }
 
 /// Whether a branch has no name.
 fn has_ordered(branches: &[Branch]) -> bool
     ensures { result ≡ list_any (λ b. is_in_order b.label) (branches_of branches.now) }
 {
-    match branches.split_first() {
-        None => false,
-        Some((branch, others)) => branch.label.is_in_order() || has_ordered(others),
+    for branch in branches {
+        if branch.label.is_in_order() {
+            return true;
+        }
     }
+    false
 }
 
 impl<'a> Operations<'a> {

@@ -1,9 +1,7 @@
 -- Forms that are kept and forms of trees, where one is the other read in a table.
-use Rattle.std.proofs.Common.{◌≡◌, ◌⊎◌, inl, inr, ◌↔◌, ℕ, zero, suc, Bool, true, false, List, [], ◌∷◌, Option, Some, None, slice_get, refl, sym, ap, ap₂, subst, ◌∙◌, arith}
-use Rattle.std.specs.Prelude.{ℤ, pos, ◌+ℤ◌, ◌-ℤ◌, ◌*ℤ◌, FitsSigned, if◌then◌else◌, Result, Ok, Err}
-use Rattle.std.specs.Int.{w128}
+use Rattle.std.proofs.Common.{◌≡◌, ◌⊎◌, inl, inr, ◌↔◌, ℕ, zero, suc, Bool, true, false, List, [], ◌∷◌, Some, None, slice_get, refl, sym, ap, ap₂, subst, ◌∙◌}
+use Rattle.std.specs.Prelude.{ℤ, pos, if◌then◌else◌, Result, Ok, Err}
 use Rattle.std.proofs.lemmas.Bool.{false≢true}
-use Rattle.std.proofs.lemmas.Int.{ints}
 use Rattle.lc_term.specs.Syntax as S
 use Rattle.lc_term.specs.Equal.{term_eq}
 use Rattle.lc_term.specs.EqualLaws.{Decides-term_eq}
@@ -14,7 +12,7 @@ use Rattle.lc_table.specs.declared.node.TermId.{TermId}
 use Rattle.lc_table.proofs.TermNodes.{term-there}
 use Rattle.lc_linear.proofs.Ids.{Decides-is_same, same_test}
 use Rattle.lc_linear.specs.Form as T
-use Rattle.lc_linear.specs.LinForm.{numbers, HasNumbers, IsNowhere, Reads, IsFormIn, AddsIn, Gives}
+use Rattle.lc_linear.specs.LinForm.{IsNowhere, Reads, Gives}
 use Rattle.lc_linear.specs.Numbered as N
 use Rattle.lc_linear.specs.Numbered.{is_same}
 use Rattle.lc_linear.specs.declared.fault.LinFault.{LinFault}

@@ -4,6 +4,7 @@ pub mod Products
 pub mod Weights
 pub mod Ids
 pub mod Entries
+pub mod Atoms
 pub mod Multiples
 pub mod Distinct
 pub mod Adding

@@ -10,7 +10,7 @@ use Rattle.lc_linear.proofs.Meaning.{value_constant}
 use Rattle.lc_linear.proofs.Products.{mul-sub, mul_comm, zero-mul, mul-low, multiple_below}
 use Rattle.lc_linear.specs.Closing.{Entry, gap, is_allowed, are_allowed, combined_from, combined, Closes}
 use Rattle.lc_linear.specs.Divided.{IsRoundedUp, Divides, IsDivided}
-use Rattle.lc_linear.specs.Form.{Place, Form, form_of}
+use Rattle.lc_linear.specs.Form.{form_of}
 
 -- the constant can only be rounded up for a number above 0
 IsRoundedUp-positive : (d k n : ℤ) → IsRoundedUp d k n → pos 1 ≤ℤ k

@@ -1,5 +1,6 @@
 -- What clauses see of a form that is kept: the number at each place, and the form that it is of trees.
-use Rattle.std.specs.Prelude.{◌≡◌, Some, None, pos, ◌+ℤ◌, Result, Ok, Err}
+use Rattle.std.specs.Prelude.{◌≡◌, ℕ, Some, None, pos, ◌+ℤ◌, Result, Ok, Err, List, slice_get}
+use Rattle.std.specs.Map.{keys_of}
 use Rattle.lc_table.specs.NodeTables.{Table}
 use Rattle.lc_term.specs.Syntax.{Term}
 use Rattle.lc_table.specs.Tables.{term_in, IsTerm}
@@ -13,6 +14,14 @@ use Rattle.lc_linear.specs.declared.form.LinForm.{LinForm}
 -- its number at each place
 abbrev pub numbers : LinForm → Form
 numbers form = listed form.constant form.coefficients.entries
+
+-- the atoms that it lists, in their order; the coefficients of some may be 0
+abbrev pub atoms : LinForm → List TermId
+atoms form = keys_of form.coefficients.entries
+
+-- an atom is one of them
+abbrev pub IsListed : LinForm → TermId → Type 0
+IsListed form a = (place : ℕ) × (slice_get (atoms form) place ≡ Some a)
 
 -- it is the form with these numbers
 abbrev pub HasNumbers : LinForm → Form → Type 0

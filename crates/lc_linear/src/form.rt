@@ -27,10 +27,11 @@ impl Drop for LinForm {
 }
 
 impl LinForm {
-    ghost use Rattle.std.specs.Prelude.{◌≡◌, Some, None, pos, IsTrue, ◌↔◌};
+    ghost use Rattle.std.specs.Prelude.{◌≡◌, Some, None, pos, length, slice_get, option_map, IsTrue, ◌↔◌};
+    ghost use Rattle.std.specs.List.{IsDistinct};
     ghost use Rattle.lc_table.specs.declared.node.TermId.{TermId};
-    ghost use Rattle.lc_linear.specs.Numbered.{number_form};
-    ghost use Rattle.lc_linear.specs.LinForm.{numbers, HasNumbers};
+    ghost use Rattle.lc_linear.specs.Numbered.{is_same, number_form};
+    ghost use Rattle.lc_linear.specs.LinForm.{numbers, atoms, HasNumbers, IsListed};
 
     /// The form that is 0.
     pub fn zero(alloc: Global) -> LinForm
@@ -54,6 +55,25 @@ impl LinForm {
         ensures { result ≡ numbers self.now (Some atom) }
     {
         self.coefficients.get(&atom).copied().unwrap_or(0)
+    }
+
+    /// How many atoms it lists: no atom twice, and each whose coefficient is not 0.
+    pub fn atom_count(&self) -> usize
+        ensures count { result ≡ length (atoms self.now) }
+        ensures distinct { IsDistinct is_same (atoms self.now) }
+        ensures all { (a : TermId) → (numbers self.now (Some a) ≡ pos 0 → ⊥) → IsListed self.now a }
+    {
+        self.coefficients.len()
+    }
+
+    /// The atom that it lists at a place, with its coefficient; none behind the last one.
+    pub fn atom_at(&self, place: usize) -> Option<(TermId, i128)>
+        ensures { result ≡ option_map (λ a. (a, numbers self.now (Some a))) (slice_get (atoms self.now) place) }
+    {
+        match self.coefficients.get_index(place) {
+            Some((atom, coefficient)) => Some((*atom, *coefficient)),
+            None => None,
+        }
     }
 
     /// Whether all its coefficients are 0.

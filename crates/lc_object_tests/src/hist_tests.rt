@@ -20,12 +20,16 @@ enum CounterCall {
 impl SeqObject for Counter {
     ghost use Rattle.std.specs.Prelude.{ℤ, [], ◌∷◌, refl};
     ghost use Rattle.std.proofs.Common.{sym};
+    ghost use Rattle.lc_seq.specs.Sequential.{InOrder};
     ghost use Rattle.lc_object_tests.specs.Counter.{increment, get, counter_step, CounterFits, IsCounterCall, counter_steps_by_calls, replies_are_equal, calls_differ};
     ghost use Rattle.lc_object_tests.specs.declared.hist_tests.CounterCall.TheVariants.{Increment, Get};
 
     type State = i64;
 
     type Call = CounterCall;
+
+    // A call has one branch.
+    type Choice = ();
 
     type Reply = i64;
 
@@ -37,15 +41,17 @@ impl SeqObject for Counter {
 
     ghost call_meant = { elim [ Increment ↦ increment | Get ↦ get ] };
 
+    ghost choice_meant = { λ _. InOrder };
+
     ghost numbers = { λ number. number ∷ [] };
 
     ghost HasCall = { λ _ call. IsCounterCall call };
 
     ghost start = { λ counter. counter.start };
 
-    ghost step = { λ _ number client call. counter_step number call };
+    ghost step = { λ _ number client call choice. counter_step number call };
 
-    ghost Fits = { λ _ number client call. CounterFits number call };
+    ghost Fits = { λ _ number client call choice. CounterFits number call };
 
     ghost equal_calls = { elim [
       | Increment ↦ elim [ Increment ↦ (λ _. refl, λ _. refl) | Get ↦ (λ e. absurd (Prim.cc e), λ e. absurd (calls_differ e)) ]
@@ -54,7 +60,7 @@ impl SeqObject for Counter {
 
     ghost equal_replies = { λ a b. replies_are_equal a b };
 
-    ghost steps_by_calls = { λ _ number client call next reply. counter_steps_by_calls number call next reply };
+    ghost steps_by_calls = { λ _ number client call choice next reply. counter_steps_by_calls number call next reply };
 
     fn initial(&self, _alloc: Global) -> Result<i64, OutOfMemory> {
         Ok(self.start)
@@ -66,6 +72,7 @@ impl SeqObject for Counter {
         state: &mut i64,
         _client: u32,
         call: &CounterCall,
+        _choice: &(),
     ) -> Result<Option<i64>, SeqFault> {
         let before = *state;
         match call {
@@ -124,18 +131,20 @@ fn replied(alloc: Global, client: u32, number: i64) -> Result<Event, OutOfMemory
     Ok(Event::Respond { client, numbers })
 }
 
-fn incremented(client: u32, reply: i64) -> Done<CounterCall, i64> {
+fn incremented(client: u32, reply: i64) -> Done<CounterCall, (), i64> {
     Done {
         client,
         call: CounterCall::Increment,
+        choice: (),
         reply,
     }
 }
 
-fn got(client: u32, reply: i64) -> Done<CounterCall, i64> {
+fn got(client: u32, reply: i64) -> Done<CounterCall, (), i64> {
     Done {
         client,
         call: CounterCall::Get,
+        choice: (),
         reply,
     }
 }
@@ -201,7 +210,7 @@ fn long_history(alloc: Global) -> Result<Vec<Event>, OutOfMemory> {
 }
 
 /// The calls of the long history in the order in which they are made.
-fn long_order(alloc: Global) -> Result<Vec<Done<CounterCall, i64>>, OutOfMemory> {
+fn long_order(alloc: Global) -> Result<Vec<Done<CounterCall, (), i64>>, OutOfMemory> {
     let mut order = Vec::new(alloc);
     for call in 0..100_000_u32 {
         order.push(incremented(call % 64, i64::from(call)))?;

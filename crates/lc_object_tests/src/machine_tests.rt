@@ -51,6 +51,13 @@ const EXCHANGE: &str = "(spec pair (abstract) (op swap () 0))
         (point test (if (<= x y) first d) (assert))
         (point d (return) (assert))))";
 
+/// A ticket and a sum, of which a client takes both and adds to each; the second client's sum leaves 64 bits.
+const TICKETS: &str = "(spec tickets (abstract) (op take () 1))
+    (object tickets (array row (t 0 5) (s 0 9223372036854775806)) (aux) (invariant) (idle)
+      (body take (x y)
+        (point k (faa row x (x y) ((+ x 2) 1) d) (assert))
+        (point d (return x) (assert))))";
+
 fn object(alloc: Global, text: &str) -> Result<Object, Fail> {
     let forms = read(alloc, text.as_bytes())?;
     let object = object_of(alloc, &forms)?;
@@ -145,6 +152,15 @@ fn locals_are_set_at_once(bare: &mut Bare<'_>) -> bool {
     set & turned & tested & returned & stored
 }
 
+fn a_row_is_read_and_added_to_at_once(bare: &mut Bare<'_>) -> bool {
+    let first = calls(bare, 0) & goes(bare, 0, 1, EdgeKind::Next);
+    let added = has(bare, 0, 0, 7) & has(bare, 1, 0, i64::MAX);
+    // The sum of the second column is too large, so nothing is stored, again and again.
+    let too_large = calls(bare, 1) & overflows(bare, 1) & overflows(bare, 1);
+    let stays = has(bare, 0, 0, 7) & has(bare, 1, 0, i64::MAX);
+    first & added & too_large & stays & returns(bare, 0, 5)
+}
+
 #[derive(Clone, Copy)]
 enum Scene {
     Counting,
@@ -152,6 +168,7 @@ enum Scene {
     Swap,
     FarSwap,
     Exchange,
+    Tickets,
 }
 
 /// Whether a scene is as it should be, with so many clients on the object of a text.
@@ -164,6 +181,7 @@ fn is_played(alloc: Global, scene: Scene, text: &str, clients: u32) -> Result<bo
         Scene::Swap => a_compare_and_swap_compares_the_whole_row(&mut bare),
         Scene::FarSwap => a_comparison_stops_at_the_first_difference(&mut bare),
         Scene::Exchange => locals_are_set_at_once(&mut bare),
+        Scene::Tickets => a_row_is_read_and_added_to_at_once(&mut bare),
     })
 }
 
@@ -175,6 +193,7 @@ fn clients_take_their_steps(rt: HostRuntime) -> Result<(), Fail> {
         (Scene::Swap, SWAP, 1),
         (Scene::FarSwap, FAR_SWAP, 1),
         (Scene::Exchange, EXCHANGE, 2),
+        (Scene::Tickets, TICKETS, 2),
     ] {
         assert!(rt; is_played(rt.alloc(), scene, text, clients)?, "{text}");
     }

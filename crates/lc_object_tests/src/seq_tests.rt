@@ -3,7 +3,7 @@ ghost use Rattle.std.specs.Prelude.{length};
 ghost use Rattle.lc_seq.specs.TextView.{IsStateOf};
 
 use lc_base::{Name, OpId, OutOfMemory};
-use lc_seq::{Branch, Operation, SeqFault, SeqObject, TextCall, TextSpec, TextState};
+use lc_seq::{Branch, Label, Operation, Pick, SeqFault, SeqObject, TextCall, TextSpec, TextState};
 use lc_spec_text::spec_of;
 use lc_term::{Formula, Term};
 use std::alloc::Global;
@@ -39,7 +39,7 @@ fn reply(
         op: OpId(0),
         numbers: Vec::from_slice(alloc, numbers)?,
     };
-    match spec.apply(alloc, state, client, &call)? {
+    match spec.apply(alloc, state, client, &call, &Pick::First)? {
         Some(reply) => Ok(reply.first().copied()),
         None => Ok(None),
     }
@@ -123,6 +123,7 @@ fn the_parts_and_calls_of_a_specification(rt: HostRuntime) -> Result<(), Fail> {
 fn is_resolved(alloc: Global, guard: Formula) -> Result<bool, OutOfMemory> {
     let name = Name::new("counter").ok_or(OutOfMemory)?;
     let branch = Branch {
+        label: Label::First,
         guard,
         updates: Vec::new(alloc),
         replies: Vec::new(alloc),

@@ -24,9 +24,9 @@ use Rattle.lc_object_text.specs.Objects.{Signature, signature_of, replies_readin
 use Rattle.lc_object_text.specs.Points.{BodyText, is_shaped, point_of, point_name_reading, point_parts, point_reading, points_reading, body_of, behind_name, locals_reading, is_of_another, body_parts, body_reading}
 use Rattle.lc_object_text.specs.Rows.{cons, placed_reading}
 use Rattle.lc_object_text.specs.Sections.{parts_in}
-use Rattle.lc_rider_text.specs.Known.{Known}
+use Rattle.lc_rider_text.specs.Known.{Known, Ways}
 use Rattle.lc_outline_text.specs.Bodies.{names_in, due_reading, ith_reading, bodies_reading}
-use Rattle.lc_outline_text.specs.Declarations.{Declarations, known_of, own_branches}
+use Rattle.lc_outline_text.specs.Declarations.{Declarations, known_of, own_ways}
 use Rattle.lc_outline_text.specs.Points.{beside}
 use Rattle.lc_outline_print.specs.Parts.{name_trees}
 use Rattle.lc_outline_back.proofs.Kin.{itself_fine}
@@ -125,7 +125,7 @@ operations_read d n t = has_parts (λ ts (s : SpecificationText). HasOperations 
 
 -- ---- points
 
-beside_point : (known : Known) (names : Names) (own n : ℕ) (code : Tree) (shaped : Bool) (point : Reading Point) (m : ℕ) (ts : Trees) → IfFine (beside known names own n code shaped point m ts) (λ q. point ≡ fine q.0)
+beside_point : (known : Known) (names : Names) (own : Option Ways) (n : ℕ) (code : Tree) (shaped : Bool) (point : Reading Point) (m : ℕ) (ts : Trees) → IfFine (beside known names own n code shaped point m ts) (λ q. point ≡ fine q.0)
 beside_point known names own n code shaped point m none = tt
 beside_point known names own n code shaped point m (t ▸ ts) =
     cond_fine (λ q. point ≡ fine q.0) _ (wrong Shape n) _ tt (both_fine (λ p. point ≡ fine p) (λ x. Unit {0}) (λ (q : Point × Outline). point ≡ fine q.0) pair point _ (itself_fine point) (anything _) (λ p x a b. a))
@@ -133,7 +133,7 @@ beside_point known names own n code shaped point m (t ▸ ts) =
 abbrev pub PointHead : ℕ → Trees → Point × Outline → Type 0
 PointHead o ts q = (first_text ts ≡ q.0.name) × (q.0.operation ≡ o)
 
-module _ (d : Declared) (b : Body) (known : Known) (names : Names) (own o : ℕ) where
+module _ (d : Declared) (b : Body) (known : Known) (names : Names) (own : Option Ways) (o : ℕ) where
   point_said : (i n m k : ℕ) (name code : Tree) → IfFine (both (point_of o) (point_name_reading d i n m name) (instruction_reading (code_names d b) (body_names d b) k code)) (λ (p : Point). (text_in name ≡ p.name) × (p.operation ≡ o))
   point_said i n m k name code =
       both_fine (λ w. atom w ≡ name) (λ x. Unit {0}) (λ (p : Point). (text_in name ≡ p.name) × (p.operation ≡ o)) (point_of o) (point_name_reading d i n m name)
@@ -189,7 +189,7 @@ pub record BodyHead (operation : List ℕ) (o : ℕ) (ts : Trees) (x : BodyText 
   pub labels : map first_text (points_in ts) ≡ map (λ (p : Point). p.name) (map (λ (q : Point × Outline). q.0) x.points)
   pub own : Every (λ (q : Point × Outline). q.0.operation ≡ o) x.points
 
-module _ (d : Declared) (b : Body) (known : Known) (names : Names) (own o : ℕ) where
+module _ (d : Declared) (b : Body) (known : Known) (names : Names) (own : Option Ways) (o : ℕ) where
   body_locals : (i : ℕ) (t : Tree) (j : ℕ) (u : Tree) → is_of_another d.operations b.operation t ≡ false → IfFine (locals_reading d b i t j u) (λ ws. (text_in t ≡ b.operation) × (names_among (items_within u) ≡ ws))
   body_locals i t j u e =
       both_fine (λ k. atom b.operation ≡ t) (λ ws. list (name_trees ws) ≡ u) (λ ws. (text_in t ≡ b.operation) × (names_among (items_within u) ≡ ws)) behind_name (use_reading d.operations i t)
@@ -227,10 +227,10 @@ pub record IsText (d : Declarations) (i : ℕ) (t : Tree) (x : BodyText (Point �
 due_read : (d : Declarations) (i : ℕ) (o : Option Body) → slice_get d.declared.bodies i ≡ o → (n : ℕ) (t : Tree) → IfFine (due_reading d o i n t) (IsText d i t)
 due_read d i None e n t = tt
 due_read d i (Some b) e n t =
-    let read = body_parts d.declared b (beside (known_of d) (names_in d b) (own_branches d i)) i in
-    weaker (HasParts (BodyHead b.operation i) (codes "body") read t) (IsText d i t) (body_reading d.declared b (beside (known_of d) (names_in d b) (own_branches d i)) i n t)
+    let read = body_parts d.declared b (beside (known_of d) (names_in d b) (own_ways d i)) i in
+    weaker (HasParts (BodyHead b.operation i) (codes "body") read t) (IsText d i t) (body_reading d.declared b (beside (known_of d) (names_in d b) (own_ways d i)) i n t)
     (λ x h. record { body = b; due = e; parts = h.0; form = h.1; head = h.2 })
-    (has_parts (BodyHead b.operation i) (codes "body") read (body_heads d.declared b (known_of d) (names_in d b) (own_branches d i) i) n t)
+    (has_parts (BodyHead b.operation i) (codes "body") read (body_heads d.declared b (known_of d) (names_in d b) (own_ways d i) i) n t)
 
 -- as many bodies as are due at least, each at its place
 pub record AreTexts (d : Declarations) (ts : Trees) (xs : List (BodyText (Point × Outline))) : Type 0 where

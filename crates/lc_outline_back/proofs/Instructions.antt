@@ -21,7 +21,7 @@ use Rattle.lc_object_text.specs.Cells.{found, found_reading, array_reading, labe
 use Rattle.lc_object_text.specs.CodeNames.{CodeNames}
 use Rattle.lc_object_text.specs.Counts.{second, count_reading, ended_behind, row_reading}
 use Rattle.lc_object_text.specs.Heads.{head_of}
-use Rattle.lc_object_text.specs.Instructions.{place_reading, labels_reading, moved_reading, stored_reading, rows_reading, exchange_reading, load_of, load_reading, store_of, store_reading, cas_of, cas_reading, set_of, set_reading, if_of, if_reading, code_reading, return_of, return_reading, instruction_reading}
+use Rattle.lc_object_text.specs.Instructions.{place_reading, labels_reading, moved_reading, stored_reading, rows_reading, exchange_reading, load_of, load_reading, store_of, store_reading, cas_of, cas_reading, set_of, set_reading, adding_reading, faa_of, faa_reading, if_of, if_reading, code_reading, return_of, return_reading, instruction_reading}
 use Rattle.lc_outline_print.specs.Naming.{array_name, label}
 use Rattle.lc_outline_print.specs.Parts.{term_trees}
 use Rattle.lc_outline_print.specs.Instructions.{local_trees, assignment_tree, assignment_trees, instruction_tree}
@@ -129,6 +129,9 @@ module _ (names : Names) (code : CodeNames) (by : Spelled) (object : Object) (al
   abbrev IsExchange : Tree → Tree → Tree → Tree → (List Term × List Term) × (ℕ × ℕ) → Type 0
   IsExchange t u v w p = AreRows t u p.0 × AreLabels v w p.1
 
+  abbrev IsAdding : Tree → Tree → Tree → List ℕ × (List Term × ℕ) → Type 0
+  IsAdding t u v p = (list (local_trees by p.0) ≡ t) × IsStored u v p.1
+
   place_stood : (i : ℕ) (t : Tree) (j : ℕ) (u : Tree) → IfFine (place_reading names code i t j u) (IsPlace t u)
   place_stood i t j u = both_fine (λ k. atom (array_name object k) ≡ t) (λ x. term_tree by 0 x ≡ u) (IsPlace t u) pair _ _ (array_stood i t) (terms_stood j u) (λ x y a b. (a, b))
 
@@ -192,6 +195,22 @@ module _ (names : Names) (code : CodeNames) (by : Spelled) (object : Object) (al
       ended_at (λ ts. IsAs (codes "set") (c ▸ l ▸ ts)) _ ts _
       (both_fine (λ cells. list (assigned cells) ≡ c) (λ k. atom (label object k) ≡ l) (IsAs (codes "set") (c ▸ l ▸ none)) set_of _ _ (assignments_stood m c) (label_stood (m + item_count c) l) (λ p q x y. ap (λ ts. list (atom (codes "set") ▸ ts)) (both_trees _ _ _ _ x (both_trees _ _ _ _ y refl))))
 
+  adding_stood : (width : Option ℕ) (i : ℕ) (t : Tree) (j : ℕ) (u : Tree) (k : ℕ) (v : Tree) → IfFine (adding_reading names code width i t j u k v) (IsAdding t u v)
+  adding_stood width i t j u k v =
+      both_fine (λ rs. list (local_trees by rs) ≡ t) (IsStored u v) (IsAdding t u v) pair _ _ (targets_stood width i t) (stored_stood width j u k v) (λ x y a b. (a, b))
+
+  faa_stood : (n m : ℕ) (ts : Trees) → IfFine (ended_behind 5 m ts (faa_reading names code n m ts)) (IsAs (codes "faa") ts)
+  faa_stood n m none = tt
+  faa_stood n m (a ▸ none) = tt
+  faa_stood n m (a ▸ t ▸ none) = tt
+  faa_stood n m (a ▸ t ▸ r ▸ none) = tt
+  faa_stood n m (a ▸ t ▸ r ▸ s ▸ none) = tt
+  faa_stood n m (a ▸ t ▸ r ▸ s ▸ l ▸ ts) =
+      ended_at (λ ts. IsAs (codes "faa") (a ▸ t ▸ r ▸ s ▸ l ▸ ts)) _ ts _
+      (both_fine (IsPlace a t) (IsAdding r s l) (IsAs (codes "faa") (a ▸ t ▸ r ▸ s ▸ l ▸ none)) faa_of _ _ (place_stood m a (m + item_count a) t) (adding_stood (row_width code a) _ r _ s _ l)
+      (λ p q x y. ap (λ ts. list (atom (codes "faa") ▸ ts))
+      (both_trees _ _ _ _ x.0 (both_trees _ _ _ _ x.1 (both_trees _ _ _ _ y.0 (both_trees _ _ _ _ y.1.0 (both_trees _ _ _ _ y.1.1 refl)))))))
+
   if_stood : (n m : ℕ) (ts : Trees) → IfFine (ended_behind 3 m ts (if_reading names code n m ts)) (IsAs (codes "if") ts)
   if_stood n m none = tt
   if_stood n m (f ▸ none) = tt
@@ -211,7 +230,8 @@ module _ (names : Names) (code : CodeNames) (by : Spelled) (object : Object) (al
       (one_word (λ o. code_reading names code n m ts o) (IsAs w ts) (is w (codes "store")) _ _ (λ e. as_word (codes "store") w ts _ e (store_stood n m ts))
       (one_word (λ o. code_reading names code n m ts o) (IsAs w ts) (is w (codes "cas")) _ _ (λ e. as_word (codes "cas") w ts _ e (cas_stood n m ts))
       (one_word (λ o. code_reading names code n m ts o) (IsAs w ts) (is w (codes "set")) _ _ (λ e. as_word (codes "set") w ts _ e (set_stood n m ts))
-      (one_word (λ o. code_reading names code n m ts o) (IsAs w ts) (is w (codes "if")) _ _ (λ e. as_word (codes "if") w ts _ e (if_stood n m ts)) tt))))
+      (one_word (λ o. code_reading names code n m ts o) (IsAs w ts) (is w (codes "faa")) _ _ (λ e. as_word (codes "faa") w ts _ e (faa_stood n m ts))
+      (one_word (λ o. code_reading names code n m ts o) (IsAs w ts) (is w (codes "if")) _ _ (λ e. as_word (codes "if") w ts _ e (if_stood n m ts)) tt)))))
 
   return_stood : (n m : ℕ) (ts : Trees) → IfFine (return_reading names code n m ts) (IsAs (codes "return") ts)
   return_stood n m ts =

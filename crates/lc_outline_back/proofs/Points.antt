@@ -22,11 +22,11 @@ use Rattle.lc_object_text.specs.ObjectNames.{Declared, Body, first_text, within_
 use Rattle.lc_object_text.specs.Points.{Beside, BodyText, is_shaped, point_of, point_name_reading, point_parts, point_reading, points_reading, body_of, behind_name, locals_reading, is_of_another, body_parts, body_reading}
 use Rattle.lc_object_text.specs.Rows.{placed_reading}
 use Rattle.lc_object_text.specs.Sections.{parts_in, forms_in}
-use Rattle.lc_rider_text.specs.Known.{Known}
+use Rattle.lc_rider_text.specs.Known.{Known, Ways}
 use Rattle.lc_rider_text.specs.Ons.{ons_reading}
 use Rattle.lc_rider_text.specs.declared.edges.Edges.{Edges}
 use Rattle.lc_outline_text.specs.Bodies.{names_in, due_reading, ith_reading, bodies_reading}
-use Rattle.lc_outline_text.specs.Declarations.{Declarations, known_of, own_branches}
+use Rattle.lc_outline_text.specs.Declarations.{Declarations, known_of, own_ways}
 use Rattle.lc_outline_text.specs.Needs.{code_word, edges_of, lacks_on}
 use Rattle.lc_outline_text.specs.Points.{formulas_in_reading, outline_of, outline_reading, beside}
 use Rattle.lc_outline_text.specs.Sizes.{assert_count}
@@ -83,11 +83,11 @@ module _ (known : Known) (names : Names) (by : Spelled) (object : Object) (actio
   abbrev IsAssert : ℕ → Tree → List Formula → Type 0
   IsAssert i t fs = FormAgain (formula_tree by 0) (formula_reading names []) (codes "assert") i t fs
 
-  abbrev IsOutline : ℕ → Edges → ℕ → Tree → ℕ → Trees → Outline → Type 0
+  abbrev IsOutline : Option Ways → Edges → ℕ → Tree → ℕ → Trees → Outline → Type 0
   IsOutline own edges i t m ts x =
       IsAssert i t x.asserts × (row (map (on_tree object actions by) x.ons) ≡ ts) × (outline_reading known names own edges i (assert_tree by x.asserts) m ts ≡ fine x)
 
-  outline_again : (own : ℕ) (edges : Edges) (i : ℕ) (t : Tree) (m : ℕ) (ts : Trees) → item_count t ≤ 4294967296 → IfFine (outline_reading known names own edges i t m ts) (IsOutline own edges i t m ts)
+  outline_again : (own : Option Ways) (edges : Edges) (i : ℕ) (t : Tree) (m : ℕ) (ts : Trees) → item_count t ≤ 4294967296 → IfFine (outline_reading known names own edges i t m ts) (IsOutline own edges i t m ts)
   outline_again own edges i t m ts small =
       both_fine (IsAssert i t) (λ xs. IsRow (on_tree object actions by) ts xs × (ons_reading known names own edges m ts ≡ fine xs)) (IsOutline own edges i t m ts) outline_of
       (formulas_in_reading (codes "assert") names i t) (ons_reading known names own edges m ts)
@@ -95,12 +95,12 @@ module _ (known : Known) (names : Names) (by : Spelled) (object : Object) (actio
       (with_reading (IsRow (on_tree object actions by) ts) (ons_reading known names own edges m ts) (ons_stood known names by object actions all own edges m ts))
       (λ fs xs a b. (a, b.0, ap₂ (both outline_of) (form_reads (formula_tree by 0) (formula_reading names []) (codes "assert") (same_word (codes "assert")) i t fs a) b.1))
 
-  abbrev IsBeside : ℕ → ℕ → Tree → Bool → Reading Point → ℕ → Tree → Trees → Point × Outline → Type 0
+  abbrev IsBeside : Option Ways → ℕ → Tree → Bool → Reading Point → ℕ → Tree → Trees → Point × Outline → Type 0
   IsBeside own n code shaped point m t ts q =
       (point ≡ fine q.0) × IsAssert m t q.1.asserts × (row (map (on_tree object actions by) q.1.ons) ≡ ts)
       × (beside known names own n code shaped point m (assert_tree by q.1.asserts ▸ ts) ≡ fine q)
 
-  beside_again : (own n : ℕ) (code : Tree) (shaped : Bool) (point : Reading Point) (m : ℕ) (t : Tree) (ts : Trees) → item_count t ≤ 4294967296
+  beside_again : (own : Option Ways) (n : ℕ) (code : Tree) (shaped : Bool) (point : Reading Point) (m : ℕ) (t : Tree) (ts : Trees) → item_count t ≤ 4294967296
       → IfFine (beside known names own n code shaped point m (t ▸ ts)) (IsBeside own n code shaped point m t ts)
   beside_again own n code shaped point m t ts small = at (shaped && lacks_on known.actions (code_word code) (forms_in (codes "on") ts)) refl
     where
@@ -121,7 +121,7 @@ module _ (known : Known) (names : Names) (by : Spelled) (object : Object) (actio
 
   -- ---- a point
 
-  module _ (d : Declared) (b : Body) (coded : AreCodeNames (code_names d b) (body_names d b) by object) (own o : ℕ) where
+  module _ (d : Declared) (b : Body) (coded : AreCodeNames (code_names d b) (body_names d b) by object) (own : Option Ways) (o : ℕ) where
     abbrev side : Beside (Point × Outline)
     side = beside known names own
 
@@ -280,7 +280,7 @@ module _ (d : Declarations) (columns : List (List ℕ)) (object : Object) (actio
         → IfFine (due_reading d o i n t) (λ x. Unit {0} → Again (AreBehind (codes "body") SameBody) (due_reading d o i n) (due_tree o x) t x)
     due_again i None e n t small = tt
     due_again i (Some b) e n t small =
-        let is = named i b e in body_again (known_of d) (names_in d b) (spelled_in columns b) object actions is.known is.free d.declared b is.coded (own_branches d i) i n t small
+        let is = named i b e in body_again (known_of d) (names_in d b) (spelled_in columns b) object actions is.known is.free d.declared b is.coded (own_ways d i) i n t small
 
     any_texts : (xs : List (BodyText (Point × Outline))) → AllNamed (λ x. Unit {0}) xs
     any_texts [] = tt

@@ -47,7 +47,7 @@ use Rattle.lc_rider_text.specs.Conjuncts.{conjunct_reading}
 use Rattle.lc_rider_text.specs.Known.{Known}
 use Rattle.lc_rider_text.specs.Scopes.{variable_names, beside_names}
 use Rattle.lc_outline_text.specs.Bodies.{names_in, bodies_reading}
-use Rattle.lc_outline_text.specs.Declarations.{Declarations, known_of, own_branches}
+use Rattle.lc_outline_text.specs.Declarations.{Declarations, known_of, own_ways}
 use Rattle.lc_outline_text.specs.Developments.{condition_limit, file_reading}
 use Rattle.lc_outline_text.specs.Points.{beside, formulas_in_reading}
 use Rattle.lc_outline_text.specs.Sides.{auxiliaries_reading, invariant_reading}
@@ -462,7 +462,7 @@ module _ (x : File) (formed : IsFormed x) (v : Values) (are : AreValues (declare
   -- bodies, where what stands beside the code sees these names
   abbrev due_by : Known → Option Body → ℕ → ℕ → Tree → Reading (BodyText (O.Point × Outline))
   due_by known None o n t = wrong Shape n
-  due_by known (Some b) o n t = body_reading d.declared b (beside known (names_in d b) (own_branches d o)) o n t
+  due_by known (Some b) o n t = body_reading d.declared b (beside known (names_in d b) (own_ways d o)) o n t
 
   abbrev bodies_by : Known → ℕ → ℕ → Trees → Reading (List (BodyText (O.Point × Outline)))
   bodies_by known n m ts =

@@ -29,11 +29,12 @@ use Rattle.lc_text.specs.declared.scope.Extra.TheVariants.{Quantifiers}
 use Rattle.lc_seq.specs.Specification.{Column, Branch, Operation}
 use Rattle.lc_spec_text.specs.Scopes.{Columns, client, branch_names}
 use Rattle.lc_spec_text.specs.Branches.{stored, written_reading, update_parts_reading, update_reading, updates_reading, replies_reading, branch_parts_reading, branch_reading, the_update, the_branch}
+use Rattle.lc_spec_text.specs.Choices.{parameters_reading, parameters_in, label_reading, choice_parts_reading, the_choice, choice_reading, begin_with_choice, ways_reading}
 use Rattle.lc_spec_text.specs.Operations.{natural, few, count_reading, count_in, arguments_reading, variables_in, signature_reading, operation_parts_reading, operation_reading, the_operation}
 use Rattle.lc_spec_text.specs.Specifications.{column_reading, columns_reading, columns_in, operations_reading, specification_parts_reading, specification_reading, the_column, the_specification}
 use Rattle.lc_outline_print.specs.Naming.{with_client, named_by}
 use Rattle.lc_outline_print.specs.Parts.{column_tree, name_trees, term_trees, update_parts, update_tree, update_trees}
-use Rattle.lc_outline_print.specs.Specifications.{declared_tree, branch_tree, operation_tree, specification_tree}
+use Rattle.lc_outline_print.specs.Specifications.{declared_tree, branch_parts, branch_tree, operation_tree, specification_tree}
 use Rattle.lc_outline_back.specs.Spellings.{IsSpelledSo}
 use Rattle.lc_outline_back.proofs.Columns.{column_stood}
 use Rattle.lc_outline_back.proofs.Numerals.{integer_as_stood}
@@ -105,22 +106,14 @@ module _ (columns : Columns) (names : Names) (by : Spelled) (spelled : IsSpelled
       in_list (term_trees by) (λ n. counted_reading (term_reading names []) n count)
       (λ n m ts. counted_row (term_tree by 0) (term_reading names []) (term_stood names by spelled) n count m ts) n t
 
-  abbrev branch_parts : (Formula × List Update) × List Term → Trees
-  branch_parts p = formula_tree by 0 p.0.0 ▸ list (update_trees by p.0.1) ▸ list (term_trees by p.1) ▸ none
-
-  branch_parts_stood : (count : Option ℕ) (n m : ℕ) (ts : Trees) → IfFine (branch_parts_reading columns names count n m ts) (λ p. branch_parts p ≡ ts)
+  branch_parts_stood : (count : Option ℕ) (n m : ℕ) (ts : Trees) → IfFine (branch_parts_reading columns names count n m ts) (λ p. branch_parts by (the_branch p) ≡ ts)
   branch_parts_stood count n m none = tt
   branch_parts_stood count n m (t ▸ none) = tt
   branch_parts_stood count n m (t ▸ u ▸ none) = tt
   branch_parts_stood count n m (t ▸ u ▸ v ▸ ts) =
-      three_at (λ f. formula_tree by 0 f ≡ t) (λ us. list (update_trees by us) ≡ u) (λ xs. list (term_trees by xs) ≡ v) (λ ts p. branch_parts p ≡ t ▸ u ▸ v ▸ ts) triple m t u v ts _ _ _
+      three_at (λ f. formula_tree by 0 f ≡ t) (λ us. list (update_trees by us) ≡ u) (λ xs. list (term_trees by xs) ≡ v) (λ ts p. branch_parts by (the_branch p) ≡ t ▸ u ▸ v ▸ ts) triple m t u v ts _ _ _
       (formula_stood names by spelled plain m t) (updates_stood (m + item_count t) u) (replies_stood count (m + item_count t + item_count u) v)
       (λ x y z a b c. both_trees _ _ _ _ a (both_trees _ _ _ _ b (both_trees _ _ _ _ c refl)))
-
-  pub branch_stood : (count : Option ℕ) (n : ℕ) (t : Tree) → IfFine (branch_reading columns names count n t) (λ b. branch_tree by b ≡ t)
-  branch_stood count n t =
-      mapped_fine (λ p. list (atom (codes "branch") ▸ branch_parts p) ≡ t) (λ b. branch_tree by b ≡ t) the_branch (behind_reading (codes "branch") (branch_parts_reading columns names count) n t)
-      (behind_word branch_parts (codes "branch") (branch_parts_reading columns names count) (branch_parts_stood count) n t) (λ p e. e)
 
 -- ---- operations
 
@@ -151,22 +144,99 @@ variables_are : (t : Tree) → variables_in t ≡ client ++ arguments_in t
 variables_are (list ts) = refl
 variables_are (atom w) = refl
 
+parameters_stood : (variables : List (List ℕ)) (n : ℕ) (t : Tree) → IfFine (parameters_reading variables n t) (λ ws. list (name_trees ws) ≡ t)
+parameters_stood variables n t =
+    in_list name_trees (λ n. declared_reading (name_reading (Some (3 + length variables))) declared_by variables)
+    (λ n m ts. declared_row atom (name_reading (Some (3 + length variables))) declared_by (name_stood (Some (3 + length variables))) variables m ts) n t
+
+parameters_are : (u : Tree) (ws : List (List ℕ)) → list (name_trees ws) ≡ u → parameters_in u ≡ ws
+parameters_are u ws e = ap parameters_in (sym e) ∙ declared_names ws
+
+-- ---- branches and choices of an operation of these arguments
+
+module _ (columns : Columns) (names : List (List ℕ)) (first : StandFirst columns.own names) (arguments : List (List ℕ)) where
+  -- the names of these variables behind the client
+  abbrev seen : List (List ℕ) → Names
+  seen variables = branch_names columns.own (client ++ variables)
+
+  abbrev spelled_with : List (List ℕ) → Spelled
+  spelled_with variables = named_by names (with_client variables)
+
+  abbrev Body : Type 0
+  Body = (Formula × List Update) × List Term
+
+  body_stood : (variables : List (List ℕ)) (count : Option ℕ) (n m : ℕ) (ts : Trees)
+      → IfFine (branch_parts_reading columns (seen variables) count n m ts) (λ p. branch_parts (spelled_with variables) (the_branch p) ≡ ts)
+  body_stood variables =
+      branch_parts_stood columns (seen variables) (spelled_with variables) (branch_spelled columns.own names variables first) (first_stood columns.own names first) refl
+
+  -- a branch has no variables of its own
+  branch_is : (p : Body) → branch_tree names arguments (the_branch p) ≡ list (atom (codes "branch") ▸ branch_parts (spelled_with arguments) (the_branch p))
+  branch_is p = ap (λ vs. list (atom (codes "branch") ▸ branch_parts (spelled_with vs) (the_branch p))) (append-nil arguments)
+
+  branch_stood : (count : Option ℕ) (n : ℕ) (t : Tree) → IfFine (branch_reading columns (seen arguments) count n t) (λ b. branch_tree names arguments b ≡ t)
+  branch_stood count n t =
+      mapped_fine (λ p. list (atom (codes "branch") ▸ branch_parts (spelled_with arguments) (the_branch p)) ≡ t) (λ b. branch_tree names arguments b ≡ t) the_branch
+      (behind_reading (codes "branch") (branch_parts_reading columns (seen arguments) count) n t)
+      (behind_word (λ p. branch_parts (spelled_with arguments) (the_branch p)) (codes "branch") (branch_parts_reading columns (seen arguments) count) (body_stood arguments count) n t)
+      (λ p e. branch_is p ∙ e)
+
+  abbrev Label : Type 0
+  Label = List ℕ × List (List ℕ)
+
+  abbrev IsLabel : Tree → Tree → Label → Type 0
+  IsLabel a b p = (atom p.0 ≡ a) × (list (name_trees p.1) ≡ b)
+
+  label_stood : (before : List (List ℕ)) (m : ℕ) (a b : Tree) → IfFine (label_reading (client ++ arguments) before m a b) (IsLabel a b)
+  label_stood before m a b =
+      both_fine (λ w. atom w ≡ a) (λ ws. list (name_trees ws) ≡ b) (IsLabel a b) pair (name_reading None before m a) (parameters_reading (client ++ arguments) (m + item_count a) b)
+      (name_stood None before m a) (parameters_stood (client ++ arguments) (m + item_count a) b) (λ w ws x y. (x, y))
+
+  -- NAME (PARAM*) F (UPDATE*) (T*), where the parameters are variables
+  abbrev choice_parts : Label × Body → Trees
+  choice_parts p = atom p.0.0 ▸ list (name_trees p.0.1) ▸ branch_parts (spelled_with (arguments ++ p.0.1)) (the_branch p.1)
+
+  choice_joined : (a b : Tree) (ts : Trees) (p : Label) (q : Body) → IsLabel a b p → branch_parts (spelled_with (arguments ++ parameters_in b)) (the_branch q) ≡ ts → choice_parts (p, q) ≡ a ▸ b ▸ ts
+  choice_joined a b ts p q x e =
+      both_trees _ _ _ _ x.0 (both_trees _ _ _ _ x.1 (ap (λ ws. branch_parts (spelled_with (arguments ++ ws)) (the_branch q)) (sym (parameters_are b p.1 x.1)) ∙ e))
+
+  choice_parts_stood : (count : Option ℕ) (before : List (List ℕ)) (n m : ℕ) (ts : Trees) → IfFine (choice_parts_reading columns (client ++ arguments) count before n m ts) (λ p. choice_parts p ≡ ts)
+  choice_parts_stood count before n m none = tt
+  choice_parts_stood count before n m (a ▸ none) = tt
+  choice_parts_stood count before n m (a ▸ b ▸ none) = tt
+  choice_parts_stood count before n m (a ▸ b ▸ t ▸ none) = tt
+  choice_parts_stood count before n m (a ▸ b ▸ t ▸ u ▸ none) = tt
+  choice_parts_stood count before n m (a ▸ b ▸ t ▸ u ▸ v ▸ ts) =
+      both_fine (IsLabel a b) (λ q. branch_parts (spelled_with (arguments ++ parameters_in b)) (the_branch q) ≡ t ▸ u ▸ v ▸ ts) (λ p. choice_parts p ≡ a ▸ b ▸ t ▸ u ▸ v ▸ ts) pair
+      (label_reading (client ++ arguments) before m a b)
+      (branch_parts_reading columns (seen (arguments ++ parameters_in b)) count n (m + item_count a + item_count b) (t ▸ u ▸ v ▸ ts))
+      (label_stood before m a b) (body_stood (arguments ++ parameters_in b) count n (m + item_count a + item_count b) (t ▸ u ▸ v ▸ ts))
+      (λ p q x e. choice_joined a b (t ▸ u ▸ v ▸ ts) p q x e)
+
+  choice_stood : (count : Option ℕ) (before : List (List ℕ)) (n : ℕ) (t : Tree) → IfFine (choice_reading columns (client ++ arguments) count before n t) (λ b. branch_tree names arguments b ≡ t)
+  choice_stood count before n t =
+      mapped_fine (λ p. list (atom (codes "choice") ▸ choice_parts p) ≡ t) (λ b. branch_tree names arguments b ≡ t) the_choice
+      (behind_reading (codes "choice") (choice_parts_reading columns (client ++ arguments) count before) n t)
+      (behind_word choice_parts (codes "choice") (choice_parts_reading columns (client ++ arguments) count before) (choice_parts_stood count before) n t) (λ p e. e)
+
+  ways_stood : (count : Option ℕ) (m : ℕ) (ts : Trees) → IfFine (ways_reading columns (client ++ arguments) count m ts) (IsRow (branch_tree names arguments) ts)
+  ways_stood count m ts =
+      cond_fine (IsRow (branch_tree names arguments) ts) (begin_with_choice ts) _ _
+      (declared_row (branch_tree names arguments) (choice_reading columns (client ++ arguments) count) second_name (choice_stood count) [] m ts)
+      (each_row (branch_tree names arguments) (branch_reading columns (seen arguments) count) (branch_stood count) m ts)
+
 module _ (columns : Columns) (names : List (List ℕ)) (first : StandFirst columns.own names) where
   branches_stood : (u : Tree) (count : Option ℕ) (m : ℕ) (ts : Trees)
-      → IfFine (each_reading (branch_reading columns (branch_names columns.own (variables_in u)) count) m ts) (IsRow (branch_tree (named_by names (with_client (arguments_in u)))) ts)
+      → IfFine (ways_reading columns (variables_in u) count m ts) (IsRow (branch_tree names (arguments_in u)) ts)
   branches_stood u count m ts =
-      let by = named_by names (with_client (arguments_in u)) in
-      let read = branch_reading columns (branch_names columns.own (client ++ arguments_in u)) count in
-      subst (λ vs. IfFine (each_reading (branch_reading columns (branch_names columns.own vs) count) m ts) (IsRow (branch_tree by) ts)) (sym (variables_are u))
-      (each_row (branch_tree by) read
-      (branch_stood columns (branch_names columns.own (client ++ arguments_in u)) by (branch_spelled columns.own names (arguments_in u) first) (first_stood columns.own names first) refl count) m ts)
+      subst (λ vs. IfFine (ways_reading columns vs count m ts) (IsRow (branch_tree names (arguments_in u)) ts)) (sym (variables_are u)) (ways_stood columns names first (arguments_in u) count m ts)
 
   abbrev Signed : Type 0
   Signed = (List ℕ × List (List ℕ)) × ℕ
 
   abbrev operation_parts : Signed × List Branch → Trees
   operation_parts p =
-      atom p.0.0.0 ▸ list (name_trees p.0.0.1) ▸ atom (decimal p.0.1) ▸ row (map (branch_tree (named_by names (with_client p.0.0.1))) p.1)
+      atom p.0.0.0 ▸ list (name_trees p.0.0.1) ▸ atom (decimal p.0.1) ▸ row (map (branch_tree names p.0.0.1) p.1)
 
   signature_stood : (before : List (List ℕ)) (m : ℕ) (t u v : Tree) → IfFine (signature_reading before m t u v) (λ p. (atom p.0.0 ≡ t) × (list (name_trees p.0.1) ≡ u) × (atom (decimal p.1) ≡ v))
   signature_stood before m t u v =
@@ -177,10 +247,10 @@ module _ (columns : Columns) (names : List (List ℕ)) (first : StandFirst colum
   arguments_are u ws e = ap arguments_in (sym e) ∙ declared_names ws
 
   operation_joined : (t u v : Tree) (ts : Trees) (p : Signed) (bs : List Branch) → (atom p.0.0 ≡ t) × (list (name_trees p.0.1) ≡ u) × (atom (decimal p.1) ≡ v)
-      → IsRow (branch_tree (named_by names (with_client (arguments_in u)))) ts bs → operation_parts (p, bs) ≡ t ▸ u ▸ v ▸ ts
+      → IsRow (branch_tree names (arguments_in u)) ts bs → operation_parts (p, bs) ≡ t ▸ u ▸ v ▸ ts
   operation_joined t u v ts p bs (a, b, c) e =
       both_trees _ _ _ _ a (both_trees _ _ _ _ b (both_trees _ _ _ _ c
-      (ap (λ ws. row (map (branch_tree (named_by names (with_client ws))) bs)) (sym (arguments_are u p.0.1 b)) ∙ e)))
+      (ap (λ ws. row (map (branch_tree names ws) bs)) (sym (arguments_are u p.0.1 b)) ∙ e)))
 
   operation_parts_stood : (before : List (List ℕ)) (n m : ℕ) (ts : Trees) → IfFine (operation_parts_reading columns before n m ts) (λ p. operation_parts p ≡ ts)
   operation_parts_stood before n m none = tt
@@ -188,7 +258,7 @@ module _ (columns : Columns) (names : List (List ℕ)) (first : StandFirst colum
   operation_parts_stood before n m (t ▸ u ▸ none) = tt
   operation_parts_stood before n m (t ▸ u ▸ v ▸ none) = tt
   operation_parts_stood before n m (t ▸ u ▸ v ▸ b ▸ bs) =
-      both_fine (λ p. (atom p.0.0 ≡ t) × (list (name_trees p.0.1) ≡ u) × (atom (decimal p.1) ≡ v)) (IsRow (branch_tree (named_by names (with_client (arguments_in u)))) (b ▸ bs))
+      both_fine (λ p. (atom p.0.0 ≡ t) × (list (name_trees p.0.1) ≡ u) × (atom (decimal p.1) ≡ v)) (IsRow (branch_tree names (arguments_in u)) (b ▸ bs))
       (λ p. operation_parts p ≡ t ▸ u ▸ v ▸ b ▸ bs) pair (signature_reading before m t u v) _ (signature_stood before m t u v)
       (branches_stood u (count_in v) (m + item_count t + item_count u + item_count v) (b ▸ bs)) (λ p bs' a e. operation_joined t u v (b ▸ bs) p bs' a e)
 

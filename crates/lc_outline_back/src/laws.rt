@@ -1,5 +1,5 @@
 //! What holds of printed text. Each function is a law: it does nothing, and its contract is the law.
-ghost use Rattle.std.specs.Prelude.{◌≡◌, ◌≤◌, ◌^◌, ℕ, ℤ, false, true, List, [], ◌++◌, map};
+ghost use Rattle.std.specs.Prelude.{◌≡◌, ◌≤◌, ◌^◌, ℕ, ℤ, false, true, List, [], ◌++◌, Option, map};
 ghost use Rattle.std.specs.Fmt.{signed_decimal};
 ghost use Rattle.lc_reading.specs.Readings.{fine, behind_reading};
 ghost use Rattle.lc_reading.specs.Files.{Says};
@@ -24,7 +24,7 @@ ghost use Rattle.lc_outline_back.specs.ReadsBack.{HaveNoBinder, IsPrintable};
 ghost use Rattle.lc_outline_text.specs.Developments.{file_reading};
 ghost use Rattle.lc_rider_text.specs.Conjuncts.{conjunct_reading};
 ghost use Rattle.lc_outline_print.specs.Parts.{update_trees};
-ghost use Rattle.lc_rider_text.specs.Known.{Known};
+ghost use Rattle.lc_rider_text.specs.Known.{Known, Ways};
 ghost use Rattle.lc_rider_text.specs.Ons.{ons_reading};
 ghost use Rattle.lc_rider_text.specs.declared.edges.Edges.{Edges};
 ghost use Rattle.lc_outline_print.specs.Beside.{action_tree, on_tree};
@@ -73,7 +73,7 @@ pub fn instructions_are_printed_as_they_stood()
 
 /// What is done at the edges of a point is printed as it stood, where its names are printed as they are read.
 pub fn edges_are_printed_as_they_stood()
-    ensures { (known : Known) (names : Names) (by : Spelled) (object : Object) (actions : List Action) (own : ℕ) (edges : Edges) (m : ℕ) (ts : Trees) (xs : List On) →
+    ensures { (known : Known) (names : Names) (by : Spelled) (object : Object) (actions : List Action) (own : Option Ways) (edges : Edges) (m : ℕ) (ts : Trees) (xs : List On) →
         AreKnown known names by object actions → ons_reading known names own edges m ts ≡ fine xs → row (map (on_tree object actions by) xs) ≡ ts }
 {}
 

@@ -5,15 +5,17 @@ use Rattle.std.specs.Borrow.{Bor}
 use Rattle.std.specs.declared.alloc.Global.{Global}
 use Rattle.lc_base.specs.declared.memory.OutOfMemory.{OutOfMemory}
 use Rattle.lc_reading.specs.Words.{names_in}
+use Rattle.lc_seq.specs.Sequential.{Chosen, InOrder, ByName}
 use Rattle.lc_object.specs.Syntax.{Column}
-use Rattle.lc_sexp.specs.Trees.{Trees, none, ◌▸◌}
-use Rattle.lc_sexp.specs.Printed.{printed_tree, printed_others}
+use Rattle.lc_sexp.specs.Trees.{Trees, list, none, ◌▸◌}
+use Rattle.lc_sexp.specs.Printed.{printed_tree, printed_items, printed_others}
 use Rattle.lc_term.specs.Syntax.{Term}
 use Rattle.lc_text.specs.Spelling.{Spelled}
 use Rattle.lc_outline_print.specs.Developments.{followed}
 use Rattle.lc_outline_print.specs.Instructions.{assignment_trees}
 use Rattle.lc_outline_print.specs.Objects.{concrete_tree}
-use Rattle.lc_outline_print.specs.Parts.{column_tree}
+use Rattle.lc_outline_print.specs.Parts.{name_trees, column_tree}
+use Rattle.lc_outline_print.specs.Specifications.{labelled}
 
 -- where no values are left, no local is assigned to
 nothing_assigned : (by : Spelled) (rs : List ℕ) → assignment_trees by rs [] ≡ none
@@ -24,15 +26,20 @@ pub all_assigned : (by : Spelled) (rs : List ℕ) (ts : List Term) (text all : L
 all_assigned by rs ts text all none_left is =
     sym (append-nil text) ∙ (ap (λ w. text ++ printed_others w) (sym (nothing_assigned by rs) ∙ ap (λ ts. assignment_trees by rs ts) (sym none_left)) ∙ is)
 
--- a word, two parts behind it, and a bracket
-pub written_mark : (old a b c d t n : List ℕ) → a ≡ old ++ codes "(lin-other" → b ≡ a ++ codes " " ++ t → c ≡ b ++ codes " " ++ n → d ≡ c ++ codes ")"
-    → d ≡ old ++ (codes "(lin-other " ++ ((t ++ (32 ∷ (n ++ []))) ++ codes ")"))
-written_mark old a b c d t n opened first second closed =
-    closed ∙ ap (λ w. w ++ codes ")") (second ∙ append_assoc b (codes " ") n ∙ ap (λ w. w ++ (32 ∷ n)) (first ∙ append_assoc a (codes " ") t ∙ ap (λ w. w ++ (32 ∷ t)) opened))
-    ∙ ap (λ w. w ++ codes ")") (append_assoc (old ++ codes "(lin-other") (32 ∷ t) (32 ∷ n))
-    ∙ append_assoc (old ++ codes "(lin-other") (32 ∷ (t ++ (32 ∷ n))) (codes ")")
-    ∙ append_assoc old (codes "(lin-other") (32 ∷ ((t ++ (32 ∷ n)) ++ codes ")"))
-    ∙ ap (λ w. old ++ (codes "(lin-other " ++ ((t ++ (32 ∷ w)) ++ codes ")"))) (sym (append-nil n))
+-- a word, two parts behind it, others, and a bracket
+pub written_mark : (old w t n r a b c d e : List ℕ) → a ≡ old ++ codes "(" ++ w → b ≡ a ++ codes " " ++ t → c ≡ b ++ codes " " ++ n → d ≡ c ++ r → e ≡ d ++ codes ")"
+    → e ≡ old ++ (40 ∷ ((w ++ (32 ∷ (t ++ (32 ∷ (n ++ r))))) ++ codes ")"))
+written_mark old w t n r a b c d e opened first second third closed =
+    closed ∙ ap (λ x. x ++ codes ")") (third ∙ ap (λ x. x ++ r) (second ∙ ap (λ x. x ++ codes " " ++ n) (first ∙ ap (λ x. x ++ codes " " ++ t) opened)))
+    ∙ simp append_assoc
+
+-- how a branch begins, and what follows
+pub label_text : (l : Chosen (List ℕ)) (ts : Trees) → printed_items (labelled l ts) ≡ printed_items (labelled l none) ++ printed_others ts
+label_text InOrder ts = refl
+label_text (ByName name parameters) ts =
+    let p = printed_tree (list (name_trees parameters)) in
+    ap (λ w. codes "choice " ++ (name ++ (32 ∷ w))) (ap (λ w. w ++ printed_others ts) (sym (append-nil p)))
+    ∙ ap (λ w. codes "choice " ++ w) (sym (append_assoc name (32 ∷ (p ++ [])) (printed_others ts)))
 
 -- a column, if there is one, and what is behind it
 pub concrete_text : (c : Option Column) (ts : Trees) → printed_others (concrete_tree c ts) ≡ printed_others (concrete_tree c none) ++ printed_others ts

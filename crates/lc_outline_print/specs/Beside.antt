@@ -1,13 +1,14 @@
 -- What is printed of what stands beside the code: actions, the invariant, riders, and what is at the edges.
-use Rattle.std.specs.Prelude.{ℕ, codes, List, [], ◌∷◌, Option, Some, None, map}
-use Rattle.lc_sexp.specs.Trees.{Tree, atom, list, none, ◌▸◌, row}
-use Rattle.lc_term.specs.Syntax.{Formula}
+use Rattle.std.specs.Prelude.{ℕ, codes, List, [], ◌∷◌, ◌++◌, Option, Some, None, map}
+use Rattle.lc_sexp.specs.Trees.{Tree, Trees, atom, list, none, ◌▸◌, row}
+use Rattle.lc_term.specs.Syntax.{Term, Formula}
 use Rattle.lc_text.specs.Spelling.{Spelled}
 use Rattle.lc_text.specs.SpelledTree.{term_tree, formula_tree}
 use Rattle.lc_object.specs.Syntax.{Object}
 use Rattle.lc_object.specs.declared.instr.EdgeKind.{EdgeKind}
 use Rattle.lc_object.specs.declared.instr.EdgeKind.TheVariants.{Next, Then, Else}
 use Rattle.lc_action.specs.Action.{Action}
+use Rattle.lc_seq.specs.Sequential.{Chosen, InOrder, ByName}
 use Rattle.lc_rider.specs.Rider.{Deed, Assign, Marks, Marking, Own, Other, Note, Rider}
 use Rattle.lc_tie.specs.Tie.{Conjunct}
 use Rattle.lc_outline.specs.Development.{On}
@@ -24,16 +25,27 @@ action_tree columns a =
 abbrev pub conjunct_tree : List (List ℕ) → Conjunct → Tree
 conjunct_tree columns c = list (atom c.name ▸ formula_tree (named_by columns (codes "N" ∷ [])) 0 c.formula ▸ none)
 
--- (lin), (lin-other T OP), (note)
-abbrev pub marking_tree : Object → Spelled → Marking → Tree
-marking_tree object by Own = list (atom (codes "lin") ▸ none)
-marking_tree object by (Other client o) = list (atom (codes "lin-other") ▸ term_tree by 0 client ▸ atom (operation_name object o) ▸ none)
-marking_tree object by Note = list (atom (codes "note") ▸ none)
+-- the word of a mark, which says whether a choice is named
+abbrev pub mark_word : List ℕ → Chosen Term → List ℕ
+mark_word word InOrder = word
+mark_word word (ByName name ts) = word ++ codes "-by"
+
+-- NAME T*, of a choice that is named
+abbrev pub choice_trees : Spelled → Chosen Term → Trees
+choice_trees by InOrder = none
+choice_trees by (ByName name ts) = atom name ▸ term_trees by ts
+
+-- (lin), (lin-other T OP), (note), or (lin-by NAME T*), (lin-other-by T OP NAME T*), (note-by NAME T*)
+abbrev pub marking_tree : Object → Spelled → Marking → Chosen Term → Tree
+marking_tree object by Own choice = list (atom (mark_word (codes "lin") choice) ▸ choice_trees by choice)
+marking_tree object by (Other client o) choice =
+    list (atom (mark_word (codes "lin-other") choice) ▸ term_tree by 0 client ▸ atom (operation_name object o) ▸ choice_trees by choice)
+marking_tree object by Note choice = list (atom (mark_word (codes "note") choice) ▸ choice_trees by choice)
 
 -- (set COLUMN T T), or a mark
 abbrev pub deed_tree : Object → Spelled → Deed → Tree
 deed_tree object by (Assign u) = list (atom (codes "set") ▸ update_parts by u)
-deed_tree object by (Marks m) = marking_tree object by m
+deed_tree object by (Marks m choice) = marking_tree object by m choice
 
 -- (when F RIDER), or the rider alone
 abbrev pub conditional_tree : Spelled → Option Formula → Tree → Tree

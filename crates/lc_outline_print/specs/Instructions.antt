@@ -4,7 +4,7 @@ use Rattle.lc_sexp.specs.Trees.{Tree, Trees, atom, list, none, ◌▸◌, row}
 use Rattle.lc_term.specs.Syntax.{Term}
 use Rattle.lc_text.specs.Spelling.{Spelled}
 use Rattle.lc_text.specs.SpelledTree.{term_tree, formula_tree}
-use Rattle.lc_object.specs.Syntax.{Instr, Load, Store, Cas, Set, If, Return, Object}
+use Rattle.lc_object.specs.Syntax.{Instr, Load, Store, Cas, Set, Faa, If, Return, Object}
 use Rattle.lc_outline_print.specs.Naming.{array_name, label}
 use Rattle.lc_outline_print.specs.Parts.{term_trees}
 
@@ -28,7 +28,8 @@ access_trees object by a t = atom (array_name object a) ▸ term_tree by 0 t ▸
 abbrev pub label_trees : Object → ℕ → ℕ → Trees
 label_trees object l m = atom (label object l) ▸ atom (label object m) ▸ none
 
--- (load A T (r ..) L), (store A T (T ..) L), (cas A T (T ..) (T ..) L M), (set ((r T) ..) L), (if F L M), (return T ..)
+-- (load A T (r ..) L), (store A T (T ..) L), (cas A T (T ..) (T ..) L M), (set ((r T) ..) L), (faa A T (r ..) (T ..) L), (if F L M),
+-- (return T ..)
 abbrev pub instruction_tree : Object → Spelled → Instr → Tree
 instruction_tree object by (Load a t rs l) =
     list (atom (codes "load") ▸ atom (array_name object a) ▸ term_tree by 0 t ▸ list (local_trees by rs) ▸ atom (label object l) ▸ none)
@@ -37,5 +38,7 @@ instruction_tree object by (Store a t vs l) =
 instruction_tree object by (Cas a t old new l m) =
     list (atom (codes "cas") ▸ atom (array_name object a) ▸ term_tree by 0 t ▸ list (term_trees by old) ▸ list (term_trees by new) ▸ label_trees object l m)
 instruction_tree object by (Set rs vs l) = list (atom (codes "set") ▸ list (assignment_trees by rs vs) ▸ atom (label object l) ▸ none)
+instruction_tree object by (Faa a t rs ds l) =
+    list (atom (codes "faa") ▸ atom (array_name object a) ▸ term_tree by 0 t ▸ list (local_trees by rs) ▸ list (term_trees by ds) ▸ atom (label object l) ▸ none)
 instruction_tree object by (If f l m) = list (atom (codes "if") ▸ formula_tree by 0 f ▸ label_trees object l m)
 instruction_tree object by (Return vs) = list (atom (codes "return") ▸ term_trees by vs)

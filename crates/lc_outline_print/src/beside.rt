@@ -5,12 +5,12 @@ ghost use Rattle.lc_object.specs.View.{parts_of};
 ghost use Rattle.lc_outline.specs.PartsView.{on_of};
 ghost use Rattle.lc_reading.specs.Words.{names_in};
 ghost use Rattle.lc_rider.specs.Rider.{Other};
-ghost use Rattle.lc_rider.specs.RiderView.{rider_of};
+ghost use Rattle.lc_rider.specs.RiderView.{choosing_of, rider_of};
 ghost use Rattle.lc_sexp.specs.Printed.{printed_tree, printed_others};
-ghost use Rattle.lc_sexp.specs.Trees.{row};
+ghost use Rattle.lc_sexp.specs.Trees.{atom, list, ◌▸◌, row};
 ghost use Rattle.lc_term.specs.View.{term_of};
 ghost use Rattle.lc_tie.specs.TieView.{conjunct_of};
-ghost use Rattle.lc_outline_print.specs.Beside.{action_tree, conjunct_tree, marking_tree, deed_tree, rider_tree, edge_word, on_tree};
+ghost use Rattle.lc_outline_print.specs.Beside.{action_tree, conjunct_tree, mark_word, choice_trees, marking_tree, deed_tree, rider_tree, edge_word, on_tree};
 
 use crate::naming::{Named, client_variables, write_action_name, write_operation_name};
 use crate::parts::{
@@ -21,7 +21,7 @@ use lc_action::Action;
 use lc_base::{OpId, OutOfMemory};
 use lc_object::{EdgeKind, Parts};
 use lc_outline::On;
-use lc_rider::Rider;
+use lc_rider::{Choosing, Rider};
 use lc_term::Term;
 use lc_text::Spelling;
 use lc_tie::Conjunct;
@@ -98,19 +98,67 @@ pub(crate) fn write_conjuncts(
     Ok(())
 }
 
-/// Writes `(lin-other T OP)`.
+/// Writes how the list of a mark begins: its word, which says whether a choice is named.
+fn write_mark_word(out: &mut String, word: &str, by: &Choosing) -> Result<(), OutOfMemory>
+    ensures { OnOk result (string_bytes out.new ≡ string_bytes out.old ++ codes "(" ++ mark_word word.now (choosing_of by.now)) }
+{
+    out.push_str("(")?;
+    out.push_str(word)?;
+    if let Choosing::Named { .. } = by {
+        out.push_str("-by")?;
+    }
+    Ok(())
+}
+
+/// Writes `NAME T*`, of a choice that is named, each behind a space.
+fn write_choice<S: Spelling>(
+    out: &mut String,
+    spelling: &S,
+    by: &Choosing,
+) -> Result<(), OutOfMemory>
+    ensures { OnOk result (string_bytes out.new ≡ string_bytes out.old ++ printed_others (choice_trees (S.spelled spelling.now) (choosing_of by.now))) }
+{
+    match by {
+        Choosing::First => {}
+        Choosing::Named { name, terms } => {
+            out.push_str(" ")?;
+            out.push_str(name.as_str())?;
+            write_terms(out, spelling, terms)?;
+        }
+    }
+    Ok(())
+}
+
+/// Writes a mark of the own call, that begins with this word.
+fn write_own_mark<S: Spelling>(
+    out: &mut String,
+    spelling: &S,
+    word: &str,
+    by: &Choosing,
+) -> Result<(), OutOfMemory>
+    ensures { OnOk result (string_bytes out.new ≡ string_bytes out.old ++ printed_tree (list (atom (mark_word word.now (choosing_of by.now)) ▸ choice_trees (S.spelled spelling.now) (choosing_of by.now)))) }
+{
+    write_mark_word(out, word, by)?;
+    write_choice(out, spelling, by)?;
+    out.push_str(")")?;
+    Ok(())
+}
+
+/// Writes `(lin-other T OP)` or `(lin-other-by T OP NAME T*)`.
 fn write_lin_other<S: Spelling>(
     out: &mut String,
     object: &Parts,
     spelling: &S,
     client: &Term,
     operation: OpId,
+    by: &Choosing,
 ) -> Result<(), OutOfMemory>
-    ensures { OnOk result (string_bytes out.new ≡ string_bytes out.old ++ printed_tree (marking_tree (parts_of object.now) (S.spelled spelling.now) (Other (term_of client.now) operation.0))) }
+    ensures { OnOk result (string_bytes out.new ≡ string_bytes out.old ++ printed_tree (marking_tree (parts_of object.now) (S.spelled spelling.now) (Other (term_of client.now) operation.0) (choosing_of by.now))) }
 {
-    out.push_str("(lin-other")?;
+    write_mark_word(out, "lin-other", by)?;
     write_term_part(out, spelling, client)?;
     write_operation_name(out, object, operation)?;
+    write_choice(out, spelling, by)?;
     out.push_str(")")?;
     Ok(())
 }
@@ -130,13 +178,14 @@ fn write_deed<S: Spelling>(
             write_update_parts(out, spelling, update)?;
             out.push_str(")")?;
         }
-        Rider::LinSelf { .. } => out.push_str("(lin)")?,
+        Rider::LinSelf { by, .. } => write_own_mark(out, spelling, "lin", by)?,
         Rider::LinOther {
             client,
             operation,
+            by,
             ..
-        } => write_lin_other(out, object, spelling, client, *operation)?,
-        Rider::Note { .. } => out.push_str("(note)")?,
+        } => write_lin_other(out, object, spelling, client, *operation, by)?,
+        Rider::Note { by, .. } => write_own_mark(out, spelling, "note", by)?,
     }
     Ok(())
 }

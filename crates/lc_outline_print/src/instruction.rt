@@ -1,6 +1,6 @@
 //! How instructions are printed.
 ghost use Rattle.std.specs.Prelude.{◌≡◌, ◌∷◌, ◌++◌, OnOk, codes, string_bytes, map};
-ghost use Rattle.lc_object.specs.Syntax.{Load, Store, Cas, Set, If, Return};
+ghost use Rattle.lc_object.specs.Syntax.{Load, Store, Cas, Set, Faa, If, Return};
 ghost use Rattle.lc_object.specs.View.{locals_of, terms_of, instruction_of, parts_of};
 ghost use Rattle.lc_sexp.specs.Printed.{printed_tree, printed_items, printed_others};
 ghost use Rattle.lc_sexp.specs.Trees.{list, none, ◌▸◌};
@@ -240,6 +240,40 @@ fn write_set<S: Spelling>(
     Ok(())
 }
 
+/// Writes a list of locals and one of terms, each behind a space.
+fn write_exchange<S: Spelling>(
+    out: &mut String,
+    spelling: &S,
+    targets: &[LocalId],
+    added: &[Term],
+) -> Result<(), OutOfMemory>
+    ensures { OnOk result (string_bytes out.new ≡ string_bytes out.old ++ printed_others (list (local_trees (S.spelled spelling.now) (locals_of targets.now)) ▸ list (term_trees (S.spelled spelling.now) (terms_of added.now)) ▸ none)) }
+{
+    write_local_list(out, spelling, targets)?;
+    write_term_list(out, spelling, added)
+}
+
+/// Writes `(faa A T (r ..) (T ..) L)`.
+fn write_faa<S: Spelling>(
+    out: &mut String,
+    object: &Parts,
+    spelling: &S,
+    array: ArrayId,
+    index: &Term,
+    targets: &[LocalId],
+    added: &[Term],
+    next: PointId,
+) -> Result<(), OutOfMemory>
+    ensures { OnOk result (string_bytes out.new ≡ string_bytes out.old ++ printed_tree (instruction_tree (parts_of object.now) (S.spelled spelling.now) (Faa array.0 (term_of index.now) (locals_of targets.now) (terms_of added.now) next.0))) }
+{
+    out.push_str("(faa ")?;
+    write_access(out, object, spelling, array, index)?;
+    write_exchange(out, spelling, targets, added)?;
+    write_label_part(out, object, next)?;
+    out.push_str(")")?;
+    Ok(())
+}
+
 /// Writes `(if F L M)`.
 fn write_if<S: Spelling>(
     out: &mut String,
@@ -314,6 +348,13 @@ pub(crate) fn write_instruction<S: Spelling>(
             values,
             next,
         } => write_set(out, object, spelling, targets, values, *next),
+        Instr::Faa {
+            array,
+            index,
+            targets,
+            added,
+            next,
+        } => write_faa(out, object, spelling, *array, index, targets, added, *next),
         Instr::If {
             condition,
             holds,

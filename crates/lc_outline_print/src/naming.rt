@@ -65,15 +65,15 @@ pub(crate) fn client_variables<'a>(
     with_names(all, names)
 }
 
-/// The variables of an operation's body.
-pub(crate) fn body_variables<'a>(
+/// The number of clients, the client, arguments, and these variables behind them.
+pub(crate) fn variables_behind<'a>(
     alloc: Global,
     arguments: &'a [Name],
-    locals: &'a [Name],
+    names: &'a [Name],
 ) -> Result<Vec<&'a str>, OutOfMemory>
-    ensures { IfOk result (λ all. names_in all.items ≡ with_client (map bytes_of arguments.now ++ map bytes_of locals.now)) }
+    ensures { IfOk result (λ all. names_in all.items ≡ with_client (map bytes_of arguments.now ++ map bytes_of names.now)) }
 {
-    with_names(client_variables(alloc, arguments)?, locals)
+    with_names(client_variables(alloc, arguments)?, names)
 }
 
 /// Writes the name of an array.

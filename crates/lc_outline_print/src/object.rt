@@ -12,7 +12,7 @@ ghost use Rattle.lc_outline_print.specs.Objects.{concrete_tree, concrete_trees, 
 
 use crate::beside::write_ons;
 use crate::instruction::write_instruction;
-use crate::naming::{Named, body_variables};
+use crate::naming::{Named, variables_behind};
 use crate::parts::{write_column, write_formulas, write_name_list};
 use lc_base::{ColId, OutOfMemory};
 use lc_object::{Array, Column, Operation, Point};
@@ -187,7 +187,7 @@ fn write_body(
     requires { names_in columns.now ≡ column_names (parts_shown parts.now) }
     ensures { OnOk result (string_bytes out.new ≡ string_bytes out.old ++ codes " " ++ printed_tree (body_tree (parts_shown parts.now) number (operation_of operation.now))) }
 {
-    let variables = body_variables(alloc, &operation.arguments, &operation.locals)?;
+    let variables = variables_behind(alloc, &operation.arguments, &operation.locals)?;
     let named = Named {
         columns,
         variables: &variables,

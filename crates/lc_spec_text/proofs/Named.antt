@@ -1,11 +1,11 @@
 -- In a specification that is read no two operations have one name.
 use Rattle.std.proofs.Common.{◌≡◌, ℕ, ◌+◌, Bool, true, false, ◌&&◌, not, cond, List, [], ◌∷◌, refl}
-use Rattle.std.specs.Prelude.{codes, bytes_eq, length, Some, None}
+use Rattle.std.specs.Prelude.{codes, bytes_eq, length, Some}
 use Rattle.std.specs.List.{list_any}
 use Rattle.lc_sexp.specs.Trees.{Tree, Trees, atom, list, none, ◌▸◌, item_count}
 use Rattle.lc_reading.proofs.Holding.{Holds, anything, weaker, mapped_holds, both_holds, three_holds, limited_holds}
 use Rattle.lc_reading.specs.Listed.{declared_by}
-use Rattle.lc_reading.specs.Naming.{is_full, name_reading}
+use Rattle.lc_reading.specs.Naming.{is_full}
 use Rattle.lc_reading.specs.Readings.{wrong, behind_reading}
 use Rattle.lc_reading.specs.Rows.{second_name, declared_reading}
 use Rattle.lc_reading.specs.Words.{is}

@@ -18,7 +18,7 @@ use Rattle.lc_seq.specs.Specification.{Branch, is_in_order, agree, chosen}
 use Rattle.lc_reading.proofs.Holding.{Holds, anything, weaker, and_holds, and_true, mapped_holds, both_holds}
 use Rattle.lc_reading.specs.Listed.{declared_by, place_of}
 use Rattle.lc_reading.specs.Naming.{name_reading, declaration_reading}
-use Rattle.lc_reading.specs.Readings.{Reading, fine, flawed, wrong, behind_reading}
+use Rattle.lc_reading.specs.Readings.{Reading, wrong, behind_reading}
 use Rattle.lc_reading.specs.Rows.{second_name, all_declared, declared_reading, each_reading}
 use Rattle.lc_reading.specs.Words.{is}
 use Rattle.lc_reading.specs.declared.pass.Pass.TheVariants.{Shape}

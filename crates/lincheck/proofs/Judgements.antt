@@ -15,6 +15,7 @@ use Rattle.lc_hist.specs.declared.judging.JudgeFault.TheVariants as V
 use Rattle.lc_reading.specs.Files.{Says, IsFirstRefusal, IsAnswerTo}
 use Rattle.lc_seq.specs.Specification.{Specification}
 use Rattle.lc_seq.specs.TextStep.{text_step, TextFits, start_of}
+use Rattle.lc_seq.specs.declared.choice.Pick.{Pick}
 use Rattle.lc_seq.specs.declared.text_call.TextCall.{TextCall}
 use Rattle.lincheck.specs.Answers.{ToldFault}
 use Rattle.lincheck.specs.Judge.{IsLinearization, FailsFirst, Overflows, SaysSuch, IsJudgement, judgement_of, AnswersHistory, AnswersJudge, ToldJudgement}
@@ -38,12 +39,12 @@ judged spec bytes history order (Err (V.Order place reason)) says is = (reason, 
 judged spec bytes history order (Err V.Overflow) says is = (history, order, says, is)
 judged spec bytes history order (Err V.OutOfMemory) says is = tt
 
-pub order_judged : (spec : Specification) (bytes : List ℕ) (history : List Event) (order seen : List (Done TextCall (Vec ℤ Global))) (result : Result (Unit {0}) F.JudgeFault)
+pub order_judged : (spec : Specification) (bytes : List ℕ) (history : List Event) (order seen : List (Done TextCall Pick (Vec ℤ Global))) (result : Result (Unit {0}) F.JudgeFault)
     → SaysHistory spec.operations bytes history (entries_seen order) → seen ≡ order
     → IsJudged (text_step spec.operations) (TextFits spec.operations) (start_of spec.columns) history (entries_seen seen) result → IsJudgement spec bytes (judgement_of result)
 order_judged spec bytes history order seen result says same is =
     judged spec bytes history (entries_seen order) result says
-    (subst (λ (l : List (Done TextCall (Vec ℤ Global))). IsJudged (text_step spec.operations) (TextFits spec.operations) (start_of spec.columns) history (entries_seen l) result) same is)
+    (subst (λ (l : List (Done TextCall Pick (Vec ℤ Global))). IsJudged (text_step spec.operations) (TextFits spec.operations) (start_of spec.columns) history (entries_seen l) result) same is)
 
 -- a fault of the text is its judgement
 pub unread : (spec : Specification) (bytes : List ℕ) (fault : Fault) → IsRefusedAt (IsWrongItem spec.operations bytes) fault → IsJudgement spec bytes (Err fault)

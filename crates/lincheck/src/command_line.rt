@@ -90,7 +90,8 @@ Else it prints one line:
   refused 13 ITEM          the item of HISTORY is not of the form: 0 is the whole, then come the events, then the order
   refused 14 PLACE REASON  the entry there, counted from 0, is out of order:
        1 it is not its client's call of this number, 2 the call returned another reply,
-       3 behind the last place: a call that returned is missing, 4 the object does not give this reply here,
+       3 behind the last place: a call that returned is missing,
+       4 the object does not give this reply here, or not by the choice that the entry names,
        5 the call of a later entry returned before this one began
   overflow                 a number that the specification reaches leaves 64 bits
 

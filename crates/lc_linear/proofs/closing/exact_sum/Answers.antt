@@ -5,7 +5,6 @@ use Rattle.lc_term.specs.Syntax.{Number, Add, Multiply}
 use Rattle.lc_table.specs.Tables.{formula_in}
 use Rattle.lc_table.specs.declared.node.FormulaId.{FormulaId}
 use Rattle.lc_linear.specs.Closing.{combined, entries_in, gap}
-use Rattle.lc_linear.specs.Form.{HasForm}
 use Rattle.lc_linear.specs.LinForm.{numbers}
 use Rattle.lc_linear.proofs.Faults.{passed_on, large_form}
 use Rattle.lc_linear.proofs.Made.{zero_read, turn_kept, turn_has_form, turn_read}

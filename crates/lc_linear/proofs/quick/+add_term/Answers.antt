@@ -1,4 +1,4 @@
-use Rattle.std.proofs.Common.{rules, ◌≡◌, ◌∙◌, inl, inr, ap, sym, subst, to_z, of_z, w64}
+use Rattle.std.proofs.Common.{rules, ◌∙◌, inl, inr, ap, sym, subst, to_z, of_z, w64}
 use Rattle.std.specs.Prelude.{◌+ℤ◌, ◌*ℤ◌, FitsSigned}
 use Rattle.std.specs.Int.{w128}
 use Rattle.lc_table.specs.Nodes.{term_of_node}
