@@ -1,0 +1,7 @@
+//! Tests of refutations.
+#![tactic(auto)]
+
+#[cfg(test)]
+mod refutation_tests;
+#[cfg(test)]
+mod tableau_tests;
