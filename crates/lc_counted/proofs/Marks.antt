@@ -23,7 +23,7 @@ use Rattle.lc_outline.specs.Development.{Development, first_system}
 use Rattle.lc_cond.specs.Sizes as C
 use Rattle.lc_outline_text.proofs.Agreed.{AllGo}
 use Rattle.lc_outline_text.proofs.Going.{AreWaysOf, none_first, left_at, goes_so}
-use Rattle.lc_outline_text.specs.Declarations.{Declarations, branches_in, choices_in, ways_in, own_ways, parameter_count, or_nothing, form_at}
+use Rattle.lc_outline_text.specs.Declarations.{Declarations, branches_in, choices_in, ways_in, known_of, parameter_count, or_nothing, form_at}
 use Rattle.lc_outline_text.specs.Sizes.{mark_ways, choice_named, choice_ways}
 use Rattle.lc_counted.proofs.Branches.{AreBranchesOf, AreWaysSaid, IsOperationOf}
 use Rattle.lc_counted.proofs.Rows.{Alike}
@@ -111,22 +111,22 @@ module _ (d : Declarations) (D : Development) (first : first_system D ≡ length
   at : (o : ℕ) → o < length d.declared.operations → IsAt d.declared.columns d.operations D.specification.operations o
   at o few = operation_at d.declared.columns d.operations D.specification.operations o go said (omega (arith, few, same))
 
-  pub in_order_said : (k : Marking) (o : ℕ) → o < length d.declared.operations → (by : Chosen Term) → IsInOrder (own_ways d o) by
+  pub in_order_said : (k : Marking) (o : ℕ) → o < length d.declared.operations → (by : Chosen Term) → IsInOrder (slice_get (known_of d).ways o) by
       → map (C.mark_way (first_system D) k) (chosen by (op_branches D.specification.operations o)) ≡ map way_of (mark_ways (stored_by d.declared.columns k) (C.asked_of k) (branches_in (form_at d.operations (Some o))))
   in_order_said k o few by h =
       let x = at o few in
       let bs = op_branches D.specification.operations o in
-      let known : own_ways d o ≡ Some (ways_in x.form) = mapped_there ways_in d.operations o x.form x.there in
+      let known : slice_get (known_of d).ways o ≡ Some (ways_in x.form) = mapped_there ways_in d.operations o x.form x.there in
       let (unnamed, left) = all_left (ways_in x.form) bs (goes_so (branches_in x.form) bs x.ways) by (subst (λ w. IsInOrder w by) known h) in
       ap₂ (λ n xs. map (C.mark_way n k) xs) first left ∙ marked d.declared.columns k (branches_in x.form) bs (x.said.branches (none_first (branches_in x.form) bs x.ways unnamed))
       ∙ ap (λ f. map way_of (mark_ways (stored_by d.declared.columns k) (C.asked_of k) (branches_in (or_nothing f)))) (sym x.there)
 
-  pub by_name_said : (k : Marking) (o : ℕ) → o < length d.declared.operations → (name : List ℕ) (terms : List Term) → is_choosing (own_ways d o) (ByName name terms) ≡ true
+  pub by_name_said : (k : Marking) (o : ℕ) → o < length d.declared.operations → (name : List ℕ) (terms : List Term) → is_choosing (slice_get (known_of d).ways o) (ByName name terms) ≡ true
       → map (C.mark_way (first_system D) k) (chosen (ByName name terms) (op_branches D.specification.operations o))
       ≡ map way_of (choice_ways (stored_by d.declared.columns k) (C.asked_of k) (choice_named (form_at d.operations (Some o)) name))
   by_name_said k o few name terms h =
       let x = at o few in
-      let known : own_ways d o ≡ Some (ways_in x.form) = mapped_there ways_in d.operations o x.form x.there in
+      let known : slice_get (known_of d).ways o ≡ Some (ways_in x.form) = mapped_there ways_in d.operations o x.form x.there in
       let y = taken name terms x.form (op_branches D.specification.operations o) x.ways (subst (λ w. is_choosing w (ByName name terms) ≡ true) known h) in
       let b = y.left.branch in
       let stored : C.columns_of (mark_updates (length d.declared.columns) k b) ≡ stored_by d.declared.columns k (later (later y.form)) = marked_columns d.declared.columns k (later (later y.form)) b (x.said.choices y.place y.form b y.text y.left.there) in

@@ -52,9 +52,10 @@ use Rattle.lc_counted.proofs.Ways.{way_of, ways_same}
 
 -- the branches and the actions of a development store in the columns that the declarations name
 pub record Agrees (d : Declarations) (D : Development) : Type 0 where
-  pub in_order : (k : Marking) (o : ℕ) → o < length d.declared.operations → (by : Chosen Term) → IsInOrder (own_ways d o) by →
+  pub own : (o : ℕ) → o < length d.declared.operations → own_ways d o ≡ slice_get (known_of d).ways o
+  pub in_order : (k : Marking) (o : ℕ) → o < length d.declared.operations → (by : Chosen Term) → IsInOrder (slice_get (known_of d).ways o) by →
       map (C.mark_way (first_system D) k) (chosen by (op_branches D.specification.operations o)) ≡ map way_of (mark_ways (stored_by d.declared.columns k) (C.asked_of k) (branches_in (form_at d.operations (Some o))))
-  pub by_name : (k : Marking) (o : ℕ) → o < length d.declared.operations → (name : List ℕ) (terms : List Term) → is_choosing (own_ways d o) (ByName name terms) ≡ true →
+  pub by_name : (k : Marking) (o : ℕ) → o < length d.declared.operations → (name : List ℕ) (terms : List Term) → is_choosing (slice_get (known_of d).ways o) (ByName name terms) ≡ true →
       map (C.mark_way (first_system D) k) (chosen (ByName name terms) (op_branches D.specification.operations o))
       ≡ map way_of (choice_ways (stored_by d.declared.columns k) (C.asked_of k) (choice_named (form_at d.operations (Some o)) name))
   pub acted : (w : List ℕ) (a : ℕ) → place_of (map first_text d.actions) w ≡ Some a → option_map (λ (x : Action). columns_of x.updates) (slice_get D.actions a) ≡ Some (Z.columns_acted d w)
@@ -158,7 +159,7 @@ module _ (d : Declarations) (o : ℕ) where
   own_said k same n m ts =
       let ways = mark_ways (stored_by d.declared.columns k) (C.asked_of k) (branches_in own) in
       ended_holds (HasWays d o ways) m ts _ (mapped_holds (IsInOrder (own_ways d o)) (HasWays d o ways) (Marks k) _ (in_order_known (own_ways d o) n)
-      (λ by h D a few. ap (λ p. map (C.mark_way (first_system D) k) (chosen by (op_branches D.specification.operations p))) (same o) ∙ a.in_order k o few by h))
+      (λ by h D a few. ap (λ p. map (C.mark_way (first_system D) k) (chosen by (op_branches D.specification.operations p))) (same o) ∙ a.in_order k o few by (subst (λ ways. IsInOrder ways by) (a.own o few) h)))
 
   own_by_said : (k : Marking) → ((n : ℕ) → marked_op n k ≡ n) → (names : Names) (n m : ℕ) (ts : Trees)
       → Holds (HasWays d o (choice_ways (stored_by d.declared.columns k) (C.asked_of k) (choice_named own (first_text ts)))) (mapped (Marks k) (by_reading names (own_ways d o) n m ts))
@@ -166,7 +167,8 @@ module _ (d : Declarations) (o : ℕ) where
       mapped_holds (IsSaidBy (own_ways d o) ts) (HasWays d o (choice_ways (stored_by d.declared.columns k) (C.asked_of k) (choice_named own (first_text ts)))) (Marks k) _ (by_said names (own_ways d o) n m ts)
       (λ by h D a few.
       let marked = λ (p : ℕ) (c : Chosen Term). map (C.mark_way (first_system D) k) (chosen c (op_branches D.specification.operations p)) in
-      ap₂ marked (same o) h.0.1 ∙ a.by_name k o few (first_text ts) h.0.0 (subst (λ c. is_choosing (own_ways d o) c ≡ true) h.0.1 h.1))
+      ap₂ marked (same o) h.0.1 ∙ a.by_name k o few (first_text ts) h.0.0
+      (subst (λ ways. is_choosing ways (ByName (first_text ts) h.0.0) ≡ true) (a.own o few) (subst (λ c. is_choosing (own_ways d o) c ≡ true) h.0.1 h.1)))
 
   -- another client's call is marked
   others_said : (names : Names) (n m : ℕ) (ts : Trees) → Holds (HasWays d o (other_ways ts)) (lin_other_reading (known_of d) names n m ts)
@@ -189,7 +191,7 @@ module _ (d : Declarations) (o : ℕ) where
       both_holds (IsOtherAt (known_of d) u) (IsSaidBy ways ts) (HasWays d o (other_by_ways (t ▸ u ▸ ts))) mark_of_other (other_reading (known_of d) names m t (m + item_count t) u) (by_reading names ways n k ts)
       (other_said (known_of d) names m t (m + item_count t) u) (by_said names ways n k ts)
       (λ p by h g D a few.
-      let choosing : is_choosing (own_ways d p.1) (ByName (first_text ts) g.0.0) ≡ true = subst (λ ways. is_choosing ways (ByName (first_text ts) g.0.0) ≡ true) h.1.1 (subst (λ c. is_choosing ways c ≡ true) g.0.1 g.1) in
+      let choosing : is_choosing (slice_get (known_of d).ways p.1) (ByName (first_text ts) g.0.0) ≡ true = subst (λ ways. is_choosing ways (ByName (first_text ts) g.0.0) ≡ true) h.1.1 (subst (λ c. is_choosing ways c ≡ true) g.0.1 g.1) in
       ap (λ c. map (C.mark_way (first_system D) (Other p.0 p.1)) (chosen c (op_branches D.specification.operations p.1))) g.0.1
       ∙ a.by_name (Other p.0 p.1) p.1 h.1.0 (first_text ts) g.0.0 choosing ∙ ap (λ q. map way_of (choice_ways settled 3 (choice_named (form_at d.operations q) (first_text ts)))) (sym h.0))
 

@@ -126,6 +126,7 @@ module _ (s : Sections) (p : O.SpecificationText × Specification) (o : Parts) (
         columns = fit.columns;
         own = λ o q is. omega (arith, fit.counted, matched_below D.object.operations D.specification.operations o q fit.matched is);
         agrees = record {
+          own = fit.own;
           in_order = in_order_said d D fit.columns (length-map d.operations first_text) h.0.goes h.1;
           by_name = by_name_said d D fit.columns (length-map d.operations first_text) h.0.goes h.1;
           acted = acted_said d D.actions sides.actions;

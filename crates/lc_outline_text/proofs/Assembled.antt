@@ -33,6 +33,7 @@ use Rattle.lc_outline_text.proofs.Agreed.{IsSpecificationSaid, specification_sai
 use Rattle.lc_outline_text.proofs.Fitting.{Fits, left, same_number, actions_resolved, asserts_resolved, arguments_resolved, edges_resolved}
 use Rattle.lc_outline_text.proofs.ObjectOf.{IsObjectOf, objects, object_is_one}
 use Rattle.lc_outline_text.proofs.Outlined.{AreBodiesOf, bodies_outlined, all_points, each_point, code_points, outline_points}
+use Rattle.lc_outline_text.proofs.Own.{own_there}
 use Rattle.lc_outline_text.proofs.SidesHold.{AreSides, sides_hold}
 use Rattle.lc_outline_text.specs.Bodies.{bodies_reading}
 use Rattle.lc_outline_text.specs.Declarations.{Declarations, declarations_in, declarations_of}
@@ -150,6 +151,7 @@ fits_declared s p o h g =
       matched = matched 0 p.0.signatures bs p.1.operations (subst (λ n. n ≤ length bs) (sym counted) (enough_bodies s bs g.fit.1)) h.operations;
       counted = go_counted d.operations p.1.operations h.goes ∙ sym (length-map d.operations first_text);
       goes = λ k few. goes_at d.operations p.1.operations k h.goes (omega (arith, few, length-map d.operations first_text));
+      own = λ k few. own_there s p.0 (o.0.0, bs) h.fit g.fit k few;
       branched = λ k few. branched p.0.signatures p.1.operations k h.operations (subst (λ n. k < n) (sym counted) few);
       columns = all_columns s p o h g;
       auxiliaries = first_auxiliary s p o h g;

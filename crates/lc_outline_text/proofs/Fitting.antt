@@ -49,6 +49,7 @@ pub record Fits (d : Declarations) (D : Development) (ps : List (Point × Outlin
   pub matched : are_matched D.object.operations D.specification.operations ≡ true
   pub counted : length D.specification.operations ≡ length d.declared.operations
   pub goes : AreBranches (known_of d) D.specification.operations
+  pub own : (o : ℕ) → o < length d.declared.operations → own_ways d o ≡ slice_get (known_of d).ways o
   pub branched : (k : ℕ) → k < length d.declared.operations → has_some (op_branches D.specification.operations k) ≡ true
   pub columns : first_system D ≡ length d.declared.columns
   pub auxiliaries : length D.specification.columns + length D.object.concretes ≡ d.declared.auxiliaries
@@ -78,7 +79,7 @@ all_weaker test other f (x ∷ xs) h = and_true (other x) (list_all other xs) (f
 -- ---- operations
 
 -- the operation of a body
-found : (bs : List Body) (os : List O.Operation) (k : ℕ) (b : Body) → AreOperationsOf bs os → slice_get bs k ≡ Some b → (o : O.Operation) × (slice_get os k ≡ Some o) × IsOperationOf b o
+pub found : (bs : List Body) (os : List O.Operation) (k : ℕ) (b : Body) → AreOperationsOf bs os → slice_get bs k ≡ Some b → (o : O.Operation) × (slice_get os k ≡ Some o) × IsOperationOf b o
 found [] [] k b h e = absurd (cc)
 found [] (o ∷ os) k b h e = absurd h
 found (c ∷ bs) [] k b h e = absurd h
@@ -118,7 +119,8 @@ actions_resolved d D ps h = actions_stored (known_of d) D d.actions D.actions h.
 deed_resolved : (d : Declarations) (D : Development) (ps : List (Point × Outline)) (o : ℕ) (x : Deed) → Fits d D ps → o < length d.declared.operations → deed_is_known (known_of d) (own_ways d o) x ≡ true → deed_is_resolved D o x ≡ true
 deed_resolved d D ps o (Assign u) h b e =
     subst (λ n. (nat_le n u.column && nat_lt u.column (first_system D)) ≡ true) (sym h.auxiliaries) (subst (λ n. (nat_le d.declared.auxiliaries u.column && nat_lt u.column n) ≡ true) (sym h.columns) e)
-deed_resolved d D ps o (Marks k by) h b e = mark_leaves (known_of d) D.specification.operations h.goes h.branched o b k by e
+deed_resolved d D ps o (Marks k by) h b e =
+    mark_leaves (known_of d) D.specification.operations h.goes h.branched o b k by (subst (λ ways. deed_is_known (known_of d) ways (Marks k by) ≡ true) (h.own o b) e)
 
 rider_resolved : (d : Declarations) (D : Development) (ps : List (Point × Outline)) (o : ℕ) → Fits d D ps → o < length d.declared.operations → (r : Rider) → rider_is_known (known_of d) (own_ways d o) r ≡ true → rider_is_resolved D o r ≡ true
 rider_resolved d D ps o h b r e =

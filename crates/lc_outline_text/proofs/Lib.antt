@@ -9,6 +9,7 @@ pub mod Going
 mod MadeBodies
 mod Needed
 mod ObjectOf
+mod Own
 pub mod Outlined
 mod PlacedReads
 mod SidesHold

@@ -2,9 +2,10 @@
 use Rattle.std.specs.Prelude.{ℕ, codes, List, map, slice_get, Option, Some, None}
 use Rattle.lc_sexp.specs.TreeCode.{tree_count}
 use Rattle.lc_sexp.specs.Trees.{Trees, none}
-use Rattle.lc_object_text.specs.ObjectNames.{Declared, first_text, within_first, later, operations_in, declared_in_sections}
+use Rattle.lc_reading.specs.Listed.{place_of}
+use Rattle.lc_object_text.specs.ObjectNames.{Declared, Body, first_text, within_first, later, operations_in, declared_in_sections}
 use Rattle.lc_object_text.specs.Sections.{Sections, sections_of, forms_in, behind_first}
-use Rattle.lc_rider_text.specs.Known.{Known, Ways}
+use Rattle.lc_rider_text.specs.Known.{Known, Ways, entry_at}
 
 -- The names, and what stands behind the word of each action, NAME (PARAM ..) F UPDATE .., and of each operation,
 -- NAME (ARG ..) REPLIES, then BRANCH .. or CHOICE ..
@@ -64,6 +65,18 @@ abbrev pub form_at : List Trees → Option ℕ → Trees
 form_at forms (Some k) = or_nothing (slice_get forms k)
 form_at forms None = none
 
--- how the operation of this number goes, if there is one
+-- how the operation of this name goes, if one is called so that has a number of replies
+abbrev pub ways_called : Declarations → List ℕ → Option ℕ → Option Ways
+ways_called d w None = None
+ways_called d w (Some replies) = entry_at (known_of d).ways (place_of d.declared.operations w)
+
+-- How the operation goes that a body names; of one that is not declared nothing is known. Where the body names another than the one
+-- that is due here it is refused as a whole, so the name of the due one serves; but two operations may be declared under this name, and
+-- then the first is meant, by which the arguments and replies of the body go too
+abbrev pub ways_of_body : Declarations → Option Body → Option Ways
+ways_of_body d None = None
+ways_of_body d (Some b) = ways_called d b.operation b.call.replies
+
+-- how the operation goes that the body at this place names
 abbrev pub own_ways : Declarations → ℕ → Option Ways
-own_ways d o = slice_get (known_of d).ways o
+own_ways d o = ways_of_body d (slice_get d.declared.bodies o)

@@ -158,11 +158,16 @@ impl<'a> Declarations<'a> {
         })
     }
 
-    /// How the operation of this number goes, if there is one.
-    pub(crate) fn own_ways(&self, operation: u32) -> Option<&Ways<'a>>
-        ensures { ways_there result ≡ own_ways (declarations_seen self.now) operation }
+    /// How the operation goes that the body at this place names, if it names one that is declared.
+    pub(crate) fn own_ways(&self, place: u32) -> Option<&Ways<'a>>
+        ensures { ways_there result ≡ own_ways (declarations_seen self.now) place }
     {
-        self.ways.get(operation as usize)
+        let body = self.declared.bodies.get(place as usize)?;
+        if body.replies.is_none() {
+            return None;
+        }
+        let operation = self.declared.operations.place(body.operation)?;
+        self.ways.get(operation)
     }
 
     /// The branches or choices of the operation at this place.
