@@ -33,11 +33,7 @@ pub(crate) fn sum(
 }
 
 /// Whether forms are refuted by this list.
-fn is_refuted(
-    alloc: Global,
-    forms: &[LinForm],
-    by: &[(usize, i64)],
-) -> Result<bool, LinFault> {
+fn is_refuted(alloc: Global, forms: &[LinForm], by: &[(usize, i64)]) -> Result<bool, LinFault> {
     match refute(alloc, forms, 1_000_000)? {
         Some(list) => Ok(list.as_slice() == by),
         None => Ok(false),
@@ -81,7 +77,11 @@ fn circle(alloc: Global, size: u32) -> Result<Vec<LinForm>, LinFault> {
     let mut terms = Terms::new(alloc);
     let mut forms = Vec::new(alloc);
     for here in 0..size {
-        let next = if here.saturating_add(1) < size { here.saturating_add(1) } else { 0 };
+        let next = if here.saturating_add(1) < size {
+            here.saturating_add(1)
+        } else {
+            0
+        };
         forms.push(sum(alloc, &mut terms, (here, 1), (next, -1), 1)?)?;
     }
     Ok(forms)

@@ -143,7 +143,10 @@ fn entry_value(
     let reply = numbers_value(alloc, &done.reply)?;
     match &done.choice {
         Pick::First => Ok(done_value(alloc, done.client, name, numbers, reply)?),
-        Pick::Named { name: chosen, numbers: given } => {
+        Pick::Named {
+            name: chosen,
+            numbers: given,
+        } => {
             let given = numbers_value(alloc, given)?;
             let choice = choice_value(alloc, chosen.as_str(), given)?;
             Ok(chosen_value(alloc, done.client, name, numbers, reply, choice)?)

@@ -286,7 +286,7 @@ module _ (ops : List Operation) (first : ℕ) (grounds : (p : ℕ) → AreGround
     owed j o k by q y lawful among =
         let w = W j k (marked_op o k) by q (C k q) in
         let υ = U (marked_op o k) by q (C k q) in
-      let bs = Bs (marked_op o k) by in
+        let bs = Bs (marked_op o k) by in
         let l : L w = Every-in (λ (z : Path). L z → L w) (branch_paths ops first j k υ bs w) y (branches_behind j k υ bs w) among lawful in
         Every_right Met q.duties (mark_duties ops first j k q (C k q) υ bs) l.1
 

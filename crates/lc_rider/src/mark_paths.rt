@@ -16,7 +16,8 @@ ghost use Rattle.lc_rider.specs.RiderView.{choosing_of};
 use crate::duty::Owing;
 use crate::marked_columns::marked_columns;
 use crate::marking::{
-    Mark, Marking, call_variables, cell_is, chosen_branches, guard_on, operation_branches, some_guard,
+    Mark, Marking, call_variables, cell_is, chosen_branches, guard_on, operation_branches,
+    some_guard,
 };
 use crate::path::Path;
 use crate::rider::Choosing;

@@ -74,4 +74,4 @@ returns-clause-paths c =
     let owed : path_in t2 c.in_ok-owing.owing ≡ owes u0 τ bs p0 = c.in_ok-owing.ensures.path.path ∙ (λ i. owes (client_at i) (said_at i) (left_at i) (still i)) in
     let behind : Term → List Term → List Branch → Path → List Path = λ u xs cs q. branch_paths operations first n (marking_of m u) xs cs q in
     on_ok_weaker c.branch_paths.result (λ h. adds_same c.args.paths.now.items c.branch_paths.new.paths.items t3 _ _ h
-        (λ i. behind (client_now i) (said_now i) (left_now i) (owed i))) c.branch_paths.ensures.paths
+    (λ i. behind (client_now i) (said_now i) (left_now i) (owed i))) c.branch_paths.ensures.paths
