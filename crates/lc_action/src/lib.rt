@@ -3,6 +3,7 @@
 
 mod acting;
 mod action;
+pub mod laws;
 mod stored_columns;
 mod system_columns;
 mod telling;

@@ -1,4 +1,4 @@
-use crate::column_names::{column_names, table_of};
+use crate::naming::{column_names, table_of};
 use crate::entry::Entry;
 use crate::form_reader::FormReader;
 use crate::reading::{text_told, trees_told};

@@ -3,10 +3,10 @@
 
 mod cert_reader;
 mod certificate;
-mod column_names;
 mod entry;
 mod form_reader;
 pub mod laws;
+mod naming;
 mod printing;
 mod reading;
 mod scope;
@@ -14,5 +14,7 @@ mod scope;
 pub use cert_reader::CertReader;
 pub use certificate::Certificate;
 pub use entry::Entry;
+pub use naming::{column_names, table_of};
 pub use printing::certificate_text;
 pub use reading::certificate_of;
+pub use scope::InCertificate;

@@ -9,7 +9,7 @@ ghost use Rattle.lc_cert.specs.EntryView.{entry_of, entries_of};
 ghost use Rattle.lc_cert.specs.Printed.{entry_tree, entry_trees, certificate_line};
 
 use crate::certificate::Certificate;
-use crate::column_names::column_names;
+use crate::naming::column_names;
 use crate::entry::Entry;
 use lc_base::{ColId, OutOfMemory};
 use lc_outline::Development;

@@ -15,7 +15,7 @@ ghost use Rattle.lc_cert.specs.Files.{IsAnswerTo};
 ghost use Rattle.lc_cert.specs.Readings.{place_reading, parts_reading, entry_reading, entries_reading, name_due, named_reading, form_reading};
 
 use crate::certificate::Certificate;
-use crate::column_names::{column_names, table_of};
+use crate::naming::{column_names, table_of};
 use crate::entry::Entry;
 use crate::scope::InCertificate;
 use lc_base::{Fault, Refusal};

@@ -1,3 +1,4 @@
+//! How names are read in what is written by the numbers of conditions.
 ghost use Rattle.std.specs.Prelude.{◌≡◌, ◌<◌, ◌^◌, length};
 ghost use Rattle.lc_reading.specs.TableView.{listed};
 
@@ -7,7 +8,7 @@ use lc_text::{ColumnUse, Extra, Scope};
 
 /// How names are read in the proofs of a certificate: variables are written `?k`, and columns by these names.
 #[derive(Clone, Copy)]
-pub(crate) struct InCertificate<'a, 'b> {
+pub struct InCertificate<'a, 'b> {
     columns: &'b NameTable<'a>,
     ghost few: { length (listed columns.now) < 2 ^ 32 },
 }
@@ -18,7 +19,7 @@ impl<'a, 'b> InCertificate<'a, 'b> {
 
     /// The names of these columns. `OutOfMemory` is answered also where a column's number has more than 32 bits, as in no
     /// development.
-    pub(crate) fn new(columns: &'b NameTable<'a>) -> Result<InCertificate<'a, 'b>, OutOfMemory>
+    pub fn new(columns: &'b NameTable<'a>) -> Result<InCertificate<'a, 'b>, OutOfMemory>
         ensures { IfOk result (λ names. listed names.columns.now ≡ listed columns.now) }
     {
         if columns.len() > u32::MAX as usize {

@@ -16,7 +16,7 @@ use Rattle.lc_sound.specs.Derived.{AreDerived}
 use Rattle.lc_check.proofs.Derived.{all_derived}
 use Rattle.lc_check.specs.Answers.{CountsAll}
 use Rattle.lc_check.specs.UpTo.{IsUpTo}
-use Rattle.lc_check.specs.VerdictView.{development_in, IsVerdictOn, IsVerdict, IsAnswerOn}
+use Rattle.lc_check.specs.VerdictView.{development_in, IsVerdictOn, IsVerdict, IsAnswerOn, IsCountOn}
 use Rattle.lc_check.specs.Verdicts.{IsAccepted}
 use Rattle.lc_check.specs.declared.progress.Progress.{Progress}
 use Rattle.lc_check.specs.declared.verdict.Accepted.{Accepted}
@@ -42,6 +42,15 @@ all_proved D cert es n a is certifies h = (is, (es, certifies, h.1))
 
 pub counted_derived : (D : Development) (es : List Entry) (n : ℕ) → AllUseTheirVariables D → CountsAll es (conditions D) (Ok n) → AreDerived D
 counted_derived D es n uses h = all_derived es 0 (conditions D) uses h.1.0
+
+pub not_counted : (D : Development) (cert : List ℕ) (es : List Entry) (fault : Fault) → IsAnswerOf D cert es (Err fault) → IsCountOn D cert (Err fault)
+not_counted D cert es (Refused r) h = inl h
+not_counted D cert es OutOfMemory h = tt
+
+pub counted_on : (D : Development) (cert : List ℕ) (es : List Entry) (result : Result ℕ Fault) → Certifies D cert es → CountsAll es (conditions D) result → IsCountOn D cert result
+counted_on D cert es (Ok n) certifies h = (h.0, (es, certifies, h.1))
+counted_on D cert es (Err (Refused r)) certifies h = inr (es, certifies, h)
+counted_on D cert es (Err OutOfMemory) certifies h = tt
 
 -- what is answered of a development that is known otherwise
 pub answered_of : (D E : Development) (cert : List ℕ) (r : CertReader) (p : Progress) (result : Result Accepted Fault) → D ≡ E → IsUpTo E cert r p → ((fed : List ℕ) → IsUpTo D fed r p → IsAnswerOn D fed result)

@@ -6,7 +6,7 @@ use Rattle.lc_kernel.specs.Proofs.{Proof}
 use Rattle.lc_cert.specs.Certificates.{Entry, is_above, is_rising, proof_at}
 use Rattle.lc_cond.specs.Conditions.{Condition}
 use Rattle.lc_check.proofs.LeastExtra.{at_first, at_other, extra_later, extra_before, above_last}
-use Rattle.lc_check.specs.Progress.{ProveInTurn}
+use Rattle.lc_check.specs.Walking.{ProveInTurn}
 use Rattle.lc_check.specs.Verdicts.{IsProved, IsUnproved, AreProved, IsFirstUnproved, IsExtra}
 
 -- ---- one proof before all that are looked for

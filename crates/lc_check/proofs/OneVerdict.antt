@@ -30,7 +30,7 @@ proved_or_not : (k : ℕ) (c : Condition) (o : Option Proof) → IsProved c o �
 proved_or_not k c None = inr (Missing k, refl)
 proved_or_not k c (Some p) = by_outcome k c p (derives_or_fails p c.variables (c.hypotheses ++ Not c.goal ∷ []))
 
-not_proved_and_not : (k : ℕ) (c : Condition) (o : Option Proof) (r : Refusal) → IsProved c o → IsUnproved k c o r → ⊥
+pub not_proved_and_not : (k : ℕ) (c : Condition) (o : Option Proof) (r : Refusal) → IsProved c o → IsUnproved k c o r → ⊥
 not_proved_and_not k c None r h u = h
 not_proved_and_not k c (Some p) r h (step, why, f, e) = fails_not_derives f h
 
@@ -108,7 +108,7 @@ by_certificate D cert (inr (r, first)) = inr (r, inl first)
 one_certificate : (D : Development) (cert : List ℕ) (es fs : List Entry) → Certifies D cert es → Certifies D cert fs → es ≡ fs
 one_certificate D = says_one (certificate_reading D)
 
-not_certified_and_refused : (D : Development) (cert : List ℕ) (r : Refusal) → IsProvenBy D cert → IsCertificateRefusal D cert r → ⊥
+pub not_certified_and_refused : (D : Development) (cert : List ℕ) (r : Refusal) → IsProvenBy D cert → IsCertificateRefusal D cert r → ⊥
 not_certified_and_refused D cert r (es, says, h) (inl first) = R.not_read_and_refused D cert es r says first
 not_certified_and_refused D cert r (es, says, h) (inr (fs, other, u)) =
     not_all_and_refused fs (conditions D) r (subst (λ l. ProvesAll l (conditions D)) (one_certificate D cert es fs says other) h) u

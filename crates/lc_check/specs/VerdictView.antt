@@ -1,9 +1,10 @@
 -- What verdicts of the code say.
-use Rattle.std.specs.Prelude.{◌≡◌, ℕ, List, Result, Ok, Err}
+use Rattle.std.specs.Prelude.{◌≡◌, ℕ, List, length, Result, Ok, Err}
 use Rattle.lc_base.specs.declared.refusal.Fault.{Fault}
 use Rattle.lc_base.specs.declared.refusal.Fault.TheVariants.{Refused as IsRefusedAs, OutOfMemory}
 use Rattle.lc_outline.specs.Development.{Development}
 use Rattle.lc_outline.specs.DevelopmentView.{development_shown}
+use Rattle.lc_cond.specs.Conditions.{conditions}
 use Rattle.lc_check.specs.Verdicts.{IsProvenBy, IsCertificateRefusal, IsAccepted, IsRefused}
 use Rattle.lc_check.specs.declared.verdict.Accepted.{Accepted}
 use Rattle.lc_check.specs.declared.verdict.Verdict.{Verdict}
@@ -34,3 +35,9 @@ abbrev pub IsAnswerOn : Development → List ℕ → Result Accepted Fault → T
 IsAnswerOn D cert (Ok accepted) = (development_in accepted ≡ D) × IsProvenBy D cert
 IsAnswerOn D cert (Err (IsRefusedAs refusal)) = IsCertificateRefusal D cert refusal
 IsAnswerOn D cert (Err OutOfMemory) = Unit {0}
+
+-- how many conditions a certificate file proves, if it is accepted; or it is told why not; for want of memory nothing
+abbrev pub IsCountOn : Development → List ℕ → Result ℕ Fault → Type 0
+IsCountOn D cert (Ok n) = (n ≡ length (conditions D)) × IsProvenBy D cert
+IsCountOn D cert (Err (IsRefusedAs refusal)) = IsCertificateRefusal D cert refusal
+IsCountOn D cert (Err OutOfMemory) = Unit {0}

@@ -71,7 +71,7 @@ fn derived_is_linearizable(development: &Development)
 }
 
 /// Reads the next piece, and takes all proofs that have ended.
-fn feed_all(
+pub(crate) fn feed_all(
     alloc: Global,
     development: &Development,
     reader: &mut CertReader,

@@ -2,12 +2,14 @@
 ghost use Rattle.std.specs.Prelude.{IfOk};
 ghost use Rattle.lc_outline.specs.DevelopmentView.{development_shown};
 ghost use Rattle.lc_sound.specs.Linearizable.{IsLinearizableObject};
-ghost use Rattle.lc_check.specs.VerdictView.{IsVerdictOn, IsVerdict, IfAccepted};
+ghost use Rattle.lc_check.specs.VerdictView.{IsVerdictOn, IsVerdict, IfAccepted, IsCountOn};
 
-use crate::certificate_session::CertificateSession;
+use crate::certificate_session::{CertificateSession, feed_all};
+use crate::progress::Progress;
 use crate::session::Session;
 use crate::verdict::Verdict;
-use lc_base::OutOfMemory;
+use lc_base::{Fault, OutOfMemory};
+use lc_cert::CertReader;
 use lc_outline::Development;
 use std::alloc::Global;
 
@@ -44,4 +46,18 @@ pub fn check(alloc: Global, dev: &[u8], cert: &[u8]) -> Result<Verdict, OutOfMem
     let mut session = Session::new(alloc, dev)?;
     session.feed(cert)?;
     session.finish()
+}
+
+/// How many conditions a development has, where a file is a certificate of it that is accepted; else the refusal that
+/// `check_certificate` tells. `OutOfMemory` says nothing of the file.
+pub fn proven_count(alloc: Global, development: &Development, cert: &[u8]) -> Result<u64, Fault>
+    ensures { IsCountOn (development_shown development.now) cert.now result }
+{
+    let mut reader = CertReader::new(alloc, development)?;
+    let mut progress = Progress::new(alloc, development)?;
+    feed_all(alloc, development, &mut reader, &mut progress, cert)?;
+    if let Err(fault) = reader.finish(development) {
+        return Err(fault);
+    }
+    progress.answer(alloc, development)
 }

@@ -8,8 +8,11 @@ mod progress;
 mod proving;
 mod session;
 mod verdict;
+mod walk;
 
 pub use certificate_session::CertificateSession;
-pub use checking::{check, check_certificate};
+pub use checking::{check, check_certificate, proven_count};
+pub use proving::prove_one;
 pub use session::Session;
 pub use verdict::{Accepted, Verdict};
+pub use walk::Walk;

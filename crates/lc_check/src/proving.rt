@@ -27,7 +27,7 @@ fn fault_of(number: u64, fault: ProofFault) -> Fault
 }
 
 /// Whether the proof derives the condition of this number.
-pub(crate) fn prove_one(
+pub fn prove_one(
     alloc: Global,
     terms: &mut Terms,
     number: u64,

@@ -46,6 +46,13 @@ last_pending : (c : ℕ) (now : Option Call) (e : Event) → option_map (λ call
 last_pending c now (Called d call) = pending_next (d == c) (Some call) now ∙ ap (λ b. cond b (Some call.op) (option_map (λ k. k.op) now)) (flip d c)
 last_pending c now (Replied d reply) = pending_next (d == c) None now ∙ ap (λ b. cond b None (option_map (λ k. k.op) now)) (flip d c)
 
+-- the operation in whose call each client is, by the events alone
+abbrev pub table_by : List Event → ℕ → Option ℕ
+table_by events c = option_map (λ call. call.op) (pending_of c None events)
+
+pub table_next : (events : List Event) (e : Event) (c : ℕ) → table_by (events ++ e ∷ []) c ≡ cond (c == client_of e) (opened e) (table_by events c)
+table_next events e c = ap (option_map (λ call. call.op)) (pending_of-append c None events (e ∷ [])) ∙ last_pending c (pending_of c None events) e
+
 pub take_front : {A : Type 0} (xs ys : List A) → take (length xs) (xs ++ ys) ≡ xs
 take_front [] ys = refl
 take_front (x ∷ xs) ys = ap (λ zs. x ∷ zs) (take_front xs ys)

@@ -14,6 +14,7 @@ pub mod JsonEvents
 pub mod NamesApart
 pub mod JsonWriting
 pub mod JsonNames
+pub mod JsonAlways
 pub mod JsonAnswers
 pub mod JsonOnce
 pub mod OneJudgement

@@ -1,5 +1,5 @@
 //! Laws of the definitions: functions without effect, whose contracts are the laws.
-ghost use Rattle.std.specs.Prelude.{◌≡◌, ◌↔◌, ℕ, List, Result, length};
+ghost use Rattle.std.specs.Prelude.{◌≡◌, ◌↔◌, ◌⊎◌, ℕ, List, Result, length};
 ghost use Rattle.lc_hist.specs.History.{Event, Entry, Linearizes};
 ghost use Rattle.lc_hist.specs.JsonHistories.{SaysHistory, IsWrongItem};
 ghost use Rattle.lc_seq.specs.Specification.{Operation};
@@ -16,8 +16,10 @@ pub fn tests_are_exact<S: SeqObject>()
         Linearizes (S.step object) (S.start object) history order ↔ PassesEach (S.step object) (S.start object) history order }
 {}
 
-/// A JSON text says one history and one order, or one of its items is the first that is wrong; and never both.
+/// A JSON text says one history and one order, or one of its items is the first that is wrong; one of the two, and never both.
 pub fn a_text_is_read_in_one_way()
+    ensures said_or_wrong { (operations : List Operation) (bytes : List ℕ) →
+        ((events : List Event) × (order : List Entry) × SaysHistory operations bytes events order) ⊎ ((item : ℕ) × IsWrongItem operations bytes item) }
     ensures one_history { (operations : List Operation) (bytes : List ℕ) (events said : List Event) (order entries : List Entry) →
         SaysHistory operations bytes events order → SaysHistory operations bytes said entries → (events ≡ said) × (order ≡ entries) }
     ensures one_item { (operations : List Operation) (bytes : List ℕ) (a b : ℕ) → IsWrongItem operations bytes a → IsWrongItem operations bytes b → a ≡ b }

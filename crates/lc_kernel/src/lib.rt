@@ -4,6 +4,7 @@
 mod arithmetic;
 mod below;
 mod check;
+mod copying;
 mod fault;
 mod forms;
 mod goal;

@@ -1,8 +1,8 @@
 pub mod Agreed
 pub mod Assembled
-mod Chosen
 mod CodeAlone
 mod Counting
+mod Different
 mod FileReads
 pub mod Fitting
 pub mod Going
@@ -11,6 +11,10 @@ mod Needed
 mod ObjectOf
 mod Own
 pub mod Outlined
+mod Paths
 mod PlacedReads
+mod RidersPassed
+mod Sets
 mod SidesHold
+mod StoredThere
 mod Walks

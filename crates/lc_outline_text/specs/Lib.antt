@@ -8,3 +8,5 @@ pub mod Developments
 pub mod Rests
 pub mod DeclarationsView
 pub mod Views
+pub mod Paths
+pub mod StoredView

@@ -19,7 +19,7 @@ use Rattle.lc_tie.specs.Tie as I
 use Rattle.lc_tie.specs.TieView.{conjunct_of}
 use Rattle.lc_tie.specs.declared.tie.Conjunct.{Conjunct}
 use Rattle.lc_object.specs.Syntax as O
-use Rattle.lc_object.specs.View.{point_of, columns_of}
+use Rattle.lc_object.specs.View.{point_of}
 use Rattle.lc_object.specs.declared.parts.Point.{Point}
 use Rattle.lc_object_text.specs.Objects as OT
 use Rattle.lc_object_text.specs.Points as PT
@@ -44,7 +44,6 @@ use Rattle.lc_outline_text.specs.Sizes as Z
 use Rattle.lc_outline_text.specs.Sides as B
 use Rattle.lc_outline_text.specs.declared.instruction.Totals.{Totals}
 use Rattle.lc_outline_text.specs.declared.sides.Sides.{Sides}
-use Rattle.lc_outline_text.specs.declared.ways.Way.{Way}
 
 -- a point, and what stands beside its code
 abbrev pub outlined_of : Point × Outline → O.Point × D.Outline
@@ -95,15 +94,6 @@ capped n = min 100001 n
 abbrev pub columns_marked : Bool → List (List ℕ) → Trees → List ℕ
 columns_marked true = Z.columns_noted
 columns_marked false = Z.columns_settled
-
-abbrev pub way_seen : Way → Z.Way
-way_seen way = record { asked = way.asked; columns = columns_of way.columns.items }
-
-abbrev pub ways_seen : Vec Way Global → List Z.Way
-ways_seen ways = map way_seen ways.items
-
-abbrev pub way_lists : List (Vec Way Global) → List (List Z.Way)
-way_lists all = map ways_seen all
 
 abbrev pub totals_seen : Totals → Z.Totals
 totals_seen n = record { invariant = n.invariant; idle = n.idle; actions = n.actions }

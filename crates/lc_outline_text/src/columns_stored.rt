@@ -18,7 +18,7 @@ use lc_text::{ColumnUse, Scope};
 use std::alloc::Global;
 
 /// The column of a name, if there is one: declared, or of the system.
-fn column_of(columns: &NameTable<'_>, name: &str) -> Result<Option<ColId>, OutOfMemory>
+pub(crate) fn column_of(columns: &NameTable<'_>, name: &str) -> Result<Option<ColId>, OutOfMemory>
     ensures { IfOk result (λ column. option_map (λ c. c.0) column ≡ column_place (listed columns.now) name.now) }
 {
     let scope = Beside {

@@ -1,30 +1,26 @@
 //! How many conditions a development has, counted from its text up to a cap.
-ghost use Rattle.std.specs.Prelude.{◌≡◌, ◌*◌, map, sum, sum_by, IfOk};
+ghost use Rattle.std.specs.Prelude.{◌≡◌, map, sum, sum_by, IfOk, OnOk};
 ghost use Rattle.lc_sexp.specs.Shown.{rest_of};
 ghost use Rattle.lc_object_text.specs.DeclaredView.{body_seen};
 ghost use Rattle.lc_object_text.specs.ObjectNames.{points_in};
 ghost use Rattle.lc_object_text.specs.Seen.{sections_seen};
 ghost use Rattle.lc_outline_text.specs.DeclarationsView.{declarations_seen};
+ghost use Rattle.lc_outline_text.specs.StoredView.{IsSet, IsStored};
 ghost use Rattle.lc_outline_text.specs.Views.{capped, totals_seen};
 ghost use Rattle.lc_outline_text.specs.Sizes.{assert_count, point_conditions, body_conditions, bodies_conditions, totals_of, condition_count};
 
+use crate::column_set::ColumnSet;
+use crate::counts::{COUNT_CAP, capped_product, capped_sum, sum_of};
 use crate::declarations::Declarations;
 use crate::edge_counts::{assert_count, point_conditions};
 use crate::instruction::{Totals, count_at};
 use crate::needs::parts_in;
-use crate::path_counts::{capped, capped_sum, sum_of};
+use crate::stored::{Stored, read_stored};
 use lc_base::OutOfMemory;
 use lc_object_text::{Body, Sections, behind_first, items_in_first, next_form};
 use lc_reading::next_part;
 use lc_sexp::Cursor;
 use std::alloc::Global;
-
-/// The product of two counts, up to the cap.
-fn capped_product(left: u64, right: u64) -> u64
-    ensures { result ≡ capped (left * right) }
-{
-    capped(capped(left) * capped(right))
-}
 
 /// How many assertions each point has of a body `OP (LOCAL ..) POINT ..`.
 fn assert_counts(alloc: Global, body: Cursor<'_>) -> Result<Vec<u64>, OutOfMemory>
@@ -57,13 +53,18 @@ fn capped_total(counts: &[u64]) -> u64
 fn points_conditions(
     alloc: Global,
     declarations: &Declarations<'_>,
+    stored: &Stored,
+    set: &mut ColumnSet,
     totals: Totals,
     operation: u32,
     body: &Body<'_>,
     asserts: &[u64],
     list: Cursor<'_>,
 ) -> Result<u64, OutOfMemory>
-    ensures { IfOk result (λ count. count ≡ capped (sum_by (point_conditions (declarations_seen declarations.now) (totals_seen totals) operation (body_seen body.now) asserts.now) (points_in (rest_of list.entry)))) }
+    requires stored { IsStored (declarations_seen declarations.now) stored.now }
+    requires set { IsSet set.old }
+    ensures set { OnOk result (IsSet set.new) }
+    ensures count { IfOk result (λ count. count ≡ capped (sum_by (point_conditions (declarations_seen declarations.now) (totals_seen totals) operation (body_seen body.now) asserts.now) (points_in (rest_of list.entry)))) }
 {
     let mut rest = behind_first(behind_first(list));
     let mut some = true;
@@ -73,7 +74,20 @@ fn points_conditions(
             return Ok(count);
         };
         some = false;
-        let more = point_conditions(alloc, declarations, totals, operation, body, asserts, point)?;
+        if count >= COUNT_CAP {
+            return Ok(COUNT_CAP);
+        }
+        let more = point_conditions(
+            alloc,
+            declarations,
+            stored,
+            set,
+            totals,
+            operation,
+            body,
+            asserts,
+            point,
+        )?;
         count = capped_sum(count, more);
     }
 }
@@ -82,16 +96,31 @@ fn points_conditions(
 fn body_conditions(
     alloc: Global,
     declarations: &Declarations<'_>,
+    stored: &Stored,
+    set: &mut ColumnSet,
     totals: Totals,
     operation: u32,
     body: &Body<'_>,
     list: Cursor<'_>,
 ) -> Result<u64, OutOfMemory>
-    ensures { IfOk result (λ count. count ≡ capped (body_conditions (declarations_seen declarations.now) (totals_seen totals) operation (body_seen body.now) (rest_of list.entry))) }
+    requires stored { IsStored (declarations_seen declarations.now) stored.now }
+    requires set { IsSet set.old }
+    ensures set { OnOk result (IsSet set.new) }
+    ensures count { IfOk result (λ count. count ≡ capped (body_conditions (declarations_seen declarations.now) (totals_seen totals) operation (body_seen body.now) (rest_of list.entry))) }
 {
     let asserts = assert_counts(alloc, list)?;
     let entry = capped_sum(totals.invariant, count_at(&asserts, Some(0)));
-    let edges = points_conditions(alloc, declarations, totals, operation, body, &asserts, list)?;
+    let edges = points_conditions(
+        alloc,
+        declarations,
+        stored,
+        set,
+        totals,
+        operation,
+        body,
+        &asserts,
+        list,
+    )?;
     let stable = capped_product(capped_total(&asserts), totals.actions);
     Ok(capped_sum(capped_sum(entry, edges), stable))
 }
@@ -100,10 +129,15 @@ fn body_conditions(
 fn bodies_conditions(
     alloc: Global,
     declarations: &Declarations<'_>,
+    stored: &Stored,
+    set: &mut ColumnSet,
     totals: Totals,
     list: Cursor<'_>,
 ) -> Result<u64, OutOfMemory>
-    ensures { IfOk result (λ count. count ≡ capped (bodies_conditions (declarations_seen declarations.now) (totals_seen totals) 0 (declarations_seen declarations.now).declared.bodies (rest_of list.entry))) }
+    requires stored { IsStored (declarations_seen declarations.now) stored.now }
+    requires set { IsSet set.old }
+    ensures set { OnOk result (IsSet set.new) }
+    ensures count { IfOk result (λ count. count ≡ capped (bodies_conditions (declarations_seen declarations.now) (totals_seen totals) 0 (declarations_seen declarations.now).declared.bodies (rest_of list.entry))) }
 {
     let mut rest = list;
     let mut operation = 0u32;
@@ -112,8 +146,20 @@ fn bodies_conditions(
         let Ok(part) = next_part(&mut rest) else {
             return Ok(count);
         };
+        if count >= COUNT_CAP {
+            return Ok(COUNT_CAP);
+        }
         let parts = parts_in(part, "body");
-        let more = body_conditions(alloc, declarations, totals, operation, body, parts)?;
+        let more = body_conditions(
+            alloc,
+            declarations,
+            stored,
+            set,
+            totals,
+            operation,
+            body,
+            parts,
+        )?;
         count = capped_sum(count, more);
         if operation == u32::MAX {
             return Err(OutOfMemory);
@@ -149,7 +195,16 @@ pub(crate) fn condition_count(
 {
     let totals = totals_of(declarations, sections)?;
     let start = capped_sum(totals.invariant, totals.idle);
-    let bodies = bodies_conditions(alloc, declarations, totals, sections.bodies)?;
+    let mut set = ColumnSet::new(alloc);
+    let stored = read_stored(alloc, &mut set, declarations)?;
+    let bodies = bodies_conditions(
+        alloc,
+        declarations,
+        &stored,
+        &mut set,
+        totals,
+        sections.bodies,
+    )?;
     let stable = capped_product(totals.idle, totals.actions);
     Ok(capped_sum(capped_sum(start, bodies), stable))
 }

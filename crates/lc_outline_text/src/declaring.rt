@@ -5,7 +5,7 @@ ghost use Rattle.lc_object_text.specs.ObjectNames as N;
 ghost use Rattle.lc_object_text.specs.Seen.{sections_seen, forms_left};
 ghost use Rattle.lc_reading.specs.TableView.{listed};
 ghost use Rattle.lc_rider_text.specs.KnownView.{ways_seen};
-ghost use Rattle.lc_outline_text.specs.Declarations.{branches_in, choices_in, parameter_count, ways_in, declarations_in, form_at};
+ghost use Rattle.lc_outline_text.specs.Declarations.{branches_in, choices_in, parameter_count, ways_in, declarations_in};
 ghost use Rattle.lc_outline_text.specs.DeclarationsView.{declarations_seen};
 ghost use Rattle.lc_outline_text.specs.Rests.{rests_of, lists_of_rests};
 
@@ -44,7 +44,7 @@ fn read_forms<'a>(
 }
 
 /// The branches or choices of an operation.
-fn branches_in<'a>(operation: Cursor<'a>) -> Cursor<'a>
+pub(crate) fn branches_in<'a>(operation: Cursor<'a>) -> Cursor<'a>
     ensures { rest_of result ≡ branches_in (rest_of operation.entry) }
 {
     behind_first(behind_first(behind_first(operation)))
@@ -123,26 +123,13 @@ pub(crate) fn read_all_declarations<'a>(
     })
 }
 
-/// What stands behind the word of the form at this place, if it stands at one; else nothing.
-pub(crate) fn form_at<'a>(forms: &[Cursor<'a>], place: Option<usize>) -> Cursor<'a>
-    ensures { rest_of result ≡ form_at (rests_of forms.now) place }
-{
-    let Some(place) = place else {
-        return Cursor::empty();
-    };
-    let Some(form) = forms.get(place) else {
-        return Cursor::empty();
-    };
-    *form
-}
-
 impl<'a> Declarations<'a> {
-    ghost use Rattle.std.specs.Prelude.{◌≡◌, IfOk};
-    ghost use Rattle.lc_sexp.specs.Shown.{rest_of};
+    ghost use Rattle.std.specs.Prelude.{◌≡◌, map, IfOk};
+    ghost use Rattle.lc_object_text.specs.ObjectNames.{first_text};
+    ghost use Rattle.lc_reading.specs.Listed.{place_of};
     ghost use Rattle.lc_rider_text.specs.KnownView.{known_seen, ways_there};
-    ghost use Rattle.lc_outline_text.specs.Declarations.{branches_in, known_of, own_ways, form_at};
+    ghost use Rattle.lc_outline_text.specs.Declarations.{choices_in, known_of, own_ways, form_at};
     ghost use Rattle.lc_outline_text.specs.DeclarationsView.{declarations_seen};
-    ghost use Rattle.lc_outline_text.specs.Sizes.{choice_named};
 
     /// What is seen of it beside the code.
     pub(crate) fn known<'b>(&'b self) -> Result<Known<'a, 'b>, OutOfMemory>
@@ -170,26 +157,11 @@ impl<'a> Declarations<'a> {
         self.ways.get(operation)
     }
 
-    /// The branches or choices of the operation at this place.
-    pub(crate) fn branches(&self, operation: Option<usize>) -> Cursor<'a>
-        ensures { rest_of result ≡ branches_in (form_at (declarations_seen self.now).operations operation) }
+    /// The place of the choice of this name, of the operation at this place.
+    pub(crate) fn choice_place(&self, operation: Option<usize>, name: &str) -> Option<usize>
+        ensures { result ≡ place_of (map first_text (choices_in (form_at (declarations_seen self.now).operations operation))) name.now }
     {
-        branches_in(form_at(&self.operations, operation))
-    }
-
-    /// What stands behind the name and the parameters of the choice of this name, of the operation at this place.
-    pub(crate) fn choice_named(&self, operation: Option<usize>, name: &str) -> Cursor<'a>
-        ensures { rest_of result ≡ choice_named (form_at (declarations_seen self.now).operations operation) name.now }
-    {
-        let Some(operation) = operation else {
-            return Cursor::empty();
-        };
-        let Some(ways) = self.ways.get(operation) else {
-            return Cursor::empty();
-        };
-        let Some(choices) = self.choices.get(operation) else {
-            return Cursor::empty();
-        };
-        behind_first(behind_first(form_at(choices, ways.choices.place(name))))
+        let ways = self.ways.get(operation?)?;
+        ways.choices.place(name)
     }
 }

@@ -9,8 +9,8 @@ ghost use Rattle.lc_outline_text.specs.Views.{totals_seen};
 ghost use Rattle.lc_outline_text.specs.Sizes.{text_at, label_place, count_at, array_columns, columns_written, asked_behind};
 
 use crate::columns_stored::system_behind;
+use crate::counts::sum_of;
 use crate::needs::stores;
-use crate::path_counts::sum_of;
 use lc_base::{ColId, OutOfMemory};
 use lc_object::EdgeKind;
 use lc_object_text::{Body, Declared, Span, behind_first, first_text};
@@ -30,10 +30,11 @@ pub(crate) struct Totals {
 fn text_at<'a>(list: Cursor<'a>, place: u8) -> &'a str
     ensures { result.now ≡ text_at place (rest_of list.entry) }
 {
-    if place == 0 {
-        return first_text(&list);
+    let mut rest = list;
+    for _ in 0..place {
+        rest = behind_first(rest);
     }
-    text_at(behind_first(list), place - 1)
+    first_text(&rest)
 }
 
 /// Which part of an instruction of this word is the label to which this edge leads.

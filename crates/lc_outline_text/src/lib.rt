@@ -2,8 +2,10 @@
 #![tactic(auto)]
 
 mod bodies;
+mod column_set;
 mod columns_stored;
 mod conditions;
+mod counts;
 mod declarations;
 mod declaring;
 mod edge_counts;
@@ -15,7 +17,9 @@ mod made;
 mod needs;
 mod path_counts;
 mod point;
+mod riders;
 mod sides;
+mod stored;
 mod ways;
 
 pub use file::development_of;

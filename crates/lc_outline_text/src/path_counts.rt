@@ -1,104 +1,111 @@
 //! The conditions of the paths of an edge, counted up to a cap.
-ghost use Rattle.std.specs.Prelude.{◌≡◌, ◌+◌, ◌++◌, ◌==◌, Some, IfOk};
-ghost use Rattle.std.specs.List.{list_any};
+ghost use Rattle.std.specs.Prelude.{◌≡◌, ◌+◌, ◌++◌, ◌≤◌, [], Some, IfOk, OnOk};
 ghost use Rattle.lc_object.specs.View.{columns_of};
-ghost use Rattle.lc_outline_text.specs.Views.{capped, way_lists};
-ghost use Rattle.lc_outline_text.specs.Sizes.{different, instance_count, path_conditions};
+ghost use Rattle.lc_outline_text.specs.Sizes.{path_conditions};
+ghost use Rattle.lc_outline_text.specs.Paths.{stands, path_number, path_at};
+ghost use Rattle.lc_outline_text.specs.StoredView.{IsSet, listed_in, riders_seen};
+ghost use Rattle.lc_outline_text.specs.Views.{capped};
 
-use crate::ways::Way;
+use crate::column_set::{ColumnSet, put_all};
+use crate::counts::{COUNT_CAP, capped_sum, sum_of};
+use crate::riders::{Rider, branching, path_number, put_common, put_way, way_count};
 use lc_base::{ColId, OutOfMemory};
 use std::alloc::Global;
 
-/// So many conditions are not told apart from more.
-const COUNT_CAP: u64 = 100_001;
-
-/// This count, or the cap where it is more.
-pub(crate) fn capped(count: u64) -> u64
-    ensures { result ≡ capped count }
+/// Puts in the columns that are stored in on the path of this number, and answers how many conditions are asked, with so many
+/// before. The number's last digit is the place of the way past the first rider, the next one of that past the second, and so on.
+fn put_path(
+    set: &mut ColumnSet,
+    riders: &[Rider<'_>],
+    number: u64,
+    before: u64,
+) -> Result<u64, OutOfMemory>
+    requires set { IsSet set.old }
+    requires some { 1 ≤ path_number (riders_seen riders.now) }
+    ensures asked { IfOk result (λ asked. asked ≡ before + (path_at (riders_seen riders.now) number).asked) }
+    ensures set { OnOk result (IsSet set.new) }
+    ensures stored { OnOk result (stands (listed_in set.new) ≡ stands (listed_in set.old ++ (path_at (riders_seen riders.now) number).columns)) }
 {
-    if count < COUNT_CAP { count } else { COUNT_CAP }
-}
-
-/// The sum of two counts, up to the cap.
-pub(crate) fn capped_sum(left: u64, right: u64) -> u64
-    ensures { result ≡ capped (left + right) }
-{
-    capped(capped(left) + capped(right))
-}
-
-/// The sum of two counts.
-pub(crate) fn sum_of(left: u64, right: u64) -> Result<u64, OutOfMemory>
-    ensures { IfOk result (λ sum. sum ≡ left + right) }
-{
-    match left.checked_add(right) {
-        Some(sum) => Ok(sum),
-        None => Err(OutOfMemory),
+    let mut asked = before;
+    let mut left = number;
+    for rider in riders {
+        let ways = way_count(rider);
+        asked = sum_of(asked, put_way(set, rider, left % ways)?)?;
+        left /= ways;
     }
+    Ok(asked)
 }
 
-fn is_among(columns: &[ColId], column: ColId) -> bool
-    ensures { result ≡ list_any (λ other. other == column.0) (columns_of columns.now) }
-{
-    columns
-        .iter()
-        .map(|other| other.0)
-        .any(|other| other == column.0)
-}
-
-/// How many different columns there are.
-fn different(columns: &[ColId]) -> Result<u64, OutOfMemory>
-    ensures { IfOk result (λ count. count ≡ different (columns_of columns.now)) }
-{
-    let Some((first, others)) = columns.split_first() else {
-        return Ok(0);
-    };
-    let more = different(others)?;
-    if is_among(others, *first) {
-        return Ok(more);
-    }
-    sum_of(1, more)
-}
-
-/// These columns, and behind them those.
-fn joined(alloc: Global, left: &[ColId], right: &[ColId]) -> Result<Vec<ColId>, OutOfMemory>
-    ensures { IfOk result (λ all. columns_of all.items ≡ columns_of left.now ++ columns_of right.now) }
-{
-    let mut all = Vec::new(alloc);
-    all.extend_from_slice(left)?;
-    all.extend_from_slice(right)?;
-    Ok(all)
-}
-
-/// How many conditions ask of a path that stores in these columns that it is an instance of an action that stores in those.
-fn instance_count(alloc: Global, action: &[ColId], columns: &[ColId]) -> Result<u64, OutOfMemory>
-    ensures { IfOk result (λ count. count ≡ instance_count (Some (columns_of action.now)) (columns_of columns.now)) }
-{
-    let all = joined(alloc, columns, action)?;
-    sum_of(1, different(&all)?)
-}
-
-/// The conditions of the paths that pass these riders, at an edge where an action stores in these columns, where so many are
-/// asked before and these columns stored in; up to the cap.
-pub(crate) fn path_conditions(
-    alloc: Global,
-    action: &[ColId],
-    riders: &[Vec<Way>],
+/// The conditions of the path of this number, where so many are asked and these columns stored in beside it.
+fn conditions_on(
+    set: &mut ColumnSet,
+    riders: &[Rider<'_>],
+    number: u64,
     asked: u64,
     columns: &[ColId],
 ) -> Result<u64, OutOfMemory>
-    ensures { IfOk result (λ count. count ≡ capped (path_conditions (Some (columns_of action.now)) (way_lists riders.now) asked (columns_of columns.now))) }
+    requires set { IsSet set.old }
+    requires some { 1 ≤ path_number (riders_seen riders.now) }
+    ensures count { IfOk result (λ count. count ≡ path_conditions (Some []) [] (asked + (path_at (riders_seen riders.now) number).asked) (columns_of columns.now ++ (path_at (riders_seen riders.now) number).columns)) }
+    ensures set { OnOk result (IsSet set.new) }
 {
-    let Some((ways, others)) = riders.split_first() else {
-        return Ok(capped_sum(asked, instance_count(alloc, action, columns)?));
-    };
+    set.clear()?;
+    put_all(set, columns)?;
+    let asked = put_path(set, riders, number, asked)?;
+    let stored = sum_of(1, set.len())?;
+    let count = sum_of(asked, stored)?;
+    Ok(count)
+}
+
+/// The conditions of this many paths, which are all that pass these riders, up to the cap.
+fn conditions_on_all(
+    set: &mut ColumnSet,
+    riders: &[Rider<'_>],
+    paths: u64,
+    asked: u64,
+    columns: &[ColId],
+) -> Result<u64, OutOfMemory>
+    requires set { IsSet set.old }
+    requires all { paths ≡ path_number (riders_seen riders.now) }
+    ensures count { IfOk result (λ count. count ≡ capped (path_conditions (Some []) (riders_seen riders.now) asked (columns_of columns.now))) }
+    ensures set { OnOk result (IsSet set.new) }
+{
     let mut count = 0;
-    for way in ways {
+    for number in 0..paths {
         if count >= COUNT_CAP {
             return Ok(COUNT_CAP);
         }
-        let stored = joined(alloc, columns, &way.columns)?;
-        let more = path_conditions(alloc, action, others, sum_of(asked, way.asked)?, &stored)?;
+        let more = conditions_on(set, riders, number, asked, columns)?;
         count = capped_sum(count, more);
     }
+    Ok(count)
+}
+
+/// The conditions of the paths that pass these riders, at an edge where an action stores in these columns, where so many are
+/// asked before and these columns stored in; up to the cap. What is done on each path alike is told once, and each path then
+/// costs no more than the conditions that it has.
+pub(crate) fn path_conditions(
+    alloc: Global,
+    set: &mut ColumnSet,
+    action: &[ColId],
+    riders: &[Rider<'_>],
+    asked: u64,
+    columns: &[ColId],
+) -> Result<u64, OutOfMemory>
+    requires { IsSet set.old }
+    ensures count { IfOk result (λ count. count ≡ capped (path_conditions (Some (columns_of action.now)) (riders_seen riders.now) asked (columns_of columns.now))) }
+    ensures set { OnOk result (IsSet set.new) }
+{
+    let paths = path_number(riders);
+    if paths >= COUNT_CAP {
+        return Ok(COUNT_CAP);
+    }
+    set.clear()?;
+    put_all(set, columns)?;
+    put_all(set, action)?;
+    let asked = put_common(set, riders, asked)?;
+    let stored = set.columns()?;
+    let those = branching(alloc, riders)?;
+    let count = conditions_on_all(set, &those, paths, asked, &stored)?;
     Ok(count)
 }

@@ -7,6 +7,7 @@ pub mod Taken
 pub mod Listed
 pub mod Copied
 pub mod NodeReplacement
+pub mod Chained
 pub mod ByNumber
 pub mod NodeClosed
 pub mod Entries

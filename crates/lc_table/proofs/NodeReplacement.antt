@@ -11,7 +11,6 @@ use Rattle.lc_table.specs.declared.node.FormulaNode.{FormulaNode}
 use Rattle.lc_table.specs.Nodes.{Part, term, column, part_of, PartFits, tree_of}
 use Rattle.lc_table.specs.NodeTables.{Table}
 use Rattle.lc_term.specs.Replacement.{Replacement, replace_term, replace_column}
-use Rattle.lc_term.specs.Syntax as S
 use Rattle.lc_table.specs.Tables.{parts, formulas, term_in, column_in, formula_in, HasTerm, HasColumn, HasFormula, IsTerm, IsColumn, IsFormula, Keeps}
 use Rattle.lc_table.specs.NodeReplacement.{as_part, part_in, replaced_part, AreReplaced}
 use Rattle.lc_table.proofs.Rows.{kept_left}

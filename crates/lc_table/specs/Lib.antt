@@ -1,5 +1,6 @@
 pub mod Copies
 pub mod Filling
+pub mod NodeChains
 pub mod NodeClosed
 pub mod NodeReplacement
 pub mod NodeTables

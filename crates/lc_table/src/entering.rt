@@ -1,12 +1,13 @@
 //! Trees entered in a table.
-ghost use Rattle.std.specs.Prelude.{◌≡◌, IfOk};
+ghost use Rattle.std.specs.Prelude.{◌≡◌, false, IfOk};
+ghost use Rattle.lc_term.specs.Chains.{is_store};
 ghost use Rattle.lc_term.specs.View.{term_of, column_of, formula_of, formulas_of};
 ghost use Rattle.lc_table.specs.Tables.{formulas_in, AreFormulas, HasTerm, HasColumn, HasFormula, Keeps};
 
 use crate::node::{ColExprId, FormulaId, TermId};
 use crate::table::Terms;
 use lc_base::OutOfMemory;
-use lc_term::{ColExpr, Formula, Term};
+use lc_term::{ColExpr, Formula, Term, chain_of};
 use std::alloc::Global;
 
 impl Terms {
@@ -50,15 +51,26 @@ impl Terms {
         ensures id { IfOk result (λ k. HasColumn self.new k (column_of column.now)) }
         ensures kept { Keeps self.old self.new }
     {
-        match column {
+        let mut chain = chain_of(self.allocator(), column)?;
+        let mut entered = self.enter_base(chain.base)?;
+        'stores: while let Some(store) = chain.stores.pop() {
+            let index = self.enter_term(store.index)?;
+            let value = self.enter_term(store.value)?;
+            entered = self.store(entered, index, value)?;
+        }
+        Ok(entered)
+    }
+
+    // The number of a column expression that is no store.
+    fn enter_base(&mut self, base: &ColExpr) -> Result<ColExprId, OutOfMemory>
+        requires { is_store (column_of base.now) ≡ false }
+        ensures id { IfOk result (λ k. HasColumn self.new k (column_of base.now)) }
+        ensures kept { Keeps self.old self.new }
+    {
+        match base {
             ColExpr::Base(column) => self.base(*column),
-            ColExpr::Store(column, index, value) => {
-                let column = self.enter_column(column)?;
-                let index = self.enter_term(index)?;
-                let value = self.enter_term(value)?;
-                self.store(column, index, value)
-            }
             ColExpr::Affine(slope, start) => self.affine(*slope, *start),
+            ColExpr::Store(..) => unreachable!(),
         }
     }
 

@@ -2,6 +2,7 @@
 #![tactic(auto)]
 
 mod building;
+mod chains;
 mod copying;
 mod entering;
 mod filling;
@@ -15,6 +16,7 @@ mod replacing;
 mod table;
 mod trees;
 
+pub use chains::NodeChain;
 pub use node::{ColExprId, FormulaId, FormulaNode, TermId, TermNode};
 pub use put::{Put, PutColumns, PutVariables, ReplacedNodes, nothing_replaced};
 pub use put_numbers::PutNumbers;

@@ -55,6 +55,11 @@ impl Terms {
         }
     }
 
+    // The memory that the table has its entries in.
+    pub(crate) fn allocator(&self) -> Global {
+        *self.terms.allocator()
+    }
+
     /// How many entries there are, of terms, column expressions and formulas together.
     pub fn len(&self) -> usize
         ensures { result ≡ min (length (parts self.now) + length (formulas self.now)) (2 ^ 64 - 1) }

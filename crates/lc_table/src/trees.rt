@@ -1,12 +1,14 @@
 //! The trees that numbers of a table stand for.
-ghost use Rattle.std.specs.Prelude.{◌≡◌, IfOk};
+ghost use Rattle.std.specs.Prelude.{◌≡◌, true, false, IfOk};
+ghost use Rattle.lc_term.specs.Chains.{is_store};
+ghost use Rattle.lc_table.specs.NodeChains.{stored_to};
 ghost use Rattle.lc_term.specs.View.{term_of, column_of, formula_of, formulas_of};
 ghost use Rattle.lc_table.specs.Tables.{term_in, column_in, formula_in, formulas_in, IsTerm, IsColumn, IsFormula, AreFormulas};
 
 use crate::node::{ColExprId, FormulaId, FormulaNode, TermId, TermNode};
 use crate::table::Terms;
 use lc_base::OutOfMemory;
-use lc_term::{ColExpr, Formula, Term};
+use lc_term::{ColExpr, Formula, Term, with_store};
 use std::alloc::Global;
 
 impl Terms {
@@ -46,14 +48,46 @@ impl Terms {
         requires { IsColumn self.now column }
         ensures { IfOk result (λ tree. column_of tree ≡ column_in self.now column) }
     {
-        match self.column_node(column) {
-            TermNode::Base(column) => Ok(ColExpr::Base(column)),
-            TermNode::Store(column, index, value) => Ok(ColExpr::Store(
-                Box::new(alloc, self.column(alloc, column)?)?,
-                Box::new(alloc, self.term(alloc, index)?)?,
-                Box::new(alloc, self.term(alloc, value)?)?,
-            )),
-            TermNode::Affine(slope, start) => Ok(ColExpr::Affine(slope, start)),
+        let mut chain = self.chain(alloc, column)?;
+        let mut tree = self.base_tree(chain.base);
+        'stores: while let Some(store) = chain.stores.pop() {
+            tree = self.with_store_tree(alloc, tree, store)?;
+        }
+        Ok(tree)
+    }
+
+    // The column expression of a number, which is no store.
+    fn base_tree(&self, base: ColExprId) -> ColExpr
+        requires column { IsColumn self.now base }
+        requires base { is_store (column_in self.now base) ≡ false }
+        ensures { column_of result ≡ column_in self.now base }
+    {
+        match self.column_node(base) {
+            TermNode::Base(column) => ColExpr::Base(column),
+            TermNode::Affine(slope, start) => ColExpr::Affine(slope, start),
+            _ => unreachable!(),
+        }
+    }
+
+    // The store of a number, where what it stores to has this tree.
+    #[cycle(term)]
+    fn with_store_tree(
+        &self,
+        alloc: Global,
+        below: ColExpr,
+        store: ColExprId,
+    ) -> Result<ColExpr, OutOfMemory>
+        requires column { IsColumn self.now store }
+        requires store { is_store (column_in self.now store) ≡ true }
+        requires below { column_of below ≡ stored_to (column_in self.now store) }
+        ensures { IfOk result (λ tree. column_of tree ≡ column_in self.now store) }
+    {
+        match self.column_node(store) {
+            TermNode::Store(_, index, value) => {
+                let index = self.term(alloc, index)?;
+                let value = self.term(alloc, value)?;
+                Ok(with_store(alloc, below, index, value)?)
+            }
             _ => unreachable!(),
         }
     }

@@ -1,4 +1,5 @@
 pub mod Lists
+pub mod Chained
 pub mod Stable
 pub mod Truth
 pub mod Replacement

@@ -1,4 +1,5 @@
 pub mod Bound
+pub mod Chains
 pub mod Computed
 pub mod Counter
 pub mod Equal

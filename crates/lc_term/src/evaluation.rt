@@ -58,16 +58,18 @@ fn read_cell(expression: &ColExpr, index: i64, state: &State, env: &Env) -> Resu
         let c = column_of expression.now in
         OkIff result (CellFits s e c index) (column s e outside c index) }
 {
-    match expression {
-        ColExpr::Base(column) => state.read(*column, index),
-        ColExpr::Store(column, stored_index, stored) => {
-            if eval_term(stored_index, state, env)? == index {
-                eval_term(stored, state, env)
-            } else {
-                read_cell(column, index, state, env)
+    let mut rest = expression;
+    'stores: loop {
+        match rest {
+            ColExpr::Base(column) => return state.read(*column, index),
+            ColExpr::Store(below, stored_index, stored) => {
+                if eval_term(stored_index, state, env)? == index {
+                    return eval_term(stored, state, env);
+                }
+                rest = below;
             }
+            ColExpr::Affine(slope, start) => return affine_cell(*slope, *start, index),
         }
-        ColExpr::Affine(slope, start) => affine_cell(*slope, *start, index),
     }
 }
 

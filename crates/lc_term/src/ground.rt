@@ -53,10 +53,16 @@ pub fn is_closed(term: &Term) -> bool
 fn is_closed_column(column: &ColExpr) -> bool
     ensures { result ≡ column_passes no_bounds (column_of column.now) }
 {
-    match column {
-        ColExpr::Base(_) | ColExpr::Affine(..) => true,
-        ColExpr::Store(column, index, value) => {
-            is_closed_column(column) && is_closed(index) && is_closed(value)
+    let mut rest = column;
+    'stores: loop {
+        match rest {
+            ColExpr::Base(_) | ColExpr::Affine(..) => return true,
+            ColExpr::Store(below, index, value) => {
+                if !is_closed(index) || !is_closed(value) {
+                    return false;
+                }
+                rest = below;
+            }
         }
     }
 }

@@ -1,6 +1,7 @@
 //! Terms, column expressions and formulas: what they mean, how they are computed.
 #![tactic(auto)]
 
+mod chain;
 mod evaluation;
 mod formula;
 mod ground;
@@ -12,6 +13,7 @@ mod substitution;
 mod term;
 mod update;
 
+pub use chain::{Chain, StoreAt, base_of, chain_of, with_store};
 pub use evaluation::{eval, eval_term};
 pub use formula::{Formula, copy_formulas};
 pub use ground::{is_closed, is_ground_of_quantifiers};

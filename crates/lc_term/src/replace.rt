@@ -1,10 +1,12 @@
-ghost use Rattle.std.specs.Prelude.{◌≡◌, ℕ, IfOk, IsTrue};
+ghost use Rattle.std.specs.Prelude.{◌≡◌, ℕ, false, IfOk, IsTrue};
+ghost use Rattle.lc_term.specs.Chains.{is_store};
 ghost use Rattle.lc_term.specs.Counter.{HasCounted};
 ghost use Rattle.lc_term.specs.Places.{Test, term_passes, column_passes, passes, all_pass};
 ghost use Rattle.lc_term.specs.Replacement.{Replacement, under_many, replace_term, replace_column, replace, replace_all};
 ghost use Rattle.lc_term.specs.Syntax.{formulas};
 ghost use Rattle.lc_term.specs.View.{term_of, column_of, formula_of, formulas_of};
 
+use crate::chain::{chain_of, with_store};
 use crate::formula::Formula;
 use crate::term::{ColExpr, Term};
 use lc_base::{ColId, OutOfMemory};
@@ -70,6 +72,25 @@ pub(crate) fn replaced_term<R: Replacing>(
     }
 }
 
+// What is stored to, replaced.
+fn replaced_base<R: Replacing>(
+    alloc: Global,
+    base: &ColExpr,
+    put: &R,
+    depth: u64,
+) -> Result<ColExpr, OutOfMemory>
+    requires { is_store (column_of base.now) ≡ false }
+    ensures { IfOk result (λ replaced.
+        (n : ℕ) → HasCounted depth n → IsTrue (column_passes (R.fits put.now n) (column_of base.now)) →
+        column_of replaced ≡ replace_column (under_many n (R.replacement put.now)) (column_of base.now)) }
+{
+    match base {
+        ColExpr::Base(column) => put.column(alloc, *column, depth),
+        ColExpr::Affine(slope, start) => Ok(ColExpr::Affine(*slope, *start)),
+        ColExpr::Store(..) => unreachable!(),
+    }
+}
+
 #[cycle(replaced_term)]
 fn replaced_column<R: Replacing>(
     alloc: Global,
@@ -81,15 +102,14 @@ fn replaced_column<R: Replacing>(
         (n : ℕ) → HasCounted depth n → IsTrue (column_passes (R.fits put.now n) (column_of column.now)) →
         column_of replaced ≡ replace_column (under_many n (R.replacement put.now)) (column_of column.now)) }
 {
-    match column {
-        ColExpr::Base(column) => put.column(alloc, *column, depth),
-        ColExpr::Store(column, index, value) => Ok(ColExpr::Store(
-            Box::new(alloc, replaced_column(alloc, column, put, depth)?)?,
-            Box::new(alloc, replaced_term(alloc, index, put, depth)?)?,
-            Box::new(alloc, replaced_term(alloc, value, put, depth)?)?,
-        )),
-        ColExpr::Affine(slope, start) => Ok(ColExpr::Affine(*slope, *start)),
+    let mut chain = chain_of(alloc, column)?;
+    let mut replaced = replaced_base(alloc, chain.base, put, depth)?;
+    'stores: while let Some(store) = chain.stores.pop() {
+        let index = replaced_term(alloc, store.index, put, depth)?;
+        let value = replaced_term(alloc, store.value, put, depth)?;
+        replaced = with_store(alloc, replaced, index, value)?;
     }
+    Ok(replaced)
 }
 
 /// The formula with what `put` puts in, below as many quantifiers as `depth` counts.

@@ -4,6 +4,7 @@ ghost use Rattle.lc_term.specs.Equal.{term_eq, column_eq};
 ghost use Rattle.lc_term.specs.EqualLaws.{term_eq_equiv, column_eq_equiv};
 ghost use Rattle.std.specs.Cmp.{on_equiv, partial_equiv_from_equiv};
 
+use crate::chain::{base_of, chain_of, with_store};
 use lc_base::{ColId, OutOfMemory};
 use std::alloc::Global;
 
@@ -51,12 +52,15 @@ impl Drop for Term {
     }
 }
 
+// By a loop, so that a long chain of stores is let go in little stack.
 impl Drop for ColExpr {
     #[cycle(drop_term)]
-    fn drop(self) {
-        match self {
-            ColExpr::Base(_) | ColExpr::Affine(_, _) => {}
-            ColExpr::Store(_, _, _) => {}
+    fn drop(mut self) {
+        loop {
+            match self {
+                ColExpr::Base(_) | ColExpr::Affine(_, _) => return,
+                ColExpr::Store(column, _, _) => self = Box::into_inner(column),
+            }
         }
     }
 }
@@ -97,15 +101,14 @@ impl ColExpr {
     pub fn try_clone(&self, alloc: Global) -> Result<ColExpr, OutOfMemory>
         ensures { IfOk result (λ copy. column_of copy ≡ column_of self.now) }
     {
-        match self {
-            ColExpr::Base(column) => Ok(ColExpr::Base(*column)),
-            ColExpr::Store(column, index, value) => Ok(ColExpr::Store(
-                Box::new(alloc, column.try_clone(alloc)?)?,
-                Box::new(alloc, index.try_clone(alloc)?)?,
-                Box::new(alloc, value.try_clone(alloc)?)?,
-            )),
-            ColExpr::Affine(slope, start) => Ok(ColExpr::Affine(*slope, *start)),
+        let mut chain = chain_of(alloc, self)?;
+        let mut copy = base_of(chain.base);
+        'stores: while let Some(store) = chain.stores.pop() {
+            let index = store.index.try_clone(alloc)?;
+            let value = store.value.try_clone(alloc)?;
+            copy = with_store(alloc, copy, index, value)?;
         }
+        Ok(copy)
     }
 }
 
@@ -157,12 +160,19 @@ fn is_same_term(left: &Term, right: &Term) -> bool
 fn is_same_column(left: &ColExpr, right: &ColExpr) -> bool
     ensures { result ≡ column_eq (column_of left.now) (column_of right.now) }
 {
-    match (left, right) {
-        (ColExpr::Base(c), ColExpr::Base(d)) => c == d,
-        (ColExpr::Store(c, i, v), ColExpr::Store(d, j, w)) => {
-            is_same_column(c, d) && is_same_term(i, j) && is_same_term(v, w)
+    let (mut mine, mut other) = (left, right);
+    'stores: loop {
+        match (mine, other) {
+            (ColExpr::Base(c), ColExpr::Base(d)) => return c == d,
+            (ColExpr::Store(c, i, v), ColExpr::Store(d, j, w)) => {
+                if !is_same_term(i, j) || !is_same_term(v, w) {
+                    return false;
+                }
+                mine = c;
+                other = d;
+            }
+            (ColExpr::Affine(a, b), ColExpr::Affine(c, d)) => return a == c && b == d,
+            _ => return false,
         }
-        (ColExpr::Affine(a, b), ColExpr::Affine(c, d)) => a == c && b == d,
-        _ => false,
     }
 }

@@ -7,6 +7,7 @@ use crate::reason::Reason;
 use crate::row::Row;
 use crate::stop::Stop;
 use lc_linear::LinForm;
+use lc_table::TermId;
 
 /// A sum without its constant, whose coefficients have no common divisor, and of which the first is above 0.
 #[derive(Drop)]
@@ -39,16 +40,15 @@ fn divided(coefficients: Vec<Coefficient>) -> Result<Normal, Stop> {
 }
 
 impl Tableau {
-    /// The sum of a form's atoms.
-    fn normal(&mut self, form: &LinForm) -> Result<Normal, Stop> {
-        let mut coefficients = Vec::with_capacity(self.alloc, form.atom_count())?;
-        for place in 0..form.atom_count() {
-            if let Some((atom, number)) = form.atom_at(place)
-                && number != 0
-            {
-                let variable = self.variable_of(atom)?;
-                coefficients.push(Coefficient { variable, number })?;
-            }
+    /// A sum of atoms, each of which stands in it once.
+    fn normal(&mut self, summands: &[(TermId, i128)]) -> Result<Normal, Stop> {
+        let mut coefficients = Vec::with_capacity(self.alloc, summands.len())?;
+        for (atom, number) in summands {
+            let variable = self.variable_of(*atom)?;
+            coefficients.push(Coefficient {
+                variable,
+                number: *number,
+            })?;
         }
         coefficients.sort_by_key(|coefficient| coefficient.variable)?;
         divided(coefficients)
@@ -101,6 +101,19 @@ impl Tableau {
         }
     }
 
+    /// The atoms of a form that stand in it.
+    fn summands(&self, form: &LinForm) -> Result<Vec<(TermId, i128)>, Stop> {
+        let mut summands = Vec::with_capacity(self.alloc, form.atom_count())?;
+        for place in 0..form.atom_count() {
+            if let Some((atom, number)) = form.atom_at(place)
+                && number != 0
+            {
+                summands.push((atom, number))?;
+            }
+        }
+        Ok(summands)
+    }
+
     /// Takes a fact in: its form is at most 0, or just 0. Why it contradicts the bounds is answered where that shows at once.
     pub fn assert(
         &mut self,
@@ -108,9 +121,21 @@ impl Tableau {
         fact: usize,
         is_equation: bool,
     ) -> Result<Option<Vec<Reason>>, Stop> {
-        let normal = self.normal(form)?;
+        let summands = self.summands(form)?;
+        self.assert_sum(&summands, form.constant(), fact, is_equation)
+    }
+
+    /// The same of a sum of atoms, each of which stands in it once and not 0 times, and a constant.
+    pub fn assert_sum(
+        &mut self,
+        summands: &[(TermId, i128)],
+        constant: i128,
+        fact: usize,
+        is_equation: bool,
+    ) -> Result<Option<Vec<Reason>>, Stop> {
+        let normal = self.normal(summands)?;
         if normal.coefficients.is_empty() {
-            return self.assert_constant(form.constant(), fact, is_equation);
+            return self.assert_constant(constant, fact, is_equation);
         }
         let divisor = normal.divisor;
         let Normal {
@@ -118,7 +143,7 @@ impl Tableau {
             divisor: _,
         } = normal;
         let variable = self.sum_of(coefficients)?;
-        let value = Rational::whole(form.constant())
+        let value = Rational::whole(constant)
             .negated()?
             .over(Rational::whole(divisor))?;
         let factor = Rational::ratio(1, divisor)?;

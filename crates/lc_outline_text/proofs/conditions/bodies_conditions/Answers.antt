@@ -1,13 +1,13 @@
 use Rattle.std.proofs.Common.{arith}
 use Rattle.lc_sexp.specs.Shown.{rest_of}
-use Rattle.lc_outline_text.proofs.Counting.{counted, counted_more, few_counted}
+use Rattle.lc_outline_text.proofs.Counting.{counted, counted_more, enough, few_counted}
 use Rattle.lc_outline_text.proofs.Walks.{no_trees, no_bodies, body_more}
 use Rattle.lc_outline_text.specs.DeclarationsView.{declarations_seen}
 use Rattle.lc_outline_text.specs.Views.{totals_seen}
 use Rattle.lc_outline_text.proofs.conditions.bodies_conditions.Goals as goal
 
-pub returns-in_default : goal.returns-in_default
-returns-in_default c =
+pub returns-in_default-clause-count : goal.returns-in_default-clause-count
+returns-in_default-clause-count c =
     let d = declarations_seen c.args.declarations.now in
     let n = totals_seen c.args.totals in
     counted c.loop-body.count _ _ c.loop-body.invariant.few (no_trees d n c.loop-body.operation _ (rest_of c.loop-body.rest) c.in_default.ensures.1) c.loop-body.invariant.conditions
@@ -18,7 +18,8 @@ loop-body-preserved c =
     let n = totals_seen c.args.totals in
     let (at, next) = c.in-Ok.ensures in
     record {
-      conditions = counted_more c.loop-body.count c.in_ok-more.more _ _ _ c.capped_sum-count.result _ c.in_ok-more.ensures c.capped_sum-count.ensures
+      set = c.in_ok-more.ensures.set;
+      conditions = counted_more c.loop-body.count c.in_ok-more.more _ _ _ c.capped_sum-count.result _ c.in_ok-more.ensures.count c.capped_sum-count.ensures
           (body_more d n c.loop-body.operation c.loop-body.body-index c.args.declarations.now.declared.bodies.items c.deref-body-items.result.now c.body-item.result c.loop-body.rest c.next_part.new.list c.in-Ok.part
           (rest_of c.parts_in-parts.result) c.loop-body-test.true c.deref-body-items.ensures.value c.body-item.is next.rest c.parts_in-parts.ensures)
           c.loop-body.invariant.conditions;
@@ -26,10 +27,13 @@ loop-body-preserved c =
       number = omega (arith, c.loop-body.invariant.number);
     }
 
-pub returns : goal.returns
-returns c =
+pub returns-clause-count : goal.returns-clause-count
+returns-clause-count c =
     let d = declarations_seen c.args.declarations.now in
     let n = totals_seen c.args.totals in
     counted c.loop-body.count _ _ c.loop-body.invariant.few
     (no_bodies d n c.loop-body.operation c.loop-body.body-index c.args.declarations.now.declared.bodies.items c.deref-body-items.result.now (rest_of c.loop-body.rest) c.loop-body-test.false c.deref-body-items.ensures.value)
     c.loop-body.invariant.conditions
+
+pub returns-then-count-ge-COUNT_CAP-clause-count : goal.returns-then-count-ge-COUNT_CAP-clause-count
+returns-then-count-ge-COUNT_CAP-clause-count c = enough c.loop-body.count _ _ c.if-count-ge-COUNT_CAP.true c.loop-body.invariant.few c.loop-body.invariant.conditions

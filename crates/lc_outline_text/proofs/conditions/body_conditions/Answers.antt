@@ -9,8 +9,8 @@ use Rattle.lc_outline_text.specs.Sizes.{assert_count, count_at, point_conditions
 use Rattle.lc_outline_text.specs.Views.{capped, totals_seen}
 use Rattle.lc_outline_text.proofs.conditions.body_conditions.Goals as goal
 
-pub returns : goal.returns
-returns c =
+pub returns-clause-count : goal.returns-clause-count
+returns-clause-count c =
     let points = points_in (rest_of c.args.list) in
     let asserts = map assert_count points in
     let each = λ (counts : List ℕ). point_conditions (declarations_seen c.args.declarations.now) (totals_seen c.args.totals) c.args.operation (body_seen c.args.body.now) counts in
@@ -18,5 +18,5 @@ returns c =
     whole_counted c.args.totals.invariant (count_at asserts (Some 0)) (sum_by (each asserts) points) (sum asserts) c.args.totals.actions c.capped_sum-entry.result c.in_ok-edges.edges c.capped_total.result
     c.capped_product-stable.result c.capped_sum.result c.capped_sum-2.result
     (c.capped_sum-entry.ensures ∙ ap (λ n. capped (c.args.totals.invariant + n)) entry)
-    (c.in_ok-edges.ensures ∙ ap (λ counts. capped (sum_by (each counts) points)) (c.deref-2.ensures.value ∙ c.in_ok-asserts.ensures))
+    (c.in_ok-edges.ensures.count ∙ ap (λ counts. capped (sum_by (each counts) points)) (c.deref-2.ensures.value ∙ c.in_ok-asserts.ensures))
     (c.capped_total.ensures ∙ ap (λ counts. capped (sum counts)) (c.deref-3.ensures.value ∙ c.in_ok-asserts.ensures)) c.capped_product-stable.ensures c.capped_sum.ensures c.capped_sum-2.ensures

@@ -2,15 +2,15 @@ use Rattle.std.proofs.Common.{ap}
 use Rattle.std.specs.Prelude.{sum_by}
 use Rattle.lc_sexp.specs.Shown.{rest_of}
 use Rattle.lc_object_text.specs.DeclaredView.{body_seen}
-use Rattle.lc_outline_text.proofs.Counting.{counted, counted_more, few_counted}
+use Rattle.lc_outline_text.proofs.Counting.{counted, counted_more, enough, few_counted}
 use Rattle.lc_outline_text.proofs.Walks.{point_more}
 use Rattle.lc_outline_text.specs.DeclarationsView.{declarations_seen}
 use Rattle.lc_outline_text.specs.Sizes.{point_conditions}
 use Rattle.lc_outline_text.specs.Views.{totals_seen}
 use Rattle.lc_outline_text.proofs.conditions.points_conditions.Goals as goal
 
-pub returns-in_default : goal.returns-in_default
-returns-in_default c =
+pub returns-in_default-clause-count : goal.returns-in_default-clause-count
+returns-in_default-clause-count c =
     let each = point_conditions (declarations_seen c.args.declarations.now) (totals_seen c.args.totals) c.args.operation (body_seen c.args.body.now) c.args.asserts.now in
     counted c.points.count _ _ c.points.invariant.few (ap (sum_by each) c.in_default.ensures) c.points.invariant.counted
 
@@ -18,7 +18,11 @@ pub points-preserved : goal.points-preserved
 points-preserved c =
     let each = point_conditions (declarations_seen c.args.declarations.now) (totals_seen c.args.totals) c.args.operation (body_seen c.args.body.now) c.args.asserts.now in
     record {
+      set = c.in_ok-more.ensures.set;
       few = few_counted c.capped_sum-count.result _ c.capped_sum-count.ensures;
-      counted = counted_more c.points.count c.in_ok-more.more (each (rest_of c.in-Some.point)) _ _ c.capped_sum-count.result _ c.in_ok-more.ensures c.capped_sum-count.ensures
+      counted = counted_more c.points.count c.in_ok-more.more (each (rest_of c.in-Some.point)) _ _ c.capped_sum-count.result _ c.in_ok-more.ensures.count c.capped_sum-count.ensures
           (point_more each c.points.some c.points.rest c.in-Some.point c.next_form.new.list c.in-Some.ensures) c.points.invariant.counted;
     }
+
+pub returns-then-count-ge-COUNT_CAP-clause-count : goal.returns-then-count-ge-COUNT_CAP-clause-count
+returns-then-count-ge-COUNT_CAP-clause-count c = enough c.points.count _ _ c.if-count-ge-COUNT_CAP.true c.points.invariant.few c.points.invariant.counted

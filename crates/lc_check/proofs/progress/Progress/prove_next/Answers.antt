@@ -1,48 +1,26 @@
-use Rattle.std.proofs.Common.{◌+◌, [], ◌∷◌, ◌++◌, drop, Err, refl, sym, ap, ◌∙◌, subst}
+use Rattle.std.proofs.Common.{[], ◌∷◌, ◌++◌, Err, refl, sym, ap, ◌∙◌, subst}
 use Rattle.lc_kernel.specs.View.{proof_of}
 use Rattle.lc_outline.specs.DevelopmentView.{development_shown}
 use Rattle.lc_cert.specs.Certificates.{Entry}
-use Rattle.lc_cond.specs.ConditionView.{condition_in, AreConditions}
-use Rattle.lc_check.proofs.Stepping.{first_left, due_behind, next_due, next_bounded, still_known, still_due, one_proved, refused_certain}
-use Rattle.lc_check.specs.Answers.{ProvesOne}
+use Rattle.lc_check.proofs.Stepping.{refused_certain}
 use Rattle.lc_check.specs.Progress.{IsProgressTelling}
-use Rattle.lc_check.specs.declared.progress.Progress.{Progress}
+use Rattle.lc_check.specs.Walking.{IsProvenOn}
 use Rattle.lc_check.proofs.progress.Progress.prove_next.Goals as goal
 
-pub prove_one-requires-clause-bounded : goal.prove_one-requires-clause-bounded
-prove_one-requires-clause-bounded c =
+pub returns-in-Ok : goal.returns-in-Ok
+returns-in-Ok c = λ taken h.
     let d = development_shown c.args.development.now in
-    let old = c.args.self.now in
-    let x = c.index-condition.result.now in
-    let rest = drop (old.place + 1) old.part.items in
-    let left = first_left old.part.items old.place x c.requires.stands c.index-condition.ensures in
-    next_bounded d c.requires.in_turn.0 old (condition_in old.terms x) (due_behind d old.terms rest old) c.conditions_use_their_variables.ensures c.conditions_have_few_variables.ensures c.requires.in_turn.1
-    (next_due d old x rest left)
-
-pub returns-in_ok-self-in-Ok : goal.returns-in_ok-self-in-Ok
-returns-in_ok-self-in-Ok c = λ taken h.
-    let d = development_shown c.args.development.now in
-    let old = c.args.self.now in
-    let x = c.index-condition.result.now in
-    let seen = condition_in old.terms x in
+    let old = c.args.self.now.walk in
+    let new = c.prove_next.new.self in
     let e : Entry = record { number = old.next; proof = proof_of c.args.proof.now } in
-    let new : Progress = record { stream = old.stream; terms = c.prove_one.new.terms; part = old.part; place = old.place + 1; next = c.in_ok-self-in-Ok.field-0; told = old.told } in
-    let rest = drop (old.place + 1) old.part.items in
-    let left = first_left old.part.items old.place x c.requires.stands c.index-condition.ensures in
-    let known = subst (AreConditions old.terms) left h.known in
-    let kept = c.prove_one.ensures.kept in
-    let due = next_due d old x rest left ∙ ap (λ l. seen ∷ l) (still_due d old new rest refl refl known.1 kept) in
-    let done = one_proved d taken old new seen e h due refl c.in_ok-self-in-Ok.ensures c.in-Ok.ensures.exactly (still_known old.terms new.terms rest known.1 kept) in
-    subst (λ o. IsProgressTelling d (taken ++ e ∷ []) new o) (sym c.requires.untold) done
+    subst (λ o. IsProgressTelling d (taken ++ e ∷ []) new o) (sym c.requires.untold) (c.in-Ok.ensures.taken taken h)
 
 pub returns-in-Err-Refused : goal.returns-in-Err-Refused
 returns-in-Err-Refused c = λ taken h.
     let d = development_shown c.args.development.now in
-    let old = c.args.self.now in
-    let x = c.index-condition.result.now in
-    let seen = condition_in old.terms x in
+    let old = c.args.self.now.walk in
+    let new = c.prove_next.new.self in
     let proof = proof_of c.args.proof.now in
-    let rest = drop (old.place + 1) old.part.items in
-    let left = first_left old.part.items old.place x c.requires.stands c.index-condition.ensures in
-    let unproved = subst (ProvesOne old.next seen proof) (c.in-Err-Refused.is ∙ ap Err c.in-Err-Refused.field-0-is) c.prove_one.ensures.exactly in
-    refused_certain d taken old seen (due_behind d old.terms rest old) (record { number = old.next; proof = proof }) c.in-Err-Refused.refusal h (next_due d old x rest left) refl unproved
+    let on = subst (IsProvenOn d proof old new) (c.in-Err-Refused.is ∙ ap Err c.in-Err-Refused.field-0-is) c.prove_next.ensures in
+    let (x, rest, due, u) = on.2 in
+    refused_certain d taken old x rest (record { number = old.next; proof = proof }) c.in-Err-Refused.refusal h due refl u

@@ -3,8 +3,10 @@ use Rattle.lc_kernel.specs.View.{proof_of}
 use Rattle.lc_outline.specs.DevelopmentView.{development_shown}
 use Rattle.lc_cert.specs.Certificates.{Entry}
 use Rattle.lc_cert.specs.EntryView.{entry_of}
-use Rattle.lc_check.proofs.Stepping.{none_of, untold, told_on, went_on, extra_certain, missing_at, on_ok}
-use Rattle.lc_check.specs.Progress.{IsProgress, IsInTurn, IsAdvanced}
+use Rattle.lc_check.proofs.Stepping.{none_of, untold, told_on, extra_certain, missing_at, on_ok}
+use Rattle.lc_check.proofs.Walking.{went_on}
+use Rattle.lc_check.specs.Progress.{IsProgress}
+use Rattle.lc_check.specs.Walking.{IsInTurn, IsAdvanced}
 use Rattle.lc_check.proofs.progress.Progress.take.Goals as goal
 
 pub returns-then-is_some : goal.returns-then-is_some
@@ -14,24 +16,24 @@ pub returns-then-not-branch : goal.returns-then-not-branch
 returns-then-not-branch c = λ taken h.
     let d = development_shown c.args.development.now in
     let old = c.args.self.now in
-    let here : IsAdvanced d old c.advance.new.self false = subst (IsAdvanced d old c.advance.new.self) c.if-not-branch.true c.in_ok-advance.ensures in
-    extra_certain d taken old (entry_of c.args.entry.now) (untold d taken old (none_of old.told c.if-is_some.ensures) h) here.0
+    let here : IsAdvanced d old.walk c.advance.new.self false = subst (IsAdvanced d old.walk c.advance.new.self) c.if-not-branch.true c.in_ok-advance.ensures in
+    extra_certain d taken old.walk (entry_of c.args.entry.now) (untold d taken old (none_of old.told c.if-is_some.ensures) h) here.0
 
 pub returns-then-entry-self : goal.returns-then-entry-self
 returns-then-entry-self c = λ taken h.
     let d = development_shown c.args.development.now in
     let old = c.args.self.now in
     let new = c.advance.new.self in
-    let here : IsAdvanced d old new true = subst (IsAdvanced d old new) c.if-not-branch.false c.in_ok-advance.ensures in
-    missing_at d taken new (entry_of c.args.entry.now) here.1 (went_on d taken old new (untold d taken old (none_of old.told c.if-is_some.ensures) h) here.0) c.if-entry-self.true
+    let here : IsAdvanced d old.walk new true = subst (IsAdvanced d old.walk new) c.if-not-branch.false c.in_ok-advance.ensures in
+    missing_at d taken new (entry_of c.args.entry.now) here.1 (went_on d taken old.walk new (untold d taken old (none_of old.told c.if-is_some.ensures) h) here.0) c.if-entry-self.true
 
 pub prove_next-requires-clause-in_turn : goal.prove_next-requires-clause-in_turn
 prove_next-requires-clause-in_turn c =
     let d = development_shown c.args.development.now in
     let old = c.args.self.now in
     let new = c.advance.new.self in
-    let here : IsAdvanced d old new true = subst (IsAdvanced d old new) c.if-not-branch.false c.in_ok-advance.ensures in
-    (c.requires.known.0, went_on d c.requires.known.0 old new (untold d c.requires.known.0 old (none_of old.told c.if-is_some.ensures) c.requires.known.1) here.0)
+    let here : IsAdvanced d old.walk new true = subst (IsAdvanced d old.walk new) c.if-not-branch.false c.in_ok-advance.ensures in
+    (c.requires.known.0, went_on d c.requires.known.0 old.walk new (untold d c.requires.known.0 old (none_of old.told c.if-is_some.ensures) c.requires.known.1) here.0)
 
 pub returns : goal.returns
 returns c =
@@ -40,11 +42,11 @@ returns c =
     let new = c.advance.new.self in
     let last = c.prove_next.new.self in
     let proof = proof_of c.args.entry.now.proof in
-    let here : IsAdvanced d old new true = subst (IsAdvanced d old new) c.if-not-branch.false c.in_ok-advance.ensures in
+    let here : IsAdvanced d old.walk new true = subst (IsAdvanced d old.walk new) c.if-not-branch.false c.in_ok-advance.ensures in
     on_ok c.prove_next.result ((taken : List Entry) → IsInTurn d taken new → IsProgress d (taken ++ record { number = new.next; proof = proof } ∷ []) last)
     ((taken : List Entry) → IsProgress d taken old → IsProgress d (taken ++ entry_of c.args.entry.now ∷ []) last)
     (λ f taken h. (
-    let all = f taken (went_on d taken old new (untold d taken old (none_of old.told c.if-is_some.ensures) h) here.0) in
+    let all = f taken (went_on d taken old.walk new (untold d taken old (none_of old.told c.if-is_some.ensures) h) here.0) in
     subst (λ n. IsProgress d (taken ++ record { number = n; proof = proof } ∷ []) last) (sym c.if-entry-self.false) all
     ))
     c.prove_next.ensures

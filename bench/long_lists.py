@@ -1,0 +1,219 @@
+"""The files that bench/abuse gives to the program: each is large along one list of a grammar, or nested as deep as a file
+may be.
+
+Each entry of ABUSES answers commands, as words in which DEV, CERT, FILE and HISTORY stand for the files, and the bytes of
+these files by such a word.
+"""
+
+COUNT = 200_000
+NESTING = 1000
+
+SPEC = {"name": "s", "abstract": "(v 0 0)", "operations": "(op go () 0 (branch (and) () ()))"}
+OBJECT = {
+    "arrays": "(array cell (c 0 0))",
+    "auxiliaries": "(h 0 0)",
+    "actions": "(action act () (and))",
+    "invariant": "",
+    "idle": "",
+    "locals": "x",
+    "points": "(point p0 (load cell 0 (x) p1) (assert))",
+    "bodies": "",
+}
+DEVELOPMENT = ["show DEV", "conditions DEV", "check DEV CERT", "judge DEV HISTORY"]
+HISTORY = b'{"events":[],"order":[]}'
+
+
+def many(text, count=COUNT):
+    """So many copies of a text, with their number in place of `@`."""
+    return " ".join(text.replace("@", str(i)) for i in range(count))
+
+
+def development(commands=DEVELOPMENT, certificate="(certificate s)", **parts):
+    """A development with these parts, and the other files of its commands."""
+    it = {**SPEC, **OBJECT, **parts}
+    last = "" if "points" in parts else "(point p1 (return) (assert))"
+    body = it["bodies"] or f"(body go ({it['locals']}) {it['points']} {last})"
+    text = (
+        f"(spec {it['name']} (abstract {it['abstract']}) {it['operations']})\n"
+        f"(object {it['name']} {it['arrays']} (aux {it['auxiliaries']}) {it['actions']} "
+        f"(invariant {it['invariant']}) (idle {it['idle']}) {body})\n"
+    )
+    return commands, {"DEV": text.encode(), "CERT": certificate.encode(), "HISTORY": HISTORY}
+
+
+def operation(text, riders="", **parts):
+    """A development whose one operation is this, with these riders at its first point."""
+    points = f"(point p0 (load cell 0 (x) p1) (assert) (on next (act) {riders})) (point p1 (return) (assert))"
+    return development(operations=text, points=points, **parts)
+
+
+def first_point(instruction, asserts="", ons="", **parts):
+    return development(points=f"(point p0 {instruction} (assert {asserts}) {ons}) (point p1 (return) (assert))", **parts)
+
+
+def riders(text, **parts):
+    return first_point("(load cell 0 (x) p1)", ons=f"(on next (act) {text})", **parts)
+
+
+def certificate(text):
+    return development(["check DEV CERT"], text)
+
+
+def formula(hypotheses="", goal="(<= x 0)", proof="(open)", variables="x", columns=""):
+    text = f"(formula (vars {variables}) (cols {columns}) (hyps {hypotheses}) (goal {goal}) (proof {proof}))"
+    return ["formula FILE"], {"FILE": text.encode()}
+
+
+def judged(text):
+    return ["judge DEV HISTORY"], {"DEV": development()[1]["DEV"], "HISTORY": text.encode()}
+
+
+def history(events="", order=""):
+    return judged(f'{{"events":[{events}],"order":[{order}]}}')
+
+
+def commas(text, count=COUNT):
+    return ",".join(text.replace("@", str(i)) for i in range(count))
+
+
+def nested(begin, middle, end, depth):
+    return begin * depth + middle + end * depth
+
+
+def balanced(term, leaves):
+    """The sum of so many copies of a term, as flat as it can be."""
+    if leaves == 1:
+        return term
+    return f"(+ {balanced(term, leaves // 2)} {balanced(term, leaves - leaves // 2)})"
+
+
+def squared_sum():
+    """A sum of sums: 67,108,864 times x, which the step `sum` adds up."""
+    leaves = 8192
+    return formula(
+        f"(forall q (<= {balanced('q', leaves)} 0)) (<= 1 x)",
+        "(or)",
+        f"(inst 0 {balanced('?0', leaves)} (sum (3 1) (1 {leaves * leaves})))",
+    )
+
+
+def deep_steps():
+    """Conjunctions that are nested as deep as they may be, taken apart by as deep a proof."""
+    depth = NESTING - 4
+    # The negated goal is 1, and each step appends one formula behind it.
+    steps = "(split 0 " + "".join(f"(split {2 + i} " for i in range(depth - 1))
+    return formula(nested("(and ", "(<= 1 0)", ")", depth), "(or)", f"{steps}(sum ({1 + depth} 1)){')' * depth}")
+
+
+def conjuncts(count):
+    """So many conjuncts at a point that no code leads to, each with its three proofs. The conditions are not printed, since
+    each has all conjuncts for hypotheses."""
+    points = f"(point p0 (load cell 0 (x) p0) (assert)) (point p1 (load cell 0 (x) p0) (assert {many('(and)', count)}))"
+    return development(
+        ["show DEV", "check DEV CERT"], f"(certificate s {many(f'(proof @ (cases {count + 9}))', 3 * count)})", points=points
+    )
+
+
+BRANCHED = many("(branch (and) () ())", 8)
+NUMBERS = many("0")
+TRUE = many("(and)")
+CHOICES = "(op go () 0 (choice one (k) (and) () ()))"
+ZERO = many("(<= 0 @)")
+CASES = f"(or {many('(<= 1 0)')})"
+
+ABUSES = {
+    "small_formula": lambda: formula("(<= x 0)", "(<= x 0)", "(opposite 0 1)"),
+    "small_development": development,
+    # What an action, an edge or a point has too many of.
+    "action_updates": lambda: development(actions=f"(action act () (and) {many('(c 0 1)')})"),
+    "updates_of_a_column": lambda: development(actions=f"(action act () (and) {many('(c @ @)', 50_000)})"),
+    "updates_on_an_edge": lambda: riders("", actions=f"(action act () (and) {many('(c @ @)', 50_000)})"),
+    "lin_riders": lambda: riders(many("(lin)", 40_000)),
+    "set_riders": lambda: riders(many("(set h 0 1)", 900_000)),
+    "paths_and_updates": lambda: operation(
+        f"(op go () 0 {BRANCHED})",
+        many("(when (and) (lin))", 6),
+        actions=f"(action act () (and) {many('(c 0 1)', 100_000)})",
+    ),
+    "conjuncts_16000": lambda: conjuncts(16_000),
+    "conjuncts_33000": lambda: conjuncts(33_000),
+    "squared_sum": squared_sum,
+    # The forms of a file, and what a specification and an object are made of.
+    "forms": lambda: (DEVELOPMENT, {"DEV": many("()").encode(), "CERT": many("()").encode(), "HISTORY": HISTORY}),
+    "abstract_columns": lambda: development(abstract=many("(a@ 0 0)")),
+    "array_columns": lambda: development(arrays=f"(array cell {many('(c@ 0 0)')})"),
+    "arrays": lambda: development(arrays=many("(array cell@ (c@ 0 0))")),
+    "auxiliary_columns": lambda: development(auxiliaries=many("(h@ 0 0)")),
+    "operations": lambda: development(operations=many("(op go@ () 0 (branch (and) () ()))")),
+    "operations_and_bodies": lambda: development(
+        operations=many("(op go@ () 0 (branch (and) () ()))", 150_000),
+        bodies=many("(body go@ () (point p@ (return) (assert)))", 150_000),
+    ),
+    "arguments": lambda: development(operations=f"(op go ({many('a@')}) 0 (branch (and) () ()))"),
+    "branches": lambda: operation(f"(op go () 0 {many('(branch (and) () ())')})", "(lin)"),
+    "choices": lambda: operation(f"(op go () 0 {many('(choice way@ () (and) () ())')})", "(lin-by way199999)"),
+    "parameters_of_a_choice": lambda: operation(
+        f"(op go () 0 (choice one ({many('k@')}) (and) () ()))", f"(lin-by one {NUMBERS})"
+    ),
+    "guard": lambda: operation(f"(op go () 0 (branch (and {ZERO}) () ()))", "(lin)"),
+    "branch_updates": lambda: operation(f"(op go () 0 (branch (and) ({many('(v @ @)')}) ()))", "(lin)"),
+    "branch_replies": lambda: operation(f"(op go () 200000 (branch (and) () ({NUMBERS})))", "(lin)"),
+    "actions": lambda: development(actions=many("(action act@ () (and))")),
+    "action_parameters": lambda: riders("", actions=f"(action act ({many('p@')}) (and))"),
+    "action_guard": lambda: riders("", actions=f"(action act () (or {ZERO}))"),
+    "invariant": lambda: development(invariant=many("(n@ (and))")),
+    "idle": lambda: development(idle=TRUE),
+    "locals": lambda: development(locals=many("x@")),
+    "bodies": lambda: development(bodies=many("(body go () (point p0 (return) (assert)))")),
+    "points": lambda: development(points=many("(point p@ (return) (assert))")),
+    "asserts": lambda: first_point("(load cell 0 (x) p1)", TRUE),
+    "assert_and": lambda: first_point("(load cell 0 (x) p1)", f"(and {ZERO})"),
+    "assert_or": lambda: first_point("(load cell 0 (x) p1)", f"(or {ZERO})"),
+    # What an instruction, an edge and a rider are made of.
+    "load_targets": lambda: first_point(f"(load cell 0 ({many('x@')}) p1)"),
+    "store_values": lambda: first_point(f"(store cell 0 ({NUMBERS}) p1)"),
+    "cas_values": lambda: first_point(f"(cas cell 0 ({NUMBERS}) ({NUMBERS}) p1 p0)"),
+    "faa_values": lambda: first_point(f"(faa cell 0 ({many('x@')}) ({NUMBERS}) p1)"),
+    "set_pairs": lambda: first_point(f"(set ({many('(x@ 0)')}) p1)", locals=many("x@")),
+    "if_or": lambda: first_point(f"(if (or {ZERO}) p1 p0)"),
+    "return_values": lambda: development(points=f"(point p0 (return {NUMBERS}) (assert))"),
+    "ons": lambda: first_point("(load cell 0 (x) p1)", ons=many("(on next (act))")),
+    "on_arguments": lambda: first_point("(load cell 0 (x) p1)", ons=f"(on next (act {NUMBERS}))"),
+    "when_and": lambda: riders(f"(when (and {ZERO}) (lin))"),
+    "choice_terms": lambda: operation(CHOICES, f"(lin-by one {NUMBERS})"),
+    "other_choice_terms": lambda: operation(CHOICES, f"(lin-other-by self go one {NUMBERS})"),
+    # Certificates, formulas and proofs.
+    "entries": lambda: certificate(f"(certificate s {many('(proof @ (open))')})"),
+    "entries_without_proof": lambda: certificate(f"(certificate s {many('(proof @)')})"),
+    "branches_of_a_proof": lambda: certificate(f"(certificate s (proof 0 (cases 0 {many('(open)')})))"),
+    "sum_of_a_proof": lambda: certificate(f"(certificate s (proof 0 (sum {many('(@ 1)')})))"),
+    "variables": lambda: formula(variables=many("x@"), goal="(<= x0 0)"),
+    "columns": lambda: formula(columns=many("c@")),
+    "hypotheses": lambda: formula(many("(<= x @)"), "(<= x 7)", f"(opposite 7 {COUNT})"),
+    "and_split": lambda: formula(f"(and {many('(<= x @)')})", "(<= x 7)", "(split 0 (opposite 9 1))"),
+    "or_cases": lambda: formula(CASES, "(or)", f"(cases 0 {many('(sum (2 1))')})"),
+    "or_pushed": lambda: formula(
+        "",
+        f"(or (=> (<= x 0) (<= x 0)) {ZERO})",
+        f"(push 0 (split 1 (push 2 (split {COUNT + 3} (opposite {COUNT + 4} {COUNT + 5})))))",
+    ),
+    "sum_entries": lambda: formula("(<= 1 x) (<= x 0)", "(or)", f"(sum {many('(0 1) (1 1)', COUNT // 2)})"),
+    # Histories.
+    "events": lambda: history(commas('[@,"call","go",[]]')),
+    "order": lambda: history(commas('[@,"call","go",[]]', 150_000), commas('[@,"go",[],[]]', 150_000)),
+    "numbers_of_a_call": lambda: history(f'[0,"call","go",[{commas("0")}]]'),
+    "numbers_of_a_choice": lambda: history("", f'[0,"go",[],[],["one",[{commas("0")}]]]'),
+    "keys": lambda: judged("{" + commas('"k@":0') + "}"),
+    # As deep as a file may be.
+    "brackets": lambda: (DEVELOPMENT, {"DEV": nested("(", "", ")", NESTING).encode(), "CERT": b"", "HISTORY": HISTORY}),
+    "json_brackets": lambda: judged(nested("[", "", "]", 127)),
+    "deep_guard": lambda: operation(f"(op go () 0 (branch {nested('(not ', '(and)', ')', NESTING - 4)} () ()))", "(lin)"),
+    "deep_conjunct": lambda: first_point("(load cell 0 (x) p1)", nested("(forall i ", "(and)", ")", NESTING - 5)),
+    "deep_term": lambda: first_point("(load cell 0 (x) p1)", f"(<= {nested('(+ 1 ', 'x', ')', NESTING - 5)} x)"),
+    "deep_index": lambda: first_point("(load cell 0 (x) p1)", f"(<= {nested('(rd c ', 'x', ')', NESTING - 5)} x)"),
+    "deep_update": lambda: riders("", actions=f"(action act () (and) (c 0 {nested('(rd c ', '0', ')', NESTING - 4)}))"),
+    "deep_code": lambda: first_point(f"(set ((x {nested('(+ 1 ', 'x', ')', NESTING - 6)})) p1)"),
+    "deep_proof": lambda: certificate(f"(certificate s (proof 0 {nested('(cut (and) (open) ', '(open)', ')', NESTING - 3)}))"),
+    "deep_formula": lambda: formula(nested("(and ", "(<= 1 0)", ")", NESTING - 3), "(or)", "(split 0 (open))"),
+    "deep_steps": deep_steps,
+}

@@ -1,0 +1,112 @@
+//! The conditions of a development one after another, each with its proof.
+ghost use Rattle.std.specs.Prelude.{◌≡◌, suc, IfOk};
+
+use crate::proving::prove_one;
+use lc_base::{Fault, OutOfMemory};
+use lc_cond::laws::{conditions_have_few_variables, conditions_use_their_variables};
+use lc_cond::{Condition, ConditionStream};
+use lc_kernel::Proof;
+use lc_outline::Development;
+use lc_table::Terms;
+use std::alloc::Global;
+
+/// How far the conditions of a development are proved. No more than one part of them is kept at a time. Each call is given
+/// the same development.
+pub struct Walk {
+    stream: ConditionStream,
+    /// The table of the part.
+    pub terms: Terms,
+    /// The conditions at hand.
+    pub part: Vec<Condition>,
+    /// Where the next condition stands in the part.
+    pub place: usize,
+    /// The number of the next condition.
+    pub next: u64,
+}
+
+impl Drop for Walk {
+    fn drop(self) {
+        let Walk {
+            stream: _,
+            terms: _,
+            part: _,
+            place: _,
+            next: _,
+        } = self;
+    }
+}
+
+// The next number.
+fn number_behind(number: u64) -> Result<u64, OutOfMemory>
+    ensures { IfOk result (λ next. next ≡ suc number) }
+{
+    number.checked_add(1).ok_or(OutOfMemory)
+}
+
+impl Walk {
+    ghost use Rattle.std.specs.Prelude.{◌≡◌, ◌≤◌, List, [], IfOk};
+    ghost use Rattle.lc_kernel.specs.Proofs.{size};
+    ghost use Rattle.lc_kernel.specs.View.{proof_of};
+    ghost use Rattle.lc_outline.specs.DevelopmentView.{development_shown};
+    ghost use Rattle.lc_cert.specs.Certificates.{Entry as Proved};
+    ghost use Rattle.lc_check.specs.Walking.{HasNext, IsInTurn, IsAdvanced, IsProvenOn};
+
+    /// No proof was taken.
+    pub fn new(alloc: Global, development: &Development) -> Result<Walk, OutOfMemory>
+        ensures { IfOk result (λ walk. IsInTurn (development_shown development.now) [] walk) }
+    {
+        let stream = ConditionStream::new(alloc, development)?;
+        let terms = Terms::new(alloc);
+        let part = Vec::new(alloc);
+        Ok(Walk {
+            stream,
+            terms,
+            part,
+            place: 0,
+            next: 0,
+        })
+    }
+
+    /// Goes on to the next condition, past parts of which none is left; whether there is one.
+    pub fn advance(&mut self, alloc: Global, development: &Development) -> Result<bool, OutOfMemory>
+        ensures { IfOk result (IsAdvanced (development_shown development.now) self.old self.new) }
+    {
+        'parts: while self.place >= self.part.len() {
+            // Each part has a table of its own, so that what its proofs made is let go with it. A part enters all its formulas,
+            // whether or not they are in the table already, so the time stays in proportion to what the conditions say.
+            let mut terms = Terms::new(alloc);
+            let Some(part) = self.stream.next_part(development, &mut terms)? else {
+                return Ok(false);
+            };
+            self.terms = terms;
+            self.part = part;
+            self.place = 0;
+        }
+        Ok(true)
+    }
+
+    /// Whether a proof proves the next condition, which then is behind; else the refusal of the proof.
+    pub fn prove_next(
+        &mut self,
+        alloc: Global,
+        development: &Development,
+        proof: &Proof,
+    ) -> Result<(), Fault>
+        requires in_turn { (taken : List Proved) × IsInTurn (development_shown development.now) taken self.old }
+        requires stands { HasNext self.old }
+        requires steps { size (proof_of proof.now) ≤ 16777216 }
+        ensures { IsProvenOn (development_shown development.now) (proof_of proof.now) self.old self.new result }
+    {
+        conditions_use_their_variables(development);
+        conditions_have_few_variables(development);
+        let condition = &self.part[self.place];
+        match prove_one(alloc, &mut self.terms, self.next, condition, proof) {
+            Ok(()) => {
+                self.next = number_behind(self.next)?;
+                self.place += 1;
+                Ok(())
+            }
+            Err(fault) => Err(fault),
+        }
+    }
+}

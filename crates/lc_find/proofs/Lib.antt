@@ -1,0 +1,5 @@
+pub mod Places
+pub mod FirstHints
+pub mod Passing
+pub mod Taken
+pub mod Ending

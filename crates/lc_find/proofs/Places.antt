@@ -1,0 +1,52 @@
+-- Where proofs stand first.
+use Rattle.std.proofs.Common.{◌≡◌, ◌≢◌, ℕ, zero, suc, ◌+◌, ◌⊎◌, inl, inr, Bool, true, false, cond, List, [], ◌∷◌, Option, Some, None, option_map, slice_get, refl, sym, ap, subst, ◌∙◌, arith}
+use Rattle.std.proofs.lemmas.Bool.Decides.{eqb_tells}
+use Rattle.std.specs.Prelude.{◌==◌}
+use Rattle.std.specs.Option.{option_or}
+use Rattle.lc_check.proofs.LeastExtra.{at_first, at_other}
+use Rattle.lc_cert.specs.Certificates.{Entry, proof_at}
+use Rattle.lc_kernel.specs.Proofs.{Proof}
+use Rattle.lc_term.specs.Lists.{Every}
+use Rattle.lc_find.specs.FirstProofs.{place_at}
+
+-- the proof of the entry at this place
+abbrev pub proof_of_place : List Entry → Option ℕ → Option Proof
+proof_of_place es None = None
+proof_of_place es (Some i) = option_map (λ (e : Entry). e.proof) (slice_get es i)
+
+one_later : (e : Entry) (es : List Entry) (o : Option ℕ) → proof_of_place (e ∷ es) (option_map suc o) ≡ proof_of_place es o
+one_later e es None = refl
+one_later e es (Some i) = refl
+
+by_first : (e : Entry) (es : List Entry) (n : ℕ) → ((n == e.number) ≡ true) × (n ≡ e.number) ⊎ ((n == e.number) ≡ false) × (n ≢ e.number) → proof_of_place es (place_at es n) ≡ proof_at es n
+    → proof_of_place (e ∷ es) (place_at (e ∷ es) n) ≡ proof_at (e ∷ es) n
+by_first e es n (inl (here, same)) h = ap (λ b. proof_of_place (e ∷ es) (cond b (Some 0) (option_map suc (place_at es n)))) here ∙ sym (at_first e es n (sym same))
+by_first e es n (inr (there, other)) h =
+    ap (λ b. proof_of_place (e ∷ es) (cond b (Some 0) (option_map suc (place_at es n)))) there ∙ one_later e es (place_at es n) ∙ h ∙ sym (at_other e es n (λ same. other (sym same)))
+
+-- the first proof of a number stands at the place where the number stands first
+pub at_place : (es : List Entry) (n : ℕ) → proof_of_place es (place_at es n) ≡ proof_at es n
+at_place [] n = refl
+at_place (e ∷ es) n = by_first e es n (eqb_tells n e.number) (at_place es n)
+
+-- what holds of each entry holds of the one at a place
+pub Every_at : {A : Type 0} (P : A → Type 0) (xs : List A) (i : ℕ) (x : A) → Every P xs → slice_get xs i ≡ Some x → P x
+Every_at P [] i x h at = absurd (let none : None ≡ Some x = at in cc)
+Every_at P (y ∷ xs) zero x h at = let is : Some y ≡ Some x = at in let same : y ≡ x = cc in subst P same h.0
+Every_at P (y ∷ xs) (suc i) x h at = Every_at P xs i x h.1 at
+
+counted_on : (n : ℕ) (p : Option ℕ) → option_map (λ k. n + 1 + k) p ≡ option_map (λ k. n + k) (option_map suc p)
+counted_on n None = refl
+counted_on n (Some k) = ap Some (omega arith)
+
+-- one more number is noted
+pub noted : (here : Bool) (n : ℕ) (found p : Option ℕ) →
+    option_or (option_or found (cond here (Some n) None)) (option_map (λ k. n + 1 + k) p) ≡ option_or found (option_map (λ k. n + k) (cond here (Some 0) (option_map suc p)))
+noted here n (Some k) p = refl
+noted true n None p = ap Some (omega arith)
+noted false n None p = counted_on n p
+
+-- what is not there
+pub none_of_map : {A B : Type 0} (f : A → B) (o : Option A) (p : Option B) → option_map f o ≡ p → ((x : A) → o ≡ Some x → ⊥) → p ≡ None
+none_of_map f None p is none = sym is
+none_of_map f (Some x) p is none = absurd (none x refl)

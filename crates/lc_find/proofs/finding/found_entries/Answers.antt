@@ -1,0 +1,58 @@
+use Rattle.std.proofs.Common.{◌≡◌, [], ◌∷◌, true, false, sym, ap, ◌∙◌, subst}
+use Rattle.std.proofs.lemmas.List.{map-append}
+use Rattle.lc_term.proofs.Stores.{Every-append}
+use Rattle.lc_term.specs.Lists.{Every}
+use Rattle.lc_outline.specs.DevelopmentView.{development_shown}
+use Rattle.lc_cert.specs.EntryView.{entry_of, entries_of}
+use Rattle.lc_check.proofs.Walking.{went_on}
+use Rattle.lc_check.specs.Walking.{IsInTurn, IsAdvanced}
+use Rattle.lc_find.proofs.Passing.{all_proved, none_taken}
+use Rattle.lc_find.specs.FirstView.{all_of}
+use Rattle.lc_find.specs.Found.{ArePassed, IsUnfound}
+use Rattle.lc_find.specs.Hinted.{IsFirstHint, IsFirstTaken}
+use Rattle.lc_hints.specs.HintView.{proofs_in}
+use Rattle.lc_find.proofs.finding.found_entries.Goals as goal
+
+pub returns-then-not-branch : goal.returns-then-not-branch
+returns-then-not-branch c =
+    let d = development_shown c.args.development.now in
+    let old = c.conditions.walk in
+    let hs = all_of c.in_ok-first.first in
+    let es = entries_of c.conditions.entries.items in
+    let same : hs ≡ proofs_in c.args.hints.now = c.in_ok-first.ensures ∙ c.proofs.ensures.shown in
+    let here : IsAdvanced d old c.advance.new.self false = subst (IsAdvanced d old c.advance.new.self) c.if-not-branch.true c.in_ok-advance.ensures in
+    let inv = c.conditions.invariant in
+    let passed : ArePassed d hs c.args.budget es = record { in_turn = all_proved d es old inv.in_turn here.0; first = inv.first; hinted = inv.hinted } in
+    subst (λ l. ArePassed d l c.args.budget es) same passed
+
+pub returns-in-Err : goal.returns-in-Err
+returns-in-Err c =
+    let d = development_shown c.args.development.now in
+    let old = c.conditions.walk in
+    let mid = c.advance.new.self in
+    let hs = all_of c.in_ok-first.first in
+    let es = entries_of c.conditions.entries.items in
+    let same : hs ≡ proofs_in c.args.hints.now = c.in_ok-first.ensures ∙ c.proofs.ensures.shown in
+    let here : IsAdvanced d old mid true = subst (IsAdvanced d old mid) c.if-not-branch.false c.in_ok-advance.ensures in
+    let inv = c.conditions.invariant in
+    subst (λ l. IsUnfound d l c.args.budget c.in-Err.fault) same
+    (none_taken d hs es c.args.budget mid c.next_entry.new.walk c.in-Err.fault (went_on d es old mid inv.in_turn here.0) here.1 inv.hinted c.in-Err.ensures)
+
+pub conditions-preserved : goal.conditions-preserved
+conditions-preserved c =
+    let d = development_shown c.args.development.now in
+    let old = c.conditions.walk in
+    let mid = c.advance.new.self in
+    let hs = all_of c.in_ok-first.first in
+    let items = c.conditions.entries.items in
+    let es = entries_of items in
+    let e = entry_of c.in-Ok.entry in
+    let here : IsAdvanced d old mid true = subst (IsAdvanced d old mid) c.if-not-branch.false c.in_ok-advance.ensures in
+    let inv = c.conditions.invariant in
+    let taken = c.in-Ok.ensures in
+    let more = sym (ap entries_of c.in_ok-push.ensures.items ∙ map-append entry_of items (c.in-Ok.entry ∷ [])) in
+    record {
+      in_turn = subst (λ l. IsInTurn d l c.next_entry.new.walk) more (taken.0.taken es (went_on d es old mid inv.in_turn here.0));
+      first = subst (Every (IsFirstTaken d hs)) more (Every-append (IsFirstTaken d hs) es (e ∷ []) inv.first (taken.1, tt));
+      hinted = λ zero. subst (Every (IsFirstHint hs)) more (Every-append (IsFirstHint hs) es (e ∷ []) (inv.hinted zero) (taken.2 zero, tt));
+    }

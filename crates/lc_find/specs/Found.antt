@@ -1,0 +1,75 @@
+-- What is found of a development with hints.
+use Rattle.std.specs.Prelude.{◌≡◌, ℕ, ◌<◌, ◌⊎◌, Bool, true, false, List, length, take, Vec, Result, Ok, Err}
+use Rattle.std.specs.declared.alloc.Global.{Global}
+use Rattle.lc_term.specs.Lists.{Every}
+use Rattle.lc_outline.specs.Development.{Development}
+use Rattle.lc_cert.specs.Certificates.{Entry as Proved, proof_at}
+use Rattle.lc_cert.specs.CertificateView.{entries_in}
+use Rattle.lc_cert.specs.EntryView.{entries_of}
+use Rattle.lc_cert.specs.Files.{Certifies}
+use Rattle.lc_cert.specs.Printed.{certificate_line}
+use Rattle.lc_cert.specs.declared.certificate.Certificate.{Certificate}
+use Rattle.lc_cert.specs.declared.entry.Entry.{Entry}
+use Rattle.lc_cond.specs.Conditions.{conditions}
+use Rattle.lc_check.specs.Verdicts.{AreProved, IsProvenBy}
+use Rattle.lc_check.specs.Walking.{ProveInTurn}
+use Rattle.lc_find.specs.Hinted.{IsHinted, IsFirstHint, IsFirstTaken, by_entries}
+use Rattle.lc_find.specs.declared.fault.FindFault.{FindFault}
+use Rattle.lc_find.specs.declared.fault.FindFault.TheVariants.{NotFound, Budget, Large, OutOfMemory}
+
+-- ---- what is promised
+
+-- each condition has the first proof that the hints have for it, where that holds
+abbrev pub TakesFirst : Development → List Proved → List Proved → Type 0
+TakesFirst D hs es = (k : ℕ) → IsHinted D hs k → proof_at es k ≡ proof_at hs k
+
+-- the text of these proofs is no certificate with them
+abbrev pub IsNoCertificate : Development → List Proved → Type 0
+IsNoCertificate D es = Certifies D (certificate_line D es) es → ⊥
+
+-- the hints prove the conditions below k, and not condition k
+abbrev pub IsFirstUnhinted : Development → List Proved → ℕ → Type 0
+IsFirstUnhinted D hs k = AreProved hs 0 (take k (conditions D)) × (IsHinted D hs k → ⊥)
+
+-- the certificate of the first hints, which prove all; or it is told which condition they do not prove, or that their text is no certificate
+abbrev pub IsByHints : Development → List Proved → Result Certificate FindFault → Type 0
+IsByHints D hs (Ok c) = AreProved hs 0 (conditions D) × (entries_in c ≡ by_entries hs 0 (conditions D))
+IsByHints D hs (Err (NotFound k)) = ⊥
+IsByHints D hs (Err (Budget k)) = IsFirstUnhinted D hs k ⊎ (AreProved hs 0 (conditions D) × IsNoCertificate D (by_entries hs 0 (conditions D)))
+IsByHints D hs (Err (Large k)) = ⊥
+IsByHints D hs (Err OutOfMemory) = Unit {0}
+
+-- ---- the proofs of all conditions
+
+-- proofs of all conditions in turn, each the first hint where that holds, and without budget only those
+pub record ArePassed (D : Development) (hs : List Proved) (budget : ℕ) (es : List Proved) : Type 0 where
+  pub in_turn : ProveInTurn 0 es (conditions D)
+  pub first : Every (IsFirstTaken D hs) es
+  pub hinted : budget ≡ 0 → Every (IsFirstHint hs) es
+
+-- the first condition without a proof, whose first hint does not hold, and why it has none
+abbrev pub IsUnfound : Development → List Proved → ℕ → FindFault → Type 0
+IsUnfound D hs budget (NotFound k) = (k < length (conditions D)) × (IsHinted D hs k → ⊥) × (budget ≡ 0 → ⊥)
+IsUnfound D hs budget (Budget k) = (k < length (conditions D)) × (IsHinted D hs k → ⊥) × (budget ≡ 0 → AreProved hs 0 (take k (conditions D)))
+IsUnfound D hs budget (Large k) = (k < length (conditions D)) × (IsHinted D hs k → ⊥) × (budget ≡ 0 → ⊥)
+IsUnfound D hs budget OutOfMemory = Unit {0}
+
+-- they are found, or it is told why not
+abbrev pub AreFound : Development → List Proved → ℕ → Result (Vec Entry Global) FindFault → Type 0
+AreFound D hs budget (Ok es) = ArePassed D hs budget (entries_of es.items)
+AreFound D hs budget (Err fault) = IsUnfound D hs budget fault
+
+-- ---- the text that is read back
+
+-- the text is said to be accepted exactly where it is
+abbrev pub IsReadBack : Development → List ℕ → Bool → Type 0
+IsReadBack D text true = IsProvenBy D text
+IsReadBack D text false = IsProvenBy D text → ⊥
+
+-- the certificate of these proofs, whose text is accepted; or it is told of one of them that their text is no certificate
+abbrev pub IsGivenBack : Development → List Proved → Result Certificate FindFault → Type 0
+IsGivenBack D es (Ok c) = (entries_in c ≡ es) × IsProvenBy D (certificate_line D es)
+IsGivenBack D es (Err (NotFound k)) = ⊥
+IsGivenBack D es (Err (Budget k)) = (k < length (conditions D)) × IsNoCertificate D es
+IsGivenBack D es (Err (Large k)) = ⊥
+IsGivenBack D es (Err OutOfMemory) = Unit {0}

@@ -1,0 +1,6 @@
+pub mod Faults
+pub mod Hinted
+pub mod FirstProofs
+pub mod FirstView
+pub mod Taken
+pub mod Found

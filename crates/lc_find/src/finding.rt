@@ -1,0 +1,72 @@
+//! Certificates are found: each proof is checked before it is taken, and the text of all of them before it is given.
+ghost use Rattle.std.specs.Prelude.{◌≡◌, length, IfOk, IfErr};
+ghost use Rattle.lc_term.specs.Lists.{Every};
+ghost use Rattle.lc_outline.specs.DevelopmentView.{development_shown};
+ghost use Rattle.lc_cert.specs.CertificateView.{entries_in};
+ghost use Rattle.lc_cert.specs.Printed.{certificate_line, EntryReadsBack, IsPrintable};
+ghost use Rattle.lc_check.specs.Verdicts.{AreProved, IsProvenBy};
+ghost use Rattle.lc_cond.specs.Conditions.{conditions};
+ghost use Rattle.lc_find.specs.Faults.{IsInRange, IsOkOrNoMemory};
+ghost use Rattle.lc_find.specs.Found.{AreFound, TakesFirst, IsByHints};
+ghost use Rattle.lc_hints.specs.HintView.{proofs_in};
+ghost use Rattle.lc_find.specs.Hinted.{by_entries};
+
+use crate::fault::FindFault;
+use crate::first_proofs::FirstProofs;
+use crate::reading_back::read_back;
+use crate::taking::next_entry;
+use lc_cert::laws::printed_certificates_read_back;
+use lc_cert::{Certificate, Entry};
+use lc_check::Walk;
+use lc_hints::Hints;
+use lc_outline::Development;
+use std::alloc::Global;
+
+/// Proofs of all conditions, in turn.
+fn found_entries(
+    alloc: Global,
+    development: &Development,
+    hints: &Hints,
+    budget: u64,
+) -> Result<Vec<Entry>, FindFault>
+    ensures { AreFound (development_shown development.now) (proofs_in hints.now) budget result }
+{
+    let first = FirstProofs::new(alloc, hints.proofs())?;
+    let mut walk = Walk::new(alloc, development)?;
+    let mut entries = Vec::new(alloc);
+    'conditions: loop {
+        if !walk.advance(alloc, development)? {
+            return Ok(entries);
+        }
+        let entry = match next_entry(alloc, development, &mut walk, &first, hints, budget) {
+            Ok(entry) => entry,
+            Err(fault) => return Err(fault),
+        };
+        entries.push(entry)?;
+    }
+}
+
+/// Finds a certificate of a development. Each condition gets the first proof that the hints have for it, where that holds; for
+/// the others a proof is sought, in at most so many steps each.
+///
+/// `certificate_text` of what is found is accepted by `check`, with any text of the development. Where no certificate is
+/// found, the fault names the first condition without a proof. `Budget` is also told of a condition whose proof makes the
+/// text too large or too deep. Where the first hint of each condition holds and the text is within the limits of a file, no
+/// fault is told but want of memory. With budget 0 nothing is sought.
+pub fn find(
+    alloc: Global,
+    development: &Development,
+    hints: &Hints,
+    budget: u64,
+) -> Result<Certificate, FindFault>
+    ensures accepted { let D = development_shown development.now in IfOk result (λ c. IsProvenBy D (certificate_line D (entries_in c))) }
+    ensures range { IfErr result (IsInRange (length (conditions (development_shown development.now)))) }
+    ensures by { let D = development_shown development.now in let hs = proofs_in hints.now in
+        Every (EntryReadsBack D) hs → AreProved hs 0 (conditions D) → IsPrintable D (by_entries hs 0 (conditions D)) → IsOkOrNoMemory result }
+    ensures first { let D = development_shown development.now in IfOk result (λ c. TakesFirst D (proofs_in hints.now) (entries_in c)) }
+    ensures unbudgeted { budget ≡ 0 → IsByHints (development_shown development.now) (proofs_in hints.now) result }
+{
+    let entries = found_entries(alloc, development, hints, budget)?;
+    printed_certificates_read_back();
+    read_back(alloc, development, entries)
+}

@@ -1,0 +1,13 @@
+//! The finder of certificates: what it finds is accepted.
+#![tactic(auto)]
+
+mod fault;
+mod finding;
+mod first_proofs;
+mod limits;
+mod reading_back;
+mod taking;
+
+pub use fault::FindFault;
+pub use finding::find;
+pub use lc_hints::{Hints, hints_of};

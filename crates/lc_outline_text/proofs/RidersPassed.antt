@@ -1,0 +1,121 @@
+-- Riders one by one, by the columns that are stored in on the ways past them.
+use Rattle.std.proofs.Common.{◌≡◌, ℕ, zero, suc, ◌+◌, ◌*◌, ◌<◌, ◌≤◌, Bool, true, false, List, [], ◌∷◌, ◌++◌, map, length, drop, get_or, Some, refl, sym, ap, ap₂, ◌∙◌, append-nil, arith}
+use Rattle.std.proofs.Math.Nat.{mul_assoc}
+use Rattle.std.proofs.Math.Seq.{drop-cons}
+use Rattle.std.proofs.lemmas.List.{drop_all}
+use Rattle.std.specs.Prelude.{Vec}
+use Rattle.std.specs.declared.alloc.Global.{Global}
+use Rattle.lc_base.specs.declared.ids.ColId.{ColId}
+use Rattle.lc_outline_text.specs.declared.riders.Rider.{Rider}
+use Rattle.lc_outline_text.specs.Sizes.{Way, no_way, different, path_conditions}
+use Rattle.lc_outline_text.specs.Paths.{stands, only_way, common_way, leaves_choice, branching}
+use Rattle.lc_outline_text.proofs.Counting.{product_capped}
+use Rattle.lc_outline_text.proofs.Different.{same_different}
+use Rattle.lc_outline_text.proofs.Paths.{same_paths, set_apart}
+use Rattle.lc_outline_text.specs.StoredView.{row_way, none_stored, deed_seen, rider_seen, riders_seen}
+use Rattle.lc_outline_text.specs.Views.{capped}
+
+-- ---- one rider after another
+
+pub next_rider : (rs : List Rider) (i : ℕ) (r : Rider) → i < length rs → r ≡ get_or rs i r → riders_seen (drop i rs) ≡ rider_seen r ∷ riders_seen (drop (i + 1) rs)
+next_rider rs i r below is =
+    let step : suc i ≡ i + 1 = omega arith in
+    ap riders_seen (drop-cons rs i r below ∙ ap₂ (λ x k. x ∷ drop k rs) (sym is) step)
+
+pub no_rider : (rs : List Rider) (i : ℕ) → length rs ≤ i → riders_seen (drop i rs) ≡ []
+no_rider rs i past = ap riders_seen (drop_all i rs past)
+
+-- ---- how many paths there are
+
+pub number_next : (n new l p q all : ℕ) → new ≡ capped (n * l) → p ≡ l * q → capped (n * p) ≡ capped all → capped (new * q) ≡ capped all
+number_next n new l p q all is split whole = ap (λ m. capped (m * q)) is ∙ product_capped (n * l) q ∙ ap capped (mul_assoc n l q) ∙ ap (λ m. capped (n * m)) (sym split) ∙ whole
+
+pub number_last : (n p all : ℕ) → n ≤ 100001 → p ≡ 1 → capped (n * p) ≡ capped all → n ≡ capped all
+number_last n p all few one whole =
+    let same : n * p ≡ n = ap (λ m. n * m) one ∙ times_one n in
+    let h = ap capped (sym same) ∙ whole in
+    omega (arith, few, h) where
+      times_one : (n : ℕ) → n * 1 ≡ n
+      times_one n = omega arith
+
+-- ---- riders that leave a choice
+
+pub choice_left : (ws : List Way) → (length ws ≡ 1 → ⊥) → leaves_choice ws ≡ true
+choice_left [] h = refl
+choice_left (w ∷ []) h = absurd (h refl)
+choice_left (v ∷ w ∷ ws) h = refl
+
+pub none_left : (ws : List Way) → length ws ≡ 1 → leaves_choice ws ≡ false
+none_left [] h = absurd (omega (arith, h))
+none_left (w ∷ []) h = refl
+none_left (v ∷ w ∷ ws) h = absurd (omega (arith, h))
+
+pub not_only : (ws : List Way) → (length ws ≡ 1 → ⊥) → only_way ws ≡ no_way
+not_only [] h = refl
+not_only (w ∷ []) h = absurd (h refl)
+not_only (v ∷ w ∷ ws) h = refl
+
+pub only_first : (ws : List Way) → length ws ≡ 1 → get_or ws 0 no_way ≡ only_way ws
+only_first [] h = absurd (omega (arith, h))
+only_first (w ∷ []) h = refl
+only_first (v ∷ w ∷ ws) h = absurd (omega (arith, h))
+
+-- ---- the way at a place
+
+get_mapped : {X : Type 0} (f : X → Way) (xs : List X) (k : ℕ) (x : X) (d : Way) → k < length xs → get_or (map f xs) k d ≡ f (get_or xs k x)
+get_mapped f [] k x d h = absurd (omega (arith, h))
+get_mapped f (y ∷ xs) zero x d h = refl
+get_mapped f (y ∷ xs) (suc k) x d h = get_mapped f xs k x d (omega (arith, h))
+
+no_more : (b : Bool) (j : ℕ) → get_or (none_stored b) j no_way ≡ no_way
+no_more true zero = refl
+no_more true (suc j) = refl
+no_more false j = refl
+
+pub row_at : (asked : ℕ) (rows : List (Vec ColId Global)) (k : ℕ) (row : Vec ColId Global) → k < length rows → row ≡ get_or rows k row → get_or (map (row_way asked) rows) k no_way ≡ row_way asked row
+row_at asked rows k row below is = get_mapped (row_way asked) rows k row no_way below ∙ ap (row_way asked) (sym is)
+
+pub no_row_at : (asked : ℕ) (rows : List (Vec ColId Global)) (k : ℕ) → length rows ≤ k → get_or (map (row_way asked) rows) k no_way ≡ no_way
+no_row_at asked [] k past = refl
+no_row_at asked (row ∷ rows) zero past = absurd (omega (arith, past))
+no_row_at asked (row ∷ rows) (suc k) past = no_row_at asked rows k (omega (arith, past))
+
+-- on the way on which a rider's condition does not hold nothing is done
+get_joined : (xs ys : List Way) (k : ℕ) → ((j : ℕ) → get_or ys j no_way ≡ no_way) → get_or (xs ++ ys) k no_way ≡ get_or xs k no_way
+get_joined [] ys k all = all k
+get_joined (x ∷ xs) ys zero all = refl
+get_joined (x ∷ xs) ys (suc k) all = get_joined xs ys k all
+
+pub deed_at : (r : Rider) (k : ℕ) → get_or (rider_seen r) k no_way ≡ get_or (deed_seen r.deed) k no_way
+deed_at r k = get_joined (deed_seen r.deed) (none_stored r.is_conditional) k (no_more r.is_conditional)
+
+-- some paths go on
+pub some_left : (l q : ℕ) → 1 ≤ l * q → 1 ≤ q
+some_left l zero h = absurd (omega (arith, h))
+some_left l (suc q) h = omega arith
+
+-- ---- the conditions of a path, and of all
+
+pub next_path : (count s more new : ℕ) → count ≡ capped s → new ≡ capped (count + more) → new ≡ capped (s + more)
+next_path count s more new h g = omega (arith, h, g)
+
+pub past_cap : (count s all : ℕ) → 100001 ≤ count → count ≡ capped s → s ≤ all → 100001 ≡ capped all
+past_cap count s all h g few = omega (arith, h, g, few)
+
+-- as many as there are columns on it, and two more than are asked
+pub told_on : (listed columns more : List ℕ) (asked way n stored count : ℕ) → stands listed ≡ stands (columns ++ more) → n ≡ different listed → stored ≡ 1 + n → count ≡ (asked + way) + stored
+    → count ≡ path_conditions (Some []) [] (asked + way) (columns ++ more)
+told_on listed columns more asked way n stored count h g k is =
+    let same : different listed ≡ different ((columns ++ more) ++ []) = same_different listed (columns ++ more) h ∙ ap different (sym (append-nil (columns ++ more))) in
+    omega (arith, g, k, is, same)
+
+-- what is common to all paths is told apart from the riders that leave a choice
+pub told_apart : (action columns stored : List ℕ) (rs those : List (List Way)) (before asked : ℕ) → asked ≡ before + (common_way rs).asked → stands stored ≡ stands ((columns ++ action) ++ (common_way rs).columns) → those ≡ branching rs
+    → path_conditions (Some []) those asked stored ≡ path_conditions (Some action) rs before columns
+told_apart action columns stored rs those before asked is h same =
+    let rest = branching rs in
+    let all = (columns ++ action) ++ (common_way rs).columns in
+    ap (λ l. path_conditions (Some []) l asked stored) same
+    ∙ same_paths [] [] rest rest refl asked (before + (common_way rs).asked) stored all is (ap stands (append-nil stored) ∙ h ∙ ap stands (sym (append-nil all)))
+    ∙ sym (set_apart [] rs before (columns ++ action))
+    ∙ same_paths [] action rs rs refl before before (columns ++ action) columns refl (ap stands (append-nil (columns ++ action)))

@@ -1,0 +1,251 @@
+//! Blocks of quantifiers, and where their variables stand as indexes.
+
+use crate::model::DEEPEST;
+use crate::scanning::{Place, scan_formula};
+use indexmap::IndexMap;
+use lc_base::ColId;
+use lc_facts::{Form, Nodes};
+use lc_farkas::Stop;
+use lc_table::{FormulaId, FormulaNode, TermId, TermNode};
+use std::alloc::Global;
+
+/// A place where a variable of a block stands as an index under a base column: the index is the variable, or its opposite, and a
+/// rest without bound variables.
+#[derive(Clone, Copy)]
+pub(crate) struct Slot {
+    /// The variable, by the number of quantifiers of the block that stand inside its own.
+    pub(crate) variable: u32,
+    pub(crate) column: ColId,
+    pub(crate) is_opposite: bool,
+    /// None for 0.
+    pub(crate) rest: Option<TermId>,
+}
+
+/// Quantifiers that stand directly inside each other.
+#[derive(Drop)]
+pub(crate) struct Block {
+    pub(crate) body: FormulaId,
+    pub(crate) count: u32,
+    pub(crate) slots: Vec<Slot>,
+}
+
+/// What is remembered of blocks, and of terms of one form.
+pub(crate) struct Blocks {
+    pub(crate) alloc: Global,
+    blocks: IndexMap<FormulaId, Block>,
+    /// Of a term, the one of its form that stands for all of them.
+    standard: IndexMap<TermId, TermId>,
+    /// Terms of the hints.
+    pub(crate) uses: Vec<TermId>,
+    /// How many variables the goal has.
+    pub(crate) variables: u32,
+}
+
+impl Drop for Blocks {
+    fn drop(self) {
+        let Blocks {
+            alloc: _,
+            blocks: _,
+            standard: _,
+            uses: _,
+            variables: _,
+        } = self;
+    }
+}
+
+impl Blocks {
+    /// Nothing is remembered.
+    pub(crate) fn new(alloc: Global, variables: u32) -> Blocks {
+        Blocks {
+            alloc,
+            blocks: IndexMap::new(alloc),
+            standard: IndexMap::new(alloc),
+            uses: Vec::new(alloc),
+            variables,
+        }
+    }
+
+    /// The block that begins with a formula, if it was learnt and is one.
+    pub(crate) fn block(&self, formula: FormulaId) -> Option<&Block> {
+        self.blocks.get(&formula)
+    }
+
+    /// Learns the block that begins with a formula.
+    pub(crate) fn learn(&mut self, nodes: &mut Nodes, formula: FormulaId) -> Result<(), Stop> {
+        if self.blocks.contains_key(&formula) {
+            return Ok(());
+        }
+        let (body, count) = inside(nodes, formula);
+        let mut found = Vec::new(self.alloc);
+        scan_formula(nodes, body, 0, &mut found, DEEPEST)?;
+        let mut slots = Vec::new(self.alloc);
+        for place in &found {
+            if let Some(slot) = slot_of(nodes, self.alloc, *place)? {
+                slots.push(slot)?;
+            }
+        }
+        let block = Block { body, count, slots };
+        self.blocks.insert(formula, block)?;
+        Ok(())
+    }
+
+    /// The term that stands for all of the form of this one.
+    pub(crate) fn standard_of(&mut self, nodes: &mut Nodes, term: TermId) -> Result<TermId, Stop> {
+        if let Some(standard) = self.standard.get(&term) {
+            return Ok(*standard);
+        }
+        let form = form_of(nodes, self.alloc, term)?;
+        let standard = term_of_form(nodes, &form)?;
+        self.standard.insert(term, standard)?;
+        Ok(standard)
+    }
+}
+
+/// The formula inside of all quantifiers that a formula begins with, and how many these are.
+fn inside(nodes: &Nodes, formula: FormulaId) -> (FormulaId, u32) {
+    let mut body = formula;
+    let mut count: u32 = 0;
+    for _ in 0..DEEPEST {
+        let Some(FormulaNode::Forall(inner)) = nodes.formula_node(body) else {
+            break;
+        };
+        body = *inner;
+        count = count.saturating_add(1);
+    }
+    (body, count)
+}
+
+/// The form of a term.
+pub(crate) fn form_of(nodes: &mut Nodes, alloc: Global, term: TermId) -> Result<Form, Stop> {
+    nodes.learn_term(term)?;
+    match nodes.form(term) {
+        Some(form) => form.try_clone(alloc),
+        None => Ok(Form::constant(alloc, 0)),
+    }
+}
+
+/// Of a form, the bound variable that it is made of beside closed atoms, and how often it has it; none where it has others.
+fn only_bound(nodes: &Nodes, form: &Form) -> Option<(TermId, u32, i128)> {
+    let mut only = None;
+    for (atom, number) in &form.summands {
+        if nodes.term_loose(*atom) > 0 {
+            let Some(TermNode::Bound(variable)) = nodes.term_node(*atom) else {
+                return None;
+            };
+            if only.is_some() {
+                return None;
+            }
+            only = Some((*atom, variable, *number));
+        }
+    }
+    only
+}
+
+/// A slot for a variable of the block, if the index has the form of one.
+fn slot_of(nodes: &mut Nodes, alloc: Global, place: Place) -> Result<Option<Slot>, Stop> {
+    let mut form = form_of(nodes, alloc, place.index)?;
+    let Some((atom, bound, number)) = only_bound(nodes, &form) else {
+        return Ok(None);
+    };
+    if (number != 1 && number != -1) || bound < place.level {
+        return Ok(None);
+    }
+    let alone = form_of(nodes, alloc, atom)?;
+    form.add(if number == 1 { -1 } else { 1 }, &alone)?;
+    let rest = if form.is_constant() && form.constant == 0 {
+        None
+    } else {
+        Some(term_of_form(nodes, &form)?)
+    };
+    Ok(Some(Slot {
+        variable: bound.saturating_sub(place.level),
+        column: place.column,
+        is_opposite: number == -1,
+        rest,
+    }))
+}
+
+/// So many times an atom, added to a sum.
+fn sum_with(
+    nodes: &mut Nodes,
+    sum: Option<TermId>,
+    atom: TermId,
+    number: i128,
+) -> Result<TermId, Stop> {
+    if number == 1 {
+        return match sum {
+            Some(sum) => nodes.add(sum, atom),
+            None => Ok(atom),
+        };
+    }
+    if number == -1
+        && let Some(sum) = sum
+    {
+        return nodes.subtract(sum, atom);
+    }
+    let factor = i64::try_from(number).map_err(|_| Stop::Large)?;
+    let product = nodes.multiply(factor, atom)?;
+    match sum {
+        Some(sum) => nodes.add(sum, product),
+        None => Ok(product),
+    }
+}
+
+/// A sum and a constant.
+fn sum_with_constant(
+    nodes: &mut Nodes,
+    sum: Option<TermId>,
+    constant: i128,
+) -> Result<TermId, Stop> {
+    let Some(sum) = sum else {
+        let number = i64::try_from(constant).map_err(|_| Stop::Large)?;
+        return nodes.number(number);
+    };
+    if constant == 0 {
+        return Ok(sum);
+    }
+    let size = i64::try_from(constant.checked_abs().ok_or(Stop::Large)?).map_err(|_| Stop::Large)?;
+    let size = nodes.number(size)?;
+    if constant > 0 {
+        nodes.add(sum, size)
+    } else {
+        nodes.subtract(sum, size)
+    }
+}
+
+/// A term of this form.
+pub(crate) fn term_of_form(nodes: &mut Nodes, form: &Form) -> Result<TermId, Stop> {
+    let mut sum = None;
+    for (atom, number) in &form.summands {
+        if *number > 0 {
+            sum = Some(sum_with(nodes, sum, *atom, *number)?);
+        }
+    }
+    for (atom, number) in &form.summands {
+        if *number < 0 {
+            sum = Some(sum_with(nodes, sum, *atom, *number)?);
+        }
+    }
+    sum_with_constant(nodes, sum, form.constant)
+}
+
+/// What a variable is to be so that the index of its slot is this term.
+pub(crate) fn solved(
+    nodes: &mut Nodes,
+    alloc: Global,
+    slot: Slot,
+    index: TermId,
+) -> Result<TermId, Stop> {
+    if slot.rest.is_none() && !slot.is_opposite {
+        return Ok(index);
+    }
+    let mut form = Form::constant(alloc, 0);
+    let index = form_of(nodes, alloc, index)?;
+    let (sign, opposite) = if slot.is_opposite { (-1, 1) } else { (1, -1) };
+    form.add(sign, &index)?;
+    if let Some(rest) = slot.rest {
+        let rest = form_of(nodes, alloc, rest)?;
+        form.add(opposite, &rest)?;
+    }
+    term_of_form(nodes, &form)
+}

@@ -1,0 +1,47 @@
+//! What is told of a search that found nothing.
+
+use crate::model::{active_read, live_places, live_variable};
+use crate::solving::Search;
+use lc_farkas::Stop;
+use lc_table::TermId;
+use lc_term::Term;
+
+/// A term and its number, as a quotient.
+#[derive(Drop)]
+pub struct Counted {
+    pub term: Term,
+    pub numerator: i128,
+    pub denominator: i128,
+}
+
+/// What the search could not break: a number for each variable and for each read that was looked at.
+#[derive(Drop)]
+pub struct CounterModel {
+    pub numbers: Vec<Counted>,
+}
+
+/// The numbers of the tableau as they are.
+pub(crate) fn counter_model(search: &mut Search) -> Result<CounterModel, Stop> {
+    let mut numbers = Vec::new(search.known.alloc);
+    for place in 0..live_places(&search.known, search.blocks.variables) {
+        if let Some(number) = live_variable(&search.known, search.blocks.variables, place) {
+            let variable = search.known.nodes.variable(number)?;
+            numbers.push(number_in(search, variable)?)?;
+        }
+    }
+    for place in 0..search.known.active.len() {
+        if let Some(read) = active_read(&search.known, place) {
+            numbers.push(number_in(search, read)?)?;
+        }
+    }
+    Ok(CounterModel { numbers })
+}
+
+fn number_in(search: &Search, term: TermId) -> Result<Counted, Stop> {
+    let number = search.known.tableau.value_of(term);
+    Ok(Counted {
+        term: search.known.nodes.term_tree(&[], term)?,
+        numerator: number.numerator(),
+        denominator: number.denominator(),
+    })
+}

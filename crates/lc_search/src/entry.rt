@@ -1,0 +1,212 @@
+//! The search for a proof of a goal.
+ghost use Rattle.lc_table.specs.Tables.{IsFormula, AreFormulas};
+
+use crate::blocks::Blocks;
+use crate::counter::{CounterModel, counter_model};
+use crate::model::Model;
+use crate::ranks::{GOAL, rank_of};
+use crate::solving::{Search, solve};
+use crate::writing::written;
+use lc_base::OutOfMemory;
+use lc_facts::{FactId, Known, Place};
+use lc_farkas::Stop;
+use lc_kernel::{Goal, Proof};
+use lc_table::{FormulaId, TermId, Terms};
+use lc_term::{Formula, Term};
+use std::alloc::Global;
+
+/// How many splits may be nested in each other, in calls of three functions each.
+const MOST_SPLITS: u32 = 600;
+
+/// What a search came to.
+#[derive(Drop)]
+pub enum End {
+    /// A proof, of which nothing is promised.
+    Found(Proof),
+    /// Nothing is left to be tried.
+    NotFound(CounterModel),
+    /// The steps that may be tried are spent, or too many splits are nested in each other.
+    Spent,
+    /// A number does not fit 128 bits.
+    Large,
+}
+
+/// What a search came to, and how many steps were tried.
+#[derive(Drop)]
+pub struct Searched {
+    pub end: End,
+    pub steps: u64,
+}
+
+/// Searches for a proof of a goal, in at most so many steps. The terms and formulas are those of its hints: terms for the
+/// variables of quantifiers, and formulas to split by. Variable 0 is taken for the number of clients: it is near to no goal.
+///
+/// Nothing is promised of a proof that is found: it is to be checked.
+pub fn search(
+    alloc: Global,
+    terms: &Terms,
+    goal: &Goal,
+    uses: &[Term],
+    cuts: &[Formula],
+    budget: u64,
+) -> Result<Searched, OutOfMemory>
+    requires hypotheses { AreFormulas terms.now goal.now.hypotheses.items }
+    requires goal { IsFormula terms.now goal.now.goal }
+{
+    let variables = goal.vars;
+    let mut search = Search {
+        known: Known::new(alloc, variables, budget),
+        model: Model::new(alloc),
+        blocks: Blocks::new(alloc, variables),
+        cuts: Vec::new(alloc),
+    };
+    let found = begun(&mut search, terms, goal, uses, cuts);
+    let steps = budget.saturating_sub(search.known.left);
+    let end = match found {
+        Ok(end) => end,
+        Err(Stop::Spent) => End::Spent,
+        Err(Stop::Large) => End::Large,
+        Err(Stop::OutOfMemory) => return Err(OutOfMemory),
+    };
+    Ok(Searched { end, steps })
+}
+
+/// Enters the goal and its hints, and searches.
+fn begun(
+    search: &mut Search,
+    terms: &Terms,
+    goal: &Goal,
+    uses: &[Term],
+    cuts: &[Formula],
+) -> Result<End, Stop>
+    requires hypotheses { AreFormulas terms.now goal.now.hypotheses.items }
+    requires goal { IsFormula terms.now goal.now.goal }
+{
+    search.known.tick()?;
+    let facts = entered(search, terms, goal)?;
+    enter_hints(search, uses, cuts)?;
+    let mark = search.known.mark();
+    let found = match search.known.assume(&facts)? {
+        Some(proof) => Some(proof),
+        None => solve(search, 1, MOST_SPLITS)?,
+    };
+    match found {
+        Some(proof) => {
+            let proof = search.known.wrap(mark.steps, proof)?;
+            let count = goal.hypotheses.len();
+            Ok(End::Found(written(&search.known, proof, count, goal.vars)?))
+        }
+        None => Ok(End::NotFound(counter_model(search)?)),
+    }
+}
+
+/// Enters a formula of the table.
+fn entered_formula(
+    search: &mut Search,
+    terms: &Terms,
+    formula: FormulaId,
+) -> Result<FormulaId, Stop>
+    requires { IsFormula terms.now formula }
+{
+    let formula = terms.formula(search.known.alloc, formula)?;
+    search.known.nodes.enter_formula(&formula)
+}
+
+/// The facts at the start, near ones first: the negated goal, whose number is behind those of the hypotheses, then these.
+fn entered(search: &mut Search, terms: &Terms, goal: &Goal) -> Result<Vec<FactId>, Stop>
+    requires hypotheses { AreFormulas terms.now goal.now.hypotheses.items }
+    requires goal { IsFormula terms.now goal.now.goal }
+{
+    let mut facts = Vec::new(search.known.alloc);
+    let mut after = Vec::new(search.known.alloc);
+    for hypothesis in &goal.hypotheses {
+        let formula = entered_formula(search, terms, *hypothesis)?;
+        let rank = rank_of(&search.known.nodes, formula)?;
+        let fact = search.known.new_fact(formula, Place { rank, depth: 0 })?;
+        if rank > 1 {
+            after.push(fact)?;
+        } else {
+            facts.push(fact)?;
+        }
+    }
+    let negated = entered_goal(search, terms, goal)?;
+    let mut all = Vec::new(search.known.alloc);
+    all.push(negated)?;
+    all.extend_from_slice(&facts)?;
+    all.extend_from_slice(&after)?;
+    Ok(all)
+}
+
+/// The fact of the negated goal. Its variables are near ones, except the number of clients.
+fn entered_goal(search: &mut Search, terms: &Terms, goal: &Goal) -> Result<FactId, Stop>
+    requires hypotheses { AreFormulas terms.now goal.now.hypotheses.items }
+    requires goal { IsFormula terms.now goal.now.goal }
+{
+    let formula = entered_formula(search, terms, goal.goal)?;
+    let negated = search.known.nodes.not(formula)?;
+    search.known.nodes.learn(formula)?;
+    for place in 0..search.known.nodes.variables(formula).len() {
+        if let Some(variable) = variable_at(search, formula, place)
+            && variable != 0
+        {
+            search.known.near.insert(variable)?;
+        }
+    }
+    let place = Place {
+        rank: GOAL,
+        depth: 0,
+    };
+    search.known.new_fact(negated, place)
+}
+
+fn variable_at(search: &Search, formula: FormulaId, place: usize) -> Option<u32> {
+    search.known.nodes.variables(formula).get(place).copied()
+}
+
+/// Enters the hints, except those with variables that the goal has not.
+fn enter_hints(search: &mut Search, uses: &[Term], cuts: &[Formula]) -> Result<(), Stop> {
+    for term in uses {
+        let term = search.known.nodes.enter_term(term)?;
+        if is_use(search, term)? {
+            search.blocks.uses.push(term)?;
+        }
+    }
+    for formula in cuts {
+        let formula = search.known.nodes.enter_formula(formula)?;
+        if is_cut(search, formula)? {
+            search.cuts.push(formula)?;
+        }
+    }
+    Ok(())
+}
+
+fn is_use(search: &mut Search, term: TermId) -> Result<bool, Stop> {
+    search.known.nodes.learn_term(term)?;
+    if search.known.nodes.term_loose(term) > 0 {
+        return Ok(false);
+    }
+    Ok(are_below(
+        search.known.nodes.term_variables(term),
+        search.blocks.variables,
+    ))
+}
+
+fn is_cut(search: &mut Search, formula: FormulaId) -> Result<bool, Stop> {
+    search.known.nodes.learn(formula)?;
+    if search.known.nodes.formula_loose(formula) > 0 {
+        return Ok(false);
+    }
+    Ok(are_below(
+        search.known.nodes.variables(formula),
+        search.blocks.variables,
+    ))
+}
+
+fn are_below(variables: &[u32], limit: u32) -> bool {
+    for variable in variables {
+        if *variable >= limit {
+            return false;
+        }
+    }
+    true
+}

@@ -1,0 +1,22 @@
+//! The search for a proof of one goal: a formula is looked at only where a model of what is known breaks it. Nothing is
+//! promised of what is found but that looking for it is safe and ends.
+#![tactic(auto)]
+
+mod axioms;
+mod blocks;
+mod candidates;
+mod cases;
+mod counter;
+mod entry;
+mod instances;
+mod model;
+mod ranks;
+mod scanning;
+mod solving;
+mod truth;
+mod tuples;
+mod turn;
+mod writing;
+
+pub use counter::{Counted, CounterModel};
+pub use entry::{End, Searched, search};
