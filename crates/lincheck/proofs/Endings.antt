@@ -3,7 +3,7 @@ use Rattle.std.proofs.Common.{◌≡◌, ℕ, ◌⊎◌, inl, inr, List, [], ◌
 use Rattle.std.specs.Result.{is_err}
 use Rattle.std.specs.Io.KnownBytes.{Keeps, Appends}
 use Rattle.lincheck.specs.CommandLine.{Task}
-use Rattle.lincheck.specs.Execution.{AnswersTask, Ends, EndsInPieces}
+use Rattle.lincheck.specs.Execution.{AnswersTask, Ends}
 use Rattle.lincheck.specs.Printing.{LeavesOf, PrintsText, IsInPieces, Leaves}
 use Rattle.lincheck.specs.Status.{status_of}
 use Rattle.lincheck.specs.declared.answer.Failure.{Failure}
@@ -87,55 +87,31 @@ leaves_asked bytes_at asked task before after r same leaves = subst (λ (t : Tas
 -- ---- how the program ends
 
 -- for want of memory for the command line
-pub ends_unread : (IsAnswer : List ℕ → ℕ → Type 0) (before after : Option (List ℕ)) (status : ℕ) → (status ≡ 4) × (after ≡ before) → Ends IsAnswer before after status
-ends_unread IsAnswer before after status (four, same) = inl (inr four, subst (λ a. Keeps before a) (sym same) (Keeps-same before))
-
-pub pieces_unread : (IsAnswer : List ℕ → ℕ → Type 0) (before after : Option (List ℕ)) (status : ℕ) → (status ≡ 4) × (after ≡ before) → EndsInPieces IsAnswer before after status
-pieces_unread IsAnswer before after status (four, same) = inl (inr four, subst (λ a. Keeps before a) (sym same) (Keeps-same before))
+pub ends_unread : (task : Task) (IsAnswer : List ℕ → ℕ → Type 0) (before after : Option (List ℕ)) (status : ℕ) → (status ≡ 4) × (after ≡ before) → Ends task IsAnswer before after status
+ends_unread task IsAnswer before after status (four, same) = inl (inr four, subst (λ a. Keeps before a) (sym same) (Keeps-same before))
 
 -- with an answer
-ok_ends : (task : Task) (IsAnswer : List ℕ → ℕ → Type 0) (before after : Option (List ℕ)) (status : ℕ) → Leaves task IsAnswer before after (Ok status) → Ends IsAnswer before after status
-ok_ends task IsAnswer before after status (text, is, appends) = inr (text, status, is, inr (refl, appends))
-
-ok_in_pieces : (task : Task) (IsAnswer : List ℕ → ℕ → Type 0) (before after : Option (List ℕ)) (status : ℕ) → Leaves task IsAnswer before after (Ok status) → EndsInPieces IsAnswer before after status
-ok_in_pieces task IsAnswer before after status (text, is, appends) = inr (text, status, is, inr (inr (refl, appends)))
+ok_ends : (task : Task) (IsAnswer : List ℕ → ℕ → Type 0) (before after : Option (List ℕ)) (status : ℕ) → Leaves task IsAnswer before after (Ok status) → Ends task IsAnswer before after status
+ok_ends task IsAnswer before after status (text, is, appends) = inr (text, status, is, inr (inr (refl, appends)))
 
 pub ends_ok : (bytes_at : List ℕ → Option (List ℕ)) (asked task : Task) (before after : Option (List ℕ)) (status : ℕ) → asked ≡ task
-    → Leaves asked (AnswersTask bytes_at asked) before after (Ok status) → Ends (AnswersTask bytes_at task) before after status
+    → Leaves asked (AnswersTask bytes_at asked) before after (Ok status) → Ends task (AnswersTask bytes_at task) before after status
 ends_ok bytes_at asked task before after status same leaves =
     ok_ends task (AnswersTask bytes_at task) before after status (leaves_asked bytes_at asked task before after (Ok status) same leaves)
 
-pub pieces_ok : (bytes_at : List ℕ → Option (List ℕ)) (asked task : Task) (before after : Option (List ℕ)) (status : ℕ) → asked ≡ task
-    → Leaves asked (AnswersTask bytes_at asked) before after (Ok status) → EndsInPieces (AnswersTask bytes_at task) before after status
-pieces_ok bytes_at asked task before after status same leaves =
-    ok_in_pieces task (AnswersTask bytes_at task) before after status (leaves_asked bytes_at asked task before after (Ok status) same leaves)
-
 -- with a failure
-failed_ends : (task : Task) (IsAnswer : List ℕ → ℕ → Type 0) (before after : Option (List ℕ)) (failure : Failure) (status : ℕ) → (IsInPieces task → ⊥) → status ≡ status_of failure
-    → Leaves task IsAnswer before after (Err failure) → Ends IsAnswer before after status
-failed_ends task IsAnswer before after (CannotRead path) status whole is keeps = inl (inl is, keeps)
-failed_ends task IsAnswer before after CannotWrite status whole is (inl keeps) = inl (inl is, keeps)
-failed_ends task IsAnswer before after CannotWrite status whole is (inr (text, said, answers)) = inr (text, said, answers, inl is)
-failed_ends task IsAnswer before after OutOfMemory status whole is (inl keeps) = inl (inr is, keeps)
-failed_ends task IsAnswer before after OutOfMemory status whole is (inr (pieces, begun)) = absurd (whole pieces)
+failed_ends : (task : Task) (IsAnswer : List ℕ → ℕ → Type 0) (before after : Option (List ℕ)) (failure : Failure) (status : ℕ) → status ≡ status_of failure
+    → Leaves task IsAnswer before after (Err failure) → Ends task IsAnswer before after status
+failed_ends task IsAnswer before after (CannotRead path) status is keeps = inl (inl is, keeps)
+failed_ends task IsAnswer before after CannotWrite status is (inl keeps) = inl (inl is, keeps)
+failed_ends task IsAnswer before after CannotWrite status is (inr (text, said, answers)) = inr (text, said, answers, inl is)
+failed_ends task IsAnswer before after OutOfMemory status is (inl keeps) = inl (inr is, keeps)
+failed_ends task IsAnswer before after OutOfMemory status is (inr (pieces, (text, said, answers, begins))) = inr (text, said, answers, inr (inl (pieces, is, begins)))
 
-failed_in_pieces : (task : Task) (IsAnswer : List ℕ → ℕ → Type 0) (before after : Option (List ℕ)) (failure : Failure) (status : ℕ) → status ≡ status_of failure
-    → Leaves task IsAnswer before after (Err failure) → EndsInPieces IsAnswer before after status
-failed_in_pieces task IsAnswer before after (CannotRead path) status is keeps = inl (inl is, keeps)
-failed_in_pieces task IsAnswer before after CannotWrite status is (inl keeps) = inl (inl is, keeps)
-failed_in_pieces task IsAnswer before after CannotWrite status is (inr (text, said, answers)) = inr (text, said, answers, inl is)
-failed_in_pieces task IsAnswer before after OutOfMemory status is (inl keeps) = inl (inr is, keeps)
-failed_in_pieces task IsAnswer before after OutOfMemory status is (inr (pieces, (text, said, answers, begins))) = inr (text, said, answers, inr (inl (is, begins)))
-
-pub ends_failed : (bytes_at : List ℕ → Option (List ℕ)) (asked task : Task) (before after : Option (List ℕ)) (failure : Failure) (status : ℕ) → asked ≡ task → (IsInPieces task → ⊥)
-    → status ≡ status_of failure → Leaves asked (AnswersTask bytes_at asked) before after (Err failure) → Ends (AnswersTask bytes_at task) before after status
-ends_failed bytes_at asked task before after failure status same whole is leaves =
-    failed_ends task (AnswersTask bytes_at task) before after failure status whole is (leaves_asked bytes_at asked task before after (Err failure) same leaves)
-
-pub pieces_failed : (bytes_at : List ℕ → Option (List ℕ)) (asked task : Task) (before after : Option (List ℕ)) (failure : Failure) (status : ℕ) → asked ≡ task
-    → status ≡ status_of failure → Leaves asked (AnswersTask bytes_at asked) before after (Err failure) → EndsInPieces (AnswersTask bytes_at task) before after status
-pieces_failed bytes_at asked task before after failure status same is leaves =
-    failed_in_pieces task (AnswersTask bytes_at task) before after failure status is (leaves_asked bytes_at asked task before after (Err failure) same leaves)
+pub ends_failed : (bytes_at : List ℕ → Option (List ℕ)) (asked task : Task) (before after : Option (List ℕ)) (failure : Failure) (status : ℕ) → asked ≡ task
+    → status ≡ status_of failure → Leaves asked (AnswersTask bytes_at asked) before after (Err failure) → Ends task (AnswersTask bytes_at task) before after status
+ends_failed bytes_at asked task before after failure status same is leaves =
+    failed_ends task (AnswersTask bytes_at task) before after failure status is (leaves_asked bytes_at asked task before after (Err failure) same leaves)
 
 -- a failure has status 3 or 4
 pub failed_status : (failure : Failure) (status : ℕ) → status ≡ status_of failure → (status ≡ 3) ⊎ (status ≡ 4)

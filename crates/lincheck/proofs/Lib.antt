@@ -6,6 +6,7 @@ pub mod Taken
 pub mod Words
 pub mod Endings
 pub mod Opened
+pub mod Proving
 pub mod OneHistory
 pub mod OneCheck
 pub mod Fed

@@ -9,7 +9,7 @@ use Rattle.clap.specs.declared.parser.matches.Found.{Found}
 use Rattle.clap.proofs.WalkLemmas.{first_value-rows}
 use Rattle.lincheck.specs.declared.command_line.Request.{Request}
 use Rattle.clap.proofs.OnLiterals.{clap_on_literals}
-use Rattle.lincheck.specs.CommandLine.{AreWrong, AskForHelp, AsksForText, HasPlainPaths, Reads, Task, CheckFormula, JudgeHistory, ShowDevelopment, ListConditions, CheckCertificate, one_file_task, two_file_task, program_app, task_in, task_of, words_for}
+use Rattle.lincheck.specs.CommandLine.{AreWrong, AskForHelp, AsksForText, HasPlainPaths, Reads, Task, CheckFormula, JudgeHistory, ShowDevelopment, ListConditions, CheckCertificate, ProveDevelopment, ProveWithHints, one_file_task, proving, proving_task, two_file_task, program_app, task_in, task_of, words_for}
 
 is_other : (b : ℕ) → not (b == 45) ≡ true → (b == 45) ≡ false
 is_other b plain = by (b == 45) refl plain
@@ -47,6 +47,14 @@ task_is_read name (CheckCertificate [] (c ∷ other)) plain = let f = is_other c
 task_is_read name (CheckCertificate (b ∷ path) (c ∷ other)) plain =
     let e = is_other b plain.0 in
     let f = is_other c plain.1 in simp (e, f) (refl {a = Some (CheckCertificate (b ∷ path) (c ∷ other))})
+task_is_read name (ProveDevelopment []) plain = refl {a = Some (ProveDevelopment [])}
+task_is_read name (ProveDevelopment (b ∷ path)) plain = let e = is_other b plain in simp e (refl {a = Some (ProveDevelopment (b ∷ path))})
+task_is_read name (ProveWithHints [] []) plain = refl {a = Some (ProveWithHints [] [])}
+task_is_read name (ProveWithHints (b ∷ path) []) plain = let e = is_other b plain.0 in simp e (refl {a = Some (ProveWithHints (b ∷ path) [])})
+task_is_read name (ProveWithHints [] (c ∷ other)) plain = let f = is_other c plain.1 in simp f (refl {a = Some (ProveWithHints [] (c ∷ other))})
+task_is_read name (ProveWithHints (b ∷ path) (c ∷ other)) plain =
+    let e = is_other b plain.0 in
+    let f = is_other c plain.1 in simp (e, f) (refl {a = Some (ProveWithHints (b ∷ path) (c ∷ other))})
 
 -- nothing is wrong in the words
 pub words_are_taken : (name : List ℕ) (task : Task) → HasPlainPaths task → takes program_app (words_for name task) ≡ true
@@ -67,6 +75,14 @@ words_are_taken name (CheckCertificate [] []) plain = refl {a = true}
 words_are_taken name (CheckCertificate (b ∷ path) []) plain = let e = is_other b plain.0 in simp e (refl {a = true})
 words_are_taken name (CheckCertificate [] (c ∷ other)) plain = let f = is_other c plain.1 in simp f (refl {a = true})
 words_are_taken name (CheckCertificate (b ∷ path) (c ∷ other)) plain =
+    let e = is_other b plain.0 in
+    let f = is_other c plain.1 in simp (e, f) (refl {a = true})
+words_are_taken name (ProveDevelopment []) plain = refl {a = true}
+words_are_taken name (ProveDevelopment (b ∷ path)) plain = let e = is_other b plain in simp e (refl {a = true})
+words_are_taken name (ProveWithHints [] []) plain = refl {a = true}
+words_are_taken name (ProveWithHints (b ∷ path) []) plain = let e = is_other b plain.0 in simp e (refl {a = true})
+words_are_taken name (ProveWithHints [] (c ∷ other)) plain = let f = is_other c plain.1 in simp f (refl {a = true})
+words_are_taken name (ProveWithHints (b ∷ path) (c ∷ other)) plain =
     let e = is_other b plain.0 in
     let f = is_other c plain.1 in simp (e, f) (refl {a = true})
 
@@ -137,3 +153,12 @@ two_found task name f development other is is' =
 -- without a development nothing is asked for
 pub two_unfound : (task : List ℕ → List ℕ → Task) (name : Text) (f : Found) → None ≡ first_value f (codes "DEV") → None ≡ two_file_task task name (rows_of f)
 two_unfound task name f is = ap (λ x. option_and_then (λ d. option_map (task d) (first_of name (rows_of f))) x) (is ∙ first_value-rows f (codes "DEV"))
+
+-- the same of a development that is to be proved, with hints or without
+pub proving_found : (f : Found) (development : Text) (hints : Option Text) → Some development ≡ first_value f (codes "DEV") → hints ≡ first_value f (codes "hints")
+    → Some (proving development hints) ≡ proving_task (rows_of f)
+proving_found f development hints is is' =
+    ap₂ (λ x y. option_map (λ d. proving d y) x) (is ∙ first_value-rows f (codes "DEV")) (is' ∙ first_value-rows f (codes "hints"))
+
+pub proving_unfound : (f : Found) → None ≡ first_value f (codes "DEV") → None ≡ proving_task (rows_of f)
+proving_unfound f is = ap (option_map (λ d. proving d (first_of (codes "hints") (rows_of f)))) (is ∙ first_value-rows f (codes "DEV"))

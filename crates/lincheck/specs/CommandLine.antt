@@ -7,11 +7,15 @@ use Rattle.clap.specs.declared.builder.action.ArgAction.TheVariants.{Set}
 use Rattle.clap.specs.declared.error.kind.ErrorKind.{ErrorKind}
 use Rattle.clap.specs.declared.error.kind.ErrorKind.TheVariants.{DisplayHelp, DisplayVersion}
 use Rattle.lincheck.specs.declared.command_line.Request.{Request}
-use Rattle.lincheck.specs.declared.command_line.Request.TheVariants.{Formula, Judge, Show, Conditions, Check}
+use Rattle.lincheck.specs.declared.command_line.Request.TheVariants.{Formula, Judge, Show, Conditions, Check, Prove}
 
 -- a required argument that names a file
 abbrev pub file_rule : Text → Rule
 file_rule name = record (new_rule name) { action = Some Set; required = true }
+
+-- an option that names a file
+abbrev pub option_rule : Text → Rule
+option_rule name = record (new_rule name) { long = Some name; action = Some Set; value_names = 1 }
 
 -- `formula FILE`
 abbrev pub formula_app : App
@@ -33,6 +37,10 @@ conditions_app = with_rule (new_app (codes "conditions")) (file_rule (codes "DEV
 abbrev pub check_app : App
 check_app = with_rule (with_rule (new_app (codes "check")) (file_rule (codes "DEV"))) (file_rule (codes "CERT"))
 
+-- `prove DEV [--hints FILE]`
+abbrev pub prove_app : App
+prove_app = with_rule (with_rule (new_app (codes "prove")) (file_rule (codes "DEV"))) (option_rule (codes "hints"))
+
 -- a command of this name that needs a subcommand
 abbrev pub needs_subcommand : Text → App
 needs_subcommand name = record { top = record (new_app name).top { subcommand_required = true }; subs = [] }
@@ -41,23 +49,31 @@ needs_subcommand name = record { top = record (new_app name).top { subcommand_re
 abbrev pub first_app : App
 first_app = with_subcommand (with_subcommand (needs_subcommand (codes "lincheck")) formula_app.top) judge_app.top
 
--- the program with all commands but the last
+-- the program with all commands but the last two
 abbrev pub further_app : App
 further_app = with_subcommand (with_subcommand first_app show_app.top) conditions_app.top
 
 -- the program and its commands
 abbrev pub program_app : App
-program_app = with_subcommand further_app check_app.top
+program_app = with_subcommand (with_subcommand further_app check_app.top) prove_app.top
 
 -- What may be asked for: that the proof in the file at a path is checked; that the history in one file is judged by the
--- specification in another; that the development in a file is shown, or its conditions are listed; or that the certificate in
--- one file is checked against the development in another
+-- specification in another; that the development in a file is shown, or its conditions are listed; that the certificate in
+-- one file is checked against the development in another; or that a certificate is found of the development in a file, without
+-- hints or with those in another
 pub data Task : Type 0 where
   CheckFormula : (path : List ℕ) → Task
   JudgeHistory : (development history : List ℕ) → Task
   ShowDevelopment : (development : List ℕ) → Task
   ListConditions : (development : List ℕ) → Task
   CheckCertificate : (development certificate : List ℕ) → Task
+  ProveDevelopment : (development : List ℕ) → Task
+  ProveWithHints : (development hints : List ℕ) → Task
+
+-- the task of proving a development, with hints if there is a path of such
+abbrev pub proving : List ℕ → Option (List ℕ) → Task
+proving development None = ProveDevelopment development
+proving development (Some hints) = ProveWithHints development hints
 
 -- the task of a request
 abbrev pub task_of : Request → Task
@@ -66,6 +82,7 @@ task_of (Judge development history) = JudgeHistory development.now history.now
 task_of (Show development) = ShowDevelopment development.now
 task_of (Conditions development) = ListConditions development.now
 task_of (Check development certificate) = CheckCertificate development.now certificate.now
+task_of (Prove development hints) = proving development.now (option_map (λ path. path.now) hints)
 
 -- the task with the file that these arguments name so
 abbrev pub one_file_task : (List ℕ → Task) → Text → List Row → Option Task
@@ -74,6 +91,10 @@ one_file_task task name rows = option_map task (first_of name rows)
 -- the task with a development and the file that these arguments name so
 abbrev pub two_file_task : (List ℕ → List ℕ → Task) → Text → List Row → Option Task
 two_file_task task name rows = option_and_then (λ development. option_map (task development) (first_of name rows)) (first_of (codes "DEV") rows)
+
+-- the task of proving the development with the hints that these arguments name
+abbrev pub proving_task : List Row → Option Task
+proving_task rows = option_map (λ development. proving development (first_of (codes "hints") rows)) (first_of (codes "DEV") rows)
 
 -- the task of a command with its arguments
 abbrev pub task_in_command : Text × List Row → Option Task
@@ -86,7 +107,9 @@ task_in_command c =
     then one_file_task ShowDevelopment (codes "DEV") c.1
     else (if bytes_eq c.0 (codes "conditions")
     then one_file_task ListConditions (codes "DEV") c.1
-    else (if bytes_eq c.0 (codes "check") then two_file_task CheckCertificate (codes "CERT") c.1 else None))))
+    else (if bytes_eq c.0 (codes "check")
+    then two_file_task CheckCertificate (codes "CERT") c.1
+    else (if bytes_eq c.0 (codes "prove") then proving_task c.1 else None)))))
 
 -- the task of a command with its arguments, if there is one
 abbrev pub task_in : Option (Text × List Row) → Option Task
@@ -117,33 +140,15 @@ abbrev pub is_plain : List ℕ → Bool
 is_plain [] = true
 is_plain (b ∷ path) = not (b == 45)
 
--- `NAME formula PATH`
-abbrev pub formula_words : List ℕ → List ℕ → List Text
-formula_words name path = name ∷ codes "formula" ∷ path ∷ []
-
--- `NAME judge PATH PATH`
-abbrev pub judge_words : List ℕ → List ℕ → List ℕ → List Text
-judge_words name development history = name ∷ codes "judge" ∷ development ∷ history ∷ []
-
--- `NAME show PATH`
-abbrev pub show_words : List ℕ → List ℕ → List Text
-show_words name development = name ∷ codes "show" ∷ development ∷ []
-
--- `NAME conditions PATH`
-abbrev pub conditions_words : List ℕ → List ℕ → List Text
-conditions_words name development = name ∷ codes "conditions" ∷ development ∷ []
-
--- `NAME check PATH PATH`
-abbrev pub check_words : List ℕ → List ℕ → List ℕ → List Text
-check_words name development certificate = name ∷ codes "check" ∷ development ∷ certificate ∷ []
-
--- the words that ask for a task
+-- the words that ask for a task, behind the name of the program
 abbrev pub words_for : List ℕ → Task → List Text
-words_for name (CheckFormula path) = formula_words name path
-words_for name (JudgeHistory development history) = judge_words name development history
-words_for name (ShowDevelopment development) = show_words name development
-words_for name (ListConditions development) = conditions_words name development
-words_for name (CheckCertificate development certificate) = check_words name development certificate
+words_for name (CheckFormula path) = name ∷ codes "formula" ∷ path ∷ []
+words_for name (JudgeHistory development history) = name ∷ codes "judge" ∷ development ∷ history ∷ []
+words_for name (ShowDevelopment development) = name ∷ codes "show" ∷ development ∷ []
+words_for name (ListConditions development) = name ∷ codes "conditions" ∷ development ∷ []
+words_for name (CheckCertificate development certificate) = name ∷ codes "check" ∷ development ∷ certificate ∷ []
+words_for name (ProveDevelopment development) = name ∷ codes "prove" ∷ development ∷ []
+words_for name (ProveWithHints development hints) = name ∷ codes "prove" ∷ development ∷ codes "--hints" ∷ hints ∷ []
 
 -- none of its paths begins with a hyphen
 abbrev pub HasPlainPaths : Task → Type 0
@@ -152,3 +157,5 @@ HasPlainPaths (JudgeHistory development history) = (is_plain development ≡ tru
 HasPlainPaths (ShowDevelopment development) = is_plain development ≡ true
 HasPlainPaths (ListConditions development) = is_plain development ≡ true
 HasPlainPaths (CheckCertificate development certificate) = (is_plain development ≡ true) × (is_plain certificate ≡ true)
+HasPlainPaths (ProveDevelopment development) = is_plain development ≡ true
+HasPlainPaths (ProveWithHints development hints) = (is_plain development ≡ true) × (is_plain hints ≡ true)

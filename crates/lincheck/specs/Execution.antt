@@ -9,10 +9,11 @@ use Rattle.lc_outline.specs.Development.{Development}
 use Rattle.lc_outline_print.specs.Developments.{development_printed}
 use Rattle.lc_outline_text.specs.Developments.{file_reading}
 use Rattle.lincheck.specs.Check.{AnswersDevelopment, AnswersCheck}
-use Rattle.lincheck.specs.CommandLine.{Task, CheckFormula, JudgeHistory, ShowDevelopment, ListConditions, CheckCertificate}
+use Rattle.lincheck.specs.CommandLine.{Task, CheckFormula, JudgeHistory, ShowDevelopment, ListConditions, CheckCertificate, ProveDevelopment, ProveWithHints}
 use Rattle.lincheck.specs.Formula.{AnswersFormula}
 use Rattle.lincheck.specs.Judge.{AnswersJudge}
-use Rattle.lincheck.specs.Printing.{Begins}
+use Rattle.lincheck.specs.Prove.{AnswersProve, AnswersHinted}
+use Rattle.lincheck.specs.Printing.{Begins, IsInPieces}
 
 -- the answer to a task, where the files that it names are known
 abbrev pub AnswersTask : (List ℕ → Option (List ℕ)) → Task → List ℕ → ℕ → Type 0
@@ -25,6 +26,10 @@ AnswersTask bytes_at (ListConditions development) text status =
     IfSome (bytes_at development) (λ file. AnswersDevelopment conditions_text file text status)
 AnswersTask bytes_at (CheckCertificate development certificate) text status =
     IfSome (bytes_at development) (λ file. AnswersCheck file (bytes_at certificate) text status)
+AnswersTask bytes_at (ProveDevelopment development) text status =
+    IfSome (bytes_at development) (λ file. AnswersProve file text status)
+AnswersTask bytes_at (ProveWithHints development hints) text status =
+    IfSome (bytes_at development) (λ file. AnswersHinted file (bytes_at hints) text status)
 
 -- A file that a task needs cannot be opened: the only one or the development; or the other, where the development is read
 abbrev pub IsUnread : (List ℕ → Type 0) → (List ℕ → Option (List ℕ)) → Task → Type 0
@@ -37,17 +42,16 @@ IsUnread CannotOpen bytes_at (ListConditions development) = CannotOpen developme
 IsUnread CannotOpen bytes_at (CheckCertificate development certificate) =
     CannotOpen development
     ⊎ ((file : List ℕ) × (D : Development) × (bytes_at development ≡ Some file) × Says file_reading file D × CannotOpen certificate)
+IsUnread CannotOpen bytes_at (ProveDevelopment development) = CannotOpen development
+IsUnread CannotOpen bytes_at (ProveWithHints development hints) =
+    CannotOpen development
+    ⊎ ((file : List ℕ) × (D : Development) × (bytes_at development ≡ Some file) × Says file_reading file D × CannotOpen hints)
 
--- The program ends: with a fault of reading, or for want of memory, and nothing is printed; or with an answer of which
--- this holds, which is printed behind what stood on standard output, unless there is a fault of writing
-abbrev pub Ends : (List ℕ → ℕ → Type 0) → Option (List ℕ) → Option (List ℕ) → ℕ → Type 0
-Ends IsAnswer before after status =
-    (((status ≡ 3) ⊎ (status ≡ 4)) × Keeps before after)
-    ⊎ ((text : List ℕ) × (said : ℕ) × IsAnswer text said × ((status ≡ 3) ⊎ ((status ≡ said) × Appends before after text)))
-
--- The same for a text that is printed as it is made: where memory is refused, a beginning of it may stand there
-abbrev pub EndsInPieces : (List ℕ → ℕ → Type 0) → Option (List ℕ) → Option (List ℕ) → ℕ → Type 0
-EndsInPieces IsAnswer before after status =
+-- The program ends with a task: with a fault of reading, or for want of memory, and nothing is printed; or with an answer of which
+-- this holds, which is printed behind what stood on standard output, unless there is a fault of writing, or memory is refused while
+-- an answer is printed as it is made: then a beginning of it stands there
+abbrev pub Ends : Task → (List ℕ → ℕ → Type 0) → Option (List ℕ) → Option (List ℕ) → ℕ → Type 0
+Ends task IsAnswer before after status =
     (((status ≡ 3) ⊎ (status ≡ 4)) × Keeps before after)
     ⊎ ((text : List ℕ) × (said : ℕ) × IsAnswer text said
-    × ((status ≡ 3) ⊎ (((status ≡ 4) × Begins before after text) ⊎ ((status ≡ said) × Appends before after text))))
+    × ((status ≡ 3) ⊎ ((IsInPieces task × (status ≡ 4) × Begins before after text) ⊎ ((status ≡ said) × Appends before after text))))

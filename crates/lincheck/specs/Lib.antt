@@ -5,5 +5,6 @@ pub mod Reading
 pub mod Formula
 pub mod Judge
 pub mod Check
+pub mod Prove
 pub mod Printing
 pub mod Execution

@@ -3,7 +3,7 @@ ghost use Rattle.std.specs.Prelude.{◌≡◌, ◌⊎◌, ℕ, List, codes, IfOk
 ghost use Rattle.clap.specs.Words.{app_of, found_of, kind_of, rows_of, rule_of, subcommand_rows_of};
 ghost use Rattle.clap.specs.declared.builder.command.Command.TheViews.{out-Command};
 ghost use Rattle.clap.specs.declared.error.kind.ErrorKind.TheVariants.{OutOfMemory};
-ghost use Rattle.lincheck.specs.CommandLine.{AreWrong, AskForHelp, AsksForText, HasPlainPaths, CheckCertificate, CheckFormula, JudgeHistory, ListConditions, Reads, ShowDevelopment, Task, check_app, conditions_app, file_rule, first_app, formula_app, further_app, judge_app, one_file_task, program_app, show_app, task_in, task_of, texts_of, two_file_task, words_for};
+ghost use Rattle.lincheck.specs.CommandLine.{AreWrong, AskForHelp, AsksForText, HasPlainPaths, CheckCertificate, CheckFormula, JudgeHistory, ListConditions, Reads, ShowDevelopment, Task, check_app, conditions_app, file_rule, first_app, formula_app, further_app, judge_app, one_file_task, option_rule, program_app, prove_app, proving_task, show_app, task_in, task_of, texts_of, two_file_task, words_for};
 
 use clap::error::ErrorKind;
 use clap::{Arg, ArgAction, ArgMatches, Command, Error};
@@ -28,6 +28,11 @@ pub enum Request<'a> {
         development: &'a str,
         certificate: &'a str,
     },
+    /// Find a certificate of the development in a file, with the hints in another, if there is one.
+    Prove {
+        development: &'a str,
+        hints: Option<&'a str>,
+    },
 }
 
 static ABOUT: &str = "Checks written proofs that concurrent objects are linearizable";
@@ -48,7 +53,9 @@ Examples:
   lincheck judge examples/counter.spec examples/linearizable.json
       reads how two clients counted at the same time, and prints `linearizable`
   lincheck check examples/counter.lc examples/counter.cert
-      reads what is claimed of a counter, with the proofs, and prints `accepted counter 59`";
+      reads what is claimed of a counter, with the proofs, and prints `accepted counter 59`
+  lincheck prove examples/counter.lc
+      reads what is claimed of a counter, and prints proofs of it";
 
 static FORMULA: &str = "Checks the proof of one formula";
 
@@ -151,6 +158,24 @@ Example:
   lincheck check examples/counter.lc examples/counter.cert
       prints `accepted counter 59`";
 
+static PROVE: &str = "Finds a certificate of a development";
+
+static HINTS: &str = "Hints: terms, formulas and proofs for conditions, by their numbers";
+
+static PROVE_ANSWER: &str = "\
+Reads DEV and, where it is a development, the hints in FILE. Looks for a proof of each condition, and prints a certificate
+of all, which `check` accepts. Else it prints one line:
+  refused CODE ..  DEV is no development, or FILE no hints: the codes 1 to 6, as of `check`
+  not-found K      no proof of condition K was found
+  budget K         1,000,000 steps were tried for condition K, or the certificate would be too large
+  large K          a number of the search for condition K leaves 128 bits
+`conditions` prints the conditions by their numbers. For condition K, FILE offers terms (use K T ..), a formula (cut K F) or
+a whole proof (by K P).
+
+Example:
+  lincheck prove examples/counter.lc
+      prints a certificate of the counter, with 59 proofs";
+
 /// An argument that names a file.
 fn file<'a>(alloc: Global, name: &'a str, help: &'a str) -> Arg<'a>
     ensures rule { rule_of result ≡ file_rule name.entry.now }
@@ -214,6 +239,29 @@ fn check_command<'a>(alloc: Global) -> Result<Command<'a>, AllocError>
         .arg(file(alloc, "CERT", CERTIFICATE_FILE))
 }
 
+/// An option that names a file.
+fn file_option<'a>(alloc: Global, name: &'a str, help: &'a str) -> Arg<'a>
+    ensures rule { rule_of result ≡ option_rule name.entry.now }
+    ensures local { result.global ≡ false }
+{
+    Arg::new(alloc, name)
+        .long(name)
+        .value_name("FILE")
+        .action(ArgAction::Set)
+        .help(help)
+}
+
+fn prove_command<'a>(alloc: Global) -> Result<Command<'a>, AllocError>
+    ensures app { IfOk result (λ command. app_of command ≡ prove_app) }
+    ensures local { IfOk result (λ command. (out-Command command).has_globals ≡ false) }
+{
+    Command::new(alloc, "prove")
+        .about(PROVE)
+        .after_help(PROVE_ANSWER)
+        .arg(file(alloc, "DEV", DEVELOPMENT))?
+        .arg(file_option(alloc, "hints", HINTS))
+}
+
 /// The program with its first two commands.
 fn first_commands<'a>(alloc: Global) -> Result<Command<'a>, AllocError>
     ensures { IfOk result (λ command. app_of command ≡ first_app) }
@@ -226,7 +274,7 @@ fn first_commands<'a>(alloc: Global) -> Result<Command<'a>, AllocError>
         .subcommand(judge_command(alloc)?)
 }
 
-/// The program with all commands but the last.
+/// The program with all commands but the last two.
 fn further_commands<'a>(alloc: Global) -> Result<Command<'a>, AllocError>
     ensures { IfOk result (λ command. app_of command ≡ further_app) }
 {
@@ -238,7 +286,9 @@ fn further_commands<'a>(alloc: Global) -> Result<Command<'a>, AllocError>
 fn program<'a>(alloc: Global) -> Result<Command<'a>, AllocError>
     ensures { IfOk result (λ command. app_of command ≡ program_app) }
 {
-    further_commands(alloc)?.subcommand(check_command(alloc)?)
+    further_commands(alloc)?
+        .subcommand(check_command(alloc)?)?
+        .subcommand(prove_command(alloc)?)
 }
 
 fn formula_request<'a>(command: &ArgMatches<'a>) -> Option<Request<'a>>
@@ -284,6 +334,14 @@ fn check_request<'a>(command: &ArgMatches<'a>) -> Option<Request<'a>>
     })
 }
 
+fn prove_request<'a>(command: &ArgMatches<'a>) -> Option<Request<'a>>
+    ensures { option_map task_of result ≡ proving_task (rows_of (found_of command.now)) }
+{
+    let development = command.get_str("DEV")?;
+    let hints = command.get_str("hints");
+    Some(Request::Prove { development, hints })
+}
+
 /// What the words ask for, if there is a command in them with all its files.
 fn request_of<'a>(matches: &ArgMatches<'a>) -> Option<Request<'a>>
     ensures { option_map task_of result ≡ task_in (subcommand_rows_of matches.now) }
@@ -295,6 +353,7 @@ fn request_of<'a>(matches: &ArgMatches<'a>) -> Option<Request<'a>>
         "show" => show_request(command),
         "conditions" => conditions_request(command),
         "check" => check_request(command),
+        "prove" => prove_request(command),
         _ => None,
     }
 }

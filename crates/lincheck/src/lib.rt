@@ -12,6 +12,7 @@ mod judge;
 pub mod laws;
 mod printing;
 mod program;
+mod prove;
 mod reading;
 mod show;
 mod sink;

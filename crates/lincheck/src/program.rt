@@ -1,12 +1,7 @@
 ghost use Rattle.std.specs.Prelude.{◌≡◌, ◌⊎◌, ℕ, List, true, IfSome, IsErr};
 ghost use Rattle.clap.specs.Words.{kind_of};
-ghost use Rattle.lc_cond_text.specs.ConditionText.{conditions_text};
-ghost use Rattle.lc_outline_print.specs.Developments.{development_printed};
-ghost use Rattle.lincheck.specs.CommandLine.{AreWrong, AskForHelp, AsksForText, HasPlainPaths, Task, check_words, conditions_words, formula_words, is_plain, judge_words, show_words, task_of, texts_of, words_for};
-ghost use Rattle.lincheck.specs.Check.{AnswersCheck, AnswersDevelopment};
-ghost use Rattle.lincheck.specs.Execution.{AnswersTask, Ends, EndsInPieces, IsUnread};
-ghost use Rattle.lincheck.specs.Formula.{AnswersFormula};
-ghost use Rattle.lincheck.specs.Judge.{AnswersJudge};
+ghost use Rattle.lincheck.specs.CommandLine.{AreWrong, AskForHelp, AsksForText, HasPlainPaths, Task, task_of, texts_of, words_for};
+ghost use Rattle.lincheck.specs.Execution.{AnswersTask, Ends, IsUnread};
 ghost use Rattle.lincheck.specs.Printing.{Leaves};
 ghost use Rattle.lincheck.specs.Status.{status_of};
 
@@ -18,6 +13,7 @@ use crate::files::Files;
 use crate::formula::answer_formula;
 use crate::judge::answer_judge;
 use crate::printing::print_answer;
+use crate::prove::answer_prove;
 use crate::show::answer_show;
 use clap::error::ErrorKind;
 use std::alloc::Global;
@@ -47,6 +43,9 @@ fn carry_out<'a, F: Files, O: Write>(
             development,
             certificate,
         } => print_answer(out, &answer_check(alloc, files, development, certificate)?),
+        Request::Prove { development, hints } => {
+            print_answer(out, &answer_prove(alloc, files, development, hints)?)
+        }
     }
 }
 
@@ -93,16 +92,8 @@ pub fn execute<F: Files, O: Write, E: Write>(
     out: &mut O,
     err: &mut E,
 ) -> u8
-    ensures formula { (name path : List ℕ) → texts_of words.now ≡ formula_words name path → is_plain path ≡ true
-        → Ends (λ text status. IfSome (F.bytes_at files.old path) (λ file. AnswersFormula file text status)) (O.contents out.old) (O.contents out.new) result }
-    ensures judge { (name development history : List ℕ) → texts_of words.now ≡ judge_words name development history → is_plain development ≡ true → is_plain history ≡ true
-        → Ends (λ text status. IfSome (F.bytes_at files.old development) (λ file. AnswersJudge file (F.bytes_at files.old history) text status)) (O.contents out.old) (O.contents out.new) result }
-    ensures show { (name development : List ℕ) → texts_of words.now ≡ show_words name development → is_plain development ≡ true
-        → Ends (λ text status. IfSome (F.bytes_at files.old development) (λ file. AnswersDevelopment development_printed file text status)) (O.contents out.old) (O.contents out.new) result }
-    ensures conditions { (name development : List ℕ) → texts_of words.now ≡ conditions_words name development → is_plain development ≡ true
-        → EndsInPieces (λ text status. IfSome (F.bytes_at files.old development) (λ file. AnswersDevelopment conditions_text file text status)) (O.contents out.old) (O.contents out.new) result }
-    ensures check { (name development certificate : List ℕ) → texts_of words.now ≡ check_words name development certificate → is_plain development ≡ true → is_plain certificate ≡ true
-        → Ends (λ text status. IfSome (F.bytes_at files.old development) (λ file. AnswersCheck file (F.bytes_at files.old certificate) text status)) (O.contents out.old) (O.contents out.new) result }
+    ensures answers { (name : List ℕ) (task : Task) → texts_of words.now ≡ words_for name task → HasPlainPaths task
+        → Ends task (AnswersTask (F.bytes_at files.old) task) (O.contents out.old) (O.contents out.new) result }
     ensures unread { (name : List ℕ) (task : Task) → texts_of words.now ≡ words_for name task → HasPlainPaths task → IsUnread (F.CannotOpen files.old) (F.bytes_at files.old) task
         → ((result ≡ 3) ⊎ (result ≡ 4)) × (out.new ≡ out.old) }
     ensures help { AskForHelp (texts_of words.now) → ((result ≡ 0) ⊎ ((result ≡ 3) ⊎ (result ≡ 4))) × (files.new ≡ files.old) }

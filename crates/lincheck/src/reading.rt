@@ -75,8 +75,7 @@ pub fn feed_file<'a, F: Files, S: Sink>(
     }
 }
 
-/// The bytes of the file at a path, or its first 16,777,217 bytes where it has more. Room for the longest file is asked for
-/// at once.
+/// The bytes of the file at a path, or its first 16,777,217 bytes where it has more. Room grows with what is read.
 pub fn read_file<'a, F: Files>(
     alloc: Global,
     files: &mut F,
@@ -87,10 +86,7 @@ pub fn read_file<'a, F: Files>(
     ensures unread { F.CannotOpen files.old path.now → IsErr result }
     ensures bytes { IfOk result (λ bytes. IfSome (F.bytes_at files.old path.now) (λ file. bytes.items ≡ within_limit file)) }
 {
-    // Room that is never written to costs no memory, and a vector that grows holds its bytes twice.
-    let Ok(mut bytes) = Vec::with_capacity(alloc, MOST_BYTES) else {
-        return Err(Failure::OutOfMemory);
-    };
+    let mut bytes = Vec::new(alloc);
     feed_file(files, path, &mut bytes)?;
     Ok(bytes)
 }

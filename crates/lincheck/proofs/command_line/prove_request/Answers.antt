@@ -1,0 +1,11 @@
+use Rattle.clap.specs.Words.{found_of}
+use Rattle.std.specs.Prelude.{option_map}
+use Rattle.lincheck.proofs.Words.{proving_found, proving_unfound}
+use Rattle.lincheck.proofs.command_line.prove_request.Goals as goal
+
+pub returns-in_err-development : goal.returns-in_err-development
+returns-in_err-development c = rw c.from_residual.ensures (proving_unfound (found_of c.args.command.now) c.in_err-development.ensures)
+
+pub returns : goal.returns
+returns c =
+    proving_found (found_of c.args.command.now) c.in_ok-development.development.now (option_map (λ path. path.now) c.get_str-hints.result) c.in_ok-development.ensures c.get_str-hints.ensures

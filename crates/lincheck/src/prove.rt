@@ -1,0 +1,153 @@
+//! The command `prove`.
+ghost use Rattle.std.specs.Prelude.{◌≡◌, ◌∷◌, [], IfOk, IfSome, IsErr};
+ghost use Rattle.lc_base.specs.Line.{line_of};
+ghost use Rattle.lc_term.specs.Lists.{Every};
+ghost use Rattle.lc_cert.specs.Printed.{EntryReadsBack};
+ghost use Rattle.lc_hints.specs.HintView.{proofs_in};
+ghost use Rattle.lc_outline.specs.DevelopmentView.{development_shown};
+ghost use Rattle.lincheck.specs.CommandLine.{ProveWithHints, task_of};
+ghost use Rattle.lincheck.specs.declared.command_line.Request.TheVariants.{Prove};
+ghost use Rattle.lincheck.specs.Execution.{AnswersTask, IsUnread};
+ghost use Rattle.lincheck.specs.Prove.{AnswersFound, AnswersHinted, AnswersHints, AnswersProve, OpensHints, ToldFound};
+
+use crate::answer::{Answer, Failure, REFUSED, SUCCESS, told_fault};
+use crate::check::open_development;
+use crate::files::Files;
+use crate::reading::read_file;
+use lc_base::{OutOfMemory, write_line};
+use lc_cert::{Certificate, certificate_text};
+use lc_find::{FindFault, find};
+use lc_hints::{Hints, hints_of};
+use lc_outline::Development;
+use std::alloc::Global;
+
+/// How many steps are tried for a condition.
+const BUDGET: u64 = 1_000_000;
+
+/// The line of a word and a condition's number.
+fn told_unfound(alloc: Global, word: &str, number: u64) -> Result<Answer, OutOfMemory>
+    ensures { IfOk result (λ answer. (answer.text.items ≡ line_of word.now (number ∷ [])) × (answer.status ≡ 1)) }
+{
+    Ok(Answer {
+        text: write_line(alloc, word, &[number])?,
+        status: REFUSED,
+    })
+}
+
+/// A certificate as its text; else the line that names the first condition without a proof.
+fn told_found(
+    alloc: Global,
+    development: &Development,
+    found: Result<Certificate, FindFault>,
+) -> Result<Answer, OutOfMemory>
+    ensures { IfOk result (λ answer. ToldFound (development_shown development.now) found answer.text.items answer.status) }
+{
+    match found {
+        Ok(certificate) => Ok(Answer {
+            text: certificate_text(alloc, development, &certificate)?,
+            status: SUCCESS,
+        }),
+        Err(FindFault::NotFound(number)) => told_unfound(alloc, "not-found", number),
+        Err(FindFault::Budget(number)) => told_unfound(alloc, "budget", number),
+        Err(FindFault::Large(number)) => told_unfound(alloc, "large", number),
+        Err(FindFault::OutOfMemory) => Err(OutOfMemory),
+    }
+}
+
+/// The answer of the finder with these hints.
+fn answer_found(
+    alloc: Global,
+    development: &Development,
+    hints: &Hints,
+) -> Result<Answer, OutOfMemory>
+    requires { Every (EntryReadsBack (development_shown development.now)) (proofs_in hints.now) }
+    ensures { IfOk result (λ answer. AnswersFound (development_shown development.now) (proofs_in hints.now) answer.text.items answer.status) }
+{
+    let found = find(alloc, development, hints, BUDGET);
+    told_found(alloc, development, found)
+}
+
+/// The hints for a development in the file at a path; else the answer that tells its first refusal.
+fn open_hints<'a, F: Files>(
+    alloc: Global,
+    files: &mut F,
+    development: &Development,
+    path: &'a str,
+) -> Result<Result<Hints, Answer>, Failure<'a>>
+    ensures unread { F.CannotOpen files.old path.now → IsErr result }
+    ensures opens { IfOk result (λ opened. IfSome (F.bytes_at files.old path.now) (λ file. OpensHints (development_shown development.now) file opened)) }
+    ensures back { IfOk result (λ opened. IfOk opened (λ hints. Every (EntryReadsBack (development_shown development.now)) (proofs_in hints))) }
+{
+    let bytes = read_file(alloc, files, path)?;
+    match hints_of(alloc, development, &bytes) {
+        Ok(hints) => Ok(Ok(hints)),
+        Err(fault) => Ok(Err(told_fault(alloc, fault)?)),
+    }
+}
+
+/// The answer to the hints at a path, for a development.
+fn answer_hints<'a, F: Files>(
+    alloc: Global,
+    files: &mut F,
+    development: &Development,
+    path: &'a str,
+) -> Result<Answer, Failure<'a>>
+    ensures unread { F.CannotOpen files.old path.now → IsErr result }
+    ensures answers { IfOk result (λ answer. IfSome (F.bytes_at files.old path.now) (λ file. AnswersHints (development_shown development.now) file answer.text.items answer.status)) }
+{
+    match open_hints(alloc, files, development, path)? {
+        Ok(hints) => Ok(answer_found(alloc, development, &hints)?),
+        Err(answer) => Ok(answer),
+    }
+}
+
+/// The answer to the development and the hints at two paths. Where the development is refused, the hints are not opened.
+fn answer_hinted<'a, F: Files>(
+    alloc: Global,
+    files: &mut F,
+    development: &'a str,
+    hints: &'a str,
+) -> Result<Answer, Failure<'a>>
+    ensures unread { IsUnread (F.CannotOpen files.old) (F.bytes_at files.old) (ProveWithHints development.now hints.now) → IsErr result }
+    ensures answers { IfOk result (λ answer. IfSome (F.bytes_at files.old development.now) (λ file. AnswersHinted file (F.bytes_at files.old hints.now) answer.text.items answer.status)) }
+{
+    match open_development(alloc, files, development)? {
+        Ok(development) => answer_hints(alloc, files, &development, hints),
+        Err(answer) => Ok(answer),
+    }
+}
+
+/// The answer to the development at a path, without hints.
+fn answer_unhinted<'a, F: Files>(
+    alloc: Global,
+    files: &mut F,
+    path: &'a str,
+) -> Result<Answer, Failure<'a>>
+    ensures unread { F.CannotOpen files.old path.now → IsErr result }
+    ensures answers { IfOk result (λ answer. IfSome (F.bytes_at files.old path.now) (λ file. AnswersProve file answer.text.items answer.status)) }
+{
+    match open_development(alloc, files, path)? {
+        Ok(development) => {
+            let hints = Hints::new(alloc);
+            Ok(answer_found(alloc, &development, &hints)?)
+        }
+        Err(answer) => Ok(answer),
+    }
+}
+
+/// The answer of the command `prove` to the development at a path, with the hints at another, if there is one: the text of a
+/// certificate, or the line that names the first condition of which no proof was found.
+pub fn answer_prove<'a, F: Files>(
+    alloc: Global,
+    files: &mut F,
+    development: &'a str,
+    hints: Option<&'a str>,
+) -> Result<Answer, Failure<'a>>
+    ensures unread { IsUnread (F.CannotOpen files.old) (F.bytes_at files.old) (task_of (Prove development hints)) → IsErr result }
+    ensures answers { IfOk result (λ answer. AnswersTask (F.bytes_at files.old) (task_of (Prove development hints)) answer.text.items answer.status) }
+{
+    match hints {
+        Some(path) => answer_hinted(alloc, files, development, path),
+        None => answer_unhinted(alloc, files, development),
+    }
+}
