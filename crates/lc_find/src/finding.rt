@@ -13,6 +13,7 @@ ghost use Rattle.lc_find.specs.Hinted.{by_entries};
 
 use crate::fault::FindFault;
 use crate::first_proofs::FirstProofs;
+use crate::progress::{Progress, Silent};
 use crate::reading_back::read_back;
 use crate::taking::next_entry;
 use lc_cert::laws::printed_certificates_read_back;
@@ -23,11 +24,12 @@ use lc_outline::Development;
 use std::alloc::Global;
 
 /// Proofs of all conditions, in turn.
-fn found_entries(
+fn found_entries<P: Progress>(
     alloc: Global,
     development: &Development,
     hints: &Hints,
     budget: u64,
+    progress: &mut P,
 ) -> Result<Vec<Entry>, FindFault>
     ensures { AreFound (development_shown development.now) (proofs_in hints.now) budget result }
 {
@@ -38,6 +40,7 @@ fn found_entries(
         if !walk.advance(alloc, development)? {
             return Ok(entries);
         }
+        progress.reached(walk.next);
         let entry = match next_entry(alloc, development, &mut walk, &first, hints, budget) {
             Ok(entry) => entry,
             Err(fault) => return Err(fault),
@@ -66,7 +69,25 @@ pub fn find(
     ensures first { let D = development_shown development.now in IfOk result (λ c. TakesFirst D (proofs_in hints.now) (entries_in c)) }
     ensures unbudgeted { budget ≡ 0 → IsByHints (development_shown development.now) (proofs_in hints.now) result }
 {
-    let entries = found_entries(alloc, development, hints, budget)?;
+    find_with(alloc, development, hints, budget, &mut Silent)
+}
+
+/// As `find`, and says how far it is: the number of each condition, before a proof of it is looked for.
+pub fn find_with<P: Progress>(
+    alloc: Global,
+    development: &Development,
+    hints: &Hints,
+    budget: u64,
+    progress: &mut P,
+) -> Result<Certificate, FindFault>
+    ensures accepted { let D = development_shown development.now in IfOk result (λ c. IsProvenBy D (certificate_line D (entries_in c))) }
+    ensures range { IfErr result (IsInRange (length (conditions (development_shown development.now)))) }
+    ensures by { let D = development_shown development.now in let hs = proofs_in hints.now in
+        Every (EntryReadsBack D) hs → AreProved hs 0 (conditions D) → IsPrintable D (by_entries hs 0 (conditions D)) → IsOkOrNoMemory result }
+    ensures first { let D = development_shown development.now in IfOk result (λ c. TakesFirst D (proofs_in hints.now) (entries_in c)) }
+    ensures unbudgeted { budget ≡ 0 → IsByHints (development_shown development.now) (proofs_in hints.now) result }
+{
+    let entries = found_entries(alloc, development, hints, budget, progress)?;
     printed_certificates_read_back();
     read_back(alloc, development, entries)
 }

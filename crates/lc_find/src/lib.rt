@@ -5,9 +5,11 @@ mod fault;
 mod finding;
 mod first_proofs;
 mod limits;
+mod progress;
 mod reading_back;
 mod taking;
 
 pub use fault::FindFault;
-pub use finding::find;
+pub use finding::{find, find_with};
 pub use lc_hints::{Hints, hints_of};
+pub use progress::{Progress, Silent};

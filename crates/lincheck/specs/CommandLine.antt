@@ -1,9 +1,10 @@
 -- The command line, in the terms in which clap's calls state what they read.
 use Rattle.std.specs.Prelude.{◌≡◌, ◌⊎◌, ℕ, ◌==◌, map, string_bytes, String, Bool, true, not, if◌then◌else◌, codes, List, [], ◌∷◌, Option, Some, None, option_and_then, option_map}
+use Rattle.std.specs.Borrow.{Bor}
 use Rattle.std.specs.Str.{bytes_eq}
 use Rattle.std.specs.declared.alloc.Global.{Global}
 use Rattle.clap.specs.Words.{App, IsAmong, Row, Rule, Text, fault_of, first_of, new_app, new_rule, subcommand_of, with_rule, with_subcommand}
-use Rattle.clap.specs.declared.builder.action.ArgAction.TheVariants.{Set}
+use Rattle.clap.specs.declared.builder.action.ArgAction.TheVariants.{Set, SetTrue}
 use Rattle.clap.specs.declared.error.kind.ErrorKind.{ErrorKind}
 use Rattle.clap.specs.declared.error.kind.ErrorKind.TheVariants.{DisplayHelp, DisplayVersion}
 use Rattle.lincheck.specs.declared.command_line.Request.{Request}
@@ -16,6 +17,10 @@ file_rule name = record (new_rule name) { action = Some Set; required = true }
 -- an option that names a file
 abbrev pub option_rule : Text → Rule
 option_rule name = record (new_rule name) { long = Some name; action = Some Set; value_names = 1 }
+
+-- a flag
+abbrev pub flag_rule : Text → Rule
+flag_rule name = record (new_rule name) { long = Some name; action = Some SetTrue }
 
 -- `formula FILE`
 abbrev pub formula_app : App
@@ -37,9 +42,9 @@ conditions_app = with_rule (new_app (codes "conditions")) (file_rule (codes "DEV
 abbrev pub check_app : App
 check_app = with_rule (with_rule (new_app (codes "check")) (file_rule (codes "DEV"))) (file_rule (codes "CERT"))
 
--- `prove DEV [--hints FILE]`
+-- `prove DEV [--hints FILE] [--progress]`
 abbrev pub prove_app : App
-prove_app = with_rule (with_rule (new_app (codes "prove")) (file_rule (codes "DEV"))) (option_rule (codes "hints"))
+prove_app = with_rule (with_rule (with_rule (new_app (codes "prove")) (file_rule (codes "DEV"))) (option_rule (codes "hints"))) (flag_rule (codes "progress"))
 
 -- a command of this name that needs a subcommand
 abbrev pub needs_subcommand : Text → App
@@ -75,6 +80,10 @@ abbrev pub proving : List ℕ → Option (List ℕ) → Task
 proving development None = ProveDevelopment development
 proving development (Some hints) = ProveWithHints development hints
 
+-- the path that is given, if one is
+abbrev pub path_in : Option (Bor (List ℕ)) → Option (List ℕ)
+path_in path = option_map (λ p. p.now) path
+
 -- the task of a request
 abbrev pub task_of : Request → Task
 task_of (Formula path) = CheckFormula path.now
@@ -82,7 +91,7 @@ task_of (Judge development history) = JudgeHistory development.now history.now
 task_of (Show development) = ShowDevelopment development.now
 task_of (Conditions development) = ListConditions development.now
 task_of (Check development certificate) = CheckCertificate development.now certificate.now
-task_of (Prove development hints) = proving development.now (option_map (λ path. path.now) hints)
+task_of (Prove development hints progress) = proving development.now (path_in hints)
 
 -- the task with the file that these arguments name so
 abbrev pub one_file_task : (List ℕ → Task) → Text → List Row → Option Task

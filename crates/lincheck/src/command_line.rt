@@ -3,7 +3,7 @@ ghost use Rattle.std.specs.Prelude.{◌≡◌, ◌⊎◌, ℕ, List, codes, IfOk
 ghost use Rattle.clap.specs.Words.{app_of, found_of, kind_of, rows_of, rule_of, subcommand_rows_of};
 ghost use Rattle.clap.specs.declared.builder.command.Command.TheViews.{out-Command};
 ghost use Rattle.clap.specs.declared.error.kind.ErrorKind.TheVariants.{OutOfMemory};
-ghost use Rattle.lincheck.specs.CommandLine.{AreWrong, AskForHelp, AsksForText, HasPlainPaths, CheckCertificate, CheckFormula, JudgeHistory, ListConditions, Reads, ShowDevelopment, Task, check_app, conditions_app, file_rule, first_app, formula_app, further_app, judge_app, one_file_task, option_rule, program_app, prove_app, proving_task, show_app, task_in, task_of, texts_of, two_file_task, words_for};
+ghost use Rattle.lincheck.specs.CommandLine.{AreWrong, AskForHelp, AsksForText, HasPlainPaths, CheckCertificate, CheckFormula, JudgeHistory, ListConditions, Reads, ShowDevelopment, Task, check_app, conditions_app, file_rule, first_app, formula_app, flag_rule, formula_app, further_app, judge_app, one_file_task, option_rule, program_app, prove_app, proving_task, show_app, task_in, task_of, texts_of, two_file_task, words_for};
 
 use clap::error::ErrorKind;
 use clap::{Arg, ArgAction, ArgMatches, Command, Error};
@@ -28,10 +28,11 @@ pub enum Request<'a> {
         development: &'a str,
         certificate: &'a str,
     },
-    /// Find a certificate of the development in a file, with the hints in another, if there is one.
+    /// Find a certificate of the development in a file, with the hints in another, if there is one; and say how far it is.
     Prove {
         development: &'a str,
         hints: Option<&'a str>,
+        progress: bool,
     },
 }
 
@@ -162,6 +163,8 @@ static PROVE: &str = "Finds a certificate of a development";
 
 static HINTS: &str = "Hints: terms, formulas and proofs for conditions, by their numbers";
 
+static PROGRESS: &str = "Say on standard error, by `condition K`, which condition is looked at";
+
 static PROVE_ANSWER: &str = "\
 Reads DEV and, where it is a development, the hints in FILE. Looks for a proof of each condition, and prints a certificate
 of all, which `check` accepts. Else it prints one line:
@@ -251,6 +254,17 @@ fn file_option<'a>(alloc: Global, name: &'a str, help: &'a str) -> Arg<'a>
         .help(help)
 }
 
+/// A flag.
+fn flag<'a>(alloc: Global, name: &'a str, help: &'a str) -> Arg<'a>
+    ensures rule { rule_of result ≡ flag_rule name.entry.now }
+    ensures local { result.global ≡ false }
+{
+    Arg::new(alloc, name)
+        .long(name)
+        .action(ArgAction::SetTrue)
+        .help(help)
+}
+
 fn prove_command<'a>(alloc: Global) -> Result<Command<'a>, AllocError>
     ensures app { IfOk result (λ command. app_of command ≡ prove_app) }
     ensures local { IfOk result (λ command. (out-Command command).has_globals ≡ false) }
@@ -259,7 +273,8 @@ fn prove_command<'a>(alloc: Global) -> Result<Command<'a>, AllocError>
         .about(PROVE)
         .after_help(PROVE_ANSWER)
         .arg(file(alloc, "DEV", DEVELOPMENT))?
-        .arg(file_option(alloc, "hints", HINTS))
+        .arg(file_option(alloc, "hints", HINTS))?
+        .arg(flag(alloc, "progress", PROGRESS))
 }
 
 /// The program with its first two commands.
@@ -339,7 +354,12 @@ fn prove_request<'a>(command: &ArgMatches<'a>) -> Option<Request<'a>>
 {
     let development = command.get_str("DEV")?;
     let hints = command.get_str("hints");
-    Some(Request::Prove { development, hints })
+    let progress = command.get_flag("progress");
+    Some(Request::Prove {
+        development,
+        hints,
+        progress,
+    })
 }
 
 /// What the words ask for, if there is a command in them with all its files.

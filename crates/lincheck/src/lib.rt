@@ -16,6 +16,7 @@ mod prove;
 mod reading;
 mod show;
 mod sink;
+mod telling;
 
 pub use answer::{COMMAND_LINE_FAULT, OUT_OF_MEMORY};
 pub use disk::Disk;

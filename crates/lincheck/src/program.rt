@@ -15,6 +15,7 @@ use crate::judge::answer_judge;
 use crate::printing::print_answer;
 use crate::prove::answer_prove;
 use crate::show::answer_show;
+use crate::telling::Telling;
 use clap::error::ErrorKind;
 use std::alloc::Global;
 use std::io;
@@ -22,11 +23,12 @@ use std::io::Write;
 
 /// Does what is asked for, prints the answer, and answers its status. Files are opened, read and judged in the order of the
 /// command, so that none is opened behind a refusal.
-fn carry_out<'a, F: Files, O: Write>(
+fn carry_out<'a, F: Files, O: Write, E: Write>(
     alloc: Global,
     request: Request<'a>,
     files: &mut F,
     out: &mut O,
+    err: &mut E,
 ) -> Result<u8, Failure<'a>>
     ensures unread { IsUnread (F.CannotOpen files.old) (F.bytes_at files.old) (task_of request.entry) → IsErr result × (out.new ≡ out.old) }
     ensures leaves { Leaves (task_of request.entry) (AnswersTask (F.bytes_at files.old) (task_of request.entry)) (O.contents out.old) (O.contents out.new) result }
@@ -43,8 +45,17 @@ fn carry_out<'a, F: Files, O: Write>(
             development,
             certificate,
         } => print_answer(out, &answer_check(alloc, files, development, certificate)?),
-        Request::Prove { development, hints } => {
-            print_answer(out, &answer_prove(alloc, files, development, hints)?)
+        Request::Prove {
+            development,
+            hints,
+            progress,
+        } => {
+            let mut telling = Telling {
+                err,
+                is_asked: progress,
+            };
+            let answer = answer_prove(alloc, files, development, hints, &mut telling)?;
+            print_answer(out, &answer)
         }
     }
 }
@@ -102,7 +113,7 @@ pub fn execute<F: Files, O: Write, E: Write>(
     match read_words(alloc, words) {
         Err(error) => tell_usage(&error, out, err),
         Ok(request) => {
-            match carry_out(alloc, request, files, out) {
+            match carry_out(alloc, request, files, out, err) {
                 Ok(status) => status,
                 Err(failure) => complain(err, &failure),
             }

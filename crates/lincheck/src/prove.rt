@@ -5,8 +5,7 @@ ghost use Rattle.lc_term.specs.Lists.{Every};
 ghost use Rattle.lc_cert.specs.Printed.{EntryReadsBack};
 ghost use Rattle.lc_hints.specs.HintView.{proofs_in};
 ghost use Rattle.lc_outline.specs.DevelopmentView.{development_shown};
-ghost use Rattle.lincheck.specs.CommandLine.{ProveWithHints, task_of};
-ghost use Rattle.lincheck.specs.declared.command_line.Request.TheVariants.{Prove};
+ghost use Rattle.lincheck.specs.CommandLine.{ProveWithHints, path_in, proving};
 ghost use Rattle.lincheck.specs.Execution.{AnswersTask, IsUnread};
 ghost use Rattle.lincheck.specs.Prove.{AnswersFound, AnswersHinted, AnswersHints, AnswersProve, OpensHints, ToldFound};
 
@@ -16,7 +15,7 @@ use crate::files::Files;
 use crate::reading::read_file;
 use lc_base::{OutOfMemory, write_line};
 use lc_cert::{Certificate, certificate_text};
-use lc_find::{FindFault, find};
+use lc_find::{FindFault, Progress, find_with};
 use lc_hints::{Hints, hints_of};
 use lc_outline::Development;
 use std::alloc::Global;
@@ -55,15 +54,16 @@ fn told_found(
 }
 
 /// The answer of the finder with these hints.
-fn answer_found(
+fn answer_found<P: Progress>(
     alloc: Global,
     development: &Development,
     hints: &Hints,
+    progress: &mut P,
 ) -> Result<Answer, OutOfMemory>
     requires { Every (EntryReadsBack (development_shown development.now)) (proofs_in hints.now) }
     ensures { IfOk result (λ answer. AnswersFound (development_shown development.now) (proofs_in hints.now) answer.text.items answer.status) }
 {
-    let found = find(alloc, development, hints, BUDGET);
+    let found = find_with(alloc, development, hints, BUDGET, progress);
     told_found(alloc, development, found)
 }
 
@@ -86,42 +86,45 @@ fn open_hints<'a, F: Files>(
 }
 
 /// The answer to the hints at a path, for a development.
-fn answer_hints<'a, F: Files>(
+fn answer_hints<'a, F: Files, P: Progress>(
     alloc: Global,
     files: &mut F,
     development: &Development,
     path: &'a str,
+    progress: &mut P,
 ) -> Result<Answer, Failure<'a>>
     ensures unread { F.CannotOpen files.old path.now → IsErr result }
     ensures answers { IfOk result (λ answer. IfSome (F.bytes_at files.old path.now) (λ file. AnswersHints (development_shown development.now) file answer.text.items answer.status)) }
 {
     match open_hints(alloc, files, development, path)? {
-        Ok(hints) => Ok(answer_found(alloc, development, &hints)?),
+        Ok(hints) => Ok(answer_found(alloc, development, &hints, progress)?),
         Err(answer) => Ok(answer),
     }
 }
 
 /// The answer to the development and the hints at two paths. Where the development is refused, the hints are not opened.
-fn answer_hinted<'a, F: Files>(
+fn answer_hinted<'a, F: Files, P: Progress>(
     alloc: Global,
     files: &mut F,
     development: &'a str,
     hints: &'a str,
+    progress: &mut P,
 ) -> Result<Answer, Failure<'a>>
     ensures unread { IsUnread (F.CannotOpen files.old) (F.bytes_at files.old) (ProveWithHints development.now hints.now) → IsErr result }
     ensures answers { IfOk result (λ answer. IfSome (F.bytes_at files.old development.now) (λ file. AnswersHinted file (F.bytes_at files.old hints.now) answer.text.items answer.status)) }
 {
     match open_development(alloc, files, development)? {
-        Ok(development) => answer_hints(alloc, files, &development, hints),
+        Ok(development) => answer_hints(alloc, files, &development, hints, progress),
         Err(answer) => Ok(answer),
     }
 }
 
 /// The answer to the development at a path, without hints.
-fn answer_unhinted<'a, F: Files>(
+fn answer_unhinted<'a, F: Files, P: Progress>(
     alloc: Global,
     files: &mut F,
     path: &'a str,
+    progress: &mut P,
 ) -> Result<Answer, Failure<'a>>
     ensures unread { F.CannotOpen files.old path.now → IsErr result }
     ensures answers { IfOk result (λ answer. IfSome (F.bytes_at files.old path.now) (λ file. AnswersProve file answer.text.items answer.status)) }
@@ -129,7 +132,7 @@ fn answer_unhinted<'a, F: Files>(
     match open_development(alloc, files, path)? {
         Ok(development) => {
             let hints = Hints::new(alloc);
-            Ok(answer_found(alloc, &development, &hints)?)
+            Ok(answer_found(alloc, &development, &hints, progress)?)
         }
         Err(answer) => Ok(answer),
     }
@@ -137,17 +140,18 @@ fn answer_unhinted<'a, F: Files>(
 
 /// The answer of the command `prove` to the development at a path, with the hints at another, if there is one: the text of a
 /// certificate, or the line that names the first condition of which no proof was found.
-pub fn answer_prove<'a, F: Files>(
+pub fn answer_prove<'a, F: Files, P: Progress>(
     alloc: Global,
     files: &mut F,
     development: &'a str,
     hints: Option<&'a str>,
+    progress: &mut P,
 ) -> Result<Answer, Failure<'a>>
-    ensures unread { IsUnread (F.CannotOpen files.old) (F.bytes_at files.old) (task_of (Prove development hints)) → IsErr result }
-    ensures answers { IfOk result (λ answer. AnswersTask (F.bytes_at files.old) (task_of (Prove development hints)) answer.text.items answer.status) }
+    ensures unread { IsUnread (F.CannotOpen files.old) (F.bytes_at files.old) (proving development.now (path_in hints)) → IsErr result }
+    ensures answers { IfOk result (λ answer. AnswersTask (F.bytes_at files.old) (proving development.now (path_in hints)) answer.text.items answer.status) }
 {
     match hints {
-        Some(path) => answer_hinted(alloc, files, development, path),
-        None => answer_unhinted(alloc, files, development),
+        Some(path) => answer_hinted(alloc, files, development, path, progress),
+        None => answer_unhinted(alloc, files, development, progress),
     }
 }

@@ -14,7 +14,7 @@ use Rattle.lc_hints.specs.HintView.{proofs_in}
 use Rattle.lc_find.proofs.finding.found_entries.Goals as goal
 
 pub returns-then-not-branch : goal.returns-then-not-branch
-returns-then-not-branch c =
+returns-then-not-branch g c =
     let d = development_shown c.args.development.now in
     let old = c.conditions.walk in
     let hs = all_of c.in_ok-first.first in
@@ -26,7 +26,7 @@ returns-then-not-branch c =
     subst (λ l. ArePassed d l c.args.budget es) same passed
 
 pub returns-in-Err : goal.returns-in-Err
-returns-in-Err c =
+returns-in-Err g c =
     let d = development_shown c.args.development.now in
     let old = c.conditions.walk in
     let mid = c.advance.new.self in
@@ -39,7 +39,7 @@ returns-in-Err c =
     (none_taken d hs es c.args.budget mid c.next_entry.new.walk c.in-Err.fault (went_on d es old mid inv.in_turn here.0) here.1 inv.hinted c.in-Err.ensures)
 
 pub conditions-preserved : goal.conditions-preserved
-conditions-preserved c =
+conditions-preserved g c =
     let d = development_shown c.args.development.now in
     let old = c.conditions.walk in
     let mid = c.advance.new.self in

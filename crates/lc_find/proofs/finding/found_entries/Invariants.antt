@@ -9,11 +9,11 @@ use Rattle.lc_find.proofs.finding.found_entries.Given as goal
 
 -- the entries prove the first conditions, each the first hint where that holds
 abbrev pub invariant-conditions : goal.invariant-conditions
-invariant-conditions l = record {
+invariant-conditions g l = record {
   in_turn : IsInTurn (development_shown l.development) (entries_of l.entries.items) l.walk;
   first : Every (IsFirstTaken (development_shown l.development) (all_of l.first)) (entries_of l.entries.items);
   hinted : l.budget ≡ 0 → Every (IsFirstHint (all_of l.first)) (entries_of l.entries.items);
 }
 
 abbrev pub decreases-conditions : goal.decreases-conditions
-decreases-conditions l = length (conditions_due (development_shown l.development) l.walk)
+decreases-conditions g l = length (conditions_due (development_shown l.development) l.walk)

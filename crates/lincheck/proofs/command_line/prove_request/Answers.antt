@@ -1,5 +1,5 @@
 use Rattle.clap.specs.Words.{found_of}
-use Rattle.std.specs.Prelude.{option_map}
+use Rattle.lincheck.specs.CommandLine.{path_in}
 use Rattle.lincheck.proofs.Words.{proving_found, proving_unfound}
 use Rattle.lincheck.proofs.command_line.prove_request.Goals as goal
 
@@ -8,4 +8,4 @@ returns-in_err-development c = rw c.from_residual.ensures (proving_unfound (foun
 
 pub returns : goal.returns
 returns c =
-    proving_found (found_of c.args.command.now) c.in_ok-development.development.now (option_map (λ path. path.now) c.get_str-hints.result) c.in_ok-development.ensures c.get_str-hints.ensures
+    proving_found (found_of c.args.command.now) c.in_ok-development.development.now (path_in c.get_str-hints.result) c.in_ok-development.ensures c.get_str-hints.ensures

@@ -7,9 +7,9 @@ use Rattle.std.proofs.lemmas.Result.{IfOk-weaker}
 use Rattle.lincheck.proofs.prove.answer_found.Goals as goal
 
 pub returns : goal.returns
-returns c =
+returns g c =
     let D = development_shown c.args.development.now in
     let hs = proofs_in c.args.hints.now in
-    IfOk-weaker c.told_found.result (λ (answer : Answer). ToldFound D c.find-found.result answer.text.items answer.status) (λ (answer : Answer). AnswersFound D hs answer.text.items answer.status)
-    (λ answer told. found_answered D hs c.find-found.result answer.text.items answer.status c.find-found.ensures.accepted c.find-found.ensures.range c.find-found.ensures.by c.find-found.ensures.first c.requires told)
+    IfOk-weaker c.told_found.result (λ (answer : Answer). ToldFound D c.find_with-found.result answer.text.items answer.status) (λ (answer : Answer). AnswersFound D hs answer.text.items answer.status)
+    (λ answer told. found_answered D hs c.find_with-found.result answer.text.items answer.status c.find_with-found.ensures.accepted c.find_with-found.ensures.range c.find_with-found.ensures.by c.find_with-found.ensures.first c.requires told)
     c.told_found.ensures
