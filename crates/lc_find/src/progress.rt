@@ -7,6 +7,7 @@ pub trait Progress {
 }
 
 /// Is told, and says nothing of it.
+#[derive(Drop)]
 pub struct Silent;
 
 impl Progress for Silent {

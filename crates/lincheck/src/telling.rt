@@ -3,6 +3,7 @@ use lc_find::Progress;
 use std::io::Write;
 
 /// Says which condition is looked at, where that is asked for. A fault of writing changes nothing.
+#[derive(Drop)]
 pub struct Telling<'a, E: Write> {
     pub err: &'a mut E,
     pub is_asked: bool,
