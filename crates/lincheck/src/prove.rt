@@ -147,8 +147,8 @@ pub fn answer_prove<'a, F: Files, P: Progress>(
     hints: Option<&'a str>,
     progress: &mut P,
 ) -> Result<Answer, Failure<'a>>
-    ensures unread { IsUnread (F.CannotOpen files.old) (F.bytes_at files.old) (proving development.now (path_in hints)) → IsErr result }
-    ensures answers { IfOk result (λ answer. AnswersTask (F.bytes_at files.old) (proving development.now (path_in hints)) answer.text.items answer.status) }
+    ensures unread { IsUnread (F.CannotOpen files.old) (F.bytes_at files.old) (proving development.now (path_in hints.entry)) → IsErr result }
+    ensures answers { IfOk result (λ answer. AnswersTask (F.bytes_at files.old) (proving development.now (path_in hints.entry)) answer.text.items answer.status) }
 {
     match hints {
         Some(path) => answer_hinted(alloc, files, development, path, progress),
