@@ -18,3 +18,4 @@ pub mod JsonAlways
 pub mod JsonAnswers
 pub mod JsonOnce
 pub mod OneJudgement
+pub mod Following

@@ -10,6 +10,7 @@ pub mod JsonValues
 pub mod JsonWritten
 pub mod Judged
 pub mod Reason
+pub mod Shadowed
 pub mod Spans
 pub mod Tests
 pub mod View

@@ -2,6 +2,7 @@ pub mod Applied
 pub mod Branches
 pub mod Run
 pub mod Sequential
+pub mod Shadows
 pub mod SpecView
 pub mod Specification
 pub mod TextLaws
