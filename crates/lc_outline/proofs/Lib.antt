@@ -1,3 +1,4 @@
 pub mod Chosen
 pub mod Matched
 pub mod Resolving
+pub mod Crossing

@@ -2,6 +2,8 @@
 ghost use Rattle.lc_outline.specs.Agreement.{OperationsAgree, CallsAreSmall};
 ghost use Rattle.lc_outline.specs.Resolved.{WhatPassesIsResolved};
 
+use crate::development::Development;
+
 /// In a development whose names are resolved each operation of the object takes as many arguments, and gives as many replies,
 /// as the operation of that number of the specification; and each takes and gives at most three.
 pub fn operations_agree()
@@ -13,3 +15,17 @@ pub fn operations_agree()
 pub fn developments_are_resolved()
     ensures { WhatPassesIsResolved }
 {}
+
+fn is_sent<T: Send + Drop>(_value: T) {}
+
+fn is_shared<T: Sync>(_value: &T) {}
+
+/// A development may be handed to another thread.
+pub fn sends(development: Development) {
+    is_sent(development)
+}
+
+/// A development may be read by several threads at once.
+pub fn shares(development: &Development) {
+    is_shared(development)
+}

@@ -7,15 +7,11 @@ use Rattle.std.proofs.lemmas.List.{get_or-set_same, get_or-map, map-set, length-
 use Rattle.lc_term.specs.Meaning.{affine, stored}
 use Rattle.lc_term.specs.State.{cells_of, state_of, column_at, column_count, with_cell}
 use Rattle.lc_term.specs.Updates.{Write, stored_all, AreWithin}
-use Rattle.lc_term.specs.Written.{Kept, written_in, kept_in, with_written, with_kept, no_column, kept_of, after_writes, taken_back, written_at, CanTakeBack}
+use Rattle.lc_term.specs.Written.{Kept, written_in, kept_in, with_written, with_kept, no_column, kept_of, after_writes, taken_back, written_at, CanTakeBack, cells_from}
 use Rattle.lc_term.specs.declared.state.Cells.{Cells}
 use Rattle.lc_term.specs.declared.state.State.{State}
 use Rattle.lc_term.specs.declared.state.Undo.{Undo}
 use Rattle.lc_term.proofs.Cells.{column_at-write}
-
--- the numbers in the cells of what is kept
-abbrev pub cells_from : Kept → ℤ → ℤ
-cells_from kept i = unwrap_or (kept.written i) (affine kept.slope kept.start i)
 
 written_number : (here : Bool) (o : Option ℤ) (v n : ℤ) → unwrap_or (if here then Some v else o) n ≡ (if here then v else unwrap_or o n)
 written_number true o v n = refl
@@ -244,3 +240,15 @@ ok-changed r xs c old new i v h is = on_ok_by (kept-changed xs c old new i (Some
 pub can-restore : (xs : List Cells) (c : ℕ) (now : Cells) (i : ℤ) (before : Option ℤ) → c < length xs → now ≡ get_or xs c now →
     OnSome before (IsSome (written_at (map kept_in xs) c i)) → OnSome before (IsSome (written_in now i))
 can-restore xs c now i before h is some = subst (λ kept. OnSome before (IsSome (kept.written i))) (sym (old_at xs c now h is)) some
+
+-- a state by what is kept of it
+pub state-is : (s : State) → state_of s ≡ column_at (map cells_from (kept_of s))
+state-is s = ap column_at (state-kept s.columns.items)
+
+taken-length : (ks : List Kept) (us : List Undo) → length (taken_back ks us) ≡ length ks
+taken-length ks [] = refl
+taken-length ks (u ∷ us) = length-set (taken_back ks us) u.column.0 _ ∙ taken-length ks us
+
+pub count-taken : (s t : State) (us : List Undo) → kept_of t ≡ taken_back (kept_of s) us → column_count t ≡ column_count s
+count-taken s t us e =
+    column_count-is t ∙ (sym (length-map t.columns.items kept_in) ∙ (ap length e ∙ (taken-length (kept_of s) us ∙ (length-map s.columns.items kept_in ∙ sym (column_count-is s)))))

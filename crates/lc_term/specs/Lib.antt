@@ -2,6 +2,7 @@ pub mod Bound
 pub mod Chains
 pub mod Computed
 pub mod Counter
+pub mod Drafts
 pub mod Equal
 pub mod EqualLaws
 pub mod Lists

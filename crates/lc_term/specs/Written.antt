@@ -1,5 +1,7 @@
 -- What is written to the cells of a state.
-use Rattle.std.specs.Prelude.{ℕ, ℤ, ◌<◌, List, [], ◌∷◌, length, map, Option, Some, None, IsSome, OnSome, pos, slice_set, slice_index_or, if◌then◌else◌}
+use Rattle.std.specs.Prelude.{ℕ, ℤ, ◌<◌, List, [], ◌∷◌, length, map, Option, Some, None, IsSome, OnSome, pos, slice_set, slice_index_or, if◌then◌else◌, unwrap_or}
+use Rattle.std.proofs.Props.{props}
+use Rattle.lc_term.specs.Meaning.{affine}
 use Rattle.std.specs.Ordering.{int_cmp, int_eq}
 use Rattle.std.specs.BTreeMap.{get}
 use Rattle.lc_term.specs.Updates.{Write}
@@ -55,3 +57,25 @@ abbrev pub CanTakeBack : List Kept → List Undo → Type 0
 CanTakeBack ks [] = Unit {0}
 CanTakeBack ks (u ∷ us) =
     (u.column.0 < length (taken_back ks us)) × OnSome u.before (IsSome (written_at (taken_back ks us) u.column.0 u.index)) × CanTakeBack ks us
+
+-- the numbers in the cells of what is kept
+abbrev pub cells_from : Kept → ℤ → ℤ
+cells_from kept i = unwrap_or (kept.written i) (affine kept.slope kept.start i)
+
+below_once : (m n : ℕ) → IsProp (m < n)
+below_once m n = hlevel props
+
+some_once : (o p : Option ℤ) → IsProp (OnSome o (IsSome p))
+some_once None p x y = λ i. tt
+some_once (Some v) None x y = hlevel props
+some_once (Some v) (Some w) x y = hlevel props
+
+-- this has one proof at most
+pub can_once : (ks : List Kept) (us : List Undo) → IsProp (CanTakeBack ks us)
+can_once ks [] x y = λ i. tt
+can_once ks (u ∷ us) x y =
+    λ i. (
+      below_once u.column.0 (length (taken_back ks us)) x.0 y.0 i,
+      some_once u.before (written_at (taken_back ks us) u.column.0 u.index) x.1 y.1 i,
+      can_once ks us x.2 y.2 i,
+    )

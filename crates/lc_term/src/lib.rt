@@ -2,6 +2,7 @@
 #![tactic(auto)]
 
 mod chain;
+mod draft;
 mod evaluation;
 mod formula;
 mod ground;
@@ -14,6 +15,7 @@ mod term;
 mod update;
 
 pub use chain::{Chain, StoreAt, base_of, chain_of, with_store};
+pub use draft::Draft;
 pub use evaluation::{eval, eval_term};
 pub use formula::{Formula, copy_formulas};
 pub use ground::{is_closed, is_ground_of_quantifiers};

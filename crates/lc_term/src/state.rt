@@ -1,4 +1,4 @@
-ghost use Rattle.std.specs.Prelude.{◌≡◌, ◌<◌, length, FitsSigned, OkIff, IfOk, OnOk, OnErr, OnSome, Some, IsSome};
+ghost use Rattle.std.specs.Prelude.{◌≡◌, ◌<◌, [], length, FitsSigned, OkIff, IfOk, OnOk, OnErr, OnSome, Some, IsSome};
 ghost use Rattle.std.specs.Int.{w64};
 ghost use Rattle.lc_term.specs.Meaning.{affine};
 ghost use Rattle.lc_term.specs.State.{cells_of, state_of, column_count, initial_state, with_cell};
@@ -35,9 +35,9 @@ struct Cells {
     written: BTreeMap<i64, i64>,
 }
 
-// A cell, and what was written there before.
+/// A cell, and what was written there before.
 #[derive(Clone, Copy)]
-struct Undo {
+pub(crate) struct Undo {
     column: ColId,
     index: i64,
     before: Option<i64>,
@@ -153,20 +153,37 @@ impl State {
         ensures err { OnErr result (state_of self.new ≡ state_of self.old) }
         ensures columns { column_count self.new ≡ column_count self.old }
     {
-        self.write_each(alloc, writes)
+        self.write_all_or_none(alloc, writes)
     }
 
-    fn write_each(&mut self, alloc: Global, writes: &[Write]) -> Result<(), OutOfMemory>
+    fn write_all_or_none(&mut self, alloc: Global, writes: &[Write]) -> Result<(), OutOfMemory>
         requires { AreWithin (length self.old.columns.items) (writes_shown writes.now) }
         ensures ok { OnOk result (kept_of self.new ≡ after_writes (kept_of self.old) (writes_shown writes.now)) }
         ensures err { OnErr result (kept_of self.new ≡ kept_of self.old) }
     {
         let mut done = Vec::new(alloc);
+        if let Err(fault) = self.write_each(writes, &mut done) {
+            self.take_back(&mut done);
+            return Err(fault);
+        }
+        Ok(())
+    }
+
+    // Writes cells in order, and notes what was written there before. Where memory is refused, some of them may be written.
+    pub(crate) fn write_each(
+        &mut self,
+        writes: &[Write],
+        done: &mut Vec<Undo>,
+    ) -> Result<(), OutOfMemory>
+        requires within { AreWithin (length self.old.columns.items) (writes_shown writes.now) }
+        requires can { CanTakeBack (kept_of self.old) done.old.items }
+        ensures ok { OnOk result (kept_of self.new ≡ after_writes (kept_of self.old) (writes_shown writes.now)) }
+        ensures back { taken_back (kept_of self.new) done.new.items ≡ taken_back (kept_of self.old) done.old.items }
+        ensures can { CanTakeBack (kept_of self.new) done.new.items }
+        ensures columns { length self.new.columns.items ≡ length self.old.columns.items }
+    {
         for write in writes {
-            if let Err(fault) = self.write_noted(*write, &mut done) {
-                self.take_back(done);
-                return Err(fault);
-            }
+            self.write_noted(*write, done)?;
         }
         Ok(())
     }
@@ -189,12 +206,12 @@ impl State {
         cells.write(write.index, write.value)
     }
 
-    // Takes back what is done.
-    fn take_back(&mut self, done: Vec<Undo>)
-        requires { CanTakeBack (kept_of self.old) done.items }
-        ensures { kept_of self.new ≡ taken_back (kept_of self.old) done.items }
+    // Takes back what is done, the last first. It takes no memory.
+    pub(crate) fn take_back(&mut self, done: &mut Vec<Undo>)
+        requires { CanTakeBack (kept_of self.old) done.old.items }
+        ensures kept { kept_of self.new ≡ taken_back (kept_of self.old) done.old.items }
+        ensures none { done.new.items ≡ [] }
     {
-        let mut done = done;
         'undo: loop {
             let Some(undo) = done.pop() else {
                 return;

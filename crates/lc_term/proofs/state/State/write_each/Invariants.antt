@@ -11,6 +11,7 @@ invariant-loop-write l =
     record {
       within : AreWithin (length l.self.columns.items) rest;
       same : after_writes (kept_of l.self) rest ≡ after_writes (kept_of l.fn.self) (writes_shown l.writes);
-      back : taken_back (kept_of l.self) l.done.items ≡ kept_of l.fn.self;
+      back : taken_back (kept_of l.self) l.done.items ≡ taken_back (kept_of l.fn.self) l.fn.done.items;
       can : CanTakeBack (kept_of l.self) l.done.items;
+      columns : length l.self.columns.items ≡ length l.fn.self.columns.items;
     }
