@@ -3,6 +3,7 @@ pub mod Atoms
 pub mod Builds
 pub mod Classes
 pub mod Cuts
+pub mod Cutting
 pub mod Exists
 pub mod Faults
 pub mod Fed
