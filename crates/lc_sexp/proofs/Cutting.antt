@@ -1,11 +1,11 @@
 -- Texts that are cut behind brackets.
-use Rattle.std.proofs.Common.{◌≡◌, ℕ, ◌+◌, ◌<◌, ◌≤◌, Bool, true, false, ◌||◌, ◌==◌, if◌then◌else◌, List, [], ◌∷◌, ◌++◌, length, refl, sym, ap, ◌∙◌, arith, append_assoc, append-nil, max}
+use Rattle.std.proofs.Common.{◌≡◌, ℕ, ◌≤◌, Bool, true, false, ◌||◌, ◌==◌, if◌then◌else◌, List, [], ◌∷◌, ◌++◌, refl, sym, ap, ◌∙◌, arith, append_assoc, append-nil}
 use Rattle.lc_sexp.specs.Trees.{Tree, Trees, Token, open_list, close_list, word, stray, list, none, ◌▸◌, tokens_of, tokens_of_all, depth_of, depth_of_all}
 use Rattle.lc_sexp.specs.TreeCode.{joined_rows}
 use Rattle.lc_sexp.specs.Text.{class_of, is_Letter, begins_word, lexed, before, joined, uncommented}
 use Rattle.lc_sexp.specs.declared.class.Class.{Class}
 use Rattle.lc_sexp.specs.declared.class.Class.TheVariants.{White, Open, Close, Letter, Other}
-use Rattle.lc_sexp.specs.Reads.{ReadsAs, text_of}
+use Rattle.lc_sexp.specs.Reads.{text_of}
 use Rattle.lc_sexp.proofs.Rows.{tokens_joined}
 use Rattle.lc_sexp.specs.CutFiles.{ends_in_comment, IsPieceOf, AreJoined, IsHead, IsTail, BeginsOpen, PiecesReadAsTheWhole}
 
@@ -79,11 +79,50 @@ closed_tokens front t outside =
     ∙ sym (append_assoc (lexed (uncommented false front)) (close_list ∷ []) (lexed (uncommented false t)))
     ∙ ap (λ x. x ++ lexed (uncommented false t)) (sym (lexed_close (uncommented false front) []) ∙ ap lexed (sym first))
 
+-- two rows of tokens that end with the same one are the same before it
+same_before : (xs ys : List Token) (t : Token) → xs ++ (t ∷ []) ≡ ys ++ (t ∷ []) → xs ≡ ys
+same_before [] [] t e = refl
+same_before [] (y ∷ []) t e = cc
+same_before [] (y ∷ (z ∷ ys)) t e = cc
+same_before (x ∷ []) [] t e = cc
+same_before (x ∷ (z ∷ xs)) [] t e = cc
+same_before (x ∷ xs) (y ∷ ys) t e =
+    let tails : xs ++ (t ∷ []) ≡ ys ++ (t ∷ []) = cc in
+    let heads : x ≡ y = cc in
+    let rest = same_before xs ys t tails in
+    cc
+
+-- whether two texts end in a comment, one behind the other
+ends_behind : (c : Bool) (s t : List ℕ) → ends_in_comment c (s ++ t) ≡ ends_in_comment (ends_in_comment c s) t
+ends_behind c [] t = refl
+ends_behind c (b ∷ s) t = ends_behind (if b == 10 then false else (c || b == 59)) s t
+
+ends_with_bracket : (c : Bool) → ends_in_comment c (41 ∷ []) ≡ false → c ≡ false
+ends_with_bracket true h = h
+ends_with_bracket false h = refl
+
+-- what stands before the last bracket of a piece ends outside of comments, as the piece does
+front_outside : (t : Tree) (text : List ℕ) (p : IsPieceOf t text) → ends_in_comment false p.closed.0 ≡ false
+front_outside t text p = ends_with_bracket (ends_in_comment false p.closed.0) (sym (ap (ends_in_comment false) p.closed.1 ∙ ends_behind false p.closed.0 (41 ∷ [])) ∙ p.outside)
+
+-- a piece has the tokens of its tree
+own_tokens : (t : Tree) (text : List ℕ) → IsPieceOf t text → lexed (text_of text) ≡ tokens_of t
+own_tokens t text p =
+    let own : lexed (uncommented false (text ++ (41 ∷ []))) ≡ lexed (text_of text) ++ (close_list ∷ []) =
+    ap (λ x. lexed (uncommented false (x ++ (41 ∷ [])))) p.closed.1 ∙ closed_tokens p.closed.0 (41 ∷ []) (front_outside t text p)
+    ∙ ap (λ x. lexed (uncommented false x) ++ lexed (uncommented false (41 ∷ []))) (sym p.closed.1)
+    ∙ ap (λ x. lexed (text_of text) ++ x) (lexed_close [] []) in
+    let between : (open_list ∷ lexed (text_of text)) ++ (close_list ∷ []) ≡ (open_list ∷ tokens_of t) ++ (close_list ∷ []) =
+    ap (λ x. open_list ∷ x) (sym own) ∙ sym (lexed_open [] (uncommented false (text ++ (41 ∷ []))))
+    ∙ p.reads.tokens ∙ append-nil (tokens_of (list (t ▸ none))) ∙ ap (λ x. open_list ∷ (x ++ (close_list ∷ []))) (append-nil (tokens_of t)) in
+    let same = same_before (open_list ∷ lexed (text_of text)) (open_list ∷ tokens_of t) close_list between in
+    cc
+
 piece_tokens : (t : Tree) (text rest : List ℕ) → IsPieceOf t text → lexed (text_of (text ++ rest)) ≡ tokens_of t ++ lexed (text_of rest)
 piece_tokens t text rest p =
-    ap (λ x. lexed (uncommented false (x ++ rest))) p.closed ∙ closed_tokens p.front rest p.outside
-    ∙ ap (λ x. lexed (uncommented false x) ++ lexed (text_of rest)) (sym p.closed)
-    ∙ ap (λ x. x ++ lexed (text_of rest)) (p.reads.tokens ∙ append-nil (tokens_of t))
+    ap (λ x. lexed (uncommented false (x ++ rest))) p.closed.1 ∙ closed_tokens p.closed.0 rest (front_outside t text p)
+    ∙ ap (λ x. lexed (uncommented false x) ++ lexed (text_of rest)) (sym p.closed.1)
+    ∙ ap (λ x. x ++ lexed (text_of rest)) (own_tokens t text p)
 
 -- the tokens of joined pieces, and of what is behind them
 body_tokens : (ts : Trees) (body tail : List ℕ) → AreJoined body ts → lexed (text_of (body ++ tail)) ≡ tokens_of_all ts ++ lexed (text_of tail)
@@ -101,19 +140,6 @@ head_tokens head rest outside begins =
     ∙ ap lexed (uncommented_behind false head (40 ∷ begins.0) ∙ ap (λ c. uncommented false head ++ uncommented c (40 ∷ begins.0)) outside)
     ∙ lexed_open (uncommented false head) (uncommented false begins.0)
     ∙ ap (λ x. lexed (uncommented false head) ++ x) (sym (lexed_open [] (uncommented false begins.0)) ∙ ap (λ x. lexed (text_of x)) (sym begins.1))
-
--- two rows of tokens that end with the same one are the same before it
-same_before : (xs ys : List Token) (t : Token) → xs ++ (t ∷ []) ≡ ys ++ (t ∷ []) → xs ≡ ys
-same_before [] [] t e = refl
-same_before [] (y ∷ []) t e = cc
-same_before [] (y ∷ (z ∷ ys)) t e = cc
-same_before (x ∷ []) [] t e = cc
-same_before (x ∷ (z ∷ xs)) [] t e = cc
-same_before (x ∷ xs) (y ∷ ys) t e =
-    let tails : xs ++ (t ∷ []) ≡ ys ++ (t ∷ []) = cc in
-    let heads : x ≡ y = cc in
-    let rest = same_before xs ys t tails in
-    cc
 
 -- the head opens a list, and has what stands first in it
 head_opens : (head : List ℕ) (front : Trees) → IsHead front head → lexed (uncommented false head) ≡ open_list ∷ tokens_of_all front
@@ -134,7 +160,8 @@ tail_closes tail h =
 joined_depth : (ts : Trees) (body : List ℕ) → AreJoined body ts → depth_of_all ts ≤ 999
 joined_depth none body h = omega arith
 joined_depth (t ▸ ts) body h =
-    let here = h.3.nesting in
+    let whole = h.3.reads.nesting in
+    let here : depth_of t ≤ 999 = grind arith in
     let rest = joined_depth ts h.1 h.4 in
     grind arith
 

@@ -13,6 +13,7 @@ pub mod Flats
 pub mod Items
 pub mod Limits
 pub mod Nodes
+pub mod Pieced
 pub mod PrintedLemmas
 pub mod Prints
 pub mod Rows
