@@ -3,6 +3,7 @@ pub mod Atoms
 pub mod Builds
 pub mod Classes
 pub mod Cuts
+pub mod Cutting
 pub mod Exists
 pub mod Faults
 pub mod Fed
@@ -12,6 +13,7 @@ pub mod Flats
 pub mod Items
 pub mod Limits
 pub mod Nodes
+pub mod Pieced
 pub mod PrintedLemmas
 pub mod Prints
 pub mod Rows

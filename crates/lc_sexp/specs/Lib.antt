@@ -1,6 +1,7 @@
 pub mod Answers
 pub mod Begins
 pub mod Built
+pub mod CutFiles
 pub mod Entries
 pub mod Filling
 pub mod Flat

@@ -13,6 +13,7 @@ mod misfit;
 mod node;
 mod numerals;
 mod part;
+mod piece;
 mod printing;
 mod reader;
 mod reading;
@@ -24,12 +25,14 @@ pub use cursor::{Atom, Cursor, Item};
 pub use forms::Forms;
 pub use forms_reader::FormsReader;
 pub use laws::{
-    all_parts_end, items_are_counted, items_fit, one_first_fault, one_reading, printed_is_read,
-    read_has_atoms, reading_excludes_fault, reading_or_fault, taken_parts_are_the_first,
+    all_parts_end, items_are_counted, items_fit, one_first_fault, one_reading,
+    pieces_read_as_the_whole, printed_is_read, read_has_atoms, reading_excludes_fault,
+    reading_or_fault, taken_parts_are_the_first,
 };
 pub use machine::{DEPTH_LIMIT, FILE_LIMIT};
 pub use misfit::Misfit;
 pub use part::Part;
+pub use piece::{ends_in_comment, read_piece};
 pub use printing::print;
 pub use reader::Reader;
 pub use reading::read;
