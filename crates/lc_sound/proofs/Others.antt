@@ -77,7 +77,7 @@ frame_below first o j n le =
 
 -- ---- the stable conditions of one action
 
-for_action : (D : Development) (point : Option ℕ) (n : ℕ) (hs fs : List Formula) (a : Action) → IsIn a (all_actions D) →
+pub for_action : (D : Development) (point : Option ℕ) (n : ℕ) (hs fs : List Formula) (a : Action) → IsIn a (all_actions D) →
     Every IsValid (concat_places (λ k f. numbered (stable_under D point n hs k f) 0 (all_actions D)) 0 fs) → Every (λ f. IsValid (stable_under D None n hs 0 f 0 a)) fs
 for_action D point n hs fs a h v =
     Every-map (λ f. (k : ℕ) × Every IsValid (numbered (stable_under D point n hs k f) 0 (all_actions D))) (λ f. IsValid (stable_under D None n hs 0 f 0 a)) fs
