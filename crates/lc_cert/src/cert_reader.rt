@@ -1,6 +1,6 @@
-use crate::naming::{column_names, table_of};
 use crate::entry::Entry;
 use crate::form_reader::FormReader;
+use crate::naming::{column_names, table_of};
 use crate::reading::{text_told, trees_told};
 use lc_base::{Fault, OutOfMemory};
 use lc_outline::Development;

@@ -9,8 +9,8 @@ ghost use Rattle.lc_cert.specs.EntryView.{entry_of, entries_of};
 ghost use Rattle.lc_cert.specs.Printed.{entry_tree, entry_trees, certificate_line};
 
 use crate::certificate::Certificate;
-use crate::naming::column_names;
 use crate::entry::Entry;
+use crate::naming::column_names;
 use lc_base::{ColId, OutOfMemory};
 use lc_outline::Development;
 use lc_proof_text::write_proof;

@@ -15,8 +15,8 @@ ghost use Rattle.lc_cert.specs.Files.{IsAnswerTo};
 ghost use Rattle.lc_cert.specs.Readings.{place_reading, parts_reading, entry_reading, entries_reading, name_due, named_reading, form_reading};
 
 use crate::certificate::Certificate;
-use crate::naming::{column_names, table_of};
 use crate::entry::Entry;
+use crate::naming::{column_names, table_of};
 use crate::scope::InCertificate;
 use lc_base::{Fault, Refusal};
 use lc_kernel::Proof;
