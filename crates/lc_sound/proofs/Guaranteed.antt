@@ -75,7 +75,10 @@ module _ (D : Development) (X : IsProven D) (n : ℕ) (w : World) (G : IsGood D 
       let pl = placed D.object X.resolved.object p running.code.0 running.code.1 in
       let next : k ≡ Next = answers_next D.object (running.code.0).operation pl.operation w.columns vs k s' i ns done in
       let acts = step_acts D X n w G c v (Returned ns) marks (mid, point, variables, m, isc, (p, vs, i, running, k, s', done, mid-is), ride, just, v-is) in
-      of_edge D n c w.columns v.columns acts.1 (on_at D acts.0 Next) (Returned ns) (subst (λ (j : EdgeKind). Fits D (on_at D p j)) next here_fits) acts.3
+      let same : In p vs ≡ In acts.0 acts.1 = same_Some (In p vs) (In acts.0 acts.1) (sym running.client ∙ acts.2) in
+      let is-p : p ≡ acts.0 = cc same in
+      let next_fits : Fits D (on_at D p Next) = subst (λ (j : EdgeKind). Fits D (on_at D p j)) next here_fits in
+      of_edge D n c w.columns v.columns acts.1 (on_at D acts.0 Next) (Returned ns) (subst (λ q. Fits D (on_at D q Next)) is-p next_fits) acts.3
 
 pub guaranteed : StepsAreInGuarantees
 guaranteed D X n labels w w' run c what marks step = of_step D X n w (good_run D X n labels (start_world D n) w (C.start_good D X n) run) c w' what marks step
