@@ -23,6 +23,8 @@ pub mod Gone
 pub mod Arrived
 pub mod Calling
 pub mod Simulated
+pub mod Relying
+pub mod Guaranteed
 pub mod EdgeTaken
 pub mod Ordinary
 pub mod Lifted

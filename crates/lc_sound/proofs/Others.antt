@@ -70,14 +70,14 @@ hold_below n [] k j h le = tt
 hold_below n (c ∷ cs) k zero h le = tt
 hold_below n (c ∷ cs) k (suc j) h le = (let lt : k < n = omega arith in cell_below n c (Variable k) h (grind (arith, nat_tests)), hold_below n cs (suc k) j h (omega arith))
 
-frame_below : (first o j n : ℕ) → 2 + j ≤ n → Every (IsBelow n) (body_frame first o j)
+pub frame_below : (first o j n : ℕ) → 2 + j ≤ n → Every (IsBelow n) (body_frame first o j)
 frame_below first o j n le =
     let h : nat_lt 1 n ≡ true = grind (arith, nat_tests) in
     (h, (both_true (nat_lt 1 n) true h refl, (cell_below n (op_column first) (Number (pos o)) h refl, hold_below n (arg_columns first) 2 j h (omega arith))))
 
 -- ---- the stable conditions of one action
 
-for_action : (D : Development) (point : Option ℕ) (n : ℕ) (hs fs : List Formula) (a : Action) → IsIn a (all_actions D) →
+pub for_action : (D : Development) (point : Option ℕ) (n : ℕ) (hs fs : List Formula) (a : Action) → IsIn a (all_actions D) →
     Every IsValid (concat_places (λ k f. numbered (stable_under D point n hs k f) 0 (all_actions D)) 0 fs) → Every (λ f. IsValid (stable_under D None n hs 0 f 0 a)) fs
 for_action D point n hs fs a h v =
     Every-map (λ f. (k : ℕ) × Every IsValid (numbered (stable_under D point n hs k f) 0 (all_actions D))) (λ f. IsValid (stable_under D None n hs 0 f 0 a)) fs

@@ -1,4 +1,5 @@
--- The steps of an object with its riders, and the runs of both kinds.
+-- The steps of an object with its riders (auxiliary code; marked points that depend on a condition or lie in another client's code are those of
+-- Vafeiadis, Modular fine-grained concurrency verification, thesis, Cambridge 2007), and the runs of both kinds.
 use Rattle.std.specs.Prelude.{◌≡◌, ℕ, ◌+◌, ◌<◌, ◌≤◌, List, [], ◌∷◌, ℤ, map, length, replicate}
 use Rattle.lc_term.specs.Updates.{stored_all, variable}
 use Rattle.lc_term.specs.Meaning.{State}

@@ -7,6 +7,7 @@ pub mod EdgePaths
 pub mod Valid
 pub mod Derived
 pub mod Claims
+pub mod Rely
 pub mod Examples
 pub mod Chosen
 pub mod ExamplesChosen

@@ -5,6 +5,7 @@ ghost use Rattle.lc_sound.specs.Claims.{OutlinesHold, BareStepsLift, StepsAreAct
 ghost use Rattle.lc_sound.specs.EdgePaths.{EdgePathsExclude, StepsArePaths, RunsAreOrdinary};
 ghost use Rattle.lc_sound.specs.Happening.{Happening, events, counted};
 ghost use Rattle.lc_sound.specs.Lawful.{Free, IsLawful};
+ghost use Rattle.lc_sound.specs.Rely.{StepsAreInGuarantees, RelyKeepsAssertions};
 
 use lc_seq::SeqObject;
 
@@ -23,11 +24,14 @@ pub fn orders_linearize()
 
 /// Where all conditions of a development are valid, for every number of clients: in every world that an instrumented
 /// run reaches the invariant, the frames and the assertions hold; each bare step there has its instrumented step; each
-/// step is an instance of its edge's action; and over every bare run stands an instrumented run with the same steps.
+/// step is an instance of its edge's action, and in its client's guarantee; what is asserted of a client stays under its rely;
+/// and over every bare run stands an instrumented run with the same steps.
 pub fn outlines_hold()
     ensures holds { OutlinesHold }
     ensures lifts { BareStepsLift }
     ensures acts { StepsAreActions }
+    ensures guaranteed { StepsAreInGuarantees }
+    ensures stable { RelyKeepsAssertions }
     ensures simulated { RunsAreSimulated }
 {}
 

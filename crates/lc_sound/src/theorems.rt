@@ -2,6 +2,7 @@ ghost use Rattle.lc_outline.specs.DevelopmentView.{development_shown};
 ghost use Rattle.lc_sound.specs.Claims.{OutlineHolds, StepsAreInstrumented, StepsAreInstances, RunsAreInstrumented, MarksLinearize};
 ghost use Rattle.lc_sound.specs.Derived.{AreDerived};
 ghost use Rattle.lc_sound.specs.Linearizable.{IsLinearizableObject};
+ghost use Rattle.lc_sound.specs.Rely.{StepsAreGuaranteed, AssertionsAreStable};
 ghost use Rattle.lc_sound.specs.Valid.{AreValid};
 
 use lc_outline::Development;
@@ -14,12 +15,15 @@ pub fn derived_conditions_are_valid(development: &Development)
 
 /// Where all conditions of a development are valid, for every number of clients: in every world that an instrumented run
 /// reaches the invariant, the frames and the assertions hold; each bare step there has its instrumented step, so that each
-/// mark is lawful and each return justified; and each step is an instance of its edge's action.
+/// mark is lawful and each return justified; each step is an instance of its edge's action, and in its client's guarantee; and
+/// what is asserted of a client stays under its rely.
 pub fn outline_holds(development: &Development)
     requires valid { AreValid (development_shown development.now) }
     ensures holds { OutlineHolds (development_shown development.now) }
     ensures lifts { StepsAreInstrumented (development_shown development.now) }
     ensures acts { StepsAreInstances (development_shown development.now) }
+    ensures guaranteed { StepsAreGuaranteed (development_shown development.now) }
+    ensures stable { AssertionsAreStable (development_shown development.now) }
 {}
 
 /// Where all conditions of a development are valid: for every number of clients and every list of single-access steps of its

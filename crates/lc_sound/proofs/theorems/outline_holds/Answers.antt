@@ -1,5 +1,7 @@
 use Rattle.lc_outline.specs.DevelopmentView.{development_shown}
 use Rattle.lc_sound.proofs.Lifted.{lifts}
+use Rattle.lc_sound.proofs.Guaranteed.{guaranteed}
+use Rattle.lc_sound.proofs.Relying.{rely_keeps}
 use Rattle.lc_sound.proofs.Proven.{proven}
 use Rattle.lc_sound.proofs.Simulated.{outlines_hold, steps_act}
 use Rattle.lc_sound.proofs.theorems.outline_holds.Goals as goal
@@ -12,3 +14,9 @@ returns-clause-lifts c = lifts (development_shown c.args.development.now) (prove
 
 pub returns-clause-acts : goal.returns-clause-acts
 returns-clause-acts c = steps_act (development_shown c.args.development.now) (proven c.args.development.now c.requires.valid)
+
+pub returns-clause-guaranteed : goal.returns-clause-guaranteed
+returns-clause-guaranteed c = guaranteed (development_shown c.args.development.now) (proven c.args.development.now c.requires.valid)
+
+pub returns-clause-stable : goal.returns-clause-stable
+returns-clause-stable c = rely_keeps (development_shown c.args.development.now) (proven c.args.development.now c.requires.valid)
