@@ -5,6 +5,7 @@ mod construction;
 mod development;
 pub mod laws;
 mod parts;
+mod sameness;
 
 pub use development::Development;
 pub use parts::{ActionId, On, Outline, Parts};
