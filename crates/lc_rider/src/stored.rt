@@ -1,4 +1,4 @@
-ghost use Rattle.std.specs.Prelude.{◌≡◌, IfNone, IfSome, OnOk};
+ghost use Rattle.std.specs.Prelude.{◌≡◌, IfNone, IfSome, OnOk, OnErr};
 ghost use Rattle.lc_table.specs.PutNumbers.{columns_at, AreColumns, AreTerms, replacement_at};
 ghost use Rattle.lc_term.specs.Replacement.{replace_term};
 ghost use Rattle.lc_term.specs.Said.{put};
@@ -24,7 +24,7 @@ fn place_of(columns: &[(ColId, ColExprId)], column: ColId) -> Option<usize>
     None
 }
 
-/// Stores a value in a column at an index, in columns by number.
+/// Stores a value in a column at an index, in columns by number. Where memory is refused they stay as they are.
 pub fn store_in(
     terms: &mut Terms,
     columns: &mut Vec<(ColId, ColExprId)>,
@@ -38,6 +38,7 @@ pub fn store_in(
     ensures are { OnOk result (AreColumns terms.new columns.new.items) }
     ensures stored { OnOk result (columns_at terms.new columns.new.items ≡
         put (columns_at terms.old columns.old.items) (record { column = column.0; index = term_in terms.old index; value = term_in terms.old value })) }
+    ensures unchanged { OnErr result (columns.new.items ≡ columns.old.items) }
     ensures kept { Keeps terms.old terms.new }
 {
     let Some(place) = place_of(columns, column) else {
