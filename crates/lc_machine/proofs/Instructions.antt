@@ -1,5 +1,6 @@
 -- Each instruction does as it is defined.
-use Rattle.std.proofs.Common.{◌≡◌, ℕ, ℤ, Bool, true, false, List, [], length, Some, Ok, refl, sym, ap, ap₂, ◌∙◌, subst, inl, inr}
+use Rattle.std.proofs.Common.{◌≡◌, ℕ, ℤ, ◌≤◌, Bool, true, false, List, [], length, Some, Ok, refl, sym, ap, ap₂, ◌∙◌, subst, inl, inr, arith}
+use Rattle.std.proofs.lemmas.List.{length-map}
 use Rattle.std.specs.Ordering.{int_eq}
 use Rattle.std.specs.Cmp.Lexicographic.{pointwise}
 use Rattle.std.specs.Cmp.Rules.{signed_items}
@@ -108,9 +109,10 @@ tests_false object s vs f l m e fits fails label parts =
     effect_is object (If f l m) s vs Else [] (Goes m vs) e parts fits (inr (fails, refl, refl, refl)) label tt
 
 pub answers : (object : Object) (s : State) (vs : List ℤ) (us : List Term) (ns : List ℤ) (e : Effect) →
-    TermsFit s (variable vs) us → ns ≡ numbers s vs us → HasParts Next [] (Answers ns) e → IsEffect object (Return us) s vs (Ok e)
-answers object s vs us ns e fits values parts =
-    effect_is object (Return us) s vs Next [] (Answers ns) e parts fits (refl, refl, ap Answers values) tt tt
+    TermsFit s (variable vs) us → ns ≡ numbers s vs us → length us ≤ 3 → HasParts Next [] (Answers ns) e → IsEffect object (Return us) s vs (Ok e)
+answers object s vs us ns e fits values few parts =
+    let count : length ns ≡ length us = ap length values ∙ length-map us (number s vs) in
+    effect_is object (Return us) s vs Next [] (Answers ns) e parts fits (refl, refl, ap Answers values) (omega (arith, count, few)) tt
 
 -- what is compared is the row
 pub compared : (object : Object) (s : State) (vs : List ℤ) (a : ℕ) (t : Term) (old : List Term) (i : ℤ) (cs : List ℕ) (ns : List ℤ) (b : Bool) →

@@ -96,6 +96,7 @@ stepped_returned object s s' place k e reply at h x stores same =
       known.2.0,
       subst (λ o. Does object s (variables_of place) known.0.instruction e.edge s' o) (sym same) (subst (λ t. Does object s (variables_of place) known.0.instruction e.edge t (outcome_of e.fate)) (sym stores) known.2.1),
       refl,
+      subst (IsReached object) (sym same) known.2.2,
     )
 
 stepped_fault : (object : Object) (s s' : State) (k k' : Client) (p : ℕ) (vs : List ℤ) (i : Instr) (f : StepFault) → IsAt object k p vs i → IsEffect object i s vs (Err f) → s' ≡ s → k' ≡ k →

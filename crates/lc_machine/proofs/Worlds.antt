@@ -75,9 +75,9 @@ advanced object w c k k' s (Ok (Went point edge)) is (p, variables, i, new, at, 
       (p, (variables, i, runs, s, point.0, new, does, ap (after w s c) put)),
       (new, put_there w.clients c k' k is ∙ ap Some put),
     )
-advanced object w c k k' s (Ok (Returned reply)) is (p, variables, i, edge, at, fits, does, put) =
+advanced object w c k k' s (Ok (Returned reply)) is (p, variables, i, edge, at, fits, does, put, few) =
     let runs = running object w c k p variables i is at in
-    ((p, variables, i, runs, fits), (p, variables, i, runs, edge, s, does, ap (after w s c) put))
+    ((p, variables, i, runs, fits), (p, variables, i, runs, edge, s, does, ap (after w s c) put), few)
 advanced object w c k k' s (Err Idle) is (idle, e, f) = (is ∙ ap Some idle, same_world w s c k k' is e f)
 advanced object w c k k' s (Err Overflow) is (p, variables, i, at, no_fit, e, f) =
     ((p, variables, i, running object w c k p variables i is at, no_fit), same_world w s c k k' is e f)

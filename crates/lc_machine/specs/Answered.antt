@@ -19,11 +19,11 @@ StepFits object w c = (p : ℕ) × (variables : List ℤ) × (i : Instr) × IsRu
 abbrev pub StepOverflows : Object → World → ℕ → Type 0
 StepOverflows object w c = (p : ℕ) × (variables : List ℤ) × (i : Instr) × IsRunning object w c p variables i × (InstructionFits object w.columns variables i → ⊥)
 
--- the answer to `advance`: the client's step; or why it takes none, and nothing changes
+-- the answer to `advance`: the client's step, which returns three numbers at most; or why it takes none, and nothing changes
 abbrev pub IsAdvanced : Object → World → ℕ → World → Result Moved StepFault → Type 0
 IsAdvanced object w c w' (Ok (Went point edge)) =
     StepFits object w c × ((left : ℕ) × Steps object w c (S.Moved left edge) w') × ((variables : List ℤ) × IsClient w' c (In point.0 variables))
-IsAdvanced object w c w' (Ok (Returned reply)) = StepFits object w c × Steps object w c (S.Returned reply.items) w'
+IsAdvanced object w c w' (Ok (Returned reply)) = StepFits object w c × Steps object w c (S.Returned reply.items) w' × (length reply.items ≤ 3)
 IsAdvanced object w c w' (Err NoClient) = (length w.clients ≤ c) × (w' ≡ w)
 IsAdvanced object w c w' (Err Idle) = IsClient w c W.Idle × (w' ≡ w)
 IsAdvanced object w c w' (Err Overflow) = StepOverflows object w c × (w' ≡ w)

@@ -1,5 +1,5 @@
 -- What an instruction does, before it is done.
-use Rattle.std.specs.Prelude.{◌≡◌, List, length, Some, Result, Ok, Err, ℤ}
+use Rattle.std.specs.Prelude.{◌≡◌, ◌≤◌, List, length, Some, Result, Ok, Err, ℤ}
 use Rattle.lc_term.specs.Meaning.{State}
 use Rattle.lc_term.specs.Updates.{Write, stored_all, AreWithin}
 use Rattle.lc_term.specs.UpdateView.{writes_shown}
@@ -28,10 +28,10 @@ writes_in effect = writes_shown effect.writes.items
 abbrev pub HasParts : EdgeKind → List Write → Outcome → Effect → Type 0
 HasParts edge writes outcome effect = (effect.edge ≡ edge) × (writes_in effect ≡ writes) × (outcome_of effect.fate ≡ outcome)
 
--- a client that goes to a point has the variables of that place
+-- a client that goes to a point has the variables of that place; a call returns three numbers at most
 abbrev pub IsReached : Object → Outcome → Type 0
 IsReached object (S.Goes point variables) = variables_at object point ≡ Some (length variables)
-IsReached object (S.Answers numbers) = Unit {0}
+IsReached object (S.Answers numbers) = length numbers ≤ 3
 
 -- the effect of an instruction: its step, where each number that is reached fits; or why there is none
 abbrev pub IsEffect : Object → Instr → State → List ℤ → Result Effect StepFault → Type 0

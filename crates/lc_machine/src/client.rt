@@ -14,12 +14,12 @@ use lc_object::{EdgeKind, Object};
 use lc_term::State;
 use std::alloc::Global;
 
-// Where a client is.
+/// Where a client is.
 #[derive(Drop)]
-pub(crate) enum Client {
-    // In no call.
+pub enum Client {
+    /// In no call.
     Idle,
-    // In a call.
+    /// In a call.
     In(Place),
 }
 

@@ -11,7 +11,7 @@ mod numbers;
 mod rows;
 
 pub use bare::Bare;
-pub use client::Moved;
+pub use client::{Client, Moved};
 pub use effects::{Effect, Fate, Place, commit};
 pub use fault::StepFault;
 pub use instruction::effect;
