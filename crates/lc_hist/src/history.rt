@@ -53,8 +53,8 @@ impl History {
         Ok(History { events })
     }
 
-    // The history of events that are in turn.
-    pub(crate) fn of_well_formed(events: Vec<Event>) -> History
+    /// The history of events that are in turn.
+    pub fn of_well_formed(events: Vec<Event>) -> History
         requires { IsWellFormed (events_of events.items) }
         ensures { events_in result ≡ events_of events.items }
     {
