@@ -16,7 +16,7 @@ use Rattle.lc_sound.specs.Derived.{AreDerived}
 use Rattle.lc_check.proofs.Derived.{all_derived}
 use Rattle.lc_check.specs.Answers.{CountsAll}
 use Rattle.lc_check.specs.UpTo.{IsUpTo}
-use Rattle.lc_check.specs.VerdictView.{development_in, IsVerdictOn, IsVerdict, IsAnswerOn, IsCountOn}
+use Rattle.lc_check.specs.VerdictView.{development_in, IsVerdictOn, IsVerdict, IsAnswerOn, IsCountOn, IfAccepted}
 use Rattle.lc_check.specs.Verdicts.{IsAccepted}
 use Rattle.lc_check.specs.declared.progress.Progress.{Progress}
 use Rattle.lc_check.specs.declared.verdict.Accepted.{Accepted}
@@ -66,3 +66,16 @@ verdict_on dev cert D (Refuses r) says h = inr (D, says, h)
 pub on_development : {E : Type 0} (dev cert : List ℕ) (D : Development) (result : Result Verdict E) → Says file_reading dev D → IfOk result (IsVerdictOn D cert) → IfOk result (IsVerdict dev cert)
 on_development dev cert D (Ok v) says h = verdict_on dev cert D v says h
 on_development dev cert D (Err e) says h = tt
+
+-- what is accepted is what the file says, of each file for which the answer is the verdict
+pub said_too : {E : Type 0} (Fed : List ℕ → List ℕ → Type 0) (P : Development → Type 0) (result : Result Verdict E) → ((dev cert : List ℕ) → Fed dev cert → IfOk result (IsVerdict dev cert)) → IfAccepted result P
+    → IfAccepted result (λ D. ((dev cert : List ℕ) → Fed dev cert → Says file_reading dev D) × P D)
+said_too Fed P (Ok (Accepts a)) exactly h = (λ dev cert fed. (exactly dev cert fed).0, h)
+said_too Fed P (Ok (Refuses r)) exactly h = tt
+said_too Fed P (Err e) exactly h = tt
+
+pub said_of : {E : Type 0} (Fed : List ℕ → List ℕ → Type 0) (P : Development → Type 0) (dev cert : List ℕ) (result : Result Verdict E) → Fed dev cert
+    → IfAccepted result (λ D. ((file other : List ℕ) → Fed file other → Says file_reading file D) × P D) → IfAccepted result (λ D. Says file_reading dev D × P D)
+said_of Fed P dev cert (Ok (Accepts a)) fed h = (h.0 dev cert fed, h.1)
+said_of Fed P dev cert (Ok (Refuses r)) fed h = tt
+said_of Fed P dev cert (Err e) fed h = tt

@@ -1,6 +1,8 @@
 //! The verdict on whole files: sessions of one piece.
 ghost use Rattle.std.specs.Prelude.{IfOk};
+ghost use Rattle.lc_reading.specs.Files.{Says};
 ghost use Rattle.lc_outline.specs.DevelopmentView.{development_shown};
+ghost use Rattle.lc_outline_text.specs.Developments.{file_reading};
 ghost use Rattle.lc_sound.specs.Linearizable.{IsLinearizableObject};
 ghost use Rattle.lc_check.specs.VerdictView.{IsVerdictOn, IsVerdict, IfAccepted, IsCountOn};
 
@@ -35,13 +37,13 @@ pub fn check_certificate(
 /// The verdict on a development file and a certificate file.
 ///
 /// They are accepted where the one is a development, and the other a certificate of it with a derivation of each of its
-/// conditions and no other proof. Then for every number of clients and every list of single-access steps of its object the
-/// history of calls and returns is linearizable by its specification. Else they are refused: with the first refusal of the
-/// development file; else with that of the certificate file, as `check_certificate` says. `OutOfMemory` says nothing of the
-/// files.
+/// conditions and no other proof. Then the development that is accepted is the one that the file says, and for every number of
+/// clients and every list of single-access steps of its object the history of calls and returns is linearizable by its
+/// specification. Else they are refused: with the first refusal of the development file; else with that of the certificate
+/// file, as `check_certificate` says. `OutOfMemory` says nothing of the files.
 pub fn check(alloc: Global, dev: &[u8], cert: &[u8]) -> Result<Verdict, OutOfMemory>
     ensures exactly { IfOk result (IsVerdict dev.now cert.now) }
-    ensures linearizable { IfAccepted result (λ D. IsLinearizableObject D.specification D.object) }
+    ensures linearizable { IfAccepted result (λ D. Says file_reading dev.now D × IsLinearizableObject D.specification D.object) }
 {
     let mut session = Session::new(alloc, dev)?;
     session.feed(cert)?;

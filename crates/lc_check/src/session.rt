@@ -21,6 +21,8 @@ pub struct Session {
 
 impl Session {
     ghost use Rattle.std.specs.Prelude.{◌≡◌, ◌++◌, ℕ, List, [], true, false, IfOk, OnOk, is_err};
+    ghost use Rattle.lc_reading.specs.Files.{Says};
+    ghost use Rattle.lc_outline_text.specs.Developments.{file_reading};
     ghost use Rattle.lc_sound.specs.Linearizable.{IsLinearizableObject};
     ghost use Rattle.lc_check.specs.Sessions.{IsFed, is_spent};
     ghost use Rattle.lc_check.specs.VerdictView.{IsVerdict, IfAccepted};
@@ -53,7 +55,7 @@ impl Session {
     /// The verdict on the two files, of which the certificate ends here, as `check` says.
     pub fn finish(self) -> Result<Verdict, OutOfMemory>
         ensures exactly { (dev cert : List ℕ) → IsFed dev cert self → IfOk result (IsVerdict dev cert) }
-        ensures linearizable { IfAccepted result (λ D. IsLinearizableObject D.specification D.object) }
+        ensures linearizable { IfAccepted result (λ D. ((dev cert : List ℕ) → IsFed dev cert self → Says file_reading dev D) × IsLinearizableObject D.specification D.object) }
         ensures never_again { is_spent self ≡ true → is_err result ≡ true }
     {
         match self.state {
