@@ -130,6 +130,13 @@ nothing_plain a words m is has nothing name task w plain =
     let same : subcommand_rows_of m ≡ subcommand_of program_app words = (has (ap is_simple is ∙ program_is_simple)).1 ∙ ap (λ x. subcommand_of x words) is in
     plain_is_read words name task w plain (sym (nothing ∙ ap task_in same))
 
+-- what is read in matches is what clap reads in the words
+pub reads_request : (a : App) (words : List Text) (m : ArgMatches) (request : Request) → a ≡ program_app → HasMatchesOf a words m → Some (task_of request) ≡ task_in (subcommand_rows_of m)
+    → Reads words request
+reads_request a words m request is has reads =
+    let same : subcommand_rows_of m ≡ subcommand_of program_app words = (has (ap is_simple is ∙ program_is_simple)).1 ∙ ap (λ x. subcommand_of x words) is in
+    sym (reads ∙ ap task_in same)
+
 -- where the words are not plain, an error may be any
 pub plain_err : (words : List Text) (r : Result Request Error) → ((name : List ℕ) (task : Task) → words ≡ words_for name task → HasPlainPaths task → ⊥)
     → IfErr r (λ error. (name : List ℕ) (task : Task) → words ≡ words_for name task → HasPlainPaths task → kind_of error ≡ OutOfMemory)

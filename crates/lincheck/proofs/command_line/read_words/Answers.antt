@@ -1,7 +1,7 @@
 use Rattle.std.proofs.lemmas.Result.{err_from_is_err_and}
 use Rattle.clap.specs.Words.{app_of}
 use Rattle.lincheck.specs.CommandLine.{texts_of}
-use Rattle.lincheck.proofs.Words.{plain_fault, wrong_fault, help_asked, no_help, not_wrong, nothing_plain, plain_err}
+use Rattle.lincheck.proofs.Words.{plain_fault, wrong_fault, help_asked, no_help, not_wrong, nothing_plain, plain_err, reads_request}
 use Rattle.lincheck.proofs.command_line.read_words.Goals as goal
 
 pub returns-in_err-matches-clause-plain : goal.returns-in_err-matches-clause-plain
@@ -13,6 +13,14 @@ pub returns-in_err-matches-clause-wrong : goal.returns-in_err-matches-clause-wro
 returns-in_err-matches-clause-wrong c =
     let p = err_from_is_err_and c.from_residual-in_err-matches.result c.from_residual-in_err-matches.ensures.1 in
     rw (p.1, p.2) (wrong_fault (app_of c.in_ok-program.field-0) (texts_of c.args.words.now) c.in_err-matches.field-0.0 c.in_ok-program.ensures c.in_err-matches.ensures.kinds)
+
+pub returns-in-Some-clause-reads : goal.returns-in-Some-clause-reads
+returns-in-Some-clause-reads c =
+    reads_request (app_of c.in_ok-program.field-0) (texts_of c.args.words.now) c.in_ok-matches.matches c.in-Some.request c.in_ok-program.ensures c.in_ok-matches.ensures.matches c.in-Some.ensures
+
+pub returns-in_err-error-in-None-clause-wrong : goal.returns-in_err-error-in-None-clause-wrong
+returns-in_err-error-in-None-clause-wrong c = λ wrong.
+    absurd (not_wrong (app_of c.in_ok-program.field-0) (texts_of c.args.words.now) c.in_ok-program.ensures c.in_ok-matches.ensures.kinds wrong)
 
 pub returns-in-Some-clause-wrong : goal.returns-in-Some-clause-wrong
 returns-in-Some-clause-wrong c = not_wrong (app_of c.in_ok-program.field-0) (texts_of c.args.words.now) c.in_ok-program.ensures c.in_ok-matches.ensures.kinds

@@ -38,12 +38,12 @@ returns-in_ok-answer_check-in-Check-clause-leaves g c =
     (subst (λ (r : Request). AnswersTask (g.F.Files.bytes_at c.args.files.now) (task_of r) answer.text.items answer.status) (sym c.in-Check.is) c.in_ok-answer_check-in-Check.ensures.answers)
     c.print_answer-in-Check.ensures.prints c.print_answer-in-Check.ensures.fails
 
-pub returns-in_ok-answer_prove-in-Prove-clause-leaves : goal.returns-in_ok-answer_prove-in-Prove-clause-leaves
-returns-in_ok-answer_prove-in-Prove-clause-leaves g c =
-    let answer = c.in_ok-answer_prove-in-Prove.field-0 in
+pub returns-in_ok-answer-in-Prove-clause-leaves : goal.returns-in_ok-answer-in-Prove-clause-leaves
+returns-in_ok-answer-in-Prove-clause-leaves g c =
+    let answer = c.in_ok-answer-in-Prove.answer in
     leaves_printed (task_of c.args.request) (AnswersTask (g.F.Files.bytes_at c.args.files.now) (task_of c.args.request)) (g.O.Write.contents c.args.out.now)
     (g.O.Write.contents c.print_answer-in-Prove.new.out) answer.text.items answer.status c.print_answer-in-Prove.result
-    (subst (λ (r : Request). AnswersTask (g.F.Files.bytes_at c.args.files.now) (task_of r) answer.text.items answer.status) (sym c.in-Prove.is) c.in_ok-answer_prove-in-Prove.ensures.answers)
+    (subst (λ (r : Request). AnswersTask (g.F.Files.bytes_at c.args.files.now) (task_of r) answer.text.items answer.status) (sym c.in-Prove.is) c.in_ok-answer-in-Prove.ensures.answers)
     c.print_answer-in-Prove.ensures.prints c.print_answer-in-Prove.ensures.fails
 
 pub returns-in-Conditions-clause-leaves : goal.returns-in-Conditions-clause-leaves

@@ -11,13 +11,13 @@ use Rattle.lincheck.proofs.prove.answer_hints.Goals as goal
 
 pub answer_found-requires : goal.answer_found-requires
 answer_found-requires g c =
-    subst (λ (o : Result Hints Answer). IfOk o (λ hints. Every (EntryReadsBack (development_shown c.args.development.now)) (proofs_in hints))) c.in-Ok.is c.in_ok-open_hints.ensures.back
+    subst (λ (o : Result Hints Answer). IfOk o (λ hints. Every (EntryReadsBack (development_shown c.args.development.now)) (proofs_in hints))) c.in-Ok.is c.in_ok-hints.ensures.back
 
 pub returns-in_ok-answer_found-in-Ok-clause-answers : goal.returns-in_ok-answer_found-in-Ok-clause-answers
 returns-in_ok-answer_found-in-Ok-clause-answers g c =
     let D = development_shown c.args.development.now in
     let known = g.F.Files.bytes_at c.args.files.now c.args.path.now in
-    let opens = subst (λ (o : Result Hints Answer). IfSome known (λ file. OpensHints D file o)) c.in-Ok.is c.in_ok-open_hints.ensures.opens in
+    let opens = subst (λ (o : Result Hints Answer). IfSome known (λ file. OpensHints D file o)) c.in-Ok.is c.in_ok-hints.ensures.opens in
     let answer = c.in_ok-answer_found-in-Ok.field-0 in
     hints_answered D known c.in-Ok.hints answer.text.items answer.status opens c.in_ok-answer_found-in-Ok.ensures
 
@@ -25,5 +25,5 @@ pub returns-in-Err-clause-answers : goal.returns-in-Err-clause-answers
 returns-in-Err-clause-answers g c =
     let D = development_shown c.args.development.now in
     let known = g.F.Files.bytes_at c.args.files.now c.args.path.now in
-    let tells = subst (λ (o : Result Hints Answer). IfSome known (λ file. OpensHints D file o)) c.in-Err.is c.in_ok-open_hints.ensures.opens in
+    let tells = subst (λ (o : Result Hints Answer). IfSome known (λ file. OpensHints D file o)) c.in-Err.is c.in_ok-hints.ensures.opens in
     hints_told D known c.in-Err.answer tells

@@ -9,4 +9,4 @@ same (Some file) items bytes e h = e ∙ h
 pub returns-clause-bytes : goal.returns-clause-bytes
 returns-clause-bytes g c =
     let fed = c.in_ok-feed_file.ensures.fed in
-    same (g.F.Files.bytes_at c.args.files.now c.args.path.now) c.feed_file.new.sink.items fed.0 (fed.1 tt [] c.in-Ok.ensures.items) fed.2
+    same (g.F.Files.bytes_at c.args.files.now c.args.path.now) c.feed_file.new.sink.items fed.0 (fed.1 tt [] c.new-bytes.ensures.items) fed.2
