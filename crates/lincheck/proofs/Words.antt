@@ -1,6 +1,8 @@
 -- What clap reads in plain words.
 use Rattle.std.proofs.Common.{◌≡◌, ℕ, ◌==◌, ◌⊎◌, inl, inr, Bool, true, false, not, true≢false, codes, List, [], ◌∷◌, Option, Some, None, refl, sym, ◌∙◌, ap, ap₂, subst}
 use Rattle.std.specs.Prelude.{Result, Ok, Err, IfErr, IsErrAnd, option_map, option_and_then}
+use Rattle.std.specs.Option.{option_map_or}
+use Rattle.std.specs.Str.{bytes_eq}
 use Rattle.clap.specs.Words.{App, HasKind, IsAmong, HasMatchesOf, Text, fault_of, first_of, first_value, is_simple, is_simple_and_free, kind_of, rows_of, subcommand_of, subcommand_rows_of, takes}
 use Rattle.clap.specs.declared.error.Error.{Error}
 use Rattle.clap.specs.declared.error.kind.ErrorKind.TheVariants.{OutOfMemory}
@@ -227,12 +229,29 @@ proving_found f development hints is is' =
 pub proving_unfound : (f : Found) → None ≡ first_value f (codes "DEV") → None ≡ proving_task (rows_of f)
 proving_unfound f is = ap (option_map (λ d. proving d (first_of (codes "hints") (rows_of f)))) (is ∙ first_value-rows f (codes "DEV"))
 
--- the same of an object of the library, with the text that its flags ask for
-pub library_found : (f : Found) (object : Option Text) → object ≡ first_value f (codes "NAME")
-    → option_and_then (λ lib. option_map (PrintLibrary lib) (text_for (is_set (codes "certificate") (rows_of f)) (is_set (codes "hints") (rows_of f)))) (option_and_then lib_named object)
-    ≡ library_task (rows_of f)
-library_found f object is =
-    ap
-    (λ o. option_and_then (λ lib. option_map (PrintLibrary lib) (text_for (is_set (codes "certificate") (rows_of f)) (is_set (codes "hints") (rows_of f))))
-    (option_and_then lib_named o))
-    (is ∙ first_value-rows f (codes "NAME"))
+-- a flag is set where its value is `true`
+pub flag_found : (f : Found) (name : Text) (value : Option Text) → value ≡ first_value f name → option_map_or (λ v. bytes_eq v (codes "true")) value false ≡ is_set name (rows_of f)
+flag_found f name value is = ap (λ x. option_map_or (λ v. bytes_eq v (codes "true")) x false) (is ∙ first_value-rows f name)
+
+-- the task of printing a text of the object, if the flags ask for one
+asked_of : Found → Lib → Option Task
+asked_of f lib = option_map (PrintLibrary lib) (text_for (is_set (codes "certificate") (rows_of f)) (is_set (codes "hints") (rows_of f)))
+
+-- without a name, and with a name of no object, nothing is asked for
+pub library_unfound : (f : Found) → None ≡ first_value f (codes "NAME") → None ≡ library_task (rows_of f)
+unfolding asked_of
+library_unfound f is = ap (λ x. option_and_then (asked_of f) (option_and_then lib_named x)) (is ∙ first_value-rows f (codes "NAME"))
+
+pub library_unnamed : (f : Found) (name : Text) → Some name ≡ first_value f (codes "NAME") → None ≡ lib_named name → None ≡ library_task (rows_of f)
+unfolding asked_of
+library_unnamed f name is none =
+    ap (option_and_then (asked_of f)) none ∙ ap (λ x. option_and_then (asked_of f) (option_and_then lib_named x)) (is ∙ first_value-rows f (codes "NAME"))
+
+-- else the text is that of the flags
+pub library_found : (f : Found) (name : Text) (lib : Lib) (certificate hints : Bool) (text : Option LibraryText) → Some name ≡ first_value f (codes "NAME") → Some lib ≡ lib_named name
+    → certificate ≡ is_set (codes "certificate") (rows_of f) → hints ≡ is_set (codes "hints") (rows_of f) → text ≡ text_for certificate hints
+    → option_map (PrintLibrary lib) text ≡ library_task (rows_of f)
+unfolding asked_of
+library_found f name lib certificate hints text is named c h asked =
+    ap (option_map (PrintLibrary lib)) (asked ∙ ap₂ text_for c h) ∙ ap (option_and_then (asked_of f)) named
+    ∙ ap (λ x. option_and_then (asked_of f) (option_and_then lib_named x)) (is ∙ first_value-rows f (codes "NAME"))

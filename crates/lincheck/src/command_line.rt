@@ -454,7 +454,9 @@ fn library_request<'a>(command: &ArgMatches<'a>) -> Option<Request<'a>>
 {
     let name = command.get_str("NAME")?;
     let lib = Lib::named(name)?;
-    let text = text_for(is_set(command, "certificate"), is_set(command, "hints"))?;
+    let certificate = is_set(command, "certificate");
+    let hints = is_set(command, "hints");
+    let text = text_for(certificate, hints)?;
     Some(Request::Library { lib, text })
 }
 
