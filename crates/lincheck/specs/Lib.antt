@@ -6,6 +6,5 @@ pub mod Formula
 pub mod Judge
 pub mod Check
 pub mod Prove
-pub mod Library
 pub mod Printing
 pub mod Execution

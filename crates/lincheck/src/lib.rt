@@ -10,7 +10,6 @@ mod files;
 mod formula;
 mod judge;
 pub mod laws;
-mod library;
 mod printing;
 mod program;
 mod prove;
