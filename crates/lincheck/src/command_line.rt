@@ -3,7 +3,7 @@ ghost use Rattle.std.specs.Prelude.{◌≡◌, ◌⊎◌, ℕ, List, codes, IfOk
 ghost use Rattle.clap.specs.Words.{app_of, found_of, kind_of, rows_of, rule_of, subcommand_rows_of};
 ghost use Rattle.clap.specs.declared.builder.command.Command.TheViews.{out-Command};
 ghost use Rattle.clap.specs.declared.error.kind.ErrorKind.TheVariants.{OutOfMemory};
-ghost use Rattle.lincheck.specs.CommandLine.{AreWrong, AskForHelp, AsksForText, HasPlainPaths, CheckCertificate, CheckFormula, JudgeHistory, ListConditions, Reads, ShowDevelopment, Task, check_app, conditions_app, file_rule, first_app, formula_app, flag_rule, formula_app, further_app, judge_app, one_file_task, option_rule, program_app, prove_app, proving_task, show_app, task_in, task_of, texts_of, two_file_task, words_for};
+ghost use Rattle.lincheck.specs.CommandLine.{AreWrong, AskForHelp, AsksForText, HasPlainPaths, CheckCertificate, CheckFormula, JudgeHistory, ListConditions, Reads, ShowDevelopment, Task, check_app, conditions_app, file_rule, first_app, flag_rule, formula_app, further_app, judge_app, one_file_task, option_rule, program_app, prove_app, proving_task, show_app, task_in, task_of, texts_of, two_file_task, words_for};
 
 use clap::error::ErrorKind;
 use clap::{Arg, ArgAction, ArgMatches, Command, Error};
