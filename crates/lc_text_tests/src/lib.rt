@@ -1,8 +1,10 @@
-//! What no contract says of names, s-expressions, terms and formulas.
+//! What no contract says of names, s-expressions, whole and in pieces, terms and formulas.
 #![tactic(auto)]
 
 #[cfg(test)]
 mod base_tests;
+#[cfg(test)]
+mod part_tests;
 #[cfg(test)]
 mod sexp_tests;
 #[cfg(test)]

@@ -1,0 +1,71 @@
+//! Certificates and hints.
+ghost use Rattle.std.specs.Prelude.{◌≡◌, ◌++◌, ◌∷◌, [], ℕ, List, IfOk, IfSome, option_map};
+ghost use Rattle.lc_cert.specs.CertificateView.{entries_in};
+ghost use Rattle.lc_cert.specs.Certificates.{Entry as Proved, proof_at};
+ghost use Rattle.lc_cert.specs.EntryView.{entry_of};
+ghost use Rattle.lc_cert.specs.Files.{IsAnswerTo};
+ghost use Rattle.lc_cert.specs.Pieces.{IsAfterTaking, IsAnswerOf, waiting};
+ghost use Rattle.lc_cert.specs.Printed.{certificate_line};
+ghost use Rattle.lc_hints.specs.Files.{IsAnswerTo as IsHintAnswerTo};
+ghost use Rattle.lc_kernel.specs.View.{proof_of};
+ghost use Rattle.lc_outline.specs.Development.{Development as Shown};
+ghost use Rattle.lc_outline.specs.DevelopmentView.{development_shown};
+
+use lc_base::{Fault, OutOfMemory};
+use lc_cert::{CertReader, Certificate, Entry, certificate_of, certificate_text};
+use lc_hints::{Hints, hints_of};
+use lc_kernel::Proof;
+use lc_outline::Development;
+use std::alloc::Global;
+
+/// A file is answered with its certificate, or with its first refusal.
+pub fn reading_a_certificate(
+    alloc: Global,
+    development: &Development,
+    bytes: &[u8],
+) -> Result<Certificate, Fault>
+    ensures { IsAnswerTo (development_shown development.now) bytes.now result }
+{
+    certificate_of(alloc, development, bytes)
+}
+
+/// The proof of a number is answered where there is one.
+pub fn finding_a_proof<'a>(certificate: &'a Certificate, number: u64) -> Option<&'a Proof>
+    ensures { option_map (λ p. proof_of p.now) result ≡ proof_at (entries_in certificate.now) number }
+{
+    certificate.proof(number)
+}
+
+/// A certificate is printed as is defined.
+pub fn printing_a_certificate(
+    alloc: Global,
+    development: &Development,
+    certificate: &Certificate,
+) -> Result<Vec<u8>, OutOfMemory>
+    ensures { IfOk result (λ text. text.items ≡ certificate_line (development_shown development.now) (entries_in certificate.now)) }
+{
+    certificate_text(alloc, development, certificate)
+}
+
+/// Proofs are handed out in their order, each once.
+pub fn taking_a_proof(reader: &mut CertReader) -> Option<Entry>
+    ensures { IfSome result (λ entry. (D : Shown) → (fed : List ℕ) → (taken : List Proved) →
+        IsAfterTaking D fed taken reader.old → IsAfterTaking D fed (taken ++ (entry_of entry ∷ [])) reader.new) }
+{
+    reader.take()
+}
+
+/// At the end it is told whether all is a certificate with just these proofs.
+pub fn finishing_a_certificate(reader: CertReader, development: &Development) -> Result<(), Fault>
+    ensures { (fed : List ℕ) → (taken : List Proved) → IsAfterTaking (development_shown development.now) fed taken reader →
+        IsAnswerOf (development_shown development.now) fed (taken ++ waiting reader) result }
+{
+    reader.finish(development)
+}
+
+/// A file is answered with its hints, or with its first refusal.
+pub fn reading_hints(alloc: Global, development: &Development, bytes: &[u8]) -> Result<Hints, Fault>
+    ensures { IsHintAnswerTo (development_shown development.now) bytes.now result }
+{
+    hints_of(alloc, development, bytes)
+}

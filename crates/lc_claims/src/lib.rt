@@ -1,0 +1,11 @@
+//! What the calls that read and print texts promise: each promise again, over the call that keeps it. The planted bugs of
+//! these calls stand here: bodies that answer wrongly where the call answers right.
+#![tactic(auto)]
+
+pub mod certificates;
+pub mod developments;
+pub mod formulas;
+pub mod objects;
+pub mod readings;
+pub mod riders;
+pub mod trees;
