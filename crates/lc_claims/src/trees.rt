@@ -1,5 +1,5 @@
 //! S-expressions: files and their forms, parts that are handed out, cursors, and what is printed.
-ghost use Rattle.std.specs.Prelude.{◌≡◌, ◌++◌, ◌∷◌, ℕ, List, true, Err, IfOk, IfSome, OnOk};
+ghost use Rattle.std.specs.Prelude.{◌≡◌, ◌++◌, ◌∷◌, [], ℕ, List, true, Err, IfOk, IfSome, OnOk};
 ghost use Rattle.lc_base.specs.declared.refusal.Fault.TheVariants.{OutOfMemory as NoMemory};
 ghost use Rattle.lc_sexp.specs.Answers.{IsAnswerTo, IsAnswerInParts};
 ghost use Rattle.lc_sexp.specs.CutFiles.{IsPieceRead};
