@@ -7,7 +7,7 @@ ghost use Rattle.lincheck.specs.CommandLine.{AreWrong, AskForHelp, AsksForText, 
 
 use clap::error::ErrorKind;
 use clap::{Arg, ArgAction, ArgMatches, Command, Error};
-use lc_lib::Lib;
+use lc_lib_texts::Lib;
 use std::alloc::{AllocError, Global};
 
 /// Which text of an object of the library is asked for.

@@ -6,7 +6,8 @@ use crate::answer::{Answer, SUCCESS};
 use crate::command_line::LibraryText;
 use crate::prove::told_unfound;
 use lc_base::OutOfMemory;
-use lc_lib::{FindFault, Lib, certificate, development, hints};
+use lc_lib::{FindFault, certificate};
+use lc_lib_texts::{Lib, development, hints};
 use std::alloc::{AllocError, Global};
 
 /// A text of the library, as it stands.
