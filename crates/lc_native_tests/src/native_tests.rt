@@ -18,7 +18,12 @@ struct Asked<'a, H> {
     wanted: Option<&'a [i64]>,
 }
 
-fn asked<'a>(client: u32, code: u32, given: &'a [i64], wanted: Option<&'a [i64]>) -> Asked<'a, ()> {
+fn asking<'a>(
+    client: u32,
+    code: u32,
+    given: &'a [i64],
+    wanted: Option<&'a [i64]>,
+) -> Asked<'a, ()> {
     Asked {
         client,
         code,
@@ -68,9 +73,9 @@ fn answers_each<S: SeqObject>(
 #[test]
 fn a_counter_counts(rt: HostRuntime) -> Result<(), Fail> {
     let calls = [
-        asked(0, 0, &[], Some(&[0])),
-        asked(1, 0, &[], Some(&[1])),
-        asked(0, 1, &[], Some(&[2])),
+        asking(0, 0, &[], Some(&[0])),
+        asking(1, 0, &[], Some(&[1])),
+        asking(0, 1, &[], Some(&[2])),
     ];
     assert!(rt; answers_each(rt.alloc(), &NatCounter, &calls)?);
     Ok(())
@@ -79,11 +84,11 @@ fn a_counter_counts(rt: HostRuntime) -> Result<(), Fail> {
 #[test]
 fn a_stack_gives_the_last(rt: HostRuntime) -> Result<(), Fail> {
     let calls = [
-        asked(0, 0, &[4], Some(&[])),
-        asked(1, 0, &[5], Some(&[])),
-        asked(0, 1, &[], Some(&[1, 5])),
-        asked(0, 1, &[], Some(&[1, 4])),
-        asked(0, 1, &[], Some(&[0, 0])),
+        asking(0, 0, &[4], Some(&[])),
+        asking(1, 0, &[5], Some(&[])),
+        asking(0, 1, &[], Some(&[1, 5])),
+        asking(0, 1, &[], Some(&[1, 4])),
+        asking(0, 1, &[], Some(&[0, 0])),
     ];
     assert!(rt; answers_each(rt.alloc(), &NatStack, &calls)?);
     Ok(())
@@ -92,10 +97,10 @@ fn a_stack_gives_the_last(rt: HostRuntime) -> Result<(), Fail> {
 #[test]
 fn a_lock_has_one_holder(rt: HostRuntime) -> Result<(), Fail> {
     let calls = [
-        asked(0, 0, &[], Some(&[])),
-        asked(1, 0, &[], None),
-        asked(1, 1, &[], Some(&[0])),
-        asked(0, 1, &[], Some(&[1])),
+        asking(0, 0, &[], Some(&[])),
+        asking(1, 0, &[], None),
+        asking(1, 1, &[], Some(&[0])),
+        asking(0, 1, &[], Some(&[1])),
     ];
     assert!(rt; answers_each(rt.alloc(), &NatLock, &calls)?);
     Ok(())
@@ -104,9 +109,9 @@ fn a_lock_has_one_holder(rt: HostRuntime) -> Result<(), Fail> {
 #[test]
 fn a_snapshot_reads_both(rt: HostRuntime) -> Result<(), Fail> {
     let calls = [
-        asked(0, 0, &[4], Some(&[])),
-        asked(1, 1, &[5], Some(&[])),
-        asked(0, 2, &[], Some(&[4, 5])),
+        asking(0, 0, &[4], Some(&[])),
+        asking(1, 1, &[5], Some(&[])),
+        asking(0, 2, &[], Some(&[4, 5])),
     ];
     assert!(rt; answers_each(rt.alloc(), &NatSnapshot, &calls)?);
     Ok(())
