@@ -12,7 +12,7 @@ use Rattle.lc_lib_texts.specs.declared.texts.queue.TheConstants as queue
 use Rattle.lc_lib_texts.specs.declared.texts.pool_stack.TheConstants as pool_stack
 
 -- the text of its development
-abbrev pub development_bytes : Lib → List ℕ
+unfoldable pub development_bytes : Lib → List ℕ
 development_bytes Counter = counter.DEVELOPMENT.now
 development_bytes Stack = stack.DEVELOPMENT.now
 development_bytes Lock = lock.DEVELOPMENT.now
@@ -23,7 +23,7 @@ development_bytes Queue = queue.DEVELOPMENT.now
 development_bytes PoolStack = pool_stack.DEVELOPMENT.now
 
 -- the text of its hints
-abbrev pub hint_bytes : Lib → List ℕ
+unfoldable pub hint_bytes : Lib → List ℕ
 hint_bytes Counter = counter.HINTS.now
 hint_bytes Stack = stack.HINTS.now
 hint_bytes Lock = lock.HINTS.now

@@ -64,6 +64,7 @@ impl Lib {
 }
 
 /// The text of its development.
+#[tactic(auto, unfolding(crate::specs::Texts::development_bytes))]
 pub fn development(lib: Lib) -> &'static [u8]
     ensures { result.now ≡ development_bytes lib }
 {
@@ -80,6 +81,7 @@ pub fn development(lib: Lib) -> &'static [u8]
 }
 
 /// The text of hints for its development, which offer a proof of each condition.
+#[tactic(auto, unfolding(crate::specs::Texts::hint_bytes))]
 pub fn hints(lib: Lib) -> &'static [u8]
     ensures { result.now ≡ hint_bytes lib }
 {

@@ -9,9 +9,10 @@ use Rattle.lc_outline.specs.Development.{Development}
 use Rattle.lc_outline_print.specs.Developments.{development_printed}
 use Rattle.lc_outline_text.specs.Developments.{file_reading}
 use Rattle.lincheck.specs.Check.{AnswersDevelopment, AnswersCheck}
-use Rattle.lincheck.specs.CommandLine.{Task, CheckFormula, JudgeHistory, ShowDevelopment, ListConditions, CheckCertificate, ProveDevelopment, ProveWithHints}
+use Rattle.lincheck.specs.CommandLine.{Task, CheckFormula, JudgeHistory, ShowDevelopment, ListConditions, CheckCertificate, ProveDevelopment, ProveWithHints, PrintLibrary}
 use Rattle.lincheck.specs.Formula.{AnswersFormula}
 use Rattle.lincheck.specs.Judge.{AnswersJudge}
+use Rattle.lincheck.specs.Library.{AnswersLibrary}
 use Rattle.lincheck.specs.Prove.{AnswersProve, AnswersHinted}
 use Rattle.lincheck.specs.Printing.{Begins, IsInPieces}
 
@@ -30,6 +31,7 @@ AnswersTask bytes_at (ProveDevelopment development) text status =
     IfSome (bytes_at development) (λ file. AnswersProve file text status)
 AnswersTask bytes_at (ProveWithHints development hints) text status =
     IfSome (bytes_at development) (λ file. AnswersHinted file (bytes_at hints) text status)
+AnswersTask bytes_at (PrintLibrary lib asked) text status = AnswersLibrary lib asked text status
 
 -- A file that a task needs cannot be opened: the only one or the development; or the other, where the development is read
 abbrev pub IsUnread : (List ℕ → Type 0) → (List ℕ → Option (List ℕ)) → Task → Type 0
@@ -46,6 +48,7 @@ IsUnread CannotOpen bytes_at (ProveDevelopment development) = CannotOpen develop
 IsUnread CannotOpen bytes_at (ProveWithHints development hints) =
     CannotOpen development
     ⊎ ((file : List ℕ) × (D : Development) × (bytes_at development ≡ Some file) × Says file_reading file D × CannotOpen hints)
+IsUnread CannotOpen bytes_at (PrintLibrary lib asked) = ⊥
 
 -- The program ends with a task: with a fault of reading, or for want of memory, and nothing is printed; or with an answer of which
 -- this holds, which is printed behind what stood on standard output, unless there is a fault of writing, or memory is refused while

@@ -6,5 +6,6 @@ pub mod Formula
 pub mod Judge
 pub mod Check
 pub mod Prove
+pub mod Library
 pub mod Printing
 pub mod Execution

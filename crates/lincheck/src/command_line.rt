@@ -3,11 +3,20 @@ ghost use Rattle.std.specs.Prelude.{◌≡◌, ◌⊎◌, ℕ, List, codes, IfOk
 ghost use Rattle.clap.specs.Words.{app_of, found_of, kind_of, rows_of, rule_of, subcommand_rows_of};
 ghost use Rattle.clap.specs.declared.builder.command.Command.TheViews.{out-Command};
 ghost use Rattle.clap.specs.declared.error.kind.ErrorKind.TheVariants.{OutOfMemory};
-ghost use Rattle.lincheck.specs.CommandLine.{AreWrong, AskForHelp, AsksForText, HasPlainPaths, CheckCertificate, CheckFormula, JudgeHistory, ListConditions, Reads, ShowDevelopment, Task, check_app, conditions_app, file_rule, first_app, flag_rule, formula_app, further_app, judge_app, one_file_task, option_rule, program_app, prove_app, proving_task, show_app, task_in, task_of, texts_of, two_file_task, words_for};
+ghost use Rattle.lincheck.specs.CommandLine.{AreWrong, AskForHelp, AsksForText, HasPlainPaths, CheckCertificate, CheckFormula, JudgeHistory, ListConditions, Reads, ShowDevelopment, Task, check_app, conditions_app, file_rule, first_app, flag_rule, formula_app, further_app, is_set, judge_app, library_app, library_task, object_rule, one_file_task, option_rule, program_app, prove_app, proving_app, proving_task, show_app, task_in, task_of, text_for, texts_of, two_file_task, words_for};
 
 use clap::error::ErrorKind;
 use clap::{Arg, ArgAction, ArgMatches, Command, Error};
+use lc_lib_texts::Lib;
 use std::alloc::{AllocError, Global};
+
+/// Which text of an object of the library is asked for.
+#[derive(Clone, Copy)]
+pub enum LibraryText {
+    Development,
+    Certificate,
+    Hints,
+}
 
 /// What the command line asks for.
 #[derive(Clone, Copy)]
@@ -34,6 +43,11 @@ pub enum Request<'a> {
         hints: Option<&'a str>,
         progress: bool,
     },
+    /// Print a text of an object of the library.
+    Library {
+        lib: Lib,
+        text: LibraryText,
+    },
 }
 
 static ABOUT: &str = "Checks written proofs that concurrent objects are linearizable";
@@ -56,7 +70,9 @@ Examples:
   lincheck check examples/counter.lc examples/counter.cert
       reads what is claimed of a counter, with the proofs, and prints `accepted counter 59`
   lincheck prove examples/counter.lc
-      reads what is claimed of a counter, and prints proofs of it";
+      reads what is claimed of a counter, and prints proofs of it
+  lincheck library queue
+      prints a queue, with all that is claimed of it";
 
 static FORMULA: &str = "Checks the proof of one formula";
 
@@ -179,6 +195,25 @@ Example:
   lincheck prove examples/counter.lc
       prints a certificate of the counter, with 59 proofs";
 
+static LIBRARY: &str = "Prints an object of the library";
+
+static OBJECT: &str =
+    "The object: counter, stack, lock, snapshot, combining, rendezvous, queue or pool-stack";
+
+static LIBRARY_CERTIFICATE: &str = "Prints its certificate";
+
+static LIBRARY_HINTS: &str = "Prints its hints";
+
+static LIBRARY_ANSWER: &str = "\
+Prints the development of an object, with comments that explain it; or its certificate, which `check` accepts; or its hints, with
+which `prove` makes that certificate. No file is read.
+
+Example:
+  lincheck library stack > stack.lc
+  lincheck library stack --certificate > stack.cert
+  lincheck check stack.lc stack.cert
+      prints `accepted stack 775`";
+
 /// An argument that names a file.
 fn file<'a>(alloc: Global, name: &'a str, help: &'a str) -> Arg<'a>
     ensures rule { rule_of result ≡ file_rule name.entry.now }
@@ -254,17 +289,6 @@ fn file_option<'a>(alloc: Global, name: &'a str, help: &'a str) -> Arg<'a>
         .help(help)
 }
 
-/// A flag.
-fn flag<'a>(alloc: Global, name: &'a str, help: &'a str) -> Arg<'a>
-    ensures rule { rule_of result ≡ flag_rule name.entry.now }
-    ensures local { result.global ≡ false }
-{
-    Arg::new(alloc, name)
-        .long(name)
-        .action(ArgAction::SetTrue)
-        .help(help)
-}
-
 fn prove_command<'a>(alloc: Global) -> Result<Command<'a>, AllocError>
     ensures app { IfOk result (λ command. app_of command ≡ prove_app) }
     ensures local { IfOk result (λ command. (out-Command command).has_globals ≡ false) }
@@ -275,6 +299,40 @@ fn prove_command<'a>(alloc: Global) -> Result<Command<'a>, AllocError>
         .arg(file(alloc, "DEV", DEVELOPMENT))?
         .arg(file_option(alloc, "hints", HINTS))?
         .arg(flag(alloc, "progress", PROGRESS))
+}
+
+/// An argument that names an object of the library.
+fn object<'a>(alloc: Global, name: &'a str, help: &'a str) -> Arg<'a>
+    ensures rule { rule_of result ≡ object_rule name.entry.now }
+    ensures local { result.global ≡ false }
+{
+    Arg::new(alloc, name)
+        .required(true)
+        .action(ArgAction::Set)
+        .help(help)
+}
+
+/// An option without a value.
+fn flag<'a>(alloc: Global, name: &'a str, help: &'a str) -> Arg<'a>
+    ensures rule { rule_of result ≡ flag_rule name.entry.now }
+    ensures local { result.global ≡ false }
+{
+    Arg::new(alloc, name)
+        .long(name)
+        .action(ArgAction::SetTrue)
+        .help(help)
+}
+
+fn library_command<'a>(alloc: Global) -> Result<Command<'a>, AllocError>
+    ensures app { IfOk result (λ command. app_of command ≡ library_app) }
+    ensures local { IfOk result (λ command. (out-Command command).has_globals ≡ false) }
+{
+    Command::new(alloc, "library")
+        .about(LIBRARY)
+        .after_help(LIBRARY_ANSWER)
+        .arg(object(alloc, "NAME", OBJECT))?
+        .arg(flag(alloc, "certificate", LIBRARY_CERTIFICATE))?
+        .arg(flag(alloc, "hints", LIBRARY_HINTS))
 }
 
 /// The program with its first two commands.
@@ -289,7 +347,7 @@ fn first_commands<'a>(alloc: Global) -> Result<Command<'a>, AllocError>
         .subcommand(judge_command(alloc)?)
 }
 
-/// The program with all commands but the last two.
+/// The program with its first four commands.
 fn further_commands<'a>(alloc: Global) -> Result<Command<'a>, AllocError>
     ensures { IfOk result (λ command. app_of command ≡ further_app) }
 {
@@ -298,12 +356,19 @@ fn further_commands<'a>(alloc: Global) -> Result<Command<'a>, AllocError>
         .subcommand(conditions_command(alloc)?)
 }
 
-fn program<'a>(alloc: Global) -> Result<Command<'a>, AllocError>
-    ensures { IfOk result (λ command. app_of command ≡ program_app) }
+/// The program with all commands but the last.
+fn proving_commands<'a>(alloc: Global) -> Result<Command<'a>, AllocError>
+    ensures { IfOk result (λ command. app_of command ≡ proving_app) }
 {
     further_commands(alloc)?
         .subcommand(check_command(alloc)?)?
         .subcommand(prove_command(alloc)?)
+}
+
+fn program<'a>(alloc: Global) -> Result<Command<'a>, AllocError>
+    ensures { IfOk result (λ command. app_of command ≡ program_app) }
+{
+    proving_commands(alloc)?.subcommand(library_command(alloc)?)
 }
 
 fn formula_request<'a>(command: &ArgMatches<'a>) -> Option<Request<'a>>
@@ -362,7 +427,40 @@ fn prove_request<'a>(command: &ArgMatches<'a>) -> Option<Request<'a>>
     })
 }
 
-/// What the words ask for, if there is a command in them with all its files.
+/// Whether a flag is set.
+fn is_set(command: &ArgMatches<'_>, name: &str) -> bool
+    ensures { result ≡ is_set name.now (rows_of (found_of command.now)) }
+{
+    match command.get_str(name) {
+        Some(value) => value == "true",
+        None => false,
+    }
+}
+
+/// The text that the flags ask for, which exclude each other.
+fn text_for(certificate: bool, hints: bool) -> Option<LibraryText>
+    ensures { result ≡ text_for certificate hints }
+{
+    match (certificate, hints) {
+        (false, false) => Some(LibraryText::Development),
+        (true, false) => Some(LibraryText::Certificate),
+        (false, true) => Some(LibraryText::Hints),
+        (true, true) => None,
+    }
+}
+
+fn library_request<'a>(command: &ArgMatches<'a>) -> Option<Request<'a>>
+    ensures { option_map task_of result ≡ library_task (rows_of (found_of command.now)) }
+{
+    let name = command.get_str("NAME")?;
+    let lib = Lib::named(name)?;
+    let certificate = is_set(command, "certificate");
+    let hints = is_set(command, "hints");
+    let text = text_for(certificate, hints)?;
+    Some(Request::Library { lib, text })
+}
+
+/// What the words ask for, if there is a command in them with all that it needs.
 fn request_of<'a>(matches: &ArgMatches<'a>) -> Option<Request<'a>>
     ensures { option_map task_of result ≡ task_in (subcommand_rows_of matches.now) }
 {
@@ -374,7 +472,35 @@ fn request_of<'a>(matches: &ArgMatches<'a>) -> Option<Request<'a>>
         "conditions" => conditions_request(command),
         "check" => check_request(command),
         "prove" => prove_request(command),
+        "library" => library_request(command),
         _ => None,
+    }
+}
+
+/// Why the command `library` asks for nothing.
+fn library_fault(command: &ArgMatches<'_>) -> (ErrorKind, &'static str)
+    ensures { AsksForText result.0 → ⊥ }
+{
+    if is_set(command, "certificate") && is_set(command, "hints") {
+        (
+            ErrorKind::ArgumentConflict,
+            "`--certificate` and `--hints` exclude each other",
+        )
+    } else {
+        (
+            ErrorKind::InvalidValue,
+            "NAME is none of counter, stack, lock, snapshot, combining, rendezvous, queue and pool-stack",
+        )
+    }
+}
+
+/// Why words in which clap finds no fault ask for nothing.
+fn fault_in(matches: &ArgMatches<'_>) -> (ErrorKind, &'static str)
+    ensures { AsksForText result.0 → ⊥ }
+{
+    match matches.subcommand() {
+        Some(("library", command)) => library_fault(command),
+        _ => (ErrorKind::MissingSubcommand, "a command is missing"),
     }
 }
 
@@ -392,8 +518,9 @@ pub fn read_words<'a>(alloc: Global, words: &'a [String]) -> Result<Request<'a>,
     match request_of(&matches) {
         Some(request) => Ok(request),
         None => {
+            let (kind, text) = fault_in(&matches);
             let mut program = program(alloc)?;
-            Err(program.error(ErrorKind::MissingSubcommand, "a command is missing")?)
+            Err(program.error(kind, text)?)
         }
     }
 }

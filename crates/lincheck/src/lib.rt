@@ -10,6 +10,7 @@ mod files;
 mod formula;
 mod judge;
 pub mod laws;
+mod library;
 mod printing;
 mod program;
 mod prove;

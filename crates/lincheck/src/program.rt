@@ -12,6 +12,7 @@ use crate::conditions::list_conditions;
 use crate::files::Files;
 use crate::formula::answer_formula;
 use crate::judge::answer_judge;
+use crate::library::answer_library;
 use crate::printing::print_answer;
 use crate::prove::answer_prove;
 use crate::show::answer_show;
@@ -57,6 +58,7 @@ fn carry_out<'a, F: Files, O: Write, E: Write>(
             let answer = answer_prove(alloc, files, development, hints, &mut telling)?;
             print_answer(out, &answer)
         }
+        Request::Library { lib, text } => print_answer(out, &answer_library(alloc, lib, text)?),
     }
 }
 

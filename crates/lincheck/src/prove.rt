@@ -24,7 +24,7 @@ use std::alloc::Global;
 const BUDGET: u64 = 1_000_000;
 
 /// The line of a word and a condition's number.
-fn told_unfound(alloc: Global, word: &str, number: u64) -> Result<Answer, OutOfMemory>
+pub fn told_unfound(alloc: Global, word: &str, number: u64) -> Result<Answer, OutOfMemory>
     ensures { IfOk result (λ answer. (answer.text.items ≡ line_of word.now (number ∷ [])) × (answer.status ≡ 1)) }
 {
     Ok(Answer {

@@ -6,6 +6,9 @@
 //!
 //! A line of the file `pieces` has a development and a certificate, with a space between them. What is printed of it is the
 //! line, then the verdict where the certificate comes in pieces of 1 byte, of 2, of 7, and whole.
+//!
+//! A line of the file `made` has two command lines, with ` : ` between them. What is printed of it is the line, then the verdict
+//! on what they write on standard output: a development and a certificate.
 #![tactic(auto)]
 
 ghost use Rattle.std.specs.Prelude.{◌≤◌};
@@ -27,8 +30,16 @@ fn words_of(alloc: Global, line: &str) -> Result<Vec<String>, AllocError> {
     Ok(words)
 }
 
-/// Runs the program on the words of a line, and prints what it did.
-fn run_line(rt: &HostRuntime, line: &str) -> anyhow::Result<()> {
+/// What the program did on a command line.
+#[derive(Drop)]
+struct Ran {
+    out: Vec<u8>,
+    err: Vec<u8>,
+    status: u8,
+}
+
+/// Runs the program on the words of a line.
+fn run_words(rt: &HostRuntime, line: &str) -> anyhow::Result<Ran> {
     let words = words_of(rt.alloc(), line)?;
     let mut out = Vec::new(rt.alloc());
     let mut err = Vec::new(rt.alloc());
@@ -39,9 +50,15 @@ fn run_line(rt: &HostRuntime, line: &str) -> anyhow::Result<()> {
         &mut out,
         &mut err,
     );
-    let out = str::from_utf8(&out)?;
-    let err = str::from_utf8(&err)?;
-    println!(rt; "$ {line}\n{out}{err}status {status}\n")?;
+    Ok(Ran { out, err, status })
+}
+
+/// Runs the program on the words of a line, and prints what it did.
+fn run_line(rt: &HostRuntime, line: &str) -> anyhow::Result<()> {
+    let ran = run_words(rt, line)?;
+    let out = str::from_utf8(&ran.out)?;
+    let err = str::from_utf8(&ran.err)?;
+    println!(rt; "$ {line}\n{out}{err}status {}\n", ran.status)?;
     Ok(())
 }
 
@@ -76,6 +93,17 @@ fn check_line(rt: &HostRuntime, line: &str) -> anyhow::Result<()> {
     check_pieces(rt, &dev, &cert, WHOLE)
 }
 
+/// Checks what the two command lines of a line make.
+fn check_made(rt: &HostRuntime, line: &str) -> anyhow::Result<()> {
+    let (development, certificate) = line
+        .split_once(" : ")
+        .context("a line has two command lines, with a colon between them")?;
+    let dev = run_words(rt, development)?;
+    let cert = run_words(rt, certificate)?;
+    println!(rt; "made {line}")?;
+    check_pieces(rt, &dev.out, &cert.out, WHOLE)
+}
+
 fn run_lines(rt: &HostRuntime) -> anyhow::Result<()> {
     let lines = fs::read_to_string(rt, "runs")?;
     for line in lines.as_str().split('\n') {
@@ -96,7 +124,18 @@ fn check_lines(rt: &HostRuntime) -> anyhow::Result<()> {
     Ok(())
 }
 
+fn check_made_lines(rt: &HostRuntime) -> anyhow::Result<()> {
+    let lines = fs::read_to_string(rt, "made")?;
+    for line in lines.as_str().split('\n') {
+        if !line.is_empty() {
+            check_made(rt, line)?;
+        }
+    }
+    Ok(())
+}
+
 fn main(rt: HostRuntime) -> anyhow::Result<()> {
     run_lines(&rt)?;
-    check_lines(&rt)
+    check_lines(&rt)?;
+    check_made_lines(&rt)
 }

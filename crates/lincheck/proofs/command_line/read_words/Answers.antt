@@ -1,7 +1,7 @@
 use Rattle.std.proofs.lemmas.Result.{err_from_is_err_and}
 use Rattle.clap.specs.Words.{app_of}
-use Rattle.lincheck.specs.CommandLine.{texts_of}
-use Rattle.lincheck.proofs.Words.{plain_fault, wrong_fault, help_asked, no_help, not_wrong, nothing_plain, plain_err, reads_request}
+use Rattle.lincheck.specs.CommandLine.{task_of, texts_of}
+use Rattle.lincheck.proofs.Words.{plain_fault, wrong_fault, help_asked, no_help, not_wrong, nothing_plain, plain_err, reads_request, memory_told}
 use Rattle.lincheck.proofs.command_line.read_words.Goals as goal
 
 pub returns-in_err-matches-clause-plain : goal.returns-in_err-matches-clause-plain
@@ -19,11 +19,12 @@ returns-in-Some-clause-reads c =
     reads_request (app_of c.in_ok-program.field-0) (texts_of c.args.words.now) c.in_ok-matches.matches c.in-Some.request c.in_ok-program.ensures c.in_ok-matches.ensures.matches c.in-Some.ensures
 
 pub returns-in_err-error-in-None-clause-wrong : goal.returns-in_err-error-in-None-clause-wrong
-returns-in_err-error-in-None-clause-wrong c = λ wrong.
-    absurd (not_wrong (app_of c.in_ok-program.field-0) (texts_of c.args.words.now) c.in_ok-program.ensures c.in_ok-matches.ensures.kinds wrong)
+returns-in_err-error-in-None-clause-wrong c = λ wrong. memory_told c.from_residual-in_err-error-in-None.result c.from_residual-in_err-error-in-None.ensures.1
 
 pub returns-in-Some-clause-wrong : goal.returns-in-Some-clause-wrong
-returns-in-Some-clause-wrong c = not_wrong (app_of c.in_ok-program.field-0) (texts_of c.args.words.now) c.in_ok-program.ensures c.in_ok-matches.ensures.kinds
+returns-in-Some-clause-wrong c =
+    not_wrong (app_of c.in_ok-program.field-0) (texts_of c.args.words.now) c.in_ok-matches.matches (task_of c.in-Some.request) c.in_ok-program.ensures c.in_ok-matches.ensures.kinds
+    c.in_ok-matches.ensures.matches c.in-Some.ensures
 
 pub returns-in_err-error-in-None-clause-plain : goal.returns-in_err-error-in-None-clause-plain
 returns-in_err-error-in-None-clause-plain c =
