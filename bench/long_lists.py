@@ -128,6 +128,9 @@ ABUSES = {
     "action_updates": lambda: development(actions=f"(action act () (and) {many('(c 0 1)')})"),
     "updates_of_a_column": lambda: development(actions=f"(action act () (and) {many('(c @ @)', 50_000)})"),
     "updates_on_an_edge": lambda: riders("", actions=f"(action act () (and) {many('(c @ @)', 50_000)})"),
+    "many_updates_of_a_column": lambda: development(actions=f"(action act () (and) {many('(c @ @)', 500_000)})"),
+    "many_updates_on_an_edge": lambda: riders("", actions=f"(action act () (and) {many('(c @ @)', 500_000)})"),
+    "updates_up_to_the_limit": lambda: riders("", actions=f"(action act () (and) {many('(c @ @)', 940_000)})"),
     "lin_riders": lambda: riders(many("(lin)", 40_000)),
     "set_riders": lambda: riders(many("(set h 0 1)", 900_000)),
     "paths_and_updates": lambda: operation(
@@ -214,6 +217,8 @@ ABUSES = {
     "deep_update": lambda: riders("", actions=f"(action act () (and) (c 0 {nested('(rd c ', '0', ')', NESTING - 4)}))"),
     "deep_code": lambda: first_point(f"(set ((x {nested('(+ 1 ', 'x', ')', NESTING - 6)})) p1)"),
     "deep_proof": lambda: certificate(f"(certificate s (proof 0 {nested('(cut (and) (open) ', '(open)', ')', NESTING - 3)}))"),
+    "deep_implication": lambda: formula("", nested("(=> (and) ", "(and)", ")", NESTING - 3), "(open)"),
+    "deep_stores": lambda: formula("", f"(<= (rd {nested('(store ', 'a', ' 0 0)', NESTING - 5)} 0) 0)", "(open)", columns="a"),
     "deep_formula": lambda: formula(nested("(and ", "(<= 1 0)", ")", NESTING - 3), "(or)", "(split 0 (open))"),
     "deep_steps": deep_steps,
 }

@@ -1,4 +1,5 @@
-ghost use Rattle.std.specs.Prelude.{◌≡◌, ℕ, suc, IfOk, IsTrue, map, true};
+ghost use Rattle.std.specs.Prelude.{◌≡◌, ℕ, suc, IfOk, IsTrue, map, true, false};
+ghost use Rattle.lc_term.specs.Chains.{is_store};
 ghost use Rattle.lc_term.specs.Places.{term_passes, column_passes, passes, all_pass};
 ghost use Rattle.lc_term.specs.Replacement.{replace_term, replace_column, replace, replace_all};
 ghost use Rattle.lc_term.specs.Syntax.{formulas, Number};
@@ -8,7 +9,7 @@ ghost use Rattle.lc_action.specs.Telling.{columns_in, telling, tellable, telling
 
 use crate::stored_columns::column_after;
 use lc_base::{ColId, OutOfMemory};
-use lc_term::{ColExpr, Formula, Term};
+use lc_term::{ColExpr, Formula, Term, chain_of, with_store};
 use std::alloc::Global;
 
 /// What a term speaks of, said of an earlier state: the columns, and the terms for its variables. A variable behind the
@@ -82,21 +83,34 @@ fn said_term(alloc: Global, term: &Term, before: Before<'_>) -> Result<Term, Out
     }
 }
 
+// A column expression that is no store, said of the state before.
+fn said_base(alloc: Global, base: &ColExpr, before: Before<'_>) -> Result<ColExpr, OutOfMemory>
+    requires { is_store (column_of base.now) ≡ false }
+    ensures { IfOk result (λ said.
+        (n : ℕ) → IsTrue (column_passes (tellable before.entry.columns.now before.entry.variables.now n) (column_of base.now)) →
+        column_of said ≡ replace_column (telling_under before.entry.columns.now before.entry.variables.now n) (column_of base.now)) }
+{
+    match base {
+        ColExpr::Base(column) => column_told(alloc, before, *column),
+        ColExpr::Affine(slope, start) => Ok(ColExpr::Affine(*slope, *start)),
+        ColExpr::Store(..) => unreachable!(),
+    }
+}
+
 #[cycle(said_term)]
 fn said_column(alloc: Global, column: &ColExpr, before: Before<'_>) -> Result<ColExpr, OutOfMemory>
     ensures { IfOk result (λ said.
         (n : ℕ) → IsTrue (column_passes (tellable before.entry.columns.now before.entry.variables.now n) (column_of column.now)) →
         column_of said ≡ replace_column (telling_under before.entry.columns.now before.entry.variables.now n) (column_of column.now)) }
 {
-    match column {
-        ColExpr::Base(column) => column_told(alloc, before, *column),
-        ColExpr::Store(column, index, value) => Ok(ColExpr::Store(
-            Box::new(alloc, said_column(alloc, column, before)?)?,
-            Box::new(alloc, said_term(alloc, index, before)?)?,
-            Box::new(alloc, said_term(alloc, value, before)?)?,
-        )),
-        ColExpr::Affine(slope, start) => Ok(ColExpr::Affine(*slope, *start)),
+    let mut chain = chain_of(alloc, column)?;
+    let mut said = said_base(alloc, chain.base, before)?;
+    'stores: while let Some(store) = chain.stores.pop() {
+        let index = said_term(alloc, store.index, before)?;
+        let value = said_term(alloc, store.value, before)?;
+        said = with_store(alloc, said, index, value)?;
     }
+    Ok(said)
 }
 
 #[cycle(said_formula)]

@@ -35,14 +35,20 @@ fn term_is_known(term: &Term, columns: usize, variables: usize) -> bool
 fn column_is_known(column: &ColExpr, columns: usize, variables: usize) -> bool
     ensures { result ≡ column_passes (known columns variables) (column_of column.now) }
 {
-    match column {
-        ColExpr::Base(column) => (column.0 as usize) < columns,
-        ColExpr::Store(column, index, value) => {
-            column_is_known(column, columns, variables)
-                && term_is_known(index, columns, variables)
-                && term_is_known(value, columns, variables)
+    let mut rest = column;
+    'stores: loop {
+        match rest {
+            ColExpr::Base(column) => return (column.0 as usize) < columns,
+            ColExpr::Affine(..) => return true,
+            ColExpr::Store(below, index, value) => {
+                if !term_is_known(index, columns, variables)
+                    || !term_is_known(value, columns, variables)
+                {
+                    return false;
+                }
+                rest = below;
+            }
         }
-        ColExpr::Affine(..) => true,
     }
 }
 
