@@ -2,3 +2,5 @@ pub mod Chosen
 pub mod Matched
 pub mod Resolving
 pub mod Crossing
+pub mod InScope
+pub mod Scoped

@@ -1,5 +1,6 @@
 pub mod Development
 pub mod PartsView
 pub mod DevelopmentView
+pub mod Scope
 pub mod Resolved
 pub mod Agreement
