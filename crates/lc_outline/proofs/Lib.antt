@@ -4,3 +4,5 @@ pub mod Resolving
 pub mod Crossing
 pub mod InScope
 pub mod Scoped
+pub mod PathTotal
+mod Limited

@@ -4,3 +4,5 @@ pub mod DevelopmentView
 pub mod Scope
 pub mod Resolved
 pub mod Agreement
+pub mod Sizes
+pub mod Limits

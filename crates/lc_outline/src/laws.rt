@@ -1,5 +1,6 @@
 //! Laws of the definitions: functions without effect, whose contracts are the laws.
 ghost use Rattle.lc_outline.specs.Agreement.{OperationsAgree, CallsAreSmall};
+ghost use Rattle.lc_outline.specs.Limits.{WhatPassesIsLimited};
 ghost use Rattle.lc_outline.specs.Resolved.{WhatPassesIsResolved, WhatPassesIsScoped};
 ghost use Rattle.lc_outline.specs.Scope.{WhatIsScopedIsKnown};
 
@@ -36,4 +37,10 @@ pub fn shares(development: &Development) {
 pub fn terms_are_in_scope()
     ensures scoped { WhatPassesIsScoped }
     ensures known { WhatIsScopedIsKnown }
+{}
+
+/// A development that passes the test of limits of its type has at most 64 columns, 64 actions and 100,000 conditions, as these are
+/// counted, and at each edge at most 6 riders and 64 paths.
+pub fn developments_are_limited()
+    ensures { WhatPassesIsLimited }
 {}

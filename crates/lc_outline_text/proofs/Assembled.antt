@@ -48,7 +48,7 @@ use Rattle.lc_outline_text.specs.Sizes.{condition_count}
 -- what is read of a specification fits what is declared, both as its object sees it and as it is
 pub record SpecificationHolds (s : Sections) (p : O.SpecificationText × Specification) : Type 0 where
   pub fit : SpecificationFits (declared_in_sections s) s p.0
-  columns : length p.0.abstracts ≡ length p.1.columns
+  pub columns : length p.0.abstracts ≡ length p.1.columns
   operations : AreSame p.0.signatures p.1.operations
   pub goes : AllGo (operations_in s) p.1.operations
 
@@ -128,7 +128,7 @@ array_columns [] = refl
 array_columns (ts ∷ forms) = omega (arith, length-append (names_of_columns (later ts)) (columns_of_arrays forms), names_counted (later ts), array_columns forms)
 
 -- the columns that are declared
-first_auxiliary : (s : Sections) (p : O.SpecificationText × Specification) (o : Parts) → SpecificationHolds s p → ObjectHolds s o → length p.1.columns + length (O.concretes_of o.0.0.arrays) ≡ (declared_in_sections s).auxiliaries
+pub first_auxiliary : (s : Sections) (p : O.SpecificationText × Specification) (o : Parts) → SpecificationHolds s p → ObjectHolds s o → length p.1.columns + length (O.concretes_of o.0.0.arrays) ≡ (declared_in_sections s).auxiliaries
 first_auxiliary s p o h g =
     omega (arith, length-append (abstracts_in s) (columns_of_arrays (arrays_in s)), h.columns, h.fit.abstracts, array_columns (arrays_in s), concretes_counted (arrays_in s) o.0.0.arrays g.fit.0)
 

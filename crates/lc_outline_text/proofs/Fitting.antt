@@ -1,6 +1,7 @@
 -- What stands beside the code of a development fits the code.
-use Rattle.std.proofs.Common.{◌≡◌, ℕ, zero, suc, ◌+◌, ◌<◌, Bool, true, false, ◌&&◌, ◌==◌, cond, List, [], ◌∷◌, ◌++◌, map, length, length-append, append_assoc, Some, refl, sym, ap, ap₂, ◌∙◌, subst, arith}
+use Rattle.std.proofs.Common.{◌≡◌, ℕ, zero, suc, ◌+◌, ◌<◌, ◌≤◌, Bool, true, false, ◌&&◌, ◌==◌, cond, Option, List, [], ◌∷◌, ◌++◌, map, length, length-append, append_assoc, Some, refl, sym, ap, ap₂, ◌∙◌, subst, arith}
 use Rattle.std.proofs.lemmas.Bool.{eq-eqb}
+use Rattle.std.proofs.lemmas.Bool.Decides.{nat_tests}
 use Rattle.std.specs.List.{list_all}
 use Rattle.std.specs.Prelude.{nat_lt, nat_le, slice_get, is_some}
 use Rattle.lc_sexp.specs.Trees.{Trees}
@@ -20,12 +21,14 @@ use Rattle.lc_object_text.specs.ObjectNames.{Body, first_text}
 use Rattle.lc_outline.specs.Development.{Development, On, Outline, first_system, same_kind, on_for, ons_in, on_at}
 use Rattle.lc_outline.specs.Resolved.{has_some, is_empty, is_matched, are_matched, deed_is_resolved, condition_is_resolved, rider_is_resolved, takes, on_is_resolved, action_is_resolved, edge_is_resolved}
 use Rattle.lc_outline.specs.Scope.{outline_is_scoped, action_is_scoped, column_total, variables_at, outlines_are_scoped}
+use Rattle.lc_outline.specs.Limits.{path_total, on_is_limited, outlines_are_limited}
 use Rattle.lc_rider.specs.Rider.{Deed, Assign, Marks, Rider}
 use Rattle.lc_rider_text.proofs.ActionsKnown.{has_bounds}
+use Rattle.lc_rider_text.proofs.OnsLimited.{IsOnLimited}
 use Rattle.lc_rider_text.proofs.ReadsScoped.{variable_total}
 use Rattle.lc_rider_text.proofs.RidersKnown.{deed_is_known, rider_is_known, IsOnKnown, mark_leaves}
-use Rattle.lc_rider_text.specs.Counted.{AreBranches}
-use Rattle.lc_rider_text.specs.Known.{Known}
+use Rattle.lc_rider_text.specs.Counted.{Goes, AreBranches}
+use Rattle.lc_rider_text.specs.Known.{Known, Ways}
 use Rattle.lc_seq.specs.Branches.{op_branches}
 use Rattle.lc_seq.specs.Specification as Q
 use Rattle.lc_outline_text.proofs.Needed.{IsMet}
@@ -59,6 +62,9 @@ pub record Fits (d : Declarations) (D : Development) (ps : List (Point × Outlin
 
 pub same_number : (m n : ℕ) → m ≡ n → (m == n) ≡ true
 same_number m n e = eq-eqb m n e
+
+is_few : (k limit : ℕ) → k ≤ limit → nat_le k limit ≡ true
+is_few k limit h = grind (arith, nat_tests)
 
 pub left : (a b : Bool) → (a && b) ≡ true → a ≡ true
 left true b h = refl
@@ -240,3 +246,33 @@ outlines_scoped d D ps h =
 
 pub edges_resolved : (d : Declarations) (D : Development) (ps : List (Point × Outline)) → Fits d D ps → list_all (edge_is_resolved D) (edges_from D.object 0 D.object.points) ≡ true
 edges_resolved d D ps h = subst (λ qs. list_all (edge_is_resolved D) (edges_from D.object 0 qs) ≡ true) (sym h.points) (edges_resolved_from d D ps [] ps 0 h refl refl h.known)
+
+-- ---- limits
+
+-- what stands at the edges of a point is within its limits
+ons_few : (d : Declarations) (D : Development) (own : Option Ways) (o : ℕ) (ons : List On) → AreBranches (known_of d) D.specification.operations → Goes own (op_branches D.specification.operations o)
+    → Every (IsOnLimited (known_of d) own) ons → list_all (on_is_limited D.specification.operations o) ons ≡ true
+ons_few d D own o [] agree goes h = refl
+ons_few d D own o (x ∷ ons) agree goes h =
+    let riders = x.riders in
+    and_true (on_is_limited D.specification.operations o x) (list_all (on_is_limited D.specification.operations o) ons)
+    (and_true (nat_le (length riders) 6) (nat_le (path_total D.specification.operations o riders) 64) (is_few (length riders) 6 h.0.0)
+    (is_few (path_total D.specification.operations o riders) 64 (h.0.1 D.specification.operations o agree goes)))
+    (ons_few d D own o ons agree goes h.1)
+
+point_few : (d : Declarations) (D : Development) (ps : List (Point × Outline)) (p : Point × Outline) → Fits d D ps → IsAPoint d p → list_all (on_is_limited D.specification.operations p.0.operation) p.1.ons ≡ true
+point_few d D ps p h (b, e, g) =
+    let own : p.0.operation < length d.declared.operations = (within d D ps p b h e).own in
+    ons_few d D (own_ways d p.0.operation) p.0.operation p.1.ons h.goes
+    (subst (λ ways. Goes ways (op_branches D.specification.operations p.0.operation)) (sym (h.own p.0.operation own)) (h.goes p.0.operation (omega (arith, own, h.counted)))) g.limited
+
+outlines_few : (d : Declarations) (D : Development) (ps rest : List (Point × Outline)) → Fits d D ps → Every (IsAPoint d) rest
+    → outlines_are_limited D.specification.operations (map (λ p. p.0) rest) (map (λ p. p.1) rest) ≡ true
+outlines_few d D ps [] h g = refl
+outlines_few d D ps (p ∷ rest) h g = and_true _ _ (point_few d D ps p h g.0) (outlines_few d D ps rest h g.1)
+
+pub outlines_limited : (d : Declarations) (D : Development) (ps : List (Point × Outline)) → Fits d D ps → outlines_are_limited D.specification.operations D.object.points D.outlines ≡ true
+outlines_limited d D ps h =
+    let operations = D.specification.operations in
+    subst (λ xs. outlines_are_limited operations D.object.points xs ≡ true) (sym h.outlines)
+    (subst (λ qs. outlines_are_limited operations qs (map (λ p. p.1) ps) ≡ true) (sym h.points) (outlines_few d D ps ps h h.known))

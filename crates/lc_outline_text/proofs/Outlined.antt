@@ -23,6 +23,7 @@ use Rattle.lc_object_text.specs.Sections.{forms_in}
 use Rattle.lc_outline.specs.Development.{On, Outline}
 use Rattle.lc_outline.specs.Scope.{is_scoped, on_is_scoped, outline_is_scoped}
 use Rattle.lc_rider_text.proofs.BesideScoped.{column_total, ons_scoped}
+use Rattle.lc_rider_text.proofs.OnsLimited.{IsOnLimited, ons_limited}
 use Rattle.lc_rider_text.proofs.ReadsScoped.{variable_total, formula_scoped, beside_in_scope}
 use Rattle.lc_rider_text.proofs.RidersKnown.{IsOnKnown, ons_known}
 use Rattle.lc_rider_text.specs.Known.{Known, Ways}
@@ -48,12 +49,13 @@ formulas_scoped word columns others n t =
 
 -- ---- a point
 
--- Its operation has this number, what stands there speaks of so many variables, what is done at its edges is known, and an edge that
--- stores has an `on`
+-- Its operation has this number, what stands there speaks of so many variables, what is done at its edges is known and within its limits,
+-- and an edge that stores has an `on`
 pub record IsOutlined (known : Known) (own : Option Ways) (v o : ℕ) (p : Point × Outline) : Type 0 where
   pub operation : p.0.operation ≡ o
   pub scoped : outline_is_scoped (column_total known) v p.1 ≡ true
   pub named : Every (IsOnKnown known own) p.1.ons
+  pub limited : Every (IsOnLimited known own) p.1.ons
   pub met : IsMet p.0.instruction p.1.ons
 
 all_kinds : {X : Type 0} (P : EdgeKind → X → Type 0) (r : Reading X) → ((k : EdgeKind) → Holds (P k) r) → Holds (λ x. (k : EdgeKind) → P k x) r
@@ -61,7 +63,7 @@ all_kinds P (fine x) h = h
 all_kinds P (flawed f) h = tt
 
 abbrev HasOns : Known → Option Ways → Trees → List On → Type 0
-HasOns known own ts ons = Every (IsOnKnown known own) ons × AreFound known.actions (forms_in (codes "on") ts) ons
+HasOns known own ts ons = (Every (IsOnKnown known own) ons × Every (IsOnLimited known own) ons) × AreFound known.actions (forms_in (codes "on") ts) ons
 
 abbrev HasOutline : Known → Option Ways → ℕ → Trees → Outline → Type 0
 HasOutline known own v ts o = (outline_is_scoped (column_total known) v o ≡ true) × HasOns known own ts o.ons
@@ -75,7 +77,8 @@ outline_holds known others own edges i t m ts =
     both_holds (λ fs. list_all formula fs ≡ true) (λ ons. (list_all on ons ≡ true) × HasOns known own ts ons) (HasOutline known own (variable_total others) ts) outline_of _ (ons_reading known names own edges m ts)
     (formulas_scoped (codes "assert") known.columns others i t)
     (and_holds (λ ons. list_all on ons ≡ true) (HasOns known own ts) (ons_reading known names own edges m ts) (ons_scoped known others own edges m ts)
-    (and_holds (Every (IsOnKnown known own)) (AreFound known.actions (forms_in (codes "on") ts)) (ons_reading known names own edges m ts) (ons_known known names own edges m ts)
+    (and_holds (λ ons. Every (IsOnKnown known own) ons × Every (IsOnLimited known own) ons) (AreFound known.actions (forms_in (codes "on") ts)) (ons_reading known names own edges m ts)
+    (and_holds (Every (IsOnKnown known own)) (Every (IsOnLimited known own)) (ons_reading known names own edges m ts) (ons_known known names own edges m ts) (ons_limited known names own edges m ts))
     (all_kinds (λ kind ons. list_any (acts known.actions (edge_word kind)) (forms_in (codes "on") ts) ≡ true → _) (ons_reading known names own edges m ts) (λ kind. on_found known names own edges kind m ts))))
     (λ fs ons h g. (and_true (list_all formula fs) (list_all on ons) h g.0, g.1))
 
@@ -104,7 +107,8 @@ beside_holds known others own n o code name (fine i) h m (t ▸ ts) = by_test (l
       (λ q x g k. record {
         operation = g.0;
         scoped = k.0;
-        named = k.1.0;
+        named = k.1.0.0;
+        limited = k.1.0.1;
         met = subst (λ j. IsMet j x.ons) (sym g.1) (met known.actions (code_word code) (forms_in (codes "on") ts) x.ons i h e k.1.1);
       })
 

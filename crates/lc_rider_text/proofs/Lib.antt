@@ -3,6 +3,7 @@ pub mod BesideScoped
 pub mod Capped
 pub mod ChoicesKnown
 pub mod Ground
+pub mod OnsLimited
 pub mod Parts
 pub mod PathsCounted
 pub mod ReadsScoped
