@@ -48,15 +48,15 @@ limited D h =
     let d = nat_le (count (sizes_of D)) 100000 in
     let three = left_true (a && b && c) d h in
     let outlines = right_true (a && b) c three in
-    let riders = λ p (point : Point) kind (e : slice_get D.object.points p ≡ Some point).
-    riders_few operations point.operation (ons_in (slice_get D.outlines p)) kind (ons_few operations D.object.points D.outlines p point outlines e) in
+    let riders : (p : ℕ) (point : Point) (kind : EdgeKind) → slice_get D.object.points p ≡ Some point → riders_are_limited operations point.operation (riders_at D p kind) ≡ true =
+    λ p point kind e. riders_few operations point.operation (ons_in (slice_get D.outlines p)) kind (ons_few operations D.object.points D.outlines p point outlines e) in
     record {
       columns = few (first_system D) 64 (left_true a b (left_true (a && b) c three));
       actions = few (length D.actions) 64 (right_true a b (left_true (a && b) c three));
       riders = λ p point kind e.
-      few (length (riders_at D p kind)) 6 (left_true (nat_le (length (riders_at D p kind)) 6) (nat_le (path_total operations point.operation (riders_at D p kind)) 64) (riders p point kind e));
+          few (length (riders_at D p kind)) 6 (left_true (nat_le (length (riders_at D p kind)) 6) (nat_le (path_total operations point.operation (riders_at D p kind)) 64) (riders p point kind e));
       paths = λ p point kind e first n variables start.
-      subst (λ k. k ≤ 64) (sym (paths_total operations first n point.operation variables (riders_at D p kind) start))
-      (few (path_total operations point.operation (riders_at D p kind)) 64 (right_true (nat_le (length (riders_at D p kind)) 6) (nat_le (path_total operations point.operation (riders_at D p kind)) 64) (riders p point kind e)));
+          subst (λ k. k ≤ 64) (sym (paths_total operations first n point.operation variables (riders_at D p kind) start))
+          (few (path_total operations point.operation (riders_at D p kind)) 64 (right_true (nat_le (length (riders_at D p kind)) 6) (nat_le (path_total operations point.operation (riders_at D p kind)) 64) (riders p point kind e)));
       conditions = few (count (sizes_of D)) 100000 (right_true (a && b && c) d h);
     }

@@ -123,24 +123,23 @@ arrays_few d k i m none spans = none_few k
 arrays_few d k i m (atom w ▸ ts) spans = none_few k
 arrays_few d k i m (list none ▸ ts) spans = none_few k
 arrays_few d k i m (list (list us ▸ vs) ▸ ts) spans = none_few k
-arrays_few d k i m (list (atom w ▸ us) ▸ ts) spans = by_test (is w (codes "array")) spans where
-  rest : Reading (List ArrayText)
-  rest = lists_reading (codes "array") (array_reading d) (i + 1) (m + item_count (list (atom w ▸ us))) ts
-
-  by_test : (b : Bool) → AreSpans d i (spans_from k (before_others (cond b (fits us) misshapen) (forms_in (codes "array") ts)))
-      → Holds (HaveFew k) (cond b (both cons (cond b (array_parts d i m (m + 2) us) (wrong Shape m)) rest) (fine []))
-  by_test true spans =
-      let next = k + tree_count (later us) in
-      let first : first_column (slice_get d.spans i) ≡ k = ap (λ j. first_column (slice_get d.spans j)) (omega arith) ∙ ap first_column (spans 0) in
-      let behind : AreSpans d (i + 1) (spans_from next (forms_in (codes "array") ts)) = λ j. ap (slice_get d.spans) (omega arith) ∙ spans (suc j) in
-      both_holds (IsArrayWithin k us) (HaveFew next) (HaveFew k) cons (array_parts d i m (m + 2) us) rest
-      (subst (λ base. Holds (IsArrayWithin base us) (array_parts d i m (m + 2) us)) first (array_few d i m (m + 2) us))
-      (arrays_few d next (i + 1) (m + item_count (list (atom w ▸ us))) ts behind)
-      (λ a arrays h g few.
-      let here = h.1 few in
-      let all = g (omega (arith, here, h.0)) in
-      omega (arith, all, h.0, length-append a.columns (concretes_of arrays)))
-  by_test false spans = none_few k
+arrays_few d k i m (list (atom w ▸ us) ▸ ts) spans =
+    let n = m + item_count (list (atom w ▸ us)) in
+    by_test (is w (codes "array")) spans (lists_reading (codes "array") (array_reading d) (i + 1) n ts) (λ next behind. arrays_few d next (i + 1) n ts behind) where
+      by_test : (b : Bool) → AreSpans d i (spans_from k (before_others (cond b (fits us) misshapen) (forms_in (codes "array") ts))) → (rest : Reading (List ArrayText))
+          → ((next : ℕ) → AreSpans d (i + 1) (spans_from next (forms_in (codes "array") ts)) → Holds (HaveFew next) rest)
+          → Holds (HaveFew k) (cond b (both cons (cond b (array_parts d i m (m + 2) us) (wrong Shape m)) rest) (fine []))
+      by_test true spans rest others =
+          let next = k + tree_count (later us) in
+          let first : first_column (slice_get d.spans i) ≡ k = ap (λ j. first_column (slice_get d.spans j)) (omega arith) ∙ ap first_column (spans 0) in
+          let behind : AreSpans d (i + 1) (spans_from next (forms_in (codes "array") ts)) = λ j. ap (slice_get d.spans) (omega arith) ∙ spans (suc j) in
+          both_holds (IsArrayWithin k us) (HaveFew next) (HaveFew k) cons (array_parts d i m (m + 2) us) rest
+          (subst (λ base. Holds (IsArrayWithin base us) (array_parts d i m (m + 2) us)) first (array_few d i m (m + 2) us)) (others next behind)
+          (λ a arrays h g few.
+          let here = h.1 few in
+          let all = g (omega (arith, here, h.0)) in
+          omega (arith, all, h.0, length-append a.columns (concretes_of arrays)))
+      by_test false spans rest others = none_few k
 
 -- ---- auxiliary columns
 

@@ -1,5 +1,5 @@
 -- A development that is read is within its limits.
-use Rattle.std.proofs.Common.{◌≡◌, ℕ, ◌+◌, ◌≤◌, Bool, true, false, ◌&&◌, None, List, length, length-append, refl, sym, ap, ◌∙◌, subst, arith}
+use Rattle.std.proofs.Common.{◌≡◌, ℕ, ◌+◌, ◌≤◌, Bool, true, false, ◌&&◌, None, List, [], length, length-append, refl, sym, ap, ◌∙◌, subst, arith}
 use Rattle.std.proofs.lemmas.Bool.Decides.{nat_tests}
 use Rattle.std.specs.Prelude.{codes, nat_le, nat_lt, slice_get, Result, Ok, Err, IfOk}
 use Rattle.lc_sexp.specs.Trees.{Tree, Trees, none, ◌▸◌, item_count}
