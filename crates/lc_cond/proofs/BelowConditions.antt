@@ -13,7 +13,7 @@ use Rattle.lc_object.specs.Edges.{Edge, edges}
 use Rattle.lc_object.specs.WellFormed.{variable_count}
 use Rattle.lc_action.specs.Action.{Action, enter, acting_variables, guard_for, post_columns}
 use Rattle.lc_tie.specs.Tie.{start_column}
-use Rattle.lc_outline.specs.Development.{Development, On, first_system, invariant_of, all_actions, start_numbers, on_at, ons_at, asserts_at, riders_in}
+use Rattle.lc_outline.specs.Development.{Development, On, first_system, invariant_of, all_actions, start_numbers, on_at, ons_at, asserts_at, riders_in, asserts_to, in_operation, in_body}
 use Rattle.lc_outline.specs.Resolved.{AreArgumentsBelow, IsResolved}
 use Rattle.lc_outline.proofs.Chosen.{chosen}
 use Rattle.lc_rider.specs.Paths.{edge_variables, Duty, Path, paths, path_start}
@@ -21,8 +21,8 @@ use Rattle.lc_kernel.specs.Below.{column_below, term_below, formula_below, all_b
 use Rattle.lc_kernel.proofs.InUse.{formula_below-more}
 use Rattle.lc_cond.specs.Conditions.{Init, InitIdle, Entry, First, Reply, Invariant, NextKind, Head, Condition, conditions_from, conditions_of, at_start, at_entry, on_path, alone_on_path}
 use Rattle.lc_cond.specs.Conditions.{is_cell, range, idle_frame, hold_variables, body_frame, start_formula, start_conditions, padded, enter_variables, entry_variables, entered, entry_conditions}
-use Rattle.lc_cond.specs.Conditions.{at_end, asserts_to, reply_goals, is_base, same_column, column_condition, column_conditions, action_conditions, on_conditions, duty_condition, path_conditions, body_hypotheses}
-use Rattle.lc_cond.specs.Conditions.{edge_conditions_in, in_operation, in_body, edge_conditions, stable_variables, stable_under, stable_conditions, point_stability, idle_stability, conditions}
+use Rattle.lc_cond.specs.Conditions.{at_end, reply_goals, is_base, same_column, column_condition, column_conditions, action_conditions, on_conditions, duty_condition, path_conditions, body_hypotheses}
+use Rattle.lc_cond.specs.Conditions.{edge_conditions_in, edge_conditions, stable_variables, stable_under, stable_conditions, point_stability, idle_stability, conditions}
 use Rattle.lc_cond.specs.Uses.{UsesItsVariables, AllUseTheirVariables}
 use Rattle.lc_cond.proofs.Below.{ColumnsBelow, TermsBelow, FormulasBelow, raised-below, told-below, replaced-below}
 use Rattle.lc_cond.proofs.Elements.{Every-mapped, Every-replicate, Every-each, Every-numbered, Every-places, Every-placed}

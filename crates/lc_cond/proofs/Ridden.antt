@@ -9,11 +9,11 @@ use Rattle.lc_table.specs.Tables.{formulas_in}
 use Rattle.lc_seq.specs.Specification as Q
 use Rattle.lc_object.specs.Syntax.{Operation, Point, Object}
 use Rattle.lc_object.specs.Edges.{Edge}
-use Rattle.lc_outline.specs.Development.{Development, first_system, invariant_of, riders_in}
+use Rattle.lc_outline.specs.Development.{Development, first_system, invariant_of, riders_in, in_body, in_operation, asserts_to}
 use Rattle.lc_rider.specs.Rider.{Rider}
 use Rattle.lc_rider.specs.Paths.{Path, paths, edge_variables, path_start}
 use Rattle.lc_cond.specs.Conditions as S
-use Rattle.lc_cond.specs.Conditions.{path_conditions, edge_conditions_in, in_body, in_operation, at_end, conditions_of, on_path, asserts_to}
+use Rattle.lc_cond.specs.Conditions.{path_conditions, edge_conditions_in, at_end, conditions_of, on_path}
 use Rattle.lc_cond.specs.Scenes.{IsSceneOf, on_in, duty_conditions, outcome_conditions, path_conditions_in, reply_conditions, on_conditions_in, told_in, development_in, code_in}
 use Rattle.lc_cond.specs.declared.scene.Scene.{Scene}
 

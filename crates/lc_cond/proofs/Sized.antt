@@ -27,11 +27,12 @@ use Rattle.lc_object.specs.WellFormed.{variable_count, is_array, is_width, are_d
 use Rattle.lc_action.specs.Action.{Action, enter, leave, post_columns, acting_variables}
 use Rattle.lc_rider.specs.Rider.{Marking, Own, Other, Note, Deed, Assign, Marks, Rider}
 use Rattle.lc_rider.specs.Paths.{Path, with_fact, edge_variables, path_start, observing_duty, mark_duties, branch_variables, mark_updates, marked_op, marked_client, branch_paths, deed_paths, deed_paths_where, rider_paths, paths}
-use Rattle.lc_outline.specs.Development.{Development, On, first_system, invariant_of, on_at, asserts_at, riders_in, all_actions}
+use Rattle.lc_outline.specs.Development.{Development, On, first_system, invariant_of, on_at, asserts_at, riders_in, all_actions, asserts_to, in_operation, in_body}
 use Rattle.lc_outline.specs.Resolved.{IsDeedResolved, IsRiderResolved, IsOnResolved, IsResolved, is_resolved}
 use Rattle.lc_outline.proofs.Resolving.{resolved}
-use Rattle.lc_cond.specs.Conditions.{Init, InitIdle, Entry, First, Reply, Invariant, NextKind, Head, conditions_of, at_start, at_entry, on_path, alone_on_path, range, idle_frame, body_frame, justified, start_formula, start_conditions, entry_variables, entered, entry_conditions, at_end, asserts_to, reply_goals, is_base, column_condition, action_conditions, on_conditions, duty_condition, path_conditions, body_hypotheses, edge_conditions_in, in_operation, in_body, edge_conditions, stable_under, stable_conditions, point_stability, idle_stability}
-use Rattle.lc_cond.specs.Sizes.{columns_of, stands, Way, asked_of, mark_way, deed_ways, no_way, ways_where, rider_ways, instance_count, way_count, edge_count, returned, ended_columns, columns_acted, edge_size, edge_sizes, assert_sizes, AreCounted}
+use Rattle.lc_cond.specs.Conditions.{Init, InitIdle, Entry, First, Reply, Invariant, NextKind, Head, conditions_of, at_start, at_entry, on_path, alone_on_path, range, idle_frame, body_frame, justified, start_formula, start_conditions, entry_variables, entered, entry_conditions, at_end, reply_goals, is_base, column_condition, action_conditions, on_conditions, duty_condition, path_conditions, body_hypotheses, edge_conditions_in, edge_conditions, stable_under, stable_conditions, point_stability, idle_stability}
+use Rattle.lc_outline.specs.Sizes.{columns_of, stands, Way, asked_of, mark_way, deed_ways, no_way, ways_where, rider_ways, instance_count, way_count, edge_count, returned, ended_columns, columns_acted, edge_size, edge_sizes, assert_sizes}
+use Rattle.lc_cond.specs.Counted.{AreCounted}
 use Rattle.lc_cond.proofs.Stored.{and_true, not_either, puts_base, after_base, changed, columns_length, changed_different}
 use Rattle.lc_cond.proofs.Counts.{numbered_length, total, total_mapped, total_places, total_each, alike, sum_joined}
 

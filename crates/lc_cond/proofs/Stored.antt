@@ -9,7 +9,7 @@ use Rattle.lc_term.specs.Updates.{Update}
 use Rattle.lc_term.specs.Said.{put, puts, said, after}
 use Rattle.lc_term.proofs.Stores.{same_self}
 use Rattle.lc_cond.specs.Conditions.{Condition, is_base, same_column, column_conditions}
-use Rattle.lc_cond.specs.Sizes.{columns_of, stands, different}
+use Rattle.lc_outline.specs.Sizes.{columns_of, stands, different}
 
 -- ---- tests
 

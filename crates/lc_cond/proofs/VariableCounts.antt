@@ -14,13 +14,13 @@ use Rattle.lc_object.specs.Edges.{Edge, edges}
 use Rattle.lc_object.specs.WellFormed.{variable_count, has_limits, is_first, are_operations}
 use Rattle.lc_object.proofs.ObjectParts.{operations_pass}
 use Rattle.lc_action.specs.Action.{Action, enter, leave, post_columns}
-use Rattle.lc_outline.specs.Development.{Development, On, first_system, invariant_of, all_actions, on_at, asserts_at, riders_in}
+use Rattle.lc_outline.specs.Development.{Development, On, first_system, invariant_of, all_actions, on_at, asserts_at, riders_in, asserts_to, in_operation, in_body}
 use Rattle.lc_outline.specs.Resolved.{IsResolved}
 use Rattle.lc_rider.specs.Paths.{edge_variables, Duty, Path, paths, path_start}
 use Rattle.lc_cond.specs.Conditions.{Init, InitIdle, Entry, First, Reply, Invariant, NextKind, Head, Condition, conditions_from, conditions_of, at_start, at_entry, on_path, alone_on_path}
 use Rattle.lc_cond.specs.Conditions.{range, idle_frame, body_frame, start_formula, start_conditions, entry_variables, entered, entry_conditions}
-use Rattle.lc_cond.specs.Conditions.{at_end, asserts_to, reply_goals, is_base, same_column, column_condition, column_conditions, action_conditions, on_conditions, duty_condition, path_conditions, body_hypotheses}
-use Rattle.lc_cond.specs.Conditions.{edge_conditions_in, in_operation, in_body, edge_conditions, stable_under, stable_conditions, point_stability}
+use Rattle.lc_cond.specs.Conditions.{at_end, reply_goals, is_base, same_column, column_condition, column_conditions, action_conditions, on_conditions, duty_condition, path_conditions, body_hypotheses}
+use Rattle.lc_cond.specs.Conditions.{edge_conditions_in, edge_conditions, stable_under, stable_conditions, point_stability}
 use Rattle.lc_cond.specs.VariableCounts.{HasFewVariables, AllHaveFewVariables}
 
 -- ---- lists

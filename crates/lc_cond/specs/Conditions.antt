@@ -2,7 +2,7 @@
 use Rattle.std.specs.Prelude.{ℕ, zero, suc, ◌+◌, ◌==◌, Bool, false, ◌&&◌, if◌then◌else◌, List, [], ◌∷◌, ◌++◌, pos, Option, Some, None, map, length, slice_get, replicate}
 use Rattle.lc_term.specs.Syntax.{Term, Number, Variable, Bound, Add, Read, Column, Base, Store, Affine, Formula, Le, Eq, Not, And, Or, Forall, formulas}
 use Rattle.lc_term.specs.Replacement.{raising, replace_column}
-use Rattle.lc_object.specs.Syntax.{Operation, Point, Object}
+use Rattle.lc_object.specs.Syntax.{Operation, Point}
 use Rattle.lc_object.specs.Edges.{Edge, edges}
 use Rattle.lc_object.specs.WellFormed.{variable_count}
 use Rattle.lc_object.specs.declared.instr.EdgeKind.{EdgeKind}
@@ -11,7 +11,7 @@ use Rattle.lc_term.specs.Said.{put, after, told, variables_from}
 use Rattle.lc_term.specs.SystemColumns.{pend, op_column, arg_columns, rep_columns, noted, note_columns, column_count}
 use Rattle.lc_action.specs.Action.{Action, enter, guard_for, post_columns}
 use Rattle.lc_tie.specs.Tie.{start_column}
-use Rattle.lc_outline.specs.Development.{Development, On, first_system, invariant_of, all_actions, start_numbers, on_at, asserts_at, riders_in}
+use Rattle.lc_outline.specs.Development.{Development, On, first_system, invariant_of, all_actions, start_numbers, on_at, asserts_at, asserts_to, riders_in, in_body}
 use Rattle.lc_rider.specs.Paths.{edge_variables, Owing, Duty, Path, paths, path_start}
 use Rattle.lc_term.specs.Replacement.{replacing, replace}
 
@@ -164,10 +164,6 @@ abbrev pub at_end : ℕ → Option ℕ → (ℕ → Column) → ℕ → Column
 at_end first (Some q) σ = σ
 at_end first None σ = put σ (record { column = pend first; index = Variable 1; value = Number (pos 0) })
 
-abbrev pub asserts_to : Development → Option ℕ → List Formula
-asserts_to D (Some q) = asserts_at D q
-asserts_to D None = D.idle
-
 abbrev pub reply_goals : ℕ → Edge → List Formula
 reply_goals first e = (elim e.next [ Some q ↦ [] | None ↦ justified first e.replies ∷ [] ])
 
@@ -226,14 +222,6 @@ edge_conditions_in D o operation e =
     let v = variable_count operation in
     concat_places (path_conditions D e v on (body_hypotheses D o operation e.point ++ e.facts)) 0
     (paths D.specification.operations (first_system D) 0 o (edge_variables v e) (riders_in on) (path_start e)))
-
-abbrev pub in_operation : {A : Type 0} → (ℕ → Operation → List A) → ℕ → Option Operation → List A
-in_operation f o None = []
-in_operation f o (Some operation) = f o operation
-
-abbrev pub in_body : {A : Type 0} → Object → (ℕ → Operation → List A) → Option Point → List A
-in_body object f None = []
-in_body object f (Some p) = in_operation f p.operation (slice_get object.operations p.operation)
 
 abbrev pub edge_conditions : Development → Edge → List Condition
 edge_conditions D e = in_body D.object (λ o operation. edge_conditions_in D o operation e) (slice_get D.object.points e.point)

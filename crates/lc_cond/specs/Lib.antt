@@ -9,6 +9,6 @@ pub mod Scenes
 pub mod Crossings
 pub mod PartView
 pub mod Stream
-pub mod Sizes
+pub mod Counted
 pub mod VariableCounts
 pub mod CounterCount

@@ -16,10 +16,10 @@ use Rattle.lc_rider.specs.PathView.{HasPath}
 use Rattle.lc_rider.specs.declared.duty.Duty as M
 use Rattle.lc_rider.specs.declared.path.Path as P
 use Rattle.lc_outline.specs.Development as D
-use Rattle.lc_outline.specs.Development.{first_system, invariant_of, on_at}
+use Rattle.lc_outline.specs.Development.{first_system, invariant_of, on_at, asserts_to}
 use Rattle.lc_outline.specs.DevelopmentView.{development_shown, on_of}
 use Rattle.lc_cond.specs.Conditions as S
-use Rattle.lc_cond.specs.Conditions.{asserts_to, reply_goals, body_hypotheses, conditions_of, alone_on_path, on_path, duty_condition, on_conditions, path_conditions, at_end}
+use Rattle.lc_cond.specs.Conditions.{reply_goals, body_hypotheses, conditions_of, alone_on_path, on_path, duty_condition, on_conditions, path_conditions, at_end}
 use Rattle.lc_cond.specs.Adding.{HasFormulas, HasTerms, HasColumns, Adds}
 use Rattle.lc_cond.specs.declared.condition.Condition as C
 use Rattle.lc_cond.specs.declared.condition.Kind.TheVariants as K

@@ -1,7 +1,7 @@
 //! Laws of the definitions: functions without effect, whose contracts are the laws.
 ghost use Rattle.lc_cond.specs.CounterCount.{CounterIsCounted};
 ghost use Rattle.lc_cond.specs.Listed.{PartsMakeTheList};
-ghost use Rattle.lc_cond.specs.Sizes.{AreCounted};
+ghost use Rattle.lc_cond.specs.Counted.{AreCounted};
 ghost use Rattle.lc_cond.specs.Uses.{AllUseTheirVariables};
 ghost use Rattle.lc_cond.specs.VariableCounts.{AllHaveFewVariables};
 ghost use Rattle.lc_outline.specs.DevelopmentView.{development_shown};

@@ -5,9 +5,8 @@ ghost use Rattle.lc_action.specs.ActionView.{action_of, first_of};
 ghost use Rattle.lc_rider.specs.RiderView.{riders_of};
 ghost use Rattle.lc_object.specs.View.{operation_of};
 ghost use Rattle.lc_object.specs.WellFormed.{variable_count};
-ghost use Rattle.lc_outline.specs.Development.{same_kind, on_for, on_at, asserts_at, riders_in, first_system};
+ghost use Rattle.lc_outline.specs.Development.{same_kind, on_for, on_at, asserts_at, riders_in, first_system, asserts_to};
 ghost use Rattle.lc_outline.specs.DevelopmentView.{development_shown, on_of};
-ghost use Rattle.lc_cond.specs.Conditions.{asserts_to};
 
 use lc_action::{Action, SystemColumns};
 use lc_base::{ColId, OpId, OutOfMemory, PointId};

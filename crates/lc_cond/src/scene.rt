@@ -4,11 +4,11 @@ ghost use Rattle.lc_table.specs.Tables.{Keeps};
 ghost use Rattle.lc_object.specs.EdgeView.{edge_of};
 ghost use Rattle.lc_object.specs.View.{operation_of};
 ghost use Rattle.lc_action.specs.ActionView.{first_of};
-ghost use Rattle.lc_outline.specs.Development.{first_system, invariant_of};
+ghost use Rattle.lc_outline.specs.Development.{first_system, invariant_of, asserts_to};
 ghost use Rattle.lc_outline.specs.DevelopmentView.{development_shown};
 ghost use Rattle.lc_rider.specs.Paths.{edge_variables};
 ghost use Rattle.lc_cond.specs.Adding.{HasFormulas, HasTerms};
-ghost use Rattle.lc_cond.specs.Conditions.{body_hypotheses, reply_goals, asserts_to};
+ghost use Rattle.lc_cond.specs.Conditions.{body_hypotheses, reply_goals};
 ghost use Rattle.lc_cond.specs.Scenes.{IsReply, IsSceneOf};
 
 use crate::entering::{entered, entered_behind, entered_invariant};

@@ -38,7 +38,7 @@ fn given_with(given: u64, conditions: &Vec<Condition>) -> Result<u64, OutOfMemor
 }
 
 impl ConditionStream {
-    ghost use Rattle.std.specs.Prelude.{◌≡◌, IfOk};
+    ghost use Rattle.std.specs.Prelude.{◌≡◌, IfOk, OnErr};
     ghost use Rattle.lc_table.specs.Tables.{Keeps};
     ghost use Rattle.lc_outline.specs.DevelopmentView.{development_shown};
     ghost use Rattle.lc_cond.specs.Conditions.{conditions};
@@ -67,13 +67,14 @@ impl ConditionStream {
     }
 
     /// The conditions of the next part, whose formulas are entered in the table; nothing where no part is left. A part may have
-    /// no conditions. The table may be another one at each call.
+    /// no conditions. The table may be another one at each call. Where memory is refused the same part is left.
     pub fn next_part(
         &mut self,
         development: &Development,
         terms: &mut Terms,
     ) -> Result<Option<Vec<Condition>>, OutOfMemory>
         ensures next { IfOk result (λ part. IsNextPart (development_shown development.now) terms.new self.old self.new part) }
+        ensures unchanged { OnErr result (self.new ≡ self.old) }
         ensures kept { Keeps terms.old terms.new }
     {
         let Some(part) = part_at(development, &self.edges, self.place)? else {

@@ -11,10 +11,11 @@ use Rattle.lc_cond_text.specs.declared.texts.FormulaTexts.{FormulaTexts}
 use Rattle.lc_cond_text.specs.declared.lines.State.{State}
 use Rattle.lc_cond_text.specs.declared.lines.State.TheVariants.{Going, Ended, Failed}
 
--- what is left: its text, and how many pieces it may still come in
+-- what is left: its text, and how many pieces it may still come in; or memory was refused
 pub record LinesLeft : Type 0 where
   pub text : List ℕ
   pub pieces : ℕ
+  pub spent : Bool
 
 abbrev pub text_left : LinesLeft → List ℕ
 text_left l = l.text
@@ -22,15 +23,19 @@ text_left l = l.text
 abbrev pub pieces_left : LinesLeft → ℕ
 pieces_left l = l.pieces
 
+-- memory was refused, so they answer nothing else any more
+abbrev pub is_spent : LinesLeft → Bool
+is_spent l = l.spent
+
 -- the text of the conditions that a stream has left
 abbrev pub stream_text : Development → ConditionStream → List ℕ
 stream_text d s = text_from d (next_number s) (conditions_left d s)
 
 -- what is left in each state, where the stream has this left
 abbrev pub left_in : Development → State → ConditionStream → LinesLeft
-left_in d Going s = record { text = stream_text d s; pieces = suc (parts_left d s) }
-left_in d Ended s = record { text = []; pieces = 0 }
-left_in d Failed s = record { text = []; pieces = 0 }
+left_in d Going s = record { text = stream_text d s; pieces = suc (parts_left d s); spent = false }
+left_in d Ended s = record { text = []; pieces = 0; spent = false }
+left_in d Failed s = record { text = []; pieces = 0; spent = true }
 
 -- a piece is the beginning of what is left; there is none exactly where nothing is left
 abbrev pub IsNextPiece : LinesLeft → LinesLeft → Option (Vec ℕ Global) → Type 0

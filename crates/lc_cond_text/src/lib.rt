@@ -9,5 +9,4 @@ mod text;
 mod texts;
 
 pub use lines::ConditionLines;
-pub use text::{condition_text, push_condition};
-pub use texts::{FormulaTexts, no_texts};
+pub use text::condition_text;

@@ -1,12 +1,12 @@
 //! The lines of the conditions of a development, in pieces.
-ghost use Rattle.std.specs.Prelude.{◌≡◌, ◌++◌, ℕ, suc, ◌≤◌, map, true, false, if◌then◌else◌, IfOk, OnOk};
+ghost use Rattle.std.specs.Prelude.{◌≡◌, ◌++◌, ℕ, suc, ◌≤◌, map, true, false, if◌then◌else◌, IfOk, OnOk, is_err};
 ghost use Rattle.lc_cond.specs.ConditionView.{condition_in, AreConditions};
 ghost use Rattle.lc_cond.specs.Stream.{parts_left};
 ghost use Rattle.lc_text.specs.Spelling.{Spelled};
 ghost use Rattle.lc_outline.specs.DevelopmentView.{development_shown};
 ghost use Rattle.lc_cond_text.specs.ConditionText.{spelled, lines_from, total_line, conditions_text};
 ghost use Rattle.lc_cond_text.specs.Recalled.{Recalls};
-ghost use Rattle.lc_cond_text.specs.LinesView.{text_left, stream_text, IsNextPiece, Passes};
+ghost use Rattle.lc_cond_text.specs.LinesView.{text_left, is_spent, stream_text, IsNextPiece, Passes};
 
 use crate::nodes::{push_number, push_text};
 use crate::text::push_condition;
@@ -168,7 +168,8 @@ impl<'d> ConditionLines<'d> {
         alloc: Global,
         development: &'d Development,
     ) -> Result<ConditionLines<'d>, OutOfMemory>
-        ensures { IfOk result (λ lines. text_left lines ≡ conditions_text (development_shown development.entry.now)) }
+        ensures text { IfOk result (λ lines. text_left lines ≡ conditions_text (development_shown development.entry.now)) }
+        ensures memory { IfOk result (λ lines. is_spent lines ≡ false) }
     {
         let stream = ConditionStream::new(alloc, development)?;
         let terms = Terms::new(alloc);
@@ -183,10 +184,12 @@ impl<'d> ConditionLines<'d> {
         })
     }
 
-    /// The next piece of the lines, of 64 KiB or more unless it is the last; `None` where nothing is left. Once memory was
-    /// refused nothing else is answered.
+    /// The next piece of the lines, of 64 KiB or more unless it is the last; `None` where nothing is left. After an allocation
+    /// was refused it answers `OutOfMemory` from then on.
     pub fn next_piece(&mut self) -> Result<Option<Vec<u8>>, OutOfMemory>
-        ensures { IfOk result (IsNextPiece self.old self.new) }
+        ensures piece { IfOk result (IsNextPiece self.old self.new) }
+        ensures spent { is_spent self.new ≡ is_err result }
+        ensures never_again { is_spent self.old ≡ true → is_err result ≡ true }
     {
         match self.state {
             State::Ended => return Ok(None),

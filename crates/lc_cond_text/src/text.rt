@@ -215,7 +215,7 @@ fn push_claim(
 
 /// The line of a condition, without a line feed, behind what is there. Texts of formulas are those of this development and
 /// this table.
-pub fn push_condition(
+pub(crate) fn push_condition(
     out: &mut Vec<u8>,
     texts: &mut FormulaTexts,
     terms: &Terms,

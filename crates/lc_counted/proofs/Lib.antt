@@ -1,15 +1,1 @@
-mod Arrays
-mod Bodies
-mod Branches
-mod Edges
-mod Instructions
 mod Limit
-mod Marks
-mod Points
-mod Riders
-mod Rows
-mod Sides
-mod Sums
-mod Updates
-mod Ways
-mod Whole

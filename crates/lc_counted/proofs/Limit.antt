@@ -12,10 +12,17 @@ use Rattle.lc_reading.specs.declared.pass.Pass.TheVariants.{Bound}
 use Rattle.lc_object_text.specs.Sections.{sections_of}
 use Rattle.lc_outline.specs.Development.{Development}
 use Rattle.lc_cond.specs.Conditions.{conditions}
+use Rattle.lc_cond.proofs.Sized.{are_counted}
+use Rattle.lc_outline_text.proofs.Assembled.{forms_resolved}
+use Rattle.lc_outline_text.proofs.WholeCounted.{forms_sized}
 use Rattle.lc_outline_text.specs.Declarations.{declarations_of}
 use Rattle.lc_outline_text.specs.Developments.{condition_limit, forms_reading, file_reading}
 use Rattle.lc_counted.specs.Counted.{counted, HasForms, too_many}
-use Rattle.lc_counted.proofs.Whole.{forms_counted}
+use Rattle.lc_outline_text.proofs.WholeCounted.{forms_counted}
+
+-- as many conditions as are counted from the text
+forms_counted : (ts : Trees) (D : Development) → forms_reading (declarations_of ts) (sections_of ts) 0 ts ≡ fine D → length (conditions D) ≡ counted ts
+forms_counted ts D e = are_counted D (forms_resolved ts D e) ∙ forms_sized ts D e
 
 -- what is read within a limit
 within : {X : Type 0} (b : Bool) (n : ℕ) (r : Reading X) (x : X) → limited b n r ≡ fine x → (b ≡ false) × (r ≡ fine x)

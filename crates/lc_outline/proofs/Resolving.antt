@@ -1,5 +1,5 @@
 -- What the test of a development tells.
-use Rattle.std.proofs.Common.{◌≡◌, ℕ, zero, suc, ◌+◌, ◌<◌, ◌≤◌, Bool, true, ◌&&◌, ◌==◌, List, [], ◌∷◌, Some, None, Option, length, refl, ap, ◌∙◌, subst, inl, inr, arith}
+use Rattle.std.proofs.Common.{◌≡◌, ℕ, zero, suc, ◌+◌, ◌<◌, ◌≤◌, Bool, true, ◌&&◌, ◌==◌, List, [], ◌∷◌, Some, None, Option, length, refl, sym, ap, ◌∙◌, subst, inl, inr, arith}
 use Rattle.std.specs.Prelude.{slice_get, nat_le, nat_lt}
 use Rattle.std.specs.List.{list_all}
 use Rattle.std.proofs.lemmas.Bool.Decides.{nat_tests}
@@ -17,15 +17,19 @@ use Rattle.lc_object.specs.Places.{operation_at}
 use Rattle.lc_object.specs.WellFormed.{is_object, variable_count}
 use Rattle.lc_rider.specs.Rider.{Deed, Assign, Marks, Rider}
 use Rattle.lc_action.specs.Action.{Action}
-use Rattle.lc_outline.specs.Development.{Development, On, first_system, invariant_of, ons_at, on_at, asserts_at}
-use Rattle.lc_outline.specs.Resolved.{IsBelow, IsTermBelow, AreArgumentsBelow, IsNonempty, AreMatched, IsAuxiliary, IsDeedResolved, IsConditionResolved, IsRiderResolved, IsOnResolved, IsResolved, variables_at}
-use Rattle.lc_outline.specs.Resolved.{is_below, term_is_below, arguments_are_below, arguments_are_resolved, is_empty, has_some, is_matched, are_matched, is_auxiliary, deed_is_resolved, condition_is_resolved, rider_is_resolved, takes, on_is_resolved, action_is_resolved, edge_is_resolved, asserts_are_resolved, code_is_resolved, formulas_are_resolved, is_resolved}
+use Rattle.lc_outline.specs.Development.{Development, On, Outline, first_system, invariant_of, asserts_in, ons_in, on_at}
+use Rattle.lc_outline.specs.Resolved.{IsBelow, IsTermBelow, AreArgumentsBelow, IsNonempty, AreMatched, IsAuxiliary, IsDeedResolved, IsConditionResolved, IsRiderResolved, IsOnResolved, IsResolved}
+use Rattle.lc_outline.specs.Resolved.{is_empty, has_some, is_matched, are_matched, is_auxiliary, deed_is_resolved, condition_is_resolved, rider_is_resolved, takes, on_is_resolved, action_is_resolved, edge_is_resolved, code_is_resolved, sides_are_scoped, is_resolved}
+use Rattle.lc_outline.specs.Scope.{is_scoped, outline_is_scoped, action_is_scoped, column_total, variables_at, outlines_are_scoped, IsScoped, IsTermScoped, IsUpdateScoped, IsOnScoped, IsOutlineScoped, IsActionScoped, AreScoped}
+use Rattle.lc_outline.proofs.InScope as I
+use Rattle.lc_outline.proofs.InScope.{every}
+use Rattle.lc_outline.proofs.Scoped.{scoped_below, known_below}
 
 -- ---- lists
 
-every : {A : Type 0} (P : A → Type 0) (p : A → Bool) → ((x : A) → p x ≡ true → P x) → (xs : List A) → list_all p xs ≡ true → Every P xs
-every P p f [] h = tt
-every P p f (x ∷ xs) h = (f x (left_true (p x) (list_all p xs) h), every P p f xs (right_true (p x) (list_all p xs) h))
+every_weaker : {A : Type 0} (P Q : A → Type 0) → ((x : A) → P x → Q x) → (xs : List A) → Every P xs → Every Q xs
+every_weaker P Q f [] h = tt
+every_weaker P Q f (x ∷ xs) h = (f x h.0, every_weaker P Q f xs h.1)
 
 among : {A : Type 0} (P : A → Type 0) (p : A → Bool) → ((x : A) → p x ≡ true → P x) → (xs : List A) → list_all p xs ≡ true → (x : A) → IsIn x xs → P x
 among P p f [] h x i = absurd i
@@ -98,54 +102,52 @@ module _ (D : Development) where
 
   -- ---- formulas
 
-  below : (n : ℕ) (fs : List Formula) → list_all (is_below n) fs ≡ true → Every (IsBelow n) fs
-  below n fs h = every (IsBelow n) (is_below n) (λ f e. e) fs h
+  below : (n : ℕ) (fs : List Formula) → Every (IsScoped (column_total D) n) fs → Every (IsBelow n) fs
+  below n fs h = every_weaker (IsScoped (column_total D) n) (IsBelow n) (scoped_below (column_total D) n) fs h
 
   abbrev variables : O.Point → ℕ
   variables point = variables_at D.object (slice_get D.object.operations point.operation)
 
-  asserted : (p : ℕ) (points : List O.Point) → asserts_are_resolved D p points ≡ true →
-      (k : ℕ) (point : O.Point) → slice_get points k ≡ Some point → list_all (is_below (variables point)) (asserts_at D (p + k)) ≡ true
-  asserted p [] h k point e = absurd cc
-  asserted p (x ∷ points) h zero point e =
-      subst (λ (y : O.Point). list_all (is_below (variables y)) (asserts_at D (p + 0)) ≡ true) (same_Some x point e)
-      (subst (λ j. list_all (is_below (variables x)) (asserts_at D j) ≡ true) (omega arith) (left_true (list_all (is_below (variables x)) (asserts_at D p)) (asserts_are_resolved D (suc p) points) h))
-  asserted p (x ∷ points) h (suc k) point e =
-      subst (λ j. list_all (is_below (variables point)) (asserts_at D j) ≡ true) (omega arith)
-      (asserted (suc p) points (right_true (list_all (is_below (variables x)) (asserts_at D p)) (asserts_are_resolved D (suc p) points) h) k point e)
+  -- the outline at a place where a point is
+  abbrev HasOutline : Option Outline → ℕ → Type 0
+  HasOutline found n = (x : Outline) × (found ≡ Some x) × IsOutlineScoped (column_total D) n x
 
-  asserted_here : asserts_are_resolved D 0 D.object.points ≡ true → (k : ℕ) (point : O.Point) → slice_get D.object.points k ≡ Some point → list_all (is_below (variables point)) (asserts_at D k) ≡ true
-  asserted_here h k point e = subst (λ j. list_all (is_below (variables point)) (asserts_at D j) ≡ true) (omega arith) (asserted 0 D.object.points h k point e)
+  outlined : (points : List O.Point) (xs : List Outline) → outlines_are_scoped D points xs ≡ true → (k : ℕ) (point : O.Point) → slice_get points k ≡ Some point → HasOutline (slice_get xs k) (variables point)
+  outlined [] xs h k point e = absurd cc
+  outlined (p ∷ points) [] h k point e = absurd cc
+  outlined (p ∷ points) (x ∷ xs) h zero point e =
+      let here = I.outline (column_total D) (variables p) x (left_true (outline_is_scoped (column_total D) (variables p) x) (outlines_are_scoped D points xs) h) in
+      (x, refl, subst (λ (q : O.Point). IsOutlineScoped (column_total D) (variables q) x) (same_Some p point e) here)
+  outlined (p ∷ points) (x ∷ xs) h (suc k) point e =
+      outlined points xs (right_true (outline_is_scoped (column_total D) (variables p) x) (outlines_are_scoped D points xs) h) k point e
 
-  -- ---- arguments
+  outlined_here : outlines_are_scoped D D.object.points D.outlines ≡ true → (p : ℕ) (point : O.Point) (o : O.Operation) → slice_get D.object.points p ≡ Some point → slice_get D.object.operations point.operation ≡ Some o →
+      HasOutline (slice_get D.outlines p) (variable_count o)
+  outlined_here h p point o here is = subst (HasOutline (slice_get D.outlines p)) (ap (variables_at D.object) is) (outlined D.object.points D.outlines h p point here)
 
-  terms : (n : ℕ) (x : On) → arguments_are_below n x ≡ true → AreArgumentsBelow n x
-  terms n x h = every (IsTermBelow n) (term_is_below n) (λ t e. e) x.arguments h
+  asserted : (found : Option Outline) (n : ℕ) → HasOutline found n → Every (IsBelow n) (asserts_in found)
+  asserted found n (x, at, ok) = subst (λ o. Every (IsBelow n) (asserts_in o)) (sym at) (below n x.asserts ok.asserts)
 
-  called : (p : ℕ) (points : List O.Point) → arguments_are_resolved D p points ≡ true →
-      (k : ℕ) (point : O.Point) → slice_get points k ≡ Some point → list_all (arguments_are_below (variables point)) (ons_at D (p + k)) ≡ true
-  called p [] h k point e = absurd cc
-  called p (x ∷ points) h zero point e =
-      subst (λ (y : O.Point). list_all (arguments_are_below (variables y)) (ons_at D (p + 0)) ≡ true) (same_Some x point e)
-      (subst (λ j. list_all (arguments_are_below (variables x)) (ons_at D j) ≡ true) (omega arith) (left_true (list_all (arguments_are_below (variables x)) (ons_at D p)) (arguments_are_resolved D (suc p) points) h))
-  called p (x ∷ points) h (suc k) point e =
-      subst (λ j. list_all (arguments_are_below (variables point)) (ons_at D j) ≡ true) (omega arith)
-      (called (suc p) points (right_true (list_all (arguments_are_below (variables x)) (ons_at D p)) (arguments_are_resolved D (suc p) points) h) k point e)
+  terms : (n : ℕ) (x : On) → IsOnScoped (column_total D) n x → AreArgumentsBelow n x
+  terms n x h = every_weaker (IsTermScoped (column_total D) n) (IsTermBelow n) (known_below (column_total D) n) x.arguments h.arguments
 
-  called_here : arguments_are_resolved D 0 D.object.points ≡ true → (k : ℕ) (point : O.Point) → slice_get D.object.points k ≡ Some point → Every (AreArgumentsBelow (variables point)) (ons_at D k)
-  called_here h k point e =
-      every (AreArgumentsBelow (variables point)) (arguments_are_below (variables point)) (terms (variables point)) (ons_at D k)
-      (subst (λ j. list_all (arguments_are_below (variables point)) (ons_at D j) ≡ true) (omega arith) (called 0 D.object.points h k point e))
+  called : (found : Option Outline) (n : ℕ) → HasOutline found n → Every (AreArgumentsBelow n) (ons_in found)
+  called found n (x, at, ok) =
+      subst (λ o. Every (AreArgumentsBelow n) (ons_in o)) (sym at) (every_weaker (IsOnScoped (column_total D) n) (AreArgumentsBelow n) (terms n) x.ons ok.ons)
 
   -- ---- actions
 
-  action : (a : Action) → action_is_resolved D a ≡ true → Every (λ (u : Update). u.column < column_count (first_system D)) a.updates
-  action a h =
-      every (λ (u : Update). u.column < column_count (first_system D)) (λ (u : Update). nat_lt u.column (column_count (first_system D))) (λ u e. grind (arith, nat_tests)) a.updates
-      (right_true (nat_le (length a.parameters) 3) (list_all (λ (u : Update). nat_lt u.column (column_count (first_system D))) a.updates) h)
+  abbrev IsStored : Update → Type 0
+  IsStored u = u.column < column_count (first_system D)
+
+  in_scope : (a : Action) → action_is_resolved D a ≡ true → IsActionScoped (column_total D) a
+  in_scope a h = I.action (column_total D) a (right_true (nat_le (length a.parameters) 3) (action_is_scoped (column_total D) a) h)
+
+  action : (a : Action) → action_is_resolved D a ≡ true → Every IsStored a.updates
+  action a h = let n = 2 + length a.parameters in every_weaker (IsUpdateScoped (column_total D) n) IsStored (λ u e. e.column) a.updates (in_scope a h).updates
 
   three_at_most : (a : Action) → action_is_resolved D a ≡ true → length a.parameters ≤ 3
-  three_at_most a h = at_most (length a.parameters) 3 (left_true (nat_le (length a.parameters) 3) (list_all (λ (u : Update). nat_lt u.column (column_count (first_system D))) a.updates) h)
+  three_at_most a h = at_most (length a.parameters) 3 (left_true (nat_le (length a.parameters) 3) (action_is_scoped (column_total D) a) h)
 
   -- ---- together
 
@@ -168,60 +170,69 @@ module _ (D : Development) where
         operations = right_true (a && b && c) d h;
       }
 
-  record AreFormulasResolved : Type 0 where
-    invariant : list_all (is_below 1) (invariant_of D) ≡ true
-    idle : list_all (is_below 2) D.idle ≡ true
-    asserts : asserts_are_resolved D 0 D.object.points ≡ true
+  record AreSidesScoped : Type 0 where
+    invariant : Every (IsScoped (column_total D) 1) (invariant_of D)
+    idle : Every (IsScoped (column_total D) 2) D.idle
+    outlines : outlines_are_scoped D D.object.points D.outlines ≡ true
 
-  formulas : formulas_are_resolved D ≡ true → AreFormulasResolved
-  formulas h =
-      let a = list_all (is_below 1) (invariant_of D) in
-      let b = list_all (is_below 2) D.idle in
-      let c = asserts_are_resolved D 0 D.object.points in
-      record { invariant = left_true a b (left_true (a && b) c h); idle = right_true a b (left_true (a && b) c h); asserts = right_true (a && b) c h }
+  sides : sides_are_scoped D ≡ true → AreSidesScoped
+  sides h =
+      let a = list_all (is_scoped (column_total D) 1) (invariant_of D) in
+      let b = list_all (is_scoped (column_total D) 2) D.idle in
+      let c = outlines_are_scoped D D.object.points D.outlines in
+      record {
+        invariant = every (IsScoped (column_total D) 1) (is_scoped (column_total D) 1) (λ f e. e) (invariant_of D) (left_true a b (left_true (a && b) c h));
+        idle = every (IsScoped (column_total D) 2) (is_scoped (column_total D) 2) (λ f e. e) D.idle (right_true a b (left_true (a && b) c h));
+        outlines = right_true (a && b) c h;
+      }
 
   record AreAllResolved : Type 0 where
     code : code_is_resolved D ≡ true
-    formulas : formulas_are_resolved D ≡ true
+    sides : sides_are_scoped D ≡ true
     actions : list_all (action_is_resolved D) D.actions ≡ true
     edges : list_all (edge_is_resolved D) (edges D.object) ≡ true
-    arguments : arguments_are_resolved D 0 D.object.points ≡ true
 
   all : is_resolved D ≡ true → AreAllResolved
   all h =
       let a = code_is_resolved D in
-      let b = formulas_are_resolved D in
+      let b = sides_are_scoped D in
       let c = list_all (action_is_resolved D) D.actions in
       let d = list_all (edge_is_resolved D) (edges D.object) in
-      let e = arguments_are_resolved D 0 D.object.points in
-      let four = left_true (a && b && c && d) e h in
       record {
-        code = left_true a b (left_true (a && b) c (left_true (a && b && c) d four));
-        formulas = right_true a b (left_true (a && b) c (left_true (a && b && c) d four));
-        actions = right_true (a && b) c (left_true (a && b && c) d four);
-        edges = right_true (a && b && c) d four;
-        arguments = right_true (a && b && c && d) e h;
+        code = left_true a b (left_true (a && b) c (left_true (a && b && c) d h));
+        sides = right_true a b (left_true (a && b) c (left_true (a && b && c) d h));
+        actions = right_true (a && b) c (left_true (a && b && c) d h);
+        edges = right_true (a && b && c) d h;
       }
-
-  at_operation : (point : O.Point) (o : O.Operation) → slice_get D.object.operations point.operation ≡ Some o → variables point ≡ variable_count o
-  at_operation point o e = ap (variables_at D.object) e
 
 -- A development that passes is resolved
 pub resolved : (D : Development) → is_resolved D ≡ true → IsResolved D
 resolved D h =
     let whole = all D h in
     let own = code D whole.code in
-    let said = formulas D whole.formulas in
+    let beside = sides D whole.sides in
     record {
       object = own.object;
       specification = own.specification;
       abstracts = same _ _ own.abstracts;
       operations = matched D.object.operations D.specification.operations own.operations;
-      invariant = below D 1 (invariant_of D) said.invariant;
-      idle = below D 2 D.idle said.idle;
-      actions = every (λ (a : Action). Every (λ (u : Update). u.column < column_count (first_system D)) a.updates) (action_is_resolved D) (action D) D.actions whole.actions;
+      invariant = below D 1 (invariant_of D) beside.invariant;
+      idle = below D 2 D.idle beside.idle;
+      actions = every (λ (a : Action). Every (IsStored D) a.updates) (action_is_resolved D) (action D) D.actions whole.actions;
       parameters = every (λ (a : Action). length a.parameters ≤ 3) (action_is_resolved D) (three_at_most D) D.actions whole.actions;
-      asserts = λ p point o here is. subst (λ n. Every (IsBelow n) (asserts_at D p)) (at_operation D point o is) (below D (variables D point) (asserts_at D p) (asserted_here D said.asserts p point here));
-      arguments = λ p point o here is. subst (λ n. Every (AreArgumentsBelow n) (ons_at D p)) (at_operation D point o is) (called_here D whole.arguments p point here);
+      asserts = λ p point o here is. asserted D (slice_get D.outlines p) (variable_count o) (outlined_here D beside.outlines p point o here is);
+      arguments = λ p point o here is. called D (slice_get D.outlines p) (variable_count o) (outlined_here D beside.outlines p point o here is);
       ons = λ e i. among (λ (x : Edge). IsOnResolved D (operation_at D.object x.point) x (on_at D x.point x.kind)) (edge_is_resolved D) (λ x. on D (operation_at D.object x.point) x (on_at D x.point x.kind)) (edges D.object) whole.edges e i;
+    }
+
+-- and speaks of what is in scope
+pub all_scoped : (D : Development) → is_resolved D ≡ true → AreScoped D
+all_scoped D h =
+    let whole = all D h in
+    let beside = sides D whole.sides in
+    record {
+      invariant = beside.invariant;
+      idle = beside.idle;
+      actions = every (IsActionScoped (column_total D)) (action_is_resolved D) (in_scope D) D.actions whole.actions;
+      outlines = outlined_here D beside.outlines;
     }

@@ -90,3 +90,18 @@ riders_in (Some x) = x.riders
 
 abbrev pub riders_at : Development → ℕ → EdgeKind → List Rider
 riders_at D p kind = riders_in (on_at D p kind)
+
+-- what holds where an edge leads: at this point, or of an idle client
+abbrev pub asserts_to : Development → Option ℕ → List Formula
+asserts_to D (Some q) = asserts_at D q
+asserts_to D None = D.idle
+
+-- what is made of the operation of this number, if there is one
+abbrev pub in_operation : {A : Type 0} → (ℕ → O.Operation → List A) → ℕ → Option O.Operation → List A
+in_operation f o None = []
+in_operation f o (Some operation) = f o operation
+
+-- what is made of the operation in whose body this point stands
+abbrev pub in_body : {A : Type 0} → Object → (ℕ → O.Operation → List A) → Option Point → List A
+in_body object f None = []
+in_body object f (Some p) = in_operation f p.operation (slice_get object.operations p.operation)

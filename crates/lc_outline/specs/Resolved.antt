@@ -1,5 +1,5 @@
 -- What a development's type keeps: names are resolved, and who may write what.
-use Rattle.std.specs.Prelude.{◌≡◌, ℕ, suc, ◌+◌, ◌<◌, ◌≤◌, Bool, true, false, ◌&&◌, ◌==◌, nat_le, nat_lt, List, [], ◌∷◌, Option, Some, None, length, slice_get}
+use Rattle.std.specs.Prelude.{◌≡◌, ℕ, ◌+◌, ◌<◌, ◌≤◌, Bool, true, false, ◌&&◌, ◌==◌, nat_le, nat_lt, List, [], ◌∷◌, Option, Some, None, length, slice_get}
 use Rattle.std.specs.List.{list_all}
 use Rattle.lc_term.specs.Updates.{Update}
 use Rattle.lc_term.specs.Syntax.{Term, Formula}
@@ -19,6 +19,7 @@ use Rattle.lc_rider.specs.Rider.{Deed, Assign, Marks, Rider}
 use Rattle.lc_action.specs.Action.{Action}
 use Rattle.lc_rider.specs.Paths.{marked_op}
 use Rattle.lc_outline.specs.Development.{Development, On, first_system, invariant_of, ons_at, on_at, asserts_at}
+use Rattle.lc_outline.specs.Scope.{is_scoped, action_is_scoped, column_total, outlines_are_scoped, AreScoped}
 
 -- free variables below n
 abbrev pub variables_below : ℕ → Test
@@ -66,10 +67,6 @@ IsOnResolved D o e (Some x) = ((a : Action) × (slice_get D.actions x.action ≡
 abbrev pub AreArgumentsBelow : ℕ → On → Type 0
 AreArgumentsBelow n x = Every (IsTermBelow n) x.arguments
 
-abbrev pub variables_at : O.Object → Option O.Operation → ℕ
-variables_at object None = 0
-variables_at object (Some o) = variable_count o
-
 pub record IsResolved (D : Development) : Type 0 where
   pub object : is_object D.object ≡ true
   pub specification : list_all (operation_is_resolved (length D.specification.columns)) D.specification.operations ≡ true
@@ -84,12 +81,6 @@ pub record IsResolved (D : Development) : Type 0 where
   pub ons : (e : Edge) → IsIn e (edges D.object) → IsOnResolved D (operation_at D.object e.point) e (on_at D e.point e.kind)
 
 -- ---- the same as a test
-
-abbrev pub is_below : ℕ → Formula → Bool
-is_below n f = passes (λ k. variables_below n) 0 f
-
-abbrev pub term_is_below : ℕ → Term → Bool
-term_is_below n t = term_passes (variables_below n) t
 
 abbrev pub is_empty : {A : Type 0} → List A → Bool
 is_empty [] = true
@@ -131,27 +122,12 @@ abbrev pub on_is_resolved : Development → ℕ → Edge → Option On → Bool
 on_is_resolved D o e None = is_empty e.updates
 on_is_resolved D o e (Some x) = takes (slice_get D.actions x.action) (length x.arguments) && list_all (rider_is_resolved D o) x.riders
 
--- an action has three parameters at most, and stores in columns that there are
+-- an action has three parameters at most
 abbrev pub action_is_resolved : Development → Action → Bool
-action_is_resolved D a = nat_le (length a.parameters) 3 && list_all (λ (u : Update). nat_lt u.column (column_count (first_system D))) a.updates
+action_is_resolved D a = nat_le (length a.parameters) 3 && action_is_scoped (column_total D) a
 
 abbrev pub edge_is_resolved : Development → Edge → Bool
 edge_is_resolved D e = on_is_resolved D (operation_at D.object e.point) e (on_at D e.point e.kind)
-
--- the assertions at the points from the number p on speak of the variables that there are
-abbrev pub asserts_are_resolved : Development → ℕ → List O.Point → Bool
-asserts_are_resolved D p [] = true
-asserts_are_resolved D p (point ∷ points) =
-    list_all (is_below (variables_at D.object (slice_get D.object.operations point.operation))) (asserts_at D p) && asserts_are_resolved D (suc p) points
-
-abbrev pub arguments_are_below : ℕ → On → Bool
-arguments_are_below n x = list_all (term_is_below n) x.arguments
-
--- the arguments at the edges of the points from the number p on speak of the variables that there are
-abbrev pub arguments_are_resolved : Development → ℕ → List O.Point → Bool
-arguments_are_resolved D p [] = true
-arguments_are_resolved D p (point ∷ points) =
-    list_all (arguments_are_below (variables_at D.object (slice_get D.object.operations point.operation))) (ons_at D p) && arguments_are_resolved D (suc p) points
 
 -- specification and object agree
 abbrev pub code_is_resolved : Development → Bool
@@ -159,17 +135,20 @@ code_is_resolved D =
     is_object D.object && list_all (operation_is_resolved (length D.specification.columns)) D.specification.operations
     && length D.object.abstracts == length D.specification.columns && are_matched D.object.operations D.specification.operations
 
--- what holds speaks of the variables that there are
-abbrev pub formulas_are_resolved : Development → Bool
-formulas_are_resolved D =
-    list_all (is_below 1) (invariant_of D) && list_all (is_below 2) D.idle && asserts_are_resolved D 0 D.object.points
+-- what stands beside the code, but for the actions, speaks of what is in scope
+abbrev pub sides_are_scoped : Development → Bool
+sides_are_scoped D =
+    list_all (is_scoped (column_total D) 1) (invariant_of D) && list_all (is_scoped (column_total D) 2) D.idle
+    && outlines_are_scoped D D.object.points D.outlines
 
 -- All names are resolved, and only what may be is written
 abbrev pub is_resolved : Development → Bool
-is_resolved D =
-    code_is_resolved D && formulas_are_resolved D && list_all (action_is_resolved D) D.actions && list_all (edge_is_resolved D) (edges D.object)
-    && arguments_are_resolved D 0 D.object.points
+is_resolved D = code_is_resolved D && sides_are_scoped D && list_all (action_is_resolved D) D.actions && list_all (edge_is_resolved D) (edges D.object)
 
 -- what passes is resolved
 abbrev pub WhatPassesIsResolved : Type 0
 WhatPassesIsResolved = (D : Development) → is_resolved D ≡ true → IsResolved D
+
+-- and speaks only of columns and variables that there are
+abbrev pub WhatPassesIsScoped : Type 0
+WhatPassesIsScoped = (D : Development) → is_resolved D ≡ true → AreScoped D

@@ -3,6 +3,7 @@ use crate::parts::Parts;
 
 impl Development {
     ghost use Rattle.std.specs.Prelude.{◌≡◌, true};
+    ghost use Rattle.lc_outline.specs.Limits.{is_limited};
     ghost use Rattle.lc_outline.specs.Resolved.{is_resolved};
     ghost use Rattle.lc_outline.specs.Development.{start_numbers};
     ghost use Rattle.lc_outline.specs.DevelopmentView.{development_shown};
@@ -12,6 +13,7 @@ impl Development {
     /// The development of these parts.
     pub fn of_parts(parts: Parts) -> Development
         requires resolved { is_resolved (parts_shown parts) ≡ true }
+        requires limited { is_limited (parts_shown parts) ≡ true }
         requires initial { numbers_in parts.tie ≡ start_numbers (parts_shown parts) }
         ensures { development_shown result ≡ parts_shown parts }
     {
@@ -22,6 +24,7 @@ impl Development {
     pub fn parts(&self) -> &Parts
         ensures shown { parts_shown result.now ≡ development_shown self.now }
         ensures resolved { is_resolved (parts_shown result.now) ≡ true }
+        ensures limited { is_limited (parts_shown result.now) ≡ true }
         ensures initial { numbers_in result.now.tie ≡ start_numbers (parts_shown result.now) }
     {
         &self.parts

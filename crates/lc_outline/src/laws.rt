@@ -1,6 +1,8 @@
 //! Laws of the definitions: functions without effect, whose contracts are the laws.
 ghost use Rattle.lc_outline.specs.Agreement.{OperationsAgree, CallsAreSmall};
-ghost use Rattle.lc_outline.specs.Resolved.{WhatPassesIsResolved};
+ghost use Rattle.lc_outline.specs.Limits.{WhatPassesIsLimited};
+ghost use Rattle.lc_outline.specs.Resolved.{WhatPassesIsResolved, WhatPassesIsScoped};
+ghost use Rattle.lc_outline.specs.Scope.{WhatIsScopedIsKnown};
 
 use crate::development::Development;
 
@@ -29,3 +31,16 @@ pub fn sends(development: Development) {
 pub fn shares(development: &Development) {
     is_shared(development)
 }
+
+/// Each term and formula of a development that passes the test of its type speaks only of columns and variables that there are;
+/// so each of its terms, and each of its formulas without quantifiers, can be computed.
+pub fn terms_are_in_scope()
+    ensures scoped { WhatPassesIsScoped }
+    ensures known { WhatIsScopedIsKnown }
+{}
+
+/// A development that passes the test of limits of its type has at most 64 columns, 64 actions and 100,000 conditions, as these are
+/// counted, and at each edge at most 6 riders and 64 paths.
+pub fn developments_are_limited()
+    ensures { WhatPassesIsLimited }
+{}

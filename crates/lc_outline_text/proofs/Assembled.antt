@@ -21,8 +21,10 @@ use Rattle.lc_object_text.specs.Objects as O
 use Rattle.lc_object_text.specs.Points.{BodyText, code_alone}
 use Rattle.lc_object_text.specs.Sections.{items_of_fit, behind_item, behind_first, parts_in, some_forms_in, Sections, sections_of}
 use Rattle.lc_outline.specs.Development.{Development, first_system, invariant_of}
-use Rattle.lc_outline.specs.Resolved.{is_below, are_matched, asserts_are_resolved, action_is_resolved, edge_is_resolved, is_resolved, arguments_are_resolved}
+use Rattle.lc_outline.specs.Resolved.{are_matched, action_is_resolved, edge_is_resolved, is_resolved}
+use Rattle.lc_outline.specs.Scope.{is_scoped, column_total, outlines_are_scoped}
 use Rattle.lc_object.specs.Edges.{edges}
+use Rattle.lc_term.specs.SystemColumns.{column_count}
 use Rattle.lc_seq.specs.SpecView.{column_of, operations_of}
 use Rattle.lc_seq.specs.Specification.{Specification, operation_is_resolved, names_differ}
 use Rattle.lc_seq.specs.TextView.{specification_of}
@@ -30,7 +32,7 @@ use Rattle.lc_seq.specs.declared.specification.TextSpec.{TextSpec}
 use Rattle.lc_spec_text.proofs.Resolved.{specification_resolved}
 use Rattle.lc_spec_text.specs.Specifications as Q
 use Rattle.lc_outline_text.proofs.Agreed.{IsSpecificationSaid, specification_said, AreSame, same, matched, branched, AllGo, all_go, go_counted, goes_at}
-use Rattle.lc_outline_text.proofs.Fitting.{Fits, left, same_number, actions_resolved, asserts_resolved, arguments_resolved, edges_resolved}
+use Rattle.lc_outline_text.proofs.Fitting.{Fits, left, same_number, actions_resolved, outlines_scoped, edges_resolved}
 use Rattle.lc_outline_text.proofs.ObjectOf.{IsObjectOf, objects, object_is_one}
 use Rattle.lc_outline_text.proofs.Outlined.{AreBodiesOf, bodies_outlined, all_points, each_point, code_points, outline_points}
 use Rattle.lc_outline_text.proofs.Own.{own_there}
@@ -46,7 +48,7 @@ use Rattle.lc_outline_text.specs.Sizes.{condition_count}
 -- what is read of a specification fits what is declared, both as its object sees it and as it is
 pub record SpecificationHolds (s : Sections) (p : O.SpecificationText × Specification) : Type 0 where
   pub fit : SpecificationFits (declared_in_sections s) s p.0
-  columns : length p.0.abstracts ≡ length p.1.columns
+  pub columns : length p.0.abstracts ≡ length p.1.columns
   operations : AreSame p.0.signatures p.1.operations
   pub goes : AllGo (operations_in s) p.1.operations
 
@@ -126,7 +128,7 @@ array_columns [] = refl
 array_columns (ts ∷ forms) = omega (arith, length-append (names_of_columns (later ts)) (columns_of_arrays forms), names_counted (later ts), array_columns forms)
 
 -- the columns that are declared
-first_auxiliary : (s : Sections) (p : O.SpecificationText × Specification) (o : Parts) → SpecificationHolds s p → ObjectHolds s o → length p.1.columns + length (O.concretes_of o.0.0.arrays) ≡ (declared_in_sections s).auxiliaries
+pub first_auxiliary : (s : Sections) (p : O.SpecificationText × Specification) (o : Parts) → SpecificationHolds s p → ObjectHolds s o → length p.1.columns + length (O.concretes_of o.0.0.arrays) ≡ (declared_in_sections s).auxiliaries
 first_auxiliary s p o h g =
     omega (arith, length-append (abstracts_in s) (columns_of_arrays (arrays_in s)), h.columns, h.fit.abstracts, array_columns (arrays_in s), concretes_counted (arrays_in s) o.0.0.arrays g.fit.0)
 
@@ -171,9 +173,10 @@ resolved_of s p o h g spec object =
     let code = and_true _ (are_matched D.object.operations D.specification.operations)
     (and_true _ (length D.object.abstracts == length D.specification.columns) (and_true (is_object D.object) (list_all (operation_is_resolved (length D.specification.columns)) D.specification.operations) object spec)
     (same_number (length D.object.abstracts) (length D.specification.columns) h.columns)) fit.matched in
-    let formulas = and_true _ (asserts_are_resolved D 0 D.object.points) (and_true (list_all (is_below 1) (invariant_of D)) (list_all (is_below 2) D.idle) g.sides.invariant g.sides.idle) (asserts_resolved d D ps fit) in
-    let edged = and_true _ (list_all (edge_is_resolved D) (edges D.object)) (and_true _ (list_all (action_is_resolved D) D.actions) (and_true _ _ code formulas) (actions_resolved d D ps fit)) (edges_resolved d D ps fit) in
-    and_true _ (arguments_are_resolved D 0 D.object.points) edged (arguments_resolved d D ps fit)
+    let within = sym (ap column_count fit.columns) in
+    let sides = and_true _ (outlines_are_scoped D D.object.points D.outlines) (and_true (list_all (is_scoped (column_total D) 1) (invariant_of D)) (list_all (is_scoped (column_total D) 2) D.idle)
+    (subst (λ n. list_all (is_scoped n 1) (invariant_of D) ≡ true) within g.sides.invariant) (subst (λ n. list_all (is_scoped n 2) D.idle ≡ true) within g.sides.idle)) (outlines_scoped d D ps fit) in
+    and_true _ (list_all (edge_is_resolved D) (edges D.object)) (and_true _ (list_all (action_is_resolved D) D.actions) (and_true _ _ code sides) (actions_resolved d D ps fit)) (edges_resolved d D ps fit)
 
 seconds_hold : (s : Sections) (n : ℕ) (ts : Trees) → Holds (ObjectHolds s) (second_form_reading (declarations_in s) s n ts)
 seconds_hold s n none = tt

@@ -1,13 +1,13 @@
 -- What stands beside the code of a development fits the code.
-use Rattle.std.proofs.Common.{◌≡◌, ℕ, zero, suc, ◌+◌, ◌<◌, Bool, true, false, ◌&&◌, ◌==◌, cond, List, [], ◌∷◌, ◌++◌, map, length, length-append, append_assoc, Some, refl, sym, ap, ap₂, ◌∙◌, subst, arith}
+use Rattle.std.proofs.Common.{◌≡◌, ℕ, zero, suc, ◌+◌, ◌<◌, ◌≤◌, Bool, true, false, ◌&&◌, ◌==◌, cond, Option, List, [], ◌∷◌, ◌++◌, map, length, length-append, append_assoc, Some, refl, sym, ap, ap₂, ◌∙◌, subst, arith}
 use Rattle.std.proofs.lemmas.Bool.{eq-eqb}
+use Rattle.std.proofs.lemmas.Bool.Decides.{nat_tests}
 use Rattle.std.specs.List.{list_all}
 use Rattle.std.specs.Prelude.{nat_lt, nat_le, slice_get, is_some}
 use Rattle.lc_sexp.specs.Trees.{Trees}
 use Rattle.lc_reading.proofs.Holding.{and_true}
 use Rattle.lc_term.specs.Lists.{Every}
 use Rattle.lc_term.specs.SystemColumns.{column_count}
-use Rattle.lc_term.specs.Updates.{Update}
 use Rattle.lc_action.specs.Action.{Action}
 use Rattle.lc_object.specs.Syntax as O
 use Rattle.lc_object.specs.Syntax.{Point}
@@ -18,21 +18,24 @@ use Rattle.lc_object.specs.declared.instr.EdgeKind.{EdgeKind}
 use Rattle.lc_object.specs.declared.instr.EdgeKind.TheVariants.{Next, Then}
 use Rattle.lc_object_text.proofs.BodiesHold.{IsOperationOf, AreOperationsOf}
 use Rattle.lc_object_text.specs.ObjectNames.{Body, first_text}
-use Rattle.lc_outline.specs.Development.{Development, On, Outline, first_system, same_kind, on_for, ons_in, asserts_in, ons_at, on_at, asserts_at}
-use Rattle.lc_outline.specs.Resolved.{has_some, is_empty, is_below, variables_at, is_matched, are_matched, deed_is_resolved, condition_is_resolved, rider_is_resolved, takes, on_is_resolved, action_is_resolved, edge_is_resolved, asserts_are_resolved, arguments_are_below, arguments_are_resolved}
+use Rattle.lc_outline.specs.Development.{Development, On, Outline, first_system, same_kind, on_for, ons_in, on_at}
+use Rattle.lc_outline.specs.Resolved.{has_some, is_empty, is_matched, are_matched, deed_is_resolved, condition_is_resolved, rider_is_resolved, takes, on_is_resolved, action_is_resolved, edge_is_resolved}
+use Rattle.lc_outline.specs.Scope.{outline_is_scoped, action_is_scoped, column_total, variables_at, outlines_are_scoped}
+use Rattle.lc_outline.specs.Limits.{path_total, on_is_limited, outlines_are_limited}
 use Rattle.lc_rider.specs.Rider.{Deed, Assign, Marks, Rider}
 use Rattle.lc_rider_text.proofs.ActionsKnown.{has_bounds}
-use Rattle.lc_rider_text.proofs.FormulasWithin.{variable_total}
+use Rattle.lc_rider_text.proofs.OnsLimited.{IsOnLimited}
+use Rattle.lc_rider_text.proofs.ReadsScoped.{variable_total}
 use Rattle.lc_rider_text.proofs.RidersKnown.{deed_is_known, rider_is_known, IsOnKnown, mark_leaves}
-use Rattle.lc_rider_text.specs.Counted.{AreBranches}
-use Rattle.lc_rider_text.specs.Known.{Known}
+use Rattle.lc_rider_text.specs.Counted.{Goes, AreBranches}
+use Rattle.lc_rider_text.specs.Known.{Known, Ways}
 use Rattle.lc_seq.specs.Branches.{op_branches}
 use Rattle.lc_seq.specs.Specification as Q
 use Rattle.lc_outline_text.proofs.Needed.{IsMet}
 use Rattle.lc_outline_text.proofs.Outlined.{IsAPoint}
 use Rattle.lc_outline_text.specs.Declarations.{Declarations, known_of, own_ways, parameter_count}
 
--- actions with so many parameters, which store in columns that there are
+-- actions with so many parameters, which speak of what is in scope
 abbrev pub AreActionsOf : Known → List Trees → List Action → Type 0
 AreActionsOf known [] [] = Unit {0}
 AreActionsOf known [] (a ∷ actions) = ⊥
@@ -59,6 +62,9 @@ pub record Fits (d : Declarations) (D : Development) (ps : List (Point × Outlin
 
 pub same_number : (m n : ℕ) → m ≡ n → (m == n) ≡ true
 same_number m n e = eq-eqb m n e
+
+is_few : (k limit : ℕ) → k ≤ limit → nat_le k limit ≡ true
+is_few k limit h = grind (arith, nat_tests)
 
 pub left : (a b : Bool) → (a && b) ≡ true → a ≡ true
 left true b h = refl
@@ -108,7 +114,7 @@ actions_stored known D [] (x ∷ actions) e h = absurd h
 actions_stored known D (t ∷ forms) [] e h = absurd h
 actions_stored known D (t ∷ forms) (x ∷ actions) e h =
     and_true (action_is_resolved D x) (list_all (action_is_resolved D) actions)
-    (subst (λ n. (nat_le (length x.parameters) 3 && list_all (λ (u : Update). nat_lt u.column (column_count n)) x.updates) ≡ true) (sym e) h.0.1)
+    (subst (λ n. (nat_le (length x.parameters) 3 && action_is_scoped (column_count n) x) ≡ true) (sym e) h.0.1)
     (actions_stored known D forms actions e h.1)
 
 pub actions_resolved : (d : Declarations) (D : Development) (ps : List (Point × Outline)) → Fits d D ps → list_all (action_is_resolved D) D.actions ≡ true
@@ -195,55 +201,78 @@ there d D ps before rest k p h e n = record {
 variables : (b : Body) (o : O.Operation) → IsOperationOf b o → variable_total (Some (b.call.arguments ++ b.locals)) ≡ variable_count o
 variables b o h = omega (arith, length-append b.call.arguments b.locals, h.arguments, h.locals)
 
--- what is said at a point
-pub record IsGood (D : Development) (k : ℕ) (p : Point × Outline) : Type 0 where
-  asserts : list_all (is_below (variables_at D.object (slice_get D.object.operations p.0.operation))) (asserts_at D k) ≡ true
-  arguments : list_all (arguments_are_below (variables_at D.object (slice_get D.object.operations p.0.operation))) (ons_at D k) ≡ true
-  edges : list_all (edge_is_resolved D) (edges_at D.object k p.0.instruction) ≡ true
+-- the operation of a point, and its body
+record IsWithin (d : Declarations) (D : Development) (p : Point × Outline) (b : Body) : Type 0 where
+  own : p.0.operation < length d.declared.operations
+  count : variable_total (Some (b.call.arguments ++ b.locals)) ≡ variables_at D.object (slice_get D.object.operations p.0.operation)
 
-good : (d : Declarations) (D : Development) (ps : List (Point × Outline)) (k : ℕ) (p : Point × Outline) → Fits d D ps → IsAPoint d p → IsThere D k p → IsGood D k p
-good d D ps k p h (b, e, g) at =
+within : (d : Declarations) (D : Development) (ps : List (Point × Outline)) (p : Point × Outline) (b : Body) → Fits d D ps → slice_get d.declared.bodies p.0.operation ≡ Some b → IsWithin d D p b
+within d D ps p b h e =
     let (o, f, fit) = found d.declared.bodies D.object.operations p.0.operation b h.operations e in
-    let own : p.0.operation < length d.declared.operations = omega (arith, h.counted, matched_below D.object.operations D.specification.operations p.0.operation o h.matched f) in
-    let count = variable_total (Some (b.call.arguments ++ b.locals)) in
-    let same : count ≡ variables_at D.object (slice_get D.object.operations p.0.operation) = variables b o fit ∙ sym (ap (variables_at D.object) f) in
     record {
-      asserts = subst (λ n. list_all (is_below n) (asserts_at D k) ≡ true) same (subst (λ fs. list_all (is_below count) fs ≡ true) (sym (ap asserts_in at.outline)) g.asserts);
-      arguments = subst (λ n. list_all (arguments_are_below n) (ons_at D k) ≡ true) same (subst (λ ons. list_all (arguments_are_below count) ons ≡ true) (sym (ap ons_in at.outline)) g.arguments);
-      edges = placed_edges d D ps k p.0.operation p.1.ons (edges_at D.object k p.0.instruction) h own g.named (ap operation_in at.code, λ kind. ap (λ x. on_for (ons_in x) kind) at.outline)
-          (edges_of_point D.object k p.0.instruction p.1.ons g.met);
+      own = omega (arith, h.counted, matched_below D.object.operations D.specification.operations p.0.operation o h.matched f);
+      count = variables b o fit ∙ sym (ap (variables_at D.object) f);
     }
+
+edges_good : (d : Declarations) (D : Development) (ps : List (Point × Outline)) (k : ℕ) (p : Point × Outline) → Fits d D ps → IsAPoint d p → IsThere D k p → list_all (edge_is_resolved D) (edges_at D.object k p.0.instruction) ≡ true
+edges_good d D ps k p h (b, e, g) at =
+    placed_edges d D ps k p.0.operation p.1.ons (edges_at D.object k p.0.instruction) h (within d D ps p b h e).own g.named (ap operation_in at.code, λ kind. ap (λ x. on_for (ons_in x) kind) at.outline)
+    (edges_of_point D.object k p.0.instruction p.1.ons g.met)
+
+-- what stands at a point speaks of what is in scope
+outline_good : (d : Declarations) (D : Development) (ps : List (Point × Outline)) (p : Point × Outline) → Fits d D ps → IsAPoint d p
+    → outline_is_scoped (column_total D) (variables_at D.object (slice_get D.object.operations p.0.operation)) p.1 ≡ true
+outline_good d D ps p h (b, e, g) =
+    subst (λ n. outline_is_scoped (column_total D) n p.1 ≡ true) (within d D ps p b h e).count
+    (subst (λ n. outline_is_scoped (column_count n) (variable_total (Some (b.call.arguments ++ b.locals))) p.1 ≡ true) (sym h.columns) g.scoped)
+
+outlines_good : (d : Declarations) (D : Development) (ps rest : List (Point × Outline)) → Fits d D ps → Every (IsAPoint d) rest → outlines_are_scoped D (map (λ p. p.0) rest) (map (λ p. p.1) rest) ≡ true
+outlines_good d D ps [] h g = refl
+outlines_good d D ps (p ∷ rest) h g = and_true _ _ (outline_good d D ps p h g.0) (outlines_good d D ps rest h g.1)
 
 one_behind : (before rest : List (Point × Outline)) (p : Point × Outline) (ps : List (Point × Outline)) → ps ≡ before ++ p ∷ rest → ps ≡ (before ++ p ∷ []) ++ rest
 one_behind before rest p ps e = e ∙ sym (append_assoc before (p ∷ []) rest)
-
-asserts_from : (d : Declarations) (D : Development) (ps before rest : List (Point × Outline)) (k : ℕ) → Fits d D ps → ps ≡ before ++ rest → length before ≡ k → Every (IsAPoint d) rest
-    → asserts_are_resolved D k (map (λ p. p.0) rest) ≡ true
-asserts_from d D ps before [] k h e n g = refl
-asserts_from d D ps before (p ∷ rest) k h e n g =
-    let ok = good d D ps k p h g.0 (there d D ps before rest k p h e n) in
-    and_true _ _ ok.asserts (asserts_from d D ps (before ++ p ∷ []) rest (suc k) h (one_behind before rest p ps e) (omega (arith, n, length-append before (p ∷ []))) g.1)
-
-arguments_from : (d : Declarations) (D : Development) (ps before rest : List (Point × Outline)) (k : ℕ) → Fits d D ps → ps ≡ before ++ rest → length before ≡ k → Every (IsAPoint d) rest
-    → arguments_are_resolved D k (map (λ p. p.0) rest) ≡ true
-arguments_from d D ps before [] k h e n g = refl
-arguments_from d D ps before (p ∷ rest) k h e n g =
-    let ok = good d D ps k p h g.0 (there d D ps before rest k p h e n) in
-    and_true _ _ ok.arguments (arguments_from d D ps (before ++ p ∷ []) rest (suc k) h (one_behind before rest p ps e) (omega (arith, n, length-append before (p ∷ []))) g.1)
 
 edges_resolved_from : (d : Declarations) (D : Development) (ps before rest : List (Point × Outline)) (k : ℕ) → Fits d D ps → ps ≡ before ++ rest → length before ≡ k → Every (IsAPoint d) rest
     → list_all (edge_is_resolved D) (edges_from D.object k (map (λ p. p.0) rest)) ≡ true
 edges_resolved_from d D ps before [] k h e n g = refl
 edges_resolved_from d D ps before (p ∷ rest) k h e n g =
-    let ok = good d D ps k p h g.0 (there d D ps before rest k p h e n) in
-    all_both (edge_is_resolved D) (edges_at D.object k p.0.instruction) (edges_from D.object (suc k) (map (λ p. p.0) rest)) ok.edges
+    all_both (edge_is_resolved D) (edges_at D.object k p.0.instruction) (edges_from D.object (suc k) (map (λ p. p.0) rest)) (edges_good d D ps k p h g.0 (there d D ps before rest k p h e n))
     (edges_resolved_from d D ps (before ++ p ∷ []) rest (suc k) h (one_behind before rest p ps e) (omega (arith, n, length-append before (p ∷ []))) g.1)
 
-pub asserts_resolved : (d : Declarations) (D : Development) (ps : List (Point × Outline)) → Fits d D ps → asserts_are_resolved D 0 D.object.points ≡ true
-asserts_resolved d D ps h = subst (λ qs. asserts_are_resolved D 0 qs ≡ true) (sym h.points) (asserts_from d D ps [] ps 0 h refl refl h.known)
-
-pub arguments_resolved : (d : Declarations) (D : Development) (ps : List (Point × Outline)) → Fits d D ps → arguments_are_resolved D 0 D.object.points ≡ true
-arguments_resolved d D ps h = subst (λ qs. arguments_are_resolved D 0 qs ≡ true) (sym h.points) (arguments_from d D ps [] ps 0 h refl refl h.known)
+pub outlines_scoped : (d : Declarations) (D : Development) (ps : List (Point × Outline)) → Fits d D ps → outlines_are_scoped D D.object.points D.outlines ≡ true
+outlines_scoped d D ps h =
+    subst (λ xs. outlines_are_scoped D D.object.points xs ≡ true) (sym h.outlines) (subst (λ qs. outlines_are_scoped D qs (map (λ p. p.1) ps) ≡ true) (sym h.points) (outlines_good d D ps ps h h.known))
 
 pub edges_resolved : (d : Declarations) (D : Development) (ps : List (Point × Outline)) → Fits d D ps → list_all (edge_is_resolved D) (edges_from D.object 0 D.object.points) ≡ true
 edges_resolved d D ps h = subst (λ qs. list_all (edge_is_resolved D) (edges_from D.object 0 qs) ≡ true) (sym h.points) (edges_resolved_from d D ps [] ps 0 h refl refl h.known)
+
+-- ---- limits
+
+-- what stands at the edges of a point is within its limits
+ons_few : (d : Declarations) (D : Development) (own : Option Ways) (o : ℕ) (ons : List On) → AreBranches (known_of d) D.specification.operations → Goes own (op_branches D.specification.operations o)
+    → Every (IsOnLimited (known_of d) own) ons → list_all (on_is_limited D.specification.operations o) ons ≡ true
+ons_few d D own o [] agree goes h = refl
+ons_few d D own o (x ∷ ons) agree goes h =
+    let riders = x.riders in
+    and_true (on_is_limited D.specification.operations o x) (list_all (on_is_limited D.specification.operations o) ons)
+    (and_true (nat_le (length riders) 6) (nat_le (path_total D.specification.operations o riders) 64) (is_few (length riders) 6 h.0.0)
+    (is_few (path_total D.specification.operations o riders) 64 (h.0.1 D.specification.operations o agree goes)))
+    (ons_few d D own o ons agree goes h.1)
+
+point_few : (d : Declarations) (D : Development) (ps : List (Point × Outline)) (p : Point × Outline) → Fits d D ps → IsAPoint d p → list_all (on_is_limited D.specification.operations p.0.operation) p.1.ons ≡ true
+point_few d D ps p h (b, e, g) =
+    let own : p.0.operation < length d.declared.operations = (within d D ps p b h e).own in
+    ons_few d D (own_ways d p.0.operation) p.0.operation p.1.ons h.goes
+    (subst (λ ways. Goes ways (op_branches D.specification.operations p.0.operation)) (sym (h.own p.0.operation own)) (h.goes p.0.operation (omega (arith, own, h.counted)))) g.limited
+
+outlines_few : (d : Declarations) (D : Development) (ps rest : List (Point × Outline)) → Fits d D ps → Every (IsAPoint d) rest
+    → outlines_are_limited D.specification.operations (map (λ p. p.0) rest) (map (λ p. p.1) rest) ≡ true
+outlines_few d D ps [] h g = refl
+outlines_few d D ps (p ∷ rest) h g = and_true _ _ (point_few d D ps p h g.0) (outlines_few d D ps rest h g.1)
+
+pub outlines_limited : (d : Declarations) (D : Development) (ps : List (Point × Outline)) → Fits d D ps → outlines_are_limited D.specification.operations D.object.points D.outlines ≡ true
+outlines_limited d D ps h =
+    let operations = D.specification.operations in
+    subst (λ xs. outlines_are_limited operations D.object.points xs ≡ true) (sym h.outlines)
+    (subst (λ qs. outlines_are_limited operations qs (map (λ p. p.1) ps) ≡ true) (sym h.points) (outlines_few d D ps ps h h.known))

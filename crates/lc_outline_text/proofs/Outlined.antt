@@ -5,10 +5,11 @@ use Rattle.std.specs.List.{list_all, list_any}
 use Rattle.std.specs.Prelude.{codes, nat_lt, slice_get}
 use Rattle.lc_sexp.specs.TreeCode.{tree_count}
 use Rattle.lc_sexp.specs.Trees.{Tree, Trees, none, ◌▸◌, item_count}
-use Rattle.lc_reading.proofs.Holding.{Holds, anything, both_holds, if_holds, behind_holds, each_holds, and_holds, weaker}
+use Rattle.lc_reading.proofs.Holding.{Holds, anything, both_holds, if_holds, behind_holds, each_holds, and_holds, weaker, and_true}
 use Rattle.lc_reading.specs.Readings.{Reading, fine, flawed, wrong, both}
 use Rattle.lc_reading.specs.declared.pass.Pass.TheVariants.{Shape}
 use Rattle.lc_term.specs.Lists.{Every}
+use Rattle.lc_term.specs.SystemColumns.{column_count}
 use Rattle.lc_text.specs.Formulas.{formula_reading}
 use Rattle.lc_text.specs.Terms.{pair}
 use Rattle.lc_object.specs.Syntax.{Instr, Point}
@@ -20,10 +21,11 @@ use Rattle.lc_object_text.specs.Points.{Beside, is_shaped, point_of, point_name_
 use Rattle.lc_object_text.specs.Rows.{cons, placed_reading}
 use Rattle.lc_object_text.specs.Sections.{forms_in}
 use Rattle.lc_outline.specs.Development.{On, Outline}
-use Rattle.lc_outline.specs.Resolved.{is_below, arguments_are_below}
-use Rattle.lc_rider_text.proofs.FormulasWithin.{variable_total, formula_within}
+use Rattle.lc_outline.specs.Scope.{is_scoped, on_is_scoped, outline_is_scoped}
+use Rattle.lc_rider_text.proofs.BesideScoped.{column_total, ons_scoped}
+use Rattle.lc_rider_text.proofs.OnsLimited.{IsOnLimited, ons_limited}
+use Rattle.lc_rider_text.proofs.ReadsScoped.{variable_total, formula_scoped, beside_in_scope}
 use Rattle.lc_rider_text.proofs.RidersKnown.{IsOnKnown, ons_known}
-use Rattle.lc_rider_text.proofs.TermsWithin.{ons_within}
 use Rattle.lc_rider_text.specs.Known.{Known, Ways}
 use Rattle.lc_rider_text.specs.Ons.{ons_reading}
 use Rattle.lc_rider_text.specs.Scopes.{beside_names}
@@ -37,23 +39,23 @@ use Rattle.lc_outline_text.specs.Points.{formulas_in_reading, outline_of, outlin
 
 -- ---- formulas
 
-pub formulas_below : (word : List ℕ) (columns : List (List ℕ)) (others : Option (List (List ℕ))) (n : ℕ) (t : Tree)
-    → Holds (λ fs. list_all (is_below (variable_total others)) fs ≡ true) (formulas_in_reading word (beside_names columns others) n t)
-formulas_below word columns others n t =
+pub formulas_scoped : (word : List ℕ) (columns : List (List ℕ)) (others : Option (List (List ℕ))) (n : ℕ) (t : Tree)
+    → Holds (λ fs. list_all (is_scoped (column_count (length columns)) (variable_total others)) fs ≡ true) (formulas_in_reading word (beside_names columns others) n t)
+formulas_scoped word columns others n t =
     let names = beside_names columns others in
-    let test = is_below (variable_total others) in
+    let test = is_scoped (column_count (length columns)) (variable_total others) in
     behind_holds (λ fs. list_all test fs ≡ true) word _ n t
-    (λ n m ts. each_holds test (formula_reading names []) (λ n t. weaker _ (λ f. test f ≡ true) (formula_reading names [] n t) (λ f h. h 0) (formula_within columns others n t)) m ts)
+    (λ n m ts. each_holds test (formula_reading names []) (formula_scoped (column_count (length columns)) (variable_total others) names (beside_in_scope columns others)) m ts)
 
 -- ---- a point
 
--- Its operation has this number, its assertions and the arguments at its edges speak of so many variables, what is done at its
--- edges is known, and an edge that stores has an `on`
+-- Its operation has this number, what stands there speaks of so many variables, what is done at its edges is known and within its limits,
+-- and an edge that stores has an `on`
 pub record IsOutlined (known : Known) (own : Option Ways) (v o : ℕ) (p : Point × Outline) : Type 0 where
   pub operation : p.0.operation ≡ o
-  pub asserts : list_all (is_below v) p.1.asserts ≡ true
-  pub arguments : list_all (arguments_are_below v) p.1.ons ≡ true
+  pub scoped : outline_is_scoped (column_total known) v p.1 ≡ true
   pub named : Every (IsOnKnown known own) p.1.ons
+  pub limited : Every (IsOnLimited known own) p.1.ons
   pub met : IsMet p.0.instruction p.1.ons
 
 all_kinds : {X : Type 0} (P : EdgeKind → X → Type 0) (r : Reading X) → ((k : EdgeKind) → Holds (P k) r) → Holds (λ x. (k : EdgeKind) → P k x) r
@@ -61,22 +63,24 @@ all_kinds P (fine x) h = h
 all_kinds P (flawed f) h = tt
 
 abbrev HasOns : Known → Option Ways → Trees → List On → Type 0
-HasOns known own ts ons = Every (IsOnKnown known own) ons × AreFound known.actions (forms_in (codes "on") ts) ons
+HasOns known own ts ons = (Every (IsOnKnown known own) ons × Every (IsOnLimited known own) ons) × AreFound known.actions (forms_in (codes "on") ts) ons
 
 abbrev HasOutline : Known → Option Ways → ℕ → Trees → Outline → Type 0
-HasOutline known own v ts o = (list_all (is_below v) o.asserts ≡ true) × (list_all (arguments_are_below v) o.ons ≡ true) × HasOns known own ts o.ons
+HasOutline known own v ts o = (outline_is_scoped (column_total known) v o ≡ true) × HasOns known own ts o.ons
 
-outline_holds : (known : Known) (columns : List (List ℕ)) (others : Option (List (List ℕ))) (own : Option Ways) (edges : Edges) (i : ℕ) (t : Tree) (m : ℕ) (ts : Trees)
-    → Holds (HasOutline known own (variable_total others) ts) (outline_reading known (beside_names columns others) own edges i t m ts)
-outline_holds known columns others own edges i t m ts =
-    let names = beside_names columns others in
-    let count = variable_total others in
-    both_holds (λ fs. list_all (is_below count) fs ≡ true) (λ ons. (list_all (arguments_are_below count) ons ≡ true) × HasOns known own ts ons) (HasOutline known own count ts) outline_of _ (ons_reading known names own edges m ts)
-    (formulas_below (codes "assert") columns others i t)
-    (and_holds (λ ons. list_all (arguments_are_below count) ons ≡ true) (HasOns known own ts) (ons_reading known names own edges m ts) (ons_within columns others known own edges m ts)
-    (and_holds (Every (IsOnKnown known own)) (AreFound known.actions (forms_in (codes "on") ts)) (ons_reading known names own edges m ts) (ons_known known names own edges m ts)
+outline_holds : (known : Known) (others : Option (List (List ℕ))) (own : Option Ways) (edges : Edges) (i : ℕ) (t : Tree) (m : ℕ) (ts : Trees)
+    → Holds (HasOutline known own (variable_total others) ts) (outline_reading known (beside_names known.columns others) own edges i t m ts)
+outline_holds known others own edges i t m ts =
+    let names = beside_names known.columns others in
+    let formula = is_scoped (column_total known) (variable_total others) in
+    let on = on_is_scoped (column_total known) (variable_total others) in
+    both_holds (λ fs. list_all formula fs ≡ true) (λ ons. (list_all on ons ≡ true) × HasOns known own ts ons) (HasOutline known own (variable_total others) ts) outline_of _ (ons_reading known names own edges m ts)
+    (formulas_scoped (codes "assert") known.columns others i t)
+    (and_holds (λ ons. list_all on ons ≡ true) (HasOns known own ts) (ons_reading known names own edges m ts) (ons_scoped known others own edges m ts)
+    (and_holds (λ ons. Every (IsOnKnown known own) ons × Every (IsOnLimited known own) ons) (AreFound known.actions (forms_in (codes "on") ts)) (ons_reading known names own edges m ts)
+    (and_holds (Every (IsOnKnown known own)) (Every (IsOnLimited known own)) (ons_reading known names own edges m ts) (ons_known known names own edges m ts) (ons_limited known names own edges m ts))
     (all_kinds (λ kind ons. list_any (acts known.actions (edge_word kind)) (forms_in (codes "on") ts) ≡ true → _) (ons_reading known names own edges m ts) (λ kind. on_found known names own edges kind m ts))))
-    (λ fs ons h g. (h, g.0, g.1))
+    (λ fs ons h g. (and_true (list_all formula fs) (list_all on ons) h g.0, g.1))
 
 never : (o : ℕ) (name : Reading (List ℕ)) (f : _) → Holds (λ q. ⊥) (both (point_of o) name (flawed f))
 never o (fine w) f = tt
@@ -86,26 +90,26 @@ of_instruction : (o : ℕ) (name : Reading (List ℕ)) (i : Instr) → Holds (λ
 of_instruction o (fine w) i = (refl, refl)
 of_instruction o (flawed g) i = tt
 
-beside_holds : (known : Known) (columns : List (List ℕ)) (others : Option (List (List ℕ))) (own : Option Ways) (n o : ℕ) (code : Tree) (name : Reading (List ℕ)) (r : Reading Instr) → Holds (IsOfWord (code_word code)) r → (m : ℕ) (ts : Trees)
-    → Holds (IsOutlined known own (variable_total others) o) (beside known (beside_names columns others) own n code (is_shaped r) (both (point_of o) name r) m ts)
-beside_holds known columns others own n o code name r h m none = tt
-beside_holds known columns others own n o code name (flawed f) h m (t ▸ ts) =
+beside_holds : (known : Known) (others : Option (List (List ℕ))) (own : Option Ways) (n o : ℕ) (code : Tree) (name : Reading (List ℕ)) (r : Reading Instr) → Holds (IsOfWord (code_word code)) r → (m : ℕ) (ts : Trees)
+    → Holds (IsOutlined known own (variable_total others) o) (beside known (beside_names known.columns others) own n code (is_shaped r) (both (point_of o) name r) m ts)
+beside_holds known others own n o code name r h m none = tt
+beside_holds known others own n o code name (flawed f) h m (t ▸ ts) =
     let P = IsOutlined known own (variable_total others) o in
     if_holds P _ (wrong Shape n) _ tt (both_holds (λ q. ⊥) (λ x. Unit {0}) P pair (both (point_of o) name (flawed f)) _ (never o name f) (anything _) (λ q x h g. absurd h))
-beside_holds known columns others own n o code name (fine i) h m (t ▸ ts) = by_test (lacks_on known.actions (code_word code) (forms_in (codes "on") ts)) refl where
+beside_holds known others own n o code name (fine i) h m (t ▸ ts) = by_test (lacks_on known.actions (code_word code) (forms_in (codes "on") ts)) refl where
   by_test : (c : Bool) → lacks_on known.actions (code_word code) (forms_in (codes "on") ts) ≡ c
       → Holds (IsOutlined known own (variable_total others) o)
-      (cond c (wrong Shape n) (both pair (both (point_of o) name (fine i)) (outline_reading known (beside_names columns others) own (edges_of (code_word code)) m t (m + item_count t) ts)))
+      (cond c (wrong Shape n) (both pair (both (point_of o) name (fine i)) (outline_reading known (beside_names known.columns others) own (edges_of (code_word code)) m t (m + item_count t) ts)))
   by_test true e = tt
   by_test false e =
       both_holds (λ q. (q.operation ≡ o) × (q.instruction ≡ i)) (HasOutline known own (variable_total others) ts) (IsOutlined known own (variable_total others) o) pair (both (point_of o) name (fine i)) _
-      (of_instruction o name i) (outline_holds known columns others own (edges_of (code_word code)) m t (m + item_count t) ts)
+      (of_instruction o name i) (outline_holds known others own (edges_of (code_word code)) m t (m + item_count t) ts)
       (λ q x g k. record {
         operation = g.0;
-        asserts = k.0;
-        arguments = k.1;
-        named = k.2.0;
-        met = subst (λ j. IsMet j x.ons) (sym g.1) (met known.actions (code_word code) (forms_in (codes "on") ts) x.ons i h e k.2.1);
+        scoped = k.0;
+        named = k.1.0.0;
+        limited = k.1.0.1;
+        met = subst (λ j. IsMet j x.ons) (sym g.1) (met known.actions (code_word code) (forms_in (codes "on") ts) x.ons i h e k.1.1);
       })
 
 -- ---- a body
@@ -123,7 +127,7 @@ parts_outlined d b o i n m (name ▸ none) = tt
 parts_outlined d b o i n m (name ▸ code ▸ ts) =
     let names = code_names d.declared b in
     let own = body_names d.declared b in
-    beside_holds (known_of d) d.declared.columns (Some (b.call.arguments ++ b.locals)) (own_ways d o) n o code (point_name_reading d.declared (b.first + i) n m name) (instruction_reading names own (m + item_count name) code)
+    beside_holds (known_of d) (Some (b.call.arguments ++ b.locals)) (own_ways d o) n o code (point_name_reading d.declared (b.first + i) n m name) (instruction_reading names own (m + item_count name) code)
     (instruction_word names own (m + item_count name) code) (m + item_count name + item_count code) ts
 
 placed_every : {X : Type 0} (P : X → Type 0) (read : ℕ → ℕ → Tree → Reading X) → ((i n : ℕ) (t : Tree) → Holds P (read i n t)) → (i m : ℕ) (ts : Trees) → Holds (Every P) (placed_reading read i m ts)

@@ -19,16 +19,16 @@ use Rattle.lc_object_text.specs.ObjectNames.{auxiliaries_in}
 use Rattle.lc_object_text.specs.Rows.{cons, placed_reading, lists_reading}
 use Rattle.lc_object_text.specs.Objects.{first_reading}
 use Rattle.lc_object_text.specs.Sections.{Sections, parts_in, parts_of_fit, before_others, forms_in, behind_first}
-use Rattle.lc_outline.specs.Resolved.{is_below}
+use Rattle.lc_outline.specs.Scope.{is_scoped}
 use Rattle.lc_rider_text.proofs.ActionsKnown.{has_bounds, action_known}
-use Rattle.lc_rider_text.proofs.FormulasWithin.{conjunct_within}
+use Rattle.lc_rider_text.proofs.BesideScoped.{column_total, conjunct_scoped}
 use Rattle.lc_rider_text.specs.Actions.{action_reading}
 use Rattle.lc_rider_text.specs.Columns.{column_reading}
 use Rattle.lc_rider_text.specs.Conjuncts.{conjunct_reading}
 use Rattle.lc_rider_text.specs.Known.{Known}
 use Rattle.lc_rider_text.specs.Scopes.{beside_names}
 use Rattle.lc_outline_text.proofs.Fitting.{AreActionsOf}
-use Rattle.lc_outline_text.proofs.Outlined.{formulas_below}
+use Rattle.lc_outline_text.proofs.Outlined.{formulas_scoped}
 use Rattle.lc_outline_text.specs.Declarations.{Declarations, known_of, actions_in, parameter_count}
 use Rattle.lc_outline_text.specs.Points.{formulas_in_reading}
 use Rattle.lc_outline_text.specs.Sides.{auxiliaries_reading, actions_reading, invariant_reading, conditions_reading, Sides, sides_of, sides_reading}
@@ -78,36 +78,41 @@ formulas_too test (c ∷ cs) h = by_test (test c.formula) (formulas_too test cs)
   by_test true next h = next h
   by_test false next h = h
 
-invariant_below : (d : Declarations) (n : ℕ) (t : Tree) → Holds (λ cs. list_all (is_below 1) (formulas_of cs) ≡ true) (invariant_reading d n t)
-invariant_below d n t =
-    let test = λ (c : Conjunct). is_below 1 c.formula in
-    weaker (λ cs. list_all test cs ≡ true) (λ cs. list_all (is_below 1) (formulas_of cs) ≡ true) (invariant_reading d n t) (formulas_too (is_below 1))
-    (behind_holds (λ cs. list_all test cs ≡ true) (codes "invariant") _ n t (λ n m ts. each_holds test (conjunct_reading (beside_names d.declared.columns None)) (conjunct_within d.declared.columns) m ts))
+-- what is in scope beside the code, with so many variables
+abbrev pub is_said : Declarations → ℕ → Formula → Bool
+is_said d n f = is_scoped (column_total (known_of d)) n f
 
-abbrev AreConditions : List Conjunct × List Formula → Type 0
-AreConditions p = (list_all (is_below 1) (formulas_of p.0) ≡ true) × (list_all (is_below 2) p.1 ≡ true)
+invariant_scoped : (d : Declarations) (n : ℕ) (t : Tree) → Holds (λ cs. list_all (is_said d 1) (formulas_of cs) ≡ true) (invariant_reading d n t)
+invariant_scoped d n t =
+    let test = λ (c : Conjunct). is_said d 1 c.formula in
+    weaker (λ cs. list_all test cs ≡ true) (λ cs. list_all (is_said d 1) (formulas_of cs) ≡ true) (invariant_reading d n t) (formulas_too (is_said d 1))
+    (behind_holds (λ cs. list_all test cs ≡ true) (codes "invariant") _ n t (λ n m ts. each_holds test (conjunct_reading (beside_names d.declared.columns None)) (conjunct_scoped d.declared.columns) m ts))
 
-conditions_below : (d : Declarations) (n m : ℕ) (ts : Trees) → Holds AreConditions (conditions_reading d n m ts)
-conditions_below d n m none = tt
-conditions_below d n m (t ▸ none) = tt
-conditions_below d n m (t ▸ u ▸ ts) =
-    both_holds (λ cs. list_all (is_below 1) (formulas_of cs) ≡ true) (λ fs. list_all (is_below 2) fs ≡ true) AreConditions pair (invariant_reading d m t) (formulas_in_reading (codes "idle") (beside_names d.declared.columns (Some [])) (m + item_count t) u)
-    (invariant_below d m t) (formulas_below (codes "idle") d.declared.columns (Some []) (m + item_count t) u) (λ cs fs h g. (h, g))
+abbrev AreConditions : Declarations → List Conjunct × List Formula → Type 0
+AreConditions d p = (list_all (is_said d 1) (formulas_of p.0) ≡ true) × (list_all (is_said d 2) p.1 ≡ true)
+
+conditions_scoped : (d : Declarations) (n m : ℕ) (ts : Trees) → Holds (AreConditions d) (conditions_reading d n m ts)
+conditions_scoped d n m none = tt
+conditions_scoped d n m (t ▸ none) = tt
+conditions_scoped d n m (t ▸ u ▸ ts) =
+    both_holds (λ cs. list_all (is_said d 1) (formulas_of cs) ≡ true) (λ fs. list_all (is_said d 2) fs ≡ true) (AreConditions d) pair (invariant_reading d m t)
+    (formulas_in_reading (codes "idle") (beside_names d.declared.columns (Some [])) (m + item_count t) u)
+    (invariant_scoped d m t) (formulas_scoped (codes "idle") d.declared.columns (Some []) (m + item_count t) u) (λ cs fs h g. (h, g))
 
 -- ---- all of it
 
 pub record AreSides (d : Declarations) (s : Sections) (x : Sides) : Type 0 where
   pub auxiliaries : length x.auxiliaries ≡ length (auxiliaries_in s)
   pub actions : AreActionsOf (known_of d) (actions_in s) x.actions
-  pub invariant : list_all (is_below 1) (formulas_of x.conjuncts) ≡ true
-  pub idle : list_all (is_below 2) x.idle ≡ true
+  pub invariant : list_all (is_said d 1) (formulas_of x.conjuncts) ≡ true
+  pub idle : list_all (is_said d 2) x.idle ≡ true
 
 abbrev HaveActions : Declarations → Sections → List Column × List Action → Type 0
 HaveActions d s p = (length p.0 ≡ length (auxiliaries_in s)) × AreActionsOf (known_of d) (actions_in s) p.1
 
 pub sides_hold : (d : Declarations) (s : Sections) (n : ℕ) → Holds (AreSides d s) (sides_reading d s n)
 sides_hold d s n =
-    both_holds (HaveActions d s) AreConditions (AreSides d s) sides_of (actions_reading d s n) (conditions_reading d n s.invariant.number s.invariant.trees)
+    both_holds (HaveActions d s) (AreConditions d) (AreSides d s) sides_of (actions_reading d s n) (conditions_reading d n s.invariant.number s.invariant.trees)
     (both_holds (λ cs. length cs ≡ length (auxiliaries_in s)) (AreActionsOf (known_of d) (actions_in s)) (HaveActions d s) pair _ _
     (auxiliaries_counted d s n s.auxiliaries.number s.auxiliaries.trees refl) (actions_hold (known_of d) 0 (behind_first s.auxiliaries).number (behind_first s.auxiliaries).trees) (λ cs actions h g. (h, g)))
-    (conditions_below d n s.invariant.number s.invariant.trees) (λ p q h g. record { auxiliaries = h.0; actions = h.1; invariant = g.0; idle = g.1 })
+    (conditions_scoped d n s.invariant.number s.invariant.trees) (λ p q h g. record { auxiliaries = h.0; actions = h.1; invariant = g.0; idle = g.1 })

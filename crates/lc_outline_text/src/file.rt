@@ -4,6 +4,7 @@ ghost use Rattle.lc_object_text.specs.Sections.{sections_of};
 ghost use Rattle.lc_object_text.specs.Seen.{sections_seen};
 ghost use Rattle.lc_outline.specs.Development.{start_numbers};
 ghost use Rattle.lc_outline.specs.DevelopmentView.{development_shown};
+ghost use Rattle.lc_outline.specs.Limits.{is_limited};
 ghost use Rattle.lc_outline.specs.PartsView.{parts_shown};
 ghost use Rattle.lc_outline.specs.Resolved.{is_resolved};
 ghost use Rattle.lc_reading.specs.Files.{IsAnswerTo};
@@ -146,6 +147,7 @@ fn read_file(alloc: Global, forms: Cursor<'_>) -> Result<Parts, ReadFault>
     requires start { number_of forms ≡ 0 }
     ensures read { IsFileRead (rest_of forms.entry) result }
     ensures resolved { IfOk result (λ parts. is_resolved (parts_shown parts) ≡ true) }
+    ensures limited { IfOk result (λ parts. is_limited (parts_shown parts) ≡ true) }
     ensures initial { IfOk result (λ parts. numbers_in parts.tie ≡ start_numbers (parts_shown parts)) }
 {
     let sections = find_sections(forms);

@@ -1,76 +1,37 @@
 -- What holds of all actions that are read.
-use Rattle.std.proofs.Common.{◌≡◌, ℕ, suc, ◌+◌, ◌<◌, ◌≤◌, Bool, true, false, ◌&&◌, ◌++◌, List, [], ◌∷◌, Option, Some, None, cond, length, length-append, refl, sym, ap, ◌∙◌, arith}
-use Rattle.std.proofs.lemmas.Bool.{and_from}
+use Rattle.std.proofs.Common.{◌≡◌, ℕ, suc, ◌+◌, ◌<◌, ◌≤◌, Bool, true, false, ◌&&◌, ◌++◌, List, [], ◌∷◌, Some, cond, length, length-append, refl, sym, ap, ◌∙◌, subst, arith}
 use Rattle.std.proofs.lemmas.Bool.Decides.{nat_tests}
 use Rattle.std.specs.List.{list_all, list_any}
-use Rattle.std.specs.Prelude.{◌||◌, nat_lt, nat_le, codes}
+use Rattle.std.specs.Prelude.{◌||◌, nat_le, codes}
 use Rattle.lc_base.specs.NameText.{is_name}
 use Rattle.lc_sexp.specs.Parts.{fits, misshapen}
 use Rattle.lc_sexp.specs.TreeCode.{tree_count}
 use Rattle.lc_sexp.specs.Trees.{Tree, Trees, atom, list, none, ◌▸◌, item_count}
 use Rattle.lc_action.specs.Action.{Action}
-use Rattle.lc_reading.proofs.Holding.{Holds, anything, weaker, and_holds, mapped_holds, both_holds, three_holds, ended_holds, limited_holds, if_holds, listed_holds, each_holds}
-use Rattle.lc_reading.specs.Listed.{place_of, declared_by}
-use Rattle.lc_reading.specs.Naming.{within, declaration_reading, name_reading}
-use Rattle.lc_reading.specs.Readings.{fine, wrong, mapped}
-use Rattle.lc_reading.specs.Reserved.{is_reserved}
-use Rattle.lc_reading.specs.Rows.{declared_reading}
-use Rattle.lc_reading.specs.Words.{is, is_long}
-use Rattle.lc_reading.specs.declared.pass.Pass.TheVariants.{Shape, Repeated, Bound}
-use Rattle.lc_term.specs.Syntax.{Term, Formula}
-use Rattle.lc_term.specs.SystemColumns.{column_count, system_columns}
-use Rattle.lc_term.specs.Updates.{Update}
-use Rattle.lc_text.specs.Formulas.{formula_reading}
-use Rattle.lc_text.specs.Names.{Names}
-use Rattle.lc_text.specs.Terms.{pair, triple, term_reading}
 use Rattle.lc_object_text.specs.Declaring.{kth_name_reading}
 use Rattle.lc_object_text.specs.ObjectNames.{items_within, later, within_first}
 use Rattle.lc_object_text.specs.Sections.{parts_in, parts_of_fit}
-use Rattle.lc_reading.proofs.Places.{place_below}
-use Rattle.lc_rider_text.specs.Actions.{parameters_reading, parameters_in, the_action, action_parts_reading, headed_action_reading, action_reading}
+use Rattle.lc_outline.specs.Scope.{is_scoped, action_is_scoped}
+use Rattle.lc_reading.proofs.Holding.{Holds, anything, weaker, and_holds, mapped_holds, both_holds, limited_holds, if_holds, listed_holds, each_holds, declared_counts, and_true}
+use Rattle.lc_reading.specs.Listed.{declared_by}
+use Rattle.lc_reading.specs.Naming.{within, declaration_reading, name_reading}
+use Rattle.lc_reading.specs.Readings.{fine, wrong, mapped}
+use Rattle.lc_reading.specs.Reserved.{is_reserved}
+use Rattle.lc_reading.specs.Rows.{each_reading, all_declared, declared_reading}
+use Rattle.lc_reading.specs.Words.{is, is_long}
+use Rattle.lc_reading.specs.declared.pass.Pass.TheVariants.{Shape, Repeated, Bound}
+use Rattle.lc_seq.specs.Specification.{update_is_resolved}
+use Rattle.lc_term.specs.Syntax.{Formula}
+use Rattle.lc_term.specs.Updates.{Update}
+use Rattle.lc_text.specs.Formulas.{formula_reading}
+use Rattle.lc_text.specs.Terms.{pair}
+use Rattle.lc_rider_text.proofs.BesideScoped.{column_total, update_scoped}
+use Rattle.lc_rider_text.proofs.ReadsScoped.{variable_total, formula_scoped, beside_in_scope}
+use Rattle.lc_rider_text.specs.Actions.{parameters_reading, parameters_in, effect_reading, the_action, action_parts_reading, headed_action_reading, action_reading}
 use Rattle.lc_rider_text.specs.Known.{Known}
-use Rattle.lc_rider_text.specs.Scopes.{beside_names, column_place, place_or}
-use Rattle.lc_rider_text.specs.Updates.{stored, stored_reading, the_update, update_reading, listed_update_reading}
+use Rattle.lc_rider_text.specs.Scopes.{beside_names}
+use Rattle.lc_rider_text.specs.Updates.{update_reading, listed_update_reading}
 use Rattle.lc_rider_text.specs.declared.update.Stores.TheVariants.{InAll}
-
--- a column that is stored in is one that there is
-abbrev pub stores_below : Known → Update → Bool
-stores_below d u = nat_lt u.column (column_count (length d.columns))
-
-below_test : (k n : ℕ) → k < n → nat_lt k n ≡ true
-below_test k n h = grind (arith, nat_tests)
-
-or_below : (n k : ℕ) (o p : Option ℕ) → ((j : ℕ) → o ≡ Some j → j < n) → ((j : ℕ) → p ≡ Some j → j < 12) → place_or n o p ≡ Some k → k < 12 + n
-or_below n k (Some j) p h g e = let same : j ≡ k = cc in omega (arith, same, h j refl)
-or_below n k None (Some j) h g e = let same : n + j ≡ k = cc in omega (arith, same, g j refl)
-or_below n k None None h g e = absurd (cc)
-
-column_below : (columns : List (List ℕ)) (w : List ℕ) (k : ℕ) → column_place columns w ≡ Some k → k < column_count (length columns)
-column_below columns w k e = or_below (length columns) k (place_of columns w) (place_of system_columns w) (λ j h. place_below columns w j h) (λ j h. place_below system_columns w j h) e
-
-stored_below : (d : Known) (n : ℕ) (w : List ℕ) (o : Option ℕ) → column_place d.columns w ≡ o → Holds (λ k. nat_lt k (column_count (length d.columns)) ≡ true) (stored InAll d n w o)
-stored_below d n w None e = tt
-stored_below d n w (Some k) e =
-    if_holds (λ k. nat_lt k (column_count (length d.columns)) ≡ true) (is_long w) (wrong Bound n) (fine k) tt (below_test k (column_count (length d.columns)) (column_below d.columns w k e))
-
-store_below : (d : Known) (n : ℕ) (t : Tree) → Holds (λ k. nat_lt k (column_count (length d.columns)) ≡ true) (stored_reading InAll d n t)
-store_below d n (atom w) =
-    if_holds (λ k. nat_lt k (column_count (length d.columns)) ≡ true) (is_name w) _ (wrong Shape n) (stored_below d n w (column_place d.columns w) refl) tt
-store_below d n (list ts) = tt
-
-update_below : (d : Known) (names : Names) (n m : ℕ) (ts : Trees) → Holds (λ u. stores_below d u ≡ true) (update_reading InAll d names n m ts)
-update_below d names n m none = tt
-update_below d names n m (t ▸ none) = tt
-update_below d names n m (t ▸ u ▸ none) = tt
-update_below d names n m (t ▸ u ▸ v ▸ ts) =
-    mapped_holds (λ (p : (ℕ × Term) × Term). nat_lt p.0.0 (column_count (length d.columns)) ≡ true) (λ u. stores_below d u ≡ true) the_update _
-    (ended_holds (λ (p : (ℕ × Term) × Term). nat_lt p.0.0 (column_count (length d.columns)) ≡ true) _ ts _
-    (three_holds (λ k. nat_lt k (column_count (length d.columns)) ≡ true) (λ t. Unit {0}) (λ t. Unit {0}) (λ (p : (ℕ × Term) × Term). nat_lt p.0.0 (column_count (length d.columns)) ≡ true) triple _ _ _
-    (store_below d m t) (anything (term_reading names [] (m + item_count t) u)) (anything (term_reading names [] (m + item_count t + item_count u) v)) (λ x y z h g i. h)))
-    (λ p h. h)
-
-listed_below : (d : Known) (names : Names) (n : ℕ) (t : Tree) → Holds (λ u. stores_below d u ≡ true) (listed_update_reading d names n t)
-listed_below d names n t = listed_holds (λ u. stores_below d u ≡ true) (update_reading InAll d names) n t (update_below d names)
 
 -- there are as many names as items in their list
 names_counted : (before : List (List ℕ)) (m : ℕ) (ts : Trees) → Holds (λ ws. length ws ≡ tree_count ts) (declared_reading (name_reading (Some 3)) declared_by before m ts)
@@ -117,38 +78,62 @@ names_few before m (atom w ▸ ts) =
 few_at_most : (ws : List (List ℕ)) → AreFew [] ws → nat_le (length ws) 3 ≡ true
 few_at_most ws h = let all = h (omega arith) in three_at_most (length ws) (omega (arith, all))
 
+-- and as many as its list declares
+one_name : (before : List (List ℕ)) (n : ℕ) (t : Tree) → Holds (λ w. length (declared_by t) ≡ 1) (name_reading (Some 3) before n t)
+one_name before n (atom w) = weaker (λ v. Unit {0}) (λ v. length (declared_by (atom w)) ≡ 1) (name_reading (Some 3) before n (atom w)) (λ v h. refl) (anything (name_reading (Some 3) before n (atom w)))
+one_name before n (list ts) = tt
+
 abbrev AreParameters : Tree → List (List ℕ) → Type 0
-AreParameters t ws = (length ws ≡ tree_count (items_within t)) × (nat_le (length ws) 3 ≡ true)
+AreParameters t ws = (length ws ≡ tree_count (items_within t)) × (nat_le (length ws) 3 ≡ true) × (length ws ≡ length (parameters_in t))
 
 parameters_counted : (n : ℕ) (t : Tree) → Holds (AreParameters t) (parameters_reading n t)
 parameters_counted n (atom w) = tt
 parameters_counted n (list ts) =
-    and_holds (λ ws. length ws ≡ tree_count ts) (λ ws. nat_le (length ws) 3 ≡ true) (declared_reading (name_reading (Some 3)) declared_by [] (n + 1) ts) (names_counted [] (n + 1) ts)
-    (weaker (AreFew []) (λ ws. nat_le (length ws) 3 ≡ true) (declared_reading (name_reading (Some 3)) declared_by [] (n + 1) ts) few_at_most (names_few [] (n + 1) ts))
+    let names = declared_reading (name_reading (Some 3)) declared_by [] (n + 1) ts in
+    let Few : List (List ℕ) → Type 0 = λ ws. nat_le (length ws) 3 ≡ true in
+    let AreDeclared : List (List ℕ) → Type 0 = λ ws. length ws ≡ length (all_declared declared_by ts) in
+    weaker (λ ws. (length ws ≡ tree_count ts) × (Few ws × AreDeclared ws)) (AreParameters (list ts)) names (λ ws h. (h.0, h.1.0, h.1.1))
+    (and_holds (λ ws. length ws ≡ tree_count ts) (λ ws. Few ws × AreDeclared ws) names (names_counted [] (n + 1) ts)
+    (and_holds Few AreDeclared names (weaker (AreFew []) Few names few_at_most (names_few [] (n + 1) ts)) (declared_counts (name_reading (Some 3)) declared_by one_name [] (n + 1) ts)))
 
--- an action has three parameters at most, and stores in columns that there are
+-- an action has three parameters at most, and speaks of what is in scope
 abbrev pub has_bounds : Known → Action → Bool
-has_bounds d a = nat_le (length a.parameters) 3 && list_all (stores_below d) a.updates
+has_bounds d a = nat_le (length a.parameters) 3 && action_is_scoped (column_total d) a
 
--- the parts of an action: as many parameters as are listed behind its name, three at most, and stores in columns that there are
+-- the guard and the updates of an action of so many variables
+abbrev IsEffect : Known → ℕ → Formula × List Update → Type 0
+IsEffect d n p = (is_scoped (column_total d) n p.0 && list_all (update_is_resolved (column_total d) n) p.1) ≡ true
+
+-- the parts of an action: as many parameters as are listed behind its name, three at most, and what is in scope with them
 abbrev IsMade : Known → Trees → (List ℕ × List (List ℕ)) × (Formula × List Update) → Type 0
-IsMade d ts p = (length p.0.1 ≡ tree_count (within_first (later ts))) × ((nat_le (length p.0.1) 3 && list_all (stores_below d) p.1.1) ≡ true)
+IsMade d ts p = (length p.0.1 ≡ tree_count (within_first (later ts))) × (has_bounds d (the_action p) ≡ true)
+
+effect_scoped : (d : Known) (u : Tree) (m : ℕ) (f : Tree) (n : ℕ) (us : Trees)
+    → Holds (IsEffect d (variable_total (Some (parameters_in u)))) (effect_reading d (beside_names d.columns (Some (parameters_in u))) m f n us)
+effect_scoped d u m f n us =
+    let names = beside_names d.columns (Some (parameters_in u)) in
+    let count = variable_total (Some (parameters_in u)) in
+    let all = beside_in_scope d.columns (Some (parameters_in u)) in
+    let test = update_is_resolved (column_total d) count in
+    both_holds (λ f. is_scoped (column_total d) count f ≡ true) (λ us. list_all test us ≡ true) (IsEffect d count) pair (formula_reading names [] m f) (each_reading (listed_update_reading d names) n us)
+    (formula_scoped (column_total d) count names all m f)
+    (each_holds test (listed_update_reading d names) (λ n t. listed_holds (λ u. test u ≡ true) (update_reading InAll d names) n t (update_scoped InAll d count names all)) n us)
+    (λ f us h g. and_true (is_scoped (column_total d) count f) (list_all test us) h g)
 
 parts_made : (d : Known) (i n m : ℕ) (ts : Trees) → Holds (IsMade d ts) (action_parts_reading d i n m ts)
 parts_made d i n m none = tt
 parts_made d i n m (t ▸ none) = tt
 parts_made d i n m (t ▸ u ▸ none) = tt
 parts_made d i n m (t ▸ u ▸ f ▸ us) =
-    let names = beside_names d.columns (Some (parameters_in u)) in
-    both_holds (λ (p : List ℕ × List (List ℕ)). AreParameters u p.1) (λ (p : Formula × List Update). list_all (stores_below d) p.1 ≡ true) (IsMade d (t ▸ u ▸ f ▸ us)) pair _ _
+    both_holds (λ (p : List ℕ × List (List ℕ)). AreParameters u p.1) (IsEffect d (variable_total (Some (parameters_in u)))) (IsMade d (t ▸ u ▸ f ▸ us)) pair _ _
     (both_holds (λ w. Unit {0}) (AreParameters u) (λ (p : List ℕ × List (List ℕ)). AreParameters u p.1) pair _ _
     (anything (kth_name_reading d.actions i m t)) (parameters_counted (m + item_count t) u) (λ w ws h g. g))
-    (both_holds (λ g. Unit {0}) (λ us. list_all (stores_below d) us ≡ true) (λ (p : Formula × List Update). list_all (stores_below d) p.1 ≡ true) pair _ _
-    (anything (formula_reading names [] (m + item_count t + item_count u) f))
-    (each_holds (stores_below d) (listed_update_reading d names) (listed_below d names) (m + item_count t + item_count u + item_count f) us) (λ g us h k. k))
-    (λ p q h g. (h.0, and_from (nat_le (length p.1) 3) (list_all (stores_below d) q.1) h.1 g))
+    (effect_scoped d u (m + item_count t + item_count u) f (m + item_count t + item_count u + item_count f) us)
+    (λ p q h g.
+    let same : variable_total (Some (parameters_in u)) ≡ 2 + length p.1 = omega (arith, h.2) in
+    (h.0, and_true (nat_le (length p.1) 3) (action_is_scoped (column_total d) (the_action (p, q))) h.1 (subst (λ n. IsEffect d n q) same g)))
 
--- An action has as many parameters as are listed behind its name, three at most, and stores in columns that there are
+-- An action has as many parameters as are listed behind its name, three at most, and speaks of what is in scope
 abbrev pub IsActionKnown : Known → Tree → Action → Type 0
 IsActionKnown d t a = (length a.parameters ≡ tree_count (within_first (later (parts_in (codes "action") t)))) × (has_bounds d a ≡ true)
 

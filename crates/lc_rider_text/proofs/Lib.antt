@@ -1,9 +1,10 @@
 pub mod ActionsKnown
+pub mod BesideScoped
 pub mod Capped
 pub mod ChoicesKnown
-pub mod FormulasWithin
 pub mod Ground
+pub mod OnsLimited
 pub mod Parts
 pub mod PathsCounted
+pub mod ReadsScoped
 pub mod RidersKnown
-pub mod TermsWithin

@@ -1,20 +1,17 @@
 -- The paths of riders are as many as their texts say.
 use Rattle.std.proofs.Common.{◌≡◌, ℕ, suc, ◌+◌, ◌*◌, Bool, true, false, cond, List, [], ◌∷◌, ◌++◌, map, Option, Some, None, length, length-append, refl, sym, ap, ap₂, ◌∙◌, subst, arith}
-use Rattle.std.proofs.Math.Nat.{suc-mul}
 use Rattle.std.specs.Prelude.{codes, slice_get}
 use Rattle.lc_sexp.specs.Trees.{Tree, Trees, atom, list, none, ◌▸◌, item_count}
 use Rattle.lc_reading.proofs.Holding.{Holds, held, anything, mapped_holds, both_holds, ended_holds, limited_holds}
 use Rattle.lc_reading.specs.Readings.{mapped}
 use Rattle.lc_reading.specs.Words.{is}
-use Rattle.lc_rider.specs.Paths.{Path, with_fact, branch_variables, branch_paths, owing, choice_paths, marked_client, deed_paths, deed_paths_where, rider_paths, paths, marked_op}
-use Rattle.lc_rider.specs.Rider.{Marking, Deed, Assign, Marks, Rider, Own, Note}
-use Rattle.lc_seq.specs.Branches.{op_branches, arity}
-use Rattle.lc_seq.specs.Sequential.{given_in}
-use Rattle.lc_seq.specs.Specification.{Branch, Operation, chosen}
-use Rattle.lc_term.specs.Lists.{concat_map}
-use Rattle.lc_term.specs.Replacement.{replacing, replace_term}
-use Rattle.lc_term.specs.Said.{told, term_at}
-use Rattle.lc_term.specs.Syntax.{Term, Formula, Not}
+use Rattle.lc_outline.proofs.PathTotal.{paths_total}
+use Rattle.lc_outline.specs.Limits as D
+use Rattle.lc_outline.specs.Limits.{path_total}
+use Rattle.lc_rider.specs.Rider.{Deed, Assign, Marks, Rider, Own, Note}
+use Rattle.lc_seq.specs.Branches.{op_branches}
+use Rattle.lc_seq.specs.Specification.{Operation}
+use Rattle.lc_term.specs.Syntax.{Term, Formula}
 use Rattle.lc_text.specs.Formulas.{formula_reading}
 use Rattle.lc_text.specs.Names.{Names}
 use Rattle.lc_text.specs.Terms.{pair}
@@ -32,68 +29,11 @@ use Rattle.lc_rider_text.specs.declared.update.Stores.TheVariants.{InAuxiliary}
 use Rattle.lc_rider_text.specs.declared.words.Head.{Head}
 use Rattle.lc_rider_text.specs.declared.words.Head.TheVariants as H
 
--- ---- by the riders
-
--- in how many ways a rider is passed in the body of o
-abbrev deed_count : List Operation → ℕ → Deed → ℕ
-deed_count operations o (Assign u) = 1
-deed_count operations o (Marks k by) = length (chosen by (op_branches operations (marked_op o k)))
-
-abbrev count_where : Option Formula → ℕ → ℕ
-count_where None k = k
-count_where (Some f) k = 1 + k
-
-abbrev rider_count : List Operation → ℕ → Rider → ℕ
-rider_count operations o r = count_where r.condition (deed_count operations o r.deed)
-
-abbrev all_counts : List Operation → ℕ → List Rider → ℕ
-all_counts operations o [] = 1
-all_counts operations o (r ∷ rs) = rider_count operations o r * all_counts operations o rs
-
-concat_length : {A B : Type 0} (f : A → List B) (c : ℕ) → ((x : A) → length (f x) ≡ c) → (xs : List A) → length (concat_map f xs) ≡ length xs * c
-concat_length f c h [] = omega arith
-concat_length f c h (x ∷ xs) =
-    let rest : length (concat_map f xs) ≡ length xs * c = concat_length f c h xs in
-    let all : length (f x ++ concat_map f xs) ≡ length (f x) + length (concat_map f xs) = length-append (f x) (concat_map f xs) in
-    let sum : length (f x) + length (concat_map f xs) ≡ length xs * c + c = omega (arith, h x, rest) in
-    all ∙ sum ∙ sym (suc-mul (length xs) c)
-
-branches_counted : (operations : List Operation) (first n : ℕ) (k : Marking) (τ : List Term) (bs : List Branch) (p : Path) → length (branch_paths operations first n k τ bs p) ≡ length bs
-branches_counted operations first n k τ [] p = refl
-branches_counted operations first n k τ (b ∷ bs) p = ap suc (branches_counted operations first n k τ bs _)
-
-choices_counted : (operations : List Operation) (first n o : ℕ) (k : Marking) (c : Term) (ts : List Term) (bs : List Branch) (p : Path) → length (choice_paths operations first n o k c ts bs p) ≡ length bs
-choices_counted operations first n o k c ts bs p =
-    let τ = branch_variables p.columns first (arity operations o) c ts in
-    branches_counted operations first n k τ bs (owing operations first n k c τ bs p)
-
-deed_counted : (operations : List Operation) (first n o : ℕ) (variables : List Term) (d : Deed) (p : Path) → length (deed_paths operations first n o variables d p) ≡ deed_count operations o d
-deed_counted operations first n o variables (Assign u) p = refl
-deed_counted operations first n o variables (Marks k by) p =
-    let said = replace_term (replacing p.columns (term_at variables)) in
-    choices_counted operations first n (marked_op o k) k (said (marked_client k)) (map said (given_in by)) (chosen by (op_branches operations (marked_op o k))) p
-
-one_more : {A : Type 0} (xs : List A) (x : A) (k : ℕ) → length xs ≡ k → length (xs ++ x ∷ []) ≡ 1 + k
-one_more xs x k h = omega (arith, length-append xs (x ∷ []), h)
-
-where_counted : (operations : List Operation) (first n o : ℕ) (variables : List Term) (c : Option Formula) (d : Deed) (p : Path)
-    → length (deed_paths_where operations first c n o variables d p) ≡ count_where c (deed_count operations o d)
-where_counted operations first n o variables None d p = deed_counted operations first n o variables d p
-where_counted operations first n o variables (Some f) d p =
-    let q = with_fact p (told p.columns variables f) in
-    one_more (deed_paths operations first n o variables d q) (with_fact p (Not (told p.columns variables f))) (deed_count operations o d) (deed_counted operations first n o variables d q)
-
-paths_counted : (operations : List Operation) (first n o : ℕ) (variables : List Term) (rs : List Rider) (p : Path) → length (paths operations first n o variables rs p) ≡ all_counts operations o rs
-paths_counted operations first n o variables [] p = refl
-paths_counted operations first n o variables (r ∷ rs) p =
-    concat_length (paths operations first (suc n) o variables rs) (all_counts operations o rs) (paths_counted operations first (suc n) o variables rs) (rider_paths operations first n o variables r p)
-    ∙ ap (λ k. k * all_counts operations o rs) (where_counted operations first n o variables r.condition r.deed p)
-
 -- ---- by their texts
 
 -- what is read is done in as many ways as its text says
 abbrev IsCounted : List Operation → ℕ → ℕ → Deed → Type 0
-IsCounted operations o ways x = deed_count operations o x ≡ ways
+IsCounted operations o ways x = D.deed_ways operations o x ≡ ways
 
 -- how the operation that is named goes
 named_goes : (d : Known) (operations : List Operation) → AreBranches d operations → (u : Tree) (p : Term × ℕ) → IsOther d u p → Goes (ways_named d u) (op_branches operations p.1)
@@ -123,9 +63,9 @@ lin_other_by_counted d operations agree o names n m (t ▸ u ▸ ts) =
     (λ p by h g. by_name_counted (ways_named d u) (op_branches operations p.1) (named_goes d operations agree u p h) by g)
 
 -- The body is that of the operation o, and it is known how it goes
-record IsWithin (d : Known) (operations : List Operation) (own : Option Ways) (o : ℕ) : Type 0 where
-  others : AreBranches d operations
-  itself : Goes own (op_branches operations o)
+pub record IsWithin (d : Known) (operations : List Operation) (own : Option Ways) (o : ℕ) : Type 0 where
+  pub others : AreBranches d operations
+  pub itself : Goes own (op_branches operations o)
 
 headed_counted : (d : Known) (operations : List Operation) (own : Option Ways) (o : ℕ) → IsWithin d operations own o → (names : Names) (h : Head) (n m : ℕ) (ts : Trees)
     → Holds (IsCounted operations o (ways_with d own ts (Some h))) (headed_reading d names own h n m ts)
@@ -157,42 +97,42 @@ read_deed_counted d operations own o w names n (list (list us ▸ ts)) = tt
 read_deed_counted d operations own o w names n (list (atom a ▸ ts)) = begun_counted d operations own o w names n (n + 2) ts (head_of a)
 
 when_counted : (d : Known) (operations : List Operation) (own : Option Ways) (o : ℕ) → IsWithin d operations own o → (names : Names) (n m : ℕ) (ts : Trees)
-    → Holds (λ (p : Formula × Deed). 1 + deed_count operations o p.1 ≡ when_ways d own ts) (when_reading d names own n m ts)
+    → Holds (λ (p : Formula × Deed). 1 + D.deed_ways operations o p.1 ≡ when_ways d own ts) (when_reading d names own n m ts)
 when_counted d operations own o w names n m none = tt
 when_counted d operations own o w names n m (t ▸ none) = tt
 when_counted d operations own o w names n m (t ▸ u ▸ ts) =
     let ways = deed_ways d own u in
-    ended_holds (λ (p : Formula × Deed). 1 + deed_count operations o p.1 ≡ 1 + ways) _ ts _
-    (both_holds (λ f. Unit {0}) (IsCounted operations o ways) (λ (p : Formula × Deed). 1 + deed_count operations o p.1 ≡ 1 + ways) pair _ _
+    ended_holds (λ (p : Formula × Deed). 1 + D.deed_ways operations o p.1 ≡ 1 + ways) _ ts _
+    (both_holds (λ f. Unit {0}) (IsCounted operations o ways) (λ (p : Formula × Deed). 1 + D.deed_ways operations o p.1 ≡ 1 + ways) pair _ _
     (anything (formula_reading (quiet names) [] m t)) (read_deed_counted d operations own o w names (m + item_count t) u) (λ f x h g. ap (λ k. 1 + k) g))
 
 rider_counted : (d : Known) (operations : List Operation) (own : Option Ways) (o : ℕ) → IsWithin d operations own o → (names : Names) (n : ℕ) (t : Tree)
-    → Holds (λ r. rider_count operations o r ≡ rider_ways d own t) (rider_reading d names own n t)
+    → Holds (λ r. D.rider_ways operations o r ≡ rider_ways d own t) (rider_reading d names own n t)
 rider_counted d operations own o w names n (atom a) = tt
 rider_counted d operations own o w names n (list none) = tt
 rider_counted d operations own o w names n (list (list us ▸ ts)) = tt
 rider_counted d operations own o w names n (list (atom a ▸ ts)) = by_word (is a (codes "when")) where
-  by_word : (b : Bool) → Holds (λ r. rider_count operations o r ≡ cond b (when_ways d own ts) (ways_with d own ts (head_of a)))
+  by_word : (b : Bool) → Holds (λ r. D.rider_ways operations o r ≡ cond b (when_ways d own ts) (ways_with d own ts (head_of a)))
       (cond b (mapped where_holds (when_reading d names own n (n + 2) ts)) (mapped always (deed_with d names own n (n + 2) ts (head_of a))))
   by_word true =
-      mapped_holds (λ (p : Formula × Deed). 1 + deed_count operations o p.1 ≡ when_ways d own ts) (λ r. rider_count operations o r ≡ when_ways d own ts)
+      mapped_holds (λ (p : Formula × Deed). 1 + D.deed_ways operations o p.1 ≡ when_ways d own ts) (λ r. D.rider_ways operations o r ≡ when_ways d own ts)
       where_holds _ (when_counted d operations own o w names n (n + 2) ts) (λ p e. e)
   by_word false =
-      mapped_holds (IsCounted operations o (ways_with d own ts (head_of a))) (λ r. rider_count operations o r ≡ ways_with d own ts (head_of a))
+      mapped_holds (IsCounted operations o (ways_with d own ts (head_of a))) (λ r. D.rider_ways operations o r ≡ ways_with d own ts (head_of a))
       always _ (begun_counted d operations own o w names n (n + 2) ts (head_of a)) (λ x e. e)
 
-row_counted : (d : Known) (operations : List Operation) (own : Option Ways) (o : ℕ) → IsWithin d operations own o → (names : Names) (i m : ℕ) (ts : Trees)
-    → Holds (λ rs. all_counts operations o rs ≡ path_count d own ts) (placed_reading (ith_rider_reading d names own) i m ts)
+pub row_counted : (d : Known) (operations : List Operation) (own : Option Ways) (o : ℕ) → IsWithin d operations own o → (names : Names) (i m : ℕ) (ts : Trees)
+    → Holds (λ rs. path_total operations o rs ≡ path_count d own ts) (placed_reading (ith_rider_reading d names own) i m ts)
 row_counted d operations own o w names i m none = refl
 row_counted d operations own o w names i m (t ▸ ts) =
-    both_holds (λ r. rider_count operations o r ≡ rider_ways d own t) (λ rs. all_counts operations o rs ≡ path_count d own ts)
-    (λ rs. all_counts operations o rs ≡ rider_ways d own t * path_count d own ts) cons _ _
-    (limited_holds (λ r. rider_count operations o r ≡ rider_ways d own t) _ m _ (rider_counted d operations own o w names m t))
+    both_holds (λ r. D.rider_ways operations o r ≡ rider_ways d own t) (λ rs. path_total operations o rs ≡ path_count d own ts)
+    (λ rs. path_total operations o rs ≡ rider_ways d own t * path_count d own ts) cons _ _
+    (limited_holds (λ r. D.rider_ways operations o r ≡ rider_ways d own t) _ m _ (rider_counted d operations own o w names m t))
     (row_counted d operations own o w names (i + 1) (m + item_count t) ts) (λ r rs h g. ap₂ (λ a b. a * b) h g)
 
 pub riders_counted : PathsAreCounted
 riders_counted d operations agree o below names m ts riders read first n variables p =
     let own = slice_get d.ways o in
-    paths_counted operations first n o variables riders p
-    ∙ held (λ rs. all_counts operations o rs ≡ path_count d own ts) (riders_reading d names own m ts) riders
+    paths_total operations first n o variables riders p
+    ∙ held (λ rs. path_total operations o rs ≡ path_count d own ts) (riders_reading d names own m ts) riders
     (row_counted d operations own o (record { others = agree; itself = agree o below }) names 0 m ts) read

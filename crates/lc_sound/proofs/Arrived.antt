@@ -20,8 +20,8 @@ use Rattle.lc_term.specs.Lists.{Every}
 use Rattle.lc_term.specs.SystemColumns.{column_count}
 use Rattle.lc_rider.specs.Rider.{Mark, RideAll, return_writes}
 use Rattle.lc_action.specs.Action.{Action, skip, leave, enter, Acts}
-use Rattle.lc_outline.specs.Development.{invariant_of, Development, On, first_system, riders_in}
-use Rattle.lc_cond.specs.Conditions.{at_end, asserts_to, action_conditions, on_conditions, body_frame}
+use Rattle.lc_outline.specs.Development.{invariant_of, Development, On, first_system, riders_in, asserts_to}
+use Rattle.lc_cond.specs.Conditions.{at_end, action_conditions, on_conditions, body_frame}
 use Rattle.lc_outline.specs.Resolved.{IsOnResolved, IsRiderResolved}
 use Rattle.lc_sound.specs.Claims.{IsProven, IsClientGood, IsGood, own}
 use Rattle.lc_sound.specs.Valid.{IsValid}

@@ -14,9 +14,9 @@ use Rattle.lc_term.specs.Lists.{Every}
 use Rattle.lc_term.specs.Said.{told}
 use Rattle.lc_term.specs.SystemColumns.{pend, rep_columns, noted, note_columns}
 use Rattle.lc_rider.specs.Rider.{Mark, RideAll, IsJustified, return_writes}
-use Rattle.lc_outline.specs.Development.{invariant_of, Development, first_system, riders_in}
+use Rattle.lc_outline.specs.Development.{invariant_of, Development, first_system, riders_in, asserts_to}
 use Rattle.lc_rider.specs.Paths.{Path, path_start}
-use Rattle.lc_cond.specs.Conditions.{Head, conditions_from, conditions_of, on_path, alone_on_path, duty_condition, Reply, Invariant, NextKind, hold_terms, justified, at_end, asserts_to, reply_goals, on_conditions}
+use Rattle.lc_cond.specs.Conditions.{Head, conditions_from, conditions_of, on_path, alone_on_path, duty_condition, Reply, Invariant, NextKind, hold_terms, justified, at_end, reply_goals, on_conditions}
 use Rattle.lc_sound.specs.Claims.{IsProven, IsGood}
 use Rattle.lc_sound.specs.Valid.{IsValid}
 use Rattle.lc_outline.proofs.Matched.{grounds}

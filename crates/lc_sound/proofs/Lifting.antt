@@ -18,9 +18,9 @@ use Rattle.lc_term.specs.Lists.{concat_map, concat_places, Every}
 use Rattle.lc_term.proofs.Tests.{left_true, right_true}
 use Rattle.lc_term.specs.Said.{variables_from}
 use Rattle.lc_rider.specs.Rider.{Mark, RideAll}
-use Rattle.lc_outline.specs.Development.{invariant_of, Development, On, first_system, on_at, asserts_at, riders_in}
+use Rattle.lc_outline.specs.Development.{invariant_of, Development, On, first_system, on_at, asserts_at, riders_in, in_body, in_operation}
 use Rattle.lc_rider.specs.Paths.{Path, Duty, paths, path_start, edge_columns, edge_variables}
-use Rattle.lc_cond.specs.Conditions.{duty_condition, range, body_frame, body_hypotheses, start_conditions, entry_conditions, edge_conditions, edge_conditions_in, path_conditions, in_body, in_operation, conditions}
+use Rattle.lc_cond.specs.Conditions.{duty_condition, range, body_frame, body_hypotheses, start_conditions, entry_conditions, edge_conditions, edge_conditions_in, path_conditions, conditions}
 use Rattle.lc_outline.specs.Resolved.{IsRiderResolved}
 use Rattle.lc_sound.specs.Claims.{IsProven, IsClientGood, IsGood}
 use Rattle.lc_sound.specs.Valid.{IsValid}

@@ -15,8 +15,8 @@ use Rattle.lc_term.specs.Lists.{Every, concat_map, numbered, concat_places}
 use Rattle.lc_term.proofs.Tests.{both_true}
 use Rattle.lc_term.specs.SystemColumns.{op_column, arg_columns}
 use Rattle.lc_action.specs.Action.{Action, Acts}
-use Rattle.lc_outline.specs.Development.{invariant_of, all_actions, Development, first_system, asserts_at}
-use Rattle.lc_cond.specs.Conditions.{is_cell, idle_frame, hold_variables, body_frame, start_conditions, entry_conditions, edge_conditions, point_stability, stable_under, stable_conditions, idle_stability, in_operation, conditions}
+use Rattle.lc_outline.specs.Development.{invariant_of, all_actions, Development, first_system, asserts_at, in_operation}
+use Rattle.lc_cond.specs.Conditions.{is_cell, idle_frame, hold_variables, body_frame, start_conditions, entry_conditions, edge_conditions, point_stability, stable_under, stable_conditions, idle_stability, conditions}
 use Rattle.lc_outline.specs.Resolved.{variables_below, IsBelow}
 use Rattle.lc_sound.specs.Claims.{IsProven, IsClientGood, own}
 use Rattle.lc_sound.specs.Valid.{IsValid}

@@ -2,10 +2,10 @@ use Rattle.std.proofs.Common.{◌++◌, map, ap₂, sym, subst}
 use Rattle.std.proofs.lemmas.Result.{on_ok_weaker}
 use Rattle.lc_table.specs.PutNumbers.{AreTerms}
 use Rattle.lc_table.specs.Tables.{AreFormulas}
-use Rattle.lc_outline.specs.Development.{invariant_of}
+use Rattle.lc_outline.specs.Development.{invariant_of, asserts_to}
 use Rattle.lc_rider.specs.Paths.{edge_variables}
 use Rattle.lc_cond.specs.Adding.{Adds}
-use Rattle.lc_cond.specs.Conditions.{conditions_of, asserts_to}
+use Rattle.lc_cond.specs.Conditions.{conditions_of}
 use Rattle.lc_cond.specs.Heads.{head_of}
 use Rattle.lc_cond.specs.Scenes.{development_in, code_in, told_in}
 use Rattle.lc_cond.proofs.Adding.{formulas_listed, terms_listed}

@@ -16,7 +16,7 @@ pub pieces-init : goal.pieces-init
 pieces-init g c =
     let known = g.O.Write.contents c.args.out.now in
     let text = conditions_text (development_shown c.args.development.now) in
-    subst (λ left. LeavesOf known known left text) (sym c.in_ok-lines.ensures) (leaves_all known text)
+    subst (λ left. LeavesOf known known left text) (sym c.in_ok-lines.ensures.text) (leaves_all known text)
 
 pub returns-in_err-piece : goal.returns-in_err-piece
 returns-in_err-piece g c =
@@ -26,7 +26,7 @@ returns-in_err-piece g c =
 
 pub pieces-preserved : goal.pieces-preserved
 pieces-preserved g c =
-    let cut = rw c.in-Some.is at c.in_ok-piece.ensures in
+    let cut = rw c.in-Some.is at c.in_ok-piece.ensures.piece in
     leaves_less (g.O.Write.contents c.args.out.now) (g.O.Write.contents c.pieces.out) (g.O.Write.contents c.write_all.new.self) (text_left c.pieces.lines) c.in-Some.piece.items
     c.deref.result.now (text_left c.next_piece.new.self) (conditions_text (development_shown c.args.development.now)) c.write_all.result
     c.pieces.invariant cut.0 c.deref.ensures.value (sym c.is_err.ensures.value ∙ c.if-is_err.false) c.write_all.ensures.bytes

@@ -28,14 +28,14 @@ use Rattle.lc_rider_text.specs.Conjuncts.{conjunct_reading}
 use Rattle.lc_rider_text.specs.Known.{Known}
 use Rattle.lc_rider_text.specs.Scopes.{beside_names}
 use Rattle.lc_rider_text.specs.Updates.{listed_update_reading}
-use Rattle.lc_cond.specs.Sizes.{columns_of}
+use Rattle.lc_outline.specs.Sizes.{columns_of}
 use Rattle.lc_outline_text.specs.Declarations.{Declarations, known_of, actions_in, or_nothing, form_at}
 use Rattle.lc_outline_text.specs.Points.{formulas_in_reading}
 use Rattle.lc_outline_text.specs.Sides.{auxiliaries_reading, actions_reading, invariant_reading, conditions_reading, Sides, sides_of, sides_reading}
 use Rattle.lc_outline_text.specs.Sizes.{columns_stored, columns_acted}
-use Rattle.lc_counted.proofs.Points.{formulas_said}
-use Rattle.lc_counted.proofs.Rows.{Alike, alike_at, each_count}
-use Rattle.lc_counted.proofs.Updates.{updates_said}
+use Rattle.lc_outline_text.proofs.PointsCounted.{formulas_said}
+use Rattle.lc_outline_text.proofs.RowsCounted.{Alike, alike_at, each_count}
+use Rattle.lc_outline_text.proofs.UpdatesCounted.{updates_said}
 
 -- ---- actions
 

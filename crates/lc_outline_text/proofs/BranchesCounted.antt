@@ -29,12 +29,12 @@ use Rattle.lc_spec_text.specs.Specifications.{the_column, column_reading, column
 use Rattle.lc_object_text.proofs.Holding.{form_holds}
 use Rattle.lc_object_text.specs.ObjectNames.{text_in, first_text, items_within, later, parts_in_first, names_of_columns}
 use Rattle.lc_object_text.specs.Sections.{parts_of_fit, parts_in, forms_in, some_forms_in}
-use Rattle.lc_cond.specs.Sizes.{columns_of}
+use Rattle.lc_outline.specs.Sizes.{columns_of}
 use Rattle.lc_outline_text.proofs.Going.{no_choices}
 use Rattle.lc_outline_text.specs.Declarations.{branches_in}
 use Rattle.lc_outline_text.specs.Sizes.{columns_stored}
-use Rattle.lc_counted.proofs.Rows.{Alike, Along, each_along, declared_along, counted_count, IsForm, forms_alike, some_alike, for_all}
-use Rattle.lc_counted.proofs.Updates.{IsColumn, Leads, IsBranchOf}
+use Rattle.lc_outline_text.proofs.RowsCounted.{Alike, Along, each_along, declared_along, counted_count, IsForm, forms_alike, some_alike, for_all}
+use Rattle.lc_outline_text.proofs.UpdatesCounted.{IsColumn, Leads, IsBranchOf}
 
 -- ---- branches
 

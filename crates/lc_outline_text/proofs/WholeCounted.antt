@@ -1,4 +1,4 @@
--- A development has as many conditions as are counted from the forms that say it.
+-- The sizes of a development come to as many conditions as are counted from the forms that say it.
 use Rattle.std.proofs.Common.{◌≡◌, ℕ, ◌+◌, ◌*◌, ◌≤◌, List, ◌++◌, map, length, append_assoc, refl, sym, ap, ap₂, ◌∙◌, subst, arith}
 use Rattle.std.proofs.lemmas.List.{length-map}
 use Rattle.std.specs.Prelude.{codes, slice_get, sum_by}
@@ -19,10 +19,8 @@ use Rattle.lc_object_text.specs.ObjectNames.{first_text, later, call_of, parts_i
 use Rattle.lc_object_text.specs.Objects as O
 use Rattle.lc_object_text.specs.Sections.{Sections, items_of_fit, items_in, behind_item, behind_first, parts_in, some_forms_in, sections_of}
 use Rattle.lc_outline.specs.Development.{Development, Outline}
-use Rattle.lc_cond.specs.Conditions.{conditions}
-use Rattle.lc_cond.specs.Sizes.{edge_count, edge_sizes, assert_sizes, count, sizes_of}
-use Rattle.lc_cond.proofs.Sized.{are_counted}
-use Rattle.lc_outline_text.proofs.Assembled.{SpecificationHolds, specification_of_text, ObjectHolds, object_of_text, fits_declared, forms_resolved}
+use Rattle.lc_outline.specs.Sizes.{edge_count, edge_sizes, assert_sizes, count, sizes_of}
+use Rattle.lc_outline_text.proofs.Assembled.{SpecificationHolds, specification_of_text, ObjectHolds, object_of_text, fits_declared}
 use Rattle.lc_outline_text.proofs.Fitting.{matched_below}
 use Rattle.lc_outline_text.proofs.Outlined.{all_points}
 use Rattle.lc_outline_text.specs.Bodies.{bodies_reading}
@@ -30,17 +28,16 @@ use Rattle.lc_outline_text.specs.Declarations.{Declarations, declarations_in, de
 use Rattle.lc_outline_text.specs.Developments.{specification_reading, Parts, tables_reading, object_reading, second_form_reading, development_of, forms_reading}
 use Rattle.lc_outline_text.specs.Sides.{Sides, sides_reading}
 use Rattle.lc_outline_text.specs.Sizes.{Totals, totals_of, condition_count}
-use Rattle.lc_counted.specs.Counted.{counted}
-use Rattle.lc_counted.proofs.Arrays.{array_said}
-use Rattle.lc_counted.proofs.Bodies.{code_in, point_asserts, ArePlaced, placed, bodies_counted}
-use Rattle.lc_counted.proofs.Branches.{IsOperationOf, own_names, AreOperationsOf, specification_said}
-use Rattle.lc_counted.proofs.Edges.{Meets}
-use Rattle.lc_counted.proofs.Marks.{in_order_said, by_name_said}
-use Rattle.lc_counted.proofs.Points.{IsDue, bodies_said}
-use Rattle.lc_counted.proofs.Rows.{Alike, alike_length}
-use Rattle.lc_counted.proofs.Sides.{IsActionOf, AreSidesOf, sides_said, acted_said}
-use Rattle.lc_counted.proofs.Sums.{over, point_edges, edges_sum, places_sum, stand}
-use Rattle.lc_counted.proofs.Updates.{Leads, leads}
+use Rattle.lc_outline_text.proofs.ArraysCounted.{array_said}
+use Rattle.lc_outline_text.proofs.BodiesCounted.{code_in, point_asserts, ArePlaced, placed, bodies_counted}
+use Rattle.lc_outline_text.proofs.BranchesCounted.{IsOperationOf, own_names, AreOperationsOf, specification_said}
+use Rattle.lc_outline_text.proofs.EdgesCounted.{Meets}
+use Rattle.lc_outline_text.proofs.MarksCounted.{in_order_said, by_name_said}
+use Rattle.lc_outline_text.proofs.PointsCounted.{IsDue, bodies_said}
+use Rattle.lc_outline_text.proofs.RowsCounted.{Alike, alike_length}
+use Rattle.lc_outline_text.proofs.SidesCounted.{IsActionOf, AreSidesOf, sides_said, acted_said}
+use Rattle.lc_outline_text.proofs.SumsCounted.{over, point_edges, edges_sum, places_sum, stand}
+use Rattle.lc_outline_text.proofs.UpdatesCounted.{Leads, leads}
 
 -- ---- the specification
 
@@ -156,7 +153,7 @@ module _ (s : Sections) (p : O.SpecificationText × Specification) (o : Parts) (
 -- ---- the forms of a file
 
 abbrev IsSized : Trees → Development → Type 0
-IsSized ts D = count (sizes_of D) ≡ counted ts
+IsSized ts D = count (sizes_of D) ≡ condition_count (declarations_of ts) (sections_of ts)
 
 second_said : (s : Sections) (n : ℕ) (ts : Trees) → Holds (IsObject s) (second_form_reading (declarations_in s) s n ts)
 second_said s n none = tt
@@ -175,6 +172,6 @@ forms_said (t ▸ u ▸ ts) =
     both_holds (IsSpecification s) (IsObject s) (IsSized (t ▸ u ▸ ts)) development_of r (second_form_reading (declarations_in s) s (0 + item_count t) (u ▸ ts))
     (and_holds (SpecificationHolds s) (IsSpecified s) r (specification_of_text t u ts) (specified t u ts)) (second_said s (0 + item_count t) (u ▸ ts)) (sized s)
 
--- as many conditions as are counted from the text
-pub forms_counted : (ts : Trees) (D : Development) → forms_reading (declarations_of ts) (sections_of ts) 0 ts ≡ fine D → length (conditions D) ≡ counted ts
-forms_counted ts D e = are_counted D (forms_resolved ts D e) ∙ held (IsSized ts) (forms_reading (declarations_of ts) (sections_of ts) 0 ts) D (forms_said ts) e
+-- as many as are counted from the text
+pub forms_sized : (ts : Trees) (D : Development) → forms_reading (declarations_of ts) (sections_of ts) 0 ts ≡ fine D → count (sizes_of D) ≡ condition_count (declarations_of ts) (sections_of ts)
+forms_sized ts D e = held (IsSized ts) (forms_reading (declarations_of ts) (sections_of ts) 0 ts) D (forms_said ts) e

@@ -6,7 +6,7 @@ use Rattle.lc_term.specs.Lists.{concat_map, concat_places}
 use Rattle.lc_object.specs.Syntax.{Point}
 use Rattle.lc_object.specs.Edges.{edges_at, edges_from}
 use Rattle.lc_outline.specs.Development.{Outline, Development}
-use Rattle.lc_cond.specs.Sizes.{edge_count, edge_sizes}
+use Rattle.lc_outline.specs.Sizes.{edge_count, edge_sizes}
 
 -- ---- sums
 

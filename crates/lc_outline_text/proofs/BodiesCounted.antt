@@ -12,16 +12,15 @@ use Rattle.lc_object_text.proofs.Holding.{Each}
 use Rattle.lc_object_text.specs.ObjectNames.{Body, Call, first_text, points_in, body_of, bodies_from}
 use Rattle.lc_object_text.specs.Points.{BodyText}
 use Rattle.lc_object_text.specs.Sections.{parts_in}
-use Rattle.lc_outline.specs.Development.{Development, Outline, invariant_of, asserts_at}
-use Rattle.lc_cond.specs.Conditions.{in_operation}
-use Rattle.lc_cond.specs.Sizes.{assert_sizes}
+use Rattle.lc_outline.specs.Development.{Development, Outline, invariant_of, asserts_at, in_operation}
+use Rattle.lc_outline.specs.Sizes.{assert_sizes}
 use Rattle.lc_outline_text.proofs.Outlined.{all_points}
 use Rattle.lc_outline_text.specs.Declarations.{Declarations}
 use Rattle.lc_outline_text.specs.Sizes.{Totals, assert_count, point_conditions, bodies_conditions}
-use Rattle.lc_counted.proofs.Edges.{Meets, Leads, asserts_there, asserts_counted, labels_lead, point_counted}
-use Rattle.lc_counted.proofs.Points.{IsPointOf, IsBodyOf, IsDue}
-use Rattle.lc_counted.proofs.Rows.{Alike, alike_length}
-use Rattle.lc_counted.proofs.Sums.{over, over_joined, point_edges, Stand, stand_first, stand_behind}
+use Rattle.lc_outline_text.proofs.EdgesCounted.{Meets, Leads, asserts_there, asserts_counted, labels_lead, point_counted}
+use Rattle.lc_outline_text.proofs.PointsCounted.{IsPointOf, IsBodyOf, IsDue}
+use Rattle.lc_outline_text.proofs.RowsCounted.{Alike, alike_length}
+use Rattle.lc_outline_text.proofs.SumsCounted.{over, over_joined, point_edges, Stand, stand_first, stand_behind}
 
 -- ---- where bodies begin
 

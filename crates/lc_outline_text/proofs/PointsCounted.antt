@@ -25,9 +25,9 @@ use Rattle.lc_outline_text.specs.Declarations.{Declarations, known_of, own_ways}
 use Rattle.lc_outline_text.specs.Needs.{code_word, edges_of}
 use Rattle.lc_outline_text.specs.Points.{formulas_in_reading, outline_of, outline_reading, beside}
 use Rattle.lc_outline_text.specs.Sizes.{assert_count, ons_of}
-use Rattle.lc_counted.proofs.Instructions.{IsCoded, instruction_said}
-use Rattle.lc_counted.proofs.Riders.{IsOnOf, ons_said}
-use Rattle.lc_counted.proofs.Rows.{Alike, Along, placed_along, each_count, IsForm, some_alike}
+use Rattle.lc_outline_text.proofs.InstructionsCounted.{IsCoded, instruction_said}
+use Rattle.lc_outline_text.proofs.RidersCounted.{IsOnOf, ons_said}
+use Rattle.lc_outline_text.proofs.RowsCounted.{Alike, Along, placed_along, each_count, IsForm, some_alike}
 
 -- ---- a point
 

@@ -25,7 +25,7 @@ use Rattle.lc_rider_text.specs.Known.{Known}
 use Rattle.lc_rider_text.specs.Scopes.{system_place, place_or, column_place}
 use Rattle.lc_rider_text.specs.Updates.{the_update, listed_update_reading}
 use Rattle.lc_seq.specs.Specification.{Branch}
-use Rattle.lc_cond.specs.Sizes.{columns_of}
+use Rattle.lc_outline.specs.Sizes.{columns_of}
 use Rattle.lc_outline_text.specs.Sizes.{listed, column_named, columns_stored, columns_settled, columns_noted}
 
 -- the column of a name

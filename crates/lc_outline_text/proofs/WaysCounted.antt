@@ -3,7 +3,7 @@ use Rattle.std.proofs.Common.{◌≡◌, ℕ, ◌+◌, ◌==◌, cond, List, [],
 use Rattle.std.specs.List.{list_any}
 use Rattle.std.specs.Prelude.{sum_by}
 use Rattle.std.proofs.lemmas.List.Sums.{sum_by-cons}
-use Rattle.lc_cond.specs.Sizes as C
+use Rattle.lc_outline.specs.Sizes as C
 use Rattle.lc_outline_text.specs.Sizes as Z
 
 -- a way of the text as one of the riders

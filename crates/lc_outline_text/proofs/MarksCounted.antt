@@ -20,15 +20,15 @@ use Rattle.lc_rider_text.specs.Counted.{GoesSo}
 use Rattle.lc_rider_text.specs.Known.{Ways, has_choices}
 use Rattle.lc_spec_text.proofs.Ways.{IsLeft}
 use Rattle.lc_outline.specs.Development.{Development, first_system}
-use Rattle.lc_cond.specs.Sizes as C
+use Rattle.lc_outline.specs.Sizes as C
 use Rattle.lc_outline_text.proofs.Agreed.{AllGo}
 use Rattle.lc_outline_text.proofs.Going.{AreWaysOf, none_first, left_at, goes_so}
 use Rattle.lc_outline_text.specs.Declarations.{Declarations, branches_in, choices_in, ways_in, known_of, parameter_count, or_nothing, form_at}
 use Rattle.lc_outline_text.specs.Sizes.{mark_ways, choice_named, choice_ways}
-use Rattle.lc_counted.proofs.Branches.{AreBranchesOf, AreWaysSaid, IsOperationOf}
-use Rattle.lc_counted.proofs.Rows.{Alike}
-use Rattle.lc_counted.proofs.Updates.{stored_by, marked_columns}
-use Rattle.lc_counted.proofs.Ways.{way_of}
+use Rattle.lc_outline_text.proofs.BranchesCounted.{AreBranchesOf, AreWaysSaid, IsOperationOf}
+use Rattle.lc_outline_text.proofs.RowsCounted.{Alike}
+use Rattle.lc_outline_text.proofs.UpdatesCounted.{stored_by, marked_columns}
+use Rattle.lc_outline_text.proofs.WaysCounted.{way_of}
 
 -- ---- lists
 

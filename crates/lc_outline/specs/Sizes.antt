@@ -1,5 +1,5 @@
 -- How many conditions a development has, without its conditions: lists are counted, and columns in which something is stored.
-use Rattle.std.specs.Prelude.{◌≡◌, ℕ, suc, ◌+◌, ◌*◌, ◌==◌, Bool, if◌then◌else◌, List, [], ◌∷◌, ◌++◌, map, length, sum_by, Option, Some, None, option_map, slice_get}
+use Rattle.std.specs.Prelude.{ℕ, suc, ◌+◌, ◌*◌, ◌==◌, Bool, if◌then◌else◌, List, [], ◌∷◌, ◌++◌, map, length, sum_by, Option, Some, None, option_map, slice_get}
 use Rattle.std.specs.List.{list_any}
 use Rattle.lc_term.specs.Lists.{concat_map, concat_places}
 use Rattle.lc_term.specs.Syntax.{Formula}
@@ -12,8 +12,7 @@ use Rattle.lc_object.specs.Edges.{Edge, edges}
 use Rattle.lc_action.specs.Action.{Action}
 use Rattle.lc_rider.specs.Rider.{Marking, Own, Other, Note, Deed, Assign, Marks, Rider}
 use Rattle.lc_rider.specs.Paths.{mark_updates, marked_op}
-use Rattle.lc_outline.specs.Development.{Development, On, first_system, invariant_of, on_at, asserts_at, riders_in}
-use Rattle.lc_cond.specs.Conditions.{asserts_to, in_body, conditions}
+use Rattle.lc_outline.specs.Development.{Development, On, first_system, invariant_of, on_at, asserts_at, asserts_to, riders_in, in_body}
 
 -- the columns in which these store
 abbrev pub columns_of : List Update → List ℕ
@@ -143,7 +142,3 @@ sizes_of D = record {
   asserts = concat_places (assert_sizes D) 0 D.object.points;
   actions = length D.actions + 2;
 }
-
--- there are so many
-abbrev pub AreCounted : Development → Type 0
-AreCounted D = length (conditions D) ≡ count (sizes_of D)

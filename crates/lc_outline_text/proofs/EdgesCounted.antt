@@ -16,19 +16,18 @@ use Rattle.lc_object.specs.declared.instr.EdgeKind.{EdgeKind}
 use Rattle.lc_object.specs.declared.instr.EdgeKind.TheVariants.{Next, Then, Else}
 use Rattle.lc_object_text.proofs.BodyHolds.{shifted}
 use Rattle.lc_object_text.specs.ObjectNames.{Body, first_text, within_first, later, row_at, body_names}
-use Rattle.lc_outline.specs.Development.{Development, Outline, first_system, invariant_of, asserts_in, asserts_at, ons_in, on_for, on_at}
-use Rattle.lc_cond.specs.Conditions.{asserts_to, in_operation, in_body}
-use Rattle.lc_cond.specs.Sizes.{columns_of, EdgeSize, way_count, edge_count, columns_acted, rider_ways, returned, ended_columns, edge_size, edge_sizes}
+use Rattle.lc_outline.specs.Development.{Development, Outline, first_system, invariant_of, asserts_in, asserts_at, ons_in, on_for, on_at, asserts_to, in_operation, in_body}
+use Rattle.lc_outline.specs.Sizes.{columns_of, EdgeSize, way_count, edge_count, columns_acted, rider_ways, returned, ended_columns, edge_size, edge_sizes}
 use Rattle.lc_outline.specs.Development.{riders_in}
 use Rattle.lc_outline_text.specs.Declarations.{Declarations}
 use Rattle.lc_outline_text.specs.Needs.{edge_word, goes_next, branches_off}
 use Rattle.lc_outline_text.specs.Sizes as Z
 use Rattle.lc_outline_text.specs.Sizes.{Totals, assert_count, ons_of, count_at, reached, text_at, asked_behind, columns_written, edge_conditions, on_of, point_conditions}
-use Rattle.lc_counted.proofs.Instructions.{IsCoded}
-use Rattle.lc_counted.proofs.Points.{IsPointOf}
-use Rattle.lc_counted.proofs.Riders.{Agrees, on_found, edge_counted}
-use Rattle.lc_counted.proofs.Rows.{Alike}
-use Rattle.lc_counted.proofs.Sums.{point_edges, sum_one, sum_two, IsThere, Stand, there}
+use Rattle.lc_outline_text.proofs.InstructionsCounted.{IsCoded}
+use Rattle.lc_outline_text.proofs.PointsCounted.{IsPointOf}
+use Rattle.lc_outline_text.proofs.RidersCounted.{Agrees, on_found, edge_counted}
+use Rattle.lc_outline_text.proofs.RowsCounted.{Alike}
+use Rattle.lc_outline_text.proofs.SumsCounted.{point_edges, sum_one, sum_two, IsThere, Stand, there}
 
 -- a development has these totals, and the columns that are declared
 pub record Meets (d : Declarations) (D : Development) (n : Totals) : Type 0 where

@@ -22,7 +22,7 @@ use Rattle.lc_object_text.specs.Heads.{head_of}
 use Rattle.lc_object_text.specs.Instructions.{place_reading, labels_reading, moved_reading, stored_reading, rows_reading, exchange_reading, load_of, load_reading, store_of, store_reading, cas_of, cas_reading, set_of, set_reading, adding_reading, faa_of, faa_reading, if_of, if_reading, code_reading, return_of, return_reading, instruction_reading}
 use Rattle.lc_object_text.specs.ObjectNames.{text_in, first_text, items_within}
 use Rattle.lc_outline_text.specs.Sizes.{text_at}
-use Rattle.lc_counted.proofs.Rows.{each_count}
+use Rattle.lc_outline_text.proofs.RowsCounted.{each_count}
 
 -- what an instruction names, by the parts of its text
 abbrev pub IsCoded : CodeNames → Trees → Instr → Type 0

@@ -40,15 +40,15 @@ use Rattle.lc_rider_text.specs.Ons.{action_use, call_reading, the_on, on_parts_r
 use Rattle.lc_rider_text.specs.Riders.{other_reading, ways_named, mark_of_other, lin_other_reading, lin_other_by_reading, deed_with, deed_reading, when_reading, always, where_holds, rider_reading, ith_rider_reading, riders_reading}
 use Rattle.lc_rider_text.specs.Scopes.{quiet}
 use Rattle.lc_rider_text.specs.declared.edges.Edges.{Edges}
-use Rattle.lc_cond.specs.Sizes as C
-use Rattle.lc_cond.specs.Sizes.{columns_of}
+use Rattle.lc_outline.specs.Sizes as C
+use Rattle.lc_outline.specs.Sizes.{columns_of}
 use Rattle.lc_outline_text.specs.Declarations.{Declarations, known_of, own_ways, branches_in, form_at}
 use Rattle.lc_outline_text.specs.Needs.{edge_word}
 use Rattle.lc_outline_text.specs.Sizes as Z
 use Rattle.lc_outline_text.specs.Sizes.{column_named, columns_settled, columns_noted, mark_ways, choice_named, choice_ways, on_of}
-use Rattle.lc_counted.proofs.Rows.{Alike, IsForm}
-use Rattle.lc_counted.proofs.Updates.{IsColumn, stored_by, update_by_test, update_said}
-use Rattle.lc_counted.proofs.Ways.{way_of, ways_same}
+use Rattle.lc_outline_text.proofs.RowsCounted.{Alike, IsForm}
+use Rattle.lc_outline_text.proofs.UpdatesCounted.{IsColumn, stored_by, update_by_test, update_said}
+use Rattle.lc_outline_text.proofs.WaysCounted.{way_of, ways_same}
 
 -- the branches and the actions of a development store in the columns that the declarations name
 pub record Agrees (d : Declarations) (D : Development) : Type 0 where

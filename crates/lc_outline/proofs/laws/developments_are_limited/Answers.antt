@@ -1,0 +1,5 @@
+use Rattle.lc_outline.proofs.Limited.{limited}
+use Rattle.lc_outline.proofs.laws.developments_are_limited.Goals as goal
+
+pub returns : goal.returns
+returns c = limited

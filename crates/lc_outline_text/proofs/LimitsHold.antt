@@ -1,0 +1,157 @@
+-- A development that is read is within its limits.
+use Rattle.std.proofs.Common.{◌≡◌, ℕ, ◌+◌, ◌≤◌, Bool, true, false, ◌&&◌, None, List, [], length, length-append, refl, sym, ap, ◌∙◌, subst, arith}
+use Rattle.std.proofs.lemmas.Bool.Decides.{nat_tests}
+use Rattle.std.specs.Prelude.{codes, nat_le, nat_lt, slice_get, Result, Ok, Err, IfOk}
+use Rattle.lc_sexp.specs.Trees.{Tree, Trees, none, ◌▸◌, item_count}
+use Rattle.lc_reading.proofs.Holding.{Holds, held, anything, weaker, both_holds, ended_holds, and_holds, and_true}
+use Rattle.lc_reading.specs.Naming.{name_reading}
+use Rattle.lc_reading.specs.Readings.{Reading, fine, flawed, limited}
+use Rattle.lc_reading.specs.declared.flaw.ReadFault.{ReadFault}
+use Rattle.lc_text.specs.Terms.{pair}
+use Rattle.lc_action.specs.Action.{Action}
+use Rattle.lc_seq.specs.Specification.{Column, Specification}
+use Rattle.lc_spec_text.specs.Specifications as Q
+use Rattle.lc_object_text.specs.ObjectNames.{Declared, abstracts_in, declared_in_sections}
+use Rattle.lc_object_text.specs.Objects as O
+use Rattle.lc_object_text.specs.Rows.{lists_reading}
+use Rattle.lc_object_text.specs.Sections.{Sections, behind_first, sections_of}
+use Rattle.lc_outline.specs.Development.{Development, first_system}
+use Rattle.lc_outline.specs.Limits.{outlines_are_limited, is_limited}
+use Rattle.lc_outline.specs.PartsView.{parts_shown}
+use Rattle.lc_outline.specs.Sizes.{sizes_of, count}
+use Rattle.lc_outline.specs.declared.parts.Parts as P
+use Rattle.lc_rider_text.specs.Actions.{action_reading}
+use Rattle.lc_outline_text.proofs.Assembled.{SpecificationHolds, specification_of_text, ObjectHolds, object_of_text, fits_declared, first_auxiliary}
+use Rattle.lc_outline_text.proofs.ColumnsFew.{HasFewAbstracts, abstracts_few, HaveFew, arrays_few, AreFewBehind, auxiliaries_few, actions_few}
+use Rattle.lc_outline_text.proofs.Fitting.{outlines_limited}
+use Rattle.lc_outline_text.proofs.Outlined.{all_points}
+use Rattle.lc_outline_text.proofs.WholeCounted.{forms_sized}
+use Rattle.lc_outline_text.specs.Bodies.{bodies_reading}
+use Rattle.lc_outline_text.specs.Declarations.{Declarations, known_of, declarations_in, declarations_of}
+use Rattle.lc_outline_text.specs.Developments.{Parts, specification_reading, tables_reading, object_reading, second_form_reading, development_of, condition_limit, forms_reading, file_reading}
+use Rattle.lc_outline_text.specs.Sides.{Sides, sides_of, actions_reading, conditions_reading, sides_reading}
+use Rattle.lc_outline_text.specs.Sizes.{condition_count}
+use Rattle.lc_outline_text.specs.Views.{IsFileRead}
+
+is_few : (k limit : ℕ) → k ≤ limit → nat_le k limit ≡ true
+is_few k limit h = grind (arith, nat_tests)
+
+few_of : (k limit : ℕ) → nat_lt limit k ≡ false → k ≤ limit
+few_of k limit e = grind (arith, nat_tests)
+
+-- ---- columns and actions
+
+abbrev HasFew : O.SpecificationText × Specification → Type 0
+HasFew p = HasFewAbstracts p.0
+
+specification_few : (t : Tree) (d : Declarations) (n : ℕ) → Holds HasFew (specification_reading d n t)
+specification_few t d n =
+    let other = Q.specification_reading d.declared.columns n t in
+    both_holds HasFewAbstracts (λ q. Unit {0}) HasFew pair (O.specification_reading d.declared n t) other (abstracts_few d.declared n t) (anything other) (λ text q h u. h)
+
+abbrev AreSidesFew : Declarations → Sides → Type 0
+AreSidesFew d x = AreFewBehind d.declared.auxiliaries x.auxiliaries × (length x.actions ≤ 64)
+
+abbrev AreActionsFew : Declarations → List Column × List Action → Type 0
+AreActionsFew d p = AreFewBehind d.declared.auxiliaries p.0 × (length p.1 ≤ 64)
+
+sides_few : (d : Declarations) (s : Sections) (n : ℕ) → Holds (AreSidesFew d) (sides_reading d s n)
+sides_few d s n =
+    let actions = behind_first s.auxiliaries in
+    let listed = lists_reading (codes "action") (action_reading (known_of d)) 0 actions.number actions.trees in
+    let conditions = conditions_reading d n s.invariant.number s.invariant.trees in
+    both_holds (AreActionsFew d) (λ c. Unit {0}) (AreSidesFew d) sides_of (actions_reading d s n) conditions
+    (both_holds (AreFewBehind d.declared.auxiliaries) (λ actions. length actions ≤ 64) (AreActionsFew d) pair _ listed (auxiliaries_few d n s.auxiliaries.number s.auxiliaries.trees)
+    (weaker (λ actions. 0 ≤ 64 → 0 + length actions ≤ 64) (λ actions. length actions ≤ 64) listed (λ actions h. let all = h (omega arith) in omega (arith, all))
+    (actions_few (known_of d) 0 actions.number actions.trees)) (λ columns actions h g. (h, g)))
+    (anything conditions) (λ p c h u. h)
+
+abbrev AreArraysFew : Sections → List O.ArrayText → Type 0
+AreArraysFew s arrays = HaveFew (length (abstracts_in s)) arrays
+
+tables_few : (s : Sections) (n : ℕ) → Holds (λ (tables : O.Tables). AreArraysFew s tables.arrays) (O.tables_reading (declared_in_sections s) s n)
+tables_few s n =
+    let d = declared_in_sections s in
+    let name = O.first_reading (name_reading None []) n s.object.number s.object.trees in
+    let arrays = lists_reading (codes "array") (O.array_reading d) 0 s.arrays.number s.arrays.trees in
+    both_holds (λ (named : List ℕ × List O.ArrayText). AreArraysFew s named.1) (λ ws. Unit {0}) (λ (tables : O.Tables). AreArraysFew s tables.arrays) O.tables_of (O.arrays_reading d s n) (O.auxiliaries_reading d s n)
+    (both_holds (λ w. Unit {0}) (AreArraysFew s) (λ (named : List ℕ × List O.ArrayText). AreArraysFew s named.1) pair name arrays (anything name)
+    (arrays_few d (length (abstracts_in s)) 0 s.arrays.number s.arrays.trees (λ j. let e : 0 + j ≡ j = omega arith in ap (slice_get d.spans) e)) (λ w arrays u h. h))
+    (anything (O.auxiliaries_reading d s n)) (λ named ws h u. h)
+
+abbrev IsObjectFew : Sections → Parts → Type 0
+IsObjectFew s o = AreArraysFew s o.0.0.arrays × AreSidesFew (declarations_in s) o.0.1
+
+object_few : (s : Sections) (n : ℕ) → Holds (IsObjectFew s) (object_reading (declarations_in s) s n)
+object_few s n =
+    let d = declarations_in s in
+    let HasTables : O.Tables × Sides → Type 0 = λ x. AreArraysFew s x.0.arrays × AreSidesFew d x.1 in
+    let bodies = bodies_reading d n s.bodies.number s.bodies.trees in
+    both_holds HasTables (λ bs. Unit {0}) (IsObjectFew s) pair (tables_reading d s n) bodies
+    (both_holds (λ (tables : O.Tables). AreArraysFew s tables.arrays) (AreSidesFew d) HasTables pair (O.tables_reading d.declared s n) (sides_reading d s n) (tables_few s n) (sides_few d s n) (λ tables sides h g. (h, g)))
+    (anything bodies) (λ x bs h u. h)
+
+-- ---- the whole
+
+-- it is within all limits but that of conditions
+record IsWithin (D : Development) : Type 0 where
+  columns : first_system D ≤ 64
+  actions : length D.actions ≤ 64
+  outlines : outlines_are_limited D.specification.operations D.object.points D.outlines ≡ true
+
+within_of : (s : Sections) (p : O.SpecificationText × Specification) (o : Parts) → SpecificationHolds s p × HasFew p → ObjectHolds s o × IsObjectFew s o → IsWithin (development_of p o)
+within_of s p o h g =
+    let d = declarations_in s in
+    let first = first_auxiliary s p o h.0 g.0 in
+    let same = h.0.columns in
+    let declared = h.0.fit.abstracts in
+    let concretes = g.1.0 (omega (arith, declared, h.1)) in
+    let all = g.1.1.0 (omega (arith, first, concretes, same, declared)) in
+    record {
+      columns = omega (arith, first, all);
+      actions = g.1.1.1;
+      outlines = outlines_limited d (development_of p o) (all_points o.1) (fits_declared s p o h.0 g.0);
+    }
+
+second_few : (s : Sections) (n : ℕ) (ts : Trees) → Holds (λ o. ObjectHolds s o × IsObjectFew s o) (second_form_reading (declarations_in s) s n ts)
+second_few s n none = tt
+second_few s n (t ▸ ts) =
+    let r = object_reading (declarations_in s) s n in
+    ended_holds (λ o. ObjectHolds s o × IsObjectFew s o) (n + item_count t) ts r (and_holds (ObjectHolds s) (IsObjectFew s) r (object_of_text s n) (object_few s n))
+
+forms_few : (ts : Trees) → Holds IsWithin (forms_reading (declarations_of ts) (sections_of ts) 0 ts)
+forms_few none = tt
+forms_few (t ▸ none) =
+    let r = specification_reading (declarations_of (t ▸ none)) 0 t in
+    both_holds (λ p. Unit {0}) (λ o. ⊥) IsWithin development_of r _ (anything r) tt (λ p o h g. absurd g)
+forms_few (t ▸ u ▸ ts) =
+    let s = sections_of (t ▸ u ▸ ts) in
+    let d = declarations_of (t ▸ u ▸ ts) in
+    let r = specification_reading d 0 t in
+    both_holds (λ p. SpecificationHolds s p × HasFew p) (λ o. ObjectHolds s o × IsObjectFew s o) IsWithin development_of r (second_form_reading (declarations_in s) s (0 + item_count t) (u ▸ ts))
+    (and_holds (SpecificationHolds s) HasFew r (specification_of_text t u ts) (specification_few t d 0)) (second_few s (0 + item_count t) (u ▸ ts)) (within_of s)
+
+-- what is read within a limit
+within : {X : Type 0} (b : Bool) (n : ℕ) (r : Reading X) (x : X) → limited b n r ≡ fine x → (b ≡ false) × (r ≡ fine x)
+within true n (fine y) x e = absurd (cc)
+within true n (flawed f) x e = absurd (cc)
+within false n r x e = (refl, e)
+
+-- the development that a file says is within its limits
+says_limited : (ts : Trees) (D : Development) → file_reading ts ≡ fine D → is_limited D ≡ true
+says_limited ts D e =
+    let forms = forms_reading (declarations_of ts) (sections_of ts) 0 ts in
+    let text = condition_count (declarations_of ts) (sections_of ts) in
+    let read = within (nat_lt condition_limit text) 0 forms D e in
+    let few = held IsWithin forms D (forms_few ts) read.1 in
+    let conditions : count (sizes_of D) ≤ 100000 = subst (λ k. k ≤ 100000) (sym (forms_sized ts D read.1)) (few_of text 100000 read.0) in
+    let a = nat_le (first_system D) 64 in
+    let b = nat_le (length D.actions) 64 in
+    let c = outlines_are_limited D.specification.operations D.object.points D.outlines in
+    and_true (a && b && c) (nat_le (count (sizes_of D)) 100000)
+    (and_true (a && b) c (and_true a b (is_few (first_system D) 64 few.columns) (is_few (length D.actions) 64 few.actions)) few.outlines)
+    (is_few (count (sizes_of D)) 100000 conditions)
+
+pub read_limited : (ts : Trees) (result : Result P.Parts ReadFault) → IsFileRead ts result → IfOk result (λ parts. is_limited (parts_shown parts) ≡ true)
+read_limited ts (Ok parts) h = says_limited ts (parts_shown parts) h
+read_limited ts (Err f) h = tt
