@@ -11,3 +11,5 @@ pub mod Kept
 pub mod Sized
 pub mod FormSteps
 pub mod Pieces
+pub mod OneByOne
+pub mod Alone

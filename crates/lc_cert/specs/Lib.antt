@@ -7,3 +7,4 @@ pub mod Answers
 pub mod Files
 pub mod Printed
 pub mod Pieces
+pub mod OneByOne

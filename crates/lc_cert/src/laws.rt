@@ -6,6 +6,7 @@ ghost use Rattle.lc_outline.specs.Development.{Development};
 ghost use Rattle.lc_term.specs.Lists.{Every};
 ghost use Rattle.lc_cert.specs.Certificates.{Entry, is_rising, HaveFewSteps};
 ghost use Rattle.lc_cert.specs.Files.{Certifies, IsFirstRefusal, IsAnswerTo};
+ghost use Rattle.lc_cert.specs.OneByOne.{ReadAloneIsReadWhole};
 ghost use Rattle.lc_cert.specs.Pieces.{IsAfterTaking, IsAnswerOf, AreSame};
 ghost use Rattle.lc_cert.specs.Printed.{certificate_line, EntryReadsBack, IsPrintable};
 ghost use Rattle.lc_cert.specs.declared.cert_reader.CertReader.{CertReader};
@@ -36,4 +37,10 @@ pub fn a_certificate_in_pieces_is_the_whole()
     ensures same { (D : Development) (bytes : List ℕ) (es : List Entry) (whole : Result Certificate Fault) (told : Result (Unit {0}) Fault) → IsAnswerTo D bytes whole → IsAnswerOf D bytes es told → AreSame es whole told }
     ensures first { (D : Development) (fed more : List ℕ) (taken es : List Entry) (r : CertReader) → IsAfterTaking D fed taken r → Certifies D (fed ++ more) es → (others : List Entry) × (es ≡ taken ++ others) }
     ensures few_steps { (D : Development) (fed : List ℕ) (taken : List Entry) (r : CertReader) → IsAfterTaking D fed taken r → HaveFewSteps taken }
+{}
+
+/// A file that is cut into pieces, each of which reads as an entry by itself, with the number of the item that it is and behind
+/// the entry before it, is a certificate of these entries, where what stands before and behind them is that of one.
+pub fn entries_read_alone_are_read_whole()
+    ensures { ReadAloneIsReadWhole }
 {}

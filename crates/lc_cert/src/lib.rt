@@ -4,6 +4,7 @@
 mod cert_reader;
 mod certificate;
 mod entry;
+mod entry_reader;
 mod form_reader;
 pub mod laws;
 mod naming;
@@ -14,6 +15,7 @@ mod scope;
 pub use cert_reader::CertReader;
 pub use certificate::Certificate;
 pub use entry::Entry;
+pub use entry_reader::{EntryReader, Single};
 pub use naming::{column_names, table_of};
 pub use printing::certificate_text;
 pub use reading::certificate_of;

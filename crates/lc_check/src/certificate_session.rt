@@ -6,6 +6,7 @@ ghost use Rattle.lc_sound.specs.Linearizable.{IsLinearizableObject};
 ghost use Rattle.lc_check.specs.UpTo.{IsUpTo};
 
 use crate::progress::Progress;
+use crate::proving::{Alone, Prover};
 use crate::verdict::{Accepted, Verdict};
 use lc_base::{Fault, OutOfMemory};
 use lc_cert::CertReader;
@@ -62,7 +63,7 @@ impl Model for CertificateSession {
 }
 
 /// Where each condition of a development has a derivation, its object is linearizable by its specification.
-fn derived_is_linearizable(development: &Development)
+pub(crate) fn derived_is_linearizable(development: &Development)
     requires { AreDerived (development_shown development.now) }
     ensures { IsLinearizableObject (development_shown development.now).specification (development_shown development.now).object }
 {
@@ -71,9 +72,10 @@ fn derived_is_linearizable(development: &Development)
 }
 
 /// Reads the next piece, and takes all proofs that have ended.
-pub(crate) fn feed_all(
+pub(crate) fn feed_all<P: Prover>(
     alloc: Global,
     development: &Development,
+    prover: &mut P,
     reader: &mut CertReader,
     progress: &mut Progress,
     piece: &[u8],
@@ -87,7 +89,7 @@ pub(crate) fn feed_all(
         let Some(entry) = reader.take() else {
             return Ok(());
         };
-        progress.take(alloc, development, &entry)?;
+        progress.take(alloc, development, prover, &entry)?;
     }
 }
 
@@ -158,6 +160,7 @@ impl CertificateSession {
         feed_all(
             self.stage.alloc,
             &self.stage.development,
+            &mut Alone,
             &mut self.stage.reader,
             &mut self.stage.progress,
             piece,

@@ -1,17 +1,20 @@
 //! The verdict on whole files: sessions of one piece.
-ghost use Rattle.std.specs.Prelude.{IfOk};
+ghost use Rattle.std.specs.Prelude.{ℕ, List, Err, IfOk};
 ghost use Rattle.lc_reading.specs.Files.{Says};
+ghost use Rattle.lc_outline.specs.Development.{Development as Shown};
 ghost use Rattle.lc_outline.specs.DevelopmentView.{development_shown};
 ghost use Rattle.lc_outline_text.specs.Developments.{file_reading};
 ghost use Rattle.lc_sound.specs.Linearizable.{IsLinearizableObject};
 ghost use Rattle.lc_check.specs.VerdictView.{IsVerdictOn, IsVerdict, IfAccepted, IsCountOn};
 
-use crate::certificate_session::{CertificateSession, feed_all};
+use crate::certificate_session::{CertificateSession, derived_is_linearizable, feed_all};
 use crate::progress::Progress;
+use crate::proving::{Alone, Prover};
 use crate::session::Session;
-use crate::verdict::Verdict;
+use crate::verdict::{Accepted, Verdict};
 use lc_base::{Fault, OutOfMemory};
 use lc_cert::CertReader;
+use lc_cond::laws::conditions_use_their_variables;
 use lc_outline::Development;
 use std::alloc::Global;
 
@@ -55,11 +58,55 @@ pub fn check(alloc: Global, dev: &[u8], cert: &[u8]) -> Result<Verdict, OutOfMem
 pub fn proven_count(alloc: Global, development: &Development, cert: &[u8]) -> Result<u64, Fault>
     ensures { IsCountOn (development_shown development.now) cert.now result }
 {
+    proven_count_by(alloc, development, &mut Alone, cert)
+}
+
+/// The same, as this prover finds of one condition after another.
+pub fn proven_count_by<P: Prover>(
+    alloc: Global,
+    development: &Development,
+    prover: &mut P,
+    cert: &[u8],
+) -> Result<u64, Fault>
+    ensures { IsCountOn (development_shown development.now) cert.now result }
+{
     let mut reader = CertReader::new(alloc, development)?;
     let mut progress = Progress::new(alloc, development)?;
-    feed_all(alloc, development, &mut reader, &mut progress, cert)?;
+    feed_all(alloc, development, prover, &mut reader, &mut progress, cert)?;
     if let Err(fault) = reader.finish(development) {
         return Err(fault);
     }
     progress.answer(alloc, development)
+}
+
+// The verdict where no count is known for this reason.
+fn refused_for(fault: Fault) -> Result<Verdict, OutOfMemory>
+    ensures exactly { (D : Shown) → (cert : List ℕ) → IsCountOn D cert (Err fault) → IfOk result (IsVerdictOn D cert) }
+    ensures linearizable { IfAccepted result (λ D. IsLinearizableObject D.specification D.object) }
+{
+    match fault {
+        Fault::Refused(refusal) => Ok(Verdict::Refused(refusal)),
+        Fault::OutOfMemory => Err(OutOfMemory),
+    }
+}
+
+/// The verdict on a development and a certificate file, of which it is known how many conditions are proved, or why not.
+pub fn verdict_by_count(
+    development: Development,
+    cert: &[u8],
+    count: Result<u64, Fault>,
+) -> Result<Verdict, OutOfMemory>
+    requires { IsCountOn (development_shown development) cert.now count }
+    ensures exactly { IfOk result (IsVerdictOn (development_shown development) cert.now) }
+    ensures linearizable { IfAccepted result (λ D. IsLinearizableObject D.specification D.object) }
+{
+    let _ = cert;
+    match count {
+        Ok(count) => {
+            conditions_use_their_variables(&development);
+            derived_is_linearizable(&development);
+            Ok(Verdict::Accepted(Accepted::new(development, count)))
+        }
+        Err(fault) => refused_for(fault),
+    }
 }

@@ -1,5 +1,6 @@
 //! The first refusal of proofs that come one after another, told as soon as it is certain.
 
+use crate::proving::Prover;
 use crate::walk::Walk;
 use lc_base::{Fault, OutOfMemory, Refusal};
 use lc_cert::Entry;
@@ -41,10 +42,11 @@ impl Progress {
     }
 
     /// Takes a proof of the next condition.
-    fn prove_next(
+    fn prove_next<P: Prover>(
         &mut self,
         alloc: Global,
         development: &Development,
+        prover: &mut P,
         proof: &Proof,
     ) -> Result<(), OutOfMemory>
         requires in_turn { (taken : List Proved) × IsInTurn (development_shown development.now) taken self.old.walk }
@@ -54,7 +56,7 @@ impl Progress {
         ensures { OnOk result ((taken : List Proved) → IsInTurn (development_shown development.now) taken self.old.walk →
             IsProgress (development_shown development.now) (taken ++ (record { number = self.old.walk.next; proof = proof_of proof.now } ∷ [])) self.new) }
     {
-        match self.walk.prove_next(alloc, development, proof) {
+        match self.walk.prove_next_by(alloc, development, prover, proof) {
             Ok(()) => Ok(()),
             Err(Fault::Refused(refusal)) => {
                 self.told = Some(refusal);
@@ -66,10 +68,11 @@ impl Progress {
 
     /// Takes a proof, whose number is above those of all that were taken: it proves the next condition, or it is told why the
     /// proofs are refused.
-    pub(crate) fn take(
+    pub(crate) fn take<P: Prover>(
         &mut self,
         alloc: Global,
         development: &Development,
+        prover: &mut P,
         entry: &Entry,
     ) -> Result<(), OutOfMemory>
         requires known { (taken : List Proved) × IsProgress (development_shown development.now) taken self.old }
@@ -88,7 +91,7 @@ impl Progress {
             self.told = Some(Refusal::Missing(self.walk.next));
             return Ok(());
         }
-        self.prove_next(alloc, development, &entry.proof)
+        self.prove_next(alloc, development, prover, &entry.proof)
     }
 
     /// How many conditions there are, where those that were taken are all proofs, and each condition is proved, and there is no

@@ -45,3 +45,45 @@ pub fn prove_one(
         Err(fault) => Err(fault_of(number, fault)),
     }
 }
+
+/// Finds out whether proofs prove conditions, as `prove_one` says of each.
+pub trait Prover {
+    ghost use Rattle.std.specs.Prelude.{◌≡◌, ◌≤◌};
+    ghost use Rattle.lc_table.specs.Tables.{Keeps};
+    ghost use Rattle.lc_kernel.specs.Proofs.{size};
+    ghost use Rattle.lc_kernel.specs.View.{proof_of};
+    ghost use Rattle.lc_cond.specs.ConditionView.{condition_in, IsCondition};
+    ghost use Rattle.lc_check.specs.Answers.{IsBounded, ProvesOne};
+
+    /// Whether the proof derives the condition of this number.
+    fn prove(
+        &mut self,
+        alloc: Global,
+        terms: &mut Terms,
+        number: u64,
+        condition: &Condition,
+        proof: &Proof,
+    ) -> Result<(), Fault>
+        requires known { IsCondition terms.old condition.now }
+        requires bounded { IsBounded (condition_in terms.old condition.now) }
+        requires steps { size (proof_of proof.now) ≤ 16777216 }
+        ensures exactly { ProvesOne number (condition_in terms.old condition.now) (proof_of proof.now) result }
+        ensures kept { Keeps terms.old terms.new };
+}
+
+/// Calls `prove_one`, and does nothing else.
+#[derive(Clone, Copy)]
+pub struct Alone;
+
+impl Prover for Alone {
+    fn prove(
+        &mut self,
+        alloc: Global,
+        terms: &mut Terms,
+        number: u64,
+        condition: &Condition,
+        proof: &Proof,
+    ) -> Result<(), Fault> {
+        prove_one(alloc, terms, number, condition, proof)
+    }
+}

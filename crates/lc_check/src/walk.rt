@@ -1,7 +1,7 @@
 //! The conditions of a development one after another, each with its proof.
 ghost use Rattle.std.specs.Prelude.{◌≡◌, suc, IfOk};
 
-use crate::proving::prove_one;
+use crate::proving::{Alone, Prover};
 use lc_base::{Fault, OutOfMemory};
 use lc_cond::laws::{conditions_have_few_variables, conditions_use_their_variables};
 use lc_cond::{Condition, ConditionStream};
@@ -97,10 +97,26 @@ impl Walk {
         requires steps { size (proof_of proof.now) ≤ 16777216 }
         ensures { IsProvenOn (development_shown development.now) (proof_of proof.now) self.old self.new result }
     {
+        self.prove_next_by(alloc, development, &mut Alone, proof)
+    }
+
+    /// The same, as this prover finds.
+    pub fn prove_next_by<P: Prover>(
+        &mut self,
+        alloc: Global,
+        development: &Development,
+        prover: &mut P,
+        proof: &Proof,
+    ) -> Result<(), Fault>
+        requires in_turn { (taken : List Proved) × IsInTurn (development_shown development.now) taken self.old }
+        requires stands { HasNext self.old }
+        requires steps { size (proof_of proof.now) ≤ 16777216 }
+        ensures { IsProvenOn (development_shown development.now) (proof_of proof.now) self.old self.new result }
+    {
         conditions_use_their_variables(development);
         conditions_have_few_variables(development);
         let condition = &self.part[self.place];
-        match prove_one(alloc, &mut self.terms, self.next, condition, proof) {
+        match prover.prove(alloc, &mut self.terms, self.next, condition, proof) {
             Ok(()) => {
                 self.next = number_behind(self.next)?;
                 self.place += 1;

@@ -4,6 +4,7 @@ ghost use Rattle.lc_cert.specs.CertificateView.{entries_in};
 ghost use Rattle.lc_cert.specs.Certificates.{Entry as Proved, proof_at};
 ghost use Rattle.lc_cert.specs.EntryView.{entry_of};
 ghost use Rattle.lc_cert.specs.Files.{IsAnswerTo};
+ghost use Rattle.lc_cert.specs.OneByOne.{names_known, IsSingleRead};
 ghost use Rattle.lc_cert.specs.Pieces.{IsAfterTaking, IsAnswerOf, waiting};
 ghost use Rattle.lc_cert.specs.Printed.{certificate_line};
 ghost use Rattle.lc_hints.specs.Files.{IsAnswerTo as IsHintAnswerTo};
@@ -12,7 +13,9 @@ ghost use Rattle.lc_outline.specs.Development.{Development as Shown};
 ghost use Rattle.lc_outline.specs.DevelopmentView.{development_shown};
 
 use lc_base::{Fault, OutOfMemory};
-use lc_cert::{CertReader, Certificate, Entry, certificate_of, certificate_text};
+use lc_cert::{
+    CertReader, Certificate, Entry, EntryReader, Single, certificate_of, certificate_text,
+};
 use lc_hints::{Hints, hints_of};
 use lc_kernel::Proof;
 use lc_outline::Development;
@@ -61,6 +64,19 @@ pub fn finishing_a_certificate(reader: CertReader, development: &Development) ->
         IsAnswerOf (development_shown development.now) fed (taken ++ waiting reader) result }
 {
     reader.finish(development)
+}
+
+/// An entry that stands alone is answered where it is one of this number.
+pub fn reading_an_entry(
+    reader: &EntryReader<'_>,
+    alloc: Global,
+    text: &[u8],
+    number: u64,
+    item: u64,
+) -> Result<Option<Single>, OutOfMemory>
+    ensures { IfOk result (IsSingleRead (names_known reader.now) text.now number item) }
+{
+    reader.read(alloc, text, number, item)
 }
 
 /// A file is answered with its hints, or with its first refusal.

@@ -8,11 +8,11 @@ use Rattle.lc_check.proofs.certificate_session.feed_all.Given as goal
 
 -- the proofs that were taken of what was fed
 abbrev pub invariant-entries : goal.invariant-entries
-invariant-entries l = record {
+invariant-entries g l = record {
   lives : is_spent l.reader ≡ false;
   goes : (fed : List ℕ) → IsUpTo (development_shown l.development) fed l.fn.reader l.fn.progress
       → (taken : List Entry) × IsAfterTaking (development_shown l.development) (fed ++ l.piece) taken l.reader × IsProgress (development_shown l.development) taken l.progress;
 }
 
 abbrev pub decreases-entries : goal.decreases-entries
-decreases-entries l = length (waiting l.reader)
+decreases-entries g l = length (waiting l.reader)

@@ -10,17 +10,17 @@ use Rattle.lc_check.specs.Walking.{IsInTurn, IsAdvanced}
 use Rattle.lc_check.proofs.progress.Progress.take.Goals as goal
 
 pub returns-then-is_some : goal.returns-then-is_some
-returns-then-is_some c = λ taken h. told_on (development_shown c.args.development.now) taken (entry_of c.args.entry.now ∷ []) c.args.self.now c.if-is_some.ensures h
+returns-then-is_some g c = λ taken h. told_on (development_shown c.args.development.now) taken (entry_of c.args.entry.now ∷ []) c.args.self.now c.if-is_some.ensures h
 
 pub returns-then-not-branch : goal.returns-then-not-branch
-returns-then-not-branch c = λ taken h.
+returns-then-not-branch g c = λ taken h.
     let d = development_shown c.args.development.now in
     let old = c.args.self.now in
     let here : IsAdvanced d old.walk c.advance.new.self false = subst (IsAdvanced d old.walk c.advance.new.self) c.if-not-branch.true c.in_ok-advance.ensures in
     extra_certain d taken old.walk (entry_of c.args.entry.now) (untold d taken old (none_of old.told c.if-is_some.ensures) h) here.0
 
 pub returns-then-entry-self : goal.returns-then-entry-self
-returns-then-entry-self c = λ taken h.
+returns-then-entry-self g c = λ taken h.
     let d = development_shown c.args.development.now in
     let old = c.args.self.now in
     let new = c.advance.new.self in
@@ -28,7 +28,7 @@ returns-then-entry-self c = λ taken h.
     missing_at d taken new (entry_of c.args.entry.now) here.1 (went_on d taken old.walk new (untold d taken old (none_of old.told c.if-is_some.ensures) h) here.0) c.if-entry-self.true
 
 pub prove_next-requires-clause-in_turn : goal.prove_next-requires-clause-in_turn
-prove_next-requires-clause-in_turn c =
+prove_next-requires-clause-in_turn g c =
     let d = development_shown c.args.development.now in
     let old = c.args.self.now in
     let new = c.advance.new.self in
@@ -36,7 +36,7 @@ prove_next-requires-clause-in_turn c =
     (c.requires.known.0, went_on d c.requires.known.0 old.walk new (untold d c.requires.known.0 old (none_of old.told c.if-is_some.ensures) c.requires.known.1) here.0)
 
 pub returns : goal.returns
-returns c =
+returns g c =
     let d = development_shown c.args.development.now in
     let old = c.args.self.now in
     let new = c.advance.new.self in
