@@ -11,6 +11,9 @@ use Rattle.lc_table.specs.NodeTables.{Table}
 use Rattle.lc_table.specs.Rows.{Extends}
 use Rattle.lc_table.specs.Tables.{parts, formulas, term_in, column_in, formula_in, HasTerm, HasColumn, HasFormula, IsTerm, IsColumn, IsFormula, Keeps}
 use Rattle.lc_table.specs.Copies.{AreCopied, Copies}
+use Rattle.lc_term.specs.Syntax as S
+use Rattle.lc_table.specs.NodeChains.{stored_to}
+use Rattle.lc_table.proofs.Later.{term_later, column_later, term_is, column_is, kept_on, same_store}
 use Rattle.lc_table.proofs.Rows.{kept_left}
 use Rattle.lc_table.proofs.FormulaNodes.{formula-there}
 use Rattle.lc_table.proofs.TermNodes.{term-there, column-there}
@@ -69,6 +72,17 @@ part_noted there here old new k v h at now rest = record {
   parts_copied = noted (parts there) (parts here) old.parts.entries new.parts.entries k v h.parts_copied at now;
   formulas_copied = subst (λ m. AreCopied (formulas there) (formulas here) m.entries) (sym rest) h.formulas_copied;
 }
+
+pub column_noted : (there here : Table) (old new : Copied) (k v : ColExprId) → Copies there here old → IsColumn there k → HasColumn here v (column_in there k)
+    → ((q : ℕ) → lookup (nat_eq q) new.parts.entries ≡ cond (nat_eq k.0 q) (Some v.0) (lookup (nat_eq q) old.parts.entries)) → new.formulas ≡ old.formulas → Copies there here new
+column_noted there here old new k v h is at now rest = part_noted there here old new k.0 v.0 h (at ∙ sym (column-there (parts there) k is)) now rest
+
+-- a store is copied, from what it stores to and its terms, which are copied one after another
+pub copied_store : (there t0 t1 t2 : Table) (store b : ColExprId) (d : S.Column) (i v : S.Term) (l m : TermId) → column_in there store ≡ S.Store d i v → Keeps t0 t1 → Keeps t1 t2 →
+    HasColumn t0 b (stored_to (column_in there store)) → HasTerm t1 l i → HasTerm t2 m v → S.Store (column_in t2 b) (term_in t2 l) (term_in t2 m) ≡ column_in there store
+copied_store there t0 t1 t2 store b d i v l m tree k1 k2 below index value =
+    let at = column_is t2 b _ (column_later t0 t2 b _ below (kept_on t0 t1 t2 k1 k2)) ∙ ap stored_to tree in
+    same_store _ _ _ _ _ _ at (term_is t2 l _ (term_later t1 t2 l _ index k2)) (term_is t2 m _ value) ∙ sym tree
 
 pub formula_noted : (there here : Table) (old new : Copied) (k : FormulaId) (v : FormulaId) → Copies there here old → IsFormula there k → HasFormula here v (formula_in there k)
     → ((q : ℕ) → lookup (nat_eq q) new.formulas.entries ≡ cond (nat_eq k.0 q) (Some v.0) (lookup (nat_eq q) old.formulas.entries)) → new.parts ≡ old.parts → Copies there here new

@@ -1,11 +1,15 @@
 //! The stores of a column expression of a table, by number, so that a walk over a long chain of them is a loop.
-ghost use Rattle.std.specs.Prelude.{◌≡◌, ◌≤◌, IfOk, false};
+ghost use Rattle.std.specs.Prelude.{◌≡◌, ◌≤◌, IfOk, IfSome, None, Some, false, nat_eq};
+ghost use Rattle.std.specs.Map.{lookup};
 ghost use Rattle.lc_term.specs.Chains.{is_store};
 ghost use Rattle.lc_table.specs.NodeChains.{below_stores, AreStores};
+ghost use Rattle.lc_table.specs.Put.{occurrence_eq};
 ghost use Rattle.lc_table.specs.Tables.{column_in, IsColumn};
 
 use crate::node::{ColExprId, TermNode};
+use crate::put::{Occurrence, ReplacedNodes};
 use crate::table::Terms;
+use indexmap::IndexMap;
 use lc_base::OutOfMemory;
 use std::alloc::Global;
 
@@ -14,6 +18,27 @@ use std::alloc::Global;
 pub struct NodeChain {
     pub base: ColExprId,
     pub stores: Vec<ColExprId>,
+}
+
+/// The same, as far as it is not known already what becomes of it: what is known to become of the base, if that is.
+#[derive(Drop)]
+pub(crate) struct Waiting {
+    pub(crate) base: ColExprId,
+    pub(crate) known: Option<u32>,
+    pub(crate) stores: Vec<ColExprId>,
+}
+
+impl Waiting {
+    // What stands below the stores, where what is no store stays as it is.
+    pub(crate) fn below(&self) -> ColExprId
+        ensures known { IfSome self.now.known (λ number. result.0 ≡ number) }
+        ensures base { self.now.known ≡ None → result.0 ≡ self.now.base.0 }
+    {
+        match self.known {
+            Some(number) => ColExprId(number),
+            None => self.base,
+        }
+    }
 }
 
 impl Terms {
@@ -36,6 +61,97 @@ impl Terms {
                 }
                 TermNode::Base(_) | TermNode::Affine(_, _) => {
                     return Ok(NodeChain { base, stores });
+                }
+                _ => unreachable!(),
+            }
+        }
+    }
+
+    // A column expression in parts, down to what is done.
+    pub(crate) fn chain_to_done(
+        &self,
+        alloc: Global,
+        column: ColExprId,
+        done: &IndexMap<u32, u32>,
+    ) -> Result<Waiting, OutOfMemory>
+        requires { IsColumn self.now column }
+        ensures stores { IfOk result (λ chain. AreStores self.now column.0 (column_in self.now column) chain.stores.items) }
+        ensures below { IfOk result (λ chain. below_stores (column_in self.now column) chain.stores.items ≡ column_in self.now chain.base) }
+        ensures is { IfOk result (λ chain. IsColumn self.now chain.base) }
+        ensures within { IfOk result (λ chain. chain.base.0 ≤ column.0) }
+        ensures known { IfOk result (λ chain. IfSome chain.known (λ number. lookup (nat_eq chain.base.0) done.now.entries ≡ Some number)) }
+        ensures base { IfOk result (λ chain. chain.known ≡ None → is_store (column_in self.now chain.base) ≡ false) }
+    {
+        let mut stores = Vec::new(alloc);
+        let mut base = column;
+        'stores: loop {
+            if let Some(number) = done.get(&base.0) {
+                let known = Some(*number);
+                return Ok(Waiting {
+                    base,
+                    known,
+                    stores,
+                });
+            }
+            match self.column_node(base) {
+                TermNode::Store(below, _, _) => {
+                    stores.push(base)?;
+                    base = below;
+                }
+                TermNode::Base(_) | TermNode::Affine(_, _) => {
+                    let known = None;
+                    return Ok(Waiting {
+                        base,
+                        known,
+                        stores,
+                    });
+                }
+                _ => unreachable!(),
+            }
+        }
+    }
+
+    // The same, below as many quantifiers as `depth` counts.
+    pub(crate) fn chain_to_replaced(
+        &self,
+        alloc: Global,
+        column: ColExprId,
+        done: &ReplacedNodes,
+        depth: u32,
+    ) -> Result<Waiting, OutOfMemory>
+        requires { IsColumn self.now column }
+        ensures stores { IfOk result (λ chain. AreStores self.now column.0 (column_in self.now column) chain.stores.items) }
+        ensures below { IfOk result (λ chain. below_stores (column_in self.now column) chain.stores.items ≡ column_in self.now chain.base) }
+        ensures is { IfOk result (λ chain. IsColumn self.now chain.base) }
+        ensures within { IfOk result (λ chain. chain.base.0 ≤ column.0) }
+        ensures known { IfOk result (λ chain. IfSome chain.known (λ number. lookup (occurrence_eq (record { number = chain.base.0; depth = depth })) done.now.parts.entries ≡ Some number)) }
+        ensures base { IfOk result (λ chain. chain.known ≡ None → is_store (column_in self.now chain.base) ≡ false) }
+    {
+        let mut stores = Vec::new(alloc);
+        let mut base = column;
+        'stores: loop {
+            let known = done.part(Occurrence {
+                number: base.0,
+                depth,
+            });
+            if known.is_some() {
+                return Ok(Waiting {
+                    base,
+                    known,
+                    stores,
+                });
+            }
+            match self.column_node(base) {
+                TermNode::Store(below, _, _) => {
+                    stores.push(base)?;
+                    base = below;
+                }
+                TermNode::Base(_) | TermNode::Affine(_, _) => {
+                    return Ok(Waiting {
+                        base,
+                        known,
+                        stores,
+                    });
                 }
                 _ => unreachable!(),
             }

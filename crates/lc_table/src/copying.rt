@@ -1,8 +1,13 @@
 //! A formula of one table entered in another.
-ghost use Rattle.std.specs.Prelude.{◌≡◌, IfOk, OnOk, [], slice_get, is_some, true};
+ghost use Rattle.std.specs.Prelude.{◌≡◌, IfOk, IfSome, OnOk, [], slice_get, Some, None, is_some, true, false, nat_eq};
+ghost use Rattle.std.specs.Map.{lookup};
+ghost use Rattle.lc_term.specs.Chains.{is_store};
+ghost use Rattle.lc_table.specs.NodeChains.{stored_to};
+ghost use Rattle.lc_table.specs.Nodes.{is_term};
 ghost use Rattle.lc_table.specs.Tables.{parts, term_in, column_in, formula_in, formulas_in, IsTerm, IsColumn, IsFormula, AreFormulas, HasTerm, HasColumn, HasFormula, Keeps};
 ghost use Rattle.lc_table.specs.Copies.{Copies};
 
+use crate::chains::Waiting;
 use crate::node::{ColExprId, FormulaId, FormulaNode, TermId, TermNode};
 use crate::table::Terms;
 use indexmap::IndexMap;
@@ -73,7 +78,7 @@ impl Terms {
     }
 
     #[cycle(copied_part)]
-    #[tactic(auto, using(crate::proofs::Copied::copies_kept, crate::proofs::Copied::column_found, crate::proofs::Copied::part_noted, crate::proofs::Copied::column_stands, crate::proofs::Copied::column_standing))]
+    #[tactic(auto, using(crate::proofs::Later::kept_on))]
     fn copied_column(
         &mut self,
         other: &Terms,
@@ -86,15 +91,84 @@ impl Terms {
         ensures kept { Keeps self.old self.new }
         ensures copies { OnOk result (Copies other.now self.new copied.new) }
     {
-        if let Some(number) = copied.parts.get(&column.0) {
-            return Ok(ColExprId(*number));
+        let mut chain = other.chain_to_done(self.allocator(), column, &copied.parts)?;
+        let mut here = self.copied_below(other, &chain, copied)?;
+        'stores: while let Some(store) = chain.stores.pop() {
+            here = self.copied_store(other, store, here, copied)?;
         }
-        let number = self.copied_part(other, column.0, copied)?;
-        copied.parts.insert(column.0, number)?;
-        Ok(ColExprId(number))
+        Ok(here)
     }
 
-    // The number here of what stands there at a number, which is not copied yet.
+    // The number here of what stands there below the stores that are not copied yet.
+    #[tactic(auto, using(crate::proofs::Copied::copies_kept, crate::proofs::Copied::column_found, crate::proofs::Copied::column_noted))]
+    fn copied_below(
+        &mut self,
+        other: &Terms,
+        chain: &Waiting,
+        copied: &mut Copied,
+    ) -> Result<ColExprId, OutOfMemory>
+        requires there { IsColumn other.now chain.now.base }
+        requires known { IfSome chain.now.known (λ number. lookup (nat_eq chain.now.base.0) copied.old.parts.entries ≡ Some number) }
+        requires base { chain.now.known ≡ None → is_store (column_in other.now chain.now.base) ≡ false }
+        requires copies { Copies other.now self.old copied.old }
+        ensures id { IfOk result (λ k. HasColumn self.new k (column_in other.now chain.now.base)) }
+        ensures kept { Keeps self.old self.new }
+        ensures copies { OnOk result (Copies other.now self.new copied.new) }
+    {
+        match chain.known {
+            Some(number) => Ok(ColExprId(number)),
+            None => {
+                let number = self.copied_root(other, chain.base)?;
+                copied.parts.insert(chain.base.0, number.0)?;
+                Ok(number)
+            }
+        }
+    }
+
+    fn copied_root(&mut self, other: &Terms, base: ColExprId) -> Result<ColExprId, OutOfMemory>
+        requires there { IsColumn other.now base }
+        requires base { is_store (column_in other.now base) ≡ false }
+        ensures id { IfOk result (λ k. HasColumn self.new k (column_in other.now base)) }
+        ensures kept { Keeps self.old self.new }
+    {
+        match other.column_node(base) {
+            TermNode::Base(column) => self.base(column),
+            TermNode::Affine(slope, start) => self.affine(slope, start),
+            _ => unreachable!(),
+        }
+    }
+
+    // The number here of a store, where what it stores to has the number `below` here.
+    #[cycle(copied_part)]
+    #[tactic(auto, using(crate::proofs::Later::kept_on, crate::proofs::Later::is_term_later, crate::proofs::Later::is_column_later))]
+    fn copied_store(
+        &mut self,
+        other: &Terms,
+        store: ColExprId,
+        below: ColExprId,
+        copied: &mut Copied,
+    ) -> Result<ColExprId, OutOfMemory>
+        requires there { IsColumn other.now store }
+        requires store { is_store (column_in other.now store) ≡ true }
+        requires below { HasColumn self.old below (stored_to (column_in other.now store)) }
+        requires copies { Copies other.now self.old copied.old }
+        ensures id { IfOk result (λ k. HasColumn self.new k (column_in other.now store)) }
+        ensures kept { Keeps self.old self.new }
+        ensures copies { OnOk result (Copies other.now self.new copied.new) }
+    {
+        match other.column_node(store) {
+            TermNode::Store(_, index, value) => {
+                let index = self.copied_term(other, index, copied)?;
+                let value = self.copied_term(other, value, copied)?;
+                let number = self.store(below, index, value)?;
+                copied.parts.insert(store.0, number.0)?;
+                Ok(number)
+            }
+            _ => unreachable!(),
+        }
+    }
+
+    // The number here of a term there, which is not copied yet.
     #[cycle(copied_part)]
     #[tactic(auto, using(crate::proofs::Later::term_later, crate::proofs::Later::column_later, crate::proofs::Later::term_is, crate::proofs::Later::column_is, crate::proofs::Later::kept_on, crate::proofs::Later::is_term_later, crate::proofs::Later::is_column_later))]
     fn copied_part(
@@ -104,6 +178,7 @@ impl Terms {
         copied: &mut Copied,
     ) -> Result<u32, OutOfMemory>
         requires there { is_some (slice_get (parts other.now) part) ≡ true }
+        requires term { is_term (slice_get (parts other.now) part) ≡ true }
         requires copies { Copies other.now self.old copied.old }
         ensures id { IfOk result (λ k. slice_get (parts self.new) k ≡ slice_get (parts other.now) part) }
         ensures kept { Keeps self.old self.new }
@@ -132,14 +207,7 @@ impl Terms {
                 let index = self.copied_term(other, index, copied)?;
                 Ok(self.read(column, index)?.0)
             }
-            TermNode::Base(column) => Ok(self.base(column)?.0),
-            TermNode::Store(column, index, value) => {
-                let column = self.copied_column(other, column, copied)?;
-                let index = self.copied_term(other, index, copied)?;
-                let value = self.copied_term(other, value, copied)?;
-                Ok(self.store(column, index, value)?.0)
-            }
-            TermNode::Affine(slope, start) => Ok(self.affine(slope, start)?.0),
+            TermNode::Base(_) | TermNode::Affine(_, _) | TermNode::Store(_, _, _) => unreachable!(),
         }
     }
 

@@ -21,27 +21,35 @@ impl Terms {
         requires { is_some (slice_get (parts self.now) part) ≡ true }
         ensures { result ≡ true → is_closed_part (part_in self.now part) ≡ true }
     {
-        if *looks == 0 {
-            return false;
-        }
-        *looks -= 1;
-        match self.part_node(part) {
-            TermNode::Number(_)
-            | TermNode::Variable(_)
-            | TermNode::Base(_)
-            | TermNode::Affine(_, _) => true,
-            TermNode::Bound(_) => false,
-            TermNode::Add(left, right) | TermNode::Subtract(left, right) => {
-                self.is_seen_closed(left.0, looks) && self.is_seen_closed(right.0, looks)
+        let mut rest = part;
+        'stores: loop {
+            if *looks == 0 {
+                return false;
             }
-            TermNode::Multiply(_, term) => self.is_seen_closed(term.0, looks),
-            TermNode::Read(column, index) => {
-                self.is_seen_closed(column.0, looks) && self.is_seen_closed(index.0, looks)
-            }
-            TermNode::Store(column, index, value) => {
-                self.is_seen_closed(index.0, looks)
-                    && self.is_seen_closed(value.0, looks)
-                    && self.is_seen_closed(column.0, looks)
+            *looks -= 1;
+            match self.part_node(rest) {
+                TermNode::Number(_)
+                | TermNode::Variable(_)
+                | TermNode::Base(_)
+                | TermNode::Affine(_, _) => return true,
+                TermNode::Bound(_) => return false,
+                TermNode::Add(left, right) | TermNode::Subtract(left, right) => {
+                    return self.is_seen_closed(left.0, looks)
+                        && self.is_seen_closed(right.0, looks);
+                }
+                TermNode::Multiply(_, term) => return self.is_seen_closed(term.0, looks),
+                TermNode::Read(column, index) => {
+                    return self.is_seen_closed(column.0, looks)
+                        && self.is_seen_closed(index.0, looks);
+                }
+                TermNode::Store(below, index, value) => {
+                    if !self.is_seen_closed(index.0, looks)
+                        || !self.is_seen_closed(value.0, looks)
+                    {
+                        return false;
+                    }
+                    rest = below.0;
+                }
             }
         }
     }

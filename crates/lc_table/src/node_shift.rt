@@ -1,5 +1,8 @@
 //! Terms and column expressions of a table, moved below further quantifiers.
 ghost use Rattle.std.specs.Prelude.{◌≡◌, IfOk, OnOk, slice_get, Some, is_some, true};
+ghost use Rattle.lc_term.specs.Chains.{is_store};
+ghost use Rattle.lc_table.specs.NodeChains.{stored_to};
+ghost use Rattle.lc_table.specs.Nodes.{is_term};
 ghost use Rattle.lc_term.specs.Syntax as S;
 ghost use Rattle.lc_table.specs.NodeReplacement.{part_in, replaced_part, AreReplaced};
 ghost use Rattle.lc_term.specs.Replacement.{replace_column};
@@ -82,7 +85,7 @@ impl Terms {
     }
 
     #[cycle(shifted_part)]
-    #[tactic(auto, using(crate::proofs::NodeReplacement::column_replaced, crate::proofs::NodeReplacement::column_at, crate::proofs::NodeReplacement::column_noted, crate::proofs::Copied::column_stands))]
+    #[tactic(auto, using(crate::proofs::Later::kept_on))]
     fn shifted_column(
         &mut self,
         column: ColExprId,
@@ -96,15 +99,46 @@ impl Terms {
         ensures kept { Keeps self.old self.new }
         ensures done { OnOk result (AreReplaced (shifting added cutoff) (parts self.new) done.new.entries) }
     {
-        if let Some(number) = done.get(&column.0) {
-            return Ok(ColExprId(*number));
+        let mut chain = self.chain_to_done(self.allocator(), column, done)?;
+        let mut moved = chain.below();
+        'stores: while let Some(store) = chain.stores.pop() {
+            moved = self.shifted_store(store, moved, added, cutoff, done)?;
         }
-        let number = self.shifted_part(column.0, added, cutoff, done)?;
-        done.insert(column.0, number)?;
-        Ok(ColExprId(number))
+        Ok(moved)
     }
 
-    // What stands at a number, moved, which is not moved yet.
+    // A store, moved, where what it stores to is moved to `below`.
+    #[cycle(shifted_part)]
+    #[tactic(auto, using(crate::proofs::Later::kept_on, crate::proofs::Later::is_term_later, crate::proofs::Later::is_term_still))]
+    fn shifted_store(
+        &mut self,
+        store: ColExprId,
+        below: ColExprId,
+        added: u32,
+        cutoff: u32,
+        done: &mut IndexMap<u32, u32>,
+    ) -> Result<ColExprId, OutOfMemory>
+        requires there { IsColumn self.old store }
+        requires store { is_store (column_in self.old store) ≡ true }
+        requires below { HasColumn self.old below (replace_column (shifting added cutoff) (stored_to (column_in self.old store))) }
+        requires done { AreReplaced (shifting added cutoff) (parts self.old) done.old.entries }
+        ensures id { IfOk result (λ k. HasColumn self.new k (replace_column (shifting added cutoff) (column_in self.old store))) }
+        ensures kept { Keeps self.old self.new }
+        ensures done { OnOk result (AreReplaced (shifting added cutoff) (parts self.new) done.new.entries) }
+    {
+        match self.column_node(store) {
+            TermNode::Store(_, index, value) => {
+                let index = self.shifted_term(index, added, cutoff, done)?;
+                let value = self.shifted_term(value, added, cutoff, done)?;
+                let number = self.store(below, index, value)?;
+                done.insert(store.0, number.0)?;
+                Ok(number)
+            }
+            _ => unreachable!(),
+        }
+    }
+
+    // A term, moved, which is not moved yet.
     #[cycle(shifted_part)]
     #[tactic(auto, using(crate::proofs::Later::kept_on, crate::proofs::Later::keeps_itself, crate::proofs::Later::is_term_later, crate::proofs::Later::is_column_later, crate::proofs::Later::is_term_still, crate::proofs::NodeReplacement::part_there))]
     fn shifted_part(
@@ -115,6 +149,7 @@ impl Terms {
         done: &mut IndexMap<u32, u32>,
     ) -> Result<u32, OutOfMemory>
         requires there { is_some (slice_get (parts self.old) part) ≡ true }
+        requires term { is_term (slice_get (parts self.old) part) ≡ true }
         requires done { AreReplaced (shifting added cutoff) (parts self.old) done.old.entries }
         ensures id { IfOk result (λ k. slice_get (parts self.new) k ≡ Some (replaced_part (shifting added cutoff) (part_in self.old part))) }
         ensures kept { Keeps self.old self.new }
@@ -122,10 +157,7 @@ impl Terms {
     {
         match self.part_node(part) {
             TermNode::Bound(number) => Ok(self.bound(moved(number, added, cutoff)?)?.0),
-            TermNode::Number(_)
-            | TermNode::Variable(_)
-            | TermNode::Base(_)
-            | TermNode::Affine(_, _) => Ok(part),
+            TermNode::Number(_) | TermNode::Variable(_) => Ok(part),
             TermNode::Add(left, right) => {
                 let left = self.shifted_term(left, added, cutoff, done)?;
                 let right = self.shifted_term(right, added, cutoff, done)?;
@@ -145,12 +177,7 @@ impl Terms {
                 let index = self.shifted_term(index, added, cutoff, done)?;
                 Ok(self.read(column, index)?.0)
             }
-            TermNode::Store(column, index, value) => {
-                let column = self.shifted_column(column, added, cutoff, done)?;
-                let index = self.shifted_term(index, added, cutoff, done)?;
-                let value = self.shifted_term(value, added, cutoff, done)?;
-                Ok(self.store(column, index, value)?.0)
-            }
+            TermNode::Base(_) | TermNode::Affine(_, _) | TermNode::Store(_, _, _) => unreachable!(),
         }
     }
 }

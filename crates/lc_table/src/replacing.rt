@@ -1,13 +1,17 @@
 //! Columns and variables of a table's terms and formulas replaced, all at once. What is shared is replaced once.
-ghost use Rattle.std.specs.Prelude.{◌≡◌, suc, IfOk, OnOk, map, slice_get, Some, is_some, true};
+ghost use Rattle.std.specs.Prelude.{◌≡◌, suc, IfOk, IfSome, OnOk, map, slice_get, Some, None, is_some, true, false};
+ghost use Rattle.std.specs.Map.{lookup};
+ghost use Rattle.lc_term.specs.Chains.{is_store};
+ghost use Rattle.lc_table.specs.NodeChains.{stored_to};
 ghost use Rattle.lc_table.specs.NodeReplacement.{part_in, replaced_part};
 ghost use Rattle.lc_table.specs.Filling.{IsFilled, Stands};
-ghost use Rattle.lc_table.specs.Nodes.{term, column, part_of, PartFits, tree_of, TreeFits};
-ghost use Rattle.lc_table.specs.Put.{columns_put, columns_in, variables_put, replacement_of, Remembers};
+ghost use Rattle.lc_table.specs.Nodes.{term, column, is_term, part_of, PartFits, tree_of, TreeFits};
+ghost use Rattle.lc_table.specs.Put.{columns_put, columns_in, variables_put, replacement_of, occurrence_eq, Remembers};
 ghost use Rattle.lc_term.specs.Replacement.{replace, replace_term, replace_column, under_many};
 ghost use Rattle.lc_term.specs.Syntax as S;
 ghost use Rattle.lc_table.specs.Tables.{parts, formulas, term_in, column_in, formula_in, formulas_in, IsTerm, IsColumn, IsFormula, AreFormulas, HasTerm, HasColumn, HasFormula, Keeps};
 
+use crate::chains::Waiting;
 use crate::filling::{Filled, Filling};
 use crate::node::{ColExprId, FormulaId, FormulaNode, TermId, TermNode};
 use crate::put::{Occurrence, Put, PutColumns, PutVariables, ReplacedNodes};
@@ -272,7 +276,7 @@ impl Terms {
     }
 
     #[cycle(replaced_part)]
-    #[tactic(auto, using(crate::proofs::NodeReplacement::column_at, crate::proofs::Copied::column_stands))]
+    #[tactic(auto, using(crate::proofs::Later::kept_on))]
     fn replaced_column<R: Filled>(
         &mut self,
         alloc: Global,
@@ -287,16 +291,121 @@ impl Terms {
         ensures kept { Keeps self.old self.new }
         ensures done { OnOk result (Stands R.replacement self.new put.now done.new) }
     {
+        let mut chain = self.chain_to_replaced(alloc, column, done, depth)?;
+        let mut replaced = self.replaced_below::<R>(alloc, put, done, &chain, depth)?;
+        'stores: while let Some(store) = chain.stores.pop() {
+            replaced = self.replaced_store::<R>(alloc, put, done, store, replaced, depth)?;
+        }
+        Ok(replaced)
+    }
+
+    // What stands below the stores that are not replaced yet, replaced.
+    fn replaced_below<R: Filled>(
+        &mut self,
+        alloc: Global,
+        put: &Filling<'_>,
+        done: &mut ReplacedNodes,
+        chain: &Waiting,
+        depth: u32,
+    ) -> Result<ColExprId, OutOfMemory>
+        requires there { IsColumn self.old chain.now.base }
+        requires known { IfSome chain.now.known (λ number. lookup (occurrence_eq (record { number = chain.now.base.0; depth = depth })) done.old.parts.entries ≡ Some number) }
+        requires base { chain.now.known ≡ None → is_store (column_in self.old chain.now.base) ≡ false }
+        requires done { Stands R.replacement self.old put.now done.old }
+        ensures id { IfOk result (λ k. HasColumn self.new k (replace_column (under_many depth R.replacement) (column_in self.old chain.now.base))) }
+        ensures kept { Keeps self.old self.new }
+        ensures done { OnOk result (Stands R.replacement self.new put.now done.new) }
+    {
+        match chain.known {
+            Some(number) => Ok(ColExprId(number)),
+            None => self.replaced_end::<R>(alloc, put, done, chain.base, depth),
+        }
+    }
+
+    // A column expression that is no store, replaced, which is not replaced yet.
+    #[tactic(auto, using(crate::proofs::NodeReplacement::column_at))]
+    fn replaced_end<R: Filled>(
+        &mut self,
+        alloc: Global,
+        put: &Filling<'_>,
+        done: &mut ReplacedNodes,
+        base: ColExprId,
+        depth: u32,
+    ) -> Result<ColExprId, OutOfMemory>
+        requires there { IsColumn self.old base }
+        requires base { is_store (column_in self.old base) ≡ false }
+        requires done { Stands R.replacement self.old put.now done.old }
+        ensures id { IfOk result (λ k. HasColumn self.new k (replace_column (under_many depth R.replacement) (column_in self.old base))) }
+        ensures kept { Keeps self.old self.new }
+        ensures done { OnOk result (Stands R.replacement self.new put.now done.new) }
+    {
+        let number = self.replaced_root::<R>(alloc, put, base, depth)?;
         let occurrence = Occurrence {
-            number: column.0,
+            number: base.0,
             depth,
         };
-        if let Some(number) = done.part(occurrence) {
-            return Ok(ColExprId(number));
+        done.note_part(occurrence, number.0)?;
+        Ok(number)
+    }
+
+    fn replaced_root<R: Filled>(
+        &mut self,
+        alloc: Global,
+        put: &Filling<'_>,
+        base: ColExprId,
+        depth: u32,
+    ) -> Result<ColExprId, OutOfMemory>
+        requires there { IsColumn self.old base }
+        requires base { is_store (column_in self.old base) ≡ false }
+        requires put { IsFilled put.now self.old R.replacement }
+        ensures id { IfOk result (λ k. HasColumn self.new k (replace_column (under_many depth R.replacement) (column_in self.old base))) }
+        ensures kept { Keeps self.old self.new }
+    {
+        match self.column_node(base) {
+            TermNode::Base(column) => {
+                Ok(ColExprId(self.replaced_base::<R>(alloc, put, base.0, column, depth)?))
+            }
+            TermNode::Affine(_, _) => Ok(base),
+            _ => unreachable!(),
         }
-        let number = self.replaced_part::<R>(alloc, put, done, column.0, depth)?;
-        done.note_part(occurrence, number)?;
-        Ok(ColExprId(number))
+    }
+
+    // A store, replaced, where what it stores to is replaced by what stands at `below`.
+    #[cycle(replaced_part)]
+    #[tactic(auto, using(crate::proofs::Later::kept_on, crate::proofs::Later::is_term_later, crate::proofs::Later::is_term_still))]
+    fn replaced_store<R: Filled>(
+        &mut self,
+        alloc: Global,
+        put: &Filling<'_>,
+        done: &mut ReplacedNodes,
+        store: ColExprId,
+        below: ColExprId,
+        depth: u32,
+    ) -> Result<ColExprId, OutOfMemory>
+        requires there { IsColumn self.old store }
+        requires store { is_store (column_in self.old store) ≡ true }
+        requires below { HasColumn self.old below (replace_column (under_many depth R.replacement) (stored_to (column_in self.old store))) }
+        requires done { Stands R.replacement self.old put.now done.old }
+        ensures id { IfOk result (λ k. HasColumn self.new k (replace_column (under_many depth R.replacement) (column_in self.old store))) }
+        ensures kept { Keeps self.old self.new }
+        ensures done { OnOk result (Stands R.replacement self.new put.now done.new) }
+    {
+        let node = self.part_node(store.0);
+        match node {
+            TermNode::Store(_, index, value) => {
+                let index = self.replaced_term::<R>(alloc, put, done, index, depth)?;
+                let value = self.replaced_term::<R>(alloc, put, done, value, depth)?;
+                let changed = TermNode::Store(below, index, value);
+                let number = self.enter_changed(store.0, node, changed)?;
+                let occurrence = Occurrence {
+                    number: store.0,
+                    depth,
+                };
+                done.note_part(occurrence, number)?;
+                Ok(ColExprId(number))
+            }
+            _ => unreachable!(),
+        }
     }
 
     // The number of a node whose parts are replaced: the number `part` of the node before, where none of them changed.
@@ -319,7 +428,7 @@ impl Terms {
         }
     }
 
-    // What stands at a number, replaced, which is not replaced yet.
+    // A term, replaced, which is not replaced yet.
     #[cycle(replaced_part)]
     #[tactic(auto, using(crate::proofs::Later::kept_on, crate::proofs::Later::keeps_itself, crate::proofs::Later::is_term_later, crate::proofs::Later::is_column_later, crate::proofs::Later::is_term_still, crate::proofs::NodeReplacement::part_there, crate::proofs::NodeReplacement::node_later))]
     fn replaced_part<R: Filled>(
@@ -331,6 +440,7 @@ impl Terms {
         depth: u32,
     ) -> Result<u32, OutOfMemory>
         requires there { is_some (slice_get (parts self.old) part) ≡ true }
+        requires term { is_term (slice_get (parts self.old) part) ≡ true }
         requires done { Stands R.replacement self.old put.now done.old }
         ensures id { IfOk result (λ k. slice_get (parts self.new) k ≡ Some (replaced_part (under_many depth R.replacement) (part_in self.old part))) }
         ensures kept { Keeps self.old self.new }
@@ -341,9 +451,8 @@ impl Terms {
             TermNode::Variable(number) => {
                 self.replaced_variable::<R>(alloc, put, part, number, depth)
             }
-            TermNode::Base(column) => self.replaced_base::<R>(alloc, put, part, column, depth),
             TermNode::Bound(number) => { self.replaced_bound::<R>(alloc, put, part, number, depth) }
-            TermNode::Number(_) | TermNode::Affine(_, _) => Ok(part),
+            TermNode::Number(_) => Ok(part),
             TermNode::Add(left, right) => {
                 let left = self.replaced_term::<R>(alloc, put, done, left, depth)?;
                 let right = self.replaced_term::<R>(alloc, put, done, right, depth)?;
@@ -363,12 +472,7 @@ impl Terms {
                 let index = self.replaced_term::<R>(alloc, put, done, index, depth)?;
                 self.enter_changed(part, node, TermNode::Read(column, index))
             }
-            TermNode::Store(column, index, value) => {
-                let column = self.replaced_column::<R>(alloc, put, done, column, depth)?;
-                let index = self.replaced_term::<R>(alloc, put, done, index, depth)?;
-                let value = self.replaced_term::<R>(alloc, put, done, value, depth)?;
-                self.enter_changed(part, node, TermNode::Store(column, index, value))
-            }
+            TermNode::Base(_) | TermNode::Affine(_, _) | TermNode::Store(_, _, _) => unreachable!(),
         }
     }
 

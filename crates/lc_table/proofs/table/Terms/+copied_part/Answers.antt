@@ -1,9 +1,11 @@
-use Rattle.std.proofs.Common.{◌≡◌, ap, sym, ◌∙◌, ap₂, Some, rules, slice_get}
+use Rattle.std.proofs.Common.{◌≡◌, ap, sym, ◌∙◌, ap₂, Some, rules, slice_get, refl, subst, arith}
+use Rattle.lc_term.specs.Chains.{is_store}
 use Rattle.lc_term.specs.Syntax as S
 use Rattle.lc_table.specs.Nodes.{term as term_part, column as column_part}
-use Rattle.lc_table.specs.Tables.{parts, term_in, column_in}
-use Rattle.lc_table.proofs.Copied.{copies_kept}
-use Rattle.lc_table.proofs.Later.{term_later, column_later, term_is, column_is, kept_on, same_store}
+use Rattle.lc_table.specs.Tables.{parts, term_in, column_in, HasColumn}
+use Rattle.lc_table.proofs.Chained.{last_store}
+use Rattle.lc_table.proofs.Copied.{copies_kept, column_noted, copied_store}
+use Rattle.lc_table.proofs.Later.{column_later, term_is, column_is, kept_on}
 use Rattle.lc_table.proofs.table.Terms.+copied_part.Goals as goal
 
 pub copied_part-returns-in_ok-read-in-Read-clause-id : goal.copied_part-returns-in_ok-read-in-Read-clause-id
@@ -35,21 +37,49 @@ copied_part-returns-in_ok-multiply-in-Multiply-clause-copies t c = copies_kept c
 pub copied_part-returns-in_ok-read-in-Read-clause-copies : goal.copied_part-returns-in_ok-read-in-Read-clause-copies
 copied_part-returns-in_ok-read-in-Read-clause-copies t c = copies_kept c.args.other.now _ _ _ c.in_ok-index-in-Read.ensures.copies c.in_ok-read-in-Read.ensures.kept
 
-pub copied_part-returns-in_ok-base-in-Base-clause-copies : goal.copied_part-returns-in_ok-base-in-Base-clause-copies
-copied_part-returns-in_ok-base-in-Base-clause-copies t c = copies_kept c.args.other.now _ _ _ c.requires.copies c.in_ok-base-in-Base.ensures.kept
+pub copied_column-stores-init : goal.copied_column-stores-init
+copied_column-stores-init t c = (
+  c.in_ok-here.ensures.kept,
+  c.in_ok-here.ensures.copies,
+  c.in_ok-chain.ensures.stores,
+  subst (HasColumn c.copied_below.new.self c.in_ok-here.here) (sym c.in_ok-chain.ensures.below) c.in_ok-here.ensures.id,
+)
 
-pub copied_part-returns-in_ok-store-in-Store-clause-copies : goal.copied_part-returns-in_ok-store-in-Store-clause-copies
-copied_part-returns-in_ok-store-in-Store-clause-copies t c = copies_kept c.args.other.now _ _ _ c.in_ok-value-in-Store.ensures.copies c.in_ok-store-in-Store.ensures.kept
+pub copied_column-copied_store-requires : goal.copied_column-copied_store-requires
+copied_column-copied_store-requires t c =
+    let i = c.stores.invariant in
+    let other = c.args.other.now in
+    let last = last_store other c.args.column.0 (column_in other c.args.column) c.stores.chain.stores.items c.pop.new.self.items c.in-Some.store c.in-Some.ensures.items i.2 in
+    let within = last.1.within in
+    (omega arith, (last.1.column, (ap is_store last.1.tree ∙ last.1.store, (subst (HasColumn c.stores.self c.stores.here) last.2 i.3, i.1))))
 
-pub copied_part-returns-in_ok-affine-in-Affine-clause-copies : goal.copied_part-returns-in_ok-affine-in-Affine-clause-copies
-copied_part-returns-in_ok-affine-in-Affine-clause-copies t c = copies_kept c.args.other.now _ _ _ c.requires.copies c.in_ok-affine-in-Affine.ensures.kept
+pub copied_column-stores-preserved : goal.copied_column-stores-preserved
+copied_column-stores-preserved t c =
+    let i = c.stores.invariant in
+    let other = c.args.other.now in
+    let last = last_store other c.args.column.0 (column_in other c.args.column) c.stores.chain.stores.items c.pop.new.self.items c.in-Some.store c.in-Some.ensures.items i.2 in (
+      kept_on c.args.self.now c.stores.self c.copied_store.new.self i.0 c.in_ok-here-2.ensures.kept,
+      c.in_ok-here-2.ensures.copies,
+      last.0,
+      subst (HasColumn c.copied_store.new.self c.in_ok-here-2.here) last.1.tree c.in_ok-here-2.ensures.id,
+    )
 
-pub copied_part-returns-in_ok-store-in-Store-clause-id : goal.copied_part-returns-in_ok-store-in-Store-clause-id
-copied_part-returns-in_ok-store-in-Store-clause-id t c =
-    let there = c.args.other.now in
-    let now = c.copied_term-in-Store-2.new.self in
-    let value = term_is now _ _ c.in_ok-value-in-Store.ensures.id in
-    let index = term_is now _ _ (term_later _ now _ _ c.in_ok-index-in-Store.ensures.id c.in_ok-value-in-Store.ensures.kept) in
-    let column = column_is now _ _ (column_later _ now _ _ c.in_ok-column-in-Store.ensures.id (kept_on _ _ _ c.in_ok-index-in-Store.ensures.kept c.in_ok-value-in-Store.ensures.kept)) in
-    let at : slice_get (parts there) c.args.part ≡ Some (column_part (S.Store (column_in there c.in-Store.column) (term_in there c.in-Store.index) (term_in there c.in-Store.value))) = search rules in
-    c.in_ok-store-in-Store.ensures.id ∙ ap (λ x. Some (column_part x)) (same_store _ _ _ _ _ _ column index value) ∙ sym at
+pub copied_store-returns-clause-id : goal.copied_store-returns-clause-id
+copied_store-returns-clause-id t c =
+    let other = c.args.other.now in
+    let tree : column_in other c.args.store ≡ S.Store (column_in other c.in-Store.field-0) (term_in other c.in-Store.index) (term_in other c.in-Store.value) = search rules in
+    c.in_ok-number-in-Store.ensures.id
+    ∙ ap (λ x. Some (column_part x)) (copied_store other c.args.self.now c.copied_term.new.self c.copied_term-in-Store.new.self c.args.store c.args.below (column_in other c.in-Store.field-0) (term_in other c.in-Store.index)
+    (term_in other c.in-Store.value) c.in_ok-index-in-Store.index c.in_ok-value-in-Store.value tree c.in_ok-index-in-Store.ensures.kept c.in_ok-value-in-Store.ensures.kept c.requires.below c.in_ok-index-in-Store.ensures.id
+    c.in_ok-value-in-Store.ensures.id)
+
+pub copied_store-returns-clause-copies : goal.copied_store-returns-clause-copies
+copied_store-returns-clause-copies t c =
+    let other = c.args.other.now in
+    let t2 = c.copied_term-in-Store.new.self in
+    let t3 = c.store.new.self in
+    let tree : column_in other c.args.store ≡ S.Store (column_in other c.in-Store.field-0) (term_in other c.in-Store.index) (term_in other c.in-Store.value) = search rules in
+    let same = copied_store other c.args.self.now c.copied_term.new.self t2 c.args.store c.args.below (column_in other c.in-Store.field-0) (term_in other c.in-Store.index) (term_in other c.in-Store.value) c.in_ok-index-in-Store.index
+    c.in_ok-value-in-Store.value tree c.in_ok-index-in-Store.ensures.kept c.in_ok-value-in-Store.ensures.kept c.requires.below c.in_ok-index-in-Store.ensures.id c.in_ok-value-in-Store.ensures.id in
+    column_noted other t3 c.copied_term-in-Store.new.copied _ c.args.store c.in_ok-number-in-Store.number (copies_kept other t2 t3 _ c.in_ok-value-in-Store.ensures.copies c.in_ok-number-in-Store.ensures.kept) c.requires.there
+    (c.in_ok-number-in-Store.ensures.id ∙ ap (λ x. Some (column_part x)) same) c.in_ok-insert-in-Store.ensures.updates.0 refl

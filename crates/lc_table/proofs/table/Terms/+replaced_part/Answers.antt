@@ -1,11 +1,12 @@
-use Rattle.std.proofs.Common.{◌≡◌, ap, ap₂, sym, ◌∙◌, Some, rules, refl, slice_get}
+use Rattle.std.proofs.Common.{◌≡◌, ap, ap₂, sym, ◌∙◌, Some, rules, refl, slice_get, subst, arith}
 use Rattle.lc_term.specs.Syntax as S
 use Rattle.lc_table.specs.Nodes.{part_of, is_term, term as term_part, column as column_part}
-use Rattle.lc_table.specs.Tables.{parts, term_in, column_in, IsTerm}
+use Rattle.lc_table.specs.Tables.{parts, term_in, column_in, IsTerm, HasColumn}
 use Rattle.lc_table.specs.NodeReplacement.{as_part, part_in, replaced_part}
-use Rattle.lc_table.proofs.Later.{kept_on, same_store, is_column_later, is_term_later}
+use Rattle.lc_table.proofs.Later.{kept_on, column_is, is_column_later, is_term_later}
 use Rattle.lc_table.proofs.NodeReplacement.{one_term, first_term, second_term, later_term, first_column, node_later}
-use Rattle.lc_term.specs.Replacement.{under_many}
+use Rattle.lc_term.specs.Replacement.{under_many, replace_column}
+use Rattle.lc_table.proofs.Chained.{next_store, replaced_store, column_part_at}
 use Rattle.lc_table.proofs.Remembered.{stands_later, term_remembered, column_remembered, term_noted, column_noted}
 use Rattle.std.proofs.lemmas.Result.{IfOk-weaker}
 use Rattle.std.specs.Prelude.{IfOk}
@@ -23,18 +24,6 @@ replaced_part-returns-in-Variable-clause-id g t c =
     let at = c.part_node-node.ensures.tree ∙ ap (λ n. Some (part_of (parts c.args.self.now) n)) c.in-Variable.is in
     IfOk-weaker c.replaced_variable.result _ _ (λ k h. h ∙ ap (λ o. Some (replaced_part r (as_part o))) (sym at)) c.replaced_variable.ensures.id
 
-pub replaced_part-replaced_base-requires-clause-there : goal.replaced_part-replaced_base-requires-clause-there
-replaced_part-replaced_base-requires-clause-there g t c = c.part_node-node.ensures.tree ∙ ap (λ n. Some (part_of (parts c.args.self.now) n)) c.in-Base.is
-
-pub replaced_part-replaced_base-requires-clause-put : goal.replaced_part-replaced_base-requires-clause-put
-replaced_part-replaced_base-requires-clause-put g t c = c.requires.done.filled
-
-pub replaced_part-returns-in-Base-clause-id : goal.replaced_part-returns-in-Base-clause-id
-replaced_part-returns-in-Base-clause-id g t c =
-    let r = under_many c.args.depth g.R.Filled.replacement in
-    let at = c.part_node-node.ensures.tree ∙ ap (λ n. Some (part_of (parts c.args.self.now) n)) c.in-Base.is in
-    IfOk-weaker c.replaced_base.result _ _ (λ k h. h ∙ ap (λ o. Some (replaced_part r (as_part o))) (sym at)) c.replaced_base.ensures.id
-
 pub replaced_part-replaced_bound-requires-clause-there : goal.replaced_part-replaced_bound-requires-clause-there
 replaced_part-replaced_bound-requires-clause-there g t c = c.part_node-node.ensures.tree ∙ ap (λ n. Some (part_of (parts c.args.self.now) n)) c.in-Bound.is
 
@@ -50,9 +39,6 @@ replaced_part-returns-in-Bound-clause-id g t c =
 pub replaced_part-returns-in-Variable-clause-done : goal.replaced_part-returns-in-Variable-clause-done
 replaced_part-returns-in-Variable-clause-done g t c = IfOk-weaker c.replaced_variable.result _ _ (λ k h. stands_later g.R.Filled.replacement c.args.put.now _ _ _ c.requires.done c.replaced_variable.ensures.kept) c.replaced_variable.ensures.id
 
-pub replaced_part-returns-in-Base-clause-done : goal.replaced_part-returns-in-Base-clause-done
-replaced_part-returns-in-Base-clause-done g t c = IfOk-weaker c.replaced_base.result _ _ (λ k h. stands_later g.R.Filled.replacement c.args.put.now _ _ _ c.requires.done c.replaced_base.ensures.kept) c.replaced_base.ensures.id
-
 pub replaced_part-returns-in-Bound-clause-done : goal.replaced_part-returns-in-Bound-clause-done
 replaced_part-returns-in-Bound-clause-done g t c = IfOk-weaker c.replaced_bound.result _ _ (λ k h. stands_later g.R.Filled.replacement c.args.put.now _ _ _ c.requires.done c.replaced_bound.ensures.kept) c.replaced_bound.ensures.id
 
@@ -67,9 +53,6 @@ replaced_part-returns-in_ok-term-in-Multiply-clause-done g t c = IfOk-weaker c.e
 
 pub replaced_part-returns-in_ok-index-in-Read-clause-done : goal.replaced_part-returns-in_ok-index-in-Read-clause-done
 replaced_part-returns-in_ok-index-in-Read-clause-done g t c = IfOk-weaker c.enter_changed-in-Read.result _ _ (λ k h. stands_later g.R.Filled.replacement c.args.put.now _ _ _ c.in_ok-index-in-Read.ensures.done c.enter_changed-in-Read.ensures.kept) c.enter_changed-in-Read.ensures.part
-
-pub replaced_part-returns-in_ok-value-in-Store-clause-done : goal.replaced_part-returns-in_ok-value-in-Store-clause-done
-replaced_part-returns-in_ok-value-in-Store-clause-done g t c = IfOk-weaker c.enter_changed-in-Store.result _ _ (λ k h. stands_later g.R.Filled.replacement c.args.put.now _ _ _ c.in_ok-value-in-Store.ensures.done c.enter_changed-in-Store.ensures.kept) c.enter_changed-in-Store.ensures.part
 
 pub replaced_part-returns-in_ok-right-in-Add-clause-id : goal.replaced_part-returns-in_ok-right-in-Add-clause-id
 replaced_part-returns-in_ok-right-in-Add-clause-id g t c =
@@ -120,25 +103,6 @@ replaced_part-returns-in_ok-index-in-Read-clause-id g t c =
     let index = second_term r (r) t0 t1 t2 c.in-Read.index c.in_ok-index-in-Read.index refl is k1 c.in_ok-index-in-Read.ensures.id in
     IfOk-weaker c.enter_changed-in-Read.result _ _ (λ k h. h ∙ ap (λ x. Some (term_part x)) (ap₂ S.Read column index) ∙ ap (λ p. Some (replaced_part r p)) (sym there)) c.enter_changed-in-Read.ensures.part
 
-pub replaced_part-returns-in_ok-value-in-Store-clause-id : goal.replaced_part-returns-in_ok-value-in-Store-clause-id
-replaced_part-returns-in_ok-value-in-Store-clause-id g t c =
-    let t0 = c.args.self.now in
-    let r = under_many c.args.depth g.R.Filled.replacement in
-    let t1 = c.replaced_column-in-Store.new.self in
-    let t2 = c.replaced_term-in-Store.new.self in
-    let t3 = c.replaced_term-in-Store-2.new.self in
-    let k1 = c.in_ok-column-in-Store.ensures.kept in
-    let k2 = c.in_ok-index-in-Store.ensures.kept in
-    let k3 = c.in_ok-value-in-Store.ensures.kept in
-    let there : part_in t0 c.args.part ≡ column_part (S.Store (column_in t0 c.in-Store.column) (term_in t0 c.in-Store.index) (term_in t0 c.in-Store.value)) = search rules in
-    let is_index : IsTerm t0 c.in-Store.index = search rules in
-    let is_value : IsTerm t0 c.in-Store.value = search rules in
-    let k12 = kept_on t0 t1 t2 k1 k2 in
-    let column = first_column r t0 t1 t3 c.in-Store.column c.in_ok-column-in-Store.column (kept_on t1 t2 t3 k2 k3) c.in_ok-column-in-Store.ensures.id in
-    let index = later_term r (r) t0 t1 t2 t3 c.in-Store.index c.in_ok-index-in-Store.index refl is_index k1 k3 c.in_ok-index-in-Store.ensures.id in
-    let value = second_term r (r) t0 t2 t3 c.in-Store.value c.in_ok-value-in-Store.value refl is_value k12 c.in_ok-value-in-Store.ensures.id in
-    IfOk-weaker c.enter_changed-in-Store.result _ _ (λ k h. h ∙ ap (λ x. Some (column_part x)) (same_store _ _ _ _ _ _ column index value) ∙ ap (λ p. Some (replaced_part r p)) (sym there)) c.enter_changed-in-Store.ensures.part
-
 pub replaced_part-enter_changed-requires-clause-there : goal.replaced_part-enter_changed-requires-clause-there
 replaced_part-enter_changed-requires-clause-there g t c =
     node_later c.args.self.now c.replaced_term-in-Add.new.self c.args.part c.part_node-node.result c.part_node-node.ensures.tree c.part_node-node.ensures.fits
@@ -157,24 +121,6 @@ replaced_part-enter_changed-requires-in-Read-clause-there g t c =
     (kept_on _ _ _ c.in_ok-column-in-Read.ensures.kept c.in_ok-index-in-Read.ensures.kept)
     ∙ ap (λ n. Some (part_of (parts c.replaced_term-in-Read.new.self) n)) c.in-Read.is
 
-pub replaced_part-enter_changed-requires-in-Store-clause-there : goal.replaced_part-enter_changed-requires-in-Store-clause-there
-replaced_part-enter_changed-requires-in-Store-clause-there g t c =
-    node_later c.args.self.now c.replaced_term-in-Store-2.new.self c.args.part c.part_node-node.result c.part_node-node.ensures.tree c.part_node-node.ensures.fits
-    (kept_on _ _ _ c.in_ok-column-in-Store.ensures.kept (kept_on _ _ _ c.in_ok-index-in-Store.ensures.kept c.in_ok-value-in-Store.ensures.kept))
-    ∙ ap (λ n. Some (part_of (parts c.replaced_term-in-Store-2.new.self) n)) c.in-Store.is
-
-pub replaced_part-enter_changed-requires-in-Store-clause-fits : goal.replaced_part-enter_changed-requires-in-Store-clause-fits
-replaced_part-enter_changed-requires-in-Store-clause-fits g t c =
-    let t1 = c.replaced_column-in-Store.new.self in
-    let t2 = c.replaced_term-in-Store.new.self in
-    let t3 = c.replaced_term-in-Store-2.new.self in
-    let k2 = c.in_ok-index-in-Store.ensures.kept in
-    let k3 = c.in_ok-value-in-Store.ensures.kept in (
-      is_column_later t1 t3 c.in_ok-column-in-Store.column _ c.in_ok-column-in-Store.ensures.id (kept_on t1 t2 t3 k2 k3),
-      is_term_later t2 t3 c.in_ok-index-in-Store.index _ c.in_ok-index-in-Store.ensures.id k3,
-      ap is_term c.in_ok-value-in-Store.ensures.id,
-    )
-
 pub replaced_term-returns-in-Some-clause-id : goal.replaced_term-returns-in-Some-clause-id
 replaced_term-returns-in-Some-clause-id g t c =
     term_remembered g.R.Filled.replacement c.args.self.now c.args.done.now c.args.term c.args.depth _ c.requires.done.remembers c.requires.there c.in-Some.ensures
@@ -184,11 +130,76 @@ replaced_term-returns-clause-done g t c =
     term_noted g.R.Filled.replacement c.args.self.now c.replaced_part.new.self c.args.put.now c.replaced_part.new.done c.note_part.new.self c.args.term c.args.depth _ c.requires.there c.in_ok-number.ensures.kept c.in_ok-number.ensures.done
     c.in_ok-number.ensures.id c.in_ok-note_part.ensures.parts c.in_ok-note_part.ensures.formulas
 
-pub replaced_column-returns-in-Some-clause-id : goal.replaced_column-returns-in-Some-clause-id
-replaced_column-returns-in-Some-clause-id g t c =
-    column_remembered g.R.Filled.replacement c.args.self.now c.args.done.now c.args.column c.args.depth _ c.requires.done.remembers c.requires.there c.in-Some.ensures
+pub replaced_column-stores-init : goal.replaced_column-stores-init
+replaced_column-stores-init g t c =
+    let r = under_many c.args.depth g.R.Filled.replacement in (
+      c.in_ok-replaced.ensures.kept,
+      c.in_ok-replaced.ensures.done,
+      c.in_ok-chain.ensures.stores,
+      subst (λ d. HasColumn c.replaced_below.new.self c.in_ok-replaced.replaced (replace_column r d)) (sym c.in_ok-chain.ensures.below) c.in_ok-replaced.ensures.id,
+    )
 
-pub replaced_column-returns-clause-done : goal.replaced_column-returns-clause-done
-replaced_column-returns-clause-done g t c =
-    column_noted g.R.Filled.replacement c.args.self.now c.replaced_part.new.self c.args.put.now c.replaced_part.new.done c.note_part.new.self c.args.column c.args.depth _ c.requires.there c.in_ok-number.ensures.kept c.in_ok-number.ensures.done
-    c.in_ok-number.ensures.id c.in_ok-note_part.ensures.parts c.in_ok-note_part.ensures.formulas
+pub replaced_column-replaced_store-requires : goal.replaced_column-replaced_store-requires
+replaced_column-replaced_store-requires g t c =
+    let i = c.stores.invariant in
+    let next = next_store (under_many c.args.depth g.R.Filled.replacement) c.args.self.now c.stores.self c.args.column c.stores.replaced c.in-Some.store c.stores.chain.stores.items c.pop.new.self.items c.in-Some.ensures.items i.0 i.2 i.3 in
+    let within = next.within in
+    λ κs lives. (omega arith, (lives, (next.there, (next.store, (next.below, i.1)))))
+
+pub replaced_column-stores-preserved : goal.replaced_column-stores-preserved
+replaced_column-stores-preserved g t c =
+    let i = c.stores.invariant in
+    let r = under_many c.args.depth g.R.Filled.replacement in
+    let next = next_store r c.args.self.now c.stores.self c.args.column c.stores.replaced c.in-Some.store c.stores.chain.stores.items c.pop.new.self.items c.in-Some.ensures.items i.0 i.2 i.3 in (
+      kept_on c.args.self.now c.stores.self c.replaced_store.new.self i.0 c.in_ok-replaced-2.ensures.kept,
+      c.in_ok-replaced-2.ensures.done,
+      next.others,
+      subst (λ d. HasColumn c.replaced_store.new.self c.in_ok-replaced-2.replaced (replace_column r d)) next.same c.in_ok-replaced-2.ensures.id,
+    )
+
+pub replaced_store-enter_changed-requires-clause-there : goal.replaced_store-enter_changed-requires-clause-there
+replaced_store-enter_changed-requires-clause-there g t c =
+    node_later c.args.self.now c.replaced_term-in-Store.new.self c.args.store.0 c.part_node-node.result c.part_node-node.ensures.tree c.part_node-node.ensures.fits
+    (kept_on _ _ _ c.in_ok-index-in-Store.ensures.kept c.in_ok-value-in-Store.ensures.kept)
+    ∙ ap (λ n. Some (part_of (parts c.replaced_term-in-Store.new.self) n)) c.in-Store.is
+
+pub replaced_store-enter_changed-requires-clause-fits : goal.replaced_store-enter_changed-requires-clause-fits
+replaced_store-enter_changed-requires-clause-fits g t c =
+    let t0 = c.args.self.now in
+    let t1 = c.replaced_term.new.self in
+    let t2 = c.replaced_term-in-Store.new.self in
+    let k1 = c.in_ok-index-in-Store.ensures.kept in
+    let k2 = c.in_ok-value-in-Store.ensures.kept in (
+      is_column_later t0 t2 c.args.below _ c.requires.below (kept_on t0 t1 t2 k1 k2),
+      is_term_later t1 t2 c.in_ok-index-in-Store.index _ c.in_ok-index-in-Store.ensures.id k2,
+      ap is_term c.in_ok-value-in-Store.ensures.id,
+    )
+
+pub replaced_store-returns-clause-id : goal.replaced_store-returns-clause-id
+replaced_store-returns-clause-id g t c =
+    let t0 = c.args.self.now in
+    let there = column_is t0 c.args.store _ (c.part_node-node.ensures.tree ∙ ap (λ n. Some (part_of (parts t0) n)) c.in-Store.is) in
+    let is : IsTerm t0 c.in-Store.value = search rules in
+    c.in_ok-number-in-Store.ensures.part
+    ∙ ap (λ x. Some (column_part x)) (replaced_store (under_many c.args.depth g.R.Filled.replacement) t0 c.replaced_term.new.self c.replaced_term-in-Store.new.self c.args.store c.args.below (column_in t0 c.in-Store.field-0)
+    c.in-Store.index c.in-Store.value c.in_ok-index-in-Store.index c.in_ok-value-in-Store.value there is c.in_ok-index-in-Store.ensures.kept c.in_ok-value-in-Store.ensures.kept c.requires.below
+    c.in_ok-index-in-Store.ensures.id c.in_ok-value-in-Store.ensures.id)
+
+pub replaced_store-returns-clause-done : goal.replaced_store-returns-clause-done
+replaced_store-returns-clause-done g t c =
+    let r = under_many c.args.depth g.R.Filled.replacement in
+    let t0 = c.args.self.now in
+    let t1 = c.replaced_term.new.self in
+    let t2 = c.replaced_term-in-Store.new.self in
+    let t3 = c.enter_changed.new.self in
+    let k1 = c.in_ok-index-in-Store.ensures.kept in
+    let k2 = c.in_ok-value-in-Store.ensures.kept in
+    let k3 = c.in_ok-number-in-Store.ensures.kept in
+    let there = column_is t0 c.args.store _ (c.part_node-node.ensures.tree ∙ ap (λ n. Some (part_of (parts t0) n)) c.in-Store.is) in
+    let is : IsTerm t0 c.in-Store.value = search rules in
+    let same = replaced_store r t0 t1 t2 c.args.store c.args.below (column_in t0 c.in-Store.field-0) c.in-Store.index c.in-Store.value c.in_ok-index-in-Store.index c.in_ok-value-in-Store.value there is k1 k2
+    c.requires.below c.in_ok-index-in-Store.ensures.id c.in_ok-value-in-Store.ensures.id in
+    let at = column_part_at r t0 t3 c.args.store (record { 0 = c.in_ok-number-in-Store.number }) c.requires.there (c.in_ok-number-in-Store.ensures.part ∙ ap (λ x. Some (column_part x)) same) in
+    column_noted g.R.Filled.replacement t0 t3 c.args.put.now c.replaced_term-in-Store.new.done c.note_part.new.self c.args.store c.args.depth c.in_ok-number-in-Store.number c.requires.there
+    (kept_on t0 t2 t3 (kept_on t0 t1 t2 k1 k2) k3) (stands_later g.R.Filled.replacement c.args.put.now t2 t3 _ c.in_ok-value-in-Store.ensures.done k3) at
+    c.in_ok-note_part-in-Store.ensures.parts c.in_ok-note_part-in-Store.ensures.formulas

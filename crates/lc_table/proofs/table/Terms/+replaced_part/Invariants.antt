@@ -1,4 +1,8 @@
-use Rattle.std.proofs.Common.{◌+◌, ◌*◌}
+use Rattle.std.proofs.Common.{◌+◌, ◌*◌, vec_len}
+use Rattle.lc_term.specs.Replacement.{under_many, replace_column}
+use Rattle.lc_table.specs.Filling.{Stands}
+use Rattle.lc_table.specs.NodeChains.{below_stores, AreStores}
+use Rattle.lc_table.specs.Tables.{column_in, HasColumn, Keeps}
 use Rattle.lc_table.proofs.table.Terms.+replaced_part.Given as goal
 
 abbrev pub decreases-replaced_column : goal.decreases-replaced_column
@@ -9,3 +13,15 @@ decreases-replaced_part g l = 2 * l.part
 
 abbrev pub decreases-replaced_term : goal.decreases-replaced_term
 decreases-replaced_term g l = 2 * l.term.0 + 1
+
+abbrev pub decreases-replaced_store : goal.decreases-replaced_store
+decreases-replaced_store g l = 2 * l.store.0
+
+-- what stands below the stores that are left is replaced
+abbrev pub invariant-replaced_column-stores : goal.invariant-replaced_column-stores
+invariant-replaced_column-stores g l =
+    Keeps l.fn.self l.self × Stands g.R.Filled.replacement l.self l.put l.done × AreStores l.fn.self l.fn.column.0 (column_in l.fn.self l.fn.column) l.chain.stores.items ×
+    HasColumn l.self l.replaced (replace_column (under_many l.depth g.R.Filled.replacement) (below_stores (column_in l.fn.self l.fn.column) l.chain.stores.items))
+
+abbrev pub decreases-replaced_column-stores : goal.decreases-replaced_column-stores
+decreases-replaced_column-stores g l = vec_len l.chain.stores

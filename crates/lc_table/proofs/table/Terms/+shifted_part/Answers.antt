@@ -1,11 +1,13 @@
-use Rattle.std.proofs.Common.{◌≡◌, ap, ap₂, sym, ◌∙◌, Some, rules, refl, slice_get}
+use Rattle.std.proofs.Common.{◌≡◌, ap, ap₂, sym, ◌∙◌, Some, rules, refl, slice_get, subst, arith}
 use Rattle.lc_term.specs.Syntax as S
 use Rattle.lc_table.specs.Nodes.{term as term_part, column as column_part}
-use Rattle.lc_table.specs.Tables.{parts, term_in, column_in, IsTerm}
+use Rattle.lc_table.specs.Tables.{parts, term_in, column_in, IsTerm, HasColumn}
 use Rattle.lc_table.specs.NodeReplacement.{part_in, replaced_part}
-use Rattle.lc_table.proofs.Later.{kept_on, same_store, is_column_later}
-use Rattle.lc_table.proofs.NodeReplacement.{one_term, first_term, second_term, later_term, first_column}
+use Rattle.lc_table.proofs.Later.{kept_on, keeps_itself}
+use Rattle.lc_table.proofs.NodeReplacement.{one_term, first_term, second_term, first_column}
+use Rattle.lc_term.specs.Replacement.{replace_column}
 use Rattle.lc_term.specs.Substitution.{shifting}
+use Rattle.lc_table.proofs.Chained.{next_store, moved_below, replaced_store, store_noted}
 use Rattle.lc_table.proofs.NodeReplacement.{replaced_later}
 use Rattle.lc_table.proofs.table.Terms.+shifted_part.Goals as goal
 
@@ -23,9 +25,6 @@ shifted_part-returns-in_ok-multiply-in-Multiply-clause-done t c = replaced_later
 
 pub shifted_part-returns-in_ok-read-in-Read-clause-done : goal.shifted_part-returns-in_ok-read-in-Read-clause-done
 shifted_part-returns-in_ok-read-in-Read-clause-done t c = replaced_later (shifting c.args.added c.args.cutoff) _ _ _ c.in_ok-index-in-Read.ensures.done c.in_ok-read-in-Read.ensures.kept
-
-pub shifted_part-returns-in_ok-store-in-Store-clause-done : goal.shifted_part-returns-in_ok-store-in-Store-clause-done
-shifted_part-returns-in_ok-store-in-Store-clause-done t c = replaced_later (shifting c.args.added c.args.cutoff) _ _ _ c.in_ok-value-in-Store.ensures.done c.in_ok-store-in-Store.ensures.kept
 
 pub shifted_part-returns-in_ok-add-in-Add-clause-id : goal.shifted_part-returns-in_ok-add-in-Add-clause-id
 shifted_part-returns-in_ok-add-in-Add-clause-id t c =
@@ -76,31 +75,48 @@ shifted_part-returns-in_ok-read-in-Read-clause-id t c =
     let index = second_term r (r) t0 t1 t2 c.in-Read.index c.in_ok-index-in-Read.index refl is k1 c.in_ok-index-in-Read.ensures.id in
     c.in_ok-read-in-Read.ensures.id ∙ ap (λ x. Some (term_part x)) (ap₂ S.Read column index) ∙ ap (λ p. Some (replaced_part r p)) (sym there)
 
-pub shifted_part-returns-in_ok-store-in-Store-clause-id : goal.shifted_part-returns-in_ok-store-in-Store-clause-id
-shifted_part-returns-in_ok-store-in-Store-clause-id t c =
-    let t0 = c.args.self.now in
+pub shifted_column-stores-init : goal.shifted_column-stores-init
+shifted_column-stores-init t c =
     let r = shifting c.args.added c.args.cutoff in
-    let t1 = c.shifted_column-in-Store.new.self in
-    let t2 = c.shifted_term-in-Store.new.self in
-    let t3 = c.shifted_term-in-Store-2.new.self in
-    let k1 = c.in_ok-column-in-Store.ensures.kept in
-    let k2 = c.in_ok-index-in-Store.ensures.kept in
-    let k3 = c.in_ok-value-in-Store.ensures.kept in
-    let there : part_in t0 c.args.part ≡ column_part (S.Store (column_in t0 c.in-Store.column) (term_in t0 c.in-Store.index) (term_in t0 c.in-Store.value)) = search rules in
-    let is_index : IsTerm t0 c.in-Store.index = search rules in
-    let is_value : IsTerm t0 c.in-Store.value = search rules in
-    let k12 = kept_on t0 t1 t2 k1 k2 in
-    let column = first_column r t0 t1 t3 c.in-Store.column c.in_ok-column-in-Store.column (kept_on t1 t2 t3 k2 k3) c.in_ok-column-in-Store.ensures.id in
-    let index = later_term r (r) t0 t1 t2 t3 c.in-Store.index c.in_ok-index-in-Store.index refl is_index k1 k3 c.in_ok-index-in-Store.ensures.id in
-    let value = second_term r (r) t0 t2 t3 c.in-Store.value c.in_ok-value-in-Store.value refl is_value k12 c.in_ok-value-in-Store.ensures.id in
-    c.in_ok-store-in-Store.ensures.id ∙ ap (λ x. Some (column_part x)) (same_store _ _ _ _ _ _ column index value) ∙ ap (λ p. Some (replaced_part r p)) (sym there)
+    let ts = c.args.self.now in (
+      keeps_itself ts,
+      c.requires.done,
+      c.in_ok-chain.ensures.stores,
+      subst (λ d. HasColumn ts c.below-moved.result (replace_column r d)) (sym c.in_ok-chain.ensures.below)
+          (moved_below c.args.added c.args.cutoff ts c.args.done.now.entries c.in_ok-chain.chain.base c.below-moved.result c.in_ok-chain.chain.known c.requires.done c.in_ok-chain.ensures.is c.in_ok-chain.ensures.known
+          c.in_ok-chain.ensures.base c.below-moved.ensures.known c.below-moved.ensures.base),
+    )
 
-pub shifted_part-store-requires-clause-column : goal.shifted_part-store-requires-clause-column
-shifted_part-store-requires-clause-column t c =
-    let t1 = c.shifted_column-in-Store.new.self in
+pub shifted_column-shifted_store-requires : goal.shifted_column-shifted_store-requires
+shifted_column-shifted_store-requires t c =
+    let i = c.stores.invariant in
+    let next = next_store (shifting c.args.added c.args.cutoff) c.args.self.now c.stores.self c.args.column c.stores.moved c.in-Some.store c.stores.chain.stores.items c.pop.new.self.items c.in-Some.ensures.items i.0 i.2 i.3 in
+    let within = next.within in
+    (omega arith, (next.there, (next.store, (next.below, i.1))))
+
+pub shifted_column-stores-preserved : goal.shifted_column-stores-preserved
+shifted_column-stores-preserved t c =
+    let i = c.stores.invariant in
+    let r = shifting c.args.added c.args.cutoff in
+    let next = next_store r c.args.self.now c.stores.self c.args.column c.stores.moved c.in-Some.store c.stores.chain.stores.items c.pop.new.self.items c.in-Some.ensures.items i.0 i.2 i.3 in (
+      kept_on c.args.self.now c.stores.self c.shifted_store.new.self i.0 c.in_ok-moved.ensures.kept,
+      c.in_ok-moved.ensures.done,
+      next.others,
+      subst (λ d. HasColumn c.shifted_store.new.self c.in_ok-moved.moved (replace_column r d)) next.same c.in_ok-moved.ensures.id,
+    )
+
+pub shifted_store-returns-clause-done : goal.shifted_store-returns-clause-done
+shifted_store-returns-clause-done t c =
+    let r = shifting c.args.added c.args.cutoff in
+    let t0 = c.args.self.now in
+    let t1 = c.shifted_term.new.self in
     let t2 = c.shifted_term-in-Store.new.self in
-    let t3 = c.shifted_term-in-Store-2.new.self in
-    let k1 = c.in_ok-column-in-Store.ensures.kept in
-    let k2 = c.in_ok-index-in-Store.ensures.kept in
-    let k3 = c.in_ok-value-in-Store.ensures.kept in
-    is_column_later t1 t3 c.in_ok-column-in-Store.column _ c.in_ok-column-in-Store.ensures.id (kept_on t1 t2 t3 k2 k3)
+    let t3 = c.store.new.self in
+    let k1 = c.in_ok-index-in-Store.ensures.kept in
+    let k2 = c.in_ok-value-in-Store.ensures.kept in
+    let there : column_in t0 c.args.store ≡ S.Store (column_in t0 c.in-Store.field-0) (term_in t0 c.in-Store.index) (term_in t0 c.in-Store.value) = search rules in
+    let is : IsTerm t0 c.in-Store.value = search rules in
+    let same = replaced_store r t0 t1 t2 c.args.store c.args.below (column_in t0 c.in-Store.field-0) c.in-Store.index c.in-Store.value c.in_ok-index-in-Store.index c.in_ok-value-in-Store.value there is k1 k2
+    c.requires.below c.in_ok-index-in-Store.ensures.id c.in_ok-value-in-Store.ensures.id in
+    store_noted r t0 t2 t3 c.shifted_term-in-Store.new.done.entries c.insert.new.self.entries c.args.store c.in_ok-number-in-Store.number c.requires.there (kept_on t0 t1 t2 k1 k2) c.in_ok-number-in-Store.ensures.kept
+    c.in_ok-value-in-Store.ensures.done (c.in_ok-number-in-Store.ensures.id ∙ ap (λ x. Some (column_part x)) same) c.in_ok-insert-in-Store.ensures.updates.0

@@ -1,4 +1,9 @@
-use Rattle.std.proofs.Common.{◌+◌, ◌*◌}
+use Rattle.std.proofs.Common.{◌+◌, ◌*◌, vec_len}
+use Rattle.lc_term.specs.Replacement.{replace_column}
+use Rattle.lc_term.specs.Substitution.{shifting}
+use Rattle.lc_table.specs.NodeChains.{below_stores, AreStores}
+use Rattle.lc_table.specs.NodeReplacement.{AreReplaced}
+use Rattle.lc_table.specs.Tables.{parts, column_in, HasColumn, Keeps}
 use Rattle.lc_table.proofs.table.Terms.+shifted_part.Given as goal
 
 abbrev pub decreases-shifted_column : goal.decreases-shifted_column
@@ -9,3 +14,15 @@ decreases-shifted_part l = 2 * l.part
 
 abbrev pub decreases-shifted_term : goal.decreases-shifted_term
 decreases-shifted_term l = 2 * l.term.0 + 1
+
+abbrev pub decreases-shifted_store : goal.decreases-shifted_store
+decreases-shifted_store l = 2 * l.store.0
+
+-- what stands below the stores that are left is moved
+abbrev pub invariant-shifted_column-stores : goal.invariant-shifted_column-stores
+invariant-shifted_column-stores l =
+    Keeps l.fn.self l.self × AreReplaced (shifting l.added l.cutoff) (parts l.self) l.done.entries × AreStores l.fn.self l.fn.column.0 (column_in l.fn.self l.fn.column) l.chain.stores.items ×
+    HasColumn l.self l.moved (replace_column (shifting l.added l.cutoff) (below_stores (column_in l.fn.self l.fn.column) l.chain.stores.items))
+
+abbrev pub decreases-shifted_column-stores : goal.decreases-shifted_column-stores
+decreases-shifted_column-stores l = vec_len l.chain.stores
