@@ -18,7 +18,6 @@ use Rattle.lc_outline_text.proofs.WholeCounted.{forms_sized}
 use Rattle.lc_outline_text.specs.Declarations.{declarations_of}
 use Rattle.lc_outline_text.specs.Developments.{condition_limit, forms_reading, file_reading}
 use Rattle.lc_counted.specs.Counted.{counted, HasForms, too_many}
-use Rattle.lc_outline_text.proofs.WholeCounted.{forms_counted}
 
 -- as many conditions as are counted from the text
 forms_counted : (ts : Trees) (D : Development) → forms_reading (declarations_of ts) (sections_of ts) 0 ts ≡ fine D → length (conditions D) ≡ counted ts
