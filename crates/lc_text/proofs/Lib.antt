@@ -7,3 +7,4 @@ pub mod Printed
 pub mod ReadBack
 pub mod ReadHolds
 pub mod Kept
+pub mod Stores

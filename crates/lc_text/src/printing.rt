@@ -1,10 +1,11 @@
-ghost use Rattle.std.specs.Prelude.{◌≡◌, ◌++◌, OnOk, codes, string_bytes};
+ghost use Rattle.std.specs.Prelude.{◌≡◌, ◌++◌, OnOk, codes, string_bytes, false};
+ghost use Rattle.lc_term.specs.Chains.{is_store};
 ghost use Rattle.lc_term.specs.View.{term_of, column_of, formula_of, formulas_of};
 ghost use Rattle.lc_term.specs.Syntax.{formulas};
 ghost use Rattle.lc_text.specs.Spelled.{spaced, spelled_term, spelled_column, spelled_formula, spelled_parts};
 
 use lc_base::{ColId, OutOfMemory};
-use lc_term::{ColExpr, Formula, Term};
+use lc_term::{ColExpr, Formula, Term, chain_of};
 
 /// How free variables and columns are spelled in a text.
 pub trait Spelling {
@@ -69,7 +70,8 @@ pub fn write_term<S: Spelling>(
     Ok(())
 }
 
-/// Writes a column expression behind what is there, round whose place stand so many quantifiers.
+/// Writes a column expression behind what is there, round whose place stand so many quantifiers: the words of all its
+/// stores, what is stored to, and what is stored, the innermost first.
 #[cycle(write_term)]
 pub fn write_column<S: Spelling>(
     out: &mut String,
@@ -79,18 +81,36 @@ pub fn write_column<S: Spelling>(
 ) -> Result<(), OutOfMemory>
     ensures { OnOk result (string_bytes out.new ≡ string_bytes out.old ++ spelled_column (S.spelled spelling.now) depth (column_of column.now)) }
 {
-    match column {
+    let mut chain = chain_of(*out.allocator(), column)?;
+    for _ in 0..chain.stores.len() {
+        out.push_str("(store ")?;
+    }
+    write_base(out, spelling, depth, chain.base)?;
+    'stores: while let Some(store) = chain.stores.pop() {
+        out.push_str(" ")?;
+        write_term(out, spelling, depth, store.index)?;
+        out.push_str(" ")?;
+        write_term(out, spelling, depth, store.value)?;
+        out.push_str(")")?;
+    }
+    Ok(())
+}
+
+// A column expression that is no store.
+fn write_base<S: Spelling>(
+    out: &mut String,
+    spelling: &S,
+    depth: u64,
+    base: &ColExpr,
+) -> Result<(), OutOfMemory>
+    requires { is_store (column_of base.now) ≡ false }
+    ensures { OnOk result (string_bytes out.new ≡ string_bytes out.old ++ spelled_column (S.spelled spelling.now) depth (column_of base.now)) }
+{
+    let _depth = depth;
+    match base {
         ColExpr::Base(column) => spelling.column(out, *column)?,
-        ColExpr::Store(column, index, value) => {
-            out.push_str("(store ")?;
-            write_column(out, spelling, depth, column)?;
-            out.push_str(" ")?;
-            write_term(out, spelling, depth, index)?;
-            out.push_str(" ")?;
-            write_term(out, spelling, depth, value)?;
-            out.push_str(")")?;
-        }
         ColExpr::Affine(slope, start) => write!(out, "(affine {slope} {start})")?,
+        ColExpr::Store(..) => unreachable!(),
     }
     Ok(())
 }
