@@ -1,8 +1,8 @@
 //! Developments, how they are read and printed, and the lines of their conditions.
-ghost use Rattle.std.specs.Prelude.{◌≡◌, IfOk};
+ghost use Rattle.std.specs.Prelude.{◌≡◌, IfOk, is_err};
 ghost use Rattle.lc_cond.specs.ConditionView.{condition_in, IsCondition};
 ghost use Rattle.lc_cond_text.specs.ConditionText.{conditions_text, condition_text};
-ghost use Rattle.lc_cond_text.specs.LinesView.{text_left, IsNextPiece};
+ghost use Rattle.lc_cond_text.specs.LinesView.{is_spent, text_left, IsNextPiece};
 ghost use Rattle.lc_outline.specs.DevelopmentView.{development_shown};
 ghost use Rattle.lc_outline_print.specs.Developments.{development_printed};
 ghost use Rattle.lc_outline_text.specs.Developments.{file_reading};
@@ -58,9 +58,10 @@ pub fn beginning_lines<'d>(
     ConditionLines::new(alloc, development)
 }
 
-/// The lines of conditions come in pieces, which join to the text of all.
+/// The lines of conditions come in pieces, which join to the text of all; and it is told where memory was refused.
 pub fn going_on(lines: &mut ConditionLines<'_>) -> Result<Option<Vec<u8>>, OutOfMemory>
-    ensures { IfOk result (IsNextPiece lines.old lines.new) }
+    ensures piece { IfOk result (IsNextPiece lines.old lines.new) }
+    ensures spent { is_spent lines.new ≡ is_err result }
 {
     lines.next_piece()
 }
