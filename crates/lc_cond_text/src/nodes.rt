@@ -86,11 +86,7 @@ pub(crate) fn push_term(
             push_pair(out, terms, development, depth, "(- ", left, right)
         }
         TermNode::Multiply(factor, term) => {
-            push_text(out, "(* ")?;
-            push_integer(out, factor)?;
-            push_text(out, " ")?;
-            push_term(out, terms, development, depth, term)?;
-            push_text(out, ")")
+            push_product(out, terms, development, depth, factor, term)
         }
         TermNode::Read(column, index) => {
             push_text(out, "(rd ")?;
@@ -101,6 +97,27 @@ pub(crate) fn push_term(
         }
         TermNode::Base(_) | TermNode::Store(_, _, _) | TermNode::Affine(_, _) => unreachable!(),
     }
+}
+
+// A number times a term.
+#[cycle(push_term)]
+fn push_product(
+    out: &mut Vec<u8>,
+    terms: &Terms,
+    development: &Development,
+    depth: u64,
+    factor: i64,
+    term: TermId,
+) -> Result<(), OutOfMemory>
+    requires { IsTerm terms.now term }
+    ensures { let by = spelled (development_shown development.now) in
+        OnOk result (out.new.items ≡ out.old.items ++ (codes "(* " ++ signed_decimal factor ++ spaced (spelled_term by depth (term_in terms.now term)) ++ codes ")")) }
+{
+    push_text(out, "(* ")?;
+    push_integer(out, factor)?;
+    push_text(out, " ")?;
+    push_term(out, terms, development, depth, term)?;
+    push_text(out, ")")
 }
 
 /// Two terms in brackets, behind a word.

@@ -7,5 +7,8 @@ decreases-push_column l = 2 * l.column.0 + 1
 abbrev pub decreases-push_pair : goal.decreases-push_pair
 decreases-push_pair l = 2 * max l.left.0 l.right.0 + 2
 
+abbrev pub decreases-push_product : goal.decreases-push_product
+decreases-push_product l = 2 * l.term.0 + 2
+
 abbrev pub decreases-push_term : goal.decreases-push_term
 decreases-push_term l = 2 * l.term.0 + 1
