@@ -6,6 +6,8 @@ mod hist_tests;
 #[cfg(test)]
 mod json_tests;
 #[cfg(test)]
+mod library_tests;
+#[cfg(test)]
 mod machine_tests;
 #[cfg(test)]
 mod object_tests;
