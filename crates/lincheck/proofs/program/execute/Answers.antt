@@ -37,3 +37,9 @@ returns-in-Err-carry_out-clause-unread g c = λ name task w plain unread.
     let same : task_of c.in-Ok.request ≡ task = request_is (texts_of c.args.words.now) c.in-Ok.request name task c.in-Ok.ensures.reads w plain in
     let none = c.in-Err-carry_out.ensures.unread (subst (λ (t : Task). IsUnread (g.F.Files.CannotOpen c.args.files.now) (g.F.Files.bytes_at c.args.files.now) t) (sym same) unread) in
     (failed_status c.in-Err-carry_out.failure c.complain.result c.complain.ensures, none.1)
+
+pub returns-in-Ok-carry_out-clause-wrong : goal.returns-in-Ok-carry_out-clause-wrong
+returns-in-Ok-carry_out-clause-wrong g c = λ wrong. absurd (c.in-Ok.ensures.wrong wrong)
+
+pub returns-in-Err-carry_out-clause-wrong : goal.returns-in-Err-carry_out-clause-wrong
+returns-in-Err-carry_out-clause-wrong g c = λ wrong. absurd (c.in-Ok.ensures.wrong wrong)
