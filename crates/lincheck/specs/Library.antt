@@ -1,6 +1,5 @@
 -- The answers where a text of an object of the library is asked for.
-use Rattle.std.specs.Prelude.{◌≡◌, ℕ, ◌⊎◌, List, Result, Ok, Err}
-use Rattle.std.specs.declared.alloc.Global.{Global}
+use Rattle.std.specs.Prelude.{◌≡◌, ℕ, ◌⊎◌, List, Err}
 use Rattle.lc_find.specs.declared.fault.FindFault.{FindFault}
 use Rattle.lc_hints.specs.Hints.{Hint}
 use Rattle.lc_lib.specs.Certified.{IsCertificate, IsCertificateAnswer}
