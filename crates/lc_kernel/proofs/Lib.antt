@@ -13,3 +13,4 @@ pub mod Grows
 pub mod First
 pub mod Branches
 pub mod Checked
+pub mod Stores

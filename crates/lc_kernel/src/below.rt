@@ -27,10 +27,16 @@ pub(crate) fn term_below(count: u32, term: &Term) -> bool
 pub(crate) fn column_below(count: u32, column: &ColExpr) -> bool
     ensures { result ≡ column_below count (column_of column.now) }
 {
-    match column {
-        ColExpr::Base(_) | ColExpr::Affine(..) => true,
-        ColExpr::Store(column, index, value) => {
-            column_below(count, column) && term_below(count, index) && term_below(count, value)
+    let mut rest = column;
+    'stores: loop {
+        match rest {
+            ColExpr::Base(_) | ColExpr::Affine(..) => return true,
+            ColExpr::Store(below, index, value) => {
+                if !term_below(count, index) || !term_below(count, value) {
+                    return false;
+                }
+                rest = below;
+            }
         }
     }
 }

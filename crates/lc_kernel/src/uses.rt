@@ -1,7 +1,9 @@
 //! Whether free variables have numbers below a count, told over the nodes of a table. What is shared is looked at once.
-ghost use Rattle.std.specs.Prelude.{◌≡◌, ◌&&◌, ℕ, IfOk, OnOk};
+ghost use Rattle.std.specs.Prelude.{◌≡◌, ◌&&◌, ℕ, IfOk, OnOk, true};
+ghost use Rattle.lc_term.specs.Chains.{is_store};
 ghost use Rattle.lc_kernel.specs.Below.{term_below, column_below, formula_below, all_below};
 ghost use Rattle.lc_kernel.specs.Uses.{AreBelow};
+ghost use Rattle.lc_table.specs.NodeChains.{stored_to, below_stores, AreStores};
 ghost use Rattle.lc_table.specs.NodeTables.{Table};
 ghost use Rattle.lc_table.specs.Tables.{term_in, column_in, formula_in, formulas_in, IsTerm, IsColumn, IsFormula, AreFormulas};
 
@@ -120,35 +122,68 @@ fn is_column_below(
     ensures below { IfOk result (λ yes'. yes' ≡ column_below count (column_in terms.now column)) }
     ensures known { OnOk result (AreBelow count terms.now known.new) }
 {
-    if known.columns.contains(&column) {
-        return Ok(true);
+    let mut stores = stores_not_known(terms, column, known)?;
+    'stores: while let Some(store) = stores.pop() {
+        let is_below = is_store_below(terms, count, store, known)?;
+        if !is_below {
+            return Ok(false);
+        }
     }
-    let is_below = is_column_node_below(terms, count, column, known)?;
-    if is_below {
-        known.columns.insert(column)?;
-    }
-    Ok(is_below)
+    Ok(true)
 }
 
+// The stores of a column expression, the outermost first, down to what is known or is no store.
+#[tactic(auto, using(crate::proofs::Stores::known_below, crate::proofs::Stores::base_below, crate::proofs::Stores::affine_below))]
+fn stores_not_known(
+    terms: &Terms,
+    column: ColExprId,
+    known: &KnownBelow,
+) -> Result<Vec<ColExprId>, OutOfMemory>
+    requires { IsColumn terms.now column }
+    ensures stores { IfOk result (λ stores. AreStores terms.now column.0 (column_in terms.now column) stores.items) }
+    ensures below { IfOk result (λ stores.
+        (count : ℕ) → AreBelow count terms.now known.now → column_below count (below_stores (column_in terms.now column) stores.items) ≡ true) }
+{
+    let mut stores = Vec::new(*known.columns.allocator());
+    let mut rest = column;
+    'stores: loop {
+        if known.columns.contains(&rest) {
+            return Ok(stores);
+        }
+        match terms.column_node(rest) {
+            TermNode::Store(below, _, _) => {
+                stores.push(rest)?;
+                rest = below;
+            }
+            TermNode::Base(_) | TermNode::Affine(_, _) => return Ok(stores),
+            _ => unreachable!(),
+        }
+    }
+}
+
+// Whether a store's variables are below the count, where those of what it stores to are.
 #[cycle(is_term_below)]
-fn is_column_node_below(
+#[tactic(auto, using(crate::proofs::Stores::store_below))]
+fn is_store_below(
     terms: &Terms,
     count: u32,
-    column: ColExprId,
+    store: ColExprId,
     known: &mut KnownBelow,
 ) -> Result<bool, OutOfMemory>
-    requires there { IsColumn terms.now column }
+    requires there { IsColumn terms.now store }
+    requires store { is_store (column_in terms.now store) ≡ true }
+    requires below { column_below count (stored_to (column_in terms.now store)) ≡ true }
     requires known { AreBelow count terms.now known.old }
-    ensures below { IfOk result (λ yes'. yes' ≡ column_below count (column_in terms.now column)) }
+    ensures below { IfOk result (λ yes'. yes' ≡ column_below count (column_in terms.now store)) }
     ensures known { OnOk result (AreBelow count terms.now known.new) }
 {
-    match terms.column_node(column) {
-        TermNode::Base(_) | TermNode::Affine(_, _) => Ok(true),
-        TermNode::Store(column, index, value) => {
-            if !is_column_below(terms, count, column, known)? {
-                return Ok(false);
+    match terms.column_node(store) {
+        TermNode::Store(_, index, value) => {
+            let is_below = are_both_below(terms, count, index, value, known)?;
+            if is_below {
+                known.columns.insert(store)?;
             }
-            are_both_below(terms, count, index, value, known)
+            Ok(is_below)
         }
         _ => unreachable!(),
     }
