@@ -1,4 +1,4 @@
 pub mod Columns
-pub mod Entries
-pub mod Tellable
-pub mod OwnUpdates
+mod Entries
+mod Tellable
+mod OwnUpdates

@@ -20,14 +20,6 @@ no_terms (c ∷ cs) = refl
 pub own_end : (cs : List ColId) (ts : List Term) (i : ℕ) → length ts ≤ i → at_client (numbers_of (drop i cs)) (map term_of (drop i ts)) ≡ []
 own_end cs ts i h = ap (λ (l : List Term). at_client (numbers_of (drop i cs)) (map term_of l)) (drop_of_length-le ts h) ∙ no_terms (numbers_of (drop i cs))
 
--- one more term
-pub own_more : (cs : List ColId) (ts : List Term) (i : ℕ) (c : ColId) (t : Term) → i < length cs → c ≡ get_or cs i (record { 0 = 0 }) → i < length ts → t ≡ get_or ts i t →
-    at_client (numbers_of (drop i cs)) (map term_of (drop i ts)) ≡ record { column = c.0; index = S.Variable 1; value = term_of t } ∷ at_client (numbers_of (drop (i + 1) cs)) (map term_of (drop (i + 1) ts))
-own_more cs ts i c t hc ec ht et =
-    ap₂ (λ (ks : List ColId) (us : List Term). at_client (numbers_of ks) (map term_of us))
-    (drop_more cs i (record { 0 = 0 }) hc ∙ ap (λ (x : ColId). x ∷ drop (i + 1) cs) (sym ec))
-    (drop_more ts i t ht ∙ ap (λ (x : Term). x ∷ drop (i + 1) ts) (sym et))
-
 pub updates_end : (cs : List ColId) (ts : List Term) (i : ℕ) (done whole : List U.Update) → length ts ≤ i →
     done ++ at_client (numbers_of (drop i cs)) (map term_of (drop i ts)) ≡ whole → done ≡ whole
 updates_end cs ts i done whole h e = sym (append-nil done) ∙ ap (λ r. done ++ r) (sym (own_end cs ts i h)) ∙ e

@@ -117,9 +117,6 @@ all_outside : (cs : List (ColId × ColExpr)) (ts : List T.Term) → PassesAll (t
 unfolding tellable
 all_outside cs ts = record { columns = λ c. refl; variables = λ k. refl; bounds = λ k. refl }
 
-pub ground_tellable : (cs : List (ColId × ColExpr)) (ts : List T.Term) (f : Formula) → is_ground f ≡ true → IsTrue (passes (tellable cs ts) 0 f)
-ground_tellable cs ts f g = ground_passes (tellable cs ts) (all_outside cs ts) f g
-
 pub term_tellable : (cs : List (ColId × ColExpr)) (ts : List T.Term) (t : Term) → IsTrue (term_passes (tellable cs ts 0) t)
 term_tellable cs ts t = each_term (tellable cs ts 0) (all_outside cs ts) t
 

@@ -1,3 +1,4 @@
+//! An action by a client with its arguments: its guard, and the columns behind it.
 ghost use Rattle.std.specs.Prelude.{◌≡◌, IfOk, IsTrue, map};
 ghost use Rattle.lc_term.specs.Lists.{Every};
 ghost use Rattle.lc_term.specs.Places.{is_closed};

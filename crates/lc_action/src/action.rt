@@ -1,6 +1,8 @@
+//! Declared actions: what a step may do to the columns.
 ghost use Rattle.std.specs.Prelude.{◌≡◌, ◌≤◌, true, [], ◌∷◌, pos, length, map, codes, IfOk};
 ghost use Rattle.lc_base.specs.Name.{bytes_of};
 ghost use Rattle.lc_base.specs.NameText.{is_name};
+ghost use Rattle.lc_base.specs.Limits.{name_limit};
 ghost use Rattle.lc_term.specs.Said.{at_client};
 ghost use Rattle.lc_term.specs.Syntax.{Number, Variable, Read, Base, Eq};
 ghost use Rattle.lc_term.specs.SystemColumns.{pend};
@@ -69,7 +71,7 @@ fn is_idle(alloc: Global, system: SystemColumns) -> Result<Formula, OutOfMemory>
 // The name of this text.
 fn name_of(text: &str) -> Name
     requires name { is_name text.now ≡ true }
-    requires limit { length text.now ≤ 64 }
+    requires limit { length text.now ≤ name_limit }
     ensures { bytes_of result ≡ text.now }
 {
     match Name::new(text) {

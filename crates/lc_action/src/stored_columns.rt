@@ -1,5 +1,6 @@
+//! Stores into columns that are given by their expressions in a table.
 ghost use Rattle.std.specs.Prelude.{◌≡◌, IfOk, map};
-ghost use Rattle.lc_term.specs.Syntax.{Read, Store};
+ghost use Rattle.lc_term.specs.Syntax.{Read};
 ghost use Rattle.lc_term.specs.Said.{put, puts, said, after};
 ghost use Rattle.lc_term.specs.View.{term_of, column_of};
 ghost use Rattle.lc_term.specs.UpdateView.{updates_of};
@@ -7,7 +8,7 @@ ghost use Rattle.lc_action.specs.Telling.{columns_in};
 
 use crate::telling::{Before, said};
 use lc_base::{ColId, OutOfMemory};
-use lc_term::{ColExpr, Term, Update};
+use lc_term::{ColExpr, Term, Update, with_store};
 use std::alloc::Global;
 use std::mem;
 
@@ -52,22 +53,6 @@ pub fn copy_columns(
         copies.push((entry.0, entry.1.try_clone(alloc)?))?;
     }
     Ok(copies)
-}
-
-// A column with a value stored at an index.
-fn with_store(
-    alloc: Global,
-    column: ColExpr,
-    index: Term,
-    value: Term,
-) -> Result<ColExpr, OutOfMemory>
-    ensures { IfOk result (λ stored. column_of stored ≡ Store (column_of column) (term_of index) (term_of value)) }
-{
-    Ok(ColExpr::Store(
-        Box::new(alloc, column)?,
-        Box::new(alloc, index)?,
-        Box::new(alloc, value)?,
-    ))
 }
 
 /// The columns after one more store.

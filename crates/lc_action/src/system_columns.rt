@@ -1,3 +1,4 @@
+//! The columns that each object has behind its own: the calls of clients, their arguments, their replies and their notes.
 ghost use Rattle.std.specs.Prelude.{◌+◌, ◌≤◌, ◌^◌};
 
 use lc_base::ColId;

@@ -1,3 +1,4 @@
+//! Terms and formulas of a later state, said of an earlier one.
 ghost use Rattle.std.specs.Prelude.{◌≡◌, ℕ, suc, IfOk, IsTrue, map, true, false};
 ghost use Rattle.lc_term.specs.Chains.{is_store};
 ghost use Rattle.lc_term.specs.Places.{term_passes, column_passes, passes, all_pass};

@@ -1,2 +1,2 @@
 pub mod Truths
-pub mod Still
+mod Still

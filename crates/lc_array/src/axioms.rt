@@ -1,3 +1,4 @@
+//! The axioms of arrays, as formulas of a table.
 ghost use Rattle.std.specs.Prelude.{◌≡◌, [], ◌∷◌, IfOk};
 ghost use Rattle.lc_array.specs.Axioms.{written, written_to, same_index, affine_cell};
 ghost use Rattle.lc_term.specs.Syntax as S;

@@ -2,28 +2,27 @@ ghost use Rattle.std.specs.Prelude.{◌≡◌, true};
 ghost use Rattle.std.specs.List.{list_all};
 ghost use Rattle.lc_base.specs.NameText.{begins_name, continues_name, is_name};
 
+use crate::limits::NAME_LIMIT;
 use arrayvec::ArrayString;
 use std::fmt;
 
-/// The most bytes that a name has.
-pub const NAME_LIMIT: usize = 64;
-
-/// A name: a letter or `_`, then letters, digits, `_`, `-` and `.`, together at most 64 bytes.
+/// A name: a letter or `_`, then letters, digits, `_`, `-` and `.`, together at most `NAME_LIMIT` bytes.
 /// It lies in the value itself, so a copy takes no memory.
 #[derive(Clone, Copy, PartialEq, Eq)]
 pub struct Name {
-    text: ArrayString<64>,
+    text: ArrayString<NAME_LIMIT>,
     ghost is_name: { is_name text.bytes ≡ true },
 }
 
 impl Name {
     ghost use Rattle.std.specs.Prelude.{◌≡◌, ◌≤◌, ◌↔◌, true, IsSome, IfSome, length};
     ghost use Rattle.lc_base.specs.NameText.{is_name};
+    ghost use Rattle.lc_base.specs.Limits.{name_limit};
     ghost use Rattle.lc_base.specs.Name.{bytes_of};
 
-    /// The name of this text, if it is one and has at most 64 bytes.
+    /// The name of this text, if it is one and has at most `NAME_LIMIT` bytes.
     pub fn new(text: &str) -> Option<Name>
-        ensures valid { IsSome result ↔ ((is_name text.now ≡ true) × (length text.now ≤ 64)) }
+        ensures valid { IsSome result ↔ ((is_name text.now ≡ true) × (length text.now ≤ name_limit)) }
         ensures value { IfSome result (λ name. bytes_of name ≡ text.now) }
     {
         if !is_name(text.as_bytes()) {
@@ -37,7 +36,7 @@ impl Name {
     pub fn as_str(&self) -> &str
         ensures text { result.now ≡ bytes_of self.now }
         ensures name { is_name result.now ≡ true }
-        ensures limit { length result.now ≤ 64 }
+        ensures limit { length result.now ≤ name_limit }
     {
         self.text.as_str()
     }

@@ -1,3 +1,4 @@
+//! Cases of formula files.
 use lc_base::{Fault, Refusal};
 use lc_kernel::{ProofFault, prove};
 use lc_proof_text::formula_of;
@@ -27,7 +28,7 @@ pub fn answer_formula(rt: &HostRuntime, name: &str, text: &[u8]) -> io::Result<(
     }
 }
 
-/// The same of each text that it begins with.
+/// Prints the answer to each beginning of a text as a formula file.
 pub fn answer_prefixes(rt: &HostRuntime, name: &str, text: &[u8]) -> io::Result<()> {
     for length in 0..text.len() {
         print!(rt; "cut to {length}, ")?;

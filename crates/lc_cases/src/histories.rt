@@ -1,3 +1,4 @@
+//! Cases of specifications and of histories.
 use anyhow::Context;
 use lc_base::{Fault, Refusal};
 use lc_hist::{JudgeFault, history_from_json, history_to_json, judge};

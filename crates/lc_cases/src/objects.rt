@@ -1,3 +1,4 @@
+//! Cases of developments, as far as the object's code goes.
 use lc_base::Fault;
 use lc_object_text::object_at;
 use lc_sexp::Forms;

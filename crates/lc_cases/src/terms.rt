@@ -1,3 +1,4 @@
+//! Cases of terms, columns and formulas at a place with names of each kind.
 use anyhow::{Context, bail};
 use lc_base::{ColId, OutOfMemory};
 use lc_reading::{NameTable, Part, Pass, ReadFault, next_part, read_name};

@@ -1,5 +1,6 @@
 -- An entry that is read alone.
 use Rattle.std.proofs.Common.{◌≡◌, ◌≢◌, ℕ, zero, suc, ◌-◌, ◌<◌, ◌≤◌, List, Option, Some, None, refl, sym, ap, ◌∙◌, subst, arith}
+use Rattle.lc_base.specs.Limits.{file_limit}
 use Rattle.lc_kernel.specs.Proofs.{size}
 use Rattle.lc_reading.proofs.Fine.{of_fine}
 use Rattle.lc_reading.specs.Readings.{Reading, fine, flawed}
@@ -48,7 +49,7 @@ no_number names text number item u d p reads other t e h =
     other (ap (λ (x : Entry). x.number) same ∙ h.number_is)
 
 -- an entry of a piece has no more steps than a file has bytes
-pub few_steps : (names : Names) (text : List ℕ) (last : Option ℕ) (item : ℕ) (t : Tree) (e : Entry) → IsPieceOf t text → entry_reading names last item t ≡ fine e → size e.proof ≤ 16777216
+pub few_steps : (names : Names) (text : List ℕ) (last : Option ℕ) (item : ℕ) (t : Tree) (e : Entry) → IsPieceOf t text → entry_reading names last item t ≡ fine e → size e.proof ≤ file_limit
 few_steps names text last item t e p reads =
     let sized = of_fine (IsSized (item_count t)) (entry_reading names last item t) e (entry_sized names last item t) reads in
     let fit = items_fit_lem (bracketed text) (list (t ▸ none) ▸ none) p.reads in

@@ -22,7 +22,8 @@ use Rattle.lc_outline.specs.Development.{Development}
 use Rattle.lc_cert.proofs.Atoms.{name_atom, number_atom}
 use Rattle.lc_cert.proofs.ProofAtoms.{proof_atoms}
 use Rattle.lc_cert.specs.Certificates.{Entry, is_above, is_rising}
-use Rattle.lc_cert.specs.ColumnNames.{column_names, names_with, spelled_with}
+use Rattle.lc_naming.specs.ColumnNames.{column_names}
+use Rattle.lc_cert.specs.ColumnNames.{names_with, spelled_with}
 use Rattle.lc_cert.specs.Files.{Certifies}
 use Rattle.lc_cert.specs.Printed.{entry_tree, entry_trees, certificate_tree, certificate_line, EntryReadsBack, IsPrintable}
 use Rattle.lc_cert.specs.Readings.{rising_reading, place_reading, entry, entry_reading, last_behind, entries_reading, certificate_reading}

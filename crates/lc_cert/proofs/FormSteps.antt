@@ -2,6 +2,7 @@
 use Rattle.std.proofs.Common.{◌≡◌, ◌≢◌, ℕ, ◌+◌, ◌-◌, ◌≤◌, Bool, true, false, cond, List, [], ◌∷◌, ◌++◌, Option, Some, None, refl, sym, ap, ◌∙◌, subst, arith}
 use Rattle.std.specs.Prelude.{◌==◌, Result, Err}
 use Rattle.std.proofs.lemmas.Bool.Decides.{nat_tests}
+use Rattle.lc_base.specs.Limits.{file_limit}
 use Rattle.lc_sexp.proofs.Rows.{count_joined}
 use Rattle.lc_sexp.specs.Trees.{Tree, Trees, atom, list, none, ◌▸◌, item_count, item_count_of_all}
 use Rattle.lc_sexp.specs.TreeCode.{tree_count, behind_first, joined_rows, joined-none}
@@ -102,13 +103,13 @@ first_of_atom w ts = in_later ts 1 1 refl
 
 -- no more steps than a file has bytes
 abbrev IsFew : Entry → Type 0
-IsFew e = size e.proof ≤ 16777216
+IsFew e = size e.proof ≤ file_limit
 
-pub kept_few : (flaw : Option Flaw) (es : List Entry) (e : Entry) → HaveFewSteps es → size e.proof ≤ 16777216 → HaveFewSteps (kept flaw es e)
+pub kept_few : (flaw : Option Flaw) (es : List Entry) (e : Entry) → HaveFewSteps es → size e.proof ≤ file_limit → HaveFewSteps (kept flaw es e)
 kept_few None es e h few = Every-append IsFew es (e ∷ []) h (few, tt)
 kept_few (Some f) es e h few = h
 
-pub entry_few : (names : Names) (last : Option ℕ) (n : ℕ) (t : Tree) (flaw : Option Flaw) (es : List Entry) (e : Entry) → entry_reading names last n t ≡ fine e → item_count t ≤ 16777216 → HaveFewSteps es → HaveFewSteps (kept flaw es e)
+pub entry_few : (names : Names) (last : Option ℕ) (n : ℕ) (t : Tree) (flaw : Option Flaw) (es : List Entry) (e : Entry) → entry_reading names last n t ≡ fine e → item_count t ≤ file_limit → HaveFewSteps es → HaveFewSteps (kept flaw es e)
 entry_few names last n t flaw es e read room h =
     let sized = of_fine (IsSized (item_count t)) (entry_reading names last n t) e (entry_sized names last n t) read in
     kept_few flaw es e h (omega (arith, sized, room))
@@ -117,7 +118,7 @@ entry_few names last n t flaw es e read room h =
 pub form_step : (columns : List (List ℕ)) (name : List ℕ) (parts : List Part) (p : Part) (taken : List Entry) (old mid new : FormReader) (t : Tree) (n : ℕ)
     → p.form ≡ 0 → p.sexp ≡ t → n ≡ old.number → new ≡ record mid { number = new.number } → new.number ≡ old.number + item_count t
     → ((taken : List Entry) (ts : Trees) → form_from columns name taken mid (n + item_count t) ts ≡ form_from columns name taken old n (t ▸ ts))
-    → (item_count t ≤ 16777216 → HaveFewSteps (waiting_in old) → HaveFewSteps (waiting_in mid)) → item_count t ≤ 16777216
+    → (item_count t ≤ file_limit → HaveFewSteps (waiting_in old) → HaveFewSteps (waiting_in mid)) → item_count t ≤ file_limit
     → IsForm columns name parts taken old → IsForm columns name (parts ++ (p ∷ [])) taken new
 form_step columns name parts p taken old mid new t n first is place same count step few room h =
     let more : in_first (parts ++ (p ∷ [])) ≡ joined_rows (in_first parts) (t ▸ none) = first_more parts p first ∙ ap (λ x. joined_rows (in_first parts) (x ▸ none)) is in

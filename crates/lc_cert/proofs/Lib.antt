@@ -1,15 +1,15 @@
 pub mod Rising
 pub mod Refusals
-pub mod Atoms
-pub mod ProofAtoms
-pub mod Back
-pub mod Places
-pub mod Behind
-pub mod Written
+mod Atoms
+mod ProofAtoms
+mod Back
+mod Places
+mod Behind
+mod Written
 pub mod Spelled
-pub mod Kept
-pub mod Sized
-pub mod FormSteps
+mod Kept
+mod Sized
+mod FormSteps
 pub mod Pieces
-pub mod OneByOne
-pub mod Alone
+mod OneByOne
+mod Alone

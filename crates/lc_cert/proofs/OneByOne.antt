@@ -1,6 +1,7 @@
 -- Entries of a certificate that are read one by one.
 use Rattle.std.proofs.Common.{◌≡◌, ℕ, suc, ◌+◌, ◌-◌, ◌≤◌, true, if◌then◌else◌, codes, List, [], ◌∷◌, ◌++◌, length, take, drop, None, Some, refl, sym, ap, ◌∙◌, subst, arith, append_assoc}
 use Rattle.std.proofs.lemmas.List.{take-append-drop, drop-drop}
+use Rattle.lc_base.specs.Limits.{file_limit}
 use Rattle.lc_sexp.proofs.Cutting.{pieces_read}
 use Rattle.lc_sexp.specs.CutFiles.{AreJoined, BeginsOpen}
 use Rattle.lc_sexp.specs.Reads.{ReadsAs}
@@ -11,7 +12,8 @@ use Rattle.lc_reading.specs.declared.pass.Pass.TheVariants.{Shape}
 use Rattle.lc_text.specs.Names.{Names}
 use Rattle.lc_outline.specs.Development.{Development}
 use Rattle.lc_cert.specs.Certificates.{Entry}
-use Rattle.lc_cert.specs.ColumnNames.{column_names, names_with}
+use Rattle.lc_naming.specs.ColumnNames.{column_names}
+use Rattle.lc_cert.specs.ColumnNames.{names_with}
 use Rattle.lc_cert.specs.OneByOne.{number_before, piece_at, AreReadAlone, ReadAloneIsReadWhole}
 use Rattle.lc_cert.specs.Readings.{entry_reading, entries_reading, last_behind, named_reading, certificate_reading}
 
@@ -72,7 +74,7 @@ read_alone_is_read_whole D file at items es frame first alone =
     let text : drop (at 0) file ≡ g.body ++ drop (at (length es)) file = g.text ∙ ap (λ i. g.body ++ drop (at i) file) end in
     let whole : take (at 0) file ++ (g.body ++ drop (at (length es)) file) ≡ file = ap (λ x. take (at 0) file ++ x) (sym text) ∙ take-append-drop (at 0) file in
     let opens : BeginsOpen (g.body ++ drop (at (length es)) file) = subst BeginsOpen text frame.opens in
-    let size : length (take (at 0) file ++ (g.body ++ drop (at (length es)) file)) ≤ 16777216 = subst (λ x. length x ≤ 16777216) (sym whole) frame.size in
+    let size : length (take (at 0) file ++ (g.body ++ drop (at (length es)) file)) ≤ file_limit = subst (λ x. length x ≤ file_limit) (sym whole) frame.size in
     let reads = pieces_read (take (at 0) file) g.body (drop (at (length es)) file) (atom frame.word ▸ (atom frame.name ▸ none)) g.trees frame.head opens g.joined frame.tail size in
     let entries : entries_reading names None 3 g.trees ≡ fine es = subst (λ m. entries_reading names None m g.trees ≡ fine es) first g.read in (
       list (atom frame.word ▸ (atom frame.name ▸ g.trees)) ▸ none,

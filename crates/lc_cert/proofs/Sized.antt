@@ -1,6 +1,7 @@
 -- The proofs of a certificate that is read have no more steps than the file has bytes.
 use Rattle.std.proofs.Common.{ℕ, ◌+◌, ◌≤◌, List, ◌∷◌, Option, None, arith}
 use Rattle.std.specs.Prelude.{codes}
+use Rattle.lc_base.specs.Limits.{file_limit}
 use Rattle.lc_sexp.proofs.Items.{items_fit_lem}
 use Rattle.lc_sexp.specs.Trees.{Tree, Trees, none, ◌▸◌, item_count, item_count_of_all}
 use Rattle.lc_kernel.specs.Proofs.{size}
@@ -13,7 +14,8 @@ use Rattle.lc_proof_text.specs.Files.{only}
 use Rattle.lc_proof_text.specs.Proofs.{proof_reading}
 use Rattle.lc_outline.specs.Development.{Development}
 use Rattle.lc_cert.specs.Certificates.{Entry, HaveFewSteps}
-use Rattle.lc_cert.specs.ColumnNames.{column_names, names_with}
+use Rattle.lc_naming.specs.ColumnNames.{column_names}
+use Rattle.lc_cert.specs.ColumnNames.{names_with}
 use Rattle.lc_cert.specs.Files.{Certifies}
 use Rattle.lc_cert.specs.Readings.{place_reading, entry, parts_reading, entry_reading, last_behind, entries_reading, name_due, named_reading, form_reading, certificate_reading}
 
@@ -71,4 +73,4 @@ certificate_sized D bytes es (ts, reads, says) =
     let items = of_fine (AreSized (item_count_of_all ts)) (certificate_reading D ts) es (file_sized (column_names D) D.object.name (item_count_of_all ts) 0 ts) says in
     let room = items_fit_lem bytes ts reads in
     let size = reads.size in
-    more_items (item_count_of_all ts) 16777216 es (omega (arith, room, size)) items
+    more_items (item_count_of_all ts) file_limit es (omega (arith, room, size)) items

@@ -1,11 +1,7 @@
 -- The text that is written of a certificate.
-use Rattle.std.proofs.Common.{◌≡◌, ℕ, List, [], ◌∷◌, ◌++◌, Ok, Err, sym, ap, ◌∙◌, append_assoc, append-nil}
-use Rattle.std.specs.Prelude.{codes, Result, Vec, IfOk}
-use Rattle.std.specs.Borrow.{Bor}
-use Rattle.std.specs.declared.alloc.Global.{Global}
+use Rattle.std.proofs.Common.{◌≡◌, ℕ, List, [], ◌∷◌, ◌++◌, sym, ap, ◌∙◌, append_assoc, append-nil}
+use Rattle.std.specs.Prelude.{codes}
 use Rattle.std.specs.Fmt.{decimal}
-use Rattle.lc_base.specs.declared.memory.OutOfMemory.{OutOfMemory}
-use Rattle.lc_reading.specs.Words.{names_in}
 use Rattle.lc_sexp.specs.Printed.{printed_tree, printed_others}
 use Rattle.lc_kernel.specs.Proofs.{Proof}
 use Rattle.lc_text.specs.Spelling.{Spelled}
@@ -14,7 +10,8 @@ use Rattle.lc_proof_text.specs.ProofTrees.{proof_tree}
 use Rattle.lc_proof_text.specs.SpelledProofs.{spelled_proof}
 use Rattle.lc_outline.specs.Development.{Development}
 use Rattle.lc_cert.specs.Certificates.{Entry}
-use Rattle.lc_cert.specs.ColumnNames.{column_names, spelled_with}
+use Rattle.lc_naming.specs.ColumnNames.{column_names}
+use Rattle.lc_cert.specs.ColumnNames.{spelled_with}
 use Rattle.lc_cert.specs.Printed.{entry_tree, entry_trees, certificate_line}
 use Rattle.lc_cert.specs.Readings.{entry}
 
@@ -37,11 +34,3 @@ written_line D es a b c d opened named own closed =
     let others = printed_others (entry_trees (spelled_with (column_names D)) es) in
     closed ∙ ap (λ w. w ++ codes ")\n") (own ∙ ap (λ w. w ++ others) (named ∙ ap (λ w. w ++ D.object.name) opened))
     ∙ ap (λ w. codes "(certificate " ++ w) (sym (append_assoc (D.object.name ++ others) (41 ∷ []) (10 ∷ [])))
-
--- the names of all columns, one kind after another
-pub names_joined : (r : Result (Vec (Bor (List ℕ)) Global) OutOfMemory) (x y z w new a b c : List (List ℕ)) → new ≡ [] → a ≡ new ++ x → b ≡ a ++ y → c ≡ b ++ z
-    → IfOk r (λ all. names_in all.items ≡ c ++ w) → IfOk r (λ all. names_in all.items ≡ x ++ (y ++ (z ++ w)))
-names_joined (Ok all) x y z w new a b c none first second third h =
-    h ∙ ap (λ l. l ++ w) (third ∙ ap (λ l. l ++ z) (second ∙ ap (λ l. l ++ y) (first ∙ ap (λ l. l ++ x) none)))
-    ∙ append_assoc (x ++ y) z w ∙ append_assoc x y (z ++ w)
-names_joined (Err e) x y z w new a b c none first second third h = tt

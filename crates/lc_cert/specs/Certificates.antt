@@ -1,5 +1,6 @@
 -- Certificates: proofs by numbers that rise.
 use Rattle.std.specs.Prelude.{ℕ, ◌≤◌, Bool, true, ◌&&◌, ◌==◌, nat_lt, if◌then◌else◌, List, [], ◌∷◌, Option, Some, None}
+use Rattle.lc_base.specs.Limits.{file_limit}
 use Rattle.lc_term.specs.Lists.{Every}
 use Rattle.lc_kernel.specs.Proofs.{Proof, size}
 
@@ -25,4 +26,4 @@ proof_at (e ∷ es) k = if e.number == k then Some e.proof else proof_at es k
 
 -- no proof has more steps than a file has bytes
 abbrev pub HaveFewSteps : List Entry → Type 0
-HaveFewSteps es = Every (λ (e : Entry). size e.proof ≤ 16777216) es
+HaveFewSteps es = Every (λ (e : Entry). size e.proof ≤ file_limit) es

@@ -1,5 +1,6 @@
 -- Entries of a certificate that are read one by one, each from a text of its own.
 use Rattle.std.specs.Prelude.{◌≡◌, ◌≢◌, ℕ, zero, suc, ◌+◌, ◌-◌, ◌≤◌, true, codes, List, [], ◌∷◌, length, take, drop, Option, Some, None}
+use Rattle.lc_base.specs.Limits.{file_limit}
 use Rattle.lc_sexp.specs.Trees.{Tree, atom, none, ◌▸◌, item_count}
 use Rattle.lc_sexp.specs.CutFiles.{IsPieceOf, IsHead, IsTail, BeginsOpen}
 use Rattle.lc_reading.specs.Readings.{Reading, fine}
@@ -9,7 +10,8 @@ use Rattle.lc_text.specs.Names.{Names}
 use Rattle.lc_outline.specs.Development.{Development}
 use Rattle.lc_cert.specs.Certificates.{Entry}
 use Rattle.lc_cert.specs.EntryView.{entry_of}
-use Rattle.lc_cert.specs.ColumnNames.{column_names, names_with}
+use Rattle.lc_naming.specs.ColumnNames.{column_names}
+use Rattle.lc_cert.specs.ColumnNames.{names_with}
 use Rattle.lc_cert.specs.Files.{Certifies}
 use Rattle.lc_cert.specs.Readings.{entry_reading}
 use Rattle.lc_cert.specs.declared.entry.Entry.{Entry as Read}
@@ -49,7 +51,7 @@ pub record IsFrame (D : Development) (file : List ℕ) (from to : ℕ) : Type 0 
   pub head : IsHead (atom word ▸ (atom name ▸ none)) (take from file)
   pub opens : BeginsOpen (drop from file)
   pub tail : IsTail (drop to file)
-  pub size : length file ≤ 16777216
+  pub size : length file ≤ file_limit
 
 -- a file whose pieces read as these entries, in the frame of a certificate, where the first entry is item 3, is a certificate of them
 abbrev pub ReadAloneIsReadWhole : Type 0

@@ -2,13 +2,15 @@
 use Rattle.std.specs.Prelude.{◌≡◌, ℕ, ◌<◌, ◌≤◌, ◌^◌, true, codes, List, [], ◌∷◌, length}
 use Rattle.std.specs.Fmt.{decimal}
 use Rattle.lc_base.specs.NameText.{is_name}
+use Rattle.lc_base.specs.Limits.{depth_limit, file_limit}
 use Rattle.lc_sexp.specs.Trees.{Tree, Trees, atom, list, none, ◌▸◌, depth_of}
 use Rattle.lc_sexp.specs.Printed.{printed}
 use Rattle.lc_text.specs.Spelling.{Spelled}
 use Rattle.lc_proof_text.specs.ProofTrees.{proof_tree, ProofReadsBack}
 use Rattle.lc_outline.specs.Development.{Development}
 use Rattle.lc_cert.specs.Certificates.{Entry}
-use Rattle.lc_cert.specs.ColumnNames.{column_names, names_with, spelled_with}
+use Rattle.lc_naming.specs.ColumnNames.{column_names}
+use Rattle.lc_cert.specs.ColumnNames.{names_with, spelled_with}
 
 abbrev pub entry_tree : Spelled → Entry → Tree
 entry_tree by e = list (atom (codes "proof") ▸ atom (decimal e.number) ▸ proof_tree by e.proof ▸ none)
@@ -32,5 +34,5 @@ EntryReadsBack D e = (e.number < 2 ^ 63) × ProofReadsBack (names_with (column_n
 -- what is printed may be a file: the object has a name, and the text is within the limits of nesting and size
 pub record IsPrintable (D : Development) (es : List Entry) : Type 0 where
   pub name : is_name D.object.name ≡ true
-  pub nesting : depth_of (certificate_tree D es) ≤ 1000
-  pub size : length (certificate_line D es) ≤ 16777216
+  pub nesting : depth_of (certificate_tree D es) ≤ depth_limit
+  pub size : length (certificate_line D es) ≤ file_limit

@@ -1,8 +1,10 @@
+//! A reader of certificates that come in pieces.
 use crate::entry::Entry;
 use crate::form_reader::FormReader;
-use crate::naming::{column_names, table_of};
+use crate::naming::table_of;
 use crate::reading::{text_told, trees_told};
 use lc_base::{Fault, OutOfMemory};
+use lc_naming::column_names;
 use lc_outline::Development;
 use lc_reading::NameTable;
 use lc_sexp::{Part, Reader};
@@ -30,7 +32,7 @@ impl CertReader {
     ghost use Rattle.lc_outline.specs.DevelopmentView.{development_shown};
     ghost use Rattle.lc_cert.specs.Certificates.{Entry as Proved};
     ghost use Rattle.lc_cert.specs.EntryView.{entry_of};
-    ghost use Rattle.lc_cert.specs.ColumnNames.{column_names};
+    ghost use Rattle.lc_naming.specs.ColumnNames.{column_names};
     ghost use Rattle.lc_cert.specs.Pieces.{IsForm, IsUnderWay, IsAfterTaking, IsAnswerOf, waiting, is_spent};
 
     /// A reader of a certificate of this development, which has been fed nothing.
@@ -78,7 +80,7 @@ impl CertReader {
         }
     }
 
-    /// The same. The names of columns are listed only where a part has ended.
+    /// Reads the parts that have ended. The names of columns are listed only where there is one.
     fn read_ready(&mut self, development: &Development) -> Result<(), OutOfMemory>
         ensures { OnOk result (is_reader_spent self.old.reader ≡ false → (fed : List ℕ) → (parts : List FilePart) → (taken : List Proved) →
             IsForm (column_names (development_shown development.now)) (development_shown development.now).object.name parts taken self.old.form →

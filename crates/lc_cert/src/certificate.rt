@@ -1,3 +1,4 @@
+//! The type of certificates: proofs, by numbers that rise.
 ghost use Rattle.std.specs.Prelude.{◌≡◌, true, None};
 ghost use Rattle.lc_cert.specs.Certificates.{is_rising};
 ghost use Rattle.lc_cert.specs.EntryView.{entries_of};

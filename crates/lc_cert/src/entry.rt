@@ -1,3 +1,4 @@
+//! An entry of a certificate: a proof, and the number of its condition.
 use lc_kernel::Proof;
 
 /// A proof, and the number of the condition that it is to prove.

@@ -1,5 +1,6 @@
 //! Single entries of a certificate, each read from a text of its own.
 ghost use Rattle.std.specs.Prelude.{◌≡◌, IfOk};
+ghost use Rattle.lc_base.specs.Limits.{file_limit};
 ghost use Rattle.lc_reading.specs.Parts.{tree_of, place_of};
 ghost use Rattle.lc_reading.specs.TableView.{listed};
 ghost use Rattle.lc_cert.specs.ColumnNames.{names_with};
@@ -7,9 +8,10 @@ ghost use Rattle.lc_cert.specs.OneByOne.{number_before, IsGiven};
 ghost use Rattle.lc_cert.specs.Readings.{entry_reading};
 
 use crate::entry::Entry;
-use crate::naming::{column_names, table_of};
+use crate::naming::table_of;
 use crate::reading::read_entry;
 use lc_base::OutOfMemory;
+use lc_naming::column_names;
 use lc_outline::Parts;
 use lc_reading::{NameTable, Part, ReadFault, next_part};
 use lc_sexp::{Sexp, read_piece};
@@ -83,7 +85,8 @@ impl<'a> EntryReader<'a> {
     ghost use Rattle.lc_kernel.specs.Proofs.{size};
     ghost use Rattle.lc_kernel.specs.View.{proof_of};
     ghost use Rattle.lc_outline.specs.PartsView.{parts_shown};
-    ghost use Rattle.lc_cert.specs.ColumnNames.{column_names, names_with};
+    ghost use Rattle.lc_naming.specs.ColumnNames.{column_names};
+    ghost use Rattle.lc_cert.specs.ColumnNames.{names_with};
     ghost use Rattle.lc_cert.specs.OneByOne.{names_known, IsSingleRead};
 
     /// A reader of entries of certificates of this development.
@@ -105,7 +108,7 @@ impl<'a> EntryReader<'a> {
         item: u64,
     ) -> Result<Option<Single>, OutOfMemory>
         ensures exactly { IfOk result (IsSingleRead (names_known self.now) text.now number item) }
-        ensures few { IfOk result (λ single. IfSome single (λ s. size (proof_of s.entry.proof) ≤ 16777216)) }
+        ensures few { IfOk result (λ single. IfSome single (λ s. size (proof_of s.entry.proof) ≤ file_limit)) }
     {
         let Some(piece) = read_piece(alloc, text)? else {
             return Ok(None);

@@ -1,5 +1,6 @@
 //! How the form of a certificate is read item by item.
 ghost use Rattle.std.specs.Prelude.{◌≡◌};
+ghost use Rattle.lc_base.specs.Limits.{file_limit};
 ghost use Rattle.lc_sexp.specs.Shown.{rest_of};
 ghost use Rattle.lc_reading.specs.Parts.{tree_of};
 ghost use Rattle.lc_reading.specs.Results.{ended_result};
@@ -7,11 +8,11 @@ ghost use Rattle.lc_cert.specs.Pieces.{is_word};
 
 use crate::entry::Entry;
 use crate::reading::{read_due, read_entry};
-use lc_base::OutOfMemory;
+use lc_base::{FILE_LIMIT, OutOfMemory};
 use lc_reading::{
     Flaw, NameTable, Part, Pass, ReadFault, also, misshapen_too, next_part, one, wrong,
 };
-use lc_sexp::{Cursor, FILE_LIMIT, Item, Sexp};
+use lc_sexp::{Cursor, Item, Sexp};
 use std::alloc::Global;
 use std::collections::VecDeque;
 
@@ -156,7 +157,7 @@ impl FormReader {
             self.old.due ≡ Proofs last →
             form_from (listed columns.now) name taken self.new (place_of part.entry + item_count (tree_of part.entry)) ts
             ≡ form_due (listed columns.now) name taken self.old (Proofs last) (place_of part.entry) (tree_of part.entry ▸ ts)) }
-        ensures few { OnOk result (item_count (tree_of part.entry) ≤ 16777216 → HaveFewSteps (waiting_in self.old) → HaveFewSteps (waiting_in self.new)) }
+        ensures few { OnOk result (item_count (tree_of part.entry) ≤ file_limit → HaveFewSteps (waiting_in self.old) → HaveFewSteps (waiting_in self.new)) }
         ensures number { OnOk result (self.new.number ≡ self.old.number) }
     {
         match read_entry(alloc, columns, last, part) {
@@ -179,7 +180,7 @@ impl FormReader {
         ensures reads { OnOk result ((taken : List Proved) → (ts : Trees) →
             form_from (listed columns.now) name.now taken self.new (place_of part.entry + item_count (tree_of part.entry)) ts
             ≡ form_from (listed columns.now) name.now taken self.old (place_of part.entry) (tree_of part.entry ▸ ts)) }
-        ensures few { OnOk result (item_count (tree_of part.entry) ≤ 16777216 → HaveFewSteps (waiting_in self.old) → HaveFewSteps (waiting_in self.new)) }
+        ensures few { OnOk result (item_count (tree_of part.entry) ≤ file_limit → HaveFewSteps (waiting_in self.old) → HaveFewSteps (waiting_in self.new)) }
         ensures number { OnOk result (self.new.number ≡ self.old.number) }
     {
         match self.due {

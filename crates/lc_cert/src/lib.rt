@@ -16,7 +16,7 @@ pub use cert_reader::CertReader;
 pub use certificate::Certificate;
 pub use entry::Entry;
 pub use entry_reader::{EntryReader, Single};
-pub use naming::{column_names, table_of};
+pub use naming::table_of;
 pub use printing::certificate_text;
 pub use reading::certificate_of;
 pub use scope::InCertificate;

@@ -1,72 +1,11 @@
-//! The names of a development's columns.
-ghost use Rattle.std.specs.Prelude.{◌≡◌, ◌++◌, IfOk, map};
-ghost use Rattle.lc_term.specs.SystemColumns.{system_columns};
-ghost use Rattle.lc_seq.specs.Specification as Q;
-ghost use Rattle.lc_seq.specs.SpecView.{columns_of};
-ghost use Rattle.lc_object.specs.Syntax as O;
-ghost use Rattle.lc_object.specs.View.{column_shown};
-ghost use Rattle.lc_outline.specs.PartsView.{parts_shown};
+//! The names of columns, found by a hash.
+ghost use Rattle.std.specs.Prelude.{◌≡◌, IfOk};
 ghost use Rattle.lc_reading.specs.TableView.{listed};
 ghost use Rattle.lc_reading.specs.Words.{names_in};
-ghost use Rattle.lc_cert.specs.ColumnNames.{column_names};
 
 use lc_base::OutOfMemory;
-use lc_outline::Parts;
 use lc_reading::NameTable;
 use std::alloc::Global;
-
-/// The columns that each object has beside its own, by their numbers.
-const SYSTEM_COLUMNS: [&str; 12] = [
-    "pend", "op", "arg1", "arg2", "arg3", "rep1", "rep2", "rep3", "noted", "note1", "note2",
-    "note3",
-];
-
-/// The names with those of abstract or auxiliary columns.
-fn with_columns<'a>(
-    names: Vec<&'a str>,
-    columns: &'a [lc_seq::Column],
-) -> Result<Vec<&'a str>, OutOfMemory>
-    ensures { IfOk result (λ all. names_in all.items ≡ names_in names.entry.items ++ map (λ (c : Q.Column). c.name) (columns_of columns.now)) }
-{
-    let mut names = names;
-    for column in columns {
-        names.push(column.name.as_str())?;
-    }
-    Ok(names)
-}
-
-/// The names with those of concrete columns.
-fn with_concretes<'a>(
-    names: Vec<&'a str>,
-    columns: &'a [lc_object::Column],
-) -> Result<Vec<&'a str>, OutOfMemory>
-    ensures { IfOk result (λ all. names_in all.items ≡ names_in names.entry.items ++ map (λ (c : O.Column). c.name) (map column_shown columns.now)) }
-{
-    let mut names = names;
-    for column in columns {
-        names.push(column.name.as_str())?;
-    }
-    Ok(names)
-}
-
-/// The names with those of system columns.
-fn with_system_columns<'a>(names: Vec<&'a str>) -> Result<Vec<&'a str>, OutOfMemory>
-    ensures { IfOk result (λ all. names_in all.items ≡ names_in names.entry.items ++ system_columns) }
-{
-    let mut names = names;
-    names.extend_from_slice(&SYSTEM_COLUMNS)?;
-    Ok(names)
-}
-
-/// The names of all columns, by their numbers.
-pub fn column_names<'a>(alloc: Global, parts: &'a Parts) -> Result<Vec<&'a str>, OutOfMemory>
-    ensures { IfOk result (λ all. names_in all.items ≡ column_names (parts_shown parts.now)) }
-{
-    let names = with_columns(Vec::new(alloc), parts.specification.columns())?;
-    let names = with_concretes(names, &parts.object.parts().concretes)?;
-    let names = with_columns(names, &parts.auxiliaries)?;
-    with_system_columns(names)
-}
 
 /// A table of these names.
 pub fn table_of<'a>(alloc: Global, names: &[&'a str]) -> Result<NameTable<'a>, OutOfMemory>

@@ -10,8 +10,8 @@ ghost use Rattle.lc_cert.specs.Printed.{entry_tree, entry_trees, certificate_lin
 
 use crate::certificate::Certificate;
 use crate::entry::Entry;
-use crate::naming::column_names;
 use lc_base::{ColId, OutOfMemory};
+use lc_naming::column_names;
 use lc_outline::Development;
 use lc_proof_text::write_proof;
 use lc_text::Spelling;

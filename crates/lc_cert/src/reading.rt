@@ -1,3 +1,4 @@
+//! How a certificate is read that is there as a whole.
 ghost use Rattle.std.specs.Prelude.{◌≡◌, ◌⊎◌, Some, None, IfOk, map};
 ghost use Rattle.lc_sexp.specs.Shown.{rest_of, number_of, owner_of};
 ghost use Rattle.lc_kernel.specs.View.{proof_of};
@@ -16,10 +17,11 @@ ghost use Rattle.lc_cert.specs.Readings.{place_reading, parts_reading, entry_rea
 
 use crate::certificate::Certificate;
 use crate::entry::Entry;
-use crate::naming::{column_names, table_of};
+use crate::naming::table_of;
 use crate::scope::InCertificate;
 use lc_base::{Fault, Refusal};
 use lc_kernel::Proof;
+use lc_naming::column_names;
 use lc_outline::Development;
 use lc_proof_text::read_proof;
 use lc_reading::{
@@ -162,7 +164,7 @@ fn read_form(
     read_named(alloc, columns, name, list)
 }
 
-/// The same, which is all that is left in a list.
+/// A certificate's form, which is all that is left in a list.
 fn read_file(
     alloc: Global,
     columns: &NameTable<'_>,

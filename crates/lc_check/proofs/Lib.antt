@@ -2,7 +2,7 @@ pub mod LeastExtra
 pub mod OneVerdict
 pub mod InTurn
 pub mod Walking
-pub mod Stepping
-pub mod Derived
-pub mod Answered
+mod Stepping
+mod Derived
+mod Answered
 pub mod AcceptedObjects

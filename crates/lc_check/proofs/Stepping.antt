@@ -4,6 +4,7 @@ use Rattle.std.specs.Option.{is_some}
 use Rattle.std.specs.Prelude.{Result, Ok, Err, ◌==◌, OnOk}
 use Rattle.lc_base.specs.declared.refusal.Refusal.{Refusal}
 use Rattle.lc_base.specs.declared.refusal.Refusal.TheVariants.{Missing, Extra}
+use Rattle.lc_base.specs.Limits.{file_limit}
 use Rattle.lc_term.proofs.Stores.{Every_right}
 use Rattle.lc_kernel.specs.Answers.{Proves}
 use Rattle.lc_kernel.specs.Proofs.{Proof, size}
@@ -164,5 +165,5 @@ on_ok (Ok x) P Q f h = f h
 on_ok (Err e) P Q f h = tt
 
 -- the last of proofs that have few steps
-pub last_few : (taken : List Entry) (e : Entry) → HaveFewSteps (taken ++ e ∷ []) → size e.proof ≤ 16777216
-last_few taken e h = (Every_right (λ (x : Entry). size x.proof ≤ 16777216) taken (e ∷ []) h).0
+pub last_few : (taken : List Entry) (e : Entry) → HaveFewSteps (taken ++ e ∷ []) → size e.proof ≤ file_limit
+last_few taken e h = (Every_right (λ (x : Entry). size x.proof ≤ file_limit) taken (e ∷ []) h).0

@@ -61,7 +61,7 @@ pub fn proven_count(alloc: Global, development: &Development, cert: &[u8]) -> Re
     proven_count_by(alloc, development, &mut Alone, cert)
 }
 
-/// The same, as this prover finds of one condition after another.
+/// How many conditions a development has, where this prover finds each of them proved by a file; else the refusal that it finds.
 pub fn proven_count_by<P: Prover>(
     alloc: Global,
     development: &Development,

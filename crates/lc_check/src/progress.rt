@@ -23,6 +23,7 @@ impl Drop for Progress {
 
 impl Progress {
     ghost use Rattle.std.specs.Prelude.{◌≡◌, ◌≤◌, List, [], ◌∷◌, ◌++◌, true, IfOk, OnOk, Option, None};
+    ghost use Rattle.lc_base.specs.Limits.{file_limit};
     ghost use Rattle.lc_kernel.specs.Proofs.{size};
     ghost use Rattle.lc_kernel.specs.View.{proof_of};
     ghost use Rattle.lc_outline.specs.DevelopmentView.{development_shown};
@@ -52,7 +53,7 @@ impl Progress {
         requires in_turn { (taken : List Proved) × IsInTurn (development_shown development.now) taken self.old.walk }
         requires untold { self.old.told ≡ None }
         requires stands { HasNext self.old.walk }
-        requires steps { size (proof_of proof.now) ≤ 16777216 }
+        requires steps { size (proof_of proof.now) ≤ file_limit }
         ensures { OnOk result ((taken : List Proved) → IsInTurn (development_shown development.now) taken self.old.walk →
             IsProgress (development_shown development.now) (taken ++ (record { number = self.old.walk.next; proof = proof_of proof.now } ∷ [])) self.new) }
     {
@@ -76,7 +77,7 @@ impl Progress {
         entry: &Entry,
     ) -> Result<(), OutOfMemory>
         requires known { (taken : List Proved) × IsProgress (development_shown development.now) taken self.old }
-        requires steps { size (proof_of entry.now.proof) ≤ 16777216 }
+        requires steps { size (proof_of entry.now.proof) ≤ file_limit }
         ensures { OnOk result ((taken : List Proved) → IsProgress (development_shown development.now) taken self.old →
             IsProgress (development_shown development.now) (taken ++ (entry_of entry.now ∷ [])) self.new) }
     {

@@ -1,5 +1,6 @@
 //! Whether a proof proves a condition.
 ghost use Rattle.std.specs.Prelude.{◌≡◌, ◌≤◌};
+ghost use Rattle.lc_base.specs.Limits.{file_limit};
 ghost use Rattle.lc_table.specs.Tables.{Keeps};
 ghost use Rattle.lc_kernel.specs.Proofs.{size};
 ghost use Rattle.lc_kernel.specs.View.{proof_of};
@@ -36,7 +37,7 @@ pub fn prove_one(
 ) -> Result<(), Fault>
     requires known { IsCondition terms.old condition.now }
     requires bounded { IsBounded (condition_in terms.old condition.now) }
-    requires steps { size (proof_of proof.now) ≤ 16777216 }
+    requires steps { size (proof_of proof.now) ≤ file_limit }
     ensures exactly { ProvesOne number (condition_in terms.old condition.now) (proof_of proof.now) result }
     ensures kept { Keeps terms.old terms.new }
 {
@@ -66,7 +67,7 @@ pub trait Prover {
     ) -> Result<(), Fault>
         requires known { IsCondition terms.old condition.now }
         requires bounded { IsBounded (condition_in terms.old condition.now) }
-        requires steps { size (proof_of proof.now) ≤ 16777216 }
+        requires steps { size (proof_of proof.now) ≤ file_limit }
         ensures exactly { ProvesOne number (condition_in terms.old condition.now) (proof_of proof.now) result }
         ensures kept { Keeps terms.old terms.new };
 }

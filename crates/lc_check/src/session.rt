@@ -1,3 +1,4 @@
+//! A development and a certificate that come as files, with one verdict at the end.
 use crate::certificate_session::CertificateSession;
 use crate::verdict::Verdict;
 use lc_base::{Fault, OutOfMemory, Refusal};

@@ -1,3 +1,4 @@
+//! What is said of a development and a certificate: accepted, or the first refusal.
 ghost use Rattle.std.specs.Prelude.{◌≡◌, length};
 ghost use Rattle.lc_outline.specs.DevelopmentView.{development_shown};
 ghost use Rattle.lc_cond.specs.Conditions.{conditions};

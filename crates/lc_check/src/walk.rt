@@ -1,5 +1,6 @@
 //! The conditions of a development one after another, each with its proof.
 ghost use Rattle.std.specs.Prelude.{◌≡◌, suc, IfOk};
+ghost use Rattle.lc_base.specs.Limits.{file_limit};
 
 use crate::proving::{Alone, Prover};
 use lc_base::{Fault, OutOfMemory};
@@ -94,13 +95,13 @@ impl Walk {
     ) -> Result<(), Fault>
         requires in_turn { (taken : List Proved) × IsInTurn (development_shown development.now) taken self.old }
         requires stands { HasNext self.old }
-        requires steps { size (proof_of proof.now) ≤ 16777216 }
+        requires steps { size (proof_of proof.now) ≤ file_limit }
         ensures { IsProvenOn (development_shown development.now) (proof_of proof.now) self.old self.new result }
     {
         self.prove_next_by(alloc, development, &mut Alone, proof)
     }
 
-    /// The same, as this prover finds.
+    /// Whether a proof derives the next condition, as this prover finds.
     pub fn prove_next_by<P: Prover>(
         &mut self,
         alloc: Global,
@@ -110,7 +111,7 @@ impl Walk {
     ) -> Result<(), Fault>
         requires in_turn { (taken : List Proved) × IsInTurn (development_shown development.now) taken self.old }
         requires stands { HasNext self.old }
-        requires steps { size (proof_of proof.now) ≤ 16777216 }
+        requires steps { size (proof_of proof.now) ≤ file_limit }
         ensures { IsProvenOn (development_shown development.now) (proof_of proof.now) self.old self.new result }
     {
         conditions_use_their_variables(development);

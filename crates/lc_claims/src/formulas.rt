@@ -1,5 +1,5 @@
 //! Terms, columns, formulas and proofs: how they are read and printed, and formula files.
-ghost use Rattle.std.specs.Prelude.{◌≡◌, ◌++◌, [], OnOk, string_bytes};
+ghost use Rattle.std.specs.Prelude.{◌≡◌, ◌++◌, [], OnOk, OnErr, string_bytes};
 ghost use Rattle.lc_kernel.specs.View.{proof_of};
 ghost use Rattle.lc_proof_text.specs.Files.{claim_in, file_reading};
 ghost use Rattle.lc_proof_text.specs.Proofs.{proof_reading};
@@ -50,14 +50,15 @@ pub fn reading_a_formula<S: Scope>(
     read_formula(alloc, scope, part)
 }
 
-/// A formula is printed as it is spelled.
+/// A formula is printed as it is spelled, or nothing is written.
 pub fn printing_a_formula<S: Spelling>(
     out: &mut String,
     spelling: &S,
     depth: u64,
     formula: &Formula,
 ) -> Result<(), OutOfMemory>
-    ensures { OnOk result (string_bytes out.new ≡ string_bytes out.old ++ spelled_formula (S.spelled spelling.now) depth (formula_of formula.now)) }
+    ensures text { OnOk result (string_bytes out.new ≡ string_bytes out.old ++ spelled_formula (S.spelled spelling.now) depth (formula_of formula.now)) }
+    ensures unchanged { OnErr result (string_bytes out.new ≡ string_bytes out.old) }
 {
     write_formula(out, spelling, depth, formula)
 }
@@ -73,13 +74,14 @@ pub fn reading_a_proof<S: Scope>(
     read_proof(alloc, scope, part)
 }
 
-/// A proof is printed as it is spelled.
+/// A proof is printed as it is spelled, or nothing is written.
 pub fn printing_a_proof<S: Spelling>(
     out: &mut String,
     spelling: &S,
     proof: &Proof,
 ) -> Result<(), OutOfMemory>
-    ensures { OnOk result (string_bytes out.new ≡ string_bytes out.old ++ spelled_proof (S.spelled spelling.now) (proof_of proof.now)) }
+    ensures text { OnOk result (string_bytes out.new ≡ string_bytes out.old ++ spelled_proof (S.spelled spelling.now) (proof_of proof.now)) }
+    ensures unchanged { OnErr result (string_bytes out.new ≡ string_bytes out.old) }
 {
     write_proof(out, spelling, proof)
 }

@@ -7,7 +7,7 @@ ghost use Rattle.lc_reading.specs.Results.{IsReading};
 ghost use Rattle.lc_rider.specs.RiderView.{rider_of};
 ghost use Rattle.lc_rider_text.specs.Actions.{action_reading};
 ghost use Rattle.lc_rider_text.specs.KnownView.{known_seen, ways_there};
-ghost use Rattle.lc_rider_text.specs.Ons.{on_reading, ons_reading};
+ghost use Rattle.lc_rider_text.specs.Ons.{on_reading, ons_reading, path_cap};
 ghost use Rattle.lc_rider_text.specs.Paths.{path_count};
 ghost use Rattle.lc_rider_text.specs.Riders.{rider_reading};
 ghost use Rattle.lc_sexp.specs.Shown.{rest_of, number_of};
@@ -75,9 +75,9 @@ pub fn reading_edges<'a, 'b, S: Scope>(
     read_ons(alloc, known, scope, own, edges, list)
 }
 
-/// Paths are counted up to 65.
+/// Paths are counted up to the first count that is beyond their limit.
 pub fn counting_paths(known: Known<'_, '_>, own: Option<&Ways<'_>>, list: Cursor<'_>) -> u64
-    ensures { result ≡ min 65 (path_count (known_seen known.entry) (ways_there own.entry) (rest_of list.entry)) }
+    ensures { result ≡ min path_cap (path_count (known_seen known.entry) (ways_there own.entry) (rest_of list.entry)) }
 {
     path_count(known, own, list)
 }

@@ -71,19 +71,6 @@ pub column_sides : (h : Head) (c : ℕ) (hs : List Formula) (before now : List M
 column_sides h c hs before now ts x y σ π left right adds =
     subst (Adds before ts now) (ap₂ (λ u v. if is_base c u && is_base c v then [] else condition_made h (OfColumn c) hs (same_column u v) ∷ []) left right) adds
 
--- a column expression that is no column itself
-pub other_node : (ps : List Part) (n : TermNode) (c : ℕ) → is_term_node n ≡ false → ((k : ColId) → n ≡ N.Base k → ⊥) → is_base c (column_of_node ps n) ≡ false
-other_node ps (N.Number k) c h other = cc
-other_node ps (N.Variable k) c h other = cc
-other_node ps (N.Bound k) c h other = cc
-other_node ps (N.Add a b) c h other = cc
-other_node ps (N.Subtract a b) c h other = cc
-other_node ps (N.Multiply k a) c h other = cc
-other_node ps (N.Read a b) c h other = cc
-other_node ps (N.Base k) c h other = absurd (other k refl)
-other_node ps (N.Store a b d) c h other = refl
-other_node ps (N.Affine a b) c h other = refl
-
 pub columns_step : (made : ℕ → Formula → Condition) (σ π : ℕ → Column) (n k : ℕ) (x y : Column) (a b c : List M.Condition) (old new : Table) → k ≡ n → x ≡ σ k → y ≡ π k →
     Adds a old b (column_conditions made 0 n σ π) → Keeps old new → Adds b new c (if is_base k x && is_base k y then [] else made k (same_column x y) ∷ []) →
     Adds a new c (column_conditions made 0 (n + 1) σ π)

@@ -18,14 +18,6 @@ variables-snoc n (suc k) = let e : suc n + k ≡ n + suc k = omega arith in ap (
 pub variables_more : (n k : ℕ) → variables_from n (k + 1) ≡ variables_from n k ++ Variable (n + k) ∷ []
 variables_more n k = ap (variables_from n) (add-one k) ∙ variables-snoc n k
 
-zeros-snoc : {A : Type 0} (k : ℕ) (x : A) → replicate (suc k) x ≡ replicate k x ++ x ∷ []
-zeros-snoc zero x = refl
-zeros-snoc (suc k) x = ap (λ l. x ∷ l) (zeros-snoc k x)
-
--- one more of the same
-pub replicate_more : {A : Type 0} (k : ℕ) (x : A) → replicate (k + 1) x ≡ replicate k x ++ x ∷ []
-replicate_more k x = ap (λ n. replicate n x) (add-one k) ∙ zeros-snoc k x
-
 abbrev pub argument : ℕ → ℕ → Term
 argument n i = if nat_lt i n then Variable (2 + i) else Number (pos 0)
 

@@ -30,6 +30,7 @@ use Rattle.lc_cond.proofs.Ridden.{concat_places-snoc}
 
 pub given_later : (old new : Table) (D : Development) (g : Given) → IsGiven old D g → Keeps old new → IsGiven new D g
 given_later old new D g h kept = record {
+  few = h.few;
   clients = formulas_later old new g.clients.now _ h.clients kept;
   known = are_formulas_still old new g.known.now h.known kept;
   invariant = formulas_later old new g.invariant.now _ h.invariant kept;
@@ -71,6 +72,13 @@ crossings_put old new D n hs fs actions cs now a c pushed h kept k =
     subst (λ l. AreCrossings new D n hs fs (actions ++ a ∷ []) l) (sym pushed) (crossings_snoc new D n hs fs actions cs a c (crossings_later old new D n hs fs actions cs h kept) k)
 
 -- each has a goal for each assertion
+-- one for each action
+pub crossings_length : (ts : Table) (D : Development) (n : ℕ) (hs fs : List Formula) (actions : List Action) (cs : List Crossing) → AreCrossings ts D n hs fs actions cs → length cs ≡ length actions
+crossings_length ts D n hs fs [] [] h = refl
+crossings_length ts D n hs fs [] (c ∷ cs) h = absurd h
+crossings_length ts D n hs fs (a ∷ actions) [] h = absurd h
+crossings_length ts D n hs fs (a ∷ actions) (c ∷ cs) h = ap suc (crossings_length ts D n hs fs actions cs h.1)
+
 pub have_goals : (ts : Table) (D : Development) (n : ℕ) (hs fs : List Formula) (actions : List Action) (cs : List Crossing) → AreCrossings ts D n hs fs actions cs → HaveGoals (length fs) cs
 have_goals ts D n hs fs [] [] h = tt
 have_goals ts D n hs fs [] (c ∷ cs) h = absurd h

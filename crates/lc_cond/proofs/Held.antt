@@ -23,24 +23,3 @@ pub held_end : (cs : List ColId) (ts : List Term) (i : ℕ) (done whole : List S
 held_end cs ts i done whole h e =
     sym (append-nil done)
     ∙ ap (λ r. done ++ r) (sym (ap (λ (l : List Term). hold_terms (numbers_of (drop i cs)) (map term_of l)) (drop_of_length-le ts h) ∙ no_terms (numbers_of (drop i cs)))) ∙ e
-
--- one more term
-pub held_more : (cs : List ColId) (ts : List Term) (i : ℕ) (c : ColId) (t : Term) (done new : List Formula) (f : Formula) (whole : List S.Formula) →
-    i < length cs → c ≡ get_or cs i (record { 0 = 0 }) → i < length ts → t ≡ get_or ts i t → new ≡ done ++ f ∷ [] → formula_of f ≡ is_cell c.0 (term_of t) →
-    formulas_of done ++ hold_terms (numbers_of (drop i cs)) (map term_of (drop i ts)) ≡ whole →
-    formulas_of new ++ hold_terms (numbers_of (drop (i + 1) cs)) (map term_of (drop (i + 1) ts)) ≡ whole
-held_more cs ts i c t done new f whole hc ec ht et pushed is e =
-    let rest = hold_terms (numbers_of (drop (i + 1) cs)) (map term_of (drop (i + 1) ts)) in
-    let columns = drop_more cs i (record { 0 = 0 }) hc ∙ ap (λ x. x ∷ drop (i + 1) cs) (sym ec) in
-    let terms = drop_more ts i t ht ∙ ap (λ x. x ∷ drop (i + 1) ts) (sym et) in
-    ap (λ l. l ++ rest) (ap formulas_of pushed ∙ map-append formula_of done (f ∷ [])) ∙
-    append_assoc (formulas_of done) (formula_of f ∷ []) rest ∙
-    ap (λ x. formulas_of done ++ x ∷ rest) is ∙
-    ap (λ l. formulas_of done ++ l) (sym (ap₂ (λ ks us. hold_terms (numbers_of ks) (map term_of us)) columns terms)) ∙ e
-
--- three columns hold the first three variables at most
-pub three_held : (a b c n : ℕ) → 3 ≤ n → hold_variables (a ∷ b ∷ c ∷ []) 2 n ≡ is_cell a (Variable 2) ∷ is_cell b (Variable 3) ∷ is_cell c (Variable 4) ∷ []
-three_held a b c zero h = absurd (omega arith)
-three_held a b c (suc zero) h = absurd (omega arith)
-three_held a b c (suc (suc zero)) h = absurd (omega arith)
-three_held a b c (suc (suc (suc n))) h = refl

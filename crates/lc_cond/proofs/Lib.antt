@@ -1,24 +1,26 @@
-pub mod PartsList
-pub mod Adding
-pub mod Made
-pub mod Replacing
-pub mod Held
-pub mod Scening
-pub mod Ridden
-pub mod Columned
-pub mod Counted
-pub mod Entered
-pub mod Crossed
-pub mod Parted
-pub mod Streamed
-pub mod Stored
-pub mod Counts
+mod PartsList
+mod Adding
+mod Made
+mod Replacing
+mod Held
+mod Scening
+mod Ridden
+mod Columned
+mod Counted
+mod Entered
+mod Crossed
+mod Parted
+mod Streamed
+mod Numbered
+mod Stored
+mod Counts
 pub mod Sized
-pub mod VariableCounts
-pub mod Elements
-pub mod Below
-pub mod BelowStores
-pub mod BelowPaths
-pub mod BelowCode
+mod VariableCounts
+mod Few
+mod Elements
+mod Below
+mod BelowStores
+mod BelowPaths
+mod BelowCode
 pub mod BelowConditions
-pub mod CounterCount
+mod CounterCount

@@ -56,15 +56,8 @@ pub in_body_said : {A : Type 0} (object : Object) (f : ℕ → Operation → Lis
 in_body_said object f None k h = cc
 in_body_said object f (Some p) k h = let e : p.operation ≡ k = cc in ap (λ n. in_operation f n (slice_get object.operations n)) e
 
-pub in_no_body : {A : Type 0} (object : Object) (f : ℕ → Operation → List A) (o : Option Point) → None ≡ option_map (λ (p : Point). p.operation) o → in_body object f o ≡ []
-in_no_body object f None h = refl
-in_no_body object f (Some p) h = cc
-
 pub in_operation_said : {A : Type 0} (f : ℕ → Operation → List A) (k : ℕ) (o : Option Operation) (operation : Operation) → Some operation ≡ o → in_operation f k o ≡ f k operation
 in_operation_said f k o operation h = ap (in_operation f k) (sym h)
-
-pub in_no_operation : {A : Type 0} (f : ℕ → Operation → List A) (k : ℕ) (o : Option Operation) → None ≡ o → in_operation f k o ≡ []
-in_no_operation f k o h = ap (in_operation f k) (sym h)
 
 concat_map-snoc : {A B : Type 0} (f : A → List B) (xs : List A) (y : A) → concat_map f (xs ++ y ∷ []) ≡ concat_map f xs ++ f y
 concat_map-snoc f [] y = append-nil (f y)

@@ -158,15 +158,6 @@ at_end-none first c o σ τ after is same column stored = stored
 
 -- ---- what stands beside an edge
 
--- no action does
-pub on_none : (dev : D.Development) (e : Edge) (v j : ℕ) (hs : List Formula) (σ : ℕ → Column) (o : Option D.On) → acting_on dev o ≡ None → on_conditions dev e v j hs σ o ≡ []
-on_none dev e v j hs σ None is = refl
-on_none dev e v j hs σ (Some x) is = by (slice_get dev.actions x.action) is
-  where
-    by : (a : Option A.Action) → option_map {U = List Term × A.Action} (λ b. (x.arguments, b)) a ≡ None → action_conditions dev e v j hs σ x.arguments a ≡ []
-    by None is = refl
-    by (Some a) is = cc
-
 -- this one does
 pub on_some : (dev : D.Development) (e : Edge) (v j : ℕ) (hs : List Formula) (σ : ℕ → Column) (o : Option D.On) (x : List Term × A.Action) → acting_on dev o ≡ Some x → action_conditions dev e v j hs σ x.0 (Some x.1) ≡ on_conditions dev e v j hs σ o
 on_some dev e v j hs σ None x is = cc
@@ -175,14 +166,6 @@ on_some dev e v j hs σ (Some y) x is = by (slice_get dev.actions y.action) is
     by : (a : Option A.Action) → option_map {U = List Term × A.Action} (λ b. (y.arguments, b)) a ≡ Some x → action_conditions dev e v j hs σ x.0 (Some x.1) ≡ action_conditions dev e v j hs σ y.arguments a
     by None is = cc
     by (Some a) is = ap (λ (z : List Term × A.Action). action_conditions dev e v j hs σ z.0 (Some z.1)) (sym (same_Some _ _ is))
-
--- what is entered of it
-pub acting_none : (dev : D.Development) (o : Option (Bor On)) → o ≡ None → acting_on dev (option_map (λ y. on_of y.now) o) ≡ None
-acting_none dev o is = ap (λ z. acting_on dev (option_map (λ (y : Bor On). on_of y.now) z)) is
-
-pub acting_lost : (dev : D.Development) (o : Option (Bor On)) (x : Bor On) → o ≡ Some x → None ≡ slice_get dev.actions (on_of x.now).action → acting_on dev (option_map (λ y. on_of y.now) o) ≡ None
-acting_lost dev o x is lost =
-    ap (λ z. acting_on dev (option_map (λ (y : Bor On). on_of y.now) z)) is ∙ ap (option_map {U = List Term × A.Action} (λ (b : A.Action). ((on_of x.now).arguments, b))) (sym lost)
 
 pub acting_found : (dev : D.Development) (o : Option (Bor On)) (x : Bor On) (a : A.Action) → o ≡ Some x → Some a ≡ slice_get dev.actions (on_of x.now).action → acting_on dev (option_map (λ y. on_of y.now) o) ≡ Some ((on_of x.now).arguments, a)
 acting_found dev o x a is there =

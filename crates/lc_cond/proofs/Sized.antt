@@ -443,10 +443,10 @@ module _ (D : Development) (R : IsResolved D) where
 
   -- ---- the others
 
-  actions_length : length (all_actions D) ≡ length D.actions + 2
+  pub actions_length : length (all_actions D) ≡ length D.actions + 2
   actions_length = length-append D.actions (enter (first_system D) ∷ leave (first_system D) ∷ [])
 
-  stable_length : (point : Option ℕ) (n : ℕ) (frame asserts : List Formula) → length (stable_conditions D point n frame asserts) ≡ length asserts * (length D.actions + 2)
+  pub stable_length : (point : Option ℕ) (n : ℕ) (frame asserts : List Formula) → length (stable_conditions D point n frame asserts) ≡ length asserts * (length D.actions + 2)
   stable_length point n frame asserts =
       alike (length D.actions + 2) (λ k f. numbered (stable_under D point n (frame ++ (invariant_of D ++ asserts)) k f) 0 (all_actions D))
       (λ k f. numbered_length (stable_under D point n (frame ++ (invariant_of D ++ asserts)) k f) 0 (all_actions D) ∙ actions_length) 0 asserts
@@ -459,14 +459,14 @@ module _ (D : Development) (R : IsResolved D) where
       in_some by_actions (λ o operation. stable_conditions D (Some p) (variable_count operation) (body_frame (first_system D) o (length operation.arguments)) (asserts_at D p)) (λ o operation. length (asserts_at D p) ∷ [])
       (λ o operation. stable_length (Some p) (variable_count operation) (body_frame (first_system D) o (length operation.arguments)) (asserts_at D p) ∙ sum_alone by_actions (length (asserts_at D p))) (Some point)
 
-  entry_sized : (k : ℕ) (o : O.Operation) → length (entry_conditions D k o) ≡ length (invariant_of D) + length (asserts_at D o.entry)
+  pub entry_sized : (k : ℕ) (o : O.Operation) → length (entry_conditions D k o) ≡ length (invariant_of D) + length (asserts_at D o.entry)
   entry_sized k o =
       let hs = range (Variable 1) ++ (idle_frame (first_system D) ++ (invariant_of D ++ D.idle)) in
       let f = told (entered (first_system D) k o) (entry_variables o) in
       join (conditions_of (at_entry Entry o) hs (map f (invariant_of D))) (conditions_of (at_entry First o) hs (map f (asserts_at D o.entry))) _ _
       (told_length (at_entry Entry o) hs f (invariant_of D)) (told_length (at_entry First o) hs f (asserts_at D o.entry))
 
-  start_sized : length (start_conditions D) ≡ length (invariant_of D) + length D.idle
+  pub start_sized : length (start_conditions D) ≡ length (invariant_of D) + length D.idle
   start_sized =
       join (conditions_of (at_start Init 1) (Le (Number (pos 0)) (Variable 0) ∷ []) (map (start_formula D) (invariant_of D))) (conditions_of (at_start InitIdle 2) (range (Variable 1)) (map (start_formula D) D.idle)) _ _
       (told_length (at_start Init 1) (Le (Number (pos 0)) (Variable 0) ∷ []) (start_formula D) (invariant_of D)) (told_length (at_start InitIdle 2) (range (Variable 1)) (start_formula D) D.idle)

@@ -42,10 +42,6 @@ columns_said σ τ (u ∷ us) = ap (λ cs. u.column ∷ cs) (columns_said σ τ 
 pub after_base : (σ : ℕ → Column) (τ : List Term) (us : List Update) (c : ℕ) → is_base c (after σ τ us c) ≡ (is_base c (σ c) && not (stands c (columns_of us)))
 after_base σ τ us c = puts_base σ (map (said σ τ) us) c ∙ ap (λ cs. is_base c (σ c) && not (stands c cs)) (columns_said σ τ us)
 
--- nothing was stored before
-pub first_base : (σ : ℕ → Column) (us : List Update) (c : ℕ) (x : Bool) → x ≡ (is_base c (Base c) && not (stands c (columns_of us))) → x ≡ not (stands c (columns_of us))
-first_base σ us c x h = h ∙ ap (λ b. b && not (stands c (columns_of us))) (same_self c)
-
 -- ---- columns that are changed
 
 -- 1 where something is not so, and where it is

@@ -3,6 +3,7 @@ use Rattle.std.proofs.Common.{◌≡◌, ℕ, zero, suc, ◌+◌, ◌≤◌, ◌
 use Rattle.std.specs.Prelude.{slice_get, nat_le}
 use Rattle.std.proofs.lemmas.Bool.Decides.{nat_tests}
 use Rattle.std.proofs.lemmas.Option.{same_Some}
+use Rattle.lc_base.specs.Limits.{local_limit}
 use Rattle.lc_term.specs.Lists.{Every, numbered, concat_map, concat_places}
 use Rattle.lc_term.specs.Syntax.{Term, Column, Formula, Variable}
 use Rattle.lc_term.specs.Said.{told}
@@ -53,11 +54,11 @@ IsSmall o = variable_count o ≤ 21
 
 small : (o : Operation) → has_limits o ≡ true → IsSmall o
 small o h =
-    let two = left_true (nat_le (length o.arguments) 3 && nat_le o.replies 3) (nat_le (length o.locals) 16) h in
+    let two = left_true (nat_le (length o.arguments) 3 && nat_le o.replies 3) (nat_le (length o.locals) local_limit) h in
     let a = left_true (nat_le (length o.arguments) 3) (nat_le o.replies 3) two in
-    let b = right_true (nat_le (length o.arguments) 3 && nat_le o.replies 3) (nat_le (length o.locals) 16) h in
+    let b = right_true (nat_le (length o.arguments) 3 && nat_le o.replies 3) (nat_le (length o.locals) local_limit) h in
     let arguments : length o.arguments ≤ 3 = grind (arith, nat_tests) in
-    let locals : length o.locals ≤ 16 = grind (arith, nat_tests) in
+    let locals : length o.locals ≤ local_limit = grind (arith, nat_tests) in
     omega (arith, arguments, locals)
 
 all_small : (object : Object) (n : ℕ) (os : List Operation) → are_operations object n os ≡ true → Every IsSmall os

@@ -1,5 +1,6 @@
 -- Actions of other clients where something is known of a client.
-use Rattle.std.specs.Prelude.{◌≡◌, ℕ, suc, ◌+◌, List, [], ◌∷◌, ◌++◌, map, length, slice_get, Option, Some, option_map}
+use Rattle.std.specs.Prelude.{◌≡◌, ℕ, suc, ◌+◌, ◌≤◌, List, [], ◌∷◌, ◌++◌, map, length, slice_get, Option, Some, option_map}
+use Rattle.lc_base.specs.Limits.{argument_limit, local_limit}
 use Rattle.lc_base.specs.declared.ids.PointId.{PointId}
 use Rattle.lc_term.specs.Lists.{numbered, concat_places}
 use Rattle.lc_table.specs.NodeTables.{Table}
@@ -14,12 +15,21 @@ use Rattle.lc_cond.specs.declared.condition.Condition.{Condition}
 use Rattle.lc_cond.specs.declared.stability.Crossing.{Crossing}
 use Rattle.lc_cond.specs.declared.stability.Given.{Given}
 
+-- the most variables that the code of an operation has: the number of clients, the client, arguments and locals
+abbrev pub code_variable_limit : ℕ
+code_variable_limit = 2 + argument_limit + local_limit
+
+-- no action has more parameters than `enter`: the operation and its arguments
+abbrev pub TakesFew : Action → Type 0
+TakesFew a = length a.parameters ≤ 1 + argument_limit
+
 -- clients 1 and u, whose variable is the n-th, and they differ
 abbrev pub two_clients : ℕ → List Formula
 two_clients n = range (Variable 1) ++ (range (Variable n) ++ (Not (Eq (Variable 1) (Variable n)) ∷ []))
 
 -- what the table has for all actions of u
 pub record IsGiven (ts : Table) (D : Development) (g : Given) : Type 0 where
+  pub few : g.client ≤ code_variable_limit
   pub clients : HasFormulas ts g.clients.now (two_clients g.client)
   pub known : AreFormulas ts g.known.now
   pub invariant : HasFormulas ts g.invariant.now (invariant_of D)

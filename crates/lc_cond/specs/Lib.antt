@@ -10,5 +10,6 @@ pub mod Crossings
 pub mod PartView
 pub mod Stream
 pub mod Counted
+pub mod Numbering
 pub mod VariableCounts
 pub mod CounterCount

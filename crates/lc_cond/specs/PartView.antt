@@ -1,9 +1,10 @@
 -- What parts of the code stand for.
-use Rattle.std.specs.Prelude.{List, [], ◌∷◌, ◌++◌, map}
+use Rattle.std.specs.Prelude.{◌≡◌, true, List, [], ◌∷◌, ◌++◌, map}
 use Rattle.lc_term.specs.Lists.{numbered}
 use Rattle.lc_object.specs.Edges.{Edge}
 use Rattle.lc_object.specs.EdgeView.{edge_of}
 use Rattle.lc_object.specs.View.{operation_of, point_of}
+use Rattle.lc_object.specs.WellFormed.{has_limits}
 use Rattle.lc_outline.specs.Development.{Development}
 use Rattle.lc_cond.specs.Conditions as S
 use Rattle.lc_cond.specs.declared.part.Part.{Part}
@@ -15,6 +16,14 @@ part_of (Begin number body) = S.Begin number.0 (operation_of body.now)
 part_of (Pass edge) = S.Pass (edge_of edge.now)
 part_of (Stay number point) = S.Stay number.0 (point_of point.now)
 part_of StayIdle = S.StayIdle
+
+-- an operation in which a call begins is within its limits
+abbrev pub HasLimits : Part → Type 0
+HasLimits Start = Unit {0}
+HasLimits (Begin number body) = has_limits (operation_of body.now) ≡ true
+HasLimits (Pass edge) = Unit {0}
+HasLimits (Stay number point) = Unit {0}
+HasLimits StayIdle = Unit {0}
 
 -- the parts of a development whose edges are these
 abbrev pub parts_along : Development → List Edge → List S.Part

@@ -1,3 +1,4 @@
+//! The type of conditions: what is asked for, where, and as which goal.
 use lc_base::{ColId, PointId};
 use lc_kernel::Goal;
 use lc_object::EdgeKind;

@@ -155,8 +155,7 @@ pub(crate) fn at_return(
         (put σ (record { column = pend (first_of scene.now.system); index = Variable 1; value = Number (pos 0) })))) }
     ensures kept { Keeps terms.old terms.new }
 {
-    let count = columns.len().checked_add(1).ok_or(OutOfMemory)?;
-    let mut left = Vec::with_capacity(alloc, count)?;
+    let mut left = Vec::with_capacity(alloc, columns.len() + 1)?;
     left.extend_from_slice(columns)?;
     let own = terms.variable(1)?;
     let none = terms.number(0)?;

@@ -64,8 +64,7 @@ pub(crate) fn joined(
 ) -> Result<Vec<FormulaId>, OutOfMemory>
     ensures { IfOk result (λ ks. ks.items ≡ first.now ++ second.now) }
 {
-    let count = first.len().checked_add(second.len()).ok_or(OutOfMemory)?;
-    let mut all = Vec::with_capacity(alloc, count)?;
+    let mut all = Vec::with_capacity(alloc, first.len() + second.len())?;
     all.extend_from_slice(first)?;
     all.extend_from_slice(second)?;
     Ok(all)

@@ -1,5 +1,5 @@
 //! The conditions where a call begins.
-ghost use Rattle.std.specs.Prelude.{◌≡◌, ◌+◌, ◌++◌, map, length, None, Some, IfOk, OnOk};
+ghost use Rattle.std.specs.Prelude.{◌≡◌, ◌++◌, true, map, None, Some, IfOk, OnOk};
 ghost use Rattle.lc_term.specs.Said.{after, told};
 ghost use Rattle.lc_term.specs.Syntax.{Base};
 ghost use Rattle.lc_table.specs.Put.{columns_in};
@@ -8,6 +8,7 @@ ghost use Rattle.lc_table.specs.Tables.{Keeps};
 ghost use Rattle.lc_action.specs.Action.{enter};
 ghost use Rattle.lc_action.specs.ActionView.{first_of};
 ghost use Rattle.lc_object.specs.View.{operation_of};
+ghost use Rattle.lc_object.specs.WellFormed.{has_limits};
 ghost use Rattle.lc_outline.specs.Development.{invariant_of, asserts_at};
 ghost use Rattle.lc_outline.specs.DevelopmentView.{development_shown};
 ghost use Rattle.lc_cond.specs.Adding.{HasFormulas, HasTerms, HasColumns, Adds, Under, Over};
@@ -17,7 +18,7 @@ ghost use Rattle.lc_cond.specs.Conditions.{at_entry, conditions_of, enter_variab
 use crate::condition::{Condition, Kind, Passage};
 use crate::entering::{entered, entered_invariant};
 use crate::known::{in_range, known_idle};
-use crate::lookup::{argument_count, asserts_at, count_of, system_columns};
+use crate::lookup::{argument_count, asserts_at, entry_count, system_columns};
 use crate::making::Head;
 use crate::telling::push_both_told;
 use crate::variables::{enter_variables, entry_variables};
@@ -28,14 +29,6 @@ use lc_outline::Development;
 use lc_table::{ColExprId, FormulaId, PutNumbers, TermId, Terms};
 use lc_term::ColExpr;
 use std::alloc::Global;
-
-// How many variables there are where a call of this operation begins.
-fn entry_count(body: &Operation) -> Result<u32, OutOfMemory>
-    ensures { IfOk result (λ n. n ≡ 2 + length (operation_of body.now).arguments) }
-{
-    let arguments = count_of(argument_count(body))?;
-    arguments.checked_add(2).ok_or(OutOfMemory)
-}
 
 // What the conditions of a kind where a call of this operation begins share.
 fn at_entry(kind: Kind, variables: u32, body: &Operation) -> Head
@@ -89,6 +82,7 @@ fn entered_variables(
     terms: &mut Terms,
     body: &Operation,
 ) -> Result<Vec<TermId>, OutOfMemory>
+    requires { has_limits (operation_of body.now) ≡ true }
     ensures list { IfOk result (λ ks. HasTerms terms.new ks.items (S.entry_variables (operation_of body.now))) }
     ensures kept { Keeps terms.old terms.new }
 {
@@ -124,7 +118,8 @@ fn push_entered(
     known: &[FormulaId],
     conditions: &mut Vec<Condition>,
 ) -> Result<(), OutOfMemory>
-    requires { AreColumns terms.old columns.now }
+    requires limits { has_limits (operation_of body.now) ≡ true }
+    requires columns { AreColumns terms.old columns.now }
     ensures list { let d = development_shown development.now in
         let o = operation_of body.now in
         OnOk result (Under terms.old known.now (λ hs. Over terms.old columns.now (λ σ. Adds conditions.old.items terms.new conditions.new.items
@@ -132,7 +127,7 @@ fn push_entered(
         ++ conditions_of (at_entry S.First o) hs (map (told σ (S.entry_variables o)) (asserts_at d o.entry)))))) }
     ensures kept { Keeps terms.old terms.new }
 {
-    let count = entry_count(body)?;
+    let count = entry_count(body);
     let variables = entered_variables(alloc, terms, body)?;
     let (invariant, first) = entry_goals(alloc, terms, development, body)?;
     let heads = (
@@ -158,11 +153,12 @@ pub(crate) fn push_entry(
     body: &Operation,
     conditions: &mut Vec<Condition>,
 ) -> Result<(), OutOfMemory>
+    requires { has_limits (operation_of body.now) ≡ true }
     ensures list { OnOk result (Adds conditions.old.items terms.new conditions.new.items
         (entry_conditions (development_shown development.now) operation.0 (operation_of body.now))) }
     ensures kept { Keeps terms.old terms.new }
 {
-    let system = system_columns(development)?;
+    let system = system_columns(development);
     let columns = entered_columns(alloc, terms, system, operation, argument_count(body))?;
     let idle = known_idle(alloc, terms, development, system)?;
     let known = in_range(alloc, terms, &idle)?;

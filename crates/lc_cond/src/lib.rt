@@ -12,6 +12,7 @@ mod list;
 mod lookup;
 mod making;
 mod matching;
+mod numbering;
 mod part;
 mod paths;
 mod scene;
@@ -23,4 +24,5 @@ mod variables;
 
 pub use condition::{Condition, Kind, Passage, Place, Which};
 pub use list::conditions;
+pub use numbering::{NumberedPart, Numbering};
 pub use stream::ConditionStream;

@@ -1,11 +1,11 @@
 //! The list of the conditions of a development.
-ghost use Rattle.std.specs.Prelude.{◌≡◌, ◌++◌, [], length, map, Some, None, IfOk, OnOk};
+ghost use Rattle.std.specs.Prelude.{◌≡◌, ◌++◌, [], true, length, map, Some, None, IfOk, OnOk};
 ghost use Rattle.lc_term.specs.Lists.{concat_map, concat_places};
 ghost use Rattle.lc_table.specs.Tables.{Keeps};
 ghost use Rattle.lc_object.specs.EdgeView.{edge_of};
 ghost use Rattle.lc_object.specs.Edges.{edges};
 ghost use Rattle.lc_object.specs.View.{operation_of, point_of};
-ghost use Rattle.lc_object.specs.WellFormed.{variable_count};
+ghost use Rattle.lc_object.specs.WellFormed.{has_limits, variable_count};
 ghost use Rattle.lc_outline.specs.Development.{asserts_at, first_system};
 ghost use Rattle.lc_outline.specs.DevelopmentView.{development_shown};
 ghost use Rattle.lc_cond.specs.Adding.{Adds};
@@ -16,7 +16,7 @@ use crate::condition::Condition;
 use crate::entries::push_entry;
 use crate::known::{body_frame, idle_frame};
 use crate::lookup::{
-    argument_count, asserts_at, count_of, idle_of, operation_at, system_columns, variable_count,
+    argument_count, asserts_at, idle_of, operation_at, system_columns, variable_count,
 };
 use crate::paths::push_edge;
 use crate::stability::push_stable;
@@ -60,8 +60,8 @@ fn push_entries(
     ensures kept { Keeps terms.old terms.new }
 {
     for (number, body) in operations_of(development).iter().enumerate() {
-        let place = count_of(number)?;
-        push_entry(alloc, terms, development, OpId(place), body, conditions)?;
+        let operation = OpId(number as u32);
+        push_entry(alloc, terms, development, operation, body, conditions)?;
     }
     Ok(())
 }
@@ -108,14 +108,15 @@ fn push_stay(
     body: &Operation,
     conditions: &mut Vec<Condition>,
 ) -> Result<(), OutOfMemory>
+    requires { has_limits (operation_of body.now) ≡ true }
     ensures list { let d = development_shown development.now in
         let o = operation_of body.now in
         OnOk result (Adds conditions.old.items terms.new conditions.new.items
         (stable_conditions d (Some number.0) (variable_count o) (body_frame (first_system d) operation.0 (length o.arguments)) (asserts_at d number.0))) }
     ensures kept { Keeps terms.old terms.new }
 {
-    let system = system_columns(development)?;
-    let count = variable_count(body)?;
+    let system = system_columns(development);
+    let count = variable_count(body);
     let frame = body_frame(alloc, terms, system, operation, argument_count(body))?;
     push_stable(
         alloc,
@@ -167,8 +168,8 @@ fn push_points(
     ensures kept { Keeps terms.old terms.new }
 {
     for (number, point) in points_of(development).iter().enumerate() {
-        let place = count_of(number)?;
-        push_point(alloc, terms, development, PointId(place), point, conditions)?;
+        let number = PointId(number as u32);
+        push_point(alloc, terms, development, number, point, conditions)?;
     }
     Ok(())
 }
@@ -184,7 +185,7 @@ pub(crate) fn push_idle(
     ensures list { OnOk result (Adds conditions.old.items terms.new conditions.new.items (idle_stability (development_shown development.now))) }
     ensures kept { Keeps terms.old terms.new }
 {
-    let system = system_columns(development)?;
+    let system = system_columns(development);
     let frame = idle_frame(alloc, terms, system)?;
     push_stable(
         alloc,

@@ -1,40 +1,29 @@
 //! What stands in a development at a place.
-ghost use Rattle.std.specs.Prelude.{◌≡◌, length, map, option_map, slice_get, IfOk};
+ghost use Rattle.std.specs.Prelude.{◌≡◌, length, map, option_map, slice_get, true, ◌+◌};
 ghost use Rattle.lc_term.specs.View.{formulas_of};
 ghost use Rattle.lc_action.specs.ActionView.{action_of, first_of};
 ghost use Rattle.lc_rider.specs.RiderView.{riders_of};
 ghost use Rattle.lc_object.specs.View.{operation_of};
-ghost use Rattle.lc_object.specs.WellFormed.{variable_count};
+ghost use Rattle.lc_object.specs.WellFormed.{has_limits, variable_count};
 ghost use Rattle.lc_outline.specs.Development.{same_kind, on_for, on_at, asserts_at, riders_in, first_system, asserts_to};
 ghost use Rattle.lc_outline.specs.DevelopmentView.{development_shown, on_of};
 
 use lc_action::{Action, SystemColumns};
-use lc_base::{ColId, OpId, OutOfMemory, PointId};
+use lc_base::{ColId, OpId, PointId};
 use lc_object::{EdgeKind, Operation};
 use lc_outline::{ActionId, Development, On};
 use lc_rider::Rider;
 use lc_term::Formula;
 
-/// The number of things in a list, which has at most so many as 32 bits count.
-pub(crate) fn count_of(length: usize) -> Result<u32, OutOfMemory>
-    ensures { IfOk result (λ n. n ≡ length) }
-{
-    u32::try_from(length).map_err(|_| OutOfMemory)
-}
-
 /// The system columns, behind the columns that are declared.
-pub(crate) fn system_columns(development: &Development) -> Result<SystemColumns, OutOfMemory>
-    ensures { IfOk result (λ system. first_of system ≡ first_system (development_shown development.now)) }
+#[tactic(auto, using(crate::proofs::Few::columns_few))]
+pub(crate) fn system_columns(development: &Development) -> SystemColumns
+    ensures { first_of result ≡ first_system (development_shown development.now) }
 {
     let parts = development.parts();
     let concretes = parts.object.parts().concretes.len();
-    let declared = parts
-        .auxiliaries
-        .len()
-        .checked_add(concretes)
-        .and_then(|count| count.checked_add(parts.specification.columns().len()))
-        .ok_or(OutOfMemory)?;
-    SystemColumns::new(ColId(count_of(declared)?)).ok_or(OutOfMemory)
+    let declared = parts.specification.columns().len() + concretes + parts.auxiliaries.len();
+    SystemColumns::new(ColId(declared as u32)).unwrap()
 }
 
 /// The assertions at a point.
@@ -146,12 +135,20 @@ pub(crate) fn argument_count(body: &Operation) -> usize
     body.arguments.len()
 }
 
-/// How many variables there are in an operation's code.
-pub(crate) fn variable_count(body: &Operation) -> Result<u32, OutOfMemory>
-    ensures { IfOk result (λ n. n ≡ variable_count (operation_of body.now)) }
+/// How many variables there are where a call of an operation begins: the number of clients, the client and the arguments.
+#[tactic(auto, using(crate::proofs::Few::arguments_few))]
+pub(crate) fn entry_count(body: &Operation) -> u32
+    requires { has_limits (operation_of body.now) ≡ true }
+    ensures { result ≡ 2 + length (operation_of body.now).arguments }
 {
-    let arguments = count_of(body.arguments.len())?;
-    let locals = count_of(body.locals.len())?;
-    let arguments = arguments.checked_add(2).ok_or(OutOfMemory)?;
-    arguments.checked_add(locals).ok_or(OutOfMemory)
+    2 + body.arguments.len() as u32
+}
+
+/// How many variables there are in an operation's code: the locals too.
+#[tactic(auto, using(crate::proofs::Few::arguments_few, crate::proofs::Few::locals_few))]
+pub(crate) fn variable_count(body: &Operation) -> u32
+    requires { has_limits (operation_of body.now) ≡ true }
+    ensures { result ≡ variable_count (operation_of body.now) }
+{
+    entry_count(body) + body.locals.len() as u32
 }

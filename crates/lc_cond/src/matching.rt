@@ -1,5 +1,5 @@
 //! The conditions that an edge is the action that stands beside it.
-ghost use Rattle.std.specs.Prelude.{◌≡◌, ◌&&◌, [], ◌∷◌, List, true, map, option_map, if◌then◌else◌, Some, IfOk, OnOk};
+ghost use Rattle.std.specs.Prelude.{◌≡◌, ◌≤◌, ◌^◌, ◌&&◌, [], ◌∷◌, List, true, map, option_map, if◌then◌else◌, Some, IfOk, OnOk};
 ghost use Rattle.lc_table.specs.NodeTables.{Table};
 ghost use Rattle.lc_table.specs.PutNumbers.{columns_at, AreColumns};
 ghost use Rattle.lc_term.specs.Replacement.{raising, replace_column};
@@ -19,7 +19,7 @@ ghost use Rattle.lc_cond.specs.Scenes.{IsScene, IsActing, acting_on, development
 
 use crate::condition::{Condition, Kind, Which};
 use crate::edge_conditions::on_path;
-use crate::lookup::{action_at, count_of};
+use crate::lookup::action_at;
 use crate::making::{Head, push_one};
 use crate::scene::Scene;
 use lc_action::{Action, SystemColumns, post_columns};
@@ -181,6 +181,7 @@ fn push_columns(
     action: &[(ColId, ColExprId)],
     conditions: &mut Vec<Condition>,
 ) -> Result<(), OutOfMemory>
+    requires count { count ≤ 2 ^ 32 }
     requires columns { AreColumns terms.old columns.now }
     requires action { AreColumns terms.old action.now }
     ensures list { OnOk result (Under terms.old known.now (λ hs. Over terms.old columns.now (λ σ. Over terms.old action.now (λ π. Adds conditions.old.items terms.new conditions.new.items
@@ -188,8 +189,7 @@ fn push_columns(
     ensures kept { Keeps terms.old terms.new }
 {
     for number in 0..count {
-        let place = count_of(number)?;
-        let column = ColId(place);
+        let column = ColId(number as u32);
         push_column(
             alloc, terms, head, known, column, columns, action, conditions,
         )?;
@@ -212,8 +212,7 @@ fn acting_variables(
 ) -> Result<Vec<Term>, OutOfMemory>
     ensures { IfOk result (λ ts. map term_of ts.items ≡ acting_variables (Variable client) (map term_of arguments.now)) }
 {
-    let count = arguments.len().checked_add(2).ok_or(OutOfMemory)?;
-    let mut variables = Vec::with_capacity(alloc, count)?;
+    let mut variables = Vec::with_capacity(alloc, arguments.len() + 2)?;
     variables.push(Term::Variable(0))?;
     variables.push(Term::Variable(client))?;
     for argument in arguments {

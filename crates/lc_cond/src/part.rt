@@ -1,5 +1,5 @@
 //! The parts of the list, each of which can be made by itself: the start, a call that begins, an edge, a point, and idle.
-ghost use Rattle.std.specs.Prelude.{◌≡◌, ◌++◌, ◌∷◌, [], map, option_map, slice_get, IfOk, OnOk};
+ghost use Rattle.std.specs.Prelude.{◌≡◌, ◌++◌, ◌∷◌, [], map, option_map, slice_get, OnOk};
 ghost use Rattle.lc_term.specs.Lists.{numbered};
 ghost use Rattle.lc_table.specs.Tables.{Keeps};
 ghost use Rattle.lc_object.specs.EdgeView.{edge_of};
@@ -7,12 +7,11 @@ ghost use Rattle.lc_outline.specs.DevelopmentView.{development_shown};
 ghost use Rattle.lc_cond.specs.Adding.{Adds};
 ghost use Rattle.lc_cond.specs.Conditions as S;
 ghost use Rattle.lc_cond.specs.Conditions.{conditions_in};
-ghost use Rattle.lc_cond.specs.PartView.{part_of, parts_along};
+ghost use Rattle.lc_cond.specs.PartView.{part_of, parts_along, HasLimits};
 
 use crate::condition::Condition;
 use crate::entries::push_entry;
 use crate::list::{operations_of, points_of, push_idle, push_point};
-use crate::lookup::count_of;
 use crate::paths::push_edge;
 use crate::start::push_start;
 use lc_base::{OpId, OutOfMemory, PointId};
@@ -32,51 +31,40 @@ pub(crate) enum Part<'a> {
 }
 
 // The part at this place from the first point on: a point, or idle behind the points.
-fn point_part(development: &Development, place: usize) -> Result<Option<Part<'_>>, OutOfMemory>
+fn point_part(development: &Development, place: usize) -> Option<Part<'_>>
     ensures { let d = development_shown development.now in
-        IfOk result (λ part. option_map part_of part ≡ slice_get (numbered S.Stay 0 d.object.points ++ S.StayIdle ∷ []) place) }
+        option_map part_of result ≡ slice_get (numbered S.Stay 0 d.object.points ++ S.StayIdle ∷ []) place }
 {
     let points = points_of(development);
     if place < points.len() {
-        let number = PointId(count_of(place)?);
-        return Ok(Some(Part::Stay(number, &points[place])));
+        return Some(Part::Stay(PointId(place as u32), &points[place]));
     }
     if place == points.len() {
-        return Ok(Some(Part::StayIdle));
+        return Some(Part::StayIdle);
     }
-    Ok(None)
+    None
 }
 
 // The part at this place from the first edge on.
-fn edge_part<'a>(
-    development: &'a Development,
-    edges: &'a [Edge],
-    place: usize,
-) -> Result<Option<Part<'a>>, OutOfMemory>
+fn edge_part<'a>(development: &'a Development, edges: &'a [Edge], place: usize) -> Option<Part<'a>>
     ensures { let d = development_shown development.now in
-        IfOk result (λ part. option_map part_of part
-        ≡ slice_get (map S.Pass (map edge_of edges.now) ++ (numbered S.Stay 0 d.object.points ++ S.StayIdle ∷ [])) place) }
+        option_map part_of result ≡ slice_get (map S.Pass (map edge_of edges.now) ++ (numbered S.Stay 0 d.object.points ++ S.StayIdle ∷ [])) place }
 {
     if place < edges.len() {
-        return Ok(Some(Part::Pass(&edges[place])));
+        return Some(Part::Pass(&edges[place]));
     }
     point_part(development, place - edges.len())
 }
 
 // The part at this place from the first operation on.
-fn entry_part<'a>(
-    development: &'a Development,
-    edges: &'a [Edge],
-    place: usize,
-) -> Result<Option<Part<'a>>, OutOfMemory>
+fn entry_part<'a>(development: &'a Development, edges: &'a [Edge], place: usize) -> Option<Part<'a>>
     ensures { let d = development_shown development.now in
-        IfOk result (λ part. option_map part_of part
-        ≡ slice_get (numbered S.Begin 0 d.object.operations ++ (map S.Pass (map edge_of edges.now) ++ (numbered S.Stay 0 d.object.points ++ S.StayIdle ∷ []))) place) }
+        option_map part_of result
+        ≡ slice_get (numbered S.Begin 0 d.object.operations ++ (map S.Pass (map edge_of edges.now) ++ (numbered S.Stay 0 d.object.points ++ S.StayIdle ∷ []))) place }
 {
     let operations = operations_of(development);
     if place < operations.len() {
-        let number = OpId(count_of(place)?);
-        return Ok(Some(Part::Begin(number, &operations[place])));
+        return Some(Part::Begin(OpId(place as u32), &operations[place]));
     }
     edge_part(development, edges, place - operations.len())
 }
@@ -86,11 +74,11 @@ pub(crate) fn part_at<'a>(
     development: &'a Development,
     edges: &'a [Edge],
     place: usize,
-) -> Result<Option<Part<'a>>, OutOfMemory>
-    ensures { IfOk result (λ part. option_map part_of part ≡ slice_get (parts_along (development_shown development.now) (map edge_of edges.now)) place) }
+) -> Option<Part<'a>>
+    ensures { option_map part_of result ≡ slice_get (parts_along (development_shown development.now) (map edge_of edges.now)) place }
 {
     if place == 0 {
-        return Ok(Some(Part::Start));
+        return Some(Part::Start);
     }
     entry_part(development, edges, place - 1)
 }
@@ -103,6 +91,7 @@ pub(crate) fn push_part(
     part: Part<'_>,
     conditions: &mut Vec<Condition>,
 ) -> Result<(), OutOfMemory>
+    requires { HasLimits part }
     ensures list { OnOk result (Adds conditions.old.items terms.new conditions.new.items (conditions_in (development_shown development.now) (part_of part.entry))) }
     ensures kept { Keeps terms.old terms.new }
 {

@@ -1,10 +1,11 @@
 //! The conditions of the paths of an edge.
-ghost use Rattle.std.specs.Prelude.{◌++◌, map, OnOk};
+ghost use Rattle.std.specs.Prelude.{◌≡◌, ◌++◌, true, map, OnOk};
 ghost use Rattle.lc_term.specs.Lists.{concat_places};
 ghost use Rattle.lc_table.specs.PutNumbers.{AreColumns};
 ghost use Rattle.lc_table.specs.Tables.{formulas_in, Keeps};
 ghost use Rattle.lc_object.specs.EdgeView.{edge_of};
 ghost use Rattle.lc_object.specs.View.{operation_of};
+ghost use Rattle.lc_object.specs.WellFormed.{has_limits};
 ghost use Rattle.lc_outline.specs.DevelopmentView.{development_shown};
 ghost use Rattle.lc_rider.specs.PathView.{path_in, IsPath, ArePaths};
 ghost use Rattle.lc_cond.specs.Adding.{Adds, Under, Over};
@@ -123,6 +124,7 @@ fn push_edge_in(
     code: &Edge,
     conditions: &mut Vec<Condition>,
 ) -> Result<(), OutOfMemory>
+    requires { has_limits (operation_of body.now) ≡ true }
     ensures list { OnOk result (Adds conditions.old.items terms.new conditions.new.items
         (edge_conditions_in (development_shown development.now) operation.0 (operation_of body.now) (edge_of code.now))) }
     ensures kept { Keeps terms.old terms.new }

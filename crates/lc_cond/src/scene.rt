@@ -1,8 +1,9 @@
 //! What the conditions of an edge share.
-ghost use Rattle.std.specs.Prelude.{◌≡◌, ◌++◌, IfOk};
+ghost use Rattle.std.specs.Prelude.{◌≡◌, ◌++◌, true, IfOk};
 ghost use Rattle.lc_table.specs.Tables.{Keeps};
 ghost use Rattle.lc_object.specs.EdgeView.{edge_of};
 ghost use Rattle.lc_object.specs.View.{operation_of};
+ghost use Rattle.lc_object.specs.WellFormed.{has_limits};
 ghost use Rattle.lc_action.specs.ActionView.{first_of};
 ghost use Rattle.lc_outline.specs.Development.{first_system, invariant_of, asserts_to};
 ghost use Rattle.lc_outline.specs.DevelopmentView.{development_shown};
@@ -149,11 +150,12 @@ pub(crate) fn set_scene<'a>(
     body: &Operation,
     code: &'a Edge,
 ) -> Result<Scene<'a>, OutOfMemory>
+    requires { has_limits (operation_of body.now) ≡ true }
     ensures scene { IfOk result (λ s. IsSceneOf terms.new (development_shown development.now) operation.0 (operation_of body.now) (edge_of code.now) s) }
     ensures kept { Keeps terms.old terms.new }
 {
-    let system = system_columns(development)?;
-    let count = variable_count(body)?;
+    let system = system_columns(development);
+    let count = variable_count(body);
     let variables = entered_variables(alloc, terms, count, code)?;
     let hypotheses = edge_hypotheses(alloc, terms, development, system, operation, body, code)?;
     let (invariant, next) = edge_goals(alloc, terms, development, code)?;

@@ -1,5 +1,6 @@
 //! The conditions that what holds of a client stays where another one acts.
-ghost use Rattle.std.specs.Prelude.{◌≡◌, ◌+◌, ◌*◌, ◌<◌, ◌++◌, ◌∷◌, suc, length, map, option_map, IfOk, OnOk};
+ghost use Rattle.std.specs.Prelude.{◌≡◌, ◌+◌, ◌*◌, ◌<◌, ◌≤◌, ◌++◌, ◌∷◌, suc, length, map, option_map, IfOk, OnOk};
+ghost use Rattle.lc_base.specs.Limits.{condition_limit};
 ghost use Rattle.lc_term.specs.Lists.{Every};
 ghost use Rattle.lc_term.specs.Replacement.{replace, replacing};
 ghost use Rattle.lc_term.specs.Syntax.{Variable};
@@ -11,12 +12,12 @@ ghost use Rattle.lc_outline.specs.Development.{invariant_of, all_actions, first_
 ghost use Rattle.lc_outline.specs.DevelopmentView.{development_shown};
 ghost use Rattle.lc_cond.specs.Adding.{HasFormulas, Adds, Under};
 ghost use Rattle.lc_cond.specs.Conditions.{stable_variables, stable_conditions};
-ghost use Rattle.lc_cond.specs.Crossings.{two_clients, IsGiven, AreCrossings, Crosses, AllCross, CrossesToo, MakesStable, MakesAllStable, HaveGoals};
+ghost use Rattle.lc_cond.specs.Crossings.{code_variable_limit, two_clients, TakesFew, IsGiven, AreCrossings, Crosses, AllCross, CrossesToo, MakesStable, MakesAllStable, HaveGoals};
 
 use crate::condition::{Condition, Kind, Passage, Which};
 use crate::entering::{entered, entered_invariant, joined, told};
 use crate::frames;
-use crate::lookup::{count_of, system_columns};
+use crate::lookup::system_columns;
 use crate::making::{Head, push_one};
 use crate::matching::entered_guard;
 use crate::variables::variables_from;
@@ -101,17 +102,6 @@ fn told_behind(
     Ok((invariant, asserts))
 }
 
-// How many formulas there are of these and the guard.
-fn gathered_count(clients: usize, known: usize, behind: usize) -> Result<usize, OutOfMemory>
-    ensures { IfOk result (λ n. n ≡ clients + known + behind + 1) }
-{
-    clients
-        .checked_add(known)
-        .and_then(|count| count.checked_add(behind))
-        .and_then(|count| count.checked_add(1))
-        .ok_or(OutOfMemory)
-}
-
 // Two clients, what is known, the guard, and what holds behind the action.
 fn gathered(
     alloc: Global,
@@ -122,8 +112,7 @@ fn gathered(
 ) -> Result<Vec<FormulaId>, OutOfMemory>
     ensures { IfOk result (λ ks. ks.items ≡ clients.now ++ (known.now ++ (guard ∷ behind.now))) }
 {
-    let count = gathered_count(clients.len(), known.len(), behind.len())?;
-    let mut all = Vec::with_capacity(alloc, count)?;
+    let mut all = Vec::with_capacity(alloc, clients.len() + known.len() + behind.len() + 1)?;
     all.extend_from_slice(clients)?;
     all.extend_from_slice(known)?;
     all.push(guard)?;
@@ -133,26 +122,28 @@ fn gathered(
 
 // The parameters of an action of the client that is this variable: the variables behind it.
 fn parameters(alloc: Global, action: &Action, client: u32) -> Result<Vec<Term>, OutOfMemory>
+    requires client { client ≤ code_variable_limit }
+    requires action { TakesFew (action_of action.now) }
     ensures { IfOk result (λ ts. map term_of ts.items ≡ stable_variables client (action_of action.now)) }
 {
-    let first = client.checked_add(1).ok_or(OutOfMemory)?;
-    variables_from(alloc, first, parameter_count(action))
+    variables_from(alloc, client + 1, parameter_count(action))
 }
 
 // How many parameters an action has.
-fn parameter_count(action: &Action) -> usize
+fn parameter_count(action: &Action) -> u32
+    requires { TakesFew (action_of action.now) }
     ensures { result ≡ length (action_of action.now).parameters }
 {
-    action.params.len()
+    action.params.len() as u32
 }
 
 // How many variables there are, with those parameters.
-fn variables_with(action: &Action, client: u32) -> Result<u32, OutOfMemory>
-    ensures { IfOk result (λ n. n ≡ suc client + length (action_of action.now).parameters) }
+fn variables_with(action: &Action, client: u32) -> u32
+    requires client { client ≤ code_variable_limit }
+    requires action { TakesFew (action_of action.now) }
+    ensures { result ≡ suc client + length (action_of action.now).parameters }
 {
-    let count = count_of(parameter_count(action))?;
-    let first = client.checked_add(1).ok_or(OutOfMemory)?;
-    first.checked_add(count).ok_or(OutOfMemory)
+    client + 1 + parameter_count(action)
 }
 
 // Two clients, entered.
@@ -177,12 +168,13 @@ fn cross(
     action: &Action,
     given: &Given<'_>,
 ) -> Result<Crossing, OutOfMemory>
-    requires { IsGiven terms.old (development_shown development.now) given.now }
+    requires action { TakesFew (action_of action.now) }
+    requires given { IsGiven terms.old (development_shown development.now) given.now }
     ensures crossing { IfOk result (λ c. Crosses terms.old terms.new (development_shown development.now) given.now.client given.now.known.now given.now.asserts.now (action_of action.now) c) }
     ensures kept { Keeps terms.old terms.new }
 {
     let _ = development;
-    let variables = variables_with(action, given.client)?;
+    let variables = variables_with(action, given.client);
     let parameters = parameters(alloc, action, given.client)?;
     let (behind, goals) = told_behind(
         alloc,
@@ -215,8 +207,7 @@ fn declared_crossings(
     ensures kept { Keeps terms.old terms.new }
 {
     let actions = actions_of(development);
-    let count = actions.len().checked_add(2).ok_or(OutOfMemory)?;
-    let mut crossings = Vec::with_capacity(alloc, count)?;
+    let mut crossings = Vec::with_capacity(alloc, actions.len() + 2)?;
     for action in actions {
         let next = cross(alloc, terms, development, action, given)?;
         crossings.push(next)?;
@@ -241,7 +232,8 @@ fn with_crossing(
     action: &Action,
     given: &Given<'_>,
 ) -> Result<Vec<Crossing>, OutOfMemory>
-    requires { IsGiven terms.old (development_shown development.now) given.now }
+    requires action { TakesFew (action_of action.now) }
+    requires given { IsGiven terms.old (development_shown development.now) given.now }
     ensures crossings { IfOk result (λ cs. CrossesToo terms.old terms.new (development_shown development.now) given.now.client given.now.known.now given.now.asserts.now (action_of action.now) crossings.items cs.items) }
     ensures kept { Keeps terms.old terms.new }
 {
@@ -295,13 +287,14 @@ fn entered_crossings(
     frame: &[FormulaId],
     asserts: &[Formula],
 ) -> Result<Vec<Crossing>, OutOfMemory>
-    requires { AreFormulas terms.old frame.now }
+    requires client { client ≤ code_variable_limit }
+    requires frame { AreFormulas terms.old frame.now }
     ensures crossings { let d = development_shown development.now in
         let fs = formulas_of asserts.now in
         IfOk result (λ cs. Under terms.old frame.now (λ hs. AreCrossings terms.new d client (hs ++ (invariant_of d ++ fs)) fs (all_actions d) cs.items)) }
     ensures kept { Keeps terms.old terms.new }
 {
-    let system = system_columns(development)?;
+    let system = system_columns(development);
     let clients = entered_clients(alloc, terms, client)?;
     let invariant = entered_invariant(alloc, terms, &development.parts().tie)?;
     let asserted = entered(alloc, terms, asserts)?;
@@ -342,13 +335,6 @@ fn push_conjunct(
     Ok(())
 }
 
-// How many conditions there are of so many conjuncts.
-fn stable_count(conjuncts: usize, crossings: usize) -> Result<usize, OutOfMemory>
-    ensures { IfOk result (λ n. n ≡ conjuncts * crossings) }
-{
-    conjuncts.checked_mul(crossings).ok_or(OutOfMemory)
-}
-
 // The same of each conjunct, so many.
 fn push_conjuncts(
     alloc: Global,
@@ -357,10 +343,11 @@ fn push_conjuncts(
     crossings: &[Crossing],
     conditions: &mut Vec<Condition>,
 ) -> Result<(), OutOfMemory>
-    requires { HaveGoals count crossings.now }
+    requires goals { HaveGoals count crossings.now }
+    requires few { count * length crossings.now ≤ condition_limit }
     ensures { OnOk result (MakesAllStable point count crossings.now conditions.old.items conditions.new.items) }
 {
-    conditions.reserve(stable_count(count, crossings.len())?)?;
+    conditions.reserve(count * crossings.len())?;
     for number in 0..count {
         push_conjunct(alloc, point, number, crossings, conditions)?;
     }
@@ -379,7 +366,9 @@ pub(crate) fn push_stable(
     asserts: &[Formula],
     conditions: &mut Vec<Condition>,
 ) -> Result<(), OutOfMemory>
-    requires { AreFormulas terms.old frame.now }
+    requires variables { variables ≤ code_variable_limit }
+    requires frame { AreFormulas terms.old frame.now }
+    requires few { length asserts.now * (length (development_shown development.now).actions + 2) ≤ condition_limit }
     ensures list { OnOk result (Under terms.old frame.now (λ hs. Adds conditions.old.items terms.new conditions.new.items
         (stable_conditions (development_shown development.now) (option_map (λ p. p.0) point) variables hs (formulas_of asserts.now)))) }
     ensures kept { Keeps terms.old terms.new }

@@ -22,14 +22,14 @@ pub struct ConditionStream {
     given: u64,
 }
 
-// The next place.
+// The next place. The calls may be given other developments, so nothing bounds it.
 fn place_behind(place: usize) -> Result<usize, OutOfMemory>
     ensures { IfOk result (λ next. next ≡ suc place) }
 {
     place.checked_add(1).ok_or(OutOfMemory)
 }
 
-// How many conditions were given, with these.
+// How many conditions were given, with these. The calls may be given other developments, so nothing bounds the sum.
 fn given_with(given: u64, conditions: &Vec<Condition>) -> Result<u64, OutOfMemory>
     ensures { IfOk result (λ count. count ≡ given + length conditions.now.items) }
 {
@@ -77,7 +77,7 @@ impl ConditionStream {
         ensures unchanged { OnErr result (self.new ≡ self.old) }
         ensures kept { Keeps terms.old terms.new }
     {
-        let Some(part) = part_at(development, &self.edges, self.place)? else {
+        let Some(part) = part_at(development, &self.edges, self.place) else {
             return Ok(None);
         };
         let mut conditions = Vec::new(self.alloc);

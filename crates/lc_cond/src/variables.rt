@@ -1,12 +1,13 @@
 //! Variables, as terms.
-ghost use Rattle.std.specs.Prelude.{◌≡◌, ◌++◌, length, map, replicate, pos, ◌+◌, ◌<◌, if◌then◌else◌, nat_lt, IfOk};
+ghost use Rattle.std.specs.Prelude.{◌≡◌, ◌++◌, length, map, replicate, pos, true, ◌+◌, ◌^◌, ◌<◌, if◌then◌else◌, nat_lt, IfOk};
 ghost use Rattle.lc_term.specs.Said.{variables_from};
 ghost use Rattle.lc_term.specs.Syntax.{Number, Variable};
 ghost use Rattle.lc_term.specs.View.{term_of};
 ghost use Rattle.lc_object.specs.View.{operation_of};
+ghost use Rattle.lc_object.specs.WellFormed.{has_limits};
 ghost use Rattle.lc_cond.specs.Conditions.{entry_variables, enter_variables};
 
-use crate::lookup::{argument_count, count_of};
+use crate::lookup::entry_count;
 use lc_base::{OpId, OutOfMemory};
 use lc_object::Operation;
 use lc_term::Term;
@@ -16,15 +17,14 @@ use std::alloc::Global;
 pub(crate) fn variables_from(
     alloc: Global,
     first: u32,
-    count: usize,
+    count: u32,
 ) -> Result<Vec<Term>, OutOfMemory>
+    requires { first + count < 2 ^ 32 }
     ensures { IfOk result (λ ts. map term_of ts.items ≡ variables_from first count) }
 {
-    let mut terms = Vec::with_capacity(alloc, count)?;
+    let mut terms = Vec::with_capacity(alloc, count as usize)?;
     for place in 0..count {
-        let place = count_of(place)?;
-        let number = first.checked_add(place).ok_or(OutOfMemory)?;
-        terms.push(Term::Variable(number))?;
+        terms.push(Term::Variable(first + place))?;
     }
     Ok(terms)
 }
@@ -50,11 +50,12 @@ fn local_count(body: &Operation) -> usize
 
 /// The variables where a call of this operation begins: the number of clients, the client and the arguments stay, and each
 /// local is 0.
+#[tactic(auto, using(crate::proofs::Few::arguments_few))]
 pub(crate) fn entry_variables(alloc: Global, body: &Operation) -> Result<Vec<Term>, OutOfMemory>
+    requires { has_limits (operation_of body.now) ≡ true }
     ensures { IfOk result (λ ts. map term_of ts.items ≡ entry_variables (operation_of body.now)) }
 {
-    let count = argument_count(body).checked_add(2).ok_or(OutOfMemory)?;
-    let terms = variables_from(alloc, 0, count)?;
+    let terms = variables_from(alloc, 0, entry_count(body))?;
     with_zeros(terms, local_count(body))
 }
 

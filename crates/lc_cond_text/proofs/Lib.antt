@@ -1,5 +1,5 @@
-pub mod Names
-pub mod Joined
-pub mod LinesFrom
-pub mod Printed
-pub mod Recalled
+mod Joined
+mod LinesFrom
+mod Printed
+mod Recalled
+mod Stores

@@ -28,12 +28,6 @@ part_passes d n m left cs rest old new is number written =
     ∙ sym (append_assoc old (lines_from d n cs) (text_from d (n + length cs) rest)) ∙ ap (λ l. l ++ text_from d (n + length cs) rest) (sym written)
     ∙ ap (λ k. new ++ text_from d k rest) (sym number)
 
--- where nothing is left the text is the line of the count
-pub total_passes : (d : Development) (n : ℕ) (left : List Condition) (old new : List ℕ) → left ≡ [] → new ≡ old ++ total_line n → new ≡ old ++ text_from d n left
-total_passes d n left old new none written =
-    let e : n ≡ n + 0 = omega arith in
-    written ∙ ap (λ k. old ++ total_line k) e ∙ ap (λ l. old ++ text_from d n l) (sym none)
-
 feed_joined : (done text rest : List ℕ) → (done ++ text ++ 10 ∷ []) ++ rest ≡ done ++ (text ++ 10 ∷ rest)
 feed_joined done text rest = append_assoc (done ++ text) (10 ∷ []) rest ∙ append_assoc done text (10 ∷ rest)
 

@@ -1,17 +1,15 @@
 -- The line of a condition.
-use Rattle.std.specs.Prelude.{ℕ, suc, ◌+◌, length, codes, List, [], ◌∷◌, ◌++◌, Option, Some, None, slice_index_or, map}
+use Rattle.std.specs.Prelude.{ℕ, suc, ◌+◌, length, codes, List, [], ◌∷◌, ◌++◌, Option, Some, None, map}
 use Rattle.std.specs.Fmt.{decimal}
 use Rattle.lc_text.specs.Spelling.{Spelled}
 use Rattle.lc_term.specs.Syntax.{Formula}
 use Rattle.lc_text.specs.Spelled.{spaced, spelled_formula}
-use Rattle.lc_seq.specs.Specification as Q
 use Rattle.lc_object.specs.Syntax as O
-use Rattle.lc_object.specs.declared.instr.EdgeKind.{EdgeKind}
-use Rattle.lc_object.specs.declared.instr.EdgeKind.TheVariants.{Next, Then, Else}
-use Rattle.lc_term.specs.SystemColumns.{system_columns}
 use Rattle.lc_rider.specs.Paths.{Owing, Pending, Named, Enabled, Observing}
 use Rattle.lc_action.specs.Action.{Action}
 use Rattle.lc_outline.specs.Development.{Development, all_actions}
+use Rattle.lc_naming.specs.ColumnNames.{column_names, name_at}
+use Rattle.lc_naming.specs.EdgeWords.{edge_word}
 use Rattle.lc_cond.specs.Conditions.{Kind, Init, InitIdle, Entry, First, Owed, Reply, Invariant, NextKind, Guard, ColumnKind, Stable}
 use Rattle.lc_cond.specs.Conditions.{Passage, NoPassage, ByEdge, ByAction, Which, Alone, Numbered, OfColumn, Condition, conditions}
 
@@ -34,25 +32,11 @@ kind_word Guard = codes "guard"
 kind_word ColumnKind = codes "column"
 kind_word Stable = codes "stable"
 
-abbrev pub edge_word : EdgeKind → List ℕ
-edge_word Next = codes "next"
-edge_word Then = codes "then"
-edge_word Else = codes "else"
-
--- the names of the columns, by their numbers
-abbrev pub column_names : Development → List (List ℕ)
-column_names d =
-    map (λ (c : Q.Column). c.name) d.specification.columns ++ (map (λ (c : O.Column). c.name) d.object.concretes ++ (map (λ (c : Q.Column). c.name) d.auxiliaries ++ system_columns))
-
 abbrev pub point_names : Development → List (List ℕ)
 point_names d = map (λ (p : O.Point). p.name) d.object.points
 
 abbrev pub action_names : Development → List (List ℕ)
 action_names d = map (λ (a : Action). a.name) (all_actions d)
-
--- the name at a place
-abbrev pub name_at : List (List ℕ) → ℕ → List ℕ
-name_at names k = slice_index_or names k []
 
 -- what is absent is a hyphen
 abbrev pub or_hyphen : {A : Type 0} → (A → List ℕ) → Option A → List ℕ

@@ -1,11 +1,13 @@
 //! The text of a table's terms and formulas, from their nodes.
-ghost use Rattle.std.specs.Prelude.{◌≡◌, ◌++◌, OnOk, codes};
+ghost use Rattle.std.specs.Prelude.{◌≡◌, ◌++◌, OnOk, codes, true, false};
 ghost use Rattle.std.specs.Fmt.{decimal, signed_decimal};
+ghost use Rattle.lc_term.specs.Chains.{is_store};
 ghost use Rattle.lc_term.specs.Syntax.{formulas};
 ghost use Rattle.lc_table.specs.Tables.{term_in, column_in, formula_in, formulas_in, IsTerm, IsColumn, IsFormula, AreFormulas};
 ghost use Rattle.lc_text.specs.Spelled.{binder, one_deeper, spaced, spelled_term, spelled_column, spelled_formula, spelled_parts};
 ghost use Rattle.lc_outline.specs.DevelopmentView.{development_shown};
 ghost use Rattle.lc_cond_text.specs.ConditionText.{spelled};
+ghost use Rattle.lc_cond_text.specs.Stores.{stored_text};
 
 use crate::naming::column_name;
 use itoa::Buffer;
@@ -143,6 +145,49 @@ pub(crate) fn push_pair(
     push_text(out, ")")
 }
 
+// A column expression that is no store.
+fn push_base(
+    out: &mut Vec<u8>,
+    terms: &Terms,
+    development: &Development,
+    depth: u64,
+    base: ColExprId,
+) -> Result<(), OutOfMemory>
+    requires there { IsColumn terms.now base }
+    requires base { is_store (column_in terms.now base) ≡ false }
+    ensures { OnOk result (out.new.items ≡ out.old.items ++ spelled_column (spelled (development_shown development.now)) depth (column_in terms.now base)) }
+{
+    let _depth = depth;
+    match terms.column_node(base) {
+        TermNode::Base(column) => push_text(out, column_name(development, column)),
+        TermNode::Affine(slope, start) => push_affine(out, slope, start),
+        _ => unreachable!(),
+    }
+}
+
+// What stands behind what a store stores to.
+#[cycle(push_term)]
+fn push_stored(
+    out: &mut Vec<u8>,
+    terms: &Terms,
+    development: &Development,
+    depth: u64,
+    store: ColExprId,
+) -> Result<(), OutOfMemory>
+    requires there { IsColumn terms.now store }
+    requires store { is_store (column_in terms.now store) ≡ true }
+    ensures { OnOk result (out.new.items ≡ out.old.items ++ stored_text (spelled (development_shown development.now)) depth (column_in terms.now store)) }
+{
+    match terms.column_node(store) {
+        TermNode::Store(_, index, value) => {
+            push_text(out, " ")?;
+            push_pair(out, terms, development, depth, "", index, value)
+        }
+        _ => unreachable!(),
+    }
+}
+
+// A column expression: the words of all its stores, what is stored to, and what is stored, the innermost first.
 #[cycle(push_term)]
 fn push_column(
     out: &mut Vec<u8>,
@@ -154,17 +199,15 @@ fn push_column(
     requires { IsColumn terms.now column }
     ensures { OnOk result (out.new.items ≡ out.old.items ++ spelled_column (spelled (development_shown development.now)) depth (column_in terms.now column)) }
 {
-    match terms.column_node(column) {
-        TermNode::Base(column) => push_text(out, column_name(development, column)),
-        TermNode::Store(column, index, value) => {
-            push_text(out, "(store ")?;
-            push_column(out, terms, development, depth, column)?;
-            push_text(out, " ")?;
-            push_pair(out, terms, development, depth, "", index, value)
-        }
-        TermNode::Affine(slope, start) => push_affine(out, slope, start),
-        _ => unreachable!(),
+    let mut chain = terms.chain(*out.allocator(), column)?;
+    for _ in 0..chain.stores.len() {
+        push_text(out, "(store ")?;
     }
+    push_base(out, terms, development, depth, chain.base)?;
+    'stores: while let Some(store) = chain.stores.pop() {
+        push_stored(out, terms, development, depth, store)?;
+    }
+    Ok(())
 }
 
 /// A formula, round which stand so many quantifiers, behind what is there.

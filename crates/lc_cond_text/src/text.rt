@@ -7,7 +7,8 @@ ghost use Rattle.lc_rider.specs.DutyView.{owing_of};
 ghost use Rattle.lc_outline.specs.DevelopmentView.{development_shown};
 ghost use Rattle.lc_cond.specs.ConditionView.{kind_of, passage_of, which_of, place_of, condition_in, IsCondition};
 ghost use Rattle.lc_cond_text.specs.Recalled.{Recalls};
-ghost use Rattle.lc_cond_text.specs.ConditionText.{duty_word, kind_word, edge_word, or_hyphen, name_at, point_names, passage_text, which_text, spelled, formulas_text, condition_text};
+ghost use Rattle.lc_naming.specs.ColumnNames.{name_at};
+ghost use Rattle.lc_cond_text.specs.ConditionText.{duty_word, kind_word, or_hyphen, point_names, passage_text, which_text, spelled, formulas_text, condition_text};
 
 use crate::naming::{action_name, column_name, point_name};
 use crate::nodes::{push_number, push_text};
@@ -15,7 +16,7 @@ use crate::texts::{FormulaTexts, no_texts, push_once, push_repeated};
 use lc_base::{OutOfMemory, PointId};
 use lc_cond::{Condition, Kind, Passage, Place, Which};
 use lc_kernel::Goal;
-use lc_object::EdgeKind;
+use lc_naming::edge_word;
 use lc_outline::Development;
 use lc_rider::Owing;
 use lc_table::{FormulaId, Terms};
@@ -47,16 +48,6 @@ fn kind_word(kind: Kind) -> &'static str
         Kind::Guard => "guard",
         Kind::Column => "column",
         Kind::Stable => "stable",
-    }
-}
-
-fn edge_word(kind: EdgeKind) -> &'static str
-    ensures { result.now ≡ edge_word kind }
-{
-    match kind {
-        EdgeKind::Next => "next",
-        EdgeKind::Then => "then",
-        EdgeKind::Else => "else",
     }
 }
 

@@ -2,6 +2,7 @@
 use Rattle.std.proofs.Common.{◌≡◌, ℕ, ◌≤◌, ◌<◌, Bool, true, false, List, inr, length, refl, sym, ap, ◌∙◌, subst, arith}
 use Rattle.std.proofs.lemmas.Bool.Decides.{nat_tests}
 use Rattle.std.specs.Prelude.{nat_lt}
+use Rattle.lc_base.specs.Limits.{condition_limit}
 use Rattle.lc_sexp.proofs.Unique.{one_reading_lem}
 use Rattle.lc_sexp.specs.Reads.{ReadsAs}
 use Rattle.lc_sexp.specs.Trees.{Trees}
@@ -16,7 +17,7 @@ use Rattle.lc_cond.proofs.Sized.{are_counted}
 use Rattle.lc_outline_text.proofs.Assembled.{forms_resolved}
 use Rattle.lc_outline_text.proofs.WholeCounted.{forms_sized}
 use Rattle.lc_outline_text.specs.Declarations.{declarations_of}
-use Rattle.lc_outline_text.specs.Developments.{condition_limit, forms_reading, file_reading}
+use Rattle.lc_outline_text.specs.Developments.{forms_reading, file_reading}
 use Rattle.lc_counted.specs.Counted.{counted, HasForms, too_many}
 
 -- as many conditions as are counted from the text
@@ -48,18 +49,18 @@ text_counted bytes ts D reads (us, others, e) =
 pub has_forms : (bytes : List ℕ) (D : Development) → Says file_reading bytes D → HasForms bytes D
 has_forms bytes D (ts, reads, e) = (ts, reads, (read_of ts D e).1)
 
-pub few_conditions : (bytes : List ℕ) (D : Development) → Says file_reading bytes D → length (conditions D) ≤ 100000
+pub few_conditions : (bytes : List ℕ) (D : Development) → Says file_reading bytes D → length (conditions D) ≤ condition_limit
 few_conditions bytes D (ts, reads, e) =
-    let read = read_of ts D e in subst (λ k. k ≤ 100000) (sym (forms_counted ts D read.1)) (few_of (counted ts) 100000 read.0)
+    let read = read_of ts D e in subst (λ k. k ≤ condition_limit) (sym (forms_counted ts D read.1)) (few_of (counted ts) condition_limit read.0)
 
-pub said_within : (bytes : List ℕ) (D : Development) → HasForms bytes D → length (conditions D) ≤ 100000 → Says file_reading bytes D
+pub said_within : (bytes : List ℕ) (D : Development) → HasForms bytes D → length (conditions D) ≤ condition_limit → Says file_reading bytes D
 said_within bytes D (ts, reads, e) few =
-    let within : nat_lt condition_limit (counted ts) ≡ false = few_is (counted ts) 100000 (subst (λ k. k ≤ 100000) (forms_counted ts D e) few) in
+    let within : nat_lt condition_limit (counted ts) ≡ false = few_is (counted ts) condition_limit (subst (λ k. k ≤ condition_limit) (forms_counted ts D e) few) in
     (ts, reads, ap (λ b. limited b 0 (forms_reading (declarations_of ts) (sections_of ts) 0 ts)) within ∙ e)
 
-pub refused_beyond : (bytes : List ℕ) (D : Development) → HasForms bytes D → 100000 < length (conditions D) → IsFirstRefusal file_reading bytes too_many
+pub refused_beyond : (bytes : List ℕ) (D : Development) → HasForms bytes D → condition_limit < length (conditions D) → IsFirstRefusal file_reading bytes too_many
 refused_beyond bytes D (ts, reads, e) many =
     let forms = forms_reading (declarations_of ts) (sections_of ts) 0 ts in
-    let beyond : nat_lt condition_limit (counted ts) ≡ true = many_is (counted ts) 100000 (subst (λ k. 100000 < k) (forms_counted ts D e) many) in
+    let beyond : nat_lt condition_limit (counted ts) ≡ true = many_is (counted ts) condition_limit (subst (λ k. condition_limit < k) (forms_counted ts D e) many) in
     let told : file_reading ts ≡ flawed (at Bound 0) = ap (λ b. limited b 0 forms) beyond ∙ ap (λ r. limited true 0 r) e in
     inr (ts, at Bound 0, reads, told, refl)

@@ -1,5 +1,6 @@
 //! Laws of the count of conditions. Each function does nothing, and its contract is the law.
 ghost use Rattle.std.specs.Prelude.{◌≡◌, ◌≤◌, ◌<◌, ℕ, List, length};
+ghost use Rattle.lc_base.specs.Limits.{condition_limit};
 ghost use Rattle.lc_cond.specs.Conditions.{conditions};
 ghost use Rattle.lc_counted.specs.Counted.{counted, HasForms, too_many};
 ghost use Rattle.lc_outline.specs.Development.{Development};
@@ -17,7 +18,7 @@ pub fn conditions_are_counted_from_the_text()
 /// Where there are more, the file is refused, and this is told at the item 0.
 pub fn developments_are_within_the_limit()
     ensures formed { (bytes : List ℕ) (D : Development) → Says file_reading bytes D → HasForms bytes D }
-    ensures few { (bytes : List ℕ) (D : Development) → Says file_reading bytes D → length (conditions D) ≤ 100000 }
-    ensures said { (bytes : List ℕ) (D : Development) → HasForms bytes D → length (conditions D) ≤ 100000 → Says file_reading bytes D }
-    ensures refused { (bytes : List ℕ) (D : Development) → HasForms bytes D → 100000 < length (conditions D) → IsFirstRefusal file_reading bytes too_many }
+    ensures few { (bytes : List ℕ) (D : Development) → Says file_reading bytes D → length (conditions D) ≤ condition_limit }
+    ensures said { (bytes : List ℕ) (D : Development) → HasForms bytes D → length (conditions D) ≤ condition_limit → Says file_reading bytes D }
+    ensures refused { (bytes : List ℕ) (D : Development) → HasForms bytes D → condition_limit < length (conditions D) → IsFirstRefusal file_reading bytes too_many }
 {}

@@ -2,6 +2,7 @@
 
 mod axioms;
 mod building;
+mod chains;
 mod entering;
 mod learning;
 mod opening;
@@ -180,17 +181,17 @@ impl Nodes {
         self.part_shape(term.0).loose
     }
 
-    /// The same of a column expression.
+    /// How many quantifiers round a column expression its bound variables ask for.
     pub fn column_loose(&self, column: ColExprId) -> u32 {
         self.part_shape(column.0).loose
     }
 
-    /// The same of a formula, beside its own quantifiers.
+    /// How many quantifiers round a formula its bound variables ask for, beside its own.
     pub fn formula_loose(&self, formula: FormulaId) -> u32 {
         self.formula_shape(formula).loose
     }
 
-    /// The column that a column expression stores in; none of an affine one.
+    /// The column that a column expression stores in; none of an affine one, and none below more stores than are followed.
     pub fn base_of(&self, column: ColExprId) -> Option<ColId> {
         let mut column = column;
         for _ in 0..NESTING {

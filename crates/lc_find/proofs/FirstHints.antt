@@ -4,6 +4,7 @@ use Rattle.std.proofs.Math.Seq.{take-append_seam}
 use Rattle.std.proofs.lemmas.Bool.{eqb-true}
 use Rattle.std.specs.Prelude.{◌==◌}
 use Rattle.lc_base.specs.declared.refusal.Refusal.{Refusal}
+use Rattle.lc_base.specs.Limits.{file_limit}
 use Rattle.lc_term.specs.Lists.{Every}
 use Rattle.lc_kernel.specs.Proofs.{Proof, size}
 use Rattle.lc_outline.specs.Development.{Development}
@@ -125,15 +126,15 @@ hinted_each D hs k lt h =
 
 -- ---- what holds of each proof
 
-few_first : (e : Entry) (hs : List Entry) (k : ℕ) (p : Proof) → size e.proof ≤ 16777216 → (proof_at hs k ≡ Some p → size p ≤ 16777216) → (b : Bool) → cond b (Some e.proof) (proof_at hs k) ≡ Some p → size p ≤ 16777216
+few_first : (e : Entry) (hs : List Entry) (k : ℕ) (p : Proof) → size e.proof ≤ file_limit → (proof_at hs k ≡ Some p → size p ≤ file_limit) → (b : Bool) → cond b (Some e.proof) (proof_at hs k) ≡ Some p → size p ≤ file_limit
 few_first e hs k p h later true at =
     let found : Some e.proof ≡ Some p = at in
     let proof : e.proof ≡ p = cc in
-    subst (λ q. size q ≤ 16777216) proof h
+    subst (λ q. size q ≤ file_limit) proof h
 few_first e hs k p h later false at = later at
 
 -- it has few steps
-pub few_at : (hs : List Entry) (k : ℕ) (p : Proof) → HaveFewSteps hs → proof_at hs k ≡ Some p → size p ≤ 16777216
+pub few_at : (hs : List Entry) (k : ℕ) (p : Proof) → HaveFewSteps hs → proof_at hs k ≡ Some p → size p ≤ file_limit
 few_at [] k p h at = absurd (let none : None ≡ Some p = at in cc)
 few_at (e ∷ hs) k p h at = few_first e hs k p h.0 (few_at hs k p h.1) (e.number == k) at
 

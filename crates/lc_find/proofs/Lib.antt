@@ -1,5 +1,5 @@
-pub mod Places
-pub mod FirstHints
-pub mod Passing
-pub mod Taken
-pub mod Ending
+mod Places
+mod FirstHints
+mod Passing
+mod Taken
+mod Ending

@@ -1,12 +1,10 @@
 //! Where the text of a certificate passes its limits.
 ghost use Rattle.std.specs.Prelude.{◌<◌};
 
-/// The most bytes of a file.
-const SIZE_LIMIT: usize = 16_777_216;
-/// How deep lists may nest.
-const NESTING_LIMIT: u64 = 1_000;
+use lc_base::{DEPTH_LIMIT, FILE_LIMIT};
+
 /// The bytes behind the last proof: a bracket and the end of the line.
-const LAST_BYTES: usize = 2;
+const LAST_BYTES: u64 = 2;
 
 /// The least number of a proof with which a certificate's text, whose proofs are numbered from 0, is too large or too deep;
 /// of the last one where none is.
@@ -27,7 +25,7 @@ pub(crate) fn number_beyond(text: &[u8], count: u64) -> u64
             b')' => depth = depth.saturating_sub(1),
             _ => {}
         }
-        if depth > NESTING_LIMIT || place >= SIZE_LIMIT - LAST_BYTES {
+        if depth > DEPTH_LIMIT as u64 || place as u64 >= FILE_LIMIT - LAST_BYTES {
             break;
         }
     }

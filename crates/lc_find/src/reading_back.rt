@@ -1,6 +1,7 @@
 //! Certificates are given only if their text is accepted.
 ghost use Rattle.std.specs.Prelude.{◌≡◌, ◌≤◌, true, length, [], IfOk};
 ghost use Rattle.lc_base.specs.NameText.{is_name};
+ghost use Rattle.lc_base.specs.Limits.{name_limit};
 ghost use Rattle.lc_outline.specs.DevelopmentView.{development_shown};
 ghost use Rattle.lc_cert.specs.EntryView.{entries_of};
 ghost use Rattle.lc_cert.specs.Files.{Certifies};
@@ -30,7 +31,7 @@ fn an_empty_certificate_reads_back(development: &Development)
 fn object_name(development: &Development) -> &str
     ensures text { result.now ≡ (development_shown development.now).object.name }
     ensures name { is_name result.now ≡ true }
-    ensures limit { length result.now ≤ 64 }
+    ensures limit { length result.now ≤ name_limit }
 {
     development.parts().object.parts().name.as_str()
 }

@@ -8,16 +8,13 @@ ghost use Rattle.lc_find.specs.Taken.{IsHintTaken, IsSought, IsTaken};
 
 use crate::fault::FindFault;
 use crate::first_proofs::FirstProofs;
-use lc_base::{Fault, OutOfMemory};
+use lc_base::{FILE_LIMIT, Fault, OutOfMemory};
 use lc_cert::Entry;
 use lc_check::Walk;
 use lc_hints::Hints;
 use lc_outline::Development;
 use lc_search::{End, search};
 use std::alloc::Global;
-
-/// The most steps of a proof: as many as a file has bytes.
-const STEP_LIMIT: u64 = 16_777_216;
 
 /// The first proof that the hints have for the next condition, if it holds.
 fn hinted_entry(
@@ -79,7 +76,7 @@ fn sought_entry(
         End::Spent => return Err(FindFault::Budget(number)),
         End::Large => return Err(FindFault::Large(number)),
     };
-    if proof.step_count() > STEP_LIMIT {
+    if proof.step_count() > FILE_LIMIT {
         return Err(FindFault::Budget(number));
     }
     match walk.prove_next(alloc, development, &proof) {

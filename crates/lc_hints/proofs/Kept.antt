@@ -2,6 +2,7 @@
 use Rattle.std.proofs.Common.{◌≡◌, ℕ, ℤ, pos, negsuc, ◌+◌, ◌<◌, ◌≤◌, ◌^◌, true, List, ◌∷◌, Option, Some, None, arith}
 use Rattle.std.proofs.lemmas.Bool.{ltb-true}
 use Rattle.std.specs.Prelude.{codes}
+use Rattle.lc_base.specs.Limits.{file_limit}
 use Rattle.lc_sexp.proofs.Items.{items_fit_lem}
 use Rattle.lc_sexp.specs.Parts.{fits_i64}
 use Rattle.lc_sexp.specs.Trees.{Tree, Trees, atom, list, none, ◌▸◌, item_count, item_count_of_all}
@@ -22,7 +23,8 @@ use Rattle.lc_proof_text.specs.Proofs.{proof_reading}
 use Rattle.lc_outline.specs.Development.{Development}
 use Rattle.lc_cert.proofs.Spelled.{names_spelled}
 use Rattle.lc_cert.specs.Certificates.{Entry, HaveFewSteps}
-use Rattle.lc_cert.specs.ColumnNames.{column_names, names_with, spelled_with}
+use Rattle.lc_naming.specs.ColumnNames.{column_names}
+use Rattle.lc_cert.specs.ColumnNames.{names_with, spelled_with}
 use Rattle.lc_cert.specs.Printed.{EntryReadsBack}
 use Rattle.lc_hints.proofs.Joined.{every_joined}
 use Rattle.lc_hints.specs.Hints.{Hint, proof_offered, proofs_of}
@@ -103,14 +105,14 @@ module _ (D : Development) where
 
 -- no proof that is read has more steps than a file has bytes
 abbrev IsSmall : Entry → Type 0
-IsSmall e = size e.proof ≤ 16777216
+IsSmall e = size e.proof ≤ file_limit
 
 pub hints_sized : (D : Development) (bytes : List ℕ) (hs : List Hint) → Says (hints_reading D) bytes hs → HaveFewSteps (proofs_of hs)
 hints_sized D bytes hs (ts, reads, says) =
     let few = items_fit_lem bytes ts reads in
     let short = reads.size in
     let names = names_with (column_names D) in
-    let proof : (n : ℕ) (t : Tree) → item_count t ≤ 16777216 → IfFine (proof_reading names n t) (λ p. size p ≤ 16777216) =
-    λ n t less. weaker (λ p. size p ≤ item_count t) (λ p. size p ≤ 16777216) (proof_reading names n t) (λ p h. omega (arith, h, less)) (proof_sized names n t) in
-    let all = file_fine names IsSmall (λ p. size p ≤ 16777216) 16777216 proof (λ k p small h. h) (item_count_of_all ts) 0 ts (omega (arith, few, short)) in
+    let proof : (n : ℕ) (t : Tree) → item_count t ≤ file_limit → IfFine (proof_reading names n t) (λ p. size p ≤ file_limit) =
+    λ n t less. weaker (λ p. size p ≤ item_count t) (λ p. size p ≤ file_limit) (proof_reading names n t) (λ p h. omega (arith, h, less)) (proof_sized names n t) in
+    let all = file_fine names IsSmall (λ p. size p ≤ file_limit) file_limit proof (λ k p small h. h) (item_count_of_all ts) 0 ts (omega (arith, few, short)) in
     every_joined IsSmall (λ (h : Hint). proof_offered h.advice h.number) hs (of_fine (Every (λ (h : Hint). Every IsSmall (proof_offered h.advice h.number))) (hints_reading D ts) hs all says)

@@ -1,5 +1,5 @@
-pub mod Joined
-pub mod Giving
-pub mod Parts
-pub mod Kept
+mod Joined
+mod Giving
+mod Parts
+mod Kept
 pub mod Answered

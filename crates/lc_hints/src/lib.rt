@@ -9,4 +9,4 @@ pub mod laws;
 mod reading;
 
 pub use hints::Hints;
-pub use reading::hints_of;
+pub use reading::{hints_in, hints_of};

@@ -1,5 +1,6 @@
 //! How hints are read.
-ghost use Rattle.std.specs.Prelude.{◌≡◌, IfOk, [], map};
+ghost use Rattle.std.specs.Prelude.{◌≡◌, ℕ, List, IfOk, [], map};
+ghost use Rattle.lc_sexp.specs.Reads.{ReadsAs};
 ghost use Rattle.lc_sexp.specs.Shown.{rest_of, number_of, owner_of};
 ghost use Rattle.lc_cert.specs.ColumnNames.{names_with};
 ghost use Rattle.lc_cert.specs.Printed.{EntryReadsBack};
@@ -19,8 +20,9 @@ use crate::given::gathered;
 use crate::hint::{Advice, Hint};
 use crate::hints::Hints;
 use lc_base::Fault;
-use lc_cert::{InCertificate, column_names, table_of};
+use lc_cert::{InCertificate, table_of};
 use lc_kernel::Proof;
+use lc_naming::column_names;
 use lc_outline::Development;
 use lc_proof_text::read_proof;
 use lc_reading::{
@@ -191,7 +193,7 @@ fn read_form<S: Scope>(alloc: Global, scope: &S, part: Part<'_>) -> Result<Vec<H
     read_each(alloc, &Each(scope), list)
 }
 
-/// The same, which is all that is left in a list.
+/// The form of a file of hints, which is all that is left in a list.
 fn read_file(
     alloc: Global,
     columns: &NameTable<'_>,
@@ -202,6 +204,22 @@ fn read_file(
     let scope = InCertificate::new(columns)?;
     let (form, rest) = one(forms)?;
     ended(read_form(alloc, &scope, form), rest)
+}
+
+/// The hints for a development in the file of which these are the forms. Where they are none, `Refused` has the first refusal,
+/// as in `hints_of`.
+pub fn hints_in(alloc: Global, development: &Development, forms: Forms) -> Result<Hints, Fault>
+    requires { (bytes : List ℕ) × ReadsAs bytes forms }
+    ensures answer { (bytes : List ℕ) → ReadsAs bytes forms → IsAnswerTo (development_shown development.now) bytes result }
+    ensures back { IfOk result (λ hints. Every (EntryReadsBack (development_shown development.now)) (proofs_in hints)) }
+{
+    let parts = development.parts();
+    let names = column_names(alloc, parts)?;
+    let columns = table_of(alloc, &names)?;
+    match read_file(alloc, &columns, forms.cursor()) {
+        Ok(hints) => Ok(Hints::of_given(gathered(alloc, hints)?)),
+        Err(fault) => Err(Fault::from(fault)),
+    }
 }
 
 /// The hints for a development that these bytes are: `(hints ((use K T+) | (cut K F) | (by K P))*)`, each K a NUMBER. A
@@ -215,11 +233,5 @@ pub fn hints_of(alloc: Global, development: &Development, bytes: &[u8]) -> Resul
     ensures back { IfOk result (λ hints. Every (EntryReadsBack (development_shown development.now)) (proofs_in hints)) }
 {
     let forms = Forms::read(alloc, bytes)?;
-    let parts = development.parts();
-    let names = column_names(alloc, parts)?;
-    let columns = table_of(alloc, &names)?;
-    match read_file(alloc, &columns, forms.cursor()) {
-        Ok(hints) => Ok(Hints::of_given(gathered(alloc, hints)?)),
-        Err(fault) => Err(Fault::from(fault)),
-    }
+    hints_in(alloc, development, forms)
 }

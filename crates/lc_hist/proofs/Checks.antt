@@ -16,11 +16,6 @@ pub call_there : (events : List R.Event) (span : Option Span) (s : Span) (event 
 call_there events span s event c call is within here what =
     ap (call_at (events_of events)) is ∙ ap called_in (event_at events s.called event (within_called (length events) span s is within) here) ∙ ap (λ e. called_in (Some e)) what
 
-pub no_call_there : (events : List R.Event) (span : Option Span) (s : Span) (event : R.Event) (c : ℕ) (reply : List ℤ) → span ≡ Some s → IsWithin (length events) span
-    → event ≡ get_or events s.called event → event_of event ≡ Replied c reply → call_at (events_of events) span ≡ None
-no_call_there events span s event c reply is within here what =
-    ap (call_at (events_of events)) is ∙ ap called_in (event_at events s.called event (within_called (length events) span s is within) here) ∙ ap (λ e. called_in (Some e)) what
-
 within_returned : (n : ℕ) (span : Option Span) (s : Span) (place : ℕ) → span ≡ Some s → s.returned ≡ Some place → IsWithin n span → place < n
 within_returned n span s place is there within = subst (λ r. IfSome r (λ p. p < n)) there (subst (IsWithin n) is within).1
 

@@ -5,6 +5,7 @@ use Rattle.std.specs.Str.{is_utf8}
 use Rattle.std.proofs.lemmas.Bool.{leb-true, leb-false}
 use Rattle.std.proofs.lemmas.List.{append-nil, append_assoc}
 use Rattle.std.proofs.lemmas.Str.{IsUtf8-from_is_utf8, is_utf8-from_IsUtf8}
+use Rattle.lc_base.specs.Limits.{file_limit}
 use Rattle.serde_json.specs.Data.{Data}
 use Rattle.serde_json.specs.Read.{read}
 use Rattle.lc_seq.specs.Specification.{Operation}
@@ -92,17 +93,17 @@ entries_or_wrong operations (d ∷ ds) = entry_or_wrong operations d ds (entries
 abbrev HasSome : List ℕ → Type 0
 HasSome bytes = ((parts : Parts) × HasParts bytes parts) ⊎ ((parts : Parts) → HasParts bytes parts → ⊥)
 
-read_or_not : (bytes : List ℕ) → length bytes ≤ 16777216 → IsUtf8 bytes → (said : Option Parts) → option_and_then parts_in (read bytes) ≡ said → HasSome bytes
+read_or_not : (bytes : List ℕ) → length bytes ≤ file_limit → IsUtf8 bytes → (said : Option Parts) → option_and_then parts_in (read bytes) ≡ said → HasSome bytes
 read_or_not bytes limit utf8 None is = inr (λ parts has. let reads = has.reads in absurd (cc (is, reads)))
 read_or_not bytes limit utf8 (Some parts) is = inl (parts, record { limit = limit; utf8 = utf8; reads = is })
 
-text_or_not : (bytes : List ℕ) → length bytes ≤ 16777216 → (b : Bool) → is_utf8 bytes ≡ b → HasSome bytes
+text_or_not : (bytes : List ℕ) → length bytes ≤ file_limit → (b : Bool) → is_utf8 bytes ≡ b → HasSome bytes
 text_or_not bytes limit true is = read_or_not bytes limit (IsUtf8-from_is_utf8 bytes is) (option_and_then parts_in (read bytes)) refl
 text_or_not bytes limit false is = inr (λ parts has. let yes = is_utf8-from_IsUtf8 bytes has.utf8 in absurd (cc (is, yes)))
 
-within_or_not : (bytes : List ℕ) (b : Bool) → nat_le (length bytes) 16777216 ≡ b → HasSome bytes
-within_or_not bytes true is = text_or_not bytes (let le = leb-true (length bytes) 16777216 is in omega (arith, le)) (is_utf8 bytes) refl
-within_or_not bytes false is = inr (λ parts has. let le = has.limit in let lt = leb-false (length bytes) 16777216 is in absurd (omega (arith, le, lt)))
+within_or_not : (bytes : List ℕ) (b : Bool) → nat_le (length bytes) file_limit ≡ b → HasSome bytes
+within_or_not bytes true is = text_or_not bytes (let le = leb-true (length bytes) file_limit is in omega (arith, le)) (is_utf8 bytes) refl
+within_or_not bytes false is = inr (λ parts has. let le = has.limit in let lt = leb-false (length bytes) file_limit is in absurd (omega (arith, le, lt)))
 
 abbrev pub IsSaidOrWrong : List Operation → List ℕ → Type 0
 IsSaidOrWrong operations bytes = ((events : List Event) × (order : List Entry) × SaysHistory operations bytes events order) ⊎ ((item : ℕ) × IsWrongItem operations bytes item)
@@ -120,4 +121,4 @@ in_bytes operations bytes (inl (parts, has)) = in_parts operations bytes parts h
 in_bytes operations bytes (inr none) = inr (0, inl (refl, none))
 
 pub said_or_wrong : (operations : List Operation) (bytes : List ℕ) → IsSaidOrWrong operations bytes
-said_or_wrong operations bytes = in_bytes operations bytes (within_or_not bytes (nat_le (length bytes) 16777216) refl)
+said_or_wrong operations bytes = in_bytes operations bytes (within_or_not bytes (nat_le (length bytes) file_limit) refl)

@@ -5,6 +5,7 @@ use Rattle.std.proofs.lemmas.Bool.{leb-true}
 use Rattle.serde_json.specs.Data.{Data, Items}
 use Rattle.serde_json.specs.Find.{as_number, as_u64, as_array}
 use Rattle.lc_base.specs.declared.ids.OpId.{OpId}
+use Rattle.lc_base.specs.Limits.{client_limit}
 use Rattle.lc_seq.specs.Sequential.{Call}
 use Rattle.lc_seq.specs.Specification.{Operation}
 use Rattle.lc_hist.specs.History.{Event, Called, Replied, pending_of, count}
@@ -104,7 +105,7 @@ counted operations events table (Replied c reply) are h = λ call is.
 
 -- an event that may follow is the next
 pub is_next : (operations : List Operation) (events : List Event) (table : ℕ → Option ℕ) (d : Data) (e : Event) → AreOpen events table → event_in operations d ≡ Some e
-    → client_of e ≤ 1000000 → may_follow operations (table (client_of e)) e ≡ true → IsNext operations events d e
+    → client_of e ≤ client_limit → may_follow operations (table (client_of e)) e ≡ true → IsNext operations events d e
 is_next operations events table d e are form le may = record {
   form = form;
   turn = is_in_turn events e (λ c. is_some (table c)) are.busy le (follows operations (table (client_of e)) e may);
@@ -140,26 +141,26 @@ pub number_cond : (b : Bool) (o p : Option OpId) → number_of (cond b o p) ≡ 
 number_cond true o p = refl
 number_cond false o p = refl
 
-limit_case : (n k : ℕ) (b : Bool) → nat_le n 1000000 ≡ b → cond b (Some n) None ≡ Some k → k ≤ 1000000
-limit_case n k true is h = let same : n ≡ k = cc in let le = leb-true n 1000000 is in omega arith
+limit_case : (n k : ℕ) (b : Bool) → nat_le n client_limit ≡ b → cond b (Some n) None ≡ Some k → k ≤ client_limit
+limit_case n k true is h = let same : n ≡ k = cc in let le = leb-true n client_limit is in omega arith
 limit_case n k false is h = absurd cc
 
-client_limit : (o : Option ℕ) (k : ℕ) → option_and_then client_within o ≡ Some k → k ≤ 1000000
-client_limit None k h = absurd cc
-client_limit (Some n) k h = limit_case n k (nat_le n 1000000) refl h
+client_kept : (o : Option ℕ) (k : ℕ) → option_and_then client_within o ≡ Some k → k ≤ client_limit
+client_kept None k h = absurd cc
+client_kept (Some n) k h = limit_case n k (nat_le n client_limit) refl h
 
 mapped_limit : {X : Type 0} (f : ℕ → X → Event) → ((n : ℕ) (x : X) → client_of (f n x) ≡ n) → (client : Data) (o : Option X) (e : Event)
-    → option_and_then (λ n. option_map (f n) o) (client_in client) ≡ Some e → client_of e ≤ 1000000
+    → option_and_then (λ n. option_map (f n) o) (client_in client) ≡ Some e → client_of e ≤ client_limit
 mapped_limit f keeps client o e h =
     let parts = both_parts f (client_in client) o e h in
-    let le = client_limit (option_and_then as_u64 (as_number client)) parts.0 parts.2 in
+    let le = client_kept (option_and_then as_u64 (as_number client)) parts.0 parts.2 in
     omega (arith, keeps parts.0 parts.1, ap client_of parts.4)
 
 chosen : {X : Type 0} (b : Bool) (o : Option X) (x : X) → (if b then o else None) ≡ Some x → o ≡ Some x
 chosen true o x h = h
 chosen false o x h = absurd cc
 
-limit_from : (operations : List Operation) (ds : List Data) (e : Event) → event_from operations ds ≡ Some e → client_of e ≤ 1000000
+limit_from : (operations : List Operation) (ds : List Data) (e : Event) → event_from operations ds ≡ Some e → client_of e ≤ client_limit
 limit_from operations [] e h = absurd cc
 limit_from operations (a ∷ []) e h = absurd cc
 limit_from operations (a ∷ b ∷ []) e h = absurd cc
@@ -167,10 +168,10 @@ limit_from operations (a ∷ b ∷ c ∷ []) e h = mapped_limit Replied (λ n x.
 limit_from operations (a ∷ b ∷ c ∷ d ∷ []) e h = mapped_limit Called (λ n x. refl) a (call_in operations c d) e (chosen (is_word (codes "call") b) (invoke_from operations a c d) e h)
 limit_from operations (a ∷ b ∷ c ∷ d ∷ x ∷ ds) e h = absurd cc
 
-array_limit : (operations : List Operation) (o : Option Items) (e : Event) → option_and_then (λ ds. event_from operations (values_in ds)) o ≡ Some e → client_of e ≤ 1000000
+array_limit : (operations : List Operation) (o : Option Items) (e : Event) → option_and_then (λ ds. event_from operations (values_in ds)) o ≡ Some e → client_of e ≤ client_limit
 array_limit operations None e h = absurd cc
 array_limit operations (Some ds) e h = limit_from operations (values_in ds) e h
 
 -- the client of an event is within the limit
-pub within_limit : (operations : List Operation) (d : Data) (e : Event) → event_in operations d ≡ Some e → client_of e ≤ 1000000
+pub within_limit : (operations : List Operation) (d : Data) (e : Event) → event_in operations d ≡ Some e → client_of e ≤ client_limit
 within_limit operations d e h = array_limit operations (as_array d) e h

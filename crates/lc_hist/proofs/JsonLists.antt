@@ -48,23 +48,6 @@ take-next [] i x at = absurd cc
 take-next (z ∷ xs) zero x at = let same : z ≡ x = cc in rw same refl
 take-next (z ∷ xs) (suc i) x at = ap (λ ys. z ∷ ys) (take-next xs i x at)
 
--- a list of so many elements
-pub three_items : {A : Type 0} (xs : List A) (a b c : A) → length xs ≡ 3 → slice_get xs 0 ≡ Some a → slice_get xs 1 ≡ Some b → slice_get xs 2 ≡ Some c → xs ≡ a ∷ b ∷ c ∷ []
-three_items [] a b c l p q r = absurd cc
-three_items (x ∷ []) a b c l p q r = absurd cc
-three_items (x ∷ y ∷ []) a b c l p q r = absurd cc
-three_items (x ∷ y ∷ z ∷ []) a b c l p q r = let e : x ≡ a = cc in let f : y ≡ b = cc in let g : z ≡ c = cc in rw (e, f, g) refl
-three_items (x ∷ y ∷ z ∷ w ∷ xs) a b c l p q r = absurd (omega arith)
-
-pub four_items : {A : Type 0} (xs : List A) (a b c d : A) → length xs ≡ 4 → slice_get xs 0 ≡ Some a → slice_get xs 1 ≡ Some b → slice_get xs 2 ≡ Some c → slice_get xs 3 ≡ Some d → xs ≡ a ∷ b ∷ c ∷ d ∷ []
-four_items [] a b c d l p q r s = absurd cc
-four_items (x ∷ []) a b c d l p q r s = absurd cc
-four_items (x ∷ y ∷ []) a b c d l p q r s = absurd cc
-four_items (x ∷ y ∷ z ∷ []) a b c d l p q r s = absurd cc
-four_items (x ∷ y ∷ z ∷ w ∷ []) a b c d l p q r s =
-    let e : x ≡ a = cc in let f : y ≡ b = cc in let g : z ≡ c = cc in let h : w ≡ d = cc in rw (e, f, g, h) refl
-four_items (x ∷ y ∷ z ∷ w ∷ v ∷ xs) a b c d l p q r s = absurd (omega arith)
-
 each_last : {A : Type 0} (P : A → Type 0) (x : A) → P x → (j : ℕ) (y : A) → slice_get (x ∷ []) j ≡ Some y → P y
 each_last P x here zero y at = let same : x ≡ y = cc in subst P same here
 each_last P x here (suc j) y at = absurd cc

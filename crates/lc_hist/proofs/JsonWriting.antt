@@ -2,6 +2,7 @@
 use Rattle.std.proofs.Common.{◌≡◌, ℕ, suc, ◌≤◌, Bool, true, false, cond, ℤ, pos, negsuc, List, [], ◌∷◌, ◌++◌, Option, Some, None, option_map, option_and_then, map, slice_get, length, codes, refl, ap, sym, subst, ◌∙◌, arith, append_assoc, append-nil}
 use Rattle.std.specs.Prelude.{bytes_eq, nat_le, nat_lt}
 use Rattle.std.proofs.lemmas.Bool.{and_parts, eqb-true}
+use Rattle.lc_base.specs.Limits.{client_limit}
 use Rattle.serde_json.specs.Data.{Data, number, string, object, member, no_members, unsigned, depth, items_depth}
 use Rattle.serde_json.specs.Read.{read}
 use Rattle.serde_json.specs.View.{items_of}
@@ -137,7 +138,7 @@ named_call operations differ call said (Some o) at kept h = by (operation_of ope
         ap (λ z. record { op = z; numbers = call.numbers }) (sym same) ∙ numbered
 
 client_is : (c : ℕ) (k : ℕ) → client_in (number (unsigned c)) ≡ Some k → c ≡ k
-client_is c k h = within (nat_le c 1000000) c k h
+client_is c k h = within (nat_le c client_limit) c k h
 
 pub event_is : (operations : List Operation) → NamesDiffer operations → (e said : Event) → IsKeptEvent e → event_in operations (event_data operations e) ≡ Some said → e ≡ said
 event_is operations differ (Called c call) said kept h =

@@ -1,21 +1,21 @@
-pub mod Clients
-pub mod Places
-pub mod Picked
-pub mod Calls
-pub mod Order
-pub mod Checks
-pub mod Naming
-pub mod Preceded
-pub mod Replays
+mod Clients
+mod Places
+mod Picked
+mod Calls
+mod Order
+mod Checks
+mod Naming
+mod Preceded
+mod Replays
 pub mod Tables
-pub mod Turns
-pub mod JsonLists
-pub mod JsonEvents
-pub mod NamesApart
-pub mod JsonWriting
-pub mod JsonNames
-pub mod JsonAlways
-pub mod JsonAnswers
+mod Turns
+mod JsonLists
+mod JsonEvents
+mod NamesApart
+mod JsonWriting
+mod JsonNames
+mod JsonAlways
+mod JsonAnswers
 pub mod JsonOnce
 pub mod OneJudgement
-pub mod Following
+mod Following

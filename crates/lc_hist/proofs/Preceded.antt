@@ -17,14 +17,6 @@ preceded-at [] n s at = absurd cc
 preceded-at (t ∷ spans) zero s at = let e : t ≡ s = cc in ap (is_before (earliest_return spans)) e
 preceded-at (t ∷ spans) (suc n) s at = rw (add-one (suc n)) (rw (add-one n) at (preceded-at spans n s at))
 
-pub earlier-none : (e : Option ℕ) → earlier e None ≡ e
-earlier-none None = refl
-earlier-none (Some r) = refl
-
-pub before-none : (e : Option ℕ) → is_before e None ≡ false
-before-none None = refl
-before-none (Some r) = refl
-
 pub preceded_next : (spans : List (Option Span)) (flags : List Bool) (m n : ℕ) (s : Option Span) (b : Bool) (e : Option ℕ) → m ≡ n + 1 → length flags ≡ length spans → n < length spans
     → slice_get spans n ≡ Some s → ((p : ℕ) → m ≤ p → p < length spans → slice_get flags p ≡ Some (is_preceded spans p)) → e ≡ earliest_return (drop m spans) → b ≡ is_before e s
     → (p : ℕ) → n ≤ p → p < length spans → slice_get (set flags n b) p ≡ Some (is_preceded spans p)
@@ -40,9 +32,6 @@ pub earliest_next : (spans : List (Option Span)) (m n : ℕ) (s : Option Span) (
     → f ≡ earliest_return (drop n spans)
 earliest_next spans m n s e f next at is then =
     then ∙ ap (λ z. earlier z (return_of s)) is ∙ ap (λ k. earlier (earliest_return (drop k spans)) (return_of s)) next ∙ sym (earliest-drop spans n s at)
-
-min-below : (a b : ℕ) → (min a b ≤ a) × (min a b ≤ b)
-min-below a b = (omega arith, omega arith)
 
 -- the earliest return is that of one of the calls
 pub record IsEarliest (spans : List (Option Span)) (r : ℕ) : Type 0 where

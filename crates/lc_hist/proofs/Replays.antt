@@ -79,9 +79,6 @@ pub take_whole : {A : Type 0} (xs : List A) → take (length xs) xs ≡ xs
 take_whole [] = refl
 take_whole (x ∷ xs) = ap (λ ys. x ∷ ys) (take_whole xs)
 
-pub fits_all : {A : Type 0} (step : Sequential A) (Fits : A → ℕ → Call → Choice → Type 0) (s : A) (order : List Entry) → FitsAlong step Fits s (take (length order) order) → FitsAlong step Fits s order
-fits_all step Fits s order fits = subst (FitsAlong step Fits s) (take_whole order) fits
-
 this_entry : (order : List Entry) (p : ℕ) (e d : Entry) → slice_get order p ≡ Some e → slice_get order p ≡ Some d → e ≡ d
 this_entry order p e d at is = cc
 

@@ -4,6 +4,7 @@ use mathlib.Core.Bool.{beq}
 use Rattle.std.proofs.lemmas.Bool.{cases_order}
 use Rattle.std.proofs.lemmas.Bool.Decides.{eqb_tells}
 use Rattle.std.proofs.lemmas.Option.{slice_get-map, slice_get_read, slice_get_within}
+use Rattle.lc_base.specs.Limits.{client_limit}
 use Rattle.lc_hist.specs.History.{Event, Called, Replied, is_call, is_return, count}
 use Rattle.lc_hist.specs.WellFormed.{client_of, begins, IsInTurn, IsWellFormed, IsFirstOutOfTurn}
 use Rattle.lc_hist.specs.View.{event_of, events_of}
@@ -52,7 +53,7 @@ agree true false h = absurd cc
 agree false true h = absurd cc
 agree false false h = refl
 
-pub is_in_turn : (h : List Event) (e : Event) (busy : ℕ → Bool) → AreBusy h busy → client_of e ≤ 1000000 → busy (client_of e) ≡ not (begins e) → IsInTurn h e
+pub is_in_turn : (h : List Event) (e : Event) (busy : ℕ → Bool) → AreBusy h busy → client_of e ≤ client_limit → busy (client_of e) ≡ not (begins e) → IsInTurn h e
 is_in_turn h (Called d call) busy are le is = record {
   called = λ c k same. let e : d ≡ c = cc in subst (λ z. count (is_call z) h ≡ count (is_return z) h) e (rw is at (are d));
   replied = λ c r same. absurd cc;

@@ -8,6 +8,7 @@ use Rattle.serde_json.specs.Read.{read}
 use Rattle.lc_base.specs.declared.refusal.Fault.{Fault}
 use Rattle.lc_base.specs.declared.refusal.Fault.TheVariants.{Refused, OutOfMemory}
 use Rattle.lc_base.specs.declared.refusal.Refusal.TheVariants.{HistoryShape}
+use Rattle.lc_base.specs.Limits.{file_limit}
 use Rattle.lc_seq.specs.Sequential.{Call}
 use Rattle.lc_seq.specs.Specification.{Operation}
 use Rattle.lc_seq.specs.SpecView.{text_call_of, choice_of}
@@ -82,7 +83,7 @@ parts_in d = option_and_then (parts_of d) (as_object d)
 
 -- the bytes are within the limit of a file, and JSON of an object with these two arrays
 pub record HasParts (bytes : List ℕ) (parts : Parts) : Type 0 where
-  pub limit : length bytes ≤ 16777216
+  pub limit : length bytes ≤ file_limit
   pub utf8 : IsUtf8 bytes
   pub reads : option_and_then parts_in (read bytes) ≡ Some parts
 

@@ -6,6 +6,7 @@ use Rattle.std.specs.Borrow.{Bor}
 use Rattle.serde_json.specs.View.{view}
 use Rattle.serde_json.specs.declared.value.Value.{Value}
 use Rattle.lc_base.specs.declared.ids.OpId.{OpId}
+use Rattle.lc_base.specs.Limits.{file_limit}
 use Rattle.lc_seq.specs.Specification.{Operation}
 use Rattle.lc_seq.specs.SpecView.{operations_of}
 use Rattle.lc_hist.specs.History.{Event, Called, Replied}
@@ -58,7 +59,7 @@ IsWrongEntryItem operations ds before item = (place : ℕ) × IsFirstWrongEntry 
 
 -- the bytes are JSON of this value, within the limit of a file
 pub record HasValue (bytes : List ℕ) (d : Data) : Type 0 where
-  pub limit : length bytes ≤ 16777216
+  pub limit : length bytes ≤ file_limit
   pub utf8 : IsUtf8 bytes
   pub reads : read bytes ≡ Some d
 

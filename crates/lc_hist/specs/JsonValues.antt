@@ -3,6 +3,7 @@ use Rattle.std.specs.Prelude.{ℕ, suc, ◌==◌, Bool, false, List, [], ◌∷�
 use Rattle.serde_json.specs.Data.{Data, Items, no_items, item}
 use Rattle.serde_json.specs.Find.{as_number, as_i64, as_u64, as_array, as_str}
 use Rattle.std.specs.List.{list_any}
+use Rattle.lc_base.specs.Limits.{client_limit}
 use Rattle.lc_seq.specs.Sequential.{Call, Choice, InOrder, ByName}
 use Rattle.lc_seq.specs.Specification.{Operation, agree, takes}
 use Rattle.lc_hist.specs.History.{Event, Called, Replied, Entry}
@@ -27,7 +28,7 @@ numbers_in d = option_and_then (λ ds. all_in number_in (values_in ds)) (as_arra
 
 -- the number, if it is within the limit of clients
 abbrev pub client_within : ℕ → Option ℕ
-client_within n = if nat_le n 1000000 then Some n else None
+client_within n = if nat_le n client_limit then Some n else None
 
 -- a client: an integer from 0 to the limit
 abbrev pub client_in : Data → Option ℕ

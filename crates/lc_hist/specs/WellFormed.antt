@@ -1,5 +1,6 @@
 -- Which lists of events are histories.
 use Rattle.std.specs.Prelude.{◌≡◌, ◌≤◌, ℕ, suc, Bool, true, false, List, ℤ, Some, take, slice_get}
+use Rattle.lc_base.specs.Limits.{client_limit}
 use Rattle.lc_seq.specs.Sequential.{Call}
 use Rattle.lc_hist.specs.History.{Event, Called, Replied, is_call, is_return, count}
 
@@ -17,7 +18,7 @@ begins (Replied c reply) = false
 pub record IsInTurn (before : List Event) (event : Event) : Type 0 where
   pub called : (c : ℕ) (call : Call) → event ≡ Called c call → count (is_call c) before ≡ count (is_return c) before
   pub replied : (c : ℕ) (reply : List ℤ) → event ≡ Replied c reply → count (is_call c) before ≡ suc (count (is_return c) before)
-  pub client : client_of event ≤ 1000000
+  pub client : client_of event ≤ client_limit
 
 -- each client's calls and returns take turns, beginning with a call, and each client's number is within the limit
 pub record IsWellFormed (history : List Event) : Type 0 where

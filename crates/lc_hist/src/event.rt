@@ -1,11 +1,9 @@
+//! The events of histories and the entries of orders.
 ghost use Rattle.std.specs.Prelude.{◌≡◌};
 ghost use Rattle.lc_hist.specs.View.{event_of};
 ghost use Rattle.lc_hist.specs.WellFormed.{client_of, begins};
 
 use lc_base::OpId;
-
-/// The largest number of a client in a history.
-pub const CLIENT_LIMIT: u32 = 1_000_000;
 
 /// What a client of an object does.
 #[derive(Drop)]

@@ -1,9 +1,10 @@
+//! The type of histories, in which the calls and returns of each client take turns.
 ghost use Rattle.std.specs.Prelude.{IfOk, MatchOption};
 ghost use Rattle.lc_hist.specs.View.{events_of};
 ghost use Rattle.lc_hist.specs.WellFormed.{IsWellFormed, IsFirstOutOfTurn};
 
-use crate::event::{CLIENT_LIMIT, Event};
-use lc_base::OutOfMemory;
+use crate::event::Event;
+use lc_base::{CLIENT_LIMIT, OutOfMemory};
 use std::alloc::Global;
 use thiserror::Error;
 

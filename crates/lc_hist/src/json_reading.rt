@@ -1,3 +1,4 @@
+//! How the text of a history and its order is read: its bytes, and its two lists.
 ghost use Rattle.std.specs.Prelude.{◌≡◌, ◌+◌, ◌<◌, ◌^◌, length, map, option_map, MatchOption, IfOk, MatchResult};
 ghost use Rattle.serde_json.specs.View.{view};
 ghost use Rattle.lc_seq.specs.TextView.{specification_of};
@@ -11,13 +12,10 @@ use crate::history::History;
 use crate::json_values::{read_entry, read_event};
 use crate::open_calls::{OpenCalls, opened};
 use crate::operations::Operations;
-use lc_base::{Fault, OpId, OutOfMemory, Refusal};
+use lc_base::{FILE_LIMIT, Fault, OpId, OutOfMemory, Refusal};
 use lc_seq::{Pick, TextCall, TextSpec};
 use serde_json::Value;
 use std::alloc::Global;
-
-/// The most bytes of a text.
-const FILE_LIMIT: usize = 16_777_216;
 
 /// The values of the events, and those of the order.
 #[derive(Clone, Copy)]
@@ -49,7 +47,7 @@ fn parse(alloc: Global, bytes: &[u8]) -> Result<Option<Value>, OutOfMemory>
     ensures { IfOk result (λ found. MatchOption found
         (IsNoJson bytes.now) (λ value. HasValue bytes.now (view value))) }
 {
-    if bytes.len() > FILE_LIMIT {
+    if bytes.len() as u64 > FILE_LIMIT {
         return Ok(None);
     }
     match Value::from_slice(alloc, bytes) {

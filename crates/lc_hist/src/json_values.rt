@@ -1,3 +1,4 @@
+//! How the values of a text are read: clients, calls, returns, entries and choices.
 ghost use Rattle.std.specs.Prelude.{◌≡◌, IfOk, option_map, option_and_then, map, codes};
 ghost use Rattle.serde_json.specs.View.{view};
 ghost use Rattle.lc_seq.specs.SpecView.{text_call_of, choice_of};
@@ -6,9 +7,9 @@ ghost use Rattle.lc_hist.specs.JsonHistories.{entry_seen};
 ghost use Rattle.lc_hist.specs.JsonValues.{numbers_in, client_in, is_word, call_in, invoke_from, respond_from, event_from, event_in, pick_in, choice_from, choice_with, done_from, entry_from, entry_in};
 ghost use Rattle.lc_hist.specs.View.{event_of};
 
-use crate::event::{CLIENT_LIMIT, Done, Event};
+use crate::event::{Done, Event};
 use crate::operations::Operations;
-use lc_base::{OpId, OutOfMemory};
+use lc_base::{CLIENT_LIMIT, OpId, OutOfMemory};
 use lc_seq::{Pick, TextCall};
 use serde_json::Value;
 use std::alloc::Global;

@@ -1,3 +1,4 @@
+//! How a history and its order are written.
 ghost use Rattle.std.specs.Prelude.{◌≡◌, [], ◌∷◌, Some, IfOk, codes, map};
 ghost use Rattle.serde_json.specs.Data.{number, unsigned, string, object, member, no_members};
 ghost use Rattle.serde_json.specs.View.{view};
@@ -78,7 +79,7 @@ fn done_value(
     Ok(Value::from(items))
 }
 
-/// The same, and behind these a choice.
+/// `[CLIENT,NAME,[NUMBER,..],[NUMBER,..],CHOICE]`
 fn chosen_value(
     alloc: Global,
     client: u32,

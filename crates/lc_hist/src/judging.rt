@@ -1,3 +1,4 @@
+//! Whether an order linearizes a history: its tests, in their order.
 ghost use Rattle.std.specs.Prelude.{◌≡◌, ◌↔◌, IfOk, IsTrue, length};
 ghost use Rattle.lc_hist.specs.Checked.{IsWithin, IsNamed, IsReplied, IsTaken, IsChecked, AreNames, IsReplayed};
 ghost use Rattle.lc_hist.specs.Histories.{events_in};

@@ -13,7 +13,7 @@ mod operations;
 mod reason;
 mod spans;
 
-pub use event::{CLIENT_LIMIT, Done, Event};
+pub use event::{Done, Event};
 pub use history::{History, HistoryFault};
 pub use json_reading::history_from_json;
 pub use json_writing::history_to_json;

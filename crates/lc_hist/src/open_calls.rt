@@ -1,3 +1,4 @@
+//! In whose call each client is, behind a beginning of a history.
 ghost use Rattle.std.specs.Prelude.{◌≡◌};
 ghost use Rattle.lc_hist.specs.JsonSeen.{number_of, opened};
 ghost use Rattle.lc_hist.specs.View.{event_of};

@@ -1,3 +1,4 @@
+//! The operations of a specification, found by their names.
 ghost use Rattle.std.specs.Prelude.{◌≡◌, ℕ, List, true, false, Some, None, OnOk, MatchOption, if◌then◌else◌, bytes_eq};
 ghost use Rattle.std.specs.List.{list_any};
 ghost use Rattle.lc_base.specs.Name.{bytes_of};

@@ -1,3 +1,4 @@
+//! Why an order does not linearize a history, and the numbers of these reasons.
 ghost use Rattle.std.specs.Prelude.{◌≡◌};
 ghost use Rattle.lc_hist.specs.Reason.{code_of};
 

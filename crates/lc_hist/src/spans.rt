@@ -1,3 +1,4 @@
+//! The calls of each client, from their beginning to their return.
 ghost use Rattle.std.specs.Prelude.{◌≡◌, ◌<◌, ◌≤◌, ◌↔◌, ◌+◌, ℕ, List, [], Some, OnOk, IfOk, IsTrue, All, length, slice_get};
 ghost use Rattle.lc_hist.specs.History.{count, is_of};
 ghost use Rattle.lc_hist.specs.Spans.{AreClients, HaveSeen, one_more, earlier, span_of, is_before, is_preceded, return_of};

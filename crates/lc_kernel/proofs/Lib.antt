@@ -1,16 +1,16 @@
 pub mod Views
-pub mod Numbered
-pub mod Entries
-pub mod Quotients
+mod Numbered
+mod Entries
+mod Quotients
 pub mod InUse
-pub mod Found
-pub mod Holding
-pub mod Kept
+mod Found
+mod Holding
+mod Kept
 pub mod Sound
-pub mod Decided
-pub mod Once
-pub mod Grows
+mod Decided
+mod Once
+mod Grows
 pub mod First
-pub mod Branches
+mod Branches
 pub mod Checked
-pub mod Stores
+mod Stores

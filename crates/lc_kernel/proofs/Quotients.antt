@@ -80,11 +80,3 @@ module _ (ts : Table) (t : Term) (k : ℤ) (form : LinForm) (is : IsFormIn ts fo
   pub right_quotient : (f : Formula) (divided : LinForm) (claimed : Option LinForm) → HasForm t → GivesClaim ts (excess f) (Ok claimed) → IsDivided (numbers form) k (numbers divided) →
       IsClaimed (numbers divided) claimed → HasForm t × CanCompare (excess f) × IsQuotient t k (excess f)
   right_quotient f divided claimed fits claim h same = (fits, can_compare ts (excess f) claimed claim, quotient_claimed divided (excess f) claimed claim h same)
-
--- what is told of a quotient that is refused
-pub refused_meets : (ts : Table) (v : ℕ) (f : Formula) (t : Term) (k : ℤ) (e : StepFault) → TestsQuotient f t k (Err e) → Meets ts (QuotientGives v f t k) (Err e)
-refused_meets ts v f t k (Flawed Large) h = h
-refused_meets ts v f t k (Flawed (Bad NotDivisible)) h = h
-refused_meets ts v f t k (Flawed (Bad WrongQuotient)) h = h
-refused_meets ts v f t k (Flawed (Bad _)) h = absurd h
-refused_meets ts v f t k OutOfMemory h = tt

@@ -1,3 +1,4 @@
+//! Whether the free variables of terms and formulas have numbers below a count.
 ghost use Rattle.std.specs.Prelude.{◌≡◌};
 ghost use Rattle.lc_kernel.specs.Below.{below, term_below, column_below, formula_below};
 ghost use Rattle.lc_term.specs.Places.{all_pass};
@@ -22,7 +23,7 @@ pub(crate) fn term_below(count: u32, term: &Term) -> bool
     }
 }
 
-/// The same of a column expression.
+/// Whether each free variable of a column expression has a number below the count.
 #[cycle(term_below)]
 pub(crate) fn column_below(count: u32, column: &ColExpr) -> bool
     ensures { result ≡ column_below count (column_of column.now) }
@@ -41,7 +42,7 @@ pub(crate) fn column_below(count: u32, column: &ColExpr) -> bool
     }
 }
 
-/// The same of a formula.
+/// Whether each free variable of a formula has a number below the count.
 #[cycle(formula_below)]
 pub(crate) fn formula_below(count: u32, formula: &Formula) -> bool
     ensures { result ≡ formula_below count (formula_of formula.now) }

@@ -1,3 +1,4 @@
+//! Why a proof is not found to derive its goal.
 ghost use Rattle.std.specs.Prelude.{◌≡◌};
 
 use crate::reason::{Flaw, Reason};

@@ -1,3 +1,4 @@
+//! The type of goals: hypotheses and a formula, by numbers of one table.
 ghost use Rattle.std.specs.Prelude.{◌≡◌, ◌&&◌, IfOk};
 ghost use Rattle.lc_kernel.specs.Below.{all_below, formula_below};
 ghost use Rattle.lc_table.specs.Tables.{formula_in, formulas_in, IsFormula, AreFormulas};

@@ -1,3 +1,4 @@
+//! What a step opens: branches, and the formulas that each of them gains.
 ghost use Rattle.std.specs.Prelude.{◌≡◌, ◌==◌, ◌<◌, ◌++◌, OnOk, IfOk};
 ghost use Rattle.lc_kernel.specs.Answers.{Tests};
 ghost use Rattle.lc_kernel.specs.Branches.{branches_in, AreBranches, branch_count, branch_at};

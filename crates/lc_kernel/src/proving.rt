@@ -1,3 +1,4 @@
+//! How a proof is checked against a goal: step by step, in preorder.
 ghost use Rattle.std.specs.Prelude.{◌≡◌, ◌+◌, ◌<◌, ◌^◌, ◌++◌, [], ◌∷◌, IsTrue, IfOk};
 ghost use Rattle.lc_kernel.specs.Answers.{Proves};
 ghost use Rattle.lc_kernel.specs.Below.{all_below, formula_below};

@@ -1,3 +1,4 @@
+//! Why a step does not hold, and the numbers of these reasons.
 ghost use Rattle.std.specs.Prelude.{◌≡◌};
 ghost use Rattle.lc_kernel.specs.Reasons.{code_of};
 

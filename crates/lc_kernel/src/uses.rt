@@ -244,7 +244,7 @@ fn is_formula_node_below(
     }
 }
 
-/// The same of each formula of a list.
+/// Whether each free variable of each formula of a list has a number below the count.
 #[cycle(is_formula_below)]
 pub(crate) fn are_formulas_below(
     terms: &Terms,

@@ -1,1 +1,1 @@
-pub mod Made
+mod Made

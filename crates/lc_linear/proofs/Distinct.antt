@@ -98,9 +98,6 @@ entry_found all so_far e here = ap (λ l. coefficient_in l e.0) here.whole ∙ c
 pub record Vanishes (es : List (TermId × ℤ)) : Type 0 where
   pub zero : (a : TermId) → coefficient_in es a ≡ pos 0
 
-pub nothing_there : Vanishes []
-nothing_there = record { zero = λ a. refl }
-
 pub one_more_zero : (es : List (TermId × ℤ)) (x : TermId) (n : ℤ) → Absent x es → n ≡ pos 0 → Vanishes es → Vanishes (es ++ (x, n) ∷ [])
 one_more_zero es x n fresh is so_far = record {
   zero = λ a.

@@ -1,19 +1,19 @@
 pub mod Numbers
-pub mod Faults
-pub mod Products
-pub mod Weights
-pub mod Ids
-pub mod Entries
-pub mod Atoms
-pub mod Multiples
-pub mod Distinct
-pub mod Adding
-pub mod Parts
+mod Faults
+mod Products
+mod Weights
+mod Ids
+mod Entries
+mod Atoms
+mod Multiples
+mod Distinct
+mod Adding
+mod Parts
 pub mod Sums
 pub mod Division
-pub mod Quotients
-pub mod Meaning
+mod Quotients
+mod Meaning
 pub mod Refutes
-pub mod Sameness
+mod Sameness
 pub mod InTables
-pub mod Made
+mod Made

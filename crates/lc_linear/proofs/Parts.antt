@@ -26,14 +26,6 @@ pub number_form-zero : (p : Place) → number_form (pos 0) p ≡ pos 0
 number_form-zero None = refl
 number_form-zero (Some a) = refl
 
--- what is added once to the form that is 0
-pub added_to_zero : (zero new f : Form) → ((p : Place) → zero p ≡ number_form (pos 0) p) → ((p : Place) → new p ≡ zero p +ℤ pos 1 *ℤ f p) → (p : Place) → new p ≡ f p
-added_to_zero zero new f nothing sum p =
-    let z = nothing p in
-    let none = number_form-zero p in
-    let e = sum p in
-    omega (arith, ints)
-
 -- a product's form is that of 0 with so many times its factor's form added
 module _ (zero factor : Form) (n k : ℤ) (t u : S.Term) (is : u ≡ S.Multiply n t) (is_n : k ≡ n) (nothing : (p : Place) → zero p ≡ number_form (pos 0) p) (form : (p : Place) → factor p ≡ form_of t p) where
   product : (p : Place) → k *ℤ factor p ≡ n *ℤ form_of t p

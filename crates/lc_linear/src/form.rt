@@ -1,3 +1,4 @@
+//! Linear forms over the atoms of a table.
 ghost use Rattle.lc_linear.specs.Numbered.{AllFit};
 
 mod arithmetic;

@@ -5,6 +5,7 @@ use Rattle.std.specs.List.{list_all}
 use Rattle.std.proofs.lemmas.Bool.Decides.{nat_tests}
 use Rattle.std.proofs.lemmas.List.{length-append, length-map, length-replicate}
 use Rattle.std.proofs.lemmas.Option.{slice_get-map, slice_get_read}
+use Rattle.lc_base.specs.Limits.{width_limit}
 use Rattle.lc_object.specs.Syntax.{Array, Object}
 pub use Rattle.lc_object.proofs.ObjectParts.{operations_pass}
 use Rattle.lc_object.specs.WellFormed.{is_object, is_array, is_point}
@@ -17,10 +18,6 @@ pub initial_count : (object : Object) → length (initial_numbers object) ≡ le
 initial_count object =
     length-append (replicate (length object.abstracts) (pos 0, pos 0)) (map (λ c. (c.slope, c.start)) object.concretes) ∙
     ap₂ (λ a b. a + b) (length-replicate (length object.abstracts) (pos 0, pos 0)) (length-map object.concretes (λ c. (c.slope, c.start)))
-
--- the parts of the test of an object
-pub operations_few : (object : Object) → is_object object ≡ true → nat_le (length object.operations) 16 ≡ true
-operations_few object e = right_true _ _ (left_true _ _ (left_true _ _ (left_true _ _ (left_true _ _ e))))
 
 pub arrays_pass : (object : Object) → is_object object ≡ true → list_all (is_array object) object.arrays ≡ true
 arrays_pass object e = right_true _ _ (left_true _ _ (left_true _ _ e))
@@ -37,7 +34,7 @@ concrete_below first count (c ∷ cs) e =
     (grind (arith, nat_tests), concrete_below first count cs (right_true (nat_le first c && nat_lt (c - first) count) _ e))
 
 -- an array has at most four columns
-pub few_columns : (object : Object) (k : ℕ) (a : Array) → is_object object ≡ true → slice_get object.arrays k ≡ Some a → length a.columns ≤ 4
+pub few_columns : (object : Object) (k : ℕ) (a : Array) → is_object object ≡ true → slice_get object.arrays k ≡ Some a → length a.columns ≤ width_limit
 few_columns object k a e f =
     let array = at_all (is_array object) object.arrays k a (arrays_pass object e) f in
     let few : nat_le (length a.columns) 4 ≡ true = right_true _ _ (left_true _ _ (left_true _ _ array)) in

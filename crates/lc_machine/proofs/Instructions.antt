@@ -4,11 +4,11 @@ use Rattle.std.proofs.lemmas.List.{length-map}
 use Rattle.std.specs.Ordering.{int_eq}
 use Rattle.std.specs.Cmp.Lexicographic.{pointwise}
 use Rattle.std.specs.Cmp.Rules.{signed_items}
-use Rattle.lc_term.specs.Syntax.{Term, Formula}
-use Rattle.lc_term.specs.Meaning.{State, outside, Holds}
-use Rattle.lc_term.specs.Reached.{TermFits, TermsFit, FormulaFits}
+use Rattle.lc_term.specs.Syntax.{Term}
+use Rattle.lc_term.specs.Meaning.{State}
+use Rattle.lc_term.specs.Reached.{TermFits, TermsFit}
 use Rattle.lc_term.specs.Updates.{Write, cell_writes, stored_all, AreWithin}
-use Rattle.lc_object.specs.Syntax.{Instr, Load, Store, Cas, Set, Faa, If, Return, Object}
+use Rattle.lc_object.specs.Syntax.{Instr, Load, Store, Cas, Set, Faa, Return, Object}
 use Rattle.lc_object.specs.declared.instr.EdgeKind.{EdgeKind}
 use Rattle.lc_object.specs.declared.instr.EdgeKind.TheVariants.{Next, Then, Else}
 use Rattle.lc_machine.specs.World.{variable, initial_numbers}
@@ -86,27 +86,10 @@ adds object s vs a t rs ds l i cs ns ms ks ws e fits index ds_fit added columns 
     (label ∙ ap Some (sym (assigned_length vs rs ns)))
     (subst (AreWithin (length (initial_numbers object))) (sym writes) (row_within (length (initial_numbers object)) cs i ks there))
 
--- a sum that does not fit
-pub not_added : (object : Object) (s : State) (vs : List ℤ) (a : ℕ) (t : Term) (rs : List ℕ) (ds : List Term) (l : ℕ) (i : ℤ) (cs : List ℕ) (ns ms : List ℤ) →
-    i ≡ number s vs t → ms ≡ numbers s vs ds → cs ≡ array_columns object a → ns ≡ row s cs i →
-    (NumbersFit (sums ns ms) → ⊥) → InstructionFits object s vs (Faa a t rs ds l) → ⊥
-not_added object s vs a t rs ds l i cs ns ms index added columns read wrong fits =
-    wrong (subst NumbersFit (sym (ap₂ sums (read ∙ ap₂ (row s) columns index) added)) fits.3)
-
 -- a cell that does not
 pub not_read : (object : Object) (s : State) (vs : List ℤ) (a : ℕ) (t : Term) (rs : List ℕ) (ds : List Term) (l : ℕ) (i : ℤ) (cs : List ℕ) →
     i ≡ number s vs t → cs ≡ array_columns object a → (RowFits s cs i → ⊥) → InstructionFits object s vs (Faa a t rs ds l) → ⊥
 not_read object s vs a t rs ds l i cs index columns wrong fits = wrong (subst (λ x. x) (sym (ap₂ (RowFits s) columns index)) fits.2)
-
-pub tests_true : (object : Object) (s : State) (vs : List ℤ) (f : Formula) (l m : ℕ) (e : Effect) →
-    FormulaFits s (variable vs) f → Holds s (variable vs) outside f → variables_at object l ≡ Some (length vs) → HasParts Then [] (Goes l vs) e → IsEffect object (If f l m) s vs (Ok e)
-tests_true object s vs f l m e fits holds label parts =
-    effect_is object (If f l m) s vs Then [] (Goes l vs) e parts fits (inl (holds, refl, refl, refl)) label tt
-
-pub tests_false : (object : Object) (s : State) (vs : List ℤ) (f : Formula) (l m : ℕ) (e : Effect) →
-    FormulaFits s (variable vs) f → (Holds s (variable vs) outside f → ⊥) → variables_at object m ≡ Some (length vs) → HasParts Else [] (Goes m vs) e → IsEffect object (If f l m) s vs (Ok e)
-tests_false object s vs f l m e fits fails label parts =
-    effect_is object (If f l m) s vs Else [] (Goes m vs) e parts fits (inr (fails, refl, refl, refl)) label tt
 
 pub answers : (object : Object) (s : State) (vs : List ℤ) (us : List Term) (ns : List ℤ) (e : Effect) →
     TermsFit s (variable vs) us → ns ≡ numbers s vs us → length us ≤ 3 → HasParts Next [] (Answers ns) e → IsEffect object (Return us) s vs (Ok e)

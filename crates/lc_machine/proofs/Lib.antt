@@ -1,13 +1,13 @@
 pub mod Known
-pub mod RowWrites
+mod RowWrites
 pub mod Lengths
-pub mod ArrayColumns
-pub mod Going
-pub mod Instructions
+mod ArrayColumns
+mod Going
+mod Instructions
 pub mod Promised
-pub mod Stepping
-pub mod Worlds
+mod Stepping
+mod Worlds
 pub mod EdgeLaw
 pub mod Bodies
 pub mod Over
-pub mod Sums
+mod Sums

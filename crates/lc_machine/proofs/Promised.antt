@@ -6,6 +6,7 @@ use Rattle.std.proofs.lemmas.Bool.Decides.{nat_tests}
 use Rattle.std.proofs.lemmas.List.{length-append, length-replicate}
 use Rattle.std.proofs.lemmas.Bool.{eqb-true}
 use Rattle.std.proofs.lemmas.Option.{same_Some, slice_get_within}
+use Rattle.lc_base.specs.Limits.{local_limit, width_limit}
 use Rattle.lc_object.specs.Syntax.{Instr, Load, Store, Cas, Set, Faa, If, Return, Array, Operation, Point, Object}
 use Rattle.lc_object.proofs.ObjectParts.{first_stands}
 use Rattle.lc_object.specs.WellFormed.{is_object, is_point, is_instruction, is_label, is_first, has_width, has_limits, are_targets, are_operations, passes_at, variable_count}
@@ -35,7 +36,7 @@ row_at : (object : Object) → is_object object ≡ true → (a width : ℕ) (fo
 row_at object well a width None e h = cc
 row_at object well a width (Some array) e h =
     let wide = eqb-true (length array.columns) width h in
-    (slice_get_within object.arrays a array e, ap (λ f. length (columns_in f)) e ∙ wide, subst (λ n. n ≤ 4) wide (few_columns object a array well e))
+    (slice_get_within object.arrays a array e, ap (λ f. length (columns_in f)) e ∙ wide, subst (λ n. n ≤ width_limit) wide (few_columns object a array well e))
 
 row_of_width : (object : Object) → is_object object ≡ true → (a width : ℕ) → has_width object a width ≡ true → HasRow object a width
 row_of_width object well a width h = row_at object well a width (slice_get object.arrays a) refl h
@@ -50,8 +51,8 @@ below_from first end (r ∷ rs) h =
 targets_below : (o : Operation) (rs : List ℕ) → are_targets o rs ≡ true → AreBelow (variable_count o) rs
 targets_below o rs h = below_from (2 + length o.arguments) (variable_count o) rs (right_true _ _ (left_true _ _ h))
 
-targets_few : (o : Operation) (rs : List ℕ) → are_targets o rs ≡ true → length rs ≤ 16
-targets_few o rs h = le_from (length rs) 16 (left_true _ _ (left_true _ _ h))
+targets_few : (o : Operation) (rs : List ℕ) → are_targets o rs ≡ true → length rs ≤ local_limit
+targets_few o rs h = le_from (length rs) local_limit (left_true _ _ (left_true _ _ h))
 
 instruction_may_run : (object : Object) → is_object object ≡ true → (op : ℕ) (o : Operation) → slice_get object.operations op ≡ Some o → has_limits o ≡ true → (i : Instr) →
     is_instruction object op o i ≡ true → MayRun object (variable_count o) i
@@ -95,7 +96,7 @@ instruction_may_run object well op o e limits (If f l m) h =
     (left_true _ _ (left_true _ _ h), label object op l o e (right_true _ _ (left_true _ _ h)), label object op m o e (right_true _ _ h))
 instruction_may_run object well op o e limits (Return vs) h =
     let count = eqb-true (length vs) o.replies (left_true _ _ h) in
-    let few : o.replies ≤ 3 = le_from o.replies 3 (right_true (nat_le (length o.arguments) 3) (nat_le o.replies 3) (left_true (nat_le (length o.arguments) 3 && nat_le o.replies 3) (nat_le (length o.locals) 16) limits)) in
+    let few : o.replies ≤ 3 = le_from o.replies 3 (right_true (nat_le (length o.arguments) 3) (nat_le o.replies 3) (left_true (nat_le (length o.arguments) 3 && nat_le o.replies 3) (nat_le (length o.locals) local_limit) limits)) in
     (omega arith, right_true _ _ h)
 
 point_may_run : (object : Object) → is_object object ≡ true → (point : Point) (n : ℕ) (found : Option Operation) → slice_get object.operations point.operation ≡ found →

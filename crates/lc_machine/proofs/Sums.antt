@@ -24,11 +24,6 @@ sums_next xs ys i x y z zs new ex ey is fits pushed are =
       whole_fits = λ h. are.whole_fits (subst NumbersFit (sym front) (fits, h));
     }
 
--- a sum that does not fit
-pub sums_wrong : (xs ys : List ℤ) (i : ℕ) (x y : ℤ) (zs : List ℤ) → drop i xs ≡ x ∷ drop (i + 1) xs → drop i ys ≡ y ∷ drop (i + 1) ys → (FitsSigned w64 (x +ℤ y) → ⊥) →
-    AreSums xs ys i zs → NumbersFit (sums xs ys) → ⊥
-sums_wrong xs ys i x y zs ex ey wrong are h = wrong (subst NumbersFit (ap₂ sums ex ey) (are.rest_fits h)).0
-
 pub sums_length : (xs ys : List ℤ) → length xs ≡ length ys → length (sums xs ys) ≡ length xs
 sums_length [] ys e = refl
 sums_length (x ∷ xs) [] e = absurd (omega arith)

@@ -1,5 +1,6 @@
 -- What the machine answers, and the world after it.
 use Rattle.std.specs.Prelude.{◌≡◌, ℕ, ℤ, ◌≤◌, List, length, slice_get, Some, Result, Ok, Err}
+use Rattle.lc_base.specs.Limits.{reply_limit}
 use Rattle.lc_object.specs.Syntax.{Instr, Operation, Object}
 use Rattle.lc_machine.specs.World as W
 use Rattle.lc_machine.specs.World.{In, World}
@@ -23,7 +24,7 @@ StepOverflows object w c = (p : ℕ) × (variables : List ℤ) × (i : Instr) ×
 abbrev pub IsAdvanced : Object → World → ℕ → World → Result Moved StepFault → Type 0
 IsAdvanced object w c w' (Ok (Went point edge)) =
     StepFits object w c × ((left : ℕ) × Steps object w c (S.Moved left edge) w') × ((variables : List ℤ) × IsClient w' c (In point.0 variables))
-IsAdvanced object w c w' (Ok (Returned reply)) = StepFits object w c × Steps object w c (S.Returned reply.items) w' × (length reply.items ≤ 3)
+IsAdvanced object w c w' (Ok (Returned reply)) = StepFits object w c × Steps object w c (S.Returned reply.items) w' × (length reply.items ≤ reply_limit)
 IsAdvanced object w c w' (Err NoClient) = (length w.clients ≤ c) × (w' ≡ w)
 IsAdvanced object w c w' (Err Idle) = IsClient w c W.Idle × (w' ≡ w)
 IsAdvanced object w c w' (Err Overflow) = StepOverflows object w c × (w' ≡ w)

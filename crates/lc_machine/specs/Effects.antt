@@ -1,5 +1,6 @@
 -- What an instruction does, before it is done.
 use Rattle.std.specs.Prelude.{◌≡◌, ◌≤◌, List, length, Some, Result, Ok, Err, ℤ}
+use Rattle.lc_base.specs.Limits.{reply_limit}
 use Rattle.lc_term.specs.Meaning.{State}
 use Rattle.lc_term.specs.Updates.{Write, stored_all, AreWithin}
 use Rattle.lc_term.specs.UpdateView.{writes_shown}
@@ -31,7 +32,7 @@ HasParts edge writes outcome effect = (effect.edge ≡ edge) × (writes_in effec
 -- a client that goes to a point has the variables of that place; a call returns three numbers at most
 abbrev pub IsReached : Object → Outcome → Type 0
 IsReached object (S.Goes point variables) = variables_at object point ≡ Some (length variables)
-IsReached object (S.Answers numbers) = length numbers ≤ 3
+IsReached object (S.Answers numbers) = length numbers ≤ reply_limit
 
 -- the effect of an instruction: its step, where each number that is reached fits; or why there is none
 abbrev pub IsEffect : Object → Instr → State → List ℤ → Result Effect StepFault → Type 0

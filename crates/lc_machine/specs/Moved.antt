@@ -1,5 +1,6 @@
 -- What is answered where a client takes a step, or is to begin a call.
 use Rattle.std.specs.Prelude.{◌≡◌, ℕ, ℤ, ◌≤◌, List, length, slice_get, Some, Result, Ok, Err}
+use Rattle.lc_base.specs.Limits.{reply_limit}
 use Rattle.lc_term.specs.Meaning.{State}
 use Rattle.lc_object.specs.Syntax.{Instr, Point, Object}
 use Rattle.lc_object.specs.declared.instr.EdgeKind.{EdgeKind}
@@ -24,7 +25,7 @@ IsStepped object s k s' k' (Ok (Went point edge)) =
     × Does object s variables i edge s' (Goes point.0 new) × (k' ≡ In point.0 new)
 IsStepped object s k s' k' (Ok (Returned reply)) =
     (p : ℕ) × (variables : List ℤ) × (i : Instr) × (edge : EdgeKind) × IsAt object k p variables i × InstructionFits object s variables i
-    × Does object s variables i edge s' (Answers reply.items) × (k' ≡ W.Idle) × (length reply.items ≤ 3)
+    × Does object s variables i edge s' (Answers reply.items) × (k' ≡ W.Idle) × (length reply.items ≤ reply_limit)
 IsStepped object s k s' k' (Err Idle) = (k ≡ W.Idle) × (s' ≡ s) × (k' ≡ k)
 IsStepped object s k s' k' (Err Overflow) =
     (p : ℕ) × (variables : List ℤ) × (i : Instr) × IsAt object k p variables i × (InstructionFits object s variables i → ⊥) × (s' ≡ s) × (k' ≡ k)

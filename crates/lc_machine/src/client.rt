@@ -1,3 +1,4 @@
+//! Where a client is, and what becomes of it by a step.
 ghost use Rattle.std.specs.Prelude.{◌≡◌, ◌≤◌, length, true};
 ghost use Rattle.lc_term.specs.State.{state_of, column_count};
 ghost use Rattle.lc_object.specs.Objects.{object_shown};

@@ -1,3 +1,4 @@
+//! What a step does: where its client goes or what it returns, and what is stored.
 ghost use Rattle.std.specs.Prelude.{◌≡◌, [], length, OnOk, OnErr, IfOk};
 ghost use Rattle.lc_term.specs.State.{state_of, column_count};
 ghost use Rattle.lc_term.specs.Updates.{stored_all, AreWithin};
@@ -11,8 +12,8 @@ ghost use Rattle.lc_machine.specs.Below.{AreBelow};
 
 use crate::numbers::assign;
 use arrayvec::ArrayVec;
-use lc_base::{OutOfMemory, PointId};
-use lc_object::{EdgeKind, LocalId, WIDTH_LIMIT};
+use lc_base::{OutOfMemory, PointId, WIDTH_LIMIT};
+use lc_object::{EdgeKind, LocalId};
 use lc_term::{Env, State, Write};
 use std::alloc::Global;
 

@@ -1,3 +1,4 @@
+//! Why a client takes no step.
 use lc_base::OutOfMemory;
 use lc_term::EvalFault;
 use thiserror::Error;

@@ -1,4 +1,6 @@
+//! What each instruction does to the numbers of a client's variables and to the columns.
 ghost use Rattle.std.specs.Prelude.{◌≡◌, ◌≤◌, ◌<◌, length, Some, slice_get};
+ghost use Rattle.lc_base.specs.Limits.{width_limit};
 ghost use Rattle.lc_term.specs.State.{state_of, column_count, variable_count};
 ghost use Rattle.lc_term.specs.View.{term_of, formula_of};
 ghost use Rattle.lc_object.specs.Objects.{object_shown};
@@ -25,14 +27,14 @@ use std::alloc::Global;
 fn row_columns(object: &Object, array: ArrayId) -> &[ColId]
     requires { array.0 < length (object_shown object.now).arrays }
     ensures columns { columns_of result.now ≡ array_columns (object_shown object.now) array.0 }
-    ensures few { length result.now ≤ 4 }
+    ensures few { length result.now ≤ width_limit }
     ensures there { AreBelow (length (initial_numbers (object_shown object.now))) (columns_of result.now) }
 {
     &object.parts().arrays[array.0 as usize].columns
 }
 
 #[tactic(auto, using(crate::proofs::Known::known_term, crate::proofs::Lengths::below_more))]
-fn load(
+fn load_effect(
     alloc: Global,
     object: &Object,
     state: &State,
@@ -52,7 +54,7 @@ fn load(
 }
 
 #[tactic(auto, using(crate::proofs::Known::known_term, crate::proofs::Lengths::below_more))]
-fn store(
+fn store_effect(
     alloc: Global,
     object: &Object,
     state: &State,
@@ -73,7 +75,7 @@ fn store(
 }
 
 #[tactic(auto, using(crate::proofs::Known::known_term, crate::proofs::Lengths::below_more))]
-fn fetch_and_add(
+fn faa_effect(
     alloc: Global,
     object: &Object,
     state: &State,
@@ -107,7 +109,7 @@ struct Labels {
 }
 
 #[tactic(auto, using(crate::proofs::Known::known_term, crate::proofs::Lengths::below_more))]
-fn compare_and_swap(
+fn cas_effect(
     alloc: Global,
     object: &Object,
     state: &State,
@@ -139,7 +141,7 @@ fn compare_and_swap(
     Ok(moving(alloc, variables, EdgeKind::Then, writes, labels.then)?)
 }
 
-fn set(
+fn set_effect(
     alloc: Global,
     object: &Object,
     state: &State,
@@ -156,7 +158,7 @@ fn set(
 }
 
 #[tactic(auto, using(crate::proofs::Known::known_formula, crate::proofs::Known::ground_formula))]
-fn test(
+fn if_effect(
     alloc: Global,
     object: &Object,
     state: &State,
@@ -186,7 +188,7 @@ fn test(
     }
 }
 
-fn answer(
+fn return_effect(
     alloc: Global,
     object: &Object,
     state: &State,
@@ -217,7 +219,7 @@ fn effect_of(
             index,
             targets,
             next,
-        } => load(
+        } => load_effect(
             alloc, object, state, variables, *array, index, targets, *next,
         ),
         Instr::Store {
@@ -225,7 +227,7 @@ fn effect_of(
             index,
             values,
             next,
-        } => store(
+        } => store_effect(
             alloc, object, state, variables, *array, index, values, *next,
         ),
         Instr::Cas {
@@ -240,7 +242,7 @@ fn effect_of(
                 then: *equal,
                 otherwise: *different,
             };
-            compare_and_swap(
+            cas_effect(
                 alloc, object, state, variables, *array, index, old, new, labels,
             )
         }
@@ -248,14 +250,14 @@ fn effect_of(
             targets,
             values,
             next,
-        } => set(alloc, object, state, variables, targets, values, *next),
+        } => set_effect(alloc, object, state, variables, targets, values, *next),
         Instr::Faa {
             array,
             index,
             targets,
             added,
             next,
-        } => fetch_and_add(
+        } => faa_effect(
             alloc, object, state, variables, *array, index, targets, added, *next,
         ),
         Instr::If {
@@ -267,9 +269,9 @@ fn effect_of(
                 then: *holds,
                 otherwise: *fails,
             };
-            test(alloc, object, state, variables, condition, labels)
+            if_effect(alloc, object, state, variables, condition, labels)
         }
-        Instr::Return { values } => answer(alloc, object, state, variables, values),
+        Instr::Return { values } => return_effect(alloc, object, state, variables, values),
     }
 }
 

@@ -1,4 +1,6 @@
+//! The numbers of a row, of locals or of a reply, which one step computes.
 ghost use Rattle.std.specs.Prelude.{◌≡◌, ◌≤◌, ◌<◌, true, length};
+ghost use Rattle.lc_base.specs.Limits.{local_limit};
 ghost use Rattle.lc_object.specs.View.{terms_of, locals_of};
 ghost use Rattle.lc_object.specs.WellFormed.{are_code_terms};
 ghost use Rattle.lc_term.specs.State.{state_of, variable_count};
@@ -10,7 +12,8 @@ ghost use Rattle.lc_machine.specs.World.{variable};
 ghost use Rattle.lc_machine.specs.Below.{AreBelow};
 
 use arrayvec::ArrayVec;
-use lc_object::{LOCAL_LIMIT, LocalId};
+use lc_base::LOCAL_LIMIT;
+use lc_object::LocalId;
 use lc_term::{Env, EvalFault, State, Term, eval_term};
 
 /// The numbers that one step computes: of a row, of locals, or of a reply.
@@ -18,7 +21,7 @@ pub type Numbers = ArrayVec<i64, LOCAL_LIMIT>;
 
 /// The numbers of terms, computed from the left.
 pub(crate) fn compute(terms: &[Term], state: &State, variables: &Env) -> Result<Numbers, EvalFault>
-    requires few { length terms.now ≤ 16 }
+    requires few { length terms.now ≤ local_limit }
     requires code { are_code_terms (variable_count variables.now) (terms_of terms.now) ≡ true }
     ensures { let s = state_of state.now in
         let vs = variables.now.values.items in
@@ -34,7 +37,7 @@ pub(crate) fn compute(terms: &[Term], state: &State, variables: &Env) -> Result<
 
 /// These numbers with others added to them, one to each.
 pub(crate) fn add(numbers: &[i64], added: &[i64]) -> Result<Numbers, EvalFault>
-    requires few { length numbers.now ≤ 16 }
+    requires few { length numbers.now ≤ local_limit }
     requires each { length numbers.now ≡ length added.now }
     ensures { IsComputed overflow_says (λ numbers. numbers.items) (NumbersFit (sums numbers.now added.now)) (sums numbers.now added.now) result }
 {

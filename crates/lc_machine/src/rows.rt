@@ -1,6 +1,8 @@
+//! Rows of an array: reading, comparing and writing them.
 ghost use Rattle.std.specs.Prelude.{◌≡◌, ◌≤◌, length, OkIff};
 ghost use Rattle.std.specs.Ordering.{int_eq};
 ghost use Rattle.std.specs.Cmp.Lexicographic.{pointwise};
+ghost use Rattle.lc_base.specs.Limits.{local_limit, width_limit};
 ghost use Rattle.lc_object.specs.View.{columns_of};
 ghost use Rattle.lc_term.specs.State.{state_of, column_count};
 ghost use Rattle.lc_term.specs.Computed.{IsComputed, overflow_says};
@@ -12,13 +14,12 @@ ghost use Rattle.lc_machine.specs.Below.{AreBelow};
 
 use crate::numbers::Numbers;
 use arrayvec::ArrayVec;
-use lc_base::ColId;
-use lc_object::WIDTH_LIMIT;
+use lc_base::{ColId, WIDTH_LIMIT};
 use lc_term::{EvalFault, State, Write};
 
 /// The numbers in a row: of each column what stands in this cell.
 pub(crate) fn read_row(state: &State, columns: &[ColId], index: i64) -> Result<Numbers, EvalFault>
-    requires few { length columns.now ≤ 16 }
+    requires few { length columns.now ≤ local_limit }
     requires there { AreBelow (column_count state.now) (columns_of columns.now) }
     ensures { let s = state_of state.now in
         let cs = columns_of columns.now in
@@ -58,7 +59,7 @@ pub(crate) fn row_writes(
     index: i64,
     numbers: &[i64],
 ) -> ArrayVec<Write, WIDTH_LIMIT>
-    requires few { length columns.now ≤ 4 }
+    requires few { length columns.now ≤ width_limit }
     requires each { length columns.now ≡ length numbers.now }
     ensures { writes_shown result.items ≡ cell_writes (columns_of columns.now) index numbers.now }
 {

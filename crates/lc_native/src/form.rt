@@ -1,3 +1,4 @@
+//! The specifications that native objects follow, but for their names.
 use crate::matching::all_match;
 use lc_seq::{Branch, TextSpec};
 

@@ -1,3 +1,4 @@
+//! Whether a specification is that of a form, but for names.
 ghost use Rattle.std.specs.Prelude.{◌≡◌, ◌↔◌, IsTrue, map};
 
 use crate::form::OperationForm;

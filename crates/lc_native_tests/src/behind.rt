@@ -1,3 +1,4 @@
+//! The state of a native object behind calls of the object that it follows.
 use lc_seq::{SeqFault, SeqObject, Shadows};
 use std::alloc::Global;
 

@@ -1,3 +1,4 @@
+//! Tests of native objects by themselves.
 use lc_base::{OpId, OutOfMemory};
 use lc_hist::{Done, Event, History, JudgeFault, Reason, judge};
 use lc_native::{

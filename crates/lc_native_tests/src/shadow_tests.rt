@@ -1,3 +1,4 @@
+//! Tests that native objects follow their specifications in text.
 use crate::behind::{Made, shadow_behind};
 use lc_lib_texts::{Lib, development};
 use lc_native::{NatCounter, NatLock, NatPoolStack, NatQueue, NatSnapshot, NatStack};

@@ -1,3 +1,3 @@
-pub mod Passing
-pub mod EdgeRows
+mod Passing
+mod EdgeRows
 pub mod ObjectParts

@@ -1,6 +1,7 @@
 -- What the parts of an object promise.
 use Rattle.std.specs.Prelude.{ℕ, zero, suc, ◌+◌, ◌-◌, Bool, true, false, not, ◌&&◌, ◌==◌, nat_lt, nat_le, List, [], ◌∷◌, length, slice_get, Option, Some, None}
 use Rattle.std.specs.List.{list_all, list_any}
+use Rattle.lc_base.specs.Limits.{argument_limit, local_limit, operation_limit, point_limit, reply_limit, width_limit}
 use Rattle.lc_term.specs.Syntax.{Term, Number, Variable, Bound, Add, Subtract, Multiply, Read}
 use Rattle.lc_term.specs.Syntax.{Formula, Le, Eq, Not, And, Or, Implies, Forall, Exists, Formulas, none, more}
 use Rattle.lc_object.specs.Syntax.{Instr, Load, Store, Cas, Set, Faa, If, Return, Array, Operation, Point, Object}
@@ -11,7 +12,7 @@ variable_count o = 2 + length o.arguments + length o.locals
 
 -- a place below the limits of an operation
 abbrev pub has_limits : Operation → Bool
-has_limits o = nat_le (length o.arguments) 3 && nat_le o.replies 3 && nat_le (length o.locals) 16
+has_limits o = nat_le (length o.arguments) argument_limit && nat_le o.replies reply_limit && nat_le (length o.locals) local_limit
 
 abbrev pub is_code_variable : ℕ → ℕ → Bool
 is_code_variable variables k = nat_lt 0 k && nat_lt k variables
@@ -52,7 +53,7 @@ are_distinct (n ∷ ns) = not (list_any (λ m. m == n) ns) && are_distinct ns
 
 -- the targets of an instruction are locals, each once, so at most sixteen
 abbrev pub are_targets : Operation → List ℕ → Bool
-are_targets o rs = nat_le (length rs) 16 && list_all (λ r. nat_le (2 + length o.arguments) r && nat_lt r (variable_count o)) rs && are_distinct rs
+are_targets o rs = nat_le (length rs) local_limit && list_all (λ r. nat_le (2 + length o.arguments) r && nat_lt r (variable_count o)) rs && are_distinct rs
 
 -- an element that passes stands at this place
 abbrev pub passes_at : {A : Type 0} → (A → Bool) → Option A → Bool
@@ -106,7 +107,7 @@ are_operations object n (o ∷ os) = has_limits o && is_first object.points n o.
 
 -- one to four columns
 abbrev pub is_width : ℕ → Bool
-is_width n = nat_lt 0 n && nat_le n 4
+is_width n = nat_lt 0 n && nat_le n width_limit
 
 -- an array has one to four columns, each of them concrete, and none twice
 abbrev pub is_array : Object → Array → Bool
@@ -125,4 +126,4 @@ are_apart (a ∷ others) = not (list_any (stands_in others) a.columns) && are_ap
 
 -- arrays, operations and points name what is there
 abbrev pub is_object : Object → Bool
-is_object object = are_apart object.arrays && nat_le (length object.operations) 16 && nat_le (length object.points) 256 && list_all (is_array object) object.arrays && are_operations object 0 object.operations && list_all (is_point object) object.points
+is_object object = are_apart object.arrays && nat_le (length object.operations) operation_limit && nat_le (length object.points) point_limit && list_all (is_array object) object.arrays && are_operations object 0 object.operations && list_all (is_point object) object.points

@@ -1,10 +1,12 @@
-ghost use Rattle.std.specs.Prelude.{◌≡◌, ◌++◌, [], map, option_map, IfOk, OnOk};
+//! The edges of an object's code: what holds where an edge is gone, what it does, and where it leads.
+ghost use Rattle.std.specs.Prelude.{◌≡◌, ◌++◌, ◌∷◌, [], map, option_map, IfOk, OnOk};
 ghost use Rattle.lc_term.specs.Syntax.{Read, Base};
-ghost use Rattle.lc_term.specs.View.{term_of, formulas_of};
+ghost use Rattle.lc_term.specs.View.{term_of, formula_of, formulas_of};
 ghost use Rattle.lc_object.specs.Edges.{array_columns, reads, row_updates, row_sums, row_facts, edges_at, edges};
 ghost use Rattle.lc_object.specs.EdgeView.{update_of, edge_of};
 ghost use Rattle.lc_object.specs.Objects.{object_shown};
-ghost use Rattle.lc_object.specs.View.{columns_of, terms_of, instruction_of};
+ghost use Rattle.lc_object.specs.Syntax as S;
+ghost use Rattle.lc_object.specs.View.{columns_of, locals_of, terms_of, instruction_of};
 
 use crate::instr::{ArrayId, EdgeKind, Instr, LocalId};
 use crate::object::Object;
@@ -154,6 +156,137 @@ fn plain(alloc: Global, point: PointId, kind: EdgeKind, next: Option<PointId>) -
     }
 }
 
+// Of a load: a row is read into locals.
+fn load_edge(
+    alloc: Global,
+    object: &Object,
+    point: PointId,
+    array: ArrayId,
+    index: &Term,
+    targets: &[LocalId],
+    next: PointId,
+) -> Result<Edge, OutOfMemory>
+    ensures { IfOk result (λ edge. edge_of edge ∷ [] ≡ edges_at (object_shown object.now) point.0 (S.Load array.0 (term_of index.now) (locals_of targets.now) next.0)) }
+{
+    let mut edge = plain(alloc, point, EdgeKind::Next, Some(next));
+    edge.targets = copy_locals(alloc, targets)?;
+    edge.values = reads(alloc, row_columns(object, array), index)?;
+    Ok(edge)
+}
+
+// Of a store: a row is written.
+fn store_edge(
+    alloc: Global,
+    object: &Object,
+    point: PointId,
+    array: ArrayId,
+    index: &Term,
+    values: &[Term],
+    next: PointId,
+) -> Result<Edge, OutOfMemory>
+    ensures { IfOk result (λ edge. edge_of edge ∷ [] ≡ edges_at (object_shown object.now) point.0 (S.Store array.0 (term_of index.now) (terms_of values.now) next.0)) }
+{
+    let mut edge = plain(alloc, point, EdgeKind::Next, Some(next));
+    edge.updates = row_updates(alloc, row_columns(object, array), index, values)?;
+    Ok(edge)
+}
+
+// Of a compare-and-swap: the row is the old one and becomes the new one, or it is another one.
+fn cas_edges(
+    alloc: Global,
+    object: &Object,
+    point: PointId,
+    array: ArrayId,
+    index: &Term,
+    old: &[Term],
+    new: &[Term],
+    equal: PointId,
+    different: PointId,
+) -> Result<(Edge, Edge), OutOfMemory>
+    ensures { IfOk result (λ both. edge_of both.0 ∷ edge_of both.1 ∷ [] ≡ edges_at (object_shown object.now) point.0 (S.Cas array.0 (term_of index.now) (terms_of old.now) (terms_of new.now) equal.0 different.0)) }
+{
+    let columns = row_columns(object, array);
+    let mut then = plain(alloc, point, EdgeKind::Then, Some(equal));
+    then.facts = row_facts(alloc, columns, index, old)?;
+    then.updates = row_updates(alloc, columns, index, new)?;
+    let mut otherwise = plain(alloc, point, EdgeKind::Else, Some(different));
+    let same = Formula::And(row_facts(alloc, columns, index, old)?);
+    otherwise.facts.push(Formula::Not(Box::new(alloc, same)?))?;
+    Ok((then, otherwise))
+}
+
+// Of an assignment: locals are written at once.
+fn set_edge(
+    alloc: Global,
+    object: &Object,
+    point: PointId,
+    targets: &[LocalId],
+    values: &[Term],
+    next: PointId,
+) -> Result<Edge, OutOfMemory>
+    ensures { IfOk result (λ edge. edge_of edge ∷ [] ≡ edges_at (object_shown object.now) point.0 (S.Set (locals_of targets.now) (terms_of values.now) next.0)) }
+{
+    let mut edge = plain(alloc, point, EdgeKind::Next, Some(next));
+    edge.targets = copy_locals(alloc, targets)?;
+    edge.values = copy_terms(alloc, values)?;
+    Ok(edge)
+}
+
+// Of a fetch-and-add: a row is read into locals, and numbers are added to it.
+fn faa_edge(
+    alloc: Global,
+    object: &Object,
+    point: PointId,
+    array: ArrayId,
+    index: &Term,
+    targets: &[LocalId],
+    added: &[Term],
+    next: PointId,
+) -> Result<Edge, OutOfMemory>
+    ensures { IfOk result (λ edge. edge_of edge ∷ [] ≡ edges_at (object_shown object.now) point.0 (S.Faa array.0 (term_of index.now) (locals_of targets.now) (terms_of added.now) next.0)) }
+{
+    let columns = row_columns(object, array);
+    let mut edge = plain(alloc, point, EdgeKind::Next, Some(next));
+    edge.targets = copy_locals(alloc, targets)?;
+    edge.values = reads(alloc, columns, index)?;
+    let sums = row_sums(alloc, columns, index, added)?;
+    edge.updates = row_updates(alloc, columns, index, &sums)?;
+    Ok(edge)
+}
+
+// Of a test: it holds, or it fails.
+fn if_edges(
+    alloc: Global,
+    object: &Object,
+    point: PointId,
+    condition: &Formula,
+    holds: PointId,
+    fails: PointId,
+) -> Result<(Edge, Edge), OutOfMemory>
+    ensures { IfOk result (λ both. edge_of both.0 ∷ edge_of both.1 ∷ [] ≡ edges_at (object_shown object.now) point.0 (S.If (formula_of condition.now) holds.0 fails.0)) }
+{
+    let mut then = plain(alloc, point, EdgeKind::Then, Some(holds));
+    then.facts.push(condition.try_clone(alloc)?)?;
+    let mut otherwise = plain(alloc, point, EdgeKind::Else, Some(fails));
+    let not = Formula::Not(Box::new(alloc, condition.try_clone(alloc)?)?);
+    otherwise.facts.push(not)?;
+    Ok((then, otherwise))
+}
+
+// Of a return: the call ends with numbers.
+fn return_edge(
+    alloc: Global,
+    object: &Object,
+    point: PointId,
+    values: &[Term],
+) -> Result<Edge, OutOfMemory>
+    ensures { IfOk result (λ edge. edge_of edge ∷ [] ≡ edges_at (object_shown object.now) point.0 (S.Return (terms_of values.now))) }
+{
+    let mut edge = plain(alloc, point, EdgeKind::Next, None);
+    edge.replies = copy_terms(alloc, values)?;
+    Ok(edge)
+}
+
 // The edges of the instruction at a point, behind these.
 fn push_edges(
     alloc: Global,
@@ -170,22 +303,13 @@ fn push_edges(
             index,
             targets,
             next,
-        } => {
-            let mut edge = plain(alloc, point, EdgeKind::Next, Some(*next));
-            edge.targets = copy_locals(alloc, targets)?;
-            edge.values = reads(alloc, row_columns(object, *array), index)?;
-            edges.push(edge)?;
-        }
+        } => edges.push(load_edge(alloc, object, point, *array, index, targets, *next)?)?,
         Instr::Store {
             array,
             index,
             values,
             next,
-        } => {
-            let mut edge = plain(alloc, point, EdgeKind::Next, Some(*next));
-            edge.updates = row_updates(alloc, row_columns(object, *array), index, values)?;
-            edges.push(edge)?;
-        }
+        } => edges.push(store_edge(alloc, object, point, *array, index, values, *next)?)?,
         Instr::Cas {
             array,
             index,
@@ -194,13 +318,9 @@ fn push_edges(
             equal,
             different,
         } => {
-            let columns = row_columns(object, *array);
-            let mut then = plain(alloc, point, EdgeKind::Then, Some(*equal));
-            then.facts = row_facts(alloc, columns, index, old)?;
-            then.updates = row_updates(alloc, columns, index, new)?;
-            let mut otherwise = plain(alloc, point, EdgeKind::Else, Some(*different));
-            let same = Formula::And(row_facts(alloc, columns, index, old)?);
-            otherwise.facts.push(Formula::Not(Box::new(alloc, same)?))?;
+            let (then, otherwise) = cas_edges(
+                alloc, object, point, *array, index, old, new, *equal, *different,
+            )?;
             edges.push(then)?;
             edges.push(otherwise)?;
         }
@@ -208,45 +328,24 @@ fn push_edges(
             targets,
             values,
             next,
-        } => {
-            let mut edge = plain(alloc, point, EdgeKind::Next, Some(*next));
-            edge.targets = copy_locals(alloc, targets)?;
-            edge.values = copy_terms(alloc, values)?;
-            edges.push(edge)?;
-        }
+        } => edges.push(set_edge(alloc, object, point, targets, values, *next)?)?,
         Instr::Faa {
             array,
             index,
             targets,
             added,
             next,
-        } => {
-            let columns = row_columns(object, *array);
-            let mut edge = plain(alloc, point, EdgeKind::Next, Some(*next));
-            edge.targets = copy_locals(alloc, targets)?;
-            edge.values = reads(alloc, columns, index)?;
-            let sums = row_sums(alloc, columns, index, added)?;
-            edge.updates = row_updates(alloc, columns, index, &sums)?;
-            edges.push(edge)?;
-        }
+        } => edges.push(faa_edge(alloc, object, point, *array, index, targets, added, *next)?)?,
         Instr::If {
             condition,
             holds,
             fails,
         } => {
-            let mut then = plain(alloc, point, EdgeKind::Then, Some(*holds));
-            then.facts.push(condition.try_clone(alloc)?)?;
-            let mut otherwise = plain(alloc, point, EdgeKind::Else, Some(*fails));
-            let not = Formula::Not(Box::new(alloc, condition.try_clone(alloc)?)?);
-            otherwise.facts.push(not)?;
+            let (then, otherwise) = if_edges(alloc, object, point, condition, *holds, *fails)?;
             edges.push(then)?;
             edges.push(otherwise)?;
         }
-        Instr::Return { values } => {
-            let mut edge = plain(alloc, point, EdgeKind::Next, None);
-            edge.replies = copy_terms(alloc, values)?;
-            edges.push(edge)?;
-        }
+        Instr::Return { values } => edges.push(return_edge(alloc, object, point, values)?)?,
     }
     Ok(())
 }

@@ -1,3 +1,4 @@
+//! The type of instructions.
 use lc_base::PointId;
 use lc_term::{Formula, Term};
 

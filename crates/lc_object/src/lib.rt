@@ -11,6 +11,3 @@ pub use edge_table::{Edge, edges};
 pub use instr::{ArrayId, EdgeKind, Instr, LocalId};
 pub use object::Object;
 pub use parts::{Array, Column, Operation, Parts, Point};
-pub use testing::{
-    ARGUMENT_LIMIT, LOCAL_LIMIT, OPERATION_LIMIT, POINT_LIMIT, REPLY_LIMIT, WIDTH_LIMIT,
-};

@@ -1,3 +1,4 @@
+//! The type of objects, which are well-formed.
 ghost use Rattle.std.specs.Prelude.{◌≡◌, true};
 ghost use Rattle.lc_object.specs.WellFormed.{is_object};
 ghost use Rattle.lc_object.specs.View.{parts_of};

@@ -1,3 +1,4 @@
+//! What an object is made of: columns, arrays, operations and points.
 use crate::instr::Instr;
 use lc_base::{ColId, Name, OpId, PointId};
 

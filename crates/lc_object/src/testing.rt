@@ -1,32 +1,19 @@
+//! Whether the parts of an object are well-formed.
 ghost use Rattle.std.specs.Prelude.{◌≡◌, ◌<◌, ◌+◌, ◌^◌, ◌-◌, ◌==◌, ◌&&◌, not, nat_le, nat_lt, true, length, map};
 ghost use Rattle.std.specs.List.{list_all, list_any};
 ghost use Rattle.lc_term.specs.Syntax.{formulas};
 ghost use Rattle.lc_term.specs.View.{term_of, formula_of, formulas_of};
+ghost use Rattle.lc_object.specs.Syntax as S;
 ghost use Rattle.lc_object.specs.View.{locals_of, columns_of, terms_of, instruction_of, array_of, operation_of, point_of, parts_of};
 ghost use Rattle.lc_object.specs.WellFormed.{variable_count, has_limits, is_code_term, are_code_terms, is_code_formula, are_code_formulas, are_distinct, are_targets, has_width, is_label, is_instruction, is_point, is_first, are_operations, is_array, stands_in, are_apart, is_object};
 
 use crate::instr::{ArrayId, Instr, LocalId};
 use crate::parts::{Array, Operation, Parts, Point};
-use lc_base::{ColId, OpId, PointId};
+use lc_base::{
+    ARGUMENT_LIMIT, ColId, LOCAL_LIMIT, OPERATION_LIMIT, OpId, POINT_LIMIT, PointId, REPLY_LIMIT,
+    WIDTH_LIMIT,
+};
 use lc_term::{Formula, Term};
-
-/// The most columns that an array has.
-pub const WIDTH_LIMIT: usize = 4;
-
-/// The most arguments of an operation.
-pub const ARGUMENT_LIMIT: usize = 3;
-
-/// The most numbers that an operation returns.
-pub const REPLY_LIMIT: u32 = 3;
-
-/// The most locals of a body.
-pub const LOCAL_LIMIT: usize = 16;
-
-/// The most operations.
-pub const OPERATION_LIMIT: usize = 16;
-
-/// The most points of all bodies together.
-pub const POINT_LIMIT: usize = 256;
 
 fn has_limits(operation: &Operation) -> bool
     ensures { result ≡ has_limits (operation_of operation.now) }
@@ -34,6 +21,14 @@ fn has_limits(operation: &Operation) -> bool
     operation.arguments.len() <= ARGUMENT_LIMIT
         && operation.replies <= REPLY_LIMIT
         && operation.locals.len() <= LOCAL_LIMIT
+}
+
+// How many variables there are in an operation's code.
+fn variable_count(operation: &Operation) -> usize
+    requires { has_limits (operation_of operation.now) ≡ true }
+    ensures { result ≡ variable_count (operation_of operation.now) }
+{
+    2 + operation.arguments.len() + operation.locals.len()
 }
 
 fn is_code_term(term: &Term, variables: usize) -> bool
@@ -139,7 +134,7 @@ fn are_targets(operation: &Operation, targets: &[LocalId]) -> bool
     ensures { result ≡ are_targets (operation_of operation.now) (locals_of targets.now) }
 {
     let first = 2 + operation.arguments.len();
-    let end = first + operation.locals.len();
+    let end = variable_count(operation);
     targets.len() <= LOCAL_LIMIT && are_between(targets, first, end) && are_distinct(targets)
 }
 
@@ -161,35 +156,154 @@ fn is_label(parts: &Parts, operation: OpId, label: PointId) -> bool
     }
 }
 
+// Whether a load in an operation's body names what is there.
+fn is_load(
+    parts: &Parts,
+    number: OpId,
+    operation: &Operation,
+    array: ArrayId,
+    index: &Term,
+    targets: &[LocalId],
+    next: PointId,
+) -> bool
+    requires { has_limits (operation_of operation.now) ≡ true }
+    ensures { result ≡ is_instruction (parts_of parts.now) number.0 (operation_of operation.now) (S.Load array.0 (term_of index.now) (locals_of targets.now) next.0) }
+{
+    has_width(parts, array, targets.len())
+        && is_code_term(index, variable_count(operation))
+        && are_targets(operation, targets)
+        && is_label(parts, number, next)
+}
+
+// Whether a store in an operation's body names what is there.
+fn is_store(
+    parts: &Parts,
+    number: OpId,
+    operation: &Operation,
+    array: ArrayId,
+    index: &Term,
+    values: &[Term],
+    next: PointId,
+) -> bool
+    requires { has_limits (operation_of operation.now) ≡ true }
+    ensures { result ≡ is_instruction (parts_of parts.now) number.0 (operation_of operation.now) (S.Store array.0 (term_of index.now) (terms_of values.now) next.0) }
+{
+    let variables = variable_count(operation);
+    has_width(parts, array, values.len())
+        && is_code_term(index, variables)
+        && are_code_terms(values, variables)
+        && is_label(parts, number, next)
+}
+
+// Whether a compare-and-swap in an operation's body names what is there.
+fn is_cas(
+    parts: &Parts,
+    number: OpId,
+    operation: &Operation,
+    array: ArrayId,
+    index: &Term,
+    old: &[Term],
+    new: &[Term],
+    equal: PointId,
+    different: PointId,
+) -> bool
+    requires { has_limits (operation_of operation.now) ≡ true }
+    ensures { result ≡ is_instruction (parts_of parts.now) number.0 (operation_of operation.now) (S.Cas array.0 (term_of index.now) (terms_of old.now) (terms_of new.now) equal.0 different.0) }
+{
+    let variables = variable_count(operation);
+    has_width(parts, array, old.len())
+        && has_width(parts, array, new.len())
+        && is_code_term(index, variables)
+        && are_code_terms(old, variables)
+        && are_code_terms(new, variables)
+        && is_label(parts, number, equal)
+        && is_label(parts, number, different)
+}
+
+// Whether an assignment in an operation's body names what is there.
+fn is_set(
+    parts: &Parts,
+    number: OpId,
+    operation: &Operation,
+    targets: &[LocalId],
+    values: &[Term],
+    next: PointId,
+) -> bool
+    requires { has_limits (operation_of operation.now) ≡ true }
+    ensures { result ≡ is_instruction (parts_of parts.now) number.0 (operation_of operation.now) (S.Set (locals_of targets.now) (terms_of values.now) next.0) }
+{
+    values.len() == targets.len()
+        && are_targets(operation, targets)
+        && are_code_terms(values, variable_count(operation))
+        && is_label(parts, number, next)
+}
+
+// Whether a fetch-and-add in an operation's body names what is there.
+fn is_faa(
+    parts: &Parts,
+    number: OpId,
+    operation: &Operation,
+    array: ArrayId,
+    index: &Term,
+    targets: &[LocalId],
+    added: &[Term],
+    next: PointId,
+) -> bool
+    requires { has_limits (operation_of operation.now) ≡ true }
+    ensures { result ≡ is_instruction (parts_of parts.now) number.0 (operation_of operation.now) (S.Faa array.0 (term_of index.now) (locals_of targets.now) (terms_of added.now) next.0) }
+{
+    let variables = variable_count(operation);
+    has_width(parts, array, targets.len())
+        && has_width(parts, array, added.len())
+        && is_code_term(index, variables)
+        && are_targets(operation, targets)
+        && are_code_terms(added, variables)
+        && is_label(parts, number, next)
+}
+
+// Whether a test in an operation's body names what is there.
+fn is_if(
+    parts: &Parts,
+    number: OpId,
+    operation: &Operation,
+    condition: &Formula,
+    holds: PointId,
+    fails: PointId,
+) -> bool
+    requires { has_limits (operation_of operation.now) ≡ true }
+    ensures { result ≡ is_instruction (parts_of parts.now) number.0 (operation_of operation.now) (S.If (formula_of condition.now) holds.0 fails.0) }
+{
+    is_code_formula(condition, variable_count(operation))
+        && is_label(parts, number, holds)
+        && is_label(parts, number, fails)
+}
+
+// Whether a return in an operation's body has the operation's replies, and names what is there.
+fn is_return(parts: &Parts, number: OpId, operation: &Operation, values: &[Term]) -> bool
+    requires { has_limits (operation_of operation.now) ≡ true }
+    ensures { result ≡ is_instruction (parts_of parts.now) number.0 (operation_of operation.now) (S.Return (terms_of values.now)) }
+{
+    values.len() == operation.replies as usize && are_code_terms(values, variable_count(operation))
+}
+
 // Whether an instruction in an operation's body names what is there.
 fn is_instruction(parts: &Parts, number: OpId, operation: &Operation, instruction: &Instr) -> bool
     requires { has_limits (operation_of operation.now) ≡ true }
     ensures { result ≡ is_instruction (parts_of parts.now) number.0 (operation_of operation.now) (instruction_of instruction.now) }
 {
-    let variables = 2 + operation.arguments.len() + operation.locals.len();
     match instruction {
         Instr::Load {
             array,
             index,
             targets,
             next,
-        } => {
-            has_width(parts, *array, targets.len())
-                && is_code_term(index, variables)
-                && are_targets(operation, targets)
-                && is_label(parts, number, *next)
-        }
+        } => is_load(parts, number, operation, *array, index, targets, *next),
         Instr::Store {
             array,
             index,
             values,
             next,
-        } => {
-            has_width(parts, *array, values.len())
-                && is_code_term(index, variables)
-                && are_code_terms(values, variables)
-                && is_label(parts, number, *next)
-        }
+        } => is_store(parts, number, operation, *array, index, values, *next),
         Instr::Cas {
             array,
             index,
@@ -197,51 +311,29 @@ fn is_instruction(parts: &Parts, number: OpId, operation: &Operation, instructio
             new,
             equal,
             different,
-        } => {
-            has_width(parts, *array, old.len())
-                && has_width(parts, *array, new.len())
-                && is_code_term(index, variables)
-                && are_code_terms(old, variables)
-                && are_code_terms(new, variables)
-                && is_label(parts, number, *equal)
-                && is_label(parts, number, *different)
-        }
+        } => is_cas(
+            parts, number, operation, *array, index, old, new, *equal, *different,
+        ),
         Instr::Set {
             targets,
             values,
             next,
-        } => {
-            values.len() == targets.len()
-                && are_targets(operation, targets)
-                && are_code_terms(values, variables)
-                && is_label(parts, number, *next)
-        }
+        } => is_set(parts, number, operation, targets, values, *next),
         Instr::Faa {
             array,
             index,
             targets,
             added,
             next,
-        } => {
-            has_width(parts, *array, targets.len())
-                && has_width(parts, *array, added.len())
-                && is_code_term(index, variables)
-                && are_targets(operation, targets)
-                && are_code_terms(added, variables)
-                && is_label(parts, number, *next)
-        }
+        } => is_faa(
+            parts, number, operation, *array, index, targets, added, *next,
+        ),
         Instr::If {
             condition,
             holds,
             fails,
-        } => {
-            is_code_formula(condition, variables)
-                && is_label(parts, number, *holds)
-                && is_label(parts, number, *fails)
-        }
-        Instr::Return { values } => {
-            values.len() == operation.replies as usize && are_code_terms(values, variables)
-        }
+        } => is_if(parts, number, operation, condition, *holds, *fails),
+        Instr::Return { values } => is_return(parts, number, operation, values),
     }
 }
 

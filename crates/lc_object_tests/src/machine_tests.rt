@@ -1,3 +1,4 @@
+//! Tests of the machine of an object.
 use lc_base::{ColId, OpId, PointId};
 use lc_machine::{Bare, Moved, StepFault, laws};
 use lc_object::{EdgeKind, Object};
@@ -18,7 +19,7 @@ const COUNTER: &str = "(spec counter (abstract (v)) (op inc () 1) (op get () 1))
         (point q0 (load cell 0 (y) q1) (assert))
         (point q1 (return y) (assert))))";
 
-/// The same, on the greatest number.
+/// A counter that stands at the greatest number.
 const FULL_COUNTER: &str = "(spec counter (abstract) (op inc () 1))
     (object counter (array cell (c 0 9223372036854775807)) (aux) (invariant) (idle)
       (body inc (x)
@@ -33,7 +34,7 @@ const SWAP: &str = "(spec pair (abstract) (op swap () 0))
         (point k (cas pair 0 (0 0) (1 1) d d) (assert))
         (point d (return) (assert))))";
 
-/// The same where the second cell leaves 64 bits, and then a load of the same row.
+/// A compare-and-swap whose second cell leaves 64 bits, and then a load of the same row.
 const FAR_SWAP: &str = "(spec pair (abstract) (op swap () 0))
     (object pair (array pair (a 0 0) (b 9223372036854775807 5)) (aux) (invariant) (idle)
       (body swap (x y)

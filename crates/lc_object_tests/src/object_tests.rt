@@ -1,3 +1,4 @@
+//! Tests of objects and of their edges.
 use lc_base::{ColId, Name, OpId, OutOfMemory, PointId};
 use lc_object::{
     Array, ArrayId, Column, EdgeKind, Instr, LocalId, Object, Operation, Parts, Point, edges,

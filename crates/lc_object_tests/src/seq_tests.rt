@@ -14,7 +14,7 @@ const COUNTER: &str = "(spec counter (abstract (v 0 5))
   (op get () 1 (branch (and) () ((rd v self)))))
   (nonsense)";
 
-/// The same, below the greatest number.
+/// A counter that starts below the greatest number.
 const NEARLY_FULL: &str = "(spec counter (abstract (v 0 9223372036854775806))
   (op add () 1 (branch (and) ((v 0 (+ (rd v 0) 1))) ((rd v 0)))))";
 

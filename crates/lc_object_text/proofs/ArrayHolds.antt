@@ -1,6 +1,7 @@
 -- What is read of the arrays of an object.
 use Rattle.std.proofs.Common.{◌≡◌, ℕ, ◌+◌, ◌≤◌, ◌<◌, Bool, true, false, cond, List, [], ◌∷◌, length, length-append, refl, sym, ap, subst, arith}
 use Rattle.std.specs.Prelude.{codes, slice_get, nat_le}
+use Rattle.lc_base.specs.Limits.{column_limit, width_limit}
 use Rattle.lc_sexp.specs.Parts.{fits, misshapen}
 use Rattle.lc_sexp.specs.TreeCode.{tree_count}
 use Rattle.lc_sexp.specs.Trees.{Tree, Trees, atom, list, none, ◌▸◌, item_count}
@@ -20,18 +21,18 @@ use Rattle.lc_object_text.specs.Sections.{before_others, forms_in}
 
 -- the i-th column of an array, of at most four
 abbrev IsColumn : ℕ → Tree → Column → Type 0
-IsColumn i t column = i < 4
+IsColumn i t column = i < width_limit
 
 column_holds : (names : List (List ℕ)) (base i n : ℕ) (t : Tree) → Holds (IsColumn i t) (column_reading names base i n t)
 column_holds names base i n (atom w) = tt
 column_holds names base i n (list none) = tt
 column_holds names base i n (list (t ▸ ts)) =
-    both_holds (λ w. i < 4) (λ z. Unit {0}) (λ column. i < 4) column_of (own_name_reading names base i n (n + 1) t) (numbers_reading n (n + 1 + item_count t) ts)
-    (limited_below 4 i n (limited (nat_le 64 (base + i)) n (kth_name_reading names (base + i) (n + 1) t))) (anything (numbers_reading n (n + 1 + item_count t) ts)) (λ w z h u. h)
+    both_holds (λ w. i < width_limit) (λ z. Unit {0}) (λ column. i < width_limit) column_of (own_name_reading names base i n (n + 1) t) (numbers_reading n (n + 1 + item_count t) ts)
+    (limited_below width_limit i n (limited (nat_le column_limit (base + i)) n (kth_name_reading names (base + i) (n + 1) t))) (anything (numbers_reading n (n + 1 + item_count t) ts)) (λ w z h u. h)
 
 -- one to four
 abbrev pub IsWidth : ℕ → Type 0
-IsWidth n = (1 ≤ n) × (n ≤ 4)
+IsWidth n = (1 ≤ n) × (n ≤ width_limit)
 
 -- as many columns as stand there
 abbrev pub HasColumns : Trees → ArrayText → Type 0

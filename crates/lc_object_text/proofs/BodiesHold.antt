@@ -6,6 +6,7 @@ use Rattle.std.proofs.lemmas.Bool.Decides.{nat_tests}
 use Rattle.std.proofs.lemmas.List.{length-map}
 use Rattle.std.specs.Prelude.{codes, option_map, slice_get, ◌&&◌, nat_le, nat_lt}
 use Rattle.std.specs.List.{list_any}
+use Rattle.lc_base.specs.Limits.{local_limit, point_limit}
 use Rattle.lc_sexp.specs.TreeCode.{tree_count}
 use Rattle.lc_sexp.specs.Trees.{Tree, Trees, none, ◌▸◌}
 use Rattle.lc_reading.proofs.Holding.{Holds, weaker}
@@ -92,7 +93,7 @@ pub record BodyPoints (d : Declared) (b : Body) (k p : ℕ) (qs own others : Lis
 
 -- the points of bodies, the first of which is the k-th and has the p-th point first
 abbrev pub ArePoints : Declared → ℕ → ℕ → List Body → List Point → Type 0
-ArePoints d k p [] qs = (qs ≡ []) × (p ≤ 256)
+ArePoints d k p [] qs = (qs ≡ []) × (p ≤ point_limit)
 ArePoints d k p (b ∷ bs) qs = (own : List Point) × (others : List Point) × BodyPoints d b k p qs own others × ArePoints d (k + 1) (p + length own) bs others
 
 points_fit : (d : Declared) (b : Body) (k i : ℕ) (ts : Trees) (qs : List Point) → Each (IsPoint d b k) i ts qs → ArePointsOf d b k qs
@@ -101,12 +102,12 @@ points_fit d b k i none (q ∷ qs) h = absurd h
 points_fit d b k i (t ▸ ts) [] h = absurd h
 points_fit d b k i (t ▸ ts) (q ∷ qs) h = (h.0.1.1, points_fit d b k (i + 1) ts qs h.1)
 
-points_few : (d : Declared) (b : Body) (k i : ℕ) (ts : Trees) (qs : List Point) → b.first + i ≤ 256 → Each (IsPoint d b k) i ts qs → b.first + i + length qs ≤ 256
+points_few : (d : Declared) (b : Body) (k i : ℕ) (ts : Trees) (qs : List Point) → b.first + i ≤ point_limit → Each (IsPoint d b k) i ts qs → b.first + i + length qs ≤ point_limit
 points_few d b k i none [] few h = omega (arith, few)
 points_few d b k i none (q ∷ qs) few h = absurd h
 points_few d b k i (t ▸ ts) [] few h = absurd h
 points_few d b k i (t ▸ ts) (q ∷ qs) few h =
-    let below : b.first + i < 256 = h.0.1.0 in
+    let below : b.first + i < point_limit = h.0.1.0 in
     omega (arith, points_few d b k (i + 1) ts qs (omega (arith, below)) h.1)
 
 points_counted : (us : Trees) → AllForms (codes "point") (later (later us)) → length (points_in us) ≡ tree_count (later (later us))
@@ -124,7 +125,7 @@ call_due names before behind calls calls_before calls_behind k w v call e f long
     ap (place_of names) same ∙ ap (λ ws. place_of ws w) e ∙ placed_at_seam before behind w (sym (ap (list_any (is w)) taken) ∙ new) ∙ ap Some long in
     ap (call_at calls) placed ∙ ap call_or (ap (slice_get calls) (sym long_too) ∙ ap (λ cs. slice_get cs (length calls_before)) f ∙ at_seam calls_before calls_behind call)
 
-limits : (a r l : ℕ) → a ≤ 3 → r ≤ 3 → l ≤ 16 → (nat_le a 3 && nat_le r 3 && nat_le l 16) ≡ true
+limits : (a r l : ℕ) → a ≤ 3 → r ≤ 3 → l ≤ local_limit → (nat_le a 3 && nat_le r 3 && nat_le l local_limit) ≡ true
 limits a r l h g k = grind (arith, nat_tests)
 
 -- the operation that a signature and a body make
@@ -148,7 +149,7 @@ same_body b c o e f = cc
 pub bodies_fit : (d : Declared) (before : List (List ℕ)) (calls_before : List Call) (bodies_before : List Body) (k p n : ℕ) (os ts : Trees) (ss : List Signature) (texts : List (BodyText Point))
     → d.operations ≡ before ++ map first_text (parts_of_all (codes "op") os) → d.calls ≡ calls_before ++ map call_of (parts_of_all (codes "op") os)
     → d.bodies ≡ bodies_before ++ bodies_from d.operations d.calls k p n ts → length before ≡ k → length calls_before ≡ k → length bodies_before ≡ k
-    → n ≡ tree_count os → n ≤ tree_count ts → p ≤ 256 → Each (IsOperation d) k os ss → Each (IsDue d) k ts texts
+    → n ≡ tree_count os → n ≤ tree_count ts → p ≤ point_limit → Each (IsOperation d) k os ss → Each (IsDue d) k ts texts
     → AreOperationsOf (bodies_from d.operations d.calls k p n ts) (operations_from p ss texts) × ArePoints d k p (bodies_from d.operations d.calls k p n ts) (points_of texts)
 bodies_fit d before calls_before bodies_before k p zero none none [] [] e f g long long_too longer counted many few signatures bodies = (tt, (refl, few))
 bodies_fit d before calls_before bodies_before k p zero none none [] (text ∷ texts) e f g long long_too longer counted many few signatures bodies = absurd bodies
@@ -179,7 +180,7 @@ bodies_fit d before calls_before bodies_before k p (suc n) (o ▸ os) (t ▸ ts)
     let forms = each_form (IsPoint d b k) (codes "point") (λ i u q h. h.0) 0 points text.points r.points.1 in
     let size : length (points_in us) ≡ tree_count points = points_counted us forms in
     let as_many : length text.points ≡ length (points_in us) = each_counted (IsPoint d b k) 0 points text.points r.points.1 ∙ sym size in
-    let room : b.first + 0 + length text.points ≤ 256 = points_few d b k 0 points text.points (omega (arith, few)) r.points.1 in
+    let room : b.first + 0 + length text.points ≤ point_limit = points_few d b k 0 points text.points (omega (arith, few)) r.points.1 in
     let rest = bodies_fit d (before ++ first_text uo ∷ []) (calls_before ++ call_of uo ∷ []) (bodies_before ++ b ∷ []) (k + 1) next n os ts ss texts
     (e ∙ sym (append_assoc before (first_text uo ∷ []) names)) (f ∙ sym (append_assoc calls_before (call_of uo ∷ []) others)) (g ∙ sym (append_assoc bodies_before (b ∷ []) bs))
     (omega (arith, long, length-append before (first_text uo ∷ []))) (omega (arith, long_too, length-append calls_before (call_of uo ∷ []))) (omega (arith, longer, length-append bodies_before (b ∷ [])))

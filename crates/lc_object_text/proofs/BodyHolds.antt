@@ -4,6 +4,7 @@ use Rattle.std.proofs.lemmas.Bool.Decides.{nat_tests}
 use Rattle.std.specs.Prelude.{option_map, codes, nat_lt, nat_le, not}
 use Rattle.std.specs.List.{list_any}
 use Rattle.lc_base.specs.NameText.{is_name}
+use Rattle.lc_base.specs.Limits.{local_limit, point_limit}
 use Rattle.lc_sexp.specs.Parts.{fits, form_fit}
 use Rattle.lc_sexp.specs.TreeCode.{tree_count}
 use Rattle.lc_sexp.specs.Trees.{Tree, Trees, atom, list, none, ◌▸◌, item_count}
@@ -131,7 +132,7 @@ IsPointOf d b k q = (q.operation ≡ k) × Fits (body_names d b) (first_local b)
 
 -- the i-th of its body; an object has no more than 256
 abbrev IsPlaced : Declared → Body → ℕ → ℕ → Point → Type 0
-IsPlaced d b k i q = (b.first + i < 256) × IsPointOf d b k q
+IsPlaced d b k i q = (b.first + i < point_limit) × IsPointOf d b k q
 
 point_parts_hold : (d : Declared) (b : Body) (k i n m : ℕ) (ts : Trees) → Holds (IsPlaced d b k i) (point_parts d b code_alone k i n m ts)
 point_parts_hold d b k i n m none = tt
@@ -141,8 +142,8 @@ point_parts_hold d b k i n m (name ▸ code ▸ ts) =
     let instruction = instruction_reading (code_names d b) (body_names d b) (m + item_count name) code in
     let sides = sides_reading n (m + item_count name + item_count code) ts in
     both_holds (IsPlaced d b k i) (λ u. Unit {0}) (IsPlaced d b k i) point_alone _ sides
-    (both_holds (λ w. b.first + i < 256) F (IsPlaced d b k i) (point_of k) (point_name_reading d (b.first + i) n m name) instruction
-    (limited_below 256 (b.first + i) n (kth_name_reading d.points (b.first + i) m name))
+    (both_holds (λ w. b.first + i < point_limit) F (IsPlaced d b k i) (point_of k) (point_name_reading d (b.first + i) n m name) instruction
+    (limited_below point_limit (b.first + i) n (kth_name_reading d.points (b.first + i) m name))
     (instruction_holds (code_names d b) (body_names d b) (first_local b) (variables_in b) (body_scope d b) (m + item_count name) code) (λ w x h g. (h, (refl, g))))
     (anything sides) (λ q u h g. h)
 
@@ -188,7 +189,7 @@ due_name names due n (atom w) h = if_holds (λ k. w ≡ due) (is_name w) (known 
 pub record IsBody (d : Declared) (b : Body) (k : ℕ) (us : Trees) (text : BodyText Point) : Type 0 where
   pub due : first_text us ≡ b.operation
   pub locals : length text.locals ≡ length (names_among (within_first (later us)))
-  pub few : length text.locals ≤ 16
+  pub few : length text.locals ≤ local_limit
   pub points : ArePoints d b k (later (later us)) text.points
 
 body_parts_hold : (d : Declared) (b : Body) (k n m : ℕ) (us : Trees) → Holds (IsBody d b k us) (body_parts d b code_alone k n m us)
@@ -196,7 +197,7 @@ body_parts_hold d b k n m none = tt
 body_parts_hold d b k n m (op ▸ none) = tt
 body_parts_hold d b k n m (op ▸ locals ▸ ts) = by_test (is_of_another d.operations b.operation op) refl where
   Named : List (List ℕ) → Type 0
-  Named ws = (length ws ≡ length (names_among (items_within locals))) × (length ws ≤ 16)
+  Named ws = (length ws ≡ length (names_among (items_within locals))) × (length ws ≤ local_limit)
 
   by_test : (c : Bool) → is_of_another d.operations b.operation op ≡ c
       → Holds (IsBody d b k (op ▸ locals ▸ ts)) (cond c (wrong Shape n) (both body_of (locals_reading d b m op (m + item_count op) locals) (points_reading d b code_alone k n (m + item_count op + item_count locals) ts)))
@@ -205,8 +206,8 @@ body_parts_hold d b k n m (op ▸ locals ▸ ts) = by_test (is_of_another d.oper
       both_holds (λ ws. (text_in op ≡ b.operation) × Named ws) (ArePoints d b k ts) (IsBody d b k (op ▸ locals ▸ ts)) body_of (locals_reading d b m op (m + item_count op) locals)
       (points_reading d b code_alone k n (m + item_count op + item_count locals) ts)
       (both_holds (λ j. text_in op ≡ b.operation) Named (λ ws. (text_in op ≡ b.operation) × Named ws) behind_name (use_reading d.operations m op)
-      (names_reading 16 (b.call.arguments ++ b.locals) (length b.call.arguments) (m + item_count op) locals) (due_name d.operations b.operation m op e)
-      (names_hold 16 (b.call.arguments ++ b.locals) (length b.call.arguments) (m + item_count op) locals) (λ j ws h g. (h, g)))
+      (names_reading local_limit (b.call.arguments ++ b.locals) (length b.call.arguments) (m + item_count op) locals) (due_name d.operations b.operation m op e)
+      (names_hold local_limit (b.call.arguments ++ b.locals) (length b.call.arguments) (m + item_count op) locals) (λ j ws h g. (h, g)))
       (points_hold d b k n (m + item_count op + item_count locals) ts)
       (λ ws qs h g. record { due = h.0; locals = h.1.0; few = h.1.1; points = g })
 

@@ -15,6 +15,7 @@ use Rattle.lc_text.specs.Names.{Names}
 use Rattle.lc_text.specs.Terms.{pair, term_reading}
 use Rattle.lc_reading.proofs.Holding.{Holds, weaker, and_holds, both_holds, ended_holds, if_holds, and_true}
 use Rattle.lc_reading.specs.Listed.{declared_by}
+use Rattle.lc_reading.specs.Naming.{known}
 use Rattle.lc_reading.specs.Readings.{Reading, fine, wrong}
 use Rattle.lc_reading.specs.Rows.{each_reading, declared_reading, first_name}
 use Rattle.lc_reading.specs.Words.{is, is_long}
@@ -23,7 +24,7 @@ use Rattle.lc_object.specs.Syntax.{Instr, Load, Store, Cas, Set, Faa, If, Return
 use Rattle.lc_object.specs.WellFormed.{is_code_term, are_code_terms, is_code_formula, are_code_formulas, are_distinct}
 use Rattle.lc_object_text.proofs.Distinct.{is_between}
 use Rattle.lc_object_text.proofs.Holding.{Counted, counted_holds, row_holds, behind_holds}
-use Rattle.lc_object_text.specs.Cells.{found, array_reading, label_reading, row_width, written, target_reading, targets_reading, values_reading, assignment_reading, assignments_reading}
+use Rattle.lc_object_text.specs.Cells.{array_reading, label_reading, row_width, written, target_reading, targets_reading, values_reading, assignment_reading, assignments_reading}
 use Rattle.lc_object_text.specs.CodeNames.{CodeNames}
 use Rattle.lc_object_text.specs.Counts.{count_reading}
 use Rattle.lc_object_text.specs.Heads.{head_of, own_parts}
@@ -84,13 +85,13 @@ formula_has : (names : Names) (code : CodeNames) (low count : ℕ) → Scope nam
 formula_has names code low count scope n t = formula_holds names (IsTerm count) NoColumn (IsFormula count) (AreFormulas count) scope.terms n t
 
 -- names that are used
-found_holds : {X : Type 0} (P : X → Type 0) (n : ℕ) (w : List ℕ) (o : Option X) → ((x : X) → o ≡ Some x → P x) → Holds P (found n w o)
+found_holds : {X : Type 0} (P : X → Type 0) (n : ℕ) (w : List ℕ) (o : Option X) → ((x : X) → o ≡ Some x → P x) → Holds P (known n w o)
 found_holds P n w None h = tt
 found_holds P n w (Some x) h = if_holds P (is_long w) (wrong Bound n) (fine x) tt (h x refl)
 
 label_holds : (code : CodeNames) (n : ℕ) (t : Tree) → Holds (IsLabel code) (label_reading code n t)
 label_holds code n (list ts) = tt
-label_holds code n (atom w) = if_holds (IsLabel code) (is_name w) (found n w (code.label w)) (wrong Shape n) (found_holds (IsLabel code) n w (code.label w) (λ l e. (w, e))) tt
+label_holds code n (atom w) = if_holds (IsLabel code) (is_name w) (known n w (code.label w)) (wrong Shape n) (found_holds (IsLabel code) n w (code.label w) (λ l e. (w, e))) tt
 
 -- an array, and its width
 abbrev IsArray : CodeNames → Tree → ℕ → Type 0
@@ -99,7 +100,7 @@ IsArray code t a = (width : ℕ) × (row_width code t ≡ Some width) × IsRow c
 array_holds : (code : CodeNames) (n : ℕ) (t : Tree) → Holds (IsArray code t) (array_reading code n t)
 array_holds code n (list ts) = tt
 array_holds code n (atom w) =
-    if_holds (IsArray code (atom w)) (is_name w) (found n w (option_map (λ (row : ℕ × ℕ). row.0) (code.array w))) (wrong Shape n)
+    if_holds (IsArray code (atom w)) (is_name w) (known n w (option_map (λ (row : ℕ × ℕ). row.0) (code.array w))) (wrong Shape n)
     (found_holds (IsArray code (atom w)) n w (option_map (λ (row : ℕ × ℕ). row.0) (code.array w)) (λ a e. of_row (code.array w) refl a e)) tt where
       of_row : (o : Option (ℕ × ℕ)) → code.array w ≡ o → (a : ℕ) → option_map (λ (row : ℕ × ℕ). row.0) o ≡ Some a → IsArray code (atom w) a
       of_row None e a h = absurd (cc)

@@ -1,18 +1,18 @@
-pub mod SectionWalk
-pub mod Placed
-pub mod PlacedRows
-pub mod Ends
-pub mod Behind
-pub mod PointWalk
-pub mod Distinct
+mod SectionWalk
+mod Placed
+mod PlacedRows
+mod Ends
+mod Behind
+mod PointWalk
+mod Distinct
 pub mod Holding
 pub mod CodeHolds
 pub mod BodyHolds
 pub mod SignatureHolds
 pub mod ArrayHolds
 pub mod BodiesHold
-pub mod ObjectChecks
+mod ObjectChecks
 pub mod ObjectHolds
-pub mod PartsInRow
-pub mod FileAnswers
+mod PartsInRow
+mod FileAnswers
 pub mod MadeParts

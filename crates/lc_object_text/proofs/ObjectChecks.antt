@@ -4,6 +4,7 @@ use Rattle.std.proofs.lemmas.Bool.Decides.{nat_tests}
 use Rattle.std.proofs.lemmas.List.Folds.{list_all-append}
 use Rattle.std.specs.Prelude.{option_map, slice_get, ◌==◌, nat_lt, nat_le}
 use Rattle.std.specs.List.{list_all, list_any}
+use Rattle.lc_base.specs.Limits.{local_limit, point_limit, width_limit}
 use Rattle.lc_sexp.specs.TreeCode.{tree_count}
 use Rattle.lc_sexp.specs.Trees.{Trees}
 use Rattle.lc_reading.proofs.Holding.{and_true}
@@ -40,10 +41,10 @@ pub is_at_most : (m n : ℕ) → m ≤ n → nat_le m n ≡ true
 is_at_most m n h = grind (arith, nat_tests)
 
 -- targets of an operation, whose locals are few
-targets_are : (o : Operation) (rs : List ℕ) → length o.locals ≤ 16 → AreTargets (2 + length o.arguments) (variable_count o) rs → are_targets o rs ≡ true
+targets_are : (o : Operation) (rs : List ℕ) → length o.locals ≤ local_limit → AreTargets (2 + length o.arguments) (variable_count o) rs → are_targets o rs ≡ true
 targets_are o rs few h =
     let many : length rs ≤ length o.locals = few_between (length o.locals) (2 + length o.arguments) rs h.0 h.1 in
-    and_three (nat_le (length rs) 16) (list_all (is_between (2 + length o.arguments) (variable_count o)) rs) (are_distinct rs) (is_at_most (length rs) 16 (omega (arith, many, few))) h.0 h.1
+    and_three (nat_le (length rs) local_limit) (list_all (is_between (2 + length o.arguments) (variable_count o)) rs) (are_distinct rs) (is_at_most (length rs) local_limit (omega (arith, many, few))) h.0 h.1
 
 counted_of : (o : Option ℕ) (m n : ℕ) → Counted o n → o ≡ Some m → n ≡ m
 counted_of None m n h e = cc
@@ -51,7 +52,7 @@ counted_of (Some k) m n h e = let same : k ≡ m = cc in h ∙ same
 
 -- an instruction whose names are declared, where arrays and points are as declared
 instruction_is : (object : Object) (op : ℕ) (o : Operation) (code : CodeNames) → ((a width : ℕ) → IsRow code a width → has_width object a width ≡ true) → ((l : ℕ) → IsLabel code l → is_label object op l ≡ true)
-    → code.replies ≡ Some o.replies → length o.locals ≤ 16 → (i : Instr) → Fits code (2 + length o.arguments) (variable_count o) i → is_instruction object op o i ≡ true
+    → code.replies ≡ Some o.replies → length o.locals ≤ local_limit → (i : Instr) → Fits code (2 + length o.arguments) (variable_count o) i → is_instruction object op o i ≡ true
 instruction_is object op o code rows labels replies few (Load a t rs l) h =
     and_four (has_width object a (length rs)) (is_code_term (variable_count o) t) (are_targets o rs) (is_label object op l) (rows a (length rs) h.0) h.1 (targets_are o rs few h.2) (labels l h.3)
 instruction_is object op o code rows labels replies few (Store a t vs l) h =
@@ -103,7 +104,7 @@ columns_are a c n zero h g = refl
 columns_are a c n (suc k) h g =
     and_true (nat_le a n && nat_lt (n - a) c) (list_all (λ m. nat_le a m && nat_lt (m - a) c) (numbers_from (suc n) k)) (concrete a c n h (omega (arith, g))) (columns_are a c (suc n) k (omega (arith, h)) (omega (arith, g)))
 
-width_is : (n : ℕ) → 1 ≤ n → n ≤ 4 → is_width n ≡ true
+width_is : (n : ℕ) → 1 ≤ n → n ≤ width_limit → is_width n ≡ true
 width_is n low high = grind (arith, nat_tests)
 
 -- arrays that have their spans, where there are as many concrete columns as they have
@@ -217,9 +218,9 @@ point_is object k o q e at limits h =
     ap (λ n. passes_at (λ (x : Operation). has_limits x && is_instruction object n x q.instruction) (slice_get object.operations n)) e
     ∙ ap (passes_at (λ (x : Operation). has_limits x && is_instruction object k x q.instruction)) at ∙ and_true (has_limits o) (is_instruction object k o q.instruction) limits h
 
-few_locals : (o : Operation) → has_limits o ≡ true → length o.locals ≤ 16
+few_locals : (o : Operation) → has_limits o ≡ true → length o.locals ≤ local_limit
 few_locals o h = third (length o.arguments) o.replies (length o.locals) h where
-  third : (a r l : ℕ) → (nat_le a 3 && nat_le r 3 && nat_le l 16) ≡ true → l ≤ 16
+  third : (a r l : ℕ) → (nat_le a 3 && nat_le r 3 && nat_le l local_limit) ≡ true → l ≤ local_limit
   third a r l h = grind (arith, nat_tests)
 
 points_are : (object : Object) (d : Declared) (b : Body) (k : ℕ) (o : Operation) → HaveSpans d.spans object.arrays → slice_get object.operations k ≡ Some o → IsOperationOf b o
@@ -239,7 +240,7 @@ points_are object d b k o spans at of_b labels (q ∷ own) h =
 pub record BodiesAre (object : Object) (k p : ℕ) (os : List Operation) (qs : List Point) : Type 0 where
   pub operations : are_operations object k os ≡ true
   pub points : list_all (is_point object) qs ≡ true
-  pub few : p + length qs ≤ 256
+  pub few : p + length qs ≤ point_limit
 
 pub bodies_are : (object : Object) (d : Declared) → HaveSpans d.spans object.arrays → (k p : ℕ) (bs : List Body) (os : List Operation) (qs : List Point) (before : List Operation) (points_before : List Point)
     → object.operations ≡ before ++ os → length before ≡ k → object.points ≡ points_before ++ qs → length points_before ≡ p → AreEarly k points_before → AreOperationsOf bs os → ArePoints d k p bs qs → BodiesAre object k p os qs

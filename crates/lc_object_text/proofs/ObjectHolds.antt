@@ -3,6 +3,7 @@ use Rattle.std.proofs.Common.{◌≡◌, ℕ, zero, suc, ◌+◌, ◌≤◌, Boo
 use Rattle.std.proofs.lemmas.List.{length-map}
 use Rattle.std.specs.Prelude.{codes, nat_le}
 use Rattle.std.specs.List.{list_all}
+use Rattle.lc_base.specs.Limits.{operation_limit, point_limit}
 use Rattle.lc_sexp.specs.Parts.{fits, form_fit}
 use Rattle.lc_sexp.specs.TreeCode.{tree_count}
 use Rattle.lc_sexp.specs.Trees.{Tree, Trees, none, ◌▸◌, item_count}
@@ -93,7 +94,7 @@ operations_counted (b ∷ bs) (o ∷ os) h = ap suc (operations_counted bs os h.
 pub record CodeFits (d : Declared) (operations : List Operation) (points : List Point) : Type 0 where
   pub operations_fit : AreOperationsOf d.bodies operations
   pub points_fit : ArePoints d 0 0 d.bodies points
-  pub few : length operations ≤ 16
+  pub few : length operations ≤ operation_limit
 
 pub code_fits : (s : Sections) (text : SpecificationText) (object : Tables × List (BodyText Point)) → SpecificationFits (declared_in_sections s) s text → ObjectFits (declared_in_sections s) s object
     → CodeFits (declared_in_sections s) (operations_from 0 text.signatures object.1) (points_of object.1)
@@ -108,7 +109,7 @@ code_fits s text object h g =
     let names : length d.operations ≡ length (operations_in s) = length-map (operations_in s) first_text in
     let enough : bodies_due (length (operations_in s)) ≤ tree_count ts = subst (λ n. bodies_due n ≤ tree_count ts) names g.1.0 in
     let size = each_counted (IsOperation d) 0 os text.signatures h.operations.1 in
-    let room : 0 + length text.signatures ≤ 16 = each_few (IsOperation d) 16 (λ i t x p. p.1.below) 0 os text.signatures (omega arith) h.operations.1 in
+    let room : 0 + length text.signatures ≤ operation_limit = each_few (IsOperation d) operation_limit (λ i t x p. p.1.below) 0 os text.signatures (omega arith) h.operations.1 in
     let fit = bodies_fit d [] [] [] 0 0 (bodies_due (length (operations_in s))) os ts text.signatures object.1 (ap (map first_text) ops) (ap (map call_of) ops) refl refl refl refl due enough (omega arith) h.operations.1 g.1.1 in
     record {
       operations_fit = fit.0;
@@ -127,8 +128,8 @@ object_is s text object h g =
     let c : CodeFits d o.operations o.points = code_fits s text object h g in
     let spans : HaveSpans d.spans o.arrays = subst (λ n. HaveSpans (spans_from n (arrays_in s)) o.arrays) h.abstracts (spans_have (length text.abstracts) (arrays_in s) object.0.arrays g.0) in
     let all : BodiesAre o 0 0 o.operations o.points = bodies_are o d spans 0 0 d.bodies o.operations o.points [] [] refl refl refl refl refl c.operations_fit c.points_fit in
-    and_six (are_apart o.arrays) (nat_le (length o.operations) 16) (nat_le (length o.points) 256) (list_all (is_array o) o.arrays) (are_operations o 0 o.operations) (list_all (is_point o) o.points)
-    (apart d.abstracts (arrays_in s) o.arrays spans) (is_at_most (length o.operations) 16 c.few) (is_at_most (length o.points) 256 (omega (arith, all.few)))
+    and_six (are_apart o.arrays) (nat_le (length o.operations) operation_limit) (nat_le (length o.points) point_limit) (list_all (is_array o) o.arrays) (are_operations o 0 o.operations) (list_all (is_point o) o.points)
+    (apart d.abstracts (arrays_in s) o.arrays spans) (is_at_most (length o.operations) operation_limit c.few) (is_at_most (length o.points) point_limit (omega (arith, all.few)))
     (arrays_are o d.abstracts (arrays_in s) o.arrays spans (omega (arith, h.abstracts)) (omega (arith, h.abstracts, concretes_counted (arrays_in s) object.0.arrays g.0))) all.operations all.points
 
 file_holds : (ts : Trees) → Holds (λ o. is_object o ≡ true) (file_reading ts)

@@ -3,6 +3,7 @@ use Rattle.std.proofs.Common.{◌≡◌, ℕ, ◌+◌, ◌≤◌, ◌<◌, Bool,
 use Rattle.std.proofs.lemmas.Bool.Decides.{nat_tests}
 use Rattle.std.specs.Prelude.{ℤ, pos, negsuc, codes, slice_get, nat_lt, nat_le}
 use Rattle.std.specs.List.{list_any}
+use Rattle.lc_base.specs.Limits.{operation_limit}
 use Rattle.lc_sexp.specs.Parts.{Fit, fits, misshapen, beyond, form_fit, integer_fit}
 use Rattle.lc_sexp.specs.TreeCode.{tree_count}
 use Rattle.lc_sexp.specs.Trees.{Tree, Trees, atom, list, none, ◌▸◌, item_count}
@@ -39,7 +40,7 @@ replies_hold n (atom w) =
 
 -- the i-th of operations
 pub record IsSignature (d : Declared) (i : ℕ) (us : Trees) (s : Signature) : Type 0 where
-  pub below : i < 16
+  pub below : i < operation_limit
   pub new : list_any (is (first_text us)) (take i d.operations) ≡ false
   pub arguments : length s.arguments ≡ length (call_of us).arguments
   pub few : length s.arguments ≤ 3
@@ -47,7 +48,7 @@ pub record IsSignature (d : Declared) (i : ℕ) (us : Trees) (s : Signature) : T
   pub at_most : s.replies ≤ 3
 
 abbrev IsNew : Declared → ℕ → Tree → List ℕ → Type 0
-IsNew d i t w = (i < 16) × (list_any (is (text_in t)) (take i d.operations) ≡ false)
+IsNew d i t w = (i < operation_limit) × (list_any (is (text_in t)) (take i d.operations) ≡ false)
 
 new_text : (before : List (List ℕ)) (t : Tree) (w : List ℕ) → IsName before t w → list_any (is (text_in t)) before ≡ false
 new_text before t w h = ap (λ v. list_any (is v) before) (text_of t w h.0) ∙ h.1
@@ -55,7 +56,7 @@ new_text before t w h = ap (λ v. list_any (is v) before) (text_of t w h.0) ∙ 
 new_holds : (d : Declared) (i n m : ℕ) (t : Tree) → Holds (IsNew d i t) (operation_name_reading d i n m t)
 new_holds d i n m t =
     let before = take i d.operations in
-    and_holds (λ w. i < 16) (λ w. list_any (is (text_in t)) before ≡ false) (operation_name_reading d i n m t) (limited_below 16 i n (kth_name_reading d.operations i m t)) (only (nat_le 16 i) (kth_name_reading d.operations i m t) (kth_name_holds d.operations i m t)) where
+    and_holds (λ w. i < operation_limit) (λ w. list_any (is (text_in t)) before ≡ false) (operation_name_reading d i n m t) (limited_below operation_limit i n (kth_name_reading d.operations i m t)) (only (nat_le operation_limit i) (kth_name_reading d.operations i m t) (kth_name_holds d.operations i m t)) where
       only : (b : Bool) (r : Reading (List ℕ)) → Holds (IsName (take i d.operations) t) r → Holds (λ w. list_any (is (text_in t)) (take i d.operations) ≡ false) (limited b n r)
       only true (fine w) h = tt
       only true (flawed f) h = tt

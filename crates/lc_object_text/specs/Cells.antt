@@ -1,12 +1,11 @@
 -- What a text reads as where a part of an instruction is due.
-use Rattle.std.specs.Prelude.{ℕ, ◌+◌, Bool, true, false, if◌then◌else◌, List, [], Option, Some, None, option_map}
+use Rattle.std.specs.Prelude.{ℕ, ◌+◌, Bool, true, false, List, [], Option, Some, None, option_map}
 use Rattle.std.specs.List.{list_any}
-use Rattle.lc_base.specs.NameText.{is_name}
 use Rattle.lc_sexp.specs.Trees.{Tree, Trees, atom, list, ◌▸◌, item_count}
 use Rattle.lc_term.specs.Syntax.{Term}
 use Rattle.lc_text.specs.Names.{Names}
 use Rattle.lc_reading.specs.Listed.{declared_by}
-use Rattle.lc_reading.specs.Naming.{within}
+use Rattle.lc_reading.specs.Naming.{within, known_reading, spelled_reading}
 use Rattle.lc_reading.specs.Readings.{Reading, wrong, two_of}
 use Rattle.lc_reading.specs.Rows.{each_reading, declared_reading, first_name}
 use Rattle.lc_reading.specs.Words.{is}
@@ -15,22 +14,12 @@ use Rattle.lc_text.specs.Terms.{pair, term_reading}
 use Rattle.lc_object_text.specs.CodeNames.{CodeNames}
 use Rattle.lc_object_text.specs.Counts.{row_reading}
 
--- what a name stands for, if it is declared
-abbrev pub found : {X : Type 0} → ℕ → List ℕ → Option X → Reading X
-found n w (Some x) = within n w x
-found n w None = wrong Unknown n
-
--- the item n, where a name is due that stands for something
-abbrev pub found_reading : {X : Type 0} → (List ℕ → Option X) → ℕ → Tree → Reading X
-found_reading find n (atom w) = if is_name w then found n w (find w) else wrong Shape n
-found_reading find n (list ts) = wrong Shape n
-
 -- the name of an array, and of a point
 abbrev pub array_reading : CodeNames → ℕ → Tree → Reading ℕ
-array_reading code n t = found_reading (λ w. option_map (λ row. row.0) (code.array w)) n t
+array_reading code n t = known_reading (λ w. option_map (λ row. row.0) (code.array w)) n t
 
 abbrev pub label_reading : CodeNames → ℕ → Tree → Reading ℕ
-label_reading code n t = found_reading code.label n t
+label_reading code n t = known_reading code.label n t
 
 -- the width of the array that the item names, if it names one
 abbrev pub row_width : CodeNames → Tree → Option ℕ
@@ -45,8 +34,7 @@ written n w false (Some k) = within n w k
 
 -- the name of a local that is written, behind these
 abbrev pub target_reading : CodeNames → List (List ℕ) → ℕ → Tree → Reading ℕ
-target_reading code before n (atom w) = if is_name w then written n w (list_any (is w) before) (code.target w) else wrong Shape n
-target_reading code before n (list ts) = wrong Shape n
+target_reading code before n t = spelled_reading (λ w. written n w (list_any (is w) before) (code.target w)) n t
 
 -- (r ..): as many locals as an array has columns, each once
 abbrev pub targets_reading : CodeNames → Option ℕ → ℕ → Tree → Reading (List ℕ)

@@ -1,5 +1,6 @@
 -- What a text reads as where names are declared.
 use Rattle.std.specs.Prelude.{ℕ, ◌+◌, nat_le, List, take, None}
+use Rattle.lc_base.specs.Limits.{column_limit}
 use Rattle.lc_sexp.specs.Trees.{Tree, Trees, atom, list, ◌▸◌}
 use Rattle.lc_reading.specs.Naming.{name_reading}
 use Rattle.lc_reading.specs.Readings.{Reading, wrong, limited, behind_reading}
@@ -19,9 +20,9 @@ abbrev pub names_reading : ℕ → List (List ℕ) → ℕ → ℕ → Tree → 
 names_reading limit names base n (atom w) = wrong Shape n
 names_reading limit names base n (list ts) = placed_reading (listed_name_reading limit names base) 0 (n + 1) ts
 
--- (NAME ..): the i-th column of a section, behind as many others; there are at most 64
+-- (NAME ..): the i-th column of a section, behind as many others
 abbrev pub column_name_reading : List (List ℕ) → ℕ → ℕ → ℕ → Tree → Reading (List ℕ)
-column_name_reading names base i n (list (t ▸ ts)) = limited (nat_le 64 (base + i)) n (kth_name_reading names (base + i) (n + 1) t)
+column_name_reading names base i n (list (t ▸ ts)) = limited (nat_le column_limit (base + i)) n (kth_name_reading names (base + i) (n + 1) t)
 column_name_reading names base i n _ = wrong Shape n
 
 -- (WORD (NAME ..) ..)

@@ -8,14 +8,10 @@ use Rattle.lc_text.specs.Names.{Names}
 use Rattle.lc_text.specs.declared.scope.ColumnUse.{ColumnUse}
 use Rattle.lc_text.specs.declared.scope.ColumnUse.TheVariants.{Misplaced, Hidden, Undeclared}
 use Rattle.lc_reading.specs.Listed.{place_of, names_among}
+pub use Rattle.lc_reading.specs.Naming.{text_in}
 use Rattle.lc_reading.specs.Reserved.{is_system_column}
 use Rattle.lc_object_text.specs.CodeNames.{CodeNames}
 use Rattle.lc_object_text.specs.Sections.{Sections, sections_of, parts_in, forms_in, some_forms_in}
-
--- a text where an atom stands, and none where a list does
-abbrev pub text_in : Tree → List ℕ
-text_in (atom w) = w
-text_in (list ts) = []
 
 abbrev pub first_text : Trees → List ℕ
 first_text none = []

@@ -1,5 +1,6 @@
 -- What a text reads as where the arrays, the operations and the bodies of an object are due, and as a whole file.
 use Rattle.std.specs.Prelude.{ℕ, ◌+◌, ℤ, pos, negsuc, Bool, false, ◌==◌, nat_lt, nat_le, if◌then◌else◌, codes, List, [], ◌∷◌, ◌++◌, length, slice_get, Option, Some, None}
+use Rattle.lc_base.specs.Limits.{argument_limit, column_limit, operation_limit, reply_limit, width_limit}
 use Rattle.lc_sexp.specs.Trees.{Tree, Trees, atom, list, none, ◌▸◌, item_count}
 use Rattle.lc_sexp.specs.TreeCode.{tree_count}
 use Rattle.lc_sexp.specs.Parts.{Fit, fits, misshapen, beyond, integer_fit}
@@ -17,9 +18,9 @@ use Rattle.lc_object_text.specs.Points.{Beside, BodyText, body_reading, code_alo
 use Rattle.lc_object_text.specs.Rows.{placed_reading, lists_reading}
 use Rattle.lc_object_text.specs.Sections.{Sections, sections_of}
 
--- the name of the i-th column of an array, behind as many others, in the item n; there are at most 4 in an array and 64 in all
+-- the name of the i-th column of an array, behind as many others, in the item n
 abbrev pub own_name_reading : List (List ℕ) → ℕ → ℕ → ℕ → ℕ → Tree → Reading (List ℕ)
-own_name_reading names base i n m t = limited (nat_le 4 i) n (limited (nat_le 64 (base + i)) n (kth_name_reading names (base + i) m t))
+own_name_reading names base i n m t = limited (nat_le width_limit i) n (limited (nat_le column_limit (base + i)) n (kth_name_reading names (base + i) m t))
 
 abbrev pub column_of : List ℕ → ℤ × ℤ → Column
 column_of name numbers = record { name = name; slope = numbers.0; start = numbers.1 }
@@ -75,9 +76,9 @@ abbrev pub has_minus : List ℕ → Bool
 has_minus [] = false
 has_minus (b ∷ w) = b == 45
 
--- a number of replies, at most 3
+-- a number of replies, within the limit
 abbrev pub few_replies : ℕ → Fit ℤ → Reading ℕ
-few_replies n (fits (pos k)) = if nat_lt 3 k then wrong Bound n else fine k
+few_replies n (fits (pos k)) = if nat_lt reply_limit k then wrong Bound n else fine k
 few_replies n (fits (negsuc k)) = wrong Shape n
 few_replies n misshapen = wrong Shape n
 few_replies n beyond = wrong Bound n
@@ -86,13 +87,13 @@ abbrev pub replies_reading : ℕ → Tree → Reading ℕ
 replies_reading n (atom w) = if has_minus w then wrong Shape n else few_replies n (integer_fit (atom w))
 replies_reading n (list ts) = wrong Shape n
 
--- (ARG ..) REPLIES: at most 3 arguments, the names of which these are
+-- (ARG ..) REPLIES: arguments, the names of which these are
 abbrev pub call_reading : List (List ℕ) → ℕ → Tree → ℕ → Tree → Reading (List (List ℕ) × ℕ)
-call_reading arguments i t j u = both pair (names_reading 3 arguments 0 i t) (replies_reading j u)
+call_reading arguments i t j u = both pair (names_reading argument_limit arguments 0 i t) (replies_reading j u)
 
--- the name of the i-th operation, which is the item n; there are at most 16
+-- the name of the i-th operation, which is the item n
 abbrev pub operation_name_reading : Declared → ℕ → ℕ → ℕ → Tree → Reading (List ℕ)
-operation_name_reading d i n m t = limited (nat_le 16 i) n (kth_name_reading d.operations i m t)
+operation_name_reading d i n m t = limited (nat_le operation_limit i) n (kth_name_reading d.operations i m t)
 
 -- NAME (ARG ..) REPLIES ..: the parts of the list n, numbered from m on
 abbrev pub signature_parts : Declared → ℕ → ℕ → ℕ → Trees → Reading Signature

@@ -1,6 +1,7 @@
 -- What a text reads as where a point or a body is due.
 use Rattle.std.specs.Prelude.{◌≡◌, Result, Ok, Err, ℕ, ◌+◌, nat_le, ◌&&◌, Bool, true, false, not, if◌then◌else◌, codes, List, ◌++◌, length}
 use Rattle.std.specs.List.{list_any}
+use Rattle.lc_base.specs.Limits.{local_limit, point_limit}
 use Rattle.lc_sexp.specs.Trees.{Tree, Trees, atom, list, none, ◌▸◌, item_count}
 use Rattle.lc_object.specs.Syntax.{Instr, Point}
 use Rattle.lc_reading.specs.Naming.{use_reading}
@@ -40,9 +41,9 @@ Beside X = ℕ → Tree → Bool → Reading Point → ℕ → Trees → Reading
 abbrev pub point_of : ℕ → List ℕ → Instr → Point
 point_of operation name instruction = record { name = name; operation = operation; instruction = instruction }
 
--- the name of the p-th point, which is the item n; there are at most 256
+-- the name of the p-th point, which is the item n
 abbrev pub point_name_reading : Declared → ℕ → ℕ → ℕ → Tree → Reading (List ℕ)
-point_name_reading d p n m t = limited (nat_le 256 p) n (kth_name_reading d.points p m t)
+point_name_reading d p n m t = limited (nat_le point_limit p) n (kth_name_reading d.points p m t)
 
 -- NAME INSTR ..: the parts of the point n, numbered from m on, the i-th in the body of the operation of this number
 abbrev pub point_parts : {X : Type 0} → Declared → Body → Beside X → ℕ → ℕ → ℕ → ℕ → Trees → Reading X
@@ -73,10 +74,10 @@ body_of locals points = record { locals = locals; points = points }
 abbrev pub behind_name : ℕ → List (List ℕ) → List (List ℕ)
 behind_name k locals = locals
 
--- OP (LOCAL ..): the name of an operation, and at most 16 locals, which differ from its arguments too
+-- OP (LOCAL ..): the name of an operation, and locals, which differ from its arguments too
 abbrev pub locals_reading : Declared → Body → ℕ → Tree → ℕ → Tree → Reading (List (List ℕ))
 locals_reading d b i t j u =
-    both behind_name (use_reading d.operations i t) (names_reading 16 (b.call.arguments ++ b.locals) (length b.call.arguments) j u)
+    both behind_name (use_reading d.operations i t) (names_reading local_limit (b.call.arguments ++ b.locals) (length b.call.arguments) j u)
 
 -- the name of an operation, and of another than the one that is due
 abbrev pub is_of_another : List (List ℕ) → List ℕ → Tree → Bool

@@ -1,3 +1,4 @@
+//! How the arrays of an object are read.
 ghost use Rattle.std.specs.Prelude.{◌≡◌, map, slice_get};
 ghost use Rattle.lc_base.specs.Name.{bytes_of};
 ghost use Rattle.lc_sexp.specs.Shown.{rest_of, number_of, owner_of};
@@ -10,10 +11,10 @@ ghost use Rattle.lc_object_text.specs.Objects.{first_column, own_name_reading, c
 ghost use Rattle.lc_object_text.specs.Texts.{array_shown};
 
 use crate::declared::{Declared, Span};
-use crate::declaring::{COLUMN_LIMIT, read_kth_name};
+use crate::declaring::read_kth_name;
 use crate::rows::{ReadsPlaced, read_placed};
-use lc_base::Name;
-use lc_object::{Column, WIDTH_LIMIT};
+use lc_base::{COLUMN_LIMIT, Name, WIDTH_LIMIT};
+use lc_object::Column;
 use lc_reading::{NameTable, Part, Pass, ReadFault, behind_word, both, limited, next_part, wrong};
 use lc_sexp::{Cursor, Item};
 use lc_text::read_numbers;

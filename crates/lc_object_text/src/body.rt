@@ -1,3 +1,4 @@
+//! How the body of an operation is read.
 ghost use Rattle.std.specs.Prelude.{◌≡◌, map};
 ghost use Rattle.lc_sexp.specs.Shown.{rest_of, number_of, owner_of};
 ghost use Rattle.lc_object.specs.View.{names_of};
@@ -15,8 +16,7 @@ use crate::declared_names::bodies_due;
 use crate::declaring::{Names, read_names};
 use crate::point::{Points, ReadsBeside, read_points};
 use crate::rows::{ReadsPlaced, read_placed};
-use lc_base::{Name, OpId};
-use lc_object::LOCAL_LIMIT;
+use lc_base::{LOCAL_LIMIT, Name, OpId};
 use lc_reading::{NameTable, Part, Pass, ReadFault, behind_word, both, next_part, read_use, wrong};
 use lc_sexp::{Cursor, Item};
 use std::alloc::Global;

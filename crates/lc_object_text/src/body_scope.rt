@@ -1,3 +1,4 @@
+//! The names that the instructions of a body see.
 ghost use Rattle.std.specs.Prelude.{◌≡◌, ◌<◌, ◌^◌, length, option_map};
 ghost use Rattle.lc_object_text.specs.DeclaredView.{spans_seen};
 ghost use Rattle.lc_object_text.specs.ObjectNames.{column_use, row_at};

@@ -1,3 +1,4 @@
+//! How the names of arrays, points and locals are read in an instruction.
 ghost use Rattle.std.specs.Prelude.{◌≡◌};
 ghost use Rattle.lc_sexp.specs.Shown.{rest_of, number_of, owner_of};
 ghost use Rattle.lc_reading.specs.Parts.{tree_of, place_of};
@@ -9,10 +10,11 @@ ghost use Rattle.lc_object_text.specs.Own.{assigned_seen, assignments_seen};
 
 use crate::code_scope::CodeScope;
 use crate::counts::read_count;
-use lc_base::{NAME_LIMIT, OutOfMemory, PointId, is_name};
+use lc_base::{OutOfMemory, PointId};
 use lc_object::{ArrayId, LocalId};
 use lc_reading::{
-    Declares, NameTable, Part, Pass, ReadFault, both, ended, read_declared, read_each, two, wrong,
+    Declares, NameTable, Part, Pass, ReadFault, both, ended, known_name, name_at, read_declared,
+    read_each, two, wrong,
 };
 use lc_sexp::{Cursor, Item};
 use lc_term::Term;
@@ -23,36 +25,17 @@ use std::alloc::Global;
 pub(crate) fn read_array<S: CodeScope>(scope: &S, part: Part<'_>) -> Result<ArrayId, ReadFault>
     ensures { IsReading (λ array. array.0) (array_reading (S.code scope.now) (place_of part.entry) (tree_of part.entry)) result }
 {
-    let atom = match part.item() {
-        Item::Atom(atom) => atom,
-        Item::List(list) => return Err(wrong(Pass::Shape, list.owner())),
-    };
-    if !is_name(atom.text().as_bytes()) {
-        return Err(wrong(Pass::Shape, atom.number()));
-    }
-    match scope.array(atom.text()) {
-        None => Err(wrong(Pass::Unknown, atom.number())),
-        Some(_) if atom.text().len() > NAME_LIMIT => Err(wrong(Pass::Bound, atom.number())),
-        Some(row) => Ok(row.array),
-    }
+    let name = name_at(part)?;
+    let row = known_name(name, scope.array(name.text()))?;
+    Ok(row.array)
 }
 
 /// The point of a name.
 pub(crate) fn read_label<S: CodeScope>(scope: &S, part: Part<'_>) -> Result<PointId, ReadFault>
     ensures { IsReading (λ point. point.0) (label_reading (S.code scope.now) (place_of part.entry) (tree_of part.entry)) result }
 {
-    let atom = match part.item() {
-        Item::Atom(atom) => atom,
-        Item::List(list) => return Err(wrong(Pass::Shape, list.owner())),
-    };
-    if !is_name(atom.text().as_bytes()) {
-        return Err(wrong(Pass::Shape, atom.number()));
-    }
-    match scope.label(atom.text()) {
-        None => Err(wrong(Pass::Unknown, atom.number())),
-        Some(_) if atom.text().len() > NAME_LIMIT => Err(wrong(Pass::Bound, atom.number())),
-        Some(point) => Ok(point),
-    }
+    let name = name_at(part)?;
+    known_name(name, scope.label(name.text()))
 }
 
 /// How many columns the array has that an item names, if it names one.
@@ -76,18 +59,10 @@ fn read_target<S: CodeScope>(
 ) -> Result<LocalId, ReadFault>
     ensures { IsReading (λ local. local.0) (target_reading (S.code scope.now) (listed before.now) (place_of part.entry) (tree_of part.entry)) result }
 {
-    let atom = match part.item() {
-        Item::Atom(atom) => atom,
-        Item::List(list) => return Err(wrong(Pass::Shape, list.owner())),
-    };
-    if !is_name(atom.text().as_bytes()) {
-        return Err(wrong(Pass::Shape, atom.number()));
-    }
-    match scope.target(atom.text()) {
-        None => Err(wrong(Pass::Unknown, atom.number())),
-        Some(_) if before.contains(atom.text()) => Err(wrong(Pass::Repeated, atom.number())),
-        Some(_) if atom.text().len() > NAME_LIMIT => Err(wrong(Pass::Bound, atom.number())),
-        Some(local) => Ok(local),
+    let name = name_at(part)?;
+    match scope.target(name.text()) {
+        Some(_) if before.contains(name.text()) => Err(wrong(Pass::Repeated, name.number())),
+        local => known_name(name, local),
     }
 }
 

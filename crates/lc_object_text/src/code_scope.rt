@@ -1,3 +1,4 @@
+//! What the names of an instruction stand for, as a trait.
 ghost use Rattle.std.specs.Prelude.{◌≡◌, option_map};
 
 use lc_base::PointId;

@@ -1,3 +1,4 @@
+//! Whether as many parts are left in a list as are due.
 ghost use Rattle.std.specs.Prelude.{◌≡◌};
 ghost use Rattle.lc_sexp.specs.Shown.{rest_of, number_of, owner_of};
 ghost use Rattle.lc_reading.specs.Readings.{Reading, ended};

@@ -1,3 +1,4 @@
+//! What a file declares for the code of its object.
 ghost use Rattle.std.specs.Prelude.{◌≡◌, ◌+◌, ◌<◌, ◌^◌, ◌++◌, length};
 ghost use Rattle.lc_sexp.specs.Shown.{rest_of};
 ghost use Rattle.lc_reading.specs.Words.{names_in};
@@ -31,7 +32,7 @@ pub struct Call<'a> {
 #[derive(Drop)]
 pub struct Operations<'a> {
     pub names: NameTable<'a>,
-    /// The same, by their numbers.
+    /// How they are called, by their numbers.
     pub texts: Vec<&'a str>,
     pub calls: Vec<Call<'a>>,
     ghost same: { names_in texts.items ≡ listed names },

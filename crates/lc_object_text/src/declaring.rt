@@ -1,3 +1,4 @@
+//! How the names are read that a file declares, each of which stands in its table already.
 ghost use Rattle.std.specs.Prelude.{◌≡◌, take};
 ghost use Rattle.std.specs.List.{list_any};
 ghost use Rattle.lc_base.specs.Name.{bytes_of};
@@ -9,15 +10,12 @@ ghost use Rattle.lc_reading.specs.Words.{is};
 ghost use Rattle.lc_object_text.specs.Declaring.{kth_name_reading, listed_name_reading, names_reading, column_name_reading, section_reading};
 
 use crate::rows::{ReadsPlaced, read_placed};
-use lc_base::{Name, is_name};
+use lc_base::{COLUMN_LIMIT, Name};
 use lc_reading::{
-    NameTable, Part, Pass, ReadFault, behind_word, is_reserved, limited, next_part, wrong,
+    NameTable, Part, Pass, ReadFault, behind_word, is_reserved, limited, name_at, next_part, wrong,
 };
 use lc_sexp::{Cursor, Item};
 use std::alloc::Global;
-
-/// The most columns of an object.
-pub(crate) const COLUMN_LIMIT: u64 = 64;
 
 /// Whether a name stands among the first of these.
 fn stands_before(names: &NameTable<'_>, count: u64, text: &str) -> bool
@@ -33,19 +31,13 @@ fn stands_before(names: &NameTable<'_>, count: u64, text: &str) -> bool
 pub fn read_kth_name(names: &NameTable<'_>, place: u64, part: Part<'_>) -> Result<Name, ReadFault>
     ensures { IsReading bytes_of (kth_name_reading (listed names.now) place (place_of part.entry) (tree_of part.entry)) result }
 {
-    let atom = match part.item() {
-        Item::Atom(atom) => atom,
-        Item::List(list) => return Err(wrong(Pass::Shape, list.owner())),
-    };
-    if !is_name(atom.text().as_bytes()) {
-        return Err(wrong(Pass::Shape, atom.number()));
+    let name = name_at(part)?;
+    if is_reserved(name.text()) || stands_before(names, place, name.text()) {
+        return Err(wrong(Pass::Repeated, name.number()));
     }
-    if is_reserved(atom.text()) || stands_before(names, place, atom.text()) {
-        return Err(wrong(Pass::Repeated, atom.number()));
-    }
-    match Name::new(atom.text()) {
+    match Name::new(name.text()) {
         Some(name) => Ok(name),
-        None => Err(wrong(Pass::Bound, atom.number())),
+        None => Err(wrong(Pass::Bound, name.number())),
     }
 }
 

@@ -1,3 +1,4 @@
+//! How the object of a file is read, with nothing beside its code.
 ghost use Rattle.std.specs.Prelude.{◌≡◌, true, List};
 ghost use Rattle.lc_sexp.specs.Trees.{row};
 ghost use Rattle.lc_sexp.specs.Shown.{rest_of, number_of};

@@ -1,3 +1,4 @@
+//! Lists of which only the first word is looked at.
 ghost use Rattle.lc_reading.specs.Parts.{tree_of, place_of};
 ghost use Rattle.lc_reading.specs.Results.{IsReading};
 ghost use Rattle.lc_object_text.specs.Headed.{headed_reading};

@@ -1,3 +1,4 @@
+//! How a point is read, with what may stand beside its instruction.
 ghost use Rattle.std.specs.Prelude.{◌+◌, ℕ, List, map};
 ghost use Rattle.lc_base.specs.Name.{bytes_of};
 ghost use Rattle.lc_sexp.specs.Shown.{rest_of, number_of, owner_of};
@@ -15,14 +16,11 @@ use crate::declaring::read_kth_name;
 use crate::headed_lists::{Headed, read_headed};
 use crate::instruction::read_instruction;
 use crate::rows::{ReadsPlaced, read_placed};
-use lc_base::{Name, OpId};
+use lc_base::{Name, OpId, POINT_LIMIT};
 use lc_object::{Instr, Point};
 use lc_reading::{Part, Pass, ReadFault, behind_word, both, limited, next_part, read_each, wrong};
 use lc_sexp::Cursor;
 use std::alloc::Global;
-
-/// The most points of an object.
-const POINT_LIMIT: u64 = 256;
 
 /// A way to read a point with what stands beside its code.
 pub trait ReadsBeside {
@@ -107,7 +105,7 @@ fn read_point_name(
 {
     let before = u64::from(scope.body.first) + u64::from(place);
     let name = read_kth_name(&scope.declared.points, before, part);
-    limited(POINT_LIMIT <= before, number, name)
+    limited(POINT_LIMIT as u64 <= before, number, name)
 }
 
 /// `NAME INSTR ..`

@@ -1,3 +1,4 @@
+//! How items are read by their places in a row.
 ghost use Rattle.std.specs.Prelude.{map};
 ghost use Rattle.lc_sexp.specs.Shown.{rest_of, number_of};
 ghost use Rattle.lc_reading.specs.Results.{IsReading};

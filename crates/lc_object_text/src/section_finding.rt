@@ -1,3 +1,4 @@
+//! Where the parts of a file begin.
 ghost use Rattle.std.specs.Prelude.{◌≡◌, ◌≤◌};
 ghost use Rattle.lc_sexp.specs.Shown.{rest_of, number_of};
 ghost use Rattle.lc_object_text.specs.ObjectNames.{first_text, within_first, later, parts_in_first};

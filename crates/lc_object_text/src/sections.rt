@@ -1,3 +1,4 @@
+//! The parts of a file, by where they begin.
 use lc_sexp::Cursor;
 
 /// Where the parts of a specification and of an object begin.

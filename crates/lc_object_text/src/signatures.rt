@@ -1,3 +1,4 @@
+//! How the operations of a specification are read, but for their branches.
 ghost use Rattle.std.specs.Prelude.{◌≡◌, ℕ, List, map, slice_get};
 ghost use Rattle.lc_base.specs.Name.{bytes_of};
 ghost use Rattle.lc_sexp.specs.Shown.{rest_of, number_of, owner_of};
@@ -14,8 +15,7 @@ ghost use Rattle.lc_object_text.specs.Texts.{call_shown, signature_shown, specif
 use crate::declared::{Call, Declared};
 use crate::declaring::{ColumnNames, Names, read_kth_name, read_names, read_section};
 use crate::rows::{ReadsPlaced, read_placed};
-use lc_base::Name;
-use lc_object::{ARGUMENT_LIMIT, OPERATION_LIMIT};
+use lc_base::{ARGUMENT_LIMIT, Name, OPERATION_LIMIT};
 use lc_reading::{NameTable, Part, Pass, ReadFault, behind_word, both, limited, next_part, wrong};
 use lc_sexp::{Cursor, Item};
 use std::alloc::Global;

@@ -1,3 +1,4 @@
+//! How an object's name and its arrays are read.
 ghost use Rattle.std.specs.Prelude.{[], None, codes};
 ghost use Rattle.lc_base.specs.Name.{bytes_of};
 ghost use Rattle.lc_sexp.specs.Shown.{rest_of, number_of};
@@ -88,7 +89,7 @@ fn read_auxiliary_names(
     }
 }
 
-/// The same, and what stands between them and the bodies.
+/// The names of the auxiliary columns, and what stands between them and the bodies.
 fn read_auxiliaries(
     alloc: Global,
     declared: &Declared<'_>,

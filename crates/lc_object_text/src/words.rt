@@ -1,3 +1,4 @@
+//! The first words of instructions.
 ghost use Rattle.std.specs.Prelude.{◌≡◌};
 ghost use Rattle.lc_object_text.specs.Heads.{head_of};
 

@@ -1,8 +1,8 @@
 pub mod Chosen
 pub mod Matched
 pub mod Resolving
-pub mod Crossing
-pub mod InScope
+mod Crossing
+mod InScope
 pub mod Scoped
 pub mod PathTotal
 mod Limited

@@ -4,6 +4,7 @@ use Rattle.std.proofs.lemmas.Bool.Decides.{nat_tests}
 use Rattle.std.proofs.lemmas.Option.{same_Some}
 use Rattle.std.specs.List.{list_all}
 use Rattle.std.specs.Prelude.{nat_le, slice_get}
+use Rattle.lc_base.specs.Limits.{action_limit, column_limit, condition_limit, path_limit, rider_limit}
 use Rattle.lc_term.proofs.Tests.{left_true, right_true}
 use Rattle.lc_object.specs.Syntax.{Point}
 use Rattle.lc_object.specs.declared.instr.EdgeKind.{EdgeKind}
@@ -42,21 +43,21 @@ ons_few operations (p ∷ points) (x ∷ xs) (suc k) point h e =
 pub limited : (D : Development) → is_limited D ≡ true → IsLimited D
 limited D h =
     let operations = D.specification.operations in
-    let a = nat_le (first_system D) 64 in
-    let b = nat_le (length D.actions) 64 in
+    let a = nat_le (first_system D) column_limit in
+    let b = nat_le (length D.actions) action_limit in
     let c = outlines_are_limited operations D.object.points D.outlines in
-    let d = nat_le (count (sizes_of D)) 100000 in
+    let d = nat_le (count (sizes_of D)) condition_limit in
     let three = left_true (a && b && c) d h in
     let outlines = right_true (a && b) c three in
     let riders : (p : ℕ) (point : Point) (kind : EdgeKind) → slice_get D.object.points p ≡ Some point → riders_are_limited operations point.operation (riders_at D p kind) ≡ true =
     λ p point kind e. riders_few operations point.operation (ons_in (slice_get D.outlines p)) kind (ons_few operations D.object.points D.outlines p point outlines e) in
     record {
-      columns = few (first_system D) 64 (left_true a b (left_true (a && b) c three));
-      actions = few (length D.actions) 64 (right_true a b (left_true (a && b) c three));
+      columns = few (first_system D) column_limit (left_true a b (left_true (a && b) c three));
+      actions = few (length D.actions) action_limit (right_true a b (left_true (a && b) c three));
       riders = λ p point kind e.
-          few (length (riders_at D p kind)) 6 (left_true (nat_le (length (riders_at D p kind)) 6) (nat_le (path_total operations point.operation (riders_at D p kind)) 64) (riders p point kind e));
+          few (length (riders_at D p kind)) rider_limit (left_true (nat_le (length (riders_at D p kind)) rider_limit) (nat_le (path_total operations point.operation (riders_at D p kind)) path_limit) (riders p point kind e));
       paths = λ p point kind e first n variables start.
-          subst (λ k. k ≤ 64) (sym (paths_total operations first n point.operation variables (riders_at D p kind) start))
-          (few (path_total operations point.operation (riders_at D p kind)) 64 (right_true (nat_le (length (riders_at D p kind)) 6) (nat_le (path_total operations point.operation (riders_at D p kind)) 64) (riders p point kind e)));
-      conditions = few (count (sizes_of D)) 100000 (right_true (a && b && c) d h);
+          subst (λ k. k ≤ path_limit) (sym (paths_total operations first n point.operation variables (riders_at D p kind) start))
+          (few (path_total operations point.operation (riders_at D p kind)) path_limit (right_true (nat_le (length (riders_at D p kind)) rider_limit) (nat_le (path_total operations point.operation (riders_at D p kind)) path_limit) (riders p point kind e)));
+      conditions = few (count (sizes_of D)) condition_limit (right_true (a && b && c) d h);
     }

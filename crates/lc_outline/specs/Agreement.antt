@@ -1,5 +1,6 @@
 -- What a development's specification and object agree on.
 use Rattle.std.specs.Prelude.{◌≡◌, ℕ, ◌≤◌, Some, length, slice_get}
+use Rattle.lc_base.specs.Limits.{argument_limit, reply_limit}
 use Rattle.lc_object.specs.Syntax as O
 use Rattle.lc_seq.specs.Branches.{arity, op_replies}
 use Rattle.lc_outline.specs.Development.{Development}
@@ -14,4 +15,4 @@ OperationsAgree =
 -- no operation takes or gives more than three numbers
 abbrev pub CallsAreSmall : Type 0
 CallsAreSmall =
-    (D : Development) → IsResolved D → (k : ℕ) → (arity D.specification.operations k ≤ 3) × (op_replies D.specification.operations k ≤ 3)
+    (D : Development) → IsResolved D → (k : ℕ) → (arity D.specification.operations k ≤ argument_limit) × (op_replies D.specification.operations k ≤ reply_limit)

@@ -1,6 +1,7 @@
 -- Limits: how many columns, actions, riders at an edge, paths past them and conditions a development has at most.
 use Rattle.std.specs.Prelude.{◌≡◌, ℕ, ◌+◌, ◌*◌, ◌≤◌, Bool, true, false, ◌&&◌, nat_le, List, [], ◌∷◌, Option, Some, None, length, slice_get}
 use Rattle.std.specs.List.{list_all}
+use Rattle.lc_base.specs.Limits.{action_limit, column_limit, condition_limit, path_limit, rider_limit}
 use Rattle.lc_term.specs.Syntax.{Term, Formula}
 use Rattle.lc_seq.specs.Branches.{op_branches}
 use Rattle.lc_seq.specs.Specification.{Operation, chosen}
@@ -35,17 +36,17 @@ path_total operations o (r ∷ rs) = rider_ways operations o r * path_total oper
 
 -- At an edge there are few riders, and few paths pass them, wherever they begin. The conditions are counted by the sizes
 pub record IsLimited (D : Development) : Type 0 where
-  pub columns : first_system D ≤ 64
-  pub actions : length D.actions ≤ 64
-  pub riders : (p : ℕ) (point : Point) (kind : EdgeKind) → slice_get D.object.points p ≡ Some point → length (riders_at D p kind) ≤ 6
+  pub columns : first_system D ≤ column_limit
+  pub actions : length D.actions ≤ action_limit
+  pub riders : (p : ℕ) (point : Point) (kind : EdgeKind) → slice_get D.object.points p ≡ Some point → length (riders_at D p kind) ≤ rider_limit
   pub paths : (p : ℕ) (point : Point) (kind : EdgeKind) → slice_get D.object.points p ≡ Some point →
-      (first n : ℕ) (variables : List Term) (start : Path) → length (paths D.specification.operations first n point.operation variables (riders_at D p kind) start) ≤ 64
-  pub conditions : count (sizes_of D) ≤ 100000
+      (first n : ℕ) (variables : List Term) (start : Path) → length (paths D.specification.operations first n point.operation variables (riders_at D p kind) start) ≤ path_limit
+  pub conditions : count (sizes_of D) ≤ condition_limit
 
 -- ---- the same as a test
 
 abbrev pub riders_are_limited : List Operation → ℕ → List Rider → Bool
-riders_are_limited operations o rs = nat_le (length rs) 6 && nat_le (path_total operations o rs) 64
+riders_are_limited operations o rs = nat_le (length rs) rider_limit && nat_le (path_total operations o rs) path_limit
 
 abbrev pub on_is_limited : List Operation → ℕ → On → Bool
 on_is_limited operations o x = riders_are_limited operations o x.riders
@@ -60,8 +61,8 @@ outlines_are_limited operations _ _ = false
 -- A development is within its limits
 abbrev pub is_limited : Development → Bool
 is_limited D =
-    nat_le (first_system D) 64 && nat_le (length D.actions) 64 && outlines_are_limited D.specification.operations D.object.points D.outlines
-    && nat_le (count (sizes_of D)) 100000
+    nat_le (first_system D) column_limit && nat_le (length D.actions) action_limit && outlines_are_limited D.specification.operations D.object.points D.outlines
+    && nat_le (count (sizes_of D)) condition_limit
 
 -- what passes is within the limits
 abbrev pub WhatPassesIsLimited : Type 0

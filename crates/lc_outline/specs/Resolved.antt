@@ -1,6 +1,7 @@
 -- What a development's type keeps: names are resolved, and who may write what.
 use Rattle.std.specs.Prelude.{◌≡◌, ℕ, ◌+◌, ◌<◌, ◌≤◌, Bool, true, false, ◌&&◌, ◌==◌, nat_le, nat_lt, List, [], ◌∷◌, Option, Some, None, length, slice_get}
 use Rattle.std.specs.List.{list_all}
+use Rattle.lc_base.specs.Limits.{parameter_limit}
 use Rattle.lc_term.specs.Updates.{Update}
 use Rattle.lc_term.specs.Syntax.{Term, Formula}
 use Rattle.lc_term.specs.Places.{Test, term_passes, passes}
@@ -75,7 +76,7 @@ pub record IsResolved (D : Development) : Type 0 where
   pub invariant : Every (IsBelow 1) (invariant_of D)
   pub idle : Every (IsBelow 2) D.idle
   pub actions : Every (λ (a : Action). Every (λ (u : Update). u.column < column_count (first_system D)) a.updates) D.actions
-  pub parameters : Every (λ (a : Action). length a.parameters ≤ 3) D.actions
+  pub parameters : Every (λ (a : Action). length a.parameters ≤ parameter_limit) D.actions
   pub asserts : (p : ℕ) (point : O.Point) (o : O.Operation) → slice_get D.object.points p ≡ Some point → slice_get D.object.operations point.operation ≡ Some o → Every (IsBelow (variable_count o)) (asserts_at D p)
   pub arguments : (p : ℕ) (point : O.Point) (o : O.Operation) → slice_get D.object.points p ≡ Some point → slice_get D.object.operations point.operation ≡ Some o → Every (AreArgumentsBelow (variable_count o)) (ons_at D p)
   pub ons : (e : Edge) → IsIn e (edges D.object) → IsOnResolved D (operation_at D.object e.point) e (on_at D e.point e.kind)
@@ -124,7 +125,7 @@ on_is_resolved D o e (Some x) = takes (slice_get D.actions x.action) (length x.a
 
 -- an action has three parameters at most
 abbrev pub action_is_resolved : Development → Action → Bool
-action_is_resolved D a = nat_le (length a.parameters) 3 && action_is_scoped (column_total D) a
+action_is_resolved D a = nat_le (length a.parameters) parameter_limit && action_is_scoped (column_total D) a
 
 abbrev pub edge_is_resolved : Development → Edge → Bool
 edge_is_resolved D e = on_is_resolved D (operation_at D.object e.point) e (on_at D e.point e.kind)

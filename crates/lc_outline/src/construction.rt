@@ -1,3 +1,4 @@
+//! How a development is made of its parts, and taken apart.
 use crate::development::Development;
 use crate::parts::Parts;
 

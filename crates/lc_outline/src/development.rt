@@ -1,3 +1,4 @@
+//! The type of developments, which are resolved and within their limits.
 ghost use Rattle.std.specs.Prelude.{◌≡◌, true};
 ghost use Rattle.lc_outline.specs.Development.{start_numbers};
 ghost use Rattle.lc_outline.specs.PartsView.{parts_shown};

@@ -39,7 +39,7 @@ pub fn terms_are_in_scope()
     ensures known { WhatIsScopedIsKnown }
 {}
 
-/// A development that passes the test of limits of its type has at most 64 columns, 64 actions and 100,000 conditions, as these are
+/// A development that passes the test of limits of its type is within the limits of columns, actions and conditions, as these are
 /// counted, and at each edge at most 6 riders and 64 paths.
 pub fn developments_are_limited()
     ensures { WhatPassesIsLimited }

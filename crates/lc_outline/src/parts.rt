@@ -1,3 +1,4 @@
+//! What a development is made of.
 use lc_action::Action;
 use lc_object::{EdgeKind, Object};
 use lc_rider::Rider;

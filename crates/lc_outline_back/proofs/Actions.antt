@@ -1,6 +1,7 @@
 -- What is printed of an action has the same names and updates, and reads as the same action.
 use Rattle.std.proofs.Common.{◌≡◌, ℕ, ◌+◌, ◌≤◌, List, ◌++◌, Some, refl, sym, ap, ap₂, ◌∙◌, subst, arith}
 use Rattle.std.specs.Prelude.{codes, nat_le}
+use Rattle.lc_base.specs.Limits.{action_limit}
 use Rattle.lc_sexp.specs.Trees.{Tree, Trees, atom, list, none, ◌▸◌, item_count, item_count_of_all}
 use Rattle.lc_reading.proofs.Fine.{IfFine, weaker, mapped_fine, both_fine}
 use Rattle.lc_reading.specs.Readings.{fine, both, behind_reading}
@@ -102,7 +103,7 @@ module _ (known : Known) (columns : List (List ℕ)) (are : columns ≡ known.co
   pub action_again : (i n : ℕ) (t : Tree) → item_count t ≤ 4294967296
       → IfFine (action_reading known i n t) (λ a. HaveNoBinder a.parameters → Again (AreBehind (codes "action") SameAction) (action_reading known i n) (action_tree columns a) t a)
   action_again i n t small =
-      limited_again (λ a. HaveNoBinder a.parameters) (AreBehind (codes "action") SameAction) (nat_le 64 i) n (headed_action_reading known i n) (action_tree columns) t
+      limited_again (λ a. HaveNoBinder a.parameters) (AreBehind (codes "action") SameAction) (nat_le action_limit i) n (headed_action_reading known i n) (action_tree columns) t
       (mapped_fine (λ p. HaveNoBinder p.0.1 → Again (AreBehind (codes "action") SameAction) (behind_reading (codes "action") (action_parts_reading known i) n) (list (atom (codes "action") ▸ action_parts columns p)) t p)
       (λ a. HaveNoBinder a.parameters → Again (AreBehind (codes "action") SameAction) (headed_action_reading known i n) (action_tree columns a) t a) the_action
       (behind_reading (codes "action") (action_parts_reading known i) n t)

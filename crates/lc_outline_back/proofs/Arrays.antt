@@ -3,6 +3,7 @@ use Rattle.std.proofs.Common.{◌≡◌, ℕ, ℤ, ◌+◌, ◌-◌, Bool, true,
 use Rattle.std.proofs.lemmas.List.{map-append}
 use Rattle.std.specs.Fmt.{signed_decimal}
 use Rattle.std.specs.Prelude.{codes, suc, nat_le, option_map, slice_get}
+use Rattle.lc_base.specs.Limits.{column_limit, width_limit}
 use Rattle.lc_sexp.specs.Trees.{Tree, Trees, atom, list, none, ◌▸◌, item_count, row}
 use Rattle.lc_reading.proofs.Fine.{IfFine, weaker, both_fine}
 use Rattle.lc_reading.proofs.Words.{is-true}
@@ -41,8 +42,8 @@ named_numbers name slope start = atom name ▸ atom (signed_decimal slope) ▸ a
 
 own_name_stood : (names : List (List ℕ)) (base i n m : ℕ) (t : Tree) → IfFine (own_name_reading names base i n m t) (λ w. atom w ≡ t)
 own_name_stood names base i n m t =
-    limited_fine (λ w. atom w ≡ t) (nat_le 4 i) n (limited (nat_le 64 (base + i)) n (kth_name_reading names (base + i) m t))
-    (limited_fine (λ w. atom w ≡ t) (nat_le 64 (base + i)) n (kth_name_reading names (base + i) m t) (kth_stood names (base + i) m t))
+    limited_fine (λ w. atom w ≡ t) (nat_le width_limit i) n (limited (nat_le column_limit (base + i)) n (kth_name_reading names (base + i) m t))
+    (limited_fine (λ w. atom w ≡ t) (nat_le column_limit (base + i)) n (kth_name_reading names (base + i) m t) (kth_stood names (base + i) m t))
 
 column_parts_stood : (names : List (List ℕ)) (base i n m : ℕ) (ts : Trees) → IfFine (column_parts names base i n m ts) (λ c. named_numbers c.name c.slope c.start ≡ ts)
 column_parts_stood names base i n m none = tt
@@ -101,10 +102,6 @@ module _ (object : O.Object) where
 
 -- ---- their names
 
-pub arrays_are_forms : (arrays : List ArrayText) → AreForms (codes "array") (row (map text_tree arrays))
-arrays_are_forms [] = tt
-arrays_are_forms (a ∷ arrays) = ((text_parts a, refl), arrays_are_forms arrays)
-
 names_of_concretes : (cs : List O.Column) → names_of_columns (row (map concrete cs)) ≡ map (λ (c : O.Column). c.name) cs
 names_of_concretes [] = refl
 names_of_concretes (c ∷ cs) = ap (λ ws. c.name ∷ ws) (names_of_concretes cs)
@@ -154,7 +151,7 @@ auxiliary_parts names k n m (t ▸ ts) =
 
 auxiliary_stood : (names : List (List ℕ)) (base i n : ℕ) (t : Tree) → IfFine (A.column_reading names base i n t) (λ c. declared_tree c ≡ t)
 auxiliary_stood names base i n t =
-    limited_fine (λ c. declared_tree c ≡ t) (nat_le 64 (base + i)) n (listed_reading (A.column_parts_reading names (base + i)) n t)
+    limited_fine (λ c. declared_tree c ≡ t) (nat_le column_limit (base + i)) n (listed_reading (A.column_parts_reading names (base + i)) n t)
     (in_list (λ (c : Q.Column). named_numbers c.name c.slope c.start) (A.column_parts_reading names (base + i)) (auxiliary_parts names (base + i)) n t)
 
 pub auxiliaries_stood : (d : Declarations) (n : ℕ) (t : Tree) → IfFine (auxiliaries_reading d n t) (λ cs. list (atom (codes "aux") ▸ row (map declared_tree cs)) ≡ t)

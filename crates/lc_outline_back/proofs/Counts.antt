@@ -10,7 +10,8 @@ use Rattle.lc_object.specs.declared.instr.EdgeKind.TheVariants.{Next, Then, Else
 use Rattle.lc_object_text.specs.ObjectNames.{Declared, Body, Call, first_text, within_first, later, call_named, name_at, points_in, body_of, bodies_from, bodies_due, labels_of_bodies, columns_of_arrays, spans_from, call_of, abstracts_in, arrays_in, auxiliaries_in, operations_in, declared_in_sections}
 use Rattle.lc_object_text.specs.Sections.{Sections, parts_in, parts_of_fit, forms_in, some_forms_in}
 use Rattle.lc_outline_text.specs.Declarations.{Declarations, parameter_count, ways_in, known_of, or_nothing, form_at}
-use Rattle.lc_outline_text.specs.Needs.{edge_word, goes_next, branches_off}
+use Rattle.lc_naming.specs.EdgeWords.{edge_word}
+use Rattle.lc_outline_text.specs.Needs.{goes_next, branches_off}
 use Rattle.lc_outline_text.specs.Sizes.{Totals, columns_stored, columns_acted, all_ways, path_conditions, edge_conditions, on_of, assert_count, ons_of, count_at, asked_behind, columns_written, kind_conditions, point_conditions, body_conditions, bodies_conditions, totals_of, condition_count}
 use Rattle.lc_outline_back.proofs.Actions.{SameAction}
 use Rattle.lc_outline_back.proofs.Kin.{Pairwise, AreBehind}

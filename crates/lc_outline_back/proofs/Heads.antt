@@ -3,6 +3,7 @@ use Rattle.std.proofs.Common.{◌≡◌, ℕ, ◌+◌, Bool, true, false, ◌||�
 use Rattle.std.specs.List.{list_any}
 use Rattle.std.specs.Prelude.{codes, nat_le, nat_lt, slice_get, take}
 use Rattle.lc_base.specs.NameText.{is_name}
+use Rattle.lc_base.specs.Limits.{local_limit, operation_limit, point_limit}
 use Rattle.lc_sexp.specs.TreeCode.{tree_count}
 use Rattle.lc_sexp.specs.Trees.{Tree, Trees, atom, list, none, ◌▸◌, item_count, row}
 use Rattle.lc_reading.proofs.Fine.{IfFine, anything, weaker, cond_fine, both_fine, mapped_fine, of_fine}
@@ -90,7 +91,7 @@ signed_parts d i n m (t ▸ u ▸ v ▸ ts) =
     let arguments = (call_or (slice_get d.calls i)).arguments in
     both_fine (λ w. (text_in t ≡ w) × (list_any (is w) (take i d.operations) ≡ false)) (λ c. names_among (items_within u) ≡ c.0) (IsSigned d i (t ▸ u ▸ v ▸ ts)) signature_of
     (operation_name_reading d i n m t) (call_reading arguments (m + item_count t) u (m + item_count t + item_count u) v)
-    (limited_fine (λ w. (text_in t ≡ w) × (list_any (is w) (take i d.operations) ≡ false)) (nat_le 16 i) n (kth_name_reading d.operations i m t) (kth_new d.operations i m t))
+    (limited_fine (λ w. (text_in t ≡ w) × (list_any (is w) (take i d.operations) ≡ false)) (nat_le operation_limit i) n (kth_name_reading d.operations i m t) (kth_new d.operations i m t))
     (both_fine (λ ws. list (name_trees ws) ≡ u) (λ k. Unit {0}) (λ (c : List (List ℕ) × ℕ). names_among (items_within u) ≡ c.0) pair (names_reading 3 arguments 0 (m + item_count t) u) (replies_reading (m + item_count t + item_count u) v)
     (names_stood 3 arguments 0 (m + item_count t) u) (anything (replies_reading (m + item_count t + item_count u) v)) (λ ws k a b. names_within ws u a))
     (λ w c a b. record { name = a.0; arguments = b; new = a.1 })
@@ -138,7 +139,7 @@ module _ (d : Declared) (b : Body) (known : Known) (names : Names) (own : Option
   point_said i n m k name code =
       both_fine (λ w. atom w ≡ name) (λ x. Unit {0}) (λ (p : Point). (text_in name ≡ p.name) × (p.operation ≡ o)) (point_of o) (point_name_reading d i n m name)
       (instruction_reading (code_names d b) (body_names d b) k code)
-      (limited_fine (λ w. atom w ≡ name) (nat_le 256 i) n (kth_name_reading d.points i m name) (kth_stood d.points i m name)) (anything (instruction_reading (code_names d b) (body_names d b) k code))
+      (limited_fine (λ w. atom w ≡ name) (nat_le point_limit i) n (kth_name_reading d.points i m name) (kth_stood d.points i m name)) (anything (instruction_reading (code_names d b) (body_names d b) k code))
       (λ w x a c. (text_of w name a, refl))
 
   point_heads : (i n m : ℕ) (ts : Trees) → IfFine (point_parts d b (beside known names own) o i n m ts) (PointHead o ts)
@@ -193,8 +194,8 @@ module _ (d : Declared) (b : Body) (known : Known) (names : Names) (own : Option
   body_locals : (i : ℕ) (t : Tree) (j : ℕ) (u : Tree) → is_of_another d.operations b.operation t ≡ false → IfFine (locals_reading d b i t j u) (λ ws. (text_in t ≡ b.operation) × (names_among (items_within u) ≡ ws))
   body_locals i t j u e =
       both_fine (λ k. atom b.operation ≡ t) (λ ws. list (name_trees ws) ≡ u) (λ ws. (text_in t ≡ b.operation) × (names_among (items_within u) ≡ ws)) behind_name (use_reading d.operations i t)
-      (names_reading 16 (b.call.arguments ++ b.locals) (length b.call.arguments) j u) (due_stood d.operations b.operation i t e)
-      (names_stood 16 (b.call.arguments ++ b.locals) (length b.call.arguments) j u) (λ k ws x y. (text_of b.operation t x, names_within ws u y))
+      (names_reading local_limit (b.call.arguments ++ b.locals) (length b.call.arguments) j u) (due_stood d.operations b.operation i t e)
+      (names_stood local_limit (b.call.arguments ++ b.locals) (length b.call.arguments) j u) (λ k ws x y. (text_of b.operation t x, names_within ws u y))
 
   body_heads : (n m : ℕ) (ts : Trees) → IfFine (body_parts d b (beside known names own) o n m ts) (BodyHead b.operation o ts)
   body_heads n m none = tt

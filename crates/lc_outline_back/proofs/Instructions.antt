@@ -7,6 +7,7 @@ use Rattle.lc_sexp.specs.Trees.{Tree, Trees, atom, list, none, ◌▸◌, item_c
 use Rattle.lc_reading.proofs.Fine.{IfFine, anything, weaker, cond_fine, both_fine}
 use Rattle.lc_reading.proofs.Words.{is-true}
 use Rattle.lc_reading.specs.Listed.{declared_by}
+use Rattle.lc_reading.specs.Naming.{known, known_reading}
 use Rattle.lc_reading.specs.Readings.{Reading, fine, wrong}
 use Rattle.lc_reading.specs.Rows.{each_reading, declared_reading, first_name}
 use Rattle.lc_reading.specs.Words.{is, is_long}
@@ -17,7 +18,7 @@ use Rattle.lc_text.specs.Spelling.{Spelled}
 use Rattle.lc_text.specs.SpelledTree.{term_tree, formula_tree}
 use Rattle.lc_text.specs.Terms.{pair, term_reading}
 use Rattle.lc_object.specs.Syntax.{Instr, Object}
-use Rattle.lc_object_text.specs.Cells.{found, found_reading, array_reading, label_reading, row_width, written, target_reading, targets_reading, values_reading, assignment_parts, assignment_reading, assignments_reading}
+use Rattle.lc_object_text.specs.Cells.{array_reading, label_reading, row_width, written, target_reading, targets_reading, values_reading, assignment_parts, assignment_reading, assignments_reading}
 use Rattle.lc_object_text.specs.CodeNames.{CodeNames}
 use Rattle.lc_object_text.specs.Counts.{second, count_reading, ended_behind, row_reading}
 use Rattle.lc_object_text.specs.Heads.{head_of}
@@ -33,13 +34,13 @@ use Rattle.lc_outline_back.proofs.Terms.{one_word, term_stood, formula_stood}
 -- ---- names
 
 module _ (spell : ℕ → List ℕ) (find : List ℕ → Option ℕ) (h : (w : List ℕ) (k : ℕ) → find w ≡ Some k → spell k ≡ w) where
-  found_at : (n : ℕ) (w : List ℕ) (o : Option ℕ) → find w ≡ o → IfFine (found n w o) (λ k. atom (spell k) ≡ atom w)
+  found_at : (n : ℕ) (w : List ℕ) (o : Option ℕ) → find w ≡ o → IfFine (known n w o) (λ k. atom (spell k) ≡ atom w)
   found_at n w None e = tt
   found_at n w (Some k) e = cond_fine (λ k. atom (spell k) ≡ atom w) (is_long w) (wrong Bound n) (fine k) tt (ap atom (h w k e))
 
-  found_stood : (n : ℕ) (t : Tree) → IfFine (found_reading find n t) (λ k. atom (spell k) ≡ t)
+  found_stood : (n : ℕ) (t : Tree) → IfFine (known_reading find n t) (λ k. atom (spell k) ≡ t)
   found_stood n (list ts) = tt
-  found_stood n (atom w) = cond_fine (λ k. atom (spell k) ≡ atom w) (is_name w) (found n w (find w)) (wrong Shape n) (found_at n w (find w) refl) tt
+  found_stood n (atom w) = cond_fine (λ k. atom (spell k) ≡ atom w) (is_name w) (known n w (find w)) (wrong Shape n) (found_at n w (find w) refl) tt
 
 -- ---- rows
 

@@ -21,7 +21,8 @@ use Rattle.lc_object_text.specs.Sections.{parts_in}
 use Rattle.lc_outline_text.specs.Declarations.{Declarations}
 use Rattle.lc_outline_text.specs.Developments.{code_of, outlines_of}
 use Rattle.lc_outline_print.specs.Developments.{followed}
-use Rattle.lc_outline_print.specs.Naming.{column_names, with_client, named_by, name_of_point, label}
+use Rattle.lc_naming.specs.ColumnNames.{column_names}
+use Rattle.lc_outline_print.specs.Naming.{with_client, named_by, name_of_point, label}
 use Rattle.lc_outline_print.specs.Objects.{named_in, point_tree, point_trees, body_tree, body_trees}
 use Rattle.lc_outline_print.specs.Parts.{name_trees}
 use Rattle.lc_outline_back.specs.ReadsBack.{HaveNoBinder}

@@ -1,25 +1,25 @@
-pub mod Atoms
-pub mod Numerals
-pub mod Alike
-pub mod Terms
-pub mod Rows
-pub mod Formulas
-pub mod Columns
-pub mod Specifications
-pub mod Instructions
-pub mod Riders
-pub mod Again
-pub mod Sides
-pub mod Splits
-pub mod Kin
-pub mod Scopes
-pub mod Actions
-pub mod Names
-pub mod Points
-pub mod Arrays
-pub mod Heads
-pub mod Joined
-pub mod Whole
-pub mod Values
-pub mod Counts
-pub mod Printed
+mod Atoms
+mod Numerals
+mod Alike
+mod Terms
+mod Rows
+mod Formulas
+mod Columns
+mod Specifications
+mod Instructions
+mod Riders
+mod Again
+mod Sides
+mod Splits
+mod Kin
+mod Scopes
+mod Actions
+mod Names
+mod Points
+mod Arrays
+mod Heads
+mod Joined
+mod Whole
+mod Values
+mod Counts
+mod Printed

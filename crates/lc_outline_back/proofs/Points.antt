@@ -1,6 +1,7 @@
 -- What is printed of a point, and of a body, has the same names and code, and reads as the same.
 use Rattle.std.proofs.Common.{◌≡◌, ℕ, ◌+◌, ◌≤◌, Bool, true, false, ◌&&◌, cond, List, [], ◌∷◌, ◌++◌, length, Option, Some, None, map, refl, sym, ap, ap₂, ◌∙◌, subst, arith}
 use Rattle.std.specs.Prelude.{codes, nat_le, nat_lt, slice_get}
+use Rattle.lc_base.specs.Limits.{point_limit}
 use Rattle.lc_sexp.specs.TreeCode.{tree_count}
 use Rattle.lc_sexp.specs.Trees.{Tree, Trees, atom, list, none, ◌▸◌, item_count, item_count_of_all, row}
 use Rattle.lc_reading.proofs.Fine.{IfFine, weaker, both_fine, of_fine}
@@ -133,7 +134,7 @@ module _ (known : Known) (names : Names) (by : Spelled) (object : Object) (actio
     named p n m k name code =
         both_fine (λ w. atom w ≡ name) (λ i. instruction_tree object by i ≡ code) (λ q. (atom q.name ≡ name) × (instruction_tree object by q.instruction ≡ code)) (point_of o)
         (point_name_reading d p n m name) (instruction_reading (code_names d b) (body_names d b) k code)
-        (limited_fine (λ w. atom w ≡ name) (nat_le 256 p) n (kth_name_reading d.points p m name) (kth_stood d.points p m name))
+        (limited_fine (λ w. atom w ≡ name) (nat_le point_limit p) n (kth_name_reading d.points p m name) (kth_stood d.points p m name))
         (instruction_stood (code_names d b) (body_names d b) by object coded k code) (λ w i x y. (x, y))
 
     abbrev instruction_at : ℕ → Tree → Tree → Reading Instr

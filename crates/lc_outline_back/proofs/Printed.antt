@@ -4,6 +4,7 @@ use Rattle.std.proofs.lemmas.Bool.{ltb-false}
 use Rattle.std.proofs.lemmas.List.{length-map}
 use Rattle.std.specs.Prelude.{codes, ◌&&◌, nat_le, nat_lt, option_map, slice_get, slice_index_or}
 use Rattle.lc_base.specs.declared.ids.ColId.{ColId}
+use Rattle.lc_base.specs.Limits.{depth_limit, condition_limit}
 use Rattle.lc_sexp.specs.TreeCode.{tree_count}
 use Rattle.lc_sexp.specs.Trees.{Tree, Trees, atom, list, none, ◌▸◌, item_count, item_count_of_all, depth_of_all, row}
 use Rattle.lc_sexp.specs.Reads.{ReadsAs}
@@ -48,7 +49,7 @@ use Rattle.lc_rider_text.specs.Known.{Known}
 use Rattle.lc_rider_text.specs.Scopes.{variable_names, beside_names}
 use Rattle.lc_outline_text.specs.Bodies.{names_in, bodies_reading}
 use Rattle.lc_outline_text.specs.Declarations.{Declarations, known_of, own_ways}
-use Rattle.lc_outline_text.specs.Developments.{condition_limit, file_reading}
+use Rattle.lc_outline_text.specs.Developments.{file_reading}
 use Rattle.lc_outline_text.specs.Points.{beside, formulas_in_reading}
 use Rattle.lc_outline_text.specs.Sides.{auxiliaries_reading, invariant_reading}
 use Rattle.lc_outline_text.specs.Sizes.{condition_count}
@@ -56,7 +57,8 @@ use Rattle.lc_outline_print.specs.Beside.{action_tree, conjunct_tree}
 use Rattle.lc_outline_back.specs.CodeSpelled.{AreCodeNames}
 use Rattle.lc_outline_print.specs.Developments.{followed, auxiliary_tree, invariant_tree, idle_tree, table_trees, object_tree, development_printed}
 use Rattle.lc_outline_back.specs.KnownSpelled.{AreKnown}
-use Rattle.lc_outline_print.specs.Naming.{column_names, with_client, named_by, name_of_operation, name_of_action, label}
+use Rattle.lc_naming.specs.ColumnNames.{column_names}
+use Rattle.lc_outline_print.specs.Naming.{with_client, named_by, name_of_operation, name_of_action, label}
 use Rattle.lc_outline_print.specs.Objects.{array_tree}
 use Rattle.lc_outline_back.specs.ReadsBack.{HaveNoBinder, IsPrintable}
 use Rattle.lc_outline_print.specs.Specifications.{declared_tree, operation_tree, specification_tree}
@@ -522,7 +524,7 @@ module _ (x : File) (formed : IsFormed x) (v : Values) (are : AreValues (declare
 
 -- ---- the text
 
-depth_within : (m n : ℕ) → m ≡ n → n ≤ 1000 → m ≤ 1000
+depth_within : (m n : ℕ) → m ≡ n → n ≤ depth_limit → m ≤ depth_limit
 depth_within m n e h = omega (arith, e, h)
 
 values_back : (bytes : List ℕ) (x : File) (formed : IsFormed x) (v : Values) → AreValues (declared_in_file x) x v → ReadsAs bytes (forms_of_file x)

@@ -2,10 +2,11 @@
 use Rattle.std.proofs.Common.{◌≡◌, ℕ, ◌+◌, Bool, true, false, cond, List, [], Option, Some, None, map, refl, sym, ap, ◌∙◌, subst}
 use Rattle.std.specs.Prelude.{codes, nat_lt, nat_le, length, ◌&&◌, if◌then◌else◌}
 use Rattle.lc_base.specs.NameText.{is_name}
+use Rattle.lc_base.specs.Limits.{path_limit, rider_limit}
 use Rattle.lc_sexp.specs.Trees.{Tree, Trees, atom, list, none, ◌▸◌, item_count, row}
 use Rattle.lc_reading.proofs.Fine.{IfFine, anything, cond_fine, mapped_fine, both_fine}
 use Rattle.lc_reading.proofs.Words.{is-true}
-use Rattle.lc_reading.specs.Naming.{within, use_reading}
+use Rattle.lc_reading.specs.Naming.{within, spelled_reading, use_reading}
 use Rattle.lc_reading.specs.Readings.{Reading, fine, wrong, mapped, ended, three_of}
 use Rattle.lc_reading.specs.Reserved.{is_action_name}
 use Rattle.lc_reading.specs.Words.{is, is_long}
@@ -35,9 +36,10 @@ use Rattle.lc_rider_text.specs.Scopes.{column_place, quiet}
 use Rattle.lc_rider_text.specs.Terms.{arguments_reading}
 use Rattle.lc_rider_text.specs.Updates.{the_update, listed_update_reading}
 use Rattle.lc_rider_text.specs.declared.edges.Edges.{Edges}
+use Rattle.lc_naming.specs.EdgeWords.{edge_word}
 use Rattle.lc_outline_print.specs.Naming.{operation_name, action_name}
 use Rattle.lc_outline_print.specs.Parts.{term_trees, update_parts, update_tree}
-use Rattle.lc_outline_print.specs.Beside.{deed_tree, rider_tree, edge_word, on_tree}
+use Rattle.lc_outline_print.specs.Beside.{deed_tree, rider_tree, on_tree}
 use Rattle.lc_outline_back.specs.KnownSpelled.{AreKnown}
 use Rattle.lc_outline_back.specs.Spellings.{IsSpelledSo}
 use Rattle.lc_outline_back.proofs.Alike.{ended_at, two_at}
@@ -77,8 +79,7 @@ module _ (known : Known) (names : Names) (by : Spelled) (spelled : IsSpelledSo n
   stored_by usable n w None = wrong Unknown n
 
   abbrev column_by : (ℕ → Bool) → ℕ → Tree → Reading ℕ
-  column_by usable n (atom w) = if is_name w then stored_by usable n w (column_place known.columns w) else wrong Shape n
-  column_by usable n (list ts) = wrong Shape n
+  column_by usable n t = spelled_reading (λ w. stored_by usable n w (column_place known.columns w)) n t
 
   abbrev parts_by : (ℕ → Bool) → ℕ → ℕ → Trees → Reading ((ℕ × Term) × Term)
   parts_by usable n m (t ▸ u ▸ v ▸ ts) =
@@ -270,7 +271,7 @@ module _ (known : Known) (names : Names) (by : Spelled) (object : Object) (actio
   rider_stood own n (list (atom w ▸ ts)) = behind_stood own n w ts (is w (codes "when")) refl
 
   ith_stood : (own : Option Ways) (i n : ℕ) (t : Tree) → IfFine (ith_rider_reading known names own i n t) (λ r. rider_tree object by r ≡ t)
-  ith_stood own i n t = limited_fine (λ r. rider_tree object by r ≡ t) (nat_le 6 i) n (rider_reading known names own n t) (rider_stood own n t)
+  ith_stood own i n t = limited_fine (λ r. rider_tree object by r ≡ t) (nat_le rider_limit i) n (rider_reading known names own n t) (rider_stood own n t)
 
   riders_stood : (own : Option Ways) (m : ℕ) (ts : Trees) → IfFine (riders_reading known names own m ts) (IsRow (rider_tree object by) ts)
   riders_stood own m ts = placed_row (rider_tree object by) (ith_rider_reading known names own) (ith_stood own) 0 m ts
@@ -309,7 +310,7 @@ module _ (known : Known) (names : Names) (by : Spelled) (object : Object) (actio
   on_parts_stood own edges n m (t ▸ none) = tt
   on_parts_stood own edges n m (t ▸ u ▸ ts) =
       cond_fine (λ x. on_parts x ≡ t ▸ u ▸ ts) (is_refused edges (edge_of t)) (wrong Shape n) _ tt
-      (limited_fine (λ x. on_parts x ≡ t ▸ u ▸ ts) (nat_lt 64 (path_count known own ts)) n _
+      (limited_fine (λ x. on_parts x ≡ t ▸ u ▸ ts) (nat_lt path_limit (path_count known own ts)) n _
       (both_fine (IsStep t u) (IsRow (rider_tree object by) ts) (λ x. on_parts x ≡ t ▸ u ▸ ts) the_on (step_reading known names m t (m + item_count t) u)
       (riders_reading known names own (m + item_count t + item_count u) ts) (step_stood m t (m + item_count t) u) (riders_stood own (m + item_count t + item_count u) ts)
       (λ p rs a b. both_trees _ _ _ _ a.0 (both_trees _ _ _ _ a.1 b))))

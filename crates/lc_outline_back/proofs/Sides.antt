@@ -1,6 +1,7 @@
 -- Conjuncts and actions: what is printed of them reads as the same, and all but their formulas is printed as it stood.
 use Rattle.std.proofs.Common.{◌≡◌, ℕ, ◌+◌, ◌≤◌, List, [], Some, None, sym, ap, ap₂, subst, arith}
 use Rattle.std.specs.Prelude.{take}
+use Rattle.lc_base.specs.Limits.{parameter_limit}
 use Rattle.lc_sexp.specs.Trees.{Tree, Trees, atom, list, none, ◌▸◌, item_count, item_count_of_all}
 use Rattle.lc_reading.proofs.Fine.{IfFine, mapped_fine, both_fine}
 use Rattle.lc_reading.specs.Listed.{declared_by}
@@ -65,7 +66,7 @@ pub heading_stood : (known : Known) (i m : ℕ) (t : Tree) (n : ℕ) (u : Tree) 
 heading_stood known i m t n u =
     both_fine (λ w. atom w ≡ t) (λ ws. list (name_trees ws) ≡ u) (λ p. (atom p.0 ≡ t) × (list (name_trees p.1) ≡ u)) pair (kth_name_reading known.actions i m t) (parameters_reading n u)
     (name_stood None (take i known.actions) m t)
-    (in_list name_trees (λ n. declared_reading (name_reading (Some 3)) declared_by []) (λ n m ts. declared_row atom (name_reading (Some 3)) declared_by (name_stood (Some 3)) [] m ts) n u)
+    (in_list name_trees (λ n. declared_reading (name_reading (Some parameter_limit)) declared_by []) (λ n m ts. declared_row atom (name_reading (Some parameter_limit)) declared_by (name_stood (Some parameter_limit)) [] m ts) n u)
     (λ x y a b. (a, b))
 
 module _ (known : Known) (names : Names) (by : Spelled) (spelled : IsSpelledSo names by) (free : AreUnbound names)

@@ -7,6 +7,7 @@ use Rattle.lc_reading.specs.Reserved.{is_system_column}
 use Rattle.std.specs.Fmt.{decimal}
 use Rattle.lc_base.specs.NameText.{is_name}
 use Rattle.lc_base.specs.declared.ids.ColId.{ColId}
+use Rattle.lc_base.specs.Limits.{argument_limit, column_limit, operation_limit, reply_limit}
 use Rattle.lc_sexp.specs.Numerals.{integer_of}
 use Rattle.lc_sexp.specs.Trees.{Tree, Trees, atom, list, none, ◌▸◌, item_count, row}
 use Rattle.lc_reading.proofs.Fine.{IfFine, weaker, cond_fine, mapped_fine, both_fine}
@@ -120,9 +121,9 @@ module _ (columns : Columns) (names : Names) (by : Spelled) (spelled : IsSpelled
 few_stood : (n : ℕ) (w : List ℕ) (o : Option ℤ) → integer_of w ≡ o → IfFine (few n (natural o)) (λ k. atom (decimal k) ≡ atom w)
 few_stood n w None e = tt
 few_stood n w (Some (negsuc k)) e = tt
-few_stood n w (Some (pos k)) e = at (nat_lt 3 k) refl
+few_stood n w (Some (pos k)) e = at (nat_lt reply_limit k) refl
   where
-    at : (b : Bool) → nat_lt 3 k ≡ b → IfFine (cond b (wrong Bound n) (fine k)) (λ k. atom (decimal k) ≡ atom w)
+    at : (b : Bool) → nat_lt reply_limit k ≡ b → IfFine (cond b (wrong Bound n) (fine k)) (λ k. atom (decimal k) ≡ atom w)
     at true is = tt
     at false is = ap atom (integer_as_stood w (pos k) e (lt-ltb k 9223372036854775808 (let few = ltb-false 3 k is in omega (arith, few))))
 
@@ -132,8 +133,8 @@ count_stood n (list ts) = tt
 
 arguments_stood : (n : ℕ) (t : Tree) → IfFine (arguments_reading n t) (λ ws. list (name_trees ws) ≡ t)
 arguments_stood n t =
-    in_list name_trees (λ n. declared_reading (name_reading (Some 4)) declared_by client)
-    (λ n m ts. declared_row atom (name_reading (Some 4)) declared_by (name_stood (Some 4)) client m ts) n t
+    in_list name_trees (λ n. declared_reading (name_reading (Some (1 + argument_limit))) declared_by client)
+    (λ n m ts. declared_row atom (name_reading (Some (1 + argument_limit))) declared_by (name_stood (Some (1 + argument_limit))) client m ts) n t
 
 -- the arguments that an item declares
 abbrev arguments_in : Tree → List (List ℕ)
@@ -264,7 +265,7 @@ module _ (columns : Columns) (names : List (List ℕ)) (first : StandFirst colum
 
   pub operation_stood : (before : List (List ℕ)) (n : ℕ) (t : Tree) → IfFine (operation_reading columns before n t) (λ o. operation_tree names o ≡ t)
   operation_stood before n t =
-      limited_fine (λ o. operation_tree names o ≡ t) (is_full (Some 16) (length before)) n (mapped the_operation (behind_reading (codes "op") (operation_parts_reading columns before) n t))
+      limited_fine (λ o. operation_tree names o ≡ t) (is_full (Some operation_limit) (length before)) n (mapped the_operation (behind_reading (codes "op") (operation_parts_reading columns before) n t))
       (mapped_fine (λ p. list (atom (codes "op") ▸ operation_parts p) ≡ t) (λ o. operation_tree names o ≡ t) the_operation (behind_reading (codes "op") (operation_parts_reading columns before) n t)
       (behind_word operation_parts (codes "op") (operation_parts_reading columns before) (operation_parts_stood before) n t) (λ p e. e))
 
@@ -272,7 +273,7 @@ module _ (columns : Columns) (names : List (List ℕ)) (first : StandFirst colum
 
 spec_column_stood : (before : List (List ℕ)) (n : ℕ) (t : Tree) → IfFine (column_reading before n t) (λ c. declared_tree c ≡ t)
 spec_column_stood before n t =
-    mapped_fine (λ p. column_tree p.0.0 p.0.1 p.1 ≡ t) (λ c. declared_tree c ≡ t) the_column (declared_column_reading (Some 64) before n t) (column_stood (Some 64) before n t) (λ p e. e)
+    mapped_fine (λ p. column_tree p.0.0 p.0.1 p.1 ≡ t) (λ c. declared_tree c ≡ t) the_column (declared_column_reading (Some column_limit) before n t) (column_stood (Some column_limit) before n t) (λ p e. e)
 
 columns_stood : (n : ℕ) (t : Tree) → IfFine (columns_reading n t) (λ cs. list (atom (codes "abstract") ▸ row (map declared_tree cs)) ≡ t)
 columns_stood n t =

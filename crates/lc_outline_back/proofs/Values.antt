@@ -1,6 +1,7 @@
 -- A file that says a development has its forms, and each of its parts reads as a part of the development.
 use Rattle.std.proofs.Common.{◌≡◌, ℕ, ◌+◌, Bool, true, false, cond, List, [], Some, None, refl, sym, ap, ap₂, ◌∙◌, subst}
 use Rattle.std.specs.Prelude.{codes, nat_lt}
+use Rattle.lc_base.specs.Limits.{condition_limit}
 use Rattle.lc_sexp.specs.Parts.{fits, misshapen}
 use Rattle.lc_sexp.specs.Trees.{Tree, Trees, atom, list, none, ◌▸◌, item_count, item_count_of_all}
 use Rattle.lc_reading.proofs.Fine.{of_fine}
@@ -28,7 +29,7 @@ use Rattle.lc_rider_text.specs.Conjuncts.{conjunct_reading}
 use Rattle.lc_rider_text.specs.Scopes.{beside_names}
 use Rattle.lc_outline_text.specs.Bodies.{bodies_reading}
 use Rattle.lc_outline_text.specs.Declarations.{Declarations, declarations_of, known_of}
-use Rattle.lc_outline_text.specs.Developments.{Parts, specification_reading, tables_reading, object_reading, second_form_reading, development_of, forms_reading, condition_limit, file_reading}
+use Rattle.lc_outline_text.specs.Developments.{Parts, specification_reading, tables_reading, object_reading, second_form_reading, development_of, forms_reading, file_reading}
 use Rattle.lc_outline_text.specs.Points.{formulas_in_reading}
 use Rattle.lc_outline_text.specs.Sides.{sides_of, auxiliaries_reading, actions_reading, invariant_reading, conditions_reading, sides_reading}
 use Rattle.lc_outline_text.specs.Sizes.{condition_count}

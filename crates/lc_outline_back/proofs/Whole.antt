@@ -1,6 +1,7 @@
 -- The two forms of a development file, by their parts: its sections, what it declares, and what it reads as.
 use Rattle.std.proofs.Common.{◌≡◌, ℕ, ◌+◌, false, List, [], Some, None, refl, sym, ap, ap₂, ◌∙◌, subst}
 use Rattle.std.specs.Prelude.{codes, nat_lt}
+use Rattle.lc_base.specs.Limits.{condition_limit}
 use Rattle.lc_sexp.specs.Trees.{Tree, Trees, atom, list, none, ◌▸◌, item_count, item_count_of_all}
 use Rattle.lc_reading.specs.Naming.{name_reading}
 use Rattle.lc_reading.specs.Readings.{Reading, both, limited}
@@ -24,7 +25,7 @@ use Rattle.lc_rider_text.specs.Actions.{action_reading}
 use Rattle.lc_rider_text.specs.Scopes.{beside_names}
 use Rattle.lc_outline_text.specs.Bodies.{bodies_reading}
 use Rattle.lc_outline_text.specs.Declarations.{Declarations, declarations_in, known_of}
-use Rattle.lc_outline_text.specs.Developments.{Parts, specification_reading, development_of, forms_reading, condition_limit, file_reading}
+use Rattle.lc_outline_text.specs.Developments.{Parts, specification_reading, development_of, forms_reading, file_reading}
 use Rattle.lc_outline_text.specs.Points.{formulas_in_reading}
 use Rattle.lc_outline_text.specs.Sides.{sides_of, auxiliaries_reading, invariant_reading}
 use Rattle.lc_outline_text.specs.Sizes.{condition_count}

@@ -1,5 +1,6 @@
 -- Which developments read back from the text that is printed of them.
 use Rattle.std.specs.Prelude.{ℕ, ◌≤◌, List, ◌++◌, length}
+use Rattle.lc_base.specs.Limits.{file_limit}
 use Rattle.lc_term.specs.Lists.{Every, IsIn}
 use Rattle.lc_text.specs.Spelled.{binder}
 use Rattle.lc_object.specs.Syntax.{Operation}
@@ -15,4 +16,4 @@ HaveNoBinder names = (d : ℕ) → IsIn (binder d) names → ⊥
 pub record IsPrintable (D : Development) : Type 0 where
   pub variables : Every (λ (o : Operation). HaveNoBinder (o.arguments ++ o.locals)) D.object.operations
   pub parameters : Every (λ (a : Action). HaveNoBinder a.parameters) D.actions
-  pub size : length (development_printed D) ≤ 16777216
+  pub size : length (development_printed D) ≤ file_limit

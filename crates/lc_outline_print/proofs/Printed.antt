@@ -1,10 +1,6 @@
 -- The text of trees, part by part.
-use Rattle.std.proofs.Common.{◌≡◌, ℕ, Ok, Err, List, [], ◌∷◌, ◌++◌, refl, sym, ap, ◌∙◌, append_assoc, append-nil}
-use Rattle.std.specs.Prelude.{codes, Option, Some, None, Result, Vec, IfOk}
-use Rattle.std.specs.Borrow.{Bor}
-use Rattle.std.specs.declared.alloc.Global.{Global}
-use Rattle.lc_base.specs.declared.memory.OutOfMemory.{OutOfMemory}
-use Rattle.lc_reading.specs.Words.{names_in}
+use Rattle.std.proofs.Common.{◌≡◌, ℕ, List, [], ◌∷◌, ◌++◌, refl, sym, ap, ◌∙◌, append_assoc, append-nil}
+use Rattle.std.specs.Prelude.{codes, Option, Some, None}
 use Rattle.lc_seq.specs.Sequential.{Chosen, InOrder, ByName}
 use Rattle.lc_object.specs.Syntax.{Column}
 use Rattle.lc_sexp.specs.Trees.{Trees, list, none, ◌▸◌}
@@ -51,11 +47,3 @@ concrete_text (Some c) ts =
 pub followed_text : (ts us : Trees) → printed_others (followed ts us) ≡ printed_others ts ++ printed_others us
 followed_text none us = refl
 followed_text (t ▸ ts) us = ap (λ w. 32 ∷ (printed_tree t ++ w)) (followed_text ts us) ∙ ap (λ w. 32 ∷ w) (sym (append_assoc (printed_tree t) (printed_others ts) (printed_others us)))
-
--- the names of all columns, one kind after another
-pub names_joined : (r : Result (Vec (Bor (List ℕ)) Global) OutOfMemory) (x y z w new a b c : List (List ℕ)) → new ≡ [] → a ≡ new ++ x → b ≡ a ++ y → c ≡ b ++ z
-    → IfOk r (λ all. names_in all.items ≡ c ++ w) → IfOk r (λ all. names_in all.items ≡ x ++ (y ++ (z ++ w)))
-names_joined (Ok all) x y z w new a b c empty first second third h =
-    h ∙ ap (λ l. l ++ w) (third ∙ ap (λ l. l ++ z) (second ∙ ap (λ l. l ++ y) (first ∙ ap (λ l. l ++ x) empty)))
-    ∙ append_assoc (x ++ y) z w ∙ append_assoc x y (z ++ w)
-names_joined (Err e) x y z w new a b c empty first second third h = tt

@@ -5,13 +5,12 @@ use Rattle.lc_term.specs.Syntax.{Term, Formula}
 use Rattle.lc_text.specs.Spelling.{Spelled}
 use Rattle.lc_text.specs.SpelledTree.{term_tree, formula_tree}
 use Rattle.lc_object.specs.Syntax.{Object}
-use Rattle.lc_object.specs.declared.instr.EdgeKind.{EdgeKind}
-use Rattle.lc_object.specs.declared.instr.EdgeKind.TheVariants.{Next, Then, Else}
 use Rattle.lc_action.specs.Action.{Action}
 use Rattle.lc_seq.specs.Sequential.{Chosen, InOrder, ByName}
 use Rattle.lc_rider.specs.Rider.{Deed, Assign, Marks, Marking, Own, Other, Note, Rider}
 use Rattle.lc_tie.specs.Tie.{Conjunct}
 use Rattle.lc_outline.specs.Development.{On}
+use Rattle.lc_naming.specs.EdgeWords.{edge_word}
 use Rattle.lc_outline_print.specs.Naming.{with_client, named_by, operation_name, action_name}
 use Rattle.lc_outline_print.specs.Parts.{name_trees, term_trees, update_parts, update_trees}
 
@@ -54,11 +53,6 @@ conditional_tree by (Some f) rider = list (atom (codes "when") ▸ formula_tree 
 
 abbrev pub rider_tree : Object → Spelled → Rider → Tree
 rider_tree object by r = conditional_tree by r.condition (deed_tree object by r.deed)
-
-abbrev pub edge_word : EdgeKind → List ℕ
-edge_word Next = codes "next"
-edge_word Then = codes "then"
-edge_word Else = codes "else"
 
 -- (on EDGE (ACTION T*) RIDER*)
 abbrev pub on_tree : Object → List Action → Spelled → On → Tree

@@ -1,16 +1,8 @@
 -- By which names the text of a development speaks of what has a number.
-use Rattle.std.specs.Prelude.{ℕ, codes, List, [], ◌∷◌, ◌++◌, Option, Some, None, map, slice_get, slice_index_or}
-use Rattle.lc_term.specs.SystemColumns.{system_columns}
+use Rattle.std.specs.Prelude.{ℕ, codes, List, [], ◌∷◌, Option, Some, None, slice_get, slice_index_or}
 use Rattle.lc_text.specs.Spelling.{Spelled}
-use Rattle.lc_seq.specs.Specification as Q
 use Rattle.lc_object.specs.Syntax as O
 use Rattle.lc_action.specs.Action.{Action}
-use Rattle.lc_outline.specs.Development.{Development}
-
--- the names of the columns, by their numbers
-abbrev pub column_names : Development → List (List ℕ)
-column_names D =
-    map (λ (c : Q.Column). c.name) D.specification.columns ++ (map (λ (c : O.Column). c.name) D.object.concretes ++ (map (λ (c : Q.Column). c.name) D.auxiliaries ++ system_columns))
 
 -- the number of clients, the client, and these variables behind them
 abbrev pub with_client : List (List ℕ) → List (List ℕ)

@@ -10,7 +10,7 @@ ghost use Rattle.lc_sexp.specs.Printed.{printed_tree, printed_others};
 ghost use Rattle.lc_sexp.specs.Trees.{atom, list, ◌▸◌, row};
 ghost use Rattle.lc_term.specs.View.{term_of};
 ghost use Rattle.lc_tie.specs.TieView.{conjunct_of};
-ghost use Rattle.lc_outline_print.specs.Beside.{action_tree, conjunct_tree, mark_word, choice_trees, marking_tree, deed_tree, rider_tree, edge_word, on_tree};
+ghost use Rattle.lc_outline_print.specs.Beside.{action_tree, conjunct_tree, mark_word, choice_trees, marking_tree, deed_tree, rider_tree, on_tree};
 
 use crate::naming::{Named, client_variables, write_action_name, write_operation_name};
 use crate::parts::{
@@ -19,7 +19,8 @@ use crate::parts::{
 };
 use lc_action::Action;
 use lc_base::{OpId, OutOfMemory};
-use lc_object::{EdgeKind, Parts};
+use lc_naming::edge_word;
+use lc_object::Parts;
 use lc_outline::On;
 use lc_rider::{Choosing, Rider};
 use lc_term::Term;
@@ -230,17 +231,6 @@ fn write_riders<S: Spelling>(
     Ok(())
 }
 
-/// The word of an edge.
-fn edge_text(edge: EdgeKind) -> &'static str
-    ensures { result.now ≡ edge_word edge }
-{
-    match edge {
-        EdgeKind::Next => "next",
-        EdgeKind::Then => "then",
-        EdgeKind::Else => "else",
-    }
-}
-
 /// Writes `(on EDGE (ACTION T*) RIDER*)` behind a space.
 fn write_on<S: Spelling>(
     out: &mut String,
@@ -252,7 +242,7 @@ fn write_on<S: Spelling>(
     ensures { OnOk result (string_bytes out.new ≡ string_bytes out.old ++ codes " " ++ printed_tree (on_tree (parts_of object.now) (map action_of actions.now) (S.spelled spelling.now) (on_of on.now))) }
 {
     out.push_str(" (on ")?;
-    out.push_str(edge_text(on.edge))?;
+    out.push_str(edge_word(on.edge))?;
     out.push_str(" (")?;
     write_action_name(out, actions, on.action)?;
     write_terms(out, spelling, &on.arguments)?;

@@ -2,7 +2,6 @@
 #![tactic(auto)]
 
 mod beside;
-mod column_names;
 mod development;
 mod instruction;
 mod naming;

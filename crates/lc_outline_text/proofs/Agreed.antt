@@ -1,6 +1,7 @@
 -- A specification that is read says of its operations what its object sees of them.
 use Rattle.std.proofs.Common.{◌≡◌, ℕ, zero, suc, ◌+◌, ◌≤◌, ◌<◌, Bool, true, false, ◌&&◌, ◌==◌, cond, List, [], ◌∷◌, ◌++◌, map, length, Option, Some, None, refl, sym, ap, ◌∙◌, subst, arith}
 use Rattle.std.specs.Prelude.{ℤ, pos, negsuc, codes, nat_lt, slice_get}
+use Rattle.lc_base.specs.Limits.{argument_limit, operation_limit, reply_limit}
 use Rattle.lc_sexp.specs.Numerals.{integer_of}
 use Rattle.lc_sexp.specs.Parts.{fits, beyond, form_fit, integer_within}
 use Rattle.lc_sexp.specs.TreeCode.{tree_count}
@@ -47,14 +48,14 @@ each_declared P read declares h before i m (t ▸ ts) =
     both_holds (P i t) (Each P (i + 1) ts) (Each P i (t ▸ ts)) (λ x xs. x ∷ xs) (read before m t) _ (h before i m t) (each_declared P read declares h (before ++ declares t) (i + 1) (m + item_count t) ts) (λ x xs p q. (p, q))
 
 -- as many names as are declared
-names_read : (before : List (List ℕ)) (m : ℕ) (ts : Trees) → Holds (λ ws. length ws ≡ length (names_among ts)) (declared_reading (name_reading (Some 4)) declared_by before m ts)
+names_read : (before : List (List ℕ)) (m : ℕ) (ts : Trees) → Holds (λ ws. length ws ≡ length (names_among ts)) (declared_reading (name_reading (Some (1 + argument_limit))) declared_by before m ts)
 names_read before m none = refl
 names_read before m (list us ▸ ts) =
-    both_holds (λ w. ⊥) (λ ws. Unit {0}) (λ ws. length ws ≡ length (names_among (list us ▸ ts))) (λ x xs. x ∷ xs) (name_reading (Some 4) before m (list us)) _ tt
-    (anything (declared_reading (name_reading (Some 4)) declared_by (before ++ []) (m + item_count (list us)) ts)) (λ w ws h g. absurd h)
+    both_holds (λ w. ⊥) (λ ws. Unit {0}) (λ ws. length ws ≡ length (names_among (list us ▸ ts))) (λ x xs. x ∷ xs) (name_reading (Some (1 + argument_limit)) before m (list us)) _ tt
+    (anything (declared_reading (name_reading (Some (1 + argument_limit))) declared_by (before ++ []) (m + item_count (list us)) ts)) (λ w ws h g. absurd h)
 names_read before m (atom w ▸ ts) =
-    both_holds (λ w. Unit {0}) (λ ws. length ws ≡ length (names_among ts)) (λ ws. length ws ≡ length (names_among (atom w ▸ ts))) (λ x xs. x ∷ xs) (name_reading (Some 4) before m (atom w)) _
-    (anything (name_reading (Some 4) before m (atom w))) (names_read (before ++ declared_by (atom w)) (m + item_count (atom w)) ts) (λ w ws h g. ap suc g)
+    both_holds (λ w. Unit {0}) (λ ws. length ws ≡ length (names_among ts)) (λ ws. length ws ≡ length (names_among (atom w ▸ ts))) (λ x xs. x ∷ xs) (name_reading (Some (1 + argument_limit)) before m (atom w)) _
+    (anything (name_reading (Some (1 + argument_limit)) before m (atom w))) (names_read (before ++ declared_by (atom w)) (m + item_count (atom w)) ts) (λ w ws h g. ap suc g)
 
 arguments_read : (n : ℕ) (t : Tree) → Holds (λ ws. length ws ≡ length (names_among (items_within t))) (arguments_reading n t)
 arguments_read n (atom w) = tt
@@ -66,7 +67,7 @@ number_of (list ts) = None
 
 few_is : (n : ℕ) (o : Option ℕ) → Holds (λ k. o ≡ Some k) (few n o)
 few_is n None = tt
-few_is n (Some k) = if_holds (λ j. Some k ≡ Some j) (nat_lt 3 k) (wrong Bound n) (fine k) tt refl
+few_is n (Some k) = if_holds (λ j. Some k ≡ Some j) (nat_lt reply_limit k) (wrong Bound n) (fine k) tt refl
 
 replies_read : (n : ℕ) (t : Tree) → Holds (λ k. natural (number_of t) ≡ Some k) (count_reading n t)
 replies_read n (atom w) = few_is n (natural (integer_of w))
@@ -102,7 +103,7 @@ IsOperationSaid i t q = (form_fit (codes "op") t ≡ fits (parts_in (codes "op")
 
 operation_said : (columns : Columns) (before : List (List ℕ)) (i n : ℕ) (t : Tree) → Holds (IsOperationSaid i t) (operation_reading columns before n t)
 operation_said columns before i n t =
-    limited_holds (IsOperationSaid i t) (is_full (Some 16) (length before)) n _
+    limited_holds (IsOperationSaid i t) (is_full (Some operation_limit) (length before)) n _
     (mapped_holds _ (IsOperationSaid i t) the_operation _ (form_holds (λ us p. IsSaid us (the_operation p)) (codes "op") (operation_parts_reading columns before) n t (operation_parts_said columns before)) (λ p h. h))
 
 -- NAME (abstract COL ..) OP ..

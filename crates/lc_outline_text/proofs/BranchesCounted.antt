@@ -3,6 +3,7 @@ use Rattle.std.proofs.Common.{◌≡◌, ℕ, zero, suc, ◌+◌, Bool, true, fa
 use Rattle.std.specs.List.{list_any}
 use Rattle.std.specs.Prelude.{ℤ, codes, slice_get, ◌||◌}
 use Rattle.lc_base.specs.NameText.{is_name}
+use Rattle.lc_base.specs.Limits.{column_limit, operation_limit}
 use Rattle.lc_sexp.specs.Parts.{fits, misshapen, form_fit}
 use Rattle.lc_sexp.specs.TreeCode.{tree_count}
 use Rattle.lc_sexp.specs.Trees.{Tree, Trees, atom, list, none, ◌▸◌, item_count}
@@ -171,7 +172,7 @@ module _ (columns : Columns) (all : List (List ℕ)) (first : Leads columns.own 
 
   operation_said : (before : List (List ℕ)) (n : ℕ) (t : Tree) → Holds (IsForm (codes "op") (IsOperationOf all) t) (operation_reading columns before n t)
   operation_said before n t =
-      limited_holds (IsForm (codes "op") (IsOperationOf all) t) (is_full (Some 16) (length before)) n _
+      limited_holds (IsForm (codes "op") (IsOperationOf all) t) (is_full (Some operation_limit) (length before)) n _
       (mapped_holds _ (IsForm (codes "op") (IsOperationOf all) t) the_operation _
       (form_holds (λ us p. IsOperationOf all us (the_operation p)) (codes "op") (operation_parts_reading columns before) n t (operation_parts_said before)) (λ p h. h))
 
@@ -193,8 +194,8 @@ column_named_first before n (list (atom w ▸ ts)) =
 
 column_named_so : (before : List (List ℕ)) (n : ℕ) (t : Tree) → Holds (λ c. first_name t ≡ first_text (items_within t) ∷ []) (column_reading before n t)
 column_named_so before n t =
-    mapped_holds (λ p. first_name t ≡ first_text (items_within t) ∷ []) (λ c. first_name t ≡ first_text (items_within t) ∷ []) the_column (declared_column_reading (Some 64) before n t)
-    (limited_holds (λ p. first_name t ≡ first_text (items_within t) ∷ []) (is_full (Some 64) (length before)) n _ (column_named_first before n t)) (λ p h. h)
+    mapped_holds (λ p. first_name t ≡ first_text (items_within t) ∷ []) (λ c. first_name t ≡ first_text (items_within t) ∷ []) the_column (declared_column_reading (Some column_limit) before n t)
+    (limited_holds (λ p. first_name t ≡ first_text (items_within t) ∷ []) (is_full (Some column_limit) (length before)) n _ (column_named_first before n t)) (λ p h. h)
 
 row_named : (before : List (List ℕ)) (m : ℕ) (ts : Trees) → Holds (λ cs. all_declared first_name ts ≡ names_of_columns ts) (declared_reading column_reading first_name before m ts)
 row_named before m none = refl

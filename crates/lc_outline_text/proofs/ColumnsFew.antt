@@ -1,6 +1,7 @@
 -- There are few columns and few actions where a development is read.
 use Rattle.std.proofs.Common.{◌≡◌, ℕ, zero, suc, ◌+◌, ◌≤◌, ◌<◌, Bool, true, false, cond, Option, None, List, [], ◌∷◌, length, length-append, refl, ap, ◌∙◌, subst, arith}
 use Rattle.std.specs.Prelude.{codes, slice_get, nat_le}
+use Rattle.lc_base.specs.Limits.{action_limit, column_limit, width_limit}
 use Rattle.lc_sexp.specs.Parts.{fits, misshapen}
 use Rattle.lc_sexp.specs.TreeCode.{tree_count}
 use Rattle.lc_sexp.specs.Trees.{Tree, Trees, atom, list, none, ◌▸◌, item_count}
@@ -39,29 +40,29 @@ each_within P limit base f i (t ▸ ts) (x ∷ xs) few h =
 -- ---- abstract columns
 
 abbrev IsNamed : ℕ → Tree → List ℕ → Type 0
-IsNamed i t w = 0 + i < 64
+IsNamed i t w = 0 + i < column_limit
 
 name_few : (names : List (List ℕ)) (i n : ℕ) (t : Tree) → Holds (IsNamed i t) (column_name_reading names 0 i n t)
 name_few names i n (atom w) = tt
 name_few names i n (list none) = tt
-name_few names i n (list (t ▸ ts)) = limited_below 64 (0 + i) n (kth_name_reading names (0 + i) (n + 1) t)
+name_few names i n (list (t ▸ ts)) = limited_below column_limit (0 + i) n (kth_name_reading names (0 + i) (n + 1) t)
 
-section_few : (word : List ℕ) (names : List (List ℕ)) (n : ℕ) (t : Tree) → Holds (λ ws. length ws ≤ 64) (section_reading word names 0 n t)
+section_few : (word : List ℕ) (names : List (List ℕ)) (n : ℕ) (t : Tree) → Holds (λ ws. length ws ≤ column_limit) (section_reading word names 0 n t)
 section_few word names n t =
-    behind_holds (λ ws. length ws ≤ 64) word (section_parts names 0) n t
-    (λ n m ts. weaker (Each IsNamed 0 ts) (λ ws. length ws ≤ 64) (section_parts names 0 n m ts) (λ ws h. omega (arith, each_within IsNamed 64 0 (λ i t w below. below) 0 ts ws (omega arith) h))
+    behind_holds (λ ws. length ws ≤ column_limit) word (section_parts names 0) n t
+    (λ n m ts. weaker (Each IsNamed 0 ts) (λ ws. length ws ≤ column_limit) (section_parts names 0 n m ts) (λ ws h. omega (arith, each_within IsNamed column_limit 0 (λ i t w below. below) 0 ts ws (omega arith) h))
     (placed_holds IsNamed (column_name_reading names 0) (name_few names) 0 m ts))
 
 abbrev pub HasFewAbstracts : SpecificationText → Type 0
-HasFewAbstracts text = length text.abstracts ≤ 64
+HasFewAbstracts text = length text.abstracts ≤ column_limit
 
 parts_few : (d : Declared) (n m : ℕ) (us : Trees) → Holds HasFewAbstracts (specification_parts d n m us)
 parts_few d n m none = tt
 parts_few d n m (t ▸ none) = tt
 parts_few d n m (t ▸ u ▸ ts) =
     let p = m + item_count t in
-    both_holds (λ ws. length ws ≤ 64) (λ ss. Unit {0}) HasFewAbstracts specification_of (abstracts_reading d m t p u) (signatures_reading d n (p + item_count u) ts)
-    (both_holds (λ w. Unit {0}) (λ ws. length ws ≤ 64) (λ ws. length ws ≤ 64) behind_own_name (name_reading None [] m t) (section_reading (codes "abstract") d.columns 0 p u)
+    both_holds (λ ws. length ws ≤ column_limit) (λ ss. Unit {0}) HasFewAbstracts specification_of (abstracts_reading d m t p u) (signatures_reading d n (p + item_count u) ts)
+    (both_holds (λ w. Unit {0}) (λ ws. length ws ≤ column_limit) (λ ws. length ws ≤ column_limit) behind_own_name (name_reading None [] m t) (section_reading (codes "abstract") d.columns 0 p u)
     (anything (name_reading None [] m t)) (section_few (codes "abstract") d.columns p u) (λ w ws h g. g))
     (anything (signatures_reading d n (p + item_count u) ts)) (λ ws ss h g. h)
 
@@ -71,22 +72,22 @@ abstracts_few d n t = behind_holds HasFewAbstracts (codes "spec") (specification
 -- ---- columns of arrays
 
 abbrev IsColumn : ℕ → ℕ → Tree → C.Column → Type 0
-IsColumn base i t column = base + i < 64
+IsColumn base i t column = base + i < column_limit
 
-own_name_few : (names : List (List ℕ)) (base i n m : ℕ) (t : Tree) → Holds (λ w. base + i < 64) (own_name_reading names base i n m t)
+own_name_few : (names : List (List ℕ)) (base i n m : ℕ) (t : Tree) → Holds (λ w. base + i < column_limit) (own_name_reading names base i n m t)
 own_name_few names base i n m t =
-    limited_holds (λ w. base + i < 64) (nat_le 4 i) n (limited (nat_le 64 (base + i)) n (kth_name_reading names (base + i) m t)) (limited_below 64 (base + i) n (kth_name_reading names (base + i) m t))
+    limited_holds (λ w. base + i < column_limit) (nat_le width_limit i) n (limited (nat_le column_limit (base + i)) n (kth_name_reading names (base + i) m t)) (limited_below column_limit (base + i) n (kth_name_reading names (base + i) m t))
 
 column_few : (names : List (List ℕ)) (base i n : ℕ) (t : Tree) → Holds (IsColumn base i t) (column_reading names base i n t)
 column_few names base i n (atom w) = tt
 column_few names base i n (list none) = tt
 column_few names base i n (list (t ▸ ts)) =
-    both_holds (λ w. base + i < 64) (λ z. Unit {0}) (λ column. base + i < 64) column_of (own_name_reading names base i n (n + 1) t) (numbers_reading n (n + 1 + item_count t) ts)
+    both_holds (λ w. base + i < column_limit) (λ z. Unit {0}) (λ column. base + i < column_limit) column_of (own_name_reading names base i n (n + 1) t) (numbers_reading n (n + 1 + item_count t) ts)
     (own_name_few names base i n (n + 1) t) (anything (numbers_reading n (n + 1 + item_count t) ts)) (λ w z h u. h)
 
 -- as many columns as stand there, which are within the limit behind so many others
 abbrev AreWithin : ℕ → Trees → List C.Column → Type 0
-AreWithin base ts columns = (length columns ≡ tree_count ts) × (base ≤ 64 → base + length columns ≤ 64)
+AreWithin base ts columns = (length columns ≡ tree_count ts) × (base ≤ column_limit → base + length columns ≤ column_limit)
 
 columns_few : (d : Declared) (i n m : ℕ) (ts : Trees) → Holds (AreWithin (first_column (slice_get d.spans i)) ts) (columns_reading d i n m ts)
 columns_few d i n m none = tt
@@ -94,7 +95,7 @@ columns_few d i n m (t ▸ ts) =
     let base = first_column (slice_get d.spans i) in
     let P = IsColumn base in
     weaker (Each P 0 (t ▸ ts)) (AreWithin base (t ▸ ts)) (columns_reading d i n m (t ▸ ts))
-    (λ columns h. (each_counted P 0 (t ▸ ts) columns h, λ few. (let all = each_within P 64 base (λ i t x below. below) 0 (t ▸ ts) columns (omega (arith, few)) h in omega (arith, all))))
+    (λ columns h. (each_counted P 0 (t ▸ ts) columns h, λ few. (let all = each_within P column_limit base (λ i t x below. below) 0 (t ▸ ts) columns (omega (arith, few)) h in omega (arith, all))))
     (placed_holds P (column_reading d.columns base) (column_few d.columns base) 0 m (t ▸ ts))
 
 abbrev IsArrayWithin : ℕ → Trees → ArrayText → Type 0
@@ -109,7 +110,7 @@ array_few d i n m (t ▸ ts) =
 
 -- the columns of all arrays, the first of which begins here
 abbrev pub HaveFew : ℕ → List ArrayText → Type 0
-HaveFew k arrays = k ≤ 64 → k + length (concretes_of arrays) ≤ 64
+HaveFew k arrays = k ≤ column_limit → k + length (concretes_of arrays) ≤ column_limit
 
 -- from the i-th span on these stand
 abbrev pub AreSpans : Declared → ℕ → List Span → Type 0
@@ -144,10 +145,10 @@ arrays_few d k i m (list (atom w ▸ us) ▸ ts) spans =
 -- ---- auxiliary columns
 
 abbrev IsAuxiliary : ℕ → ℕ → Tree → Column → Type 0
-IsAuxiliary base i t column = base + i < 64
+IsAuxiliary base i t column = base + i < column_limit
 
 abbrev pub AreFewBehind : ℕ → List Column → Type 0
-AreFewBehind base columns = base ≤ 64 → base + length columns ≤ 64
+AreFewBehind base columns = base ≤ column_limit → base + length columns ≤ column_limit
 
 section_within : (d : Declarations) (n : ℕ) (t : Tree) → Holds (AreFewBehind d.declared.auxiliaries) (auxiliaries_reading d n t)
 section_within d n t =
@@ -156,8 +157,8 @@ section_within d n t =
     let read = R.column_reading d.declared.columns base in
     behind_holds (AreFewBehind base) (codes "aux") (λ n. placed_reading read 0) n t
     (λ n m ts. weaker (Each P 0 ts) (AreFewBehind base) (placed_reading read 0 m ts)
-    (λ columns h few. let all = each_within P 64 base (λ i t x below. below) 0 ts columns (omega (arith, few)) h in omega (arith, all))
-    (placed_holds P read (λ i n t. limited_below 64 (base + i) n (listed_reading (R.column_parts_reading d.declared.columns (base + i)) n t)) 0 m ts))
+    (λ columns h few. let all = each_within P column_limit base (λ i t x below. below) 0 ts columns (omega (arith, few)) h in omega (arith, all))
+    (placed_holds P read (λ i n t. limited_below column_limit (base + i) n (listed_reading (R.column_parts_reading d.declared.columns (base + i)) n t)) 0 m ts))
 
 pub auxiliaries_few : (d : Declarations) (n m : ℕ) (ts : Trees) → Holds (AreFewBehind d.declared.auxiliaries) (first_reading (auxiliaries_reading d) n m ts)
 auxiliaries_few d n m none = tt
@@ -166,7 +167,7 @@ auxiliaries_few d n m (t ▸ ts) = section_within d m t
 -- ---- actions
 
 abbrev pub AreFewFrom : ℕ → List Action → Type 0
-AreFewFrom i actions = i ≤ 64 → i + length actions ≤ 64
+AreFewFrom i actions = i ≤ action_limit → i + length actions ≤ action_limit
 
 no_action : (i : ℕ) → AreFewFrom i []
 no_action i few = omega (arith, few)
@@ -178,8 +179,8 @@ actions_few known i m (list none ▸ ts) = no_action i
 actions_few known i m (list (list us ▸ vs) ▸ ts) = no_action i
 actions_few known i m (list (atom w ▸ us) ▸ ts) =
     by_test (is w (codes "action")) (action_reading known i m (list (atom w ▸ us))) (lists_reading (codes "action") (action_reading known) (i + 1) (m + item_count (list (atom w ▸ us))) ts)
-    (limited_below 64 i m (headed_action_reading known i m (list (atom w ▸ us)))) (actions_few known (i + 1) (m + item_count (list (atom w ▸ us))) ts) where
-      by_test : (b : Bool) (r : Reading Action) (rest : Reading (List Action)) → Holds (λ a. i < 64) r → Holds (AreFewFrom (i + 1)) rest → Holds (AreFewFrom i) (cond b (both cons r rest) (fine []))
+    (limited_below action_limit i m (headed_action_reading known i m (list (atom w ▸ us)))) (actions_few known (i + 1) (m + item_count (list (atom w ▸ us))) ts) where
+      by_test : (b : Bool) (r : Reading Action) (rest : Reading (List Action)) → Holds (λ a. i < action_limit) r → Holds (AreFewFrom (i + 1)) rest → Holds (AreFewFrom i) (cond b (both cons r rest) (fine []))
       by_test true r rest h g =
-          both_holds (λ a. i < 64) (AreFewFrom (i + 1)) (AreFewFrom i) cons r rest h g (λ a actions below f few. let all = f (omega (arith, below)) in omega (arith, all))
+          both_holds (λ a. i < action_limit) (AreFewFrom (i + 1)) (AreFewFrom i) cons r rest h g (λ a actions below f few. let all = f (omega (arith, below)) in omega (arith, all))
       by_test false r rest h g = no_action i

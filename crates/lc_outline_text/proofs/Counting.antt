@@ -1,20 +1,20 @@
 -- Counts up to a cap.
 use Rattle.std.proofs.Common.{rules, ◌≡◌, ℕ, ◌+◌, ◌*◌, ◌≤◌, ap, ◌∙◌, arith}
-use Rattle.lc_outline_text.specs.Views.{capped}
+use Rattle.lc_outline_text.specs.Views.{capped, count_cap}
 
 -- enough are counted, whatever is left
-pub enough : (n s whole : ℕ) → 100001 ≤ n → n ≤ 100001 → capped (n + s) ≡ capped whole → 100001 ≡ capped whole
+pub enough : (n s whole : ℕ) → count_cap ≤ n → n ≤ count_cap → capped (n + s) ≡ capped whole → count_cap ≡ capped whole
 enough n s whole many few h = omega arith
 
 -- nothing more is counted
-pub counted : (n s whole : ℕ) → n ≤ 100001 → s ≡ 0 → capped (n + s) ≡ capped whole → n ≡ capped whole
+pub counted : (n s whole : ℕ) → n ≤ count_cap → s ≡ 0 → capped (n + s) ≡ capped whole → n ≡ capped whole
 counted n s whole few none h = omega arith
 
 -- one part more
 pub counted_more : (n more own rest s next whole : ℕ) → more ≡ capped own → next ≡ capped (n + more) → s ≡ own + rest → capped (n + s) ≡ capped whole → capped (next + rest) ≡ capped whole
 counted_more n more own rest s next whole h g e k = omega arith
 
-pub few_counted : (n m : ℕ) → n ≡ capped m → n ≤ 100001
+pub few_counted : (n m : ℕ) → n ≡ capped m → n ≤ count_cap
 few_counted n m h = omega arith
 
 -- a count up to the cap, so many times

@@ -4,6 +4,7 @@ use Rattle.std.proofs.lemmas.Bool.Decides.{nat_tests}
 use Rattle.std.specs.Prelude.{Result, not, nat_lt, IfOk}
 use Rattle.std.specs.Result.{IsErrAnd}
 use Rattle.lc_base.specs.declared.refusal.Fault.{Fault}
+use Rattle.lc_base.specs.Limits.{condition_limit}
 use Rattle.lc_sexp.specs.Reads.{ReadsAs}
 use Rattle.lc_sexp.specs.Trees.{Trees}
 use Rattle.lc_object_text.specs.Sections.{sections_of}
@@ -22,7 +23,7 @@ use Rattle.lc_reading.specs.declared.flaw.ReadFault.TheVariants.{Flawed, OutOfMe
 use Rattle.lc_reading.specs.declared.pass.Pass.{Pass}
 use Rattle.lc_reading.specs.declared.pass.Pass.TheVariants.{Shape, Unknown, Repeated, Auxiliary, Bound}
 use Rattle.lc_outline_text.specs.Declarations.{declarations_of}
-use Rattle.lc_outline_text.specs.Developments.{condition_limit, forms_reading, file_reading}
+use Rattle.lc_outline_text.specs.Developments.{forms_reading, file_reading}
 use Rattle.lc_outline_text.specs.Sizes.{condition_count}
 use Rattle.lc_outline_text.specs.Views.{capped, is_bound, is_told_before_limits, IsFileRead}
 
@@ -44,7 +45,7 @@ told_first ts (Err (Flawed f)) h e = told_too (nat_lt condition_limit (condition
 told_first ts (Err OutOfMemory) h e = tt
 
 -- a count up to the cap is beyond the limit where the count is
-same_test : (n : ℕ) → nat_lt 100000 (capped n) ≡ nat_lt 100000 n
+same_test : (n : ℕ) → nat_lt condition_limit (capped n) ≡ nat_lt condition_limit n
 same_test n = grind (arith, nat_tests)
 
 as_read : (ts : Trees) (result : Result Parts ReadFault) → IsReading parts_shown (file_reading ts) result → IsFileRead ts result
@@ -53,11 +54,11 @@ as_read ts (Err (Flawed f)) h = (f, h, refl)
 as_read ts (Err OutOfMemory) h = tt
 
 pub told_limited : (ts : Trees) (parts result : Result Parts ReadFault) (count : ℕ) → IsReading parts_shown (forms_reading (declarations_of ts) (sections_of ts) 0 ts) parts
-    → count ≡ capped (condition_count (declarations_of ts) (sections_of ts)) → result ≡ limited_result (nat_lt 100000 count) 0 parts → IsFileRead ts result
+    → count ≡ capped (condition_count (declarations_of ts) (sections_of ts)) → result ≡ limited_result (nat_lt condition_limit count) 0 parts → IsFileRead ts result
 told_limited ts parts result count h e is =
     let whole = condition_count (declarations_of ts) (sections_of ts) in
-    let same = is ∙ ap (λ b. limited_result b 0 parts) (ap (nat_lt 100000) e ∙ same_test whole) in
-    as_read ts result (rw same (limited_read parts_shown (nat_lt 100000 whole) 0 (forms_reading (declarations_of ts) (sections_of ts) 0 ts) parts h))
+    let same = is ∙ ap (λ b. limited_result b 0 parts) (ap (nat_lt condition_limit) e ∙ same_test whole) in
+    as_read ts result (rw same (limited_read parts_shown (nat_lt condition_limit whole) 0 (forms_reading (declarations_of ts) (sections_of ts) 0 ts) parts h))
 
 -- what holds of a value that is read holds of it where a limit is told
 pub still : (P : Parts → Type 0) (b : Bool) (parts result : Result Parts ReadFault) → result ≡ limited_result b 0 parts → IfOk parts P → IfOk result P

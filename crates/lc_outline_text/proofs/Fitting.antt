@@ -4,6 +4,7 @@ use Rattle.std.proofs.lemmas.Bool.{eq-eqb}
 use Rattle.std.proofs.lemmas.Bool.Decides.{nat_tests}
 use Rattle.std.specs.List.{list_all}
 use Rattle.std.specs.Prelude.{nat_lt, nat_le, slice_get, is_some}
+use Rattle.lc_base.specs.Limits.{path_limit, rider_limit}
 use Rattle.lc_sexp.specs.Trees.{Trees}
 use Rattle.lc_reading.proofs.Holding.{and_true}
 use Rattle.lc_term.specs.Lists.{Every}
@@ -256,8 +257,8 @@ ons_few d D own o [] agree goes h = refl
 ons_few d D own o (x ∷ ons) agree goes h =
     let riders = x.riders in
     and_true (on_is_limited D.specification.operations o x) (list_all (on_is_limited D.specification.operations o) ons)
-    (and_true (nat_le (length riders) 6) (nat_le (path_total D.specification.operations o riders) 64) (is_few (length riders) 6 h.0.0)
-    (is_few (path_total D.specification.operations o riders) 64 (h.0.1 D.specification.operations o agree goes)))
+    (and_true (nat_le (length riders) rider_limit) (nat_le (path_total D.specification.operations o riders) path_limit) (is_few (length riders) rider_limit h.0.0)
+    (is_few (path_total D.specification.operations o riders) path_limit (h.0.1 D.specification.operations o agree goes)))
     (ons_few d D own o ons agree goes h.1)
 
 point_few : (d : Declarations) (D : Development) (ps : List (Point × Outline)) (p : Point × Outline) → Fits d D ps → IsAPoint d p → list_all (on_is_limited D.specification.operations p.0.operation) p.1.ons ≡ true

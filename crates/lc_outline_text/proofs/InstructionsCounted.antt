@@ -6,6 +6,7 @@ use Rattle.lc_sexp.specs.TreeCode.{tree_count}
 use Rattle.lc_sexp.specs.Trees.{Tree, Trees, atom, list, none, ◌▸◌, item_count}
 use Rattle.lc_reading.proofs.Holding.{Holds, anything, both_holds, if_holds}
 use Rattle.lc_reading.proofs.Words.{is-true}
+use Rattle.lc_reading.specs.Naming.{known}
 use Rattle.lc_reading.specs.Readings.{fine, wrong}
 use Rattle.lc_reading.specs.Rows.{each_reading}
 use Rattle.lc_reading.specs.Words.{is, is_long}
@@ -16,7 +17,7 @@ use Rattle.lc_text.specs.Terms.{pair, term_reading}
 use Rattle.lc_object.specs.Syntax as S
 use Rattle.lc_object.specs.Syntax.{Instr}
 use Rattle.lc_object_text.proofs.Holding.{Counted, row_holds, behind_holds}
-use Rattle.lc_object_text.specs.Cells.{found, array_reading, label_reading, row_width, values_reading, targets_reading}
+use Rattle.lc_object_text.specs.Cells.{array_reading, label_reading, row_width, values_reading, targets_reading}
 use Rattle.lc_object_text.specs.CodeNames.{CodeNames}
 use Rattle.lc_object_text.specs.Heads.{head_of}
 use Rattle.lc_object_text.specs.Instructions.{place_reading, labels_reading, moved_reading, stored_reading, rows_reading, exchange_reading, load_of, load_reading, store_of, store_reading, cas_of, cas_reading, set_of, set_reading, adding_reading, faa_of, faa_reading, if_of, if_reading, code_reading, return_of, return_reading, instruction_reading}
@@ -37,7 +38,7 @@ IsCoded code c (S.Return vs) = first_text c ≡ codes "return"
 
 -- ---- parts
 
-found_said : {X : Type 0} (P : X → Type 0) (n : ℕ) (w : List ℕ) (o : Option X) → ((x : X) → o ≡ Some x → P x) → Holds P (found n w o)
+found_said : {X : Type 0} (P : X → Type 0) (n : ℕ) (w : List ℕ) (o : Option X) → ((x : X) → o ≡ Some x → P x) → Holds P (known n w o)
 found_said P n w None h = tt
 found_said P n w (Some x) h = if_holds P (is_long w) (wrong Bound n) (fine x) tt (h x refl)
 
@@ -47,7 +48,7 @@ module _ (names : Names) (code : CodeNames) where
 
   label_said : (n : ℕ) (t : Tree) → Holds (IsLabel t) (label_reading code n t)
   label_said n (list ts) = tt
-  label_said n (atom w) = if_holds (IsLabel (atom w)) (is_name w) (found n w (code.label w)) (wrong Shape n) (found_said (IsLabel (atom w)) n w (code.label w) (λ l e. e)) tt
+  label_said n (atom w) = if_holds (IsLabel (atom w)) (is_name w) (known n w (code.label w)) (wrong Shape n) (found_said (IsLabel (atom w)) n w (code.label w) (λ l e. e)) tt
 
   -- an array, and its width
   abbrev IsArray : Tree → ℕ → Type 0
@@ -56,7 +57,7 @@ module _ (names : Names) (code : CodeNames) where
   array_said : (n : ℕ) (t : Tree) → Holds (IsArray t) (array_reading code n t)
   array_said n (list ts) = tt
   array_said n (atom w) =
-      if_holds (IsArray (atom w)) (is_name w) (found n w (option_map (λ (row : ℕ × ℕ). row.0) (code.array w))) (wrong Shape n)
+      if_holds (IsArray (atom w)) (is_name w) (known n w (option_map (λ (row : ℕ × ℕ). row.0) (code.array w))) (wrong Shape n)
       (found_said (IsArray (atom w)) n w (option_map (λ (row : ℕ × ℕ). row.0) (code.array w)) (λ a e. of_row (code.array w) refl a e)) tt where
         of_row : (o : Option (ℕ × ℕ)) → code.array w ≡ o → (a : ℕ) → option_map (λ (row : ℕ × ℕ). row.0) o ≡ Some a → IsArray (atom w) a
         of_row None e a h = absurd (cc)

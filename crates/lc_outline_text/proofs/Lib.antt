@@ -1,4 +1,4 @@
-pub mod Agreed
+mod Agreed
 mod ArraysCounted
 pub mod Assembled
 mod BodiesCounted
@@ -9,15 +9,15 @@ mod Counting
 mod Different
 mod EdgesCounted
 mod FileReads
-pub mod Fitting
-pub mod Going
+mod Fitting
+mod Going
 mod InstructionsCounted
 mod LimitsHold
 mod MadeBodies
 mod MarksCounted
 mod Needed
 mod ObjectOf
-pub mod Outlined
+mod Outlined
 mod Own
 mod Paths
 mod PlacedReads

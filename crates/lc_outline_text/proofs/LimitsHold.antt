@@ -2,6 +2,7 @@
 use Rattle.std.proofs.Common.{◌≡◌, ℕ, ◌+◌, ◌≤◌, Bool, true, false, ◌&&◌, None, List, [], length, length-append, refl, sym, ap, ◌∙◌, subst, arith}
 use Rattle.std.proofs.lemmas.Bool.Decides.{nat_tests}
 use Rattle.std.specs.Prelude.{codes, nat_le, nat_lt, slice_get, Result, Ok, Err, IfOk}
+use Rattle.lc_base.specs.Limits.{action_limit, column_limit, condition_limit}
 use Rattle.lc_sexp.specs.Trees.{Tree, Trees, none, ◌▸◌, item_count}
 use Rattle.lc_reading.proofs.Holding.{Holds, held, anything, weaker, both_holds, ended_holds, and_holds, and_true}
 use Rattle.lc_reading.specs.Naming.{name_reading}
@@ -28,7 +29,7 @@ use Rattle.lc_outline_text.proofs.Outlined.{all_points}
 use Rattle.lc_outline_text.proofs.WholeCounted.{forms_sized}
 use Rattle.lc_outline_text.specs.Bodies.{bodies_reading}
 use Rattle.lc_outline_text.specs.Declarations.{Declarations, known_of, declarations_in, declarations_of}
-use Rattle.lc_outline_text.specs.Developments.{Parts, specification_reading, tables_reading, object_reading, second_form_reading, development_of, condition_limit, forms_reading, file_reading}
+use Rattle.lc_outline_text.specs.Developments.{Parts, specification_reading, tables_reading, object_reading, second_form_reading, development_of, forms_reading, file_reading}
 use Rattle.lc_outline_text.specs.Sides.{Sides, sides_of, actions_reading, conditions_reading, sides_reading}
 use Rattle.lc_outline_text.specs.Sizes.{condition_count}
 use Rattle.lc_outline_text.specs.Views.{IsFileRead}
@@ -50,10 +51,10 @@ specification_few t d n =
     both_holds HasFewAbstracts (λ q. Unit {0}) HasFew pair (O.specification_reading d.declared n t) other (abstracts_few d.declared n t) (anything other) (λ text q h u. h)
 
 abbrev AreSidesFew : Declarations → Sides → Type 0
-AreSidesFew d x = AreFewBehind d.declared.auxiliaries x.auxiliaries × (length x.actions ≤ 64)
+AreSidesFew d x = AreFewBehind d.declared.auxiliaries x.auxiliaries × (length x.actions ≤ action_limit)
 
 abbrev AreActionsFew : Declarations → List Column × List Action → Type 0
-AreActionsFew d p = AreFewBehind d.declared.auxiliaries p.0 × (length p.1 ≤ 64)
+AreActionsFew d p = AreFewBehind d.declared.auxiliaries p.0 × (length p.1 ≤ action_limit)
 
 sides_few : (d : Declarations) (s : Sections) (n : ℕ) → Holds (AreSidesFew d) (sides_reading d s n)
 sides_few d s n =
@@ -61,8 +62,8 @@ sides_few d s n =
     let listed = lists_reading (codes "action") (action_reading (known_of d)) 0 actions.number actions.trees in
     let conditions = conditions_reading d n s.invariant.number s.invariant.trees in
     both_holds (AreActionsFew d) (λ c. Unit {0}) (AreSidesFew d) sides_of (actions_reading d s n) conditions
-    (both_holds (AreFewBehind d.declared.auxiliaries) (λ actions. length actions ≤ 64) (AreActionsFew d) pair _ listed (auxiliaries_few d n s.auxiliaries.number s.auxiliaries.trees)
-    (weaker (λ actions. 0 ≤ 64 → 0 + length actions ≤ 64) (λ actions. length actions ≤ 64) listed (λ actions h. let all = h (omega arith) in omega (arith, all))
+    (both_holds (AreFewBehind d.declared.auxiliaries) (λ actions. length actions ≤ action_limit) (AreActionsFew d) pair _ listed (auxiliaries_few d n s.auxiliaries.number s.auxiliaries.trees)
+    (weaker (λ actions. 0 ≤ action_limit → 0 + length actions ≤ action_limit) (λ actions. length actions ≤ action_limit) listed (λ actions h. let all = h (omega arith) in omega (arith, all))
     (actions_few (known_of d) 0 actions.number actions.trees)) (λ columns actions h g. (h, g)))
     (anything conditions) (λ p c h u. h)
 
@@ -95,8 +96,8 @@ object_few s n =
 
 -- it is within all limits but that of conditions
 record IsWithin (D : Development) : Type 0 where
-  columns : first_system D ≤ 64
-  actions : length D.actions ≤ 64
+  columns : first_system D ≤ column_limit
+  actions : length D.actions ≤ action_limit
   outlines : outlines_are_limited D.specification.operations D.object.points D.outlines ≡ true
 
 within_of : (s : Sections) (p : O.SpecificationText × Specification) (o : Parts) → SpecificationHolds s p × HasFew p → ObjectHolds s o × IsObjectFew s o → IsWithin (development_of p o)
@@ -144,13 +145,13 @@ says_limited ts D e =
     let text = condition_count (declarations_of ts) (sections_of ts) in
     let read = within (nat_lt condition_limit text) 0 forms D e in
     let few = held IsWithin forms D (forms_few ts) read.1 in
-    let conditions : count (sizes_of D) ≤ 100000 = subst (λ k. k ≤ 100000) (sym (forms_sized ts D read.1)) (few_of text 100000 read.0) in
-    let a = nat_le (first_system D) 64 in
-    let b = nat_le (length D.actions) 64 in
+    let conditions : count (sizes_of D) ≤ condition_limit = subst (λ k. k ≤ condition_limit) (sym (forms_sized ts D read.1)) (few_of text condition_limit read.0) in
+    let a = nat_le (first_system D) column_limit in
+    let b = nat_le (length D.actions) action_limit in
     let c = outlines_are_limited D.specification.operations D.object.points D.outlines in
-    and_true (a && b && c) (nat_le (count (sizes_of D)) 100000)
-    (and_true (a && b) c (and_true a b (is_few (first_system D) 64 few.columns) (is_few (length D.actions) 64 few.actions)) few.outlines)
-    (is_few (count (sizes_of D)) 100000 conditions)
+    and_true (a && b && c) (nat_le (count (sizes_of D)) condition_limit)
+    (and_true (a && b) c (and_true a b (is_few (first_system D) column_limit few.columns) (is_few (length D.actions) action_limit few.actions)) few.outlines)
+    (is_few (count (sizes_of D)) condition_limit conditions)
 
 pub read_limited : (ts : Trees) (result : Result P.Parts ReadFault) → IsFileRead ts result → IfOk result (λ parts. is_limited (parts_shown parts) ≡ true)
 read_limited ts (Ok parts) h = says_limited ts (parts_shown parts) h

@@ -28,7 +28,8 @@ use Rattle.lc_rider_text.specs.Heads.{kind_of}
 use Rattle.lc_rider_text.specs.Known.{Known, Ways}
 use Rattle.lc_rider_text.specs.Ons.{the_on, on_parts_reading, on_reading, ons_reading}
 use Rattle.lc_rider_text.specs.declared.edges.Edges.{Edges}
-use Rattle.lc_outline_text.specs.Needs.{code_word, edge_word, acts, lacks_on}
+use Rattle.lc_naming.specs.EdgeWords.{edge_word}
+use Rattle.lc_outline_text.specs.Needs.{code_word, acts, lacks_on}
 
 -- ---- instructions by their words
 

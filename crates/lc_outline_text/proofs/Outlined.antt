@@ -34,7 +34,8 @@ use Rattle.lc_outline_text.proofs.Needed.{IsOfWord, instruction_word, IsMet, Are
 use Rattle.lc_outline_text.specs.Bodies.{names_in, due_reading, ith_reading, bodies_reading}
 use Rattle.lc_outline_text.specs.Declarations.{Declarations, known_of, own_ways}
 use Rattle.lc_outline_text.specs.Developments.{code_of, outlines_of}
-use Rattle.lc_outline_text.specs.Needs.{code_word, edge_word, edges_of, acts, lacks_on}
+use Rattle.lc_naming.specs.EdgeWords.{edge_word}
+use Rattle.lc_outline_text.specs.Needs.{code_word, edges_of, acts, lacks_on}
 use Rattle.lc_outline_text.specs.Points.{formulas_in_reading, outline_of, outline_reading, beside}
 
 -- ---- formulas

@@ -3,6 +3,7 @@ use Rattle.std.proofs.Common.{◌≡◌, ℕ, ◌+◌, Bool, true, false, cond, 
 use Rattle.std.proofs.lemmas.List.{map-append}
 use Rattle.std.specs.Prelude.{codes, option_map, slice_get, nat_le, nat_lt, length, ◌&&◌}
 use Rattle.lc_base.specs.NameText.{is_name}
+use Rattle.lc_base.specs.Limits.{rider_limit}
 use Rattle.lc_sexp.specs.Trees.{Tree, Trees, atom, list, none, ◌▸◌, item_count}
 use Rattle.lc_reading.proofs.Holding.{Holds, anything, and_holds, mapped_holds, both_holds, ended_holds, limited_holds, if_holds, weaker}
 use Rattle.lc_reading.proofs.Words.{is-true}
@@ -43,7 +44,7 @@ use Rattle.lc_rider_text.specs.declared.edges.Edges.{Edges}
 use Rattle.lc_outline.specs.Sizes as C
 use Rattle.lc_outline.specs.Sizes.{columns_of}
 use Rattle.lc_outline_text.specs.Declarations.{Declarations, known_of, own_ways, branches_in, form_at}
-use Rattle.lc_outline_text.specs.Needs.{edge_word}
+use Rattle.lc_naming.specs.EdgeWords.{edge_word}
 use Rattle.lc_outline_text.specs.Sizes as Z
 use Rattle.lc_outline_text.specs.Sizes.{column_named, columns_settled, columns_noted, mark_ways, choice_named, choice_ways, on_of}
 use Rattle.lc_outline_text.proofs.RowsCounted.{Alike, IsForm}
@@ -252,7 +253,7 @@ module _ (d : Declarations) (o : ℕ) where
   row_said names i m none = λ D a few. refl
   row_said names i m (t ▸ ts) =
       both_holds (HasRiderWays d o (Z.rider_ways d o (items_within t))) (HaveWays ts) (HaveWays (t ▸ ts)) cons (ith_rider_reading (known_of d) names (own_ways d o) i m t) (placed_reading (ith_rider_reading (known_of d) names (own_ways d o)) (i + 1) (m + item_count t) ts)
-      (limited_holds (HasRiderWays d o (Z.rider_ways d o (items_within t))) (nat_le 6 i) m (rider_reading (known_of d) names (own_ways d o) m t) (rider_said names m t)) (row_said names (i + 1) (m + item_count t) ts)
+      (limited_holds (HasRiderWays d o (Z.rider_ways d o (items_within t))) (nat_le rider_limit i) m (rider_reading (known_of d) names (own_ways d o) m t) (rider_said names m t)) (row_said names (i + 1) (m + item_count t) ts)
       (λ r rs h g D a few. ap₂ (λ x xs. x ∷ xs) (h D a few) (g D a few))
 
 -- ---- what is done at an edge

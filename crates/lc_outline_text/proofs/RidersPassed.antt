@@ -13,7 +13,7 @@ use Rattle.lc_outline_text.proofs.Counting.{product_capped}
 use Rattle.lc_outline_text.proofs.Different.{same_different}
 use Rattle.lc_outline_text.proofs.Paths.{same_paths, set_apart}
 use Rattle.lc_outline_text.specs.StoredView.{row_way, none_stored, deed_seen, rider_seen, riders_seen}
-use Rattle.lc_outline_text.specs.Views.{capped}
+use Rattle.lc_outline_text.specs.Views.{capped, count_cap}
 
 -- ---- one rider after another
 
@@ -22,21 +22,10 @@ next_rider rs i r below is =
     let step : suc i ≡ i + 1 = omega arith in
     ap riders_seen (drop-cons rs i r below ∙ ap₂ (λ x k. x ∷ drop k rs) (sym is) step)
 
-pub no_rider : (rs : List Rider) (i : ℕ) → length rs ≤ i → riders_seen (drop i rs) ≡ []
-no_rider rs i past = ap riders_seen (drop_all i rs past)
-
 -- ---- how many paths there are
 
 pub number_next : (n new l p q all : ℕ) → new ≡ capped (n * l) → p ≡ l * q → capped (n * p) ≡ capped all → capped (new * q) ≡ capped all
 number_next n new l p q all is split whole = ap (λ m. capped (m * q)) is ∙ product_capped (n * l) q ∙ ap capped (mul_assoc n l q) ∙ ap (λ m. capped (n * m)) (sym split) ∙ whole
-
-pub number_last : (n p all : ℕ) → n ≤ 100001 → p ≡ 1 → capped (n * p) ≡ capped all → n ≡ capped all
-number_last n p all few one whole =
-    let same : n * p ≡ n = ap (λ m. n * m) one ∙ times_one n in
-    let h = ap capped (sym same) ∙ whole in
-    omega (arith, few, h) where
-      times_one : (n : ℕ) → n * 1 ≡ n
-      times_one n = omega arith
 
 -- ---- riders that leave a choice
 
@@ -49,11 +38,6 @@ pub none_left : (ws : List Way) → length ws ≡ 1 → leaves_choice ws ≡ fal
 none_left [] h = absurd (omega (arith, h))
 none_left (w ∷ []) h = refl
 none_left (v ∷ w ∷ ws) h = absurd (omega (arith, h))
-
-pub not_only : (ws : List Way) → (length ws ≡ 1 → ⊥) → only_way ws ≡ no_way
-not_only [] h = refl
-not_only (w ∷ []) h = absurd (h refl)
-not_only (v ∷ w ∷ ws) h = refl
 
 pub only_first : (ws : List Way) → length ws ≡ 1 → get_or ws 0 no_way ≡ only_way ws
 only_first [] h = absurd (omega (arith, h))
@@ -75,11 +59,6 @@ no_more false j = refl
 pub row_at : (asked : ℕ) (rows : List (Vec ColId Global)) (k : ℕ) (row : Vec ColId Global) → k < length rows → row ≡ get_or rows k row → get_or (map (row_way asked) rows) k no_way ≡ row_way asked row
 row_at asked rows k row below is = get_mapped (row_way asked) rows k row no_way below ∙ ap (row_way asked) (sym is)
 
-pub no_row_at : (asked : ℕ) (rows : List (Vec ColId Global)) (k : ℕ) → length rows ≤ k → get_or (map (row_way asked) rows) k no_way ≡ no_way
-no_row_at asked [] k past = refl
-no_row_at asked (row ∷ rows) zero past = absurd (omega (arith, past))
-no_row_at asked (row ∷ rows) (suc k) past = no_row_at asked rows k (omega (arith, past))
-
 -- on the way on which a rider's condition does not hold nothing is done
 get_joined : (xs ys : List Way) (k : ℕ) → ((j : ℕ) → get_or ys j no_way ≡ no_way) → get_or (xs ++ ys) k no_way ≡ get_or xs k no_way
 get_joined [] ys k all = all k
@@ -99,7 +78,7 @@ some_left l (suc q) h = omega arith
 pub next_path : (count s more new : ℕ) → count ≡ capped s → new ≡ capped (count + more) → new ≡ capped (s + more)
 next_path count s more new h g = omega (arith, h, g)
 
-pub past_cap : (count s all : ℕ) → 100001 ≤ count → count ≡ capped s → s ≤ all → 100001 ≡ capped all
+pub past_cap : (count s all : ℕ) → count_cap ≤ count → count ≡ capped s → s ≤ all → count_cap ≡ capped all
 past_cap count s all h g few = omega (arith, h, g, few)
 
 -- as many as there are columns on it, and two more than are asked

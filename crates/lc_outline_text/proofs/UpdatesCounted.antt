@@ -7,7 +7,7 @@ use Rattle.lc_sexp.specs.TreeCode.{tree_count}
 use Rattle.lc_sexp.specs.Trees.{Tree, Trees, atom, list, none, ◌▸◌, item_count}
 use Rattle.lc_reading.proofs.Holding.{Holds, anything, mapped_holds, both_holds, three_holds, ended_holds, if_holds}
 use Rattle.lc_reading.specs.Listed.{place_of}
-use Rattle.lc_reading.specs.Naming.{within}
+use Rattle.lc_reading.specs.Naming.{within, spelled_reading}
 use Rattle.lc_reading.specs.Readings.{Reading, fine, wrong, mapped, three_of}
 use Rattle.lc_reading.specs.Rows.{each_reading}
 use Rattle.lc_reading.specs.Words.{is, is_long}
@@ -41,8 +41,7 @@ module _ (known : Known) (names : Names) where
   stored_by_test usable n w None = wrong Unknown n
 
   abbrev column_by_test : (ℕ → Bool) → ℕ → Tree → Reading ℕ
-  column_by_test usable n (atom w) = if is_name w then stored_by_test usable n w (column_place known.columns w) else wrong Shape n
-  column_by_test usable n (list ts) = wrong Shape n
+  column_by_test usable n t = spelled_reading (λ w. stored_by_test usable n w (column_place known.columns w)) n t
 
   abbrev parts_by_test : (ℕ → Bool) → ℕ → ℕ → Trees → Reading ((ℕ × Term) × Term)
   parts_by_test usable n m (t ▸ u ▸ v ▸ ts) =

@@ -1,5 +1,6 @@
 -- What a file reads as where a development is due.
 use Rattle.std.specs.Prelude.{ℕ, ◌+◌, nat_lt, List, [], ◌∷◌, ◌++◌, map}
+use Rattle.lc_base.specs.Limits.{condition_limit}
 use Rattle.lc_sexp.specs.Trees.{Tree, Trees, none, ◌▸◌, item_count}
 use Rattle.lc_reading.specs.Readings.{Reading, wrong, limited, both, ended}
 use Rattle.lc_reading.specs.declared.pass.Pass.TheVariants.{Shape}
@@ -62,10 +63,6 @@ second_form_reading d s n (t ▸ ts) = ended (n + item_count t) ts (object_readi
 abbrev pub forms_reading : Declarations → Sections → ℕ → Trees → Reading Development
 forms_reading d s n none = wrong Shape n
 forms_reading d s n (t ▸ ts) = both development_of (specification_reading d n t) (second_form_reading d s (n + item_count t) ts)
-
--- the most conditions of a development
-abbrev pub condition_limit : ℕ
-condition_limit = 100000
 
 -- What the file of these forms reads as. That there are too many conditions is told at the item 0
 abbrev pub file_reading : Trees → Reading Development

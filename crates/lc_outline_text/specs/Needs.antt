@@ -4,6 +4,7 @@ use Rattle.std.specs.List.{list_any}
 use Rattle.lc_sexp.specs.Trees.{Tree, Trees, ◌▸◌}
 use Rattle.lc_object.specs.declared.instr.EdgeKind.{EdgeKind}
 use Rattle.lc_object.specs.declared.instr.EdgeKind.TheVariants.{Next, Then, Else}
+use Rattle.lc_naming.specs.EdgeWords.{edge_word}
 use Rattle.lc_object_text.specs.ObjectNames.{text_in, first_text, items_within}
 use Rattle.lc_reading.specs.Reserved.{is_action_name}
 use Rattle.lc_reading.specs.Words.{is}
@@ -28,11 +29,6 @@ abbrev pub stores : List ℕ → EdgeKind → Bool
 stores w Next = is w (codes "store") || is w (codes "faa")
 stores w Then = is w (codes "cas")
 stores w Else = false
-
-abbrev pub edge_word : EdgeKind → List ℕ
-edge_word Next = codes "next"
-edge_word Then = codes "then"
-edge_word Else = codes "else"
 
 -- EDGE (ACTION ..) RIDER RIDER ..: a rider stands at this edge
 abbrev pub rides : List ℕ → Trees → Bool

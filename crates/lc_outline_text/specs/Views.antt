@@ -1,6 +1,7 @@
 -- What clauses see of the parts of a development file that are read, and of counts.
-use Rattle.std.specs.Prelude.{◌≡◌, ℕ, ℤ, ◌++◌, Bool, true, false, not, List, map, min, Vec, Option, Some, None, Result, Ok, Err}
+use Rattle.std.specs.Prelude.{◌≡◌, ℕ, ℤ, ◌+◌, ◌++◌, Bool, true, false, not, List, map, min, Vec, Option, Some, None, Result, Ok, Err}
 use Rattle.std.specs.declared.alloc.Global.{Global}
+use Rattle.lc_base.specs.Limits.{condition_limit}
 use Rattle.lc_sexp.specs.Shown.{rest_of}
 use Rattle.lc_sexp.specs.Trees.{Trees}
 use Rattle.lc_sexp.specs.declared.cursor.Cursor.{Cursor}
@@ -86,9 +87,13 @@ declared_numbers abstracts concretes auxiliaries =
 
 -- ---- counts
 
--- this count, or 100,001 where it is more
+-- the least count that is beyond the limit
+abbrev pub count_cap : ℕ
+count_cap = 1 + condition_limit
+
+-- this count, or the cap where it is more
 abbrev pub capped : ℕ → ℕ
-capped n = min 100001 n
+capped n = min count_cap n
 
 -- the columns in which is stored by a branch F (UPDATE ..) (T ..) that notes replies, or settles a call
 abbrev pub columns_marked : Bool → List (List ℕ) → Trees → List ℕ

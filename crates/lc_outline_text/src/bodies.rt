@@ -1,3 +1,4 @@
+//! How the bodies of an object are read, with what stands beside their code.
 ghost use Rattle.std.specs.Prelude.{◌≡◌, map, option_map, slice_get};
 ghost use Rattle.lc_object_text.specs.DeclaredView.{body_seen};
 ghost use Rattle.lc_sexp.specs.Shown.{rest_of, number_of};

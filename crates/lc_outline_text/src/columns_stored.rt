@@ -55,7 +55,7 @@ pub(crate) fn push_column(
     Ok(stored)
 }
 
-/// The same of the columns of `(COLUMN ..) (COLUMN ..) ..`.
+/// These columns, with those of `(COLUMN ..) (COLUMN ..) ..` behind them.
 pub(crate) fn push_stored(
     columns: &NameTable<'_>,
     list: Cursor<'_>,
@@ -106,7 +106,7 @@ pub(crate) fn columns_settled(
     Ok(stored)
 }
 
-/// The same where the replies of a call are noted by it.
+/// The columns in which a branch stores where the replies of a call are noted by it.
 pub(crate) fn columns_noted(
     alloc: Global,
     columns: &NameTable<'_>,

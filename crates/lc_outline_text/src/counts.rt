@@ -2,10 +2,10 @@
 ghost use Rattle.std.specs.Prelude.{◌≡◌, ◌+◌, ◌*◌, IfOk};
 ghost use Rattle.lc_outline_text.specs.Views.{capped};
 
-use lc_base::OutOfMemory;
+use lc_base::{CONDITION_LIMIT, OutOfMemory};
 
 /// So many conditions are not told apart from more.
-pub(crate) const COUNT_CAP: u64 = 100_001;
+pub(crate) const COUNT_CAP: u64 = CONDITION_LIMIT + 1;
 
 /// This count, or the cap where it is more.
 pub(crate) fn capped(count: u64) -> u64

@@ -1,3 +1,4 @@
+//! What a development file declares.
 ghost use Rattle.std.specs.Prelude.{◌≡◌, map};
 ghost use Rattle.lc_sexp.specs.Shown.{rest_of};
 ghost use Rattle.lc_object_text.specs.ObjectNames.{first_text};

@@ -81,7 +81,7 @@ fn read_ways<'a>(
     Ok((ways, choices))
 }
 
-/// The same of each of these operations.
+/// How each of these operations goes.
 fn read_all_ways<'a>(
     alloc: Global,
     operations: &[Cursor<'a>],

@@ -1,4 +1,6 @@
-ghost use Rattle.std.specs.Prelude.{◌≡◌, true, IfOk};
+//! How a development file is read.
+ghost use Rattle.std.specs.Prelude.{◌≡◌, ℕ, List, true, IfOk};
+ghost use Rattle.lc_sexp.specs.Reads.{ReadsAs};
 ghost use Rattle.lc_sexp.specs.Shown.{rest_of, number_of};
 ghost use Rattle.lc_object_text.specs.Sections.{sections_of};
 ghost use Rattle.lc_object_text.specs.Seen.{sections_seen};
@@ -22,7 +24,7 @@ use crate::declarations::Declarations;
 use crate::declaring::read_all_declarations;
 use crate::made::{ObjectParts, made_development};
 use crate::sides::{Sides, read_sides};
-use lc_base::Fault;
+use lc_base::{CONDITION_LIMIT, Fault};
 use lc_object_text::{
     Sections, SpecificationText, Tables, find_sections, read_specification as read_text,
     read_tables,
@@ -33,9 +35,6 @@ use lc_seq::TextSpec;
 use lc_sexp::{Cursor, Forms};
 use lc_spec_text::read_specification as read_meaning;
 use std::alloc::Global;
-
-/// The most conditions of a development.
-const CONDITION_LIMIT: u64 = 100_000;
 
 /// The specification, and as much of it as the object's code sees.
 fn read_specification<'a>(
@@ -160,6 +159,15 @@ fn read_file(alloc: Global, forms: Cursor<'_>) -> Result<Parts, ReadFault>
     limited(count > CONDITION_LIMIT, 0, parts)
 }
 
+/// The development of the file of which these are the forms. Where it is none, `Refused` has its first refusal, as in
+/// `development_of`.
+pub fn development_in(alloc: Global, forms: Forms) -> Result<Development, Fault>
+    ensures { (bytes : List ℕ) → ReadsAs bytes forms → IsAnswerTo development_shown file_reading bytes result }
+{
+    let parts = read_file(alloc, forms.cursor())?;
+    Ok(Development::of_parts(parts))
+}
+
 /// The development that a file is: `SPEC OBJECT`, where
 ///
 /// ```text
@@ -169,11 +177,10 @@ fn read_file(alloc: Global, forms: Cursor<'_>) -> Result<Parts, ReadFault>
 ///
 /// Where it is none, `Refused` has the first refusal: `Text` with the offset of the first text fault; else of `Shape`,
 /// `Unknown`, `Repeated`, `Auxiliary` and `Bound`, in this order, the first for which an item is wrong, with the least such
-/// item. That there are more than 100,000 conditions is `Bound` at the item 0. `OutOfMemory` says nothing of the file.
+/// item. That there are more conditions than their limit is `Bound` at the item 0. `OutOfMemory` says nothing of the file.
 pub fn development_of(alloc: Global, bytes: &[u8]) -> Result<Development, Fault>
     ensures { IsAnswerTo development_shown file_reading bytes.now result }
 {
     let forms = Forms::read(alloc, bytes)?;
-    let parts = read_file(alloc, forms.cursor())?;
-    Ok(Development::of_parts(parts))
+    development_in(alloc, forms)
 }

@@ -22,4 +22,4 @@ mod sides;
 mod stored;
 mod ways;
 
-pub use file::development_of;
+pub use file::{development_in, development_of};

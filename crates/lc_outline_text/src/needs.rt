@@ -8,8 +8,9 @@ ghost use Rattle.lc_reading.specs.Parts.{tree_of};
 ghost use Rattle.lc_reading.specs.Reserved.{is_action_name};
 ghost use Rattle.lc_reading.specs.TableView.{listed};
 ghost use Rattle.lc_reading.specs.Words.{is};
-ghost use Rattle.lc_outline_text.specs.Needs.{code_word, goes_next, branches_off, edges_of, stores, edge_word, rides, acts, lacks_at, lacks_on};
+ghost use Rattle.lc_outline_text.specs.Needs.{code_word, goes_next, branches_off, edges_of, stores, rides, acts, lacks_at, lacks_on};
 
+use lc_naming::edge_word;
 use lc_object::EdgeKind;
 use lc_object_text::{first_text, next_form};
 use lc_reading::{NameTable, Part, behind_word, three, two};
@@ -90,17 +91,6 @@ pub(crate) fn stores(word: &str, kind: EdgeKind) -> bool
     }
 }
 
-/// The word of an edge.
-pub(crate) fn edge_word(kind: EdgeKind) -> &'static str
-    ensures { result.now ≡ edge_word kind }
-{
-    match kind {
-        EdgeKind::Next => "next",
-        EdgeKind::Then => "then",
-        EdgeKind::Else => "else",
-    }
-}
-
 /// Whether `EDGE (ACTION ..) RIDER ..` has a rider, and is at the edge of this word.
 fn rides(word: &str, parts: Cursor<'_>) -> bool
     ensures { result ≡ rides word.now (rest_of parts.entry) }
@@ -153,7 +143,7 @@ fn lacks_at(actions: &NameTable<'_>, word: &str, list: Cursor<'_>, kind: EdgeKin
     }
 }
 
-/// The same of some edge of the instruction.
+/// Whether some edge of an instruction of this word lacks an `on` that it needs, among the lists that stand next.
 pub(crate) fn lacks_on(actions: &NameTable<'_>, word: &str, list: Cursor<'_>) -> bool
     ensures { result ≡ lacks_on (listed actions.now) word.now (forms_in (codes "on") (rest_of list.entry)) }
 {

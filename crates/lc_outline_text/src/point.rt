@@ -1,3 +1,4 @@
+//! How a point is read with its assertions and its edges.
 ghost use Rattle.lc_sexp.specs.Shown.{rest_of, number_of};
 ghost use Rattle.lc_object.specs.Syntax as O;
 ghost use Rattle.lc_object.specs.View.{point_of};

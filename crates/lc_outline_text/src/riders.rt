@@ -96,7 +96,7 @@ fn put_deed(set: &mut ColumnSet, deed: Deed<'_>, place: u64) -> Result<u64, OutO
     }
 }
 
-/// The same of the way past a rider at this place.
+/// Puts in the columns that are stored in on the way past a rider at this place, and answers how many conditions are asked on it.
 pub(crate) fn put_way(
     set: &mut ColumnSet,
     rider: &Rider<'_>,
@@ -111,7 +111,8 @@ pub(crate) fn put_way(
     Ok(asked)
 }
 
-/// The same of the only way past a rider, if there is only one.
+/// Puts in the columns that are stored in on the only way past a rider, if there is only one, and answers how many conditions are
+/// asked on it.
 fn put_only(set: &mut ColumnSet, rider: &Rider<'_>) -> Result<u64, OutOfMemory>
     requires { IsSet set.old }
     ensures asked { IfOk result (λ asked. asked ≡ (only_way (rider_seen rider.now)).asked) }
@@ -124,7 +125,8 @@ fn put_only(set: &mut ColumnSet, rider: &Rider<'_>) -> Result<u64, OutOfMemory>
     put_way(set, rider, 0)
 }
 
-/// The same of all riders that are passed in one way; so many conditions are asked before.
+/// Puts in the columns that are stored in by all riders that are passed in one way, and answers how many conditions are asked by
+/// them and before.
 pub(crate) fn put_common(
     set: &mut ColumnSet,
     riders: &[Rider<'_>],

@@ -1,3 +1,4 @@
+//! How that is read which stands beside the code of an object: auxiliary columns, actions, invariant, idle clients.
 ghost use Rattle.std.specs.Prelude.{[], Some, map, codes};
 ghost use Rattle.lc_sexp.specs.Shown.{rest_of, number_of};
 ghost use Rattle.lc_seq.specs.SpecView.{column_of};
@@ -80,7 +81,7 @@ fn read_auxiliaries(
     read_placed(alloc, &reader, list)
 }
 
-/// The same where they stand next in the object of this number.
+/// The auxiliary columns, which stand next in the object of this number.
 fn read_first_auxiliaries(
     alloc: Global,
     declarations: &Declarations<'_>,

@@ -110,7 +110,7 @@ fn branch_row(
     Ok(row)
 }
 
-/// The same of each of these actions.
+/// The columns in which is stored by each of these actions.
 fn action_rows(
     alloc: Global,
     set: &mut ColumnSet,
@@ -128,7 +128,7 @@ fn action_rows(
     Ok(rows)
 }
 
-/// The same of each of these branches.
+/// The columns in which is stored by each of these branches.
 fn branch_rows(
     alloc: Global,
     set: &mut ColumnSet,
@@ -147,7 +147,7 @@ fn branch_rows(
     Ok(rows)
 }
 
-/// The same in both manners.
+/// The columns in which is stored by each of these branches, where a call is settled by it and where it is noted.
 fn rows_of(
     alloc: Global,
     set: &mut ColumnSet,
@@ -207,7 +207,7 @@ fn rows_by_branches(
     Ok(rows)
 }
 
-/// The same of the choices of each operation.
+/// The columns in which the choices of each operation store.
 fn rows_by_choices(
     alloc: Global,
     set: &mut ColumnSet,

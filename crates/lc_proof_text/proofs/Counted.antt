@@ -28,15 +28,8 @@ behind_counted word (list (atom w ▸ ts)) = if_word (is w word) where
   if_word true = omega (arith, names_counted ts)
   if_word false = omega arith
 
--- a part, and what stands behind it
-pub part_counted : (old new : Cursor) (part : Part) → IsNext old (Ok part) new → item_count_of_all (rest_of old) ≡ item_count (tree_of part) + item_count_of_all (rest_of new)
-part_counted old new part next = ap item_count_of_all next.1.rest
-
 pub one_counted : (old new : Cursor) (part : Part) → IsOne old (Ok (part, new)) → item_count_of_all (rest_of old) ≡ item_count (tree_of part) + item_count_of_all (rest_of new)
 one_counted old new part one = ap item_count_of_all one.0
-
-pub within_counted : (word : List ℕ) (part : Part) (c : Cursor) → IsBehindWord word part (Ok c) → item_count_of_all (rest_of c) < item_count (tree_of part)
-within_counted word part c (ts, w, tree, same, within) = omega (arith, ap item_count tree, ap item_count_of_all within.rest)
 
 -- a place has 32 bits where there are so many names at most
 pub place_fits : (vs : List (List ℕ)) (w : List ℕ) → length vs < 2 ^ 32 → IfSome (place_of vs w) (λ k. k < 2 ^ 32)

@@ -10,11 +10,6 @@ use Rattle.lc_proof_text.specs.Own.{IsLeft, IsShort}
 use Rattle.lc_proof_text.specs.Proofs.{proofs_reading}
 use Rattle.lc_proof_text.specs.declared.head.Due.{Due}
 
-pub left_fewer : (k m : ℕ) (ts : Trees) (rest : Cursor) → IsLeft k m ts rest → item_count_of_all (rest_of rest) ≤ item_count_of_all ts
-left_fewer zero m ts rest (at, same) = let e = ap item_count_of_all same in omega (arith, e)
-left_fewer (suc k) m none rest h = absurd h
-left_fewer (suc k) m (t ▸ ts) rest h = let e = left_fewer k (m + item_count t) ts rest h in omega (arith, e)
-
 -- the same proofs
 proofs_same : (names : Names) (n : ℕ) (due : Due) (m k : ℕ) (ts us : Trees) → k ≡ m → us ≡ ts → proofs_reading names n zero due m ts ≡ proofs_reading names n zero due k us
 proofs_same names n due m k ts us at same = rw (at, same) refl

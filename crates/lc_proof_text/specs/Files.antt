@@ -1,6 +1,7 @@
 -- What a formula file reads as.
 use Rattle.std.specs.Prelude.{ℕ, ◌+◌, List, [], length, codes, Option, Some, None, Vec}
 use Rattle.std.specs.declared.alloc.Global.{Global}
+use Rattle.lc_base.specs.Limits.{column_limit}
 use Rattle.lc_sexp.specs.Trees.{Tree, Trees, none, ◌▸◌, item_count, item_count_of_all}
 use Rattle.lc_term.specs.Syntax.{Formula, Formulas, formulas}
 use Rattle.lc_table.specs.Tables.{formula_in, formulas_in, IsFormula, AreFormulas}
@@ -52,9 +53,9 @@ seen_statement s = (row_of s.0, formula_of s.1)
 abbrev pub section_reading : List ℕ → Option ℕ → ℕ → Tree → Reading (Unit {0})
 section_reading word limit n t = behind_reading word (λ n m ts. names_reading limit [] m ts) n t
 
--- (vars NAME*) (cols NAME*): the items i and j. There are at most 64 columns
+-- (vars NAME*) (cols NAME*): the items i and j
 abbrev pub declarations_reading : ℕ → Tree → ℕ → Tree → Reading (Unit {0})
-declarations_reading i v j c = both (λ x y. y) (section_reading (codes "vars") None i v) (section_reading (codes "cols") (Some 64) j c)
+declarations_reading i v j c = both (λ x y. y) (section_reading (codes "vars") None i v) (section_reading (codes "cols") (Some column_limit) j c)
 
 -- one part from m on of the list n, and no other
 abbrev pub only : {X : Type 0} → (ℕ → Tree → Reading X) → ℕ → ℕ → Trees → Reading X

@@ -35,7 +35,7 @@ impl Drop for FormulaFile {
     }
 }
 
-/// The same claim, its formulas entered in a table.
+/// Enters the goal and the hypotheses of a claim in a new table.
 #[tactic(auto, using(lc_table::proofs::Later::are_formulas_still, lc_table::proofs::Later::formulas_still, lc_table::proofs::Later::formula_is))]
 pub(crate) fn entered(alloc: Global, claim: ClaimTrees) -> Result<FormulaFile, OutOfMemory>
     ensures numbers { IfOk result AreEntered }

@@ -1,3 +1,4 @@
+//! The names that a formula file declares.
 ghost use Rattle.std.specs.Prelude.{◌<◌, ◌^◌, length};
 ghost use Rattle.lc_reading.specs.TableView.{listed};
 

@@ -1,3 +1,4 @@
+//! How a formula file is read.
 ghost use Rattle.std.specs.Prelude.{◌≡◌, ◌+◌, ◌<◌, ◌^◌, ℕ, List, IfOk, IsTrue, []};
 ghost use Rattle.lc_sexp.specs.Reads.{ReadsAs};
 ghost use Rattle.lc_sexp.specs.Shown.{rest_of, number_of, owner_of};
@@ -94,7 +95,7 @@ fn read_statement(
     both(hypotheses, goal)
 }
 
-/// The same with the proof.
+/// The hypotheses, the goal and the proof.
 fn read_claim(
     alloc: Global,
     declared: &Declared<'_>,

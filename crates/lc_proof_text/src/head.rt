@@ -1,3 +1,4 @@
+//! The first words of the steps of proofs.
 ghost use Rattle.std.specs.Prelude.{◌≡◌};
 ghost use Rattle.lc_proof_text.specs.Heads.{head_of, proofs_due};
 

@@ -1,3 +1,4 @@
+//! How names are read in a claim and in its proof.
 ghost use Rattle.std.specs.Prelude.{◌≡◌, ◌<◌, ◌^◌, Some, None, IfOk, IfSome, codes, []};
 ghost use Rattle.lc_sexp.specs.Trees.{item_count};
 ghost use Rattle.lc_reading.specs.Parts.{tree_of, place_of};
@@ -8,13 +9,10 @@ ghost use Rattle.lc_proof_text.specs.FileNames.{names_behind, declared_by, decla
 ghost use Rattle.lc_proof_text.specs.Files.{section_reading, declarations_reading};
 
 use crate::declared::Declared;
-use lc_base::{ColId, OutOfMemory};
+use lc_base::{COLUMN_LIMIT, ColId, OutOfMemory};
 use lc_reading::{NameTable, Part, ReadFault, also, behind_word, read_names};
 use lc_text::{ColumnUse, Extra, Scope};
 use std::alloc::Global;
-
-/// The most columns that a formula file declares.
-const COLUMN_LIMIT: u64 = 64;
 
 /// How names are read in the hypotheses and the goal.
 #[derive(Clone, Copy)]

@@ -1,5 +1,5 @@
 //! How proofs are printed.
-ghost use Rattle.std.specs.Prelude.{◌≡◌, ◌++◌, OnOk, codes, string_bytes, map};
+ghost use Rattle.std.specs.Prelude.{◌≡◌, ◌++◌, OnOk, OnErr, codes, string_bytes, map};
 ghost use Rattle.lc_kernel.specs.View.{multiple_of, step_of, proof_of, proofs_of};
 ghost use Rattle.lc_kernel.specs.Proofs.{proofs};
 ghost use Rattle.lc_proof_text.specs.SpelledProofs.{spaced_number, spelled_multiple, spelled_multiples, spelled_step, spelled_proof, spelled_proofs};
@@ -160,25 +160,36 @@ fn write_step<S: Spelling>(out: &mut String, spelling: &S, step: &Step) -> Resul
     }
 }
 
-/// Writes a proof behind what is there.
-#[cycle(write_proof)]
+/// Writes a proof behind what is there. Where memory is refused nothing is written.
 pub fn write_proof<S: Spelling>(
     out: &mut String,
     spelling: &S,
     proof: &Proof,
 ) -> Result<(), OutOfMemory>
+    ensures text { OnOk result (string_bytes out.new ≡ string_bytes out.old ++ spelled_proof (S.spelled spelling.now) (proof_of proof.now)) }
+    ensures unchanged { OnErr result (string_bytes out.new ≡ string_bytes out.old) }
+{
+    let mut text = String::new(*out.allocator());
+    push_proof(&mut text, spelling, proof)?;
+    out.push_str(&text)?;
+    Ok(())
+}
+
+// A proof behind what is there. Where memory is refused a beginning of it may stand there.
+#[cycle(push_proof)]
+fn push_proof<S: Spelling>(out: &mut String, spelling: &S, proof: &Proof) -> Result<(), OutOfMemory>
     ensures { OnOk result (string_bytes out.new ≡ string_bytes out.old ++ spelled_proof (S.spelled spelling.now) (proof_of proof.now)) }
 {
     out.push_str("(")?;
     write_step(out, spelling, &proof.step)?;
-    write_proofs(out, spelling, &proof.branches)?;
+    push_proofs(out, spelling, &proof.branches)?;
     out.push_str(")")?;
     Ok(())
 }
 
-/// Writes proofs, each behind a space.
-#[cycle(write_proof)]
-fn write_proofs<S: Spelling>(
+// Proofs, each behind a space.
+#[cycle(push_proof)]
+fn push_proofs<S: Spelling>(
     out: &mut String,
     spelling: &S,
     branches: &[Proof],
@@ -187,7 +198,7 @@ fn write_proofs<S: Spelling>(
 {
     for branch in branches {
         out.push_str(" ")?;
-        write_proof(out, spelling, branch)?;
+        push_proof(out, spelling, branch)?;
     }
     Ok(())
 }

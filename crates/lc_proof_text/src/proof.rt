@@ -1,3 +1,4 @@
+//! How a proof is read.
 ghost use Rattle.std.specs.Prelude.{zero};
 ghost use Rattle.lc_sexp.specs.Shown.{rest_of, number_of, owner_of};
 ghost use Rattle.lc_kernel.specs.Proofs as S;

@@ -1,5 +1,5 @@
 -- What holds of a value, if a text reads as one.
-use Rattle.std.proofs.Common.{◌≡◌, ℕ, ◌+◌, ◌≤◌, ◌<◌, Bool, true, false, cond, List, arith, subst}
+use Rattle.std.proofs.Common.{◌≡◌, ℕ, ◌+◌, ◌<◌, Bool, true, false, cond, List, arith, subst}
 use Rattle.lc_sexp.specs.Trees.{Tree, Trees, atom, list, none, ◌▸◌, item_count, item_count_of_all}
 use Rattle.lc_reading.specs.Readings.{Reading, fine, flawed, wrong, mapped, both, ended, two_of, three_of, behind_reading}
 use Rattle.lc_reading.specs.Words.{is}

@@ -1,11 +1,10 @@
 -- What holds of all that is read.
-use Rattle.std.proofs.Common.{◌≡◌, ℕ, zero, suc, ◌+◌, Bool, true, false, ◌&&◌, cond, List, [], ◌∷◌, ◌++◌, length, length-append, refl, sym, ap, ◌∙◌, subst, arith}
+use Rattle.std.proofs.Common.{◌≡◌, ℕ, zero, suc, ◌+◌, Bool, true, false, ◌&&◌, cond, List, ◌∷◌, ◌++◌, length, length-append, refl, ap, subst, arith}
 use Rattle.std.specs.List.{list_all}
 use Rattle.lc_sexp.specs.Trees.{Tree, Trees, atom, list, none, ◌▸◌, item_count}
-use Rattle.lc_reading.specs.Readings.{Reading, fine, flawed, wrong, mapped, both, three, ended, limited, listed_reading, behind_reading}
+use Rattle.lc_reading.specs.Readings.{Reading, fine, flawed, mapped, both, three, ended, limited, listed_reading, behind_reading}
 use Rattle.lc_reading.specs.Rows.{each_reading, counted_reading, all_declared, declared_reading}
 use Rattle.lc_reading.specs.Words.{is}
-use Rattle.lc_reading.specs.declared.pass.Pass.{Pass}
 
 -- it holds of the value, if there is one
 abbrev pub Holds : {X : Type 0} → (X → Type 0) → Reading X → Type 0

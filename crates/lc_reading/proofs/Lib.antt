@@ -6,6 +6,6 @@ pub mod Sections
 pub mod Listed
 pub mod Holding
 pub mod Places
-pub mod Noted
+mod Noted
 pub mod Files
 pub mod Fine

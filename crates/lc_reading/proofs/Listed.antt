@@ -1,5 +1,5 @@
 -- Lists without a word, and limits.
-use Rattle.std.proofs.Common.{◌≡◌, ℕ, ◌+◌, List, Bool, true, false, Ok, Err, refl, sym, ap, ◌∙◌, subst}
+use Rattle.std.proofs.Common.{◌≡◌, ℕ, ◌+◌, List, Bool, true, false, Ok, Err, refl, sym, ap, ◌∙◌}
 use Rattle.std.specs.Prelude.{Result}
 use Rattle.lc_sexp.specs.Trees.{Tree, Trees, list}
 use Rattle.lc_sexp.specs.Shown.{rest_of, number_of, owner_of}
@@ -8,7 +8,7 @@ use Rattle.lc_sexp.specs.declared.misfit.Misfit.{Misfit}
 use Rattle.lc_reading.proofs.Sections.{behind_reading-other}
 use Rattle.lc_reading.specs.Flaws.{misfit_flaw}
 use Rattle.lc_reading.specs.Parts.{IsBehindWord, tree_of, place_of}
-use Rattle.lc_reading.specs.Readings.{Reading, fine, flawed, limited, listed_reading, behind_reading}
+use Rattle.lc_reading.specs.Readings.{Reading, flawed, limited, listed_reading, behind_reading}
 use Rattle.lc_reading.specs.Results.{IsReading, limited_result}
 use Rattle.lc_reading.specs.declared.flaw.ReadFault.{ReadFault}
 use Rattle.lc_reading.specs.declared.flaw.ReadFault.TheVariants.{Flawed, OutOfMemory}

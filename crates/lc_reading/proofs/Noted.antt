@@ -41,9 +41,3 @@ noted_more whole r rest (Err (Flawed f)) (Err OutOfMemory) c h k e = rw e tt
 noted_more whole r rest (Err OutOfMemory) (Ok v) c h k e = rw e tt
 noted_more whole r rest (Err OutOfMemory) (Err (Flawed g)) c h k e = rw e tt
 noted_more whole r rest (Err OutOfMemory) (Err OutOfMemory) c h k e = rw e tt
-
--- none is left
-pub noted_end : (whole rest : Reading (Unit {0})) (a : Result (Unit {0}) ReadFault) → rest ≡ fine tt → IsNoted whole rest a → IsReading (λ (u : Unit {0}). u) whole a
-noted_end whole rest (Ok u) e h = h ∙ e
-noted_end whole rest (Err (Flawed g)) e h = h ∙ ap (flawed_before g) e
-noted_end whole rest (Err OutOfMemory) e h = tt

@@ -1,5 +1,5 @@
 -- What a text reads as where a name is declared, and where one is used.
-use Rattle.std.specs.Prelude.{ℕ, ◌+◌, Bool, false, ◌||◌, nat_le, if◌then◌else◌, List, ◌++◌, length, Option, Some, None}
+use Rattle.std.specs.Prelude.{ℕ, ◌+◌, Bool, false, ◌||◌, nat_le, if◌then◌else◌, List, [], ◌++◌, length, Option, Some, None}
 use Rattle.std.specs.List.{list_any}
 use Rattle.lc_base.specs.NameText.{is_name}
 use Rattle.lc_sexp.specs.Trees.{Tree, Trees, atom, list, none, ◌▸◌, item_count}
@@ -13,15 +13,27 @@ use Rattle.lc_reading.specs.declared.pass.Pass.TheVariants.{Shape, Unknown, Repe
 abbrev pub within : {X : Type 0} → ℕ → List ℕ → X → Reading X
 within n w x = if is_long w then wrong Bound n else fine x
 
--- the place of a name, if it has one
-abbrev pub known : ℕ → List ℕ → Option ℕ → Reading ℕ
-known n w (Some k) = within n w k
+-- what a name stands for, if it is known
+abbrev pub known : {X : Type 0} → ℕ → List ℕ → Option X → Reading X
+known n w (Some x) = within n w x
 known n w None = wrong Unknown n
+
+-- a text where an atom stands, and none where a list does
+abbrev pub text_in : Tree → List ℕ
+text_in (atom w) = w
+text_in (list ts) = []
+
+-- the item n where a NAME is due, whose text reads so
+abbrev pub spelled_reading : {X : Type 0} → (List ℕ → Reading X) → ℕ → Tree → Reading X
+spelled_reading read n t = if is_name (text_in t) then read (text_in t) else wrong Shape n
+
+-- the item n where a name is due that is known: what it stands for
+abbrev pub known_reading : {X : Type 0} → (List ℕ → Option X) → ℕ → Tree → Reading X
+known_reading find n t = spelled_reading (λ w. known n w (find w)) n t
 
 -- the item n where one of these names is due: its place among them
 abbrev pub use_reading : List (List ℕ) → ℕ → Tree → Reading ℕ
-use_reading names n (atom w) = if is_name w then known n w (place_of names w) else wrong Shape n
-use_reading names n (list ts) = wrong Shape n
+use_reading names n t = known_reading (place_of names) n t
 
 -- there are as many as there may be, if there is a limit
 abbrev pub is_full : Option ℕ → ℕ → Bool
@@ -30,12 +42,9 @@ is_full (Some limit) n = nat_le limit n
 
 -- the item n where a name is declared behind these, up to a limit of all
 abbrev pub declaration_reading : Option ℕ → List (List ℕ) → ℕ → Tree → Reading (Unit {0})
-declaration_reading limit before n (atom w) =
-    if is_name w then
-    (if is_reserved w || list_any (is w) before then wrong Repeated n
-    else (if is_full limit (length before) then wrong Bound n else within n w tt))
-    else wrong Shape n
-declaration_reading limit before n (list ts) = wrong Shape n
+declaration_reading limit before n t =
+    spelled_reading (λ w. if is_reserved w || list_any (is w) before then wrong Repeated n
+    else (if is_full limit (length before) then wrong Bound n else within n w tt)) n t
 
 -- each of the items from m on, where names are declared behind these
 abbrev pub names_reading : Option ℕ → List (List ℕ) → ℕ → Trees → Reading (Unit {0})
@@ -45,5 +54,4 @@ names_reading limit before m (t ▸ ts) =
 
 -- the same item, as the name that it declares
 abbrev pub name_reading : Option ℕ → List (List ℕ) → ℕ → Tree → Reading (List ℕ)
-name_reading limit before n (atom w) = mapped (λ u. w) (declaration_reading limit before n (atom w))
-name_reading limit before n (list ts) = wrong Shape n
+name_reading limit before n t = mapped (λ u. text_in t) (declaration_reading limit before n t)

@@ -1,9 +1,13 @@
 -- What readers answer.
-use Rattle.std.specs.Prelude.{◌≡◌, ℕ, Bool, if◌then◌else◌, [], ◌∷◌, ◌++◌, Vec, Result, Ok, Err}
+use Rattle.std.specs.Prelude.{◌≡◌, ℕ, Bool, true, false, if◌then◌else◌, [], ◌∷◌, ◌++◌, Vec, Result, Ok, Err}
 use Rattle.std.specs.declared.alloc.Global.{Global}
 use Rattle.lc_base.specs.declared.refusal.Fault.{Fault}
 use Rattle.lc_base.specs.declared.refusal.Fault.TheVariants as F
-use Rattle.lc_sexp.specs.Trees.{Trees, none, ◌▸◌}
+use Rattle.lc_base.specs.NameText.{is_name}
+use Rattle.lc_sexp.specs.Shown.{text_of, atom_number}
+use Rattle.lc_sexp.specs.Trees.{Tree, Trees, none, ◌▸◌}
+use Rattle.lc_sexp.specs.declared.cursor.Atom.{Atom}
+use Rattle.lc_reading.specs.Naming.{text_in}
 use Rattle.lc_reading.specs.declared.pass.Pass.TheVariants.{Shape, Bound}
 use Rattle.lc_reading.specs.Flaws.{at, lesser, refusal_of}
 use Rattle.lc_reading.specs.Readings.{Reading, fine, flawed}
@@ -19,6 +23,11 @@ IsReadFault read OutOfMemory = Unit {0}
 abbrev pub IsReading : {T X : Type 0} → (T → X) → Reading X → Result T ReadFault → Type 0
 IsReading view read (Ok value) = read ≡ fine (view value)
 IsReading view read (Err fault) = IsReadFault read fault
+
+-- the atom that the item n is, which is a name; or the item is none
+abbrev pub IsNameAt : ℕ → Tree → Result Atom ReadFault → Type 0
+IsNameAt n t (Ok name) = (is_name (text_in t) ≡ true) × (text_in t ≡ text_of name) × (atom_number name ≡ n)
+IsNameAt n t (Err fault) = (is_name (text_in t) ≡ false) × (fault ≡ Flawed (at Shape n))
 
 -- both of two faults
 abbrev pub joined : ReadFault → ReadFault → ReadFault

@@ -1,3 +1,4 @@
+//! How just so many items of a list are read.
 ghost use Rattle.std.specs.Prelude.{map};
 ghost use Rattle.lc_sexp.specs.Shown.{rest_of, number_of, owner_of};
 ghost use Rattle.lc_reading.specs.Results.{IsReading};

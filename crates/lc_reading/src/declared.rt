@@ -1,3 +1,4 @@
+//! How items are read that declare names, each behind those before it.
 ghost use Rattle.std.specs.Prelude.{◌≡◌, ◌++◌, IfOk, map};
 ghost use Rattle.lc_sexp.specs.Shown.{rest_of, number_of};
 ghost use Rattle.lc_reading.specs.Results.{IsReading};

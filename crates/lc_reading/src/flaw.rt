@@ -1,3 +1,4 @@
+//! What is wrong in a text, and which of two flaws is told.
 ghost use Rattle.std.specs.Prelude.{◌≡◌};
 ghost use Rattle.lc_sexp.specs.Shown.{rest_of, number_of};
 ghost use Rattle.lc_reading.specs.Flaws.{at, rank, is_before, lesser};
@@ -203,7 +204,7 @@ pub fn wrong(pass: Pass, item: u64) -> ReadFault
     ReadFault::Flawed(Flaw::at(pass, item))
 }
 
-/// The same, with the flaw too that an item is misshapen.
+/// What was read, with the flaw too that an item is misshapen.
 pub fn misshapen_too<T: Drop>(value: Result<T, ReadFault>, item: u64) -> Result<T, ReadFault>
     ensures { result ≡ misshapen_too item value }
 {
@@ -214,7 +215,7 @@ pub fn misshapen_too<T: Drop>(value: Result<T, ReadFault>, item: u64) -> Result<
     }
 }
 
-/// The same, with the flaw too that an item is beyond a limit, if it is.
+/// What was read, with the flaw too that an item is beyond a limit, if it is.
 pub fn limited<T: Drop>(
     beyond: bool,
     item: u64,

@@ -7,6 +7,7 @@ mod declared;
 mod flaw;
 mod lists;
 mod names;
+mod names_up_to;
 mod part;
 mod pass;
 mod reserved;
@@ -17,7 +18,10 @@ pub use counted::read_counted;
 pub use declared::{Declares, read_declared};
 pub use flaw::{Flaw, ReadFault, also, both, ended, limited, misshapen_too, pushed, wrong};
 pub use lists::{behind_word, headed, next_part, one, three, two};
-pub use names::{is_full, read_declaration, read_name, read_names, read_use};
+pub use names::{
+    is_full, known_name, name_at, read_declaration, read_name, read_names, read_use, within,
+};
+pub use names_up_to::NamesUpTo;
 pub use part::Part;
 pub use pass::Pass;
 pub use reserved::{is_reserved, is_system_column};

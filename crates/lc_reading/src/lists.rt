@@ -1,3 +1,4 @@
+//! The parts of lists: the next one, the first word, and that none is left.
 ghost use Rattle.std.specs.Prelude.{◌≡◌};
 ghost use Rattle.lc_reading.specs.Parts.{IsNext, IsHeaded, IsOne, IsTwo, IsThree, IsBehindWord};
 

@@ -1,10 +1,11 @@
+//! How names are read: those that are declared, and those that declare.
 ghost use Rattle.std.specs.Prelude.{◌≡◌, ◌++◌, IfOk};
-ghost use Rattle.lc_sexp.specs.Shown.{rest_of, number_of};
+ghost use Rattle.lc_sexp.specs.Shown.{rest_of, number_of, text_of, atom_number};
 ghost use Rattle.lc_base.specs.Name.{bytes_of};
 ghost use Rattle.lc_reading.specs.Listed.{names_among};
-ghost use Rattle.lc_reading.specs.Naming.{is_full, use_reading, declaration_reading, name_reading, names_reading};
+ghost use Rattle.lc_reading.specs.Naming.{within, known, is_full, use_reading, declaration_reading, name_reading, names_reading};
 ghost use Rattle.lc_reading.specs.Parts.{tree_of, place_of};
-ghost use Rattle.lc_reading.specs.Results.{IsReading};
+ghost use Rattle.lc_reading.specs.Results.{IsReading, IsNameAt};
 ghost use Rattle.lc_reading.specs.TableView.{listed};
 
 use crate::flaw::{ReadFault, also, wrong};
@@ -14,24 +15,44 @@ use crate::pass::Pass;
 use crate::reserved::is_reserved;
 use crate::table::NameTable;
 use lc_base::{NAME_LIMIT, Name, OutOfMemory, is_name};
-use lc_sexp::{Cursor, Item};
+use lc_sexp::{Atom, Cursor, Item};
+
+/// The atom that an item is, which is to be a name.
+pub fn name_at<'a>(part: Part<'a>) -> Result<Atom<'a>, ReadFault>
+    ensures { IsNameAt (place_of part.entry) (tree_of part.entry) result }
+{
+    match part.item() {
+        Item::Atom(atom) if is_name(atom.text().as_bytes()) => Ok(atom),
+        _ => Err(wrong(Pass::Shape, part.number())),
+    }
+}
+
+/// This value for a name, if it is not too long.
+pub fn within<T: Drop>(name: Atom<'_>, value: T) -> Result<T, ReadFault>
+    ensures { IsReading (λ x. x) (within (atom_number name.entry) (text_of name.entry) value) result }
+{
+    if name.text().len() > NAME_LIMIT {
+        return Err(wrong(Pass::Bound, name.number()));
+    }
+    Ok(value)
+}
+
+/// What a name stands for, if it is known.
+pub fn known_name<T: Drop>(name: Atom<'_>, found: Option<T>) -> Result<T, ReadFault>
+    ensures { IsReading (λ x. x) (known (atom_number name.entry) (text_of name.entry) found) result }
+{
+    match found {
+        Some(value) => within(name, value),
+        None => Err(wrong(Pass::Unknown, name.number())),
+    }
+}
 
 /// The place of the name that an item is, among these.
 pub fn read_use(names: &NameTable<'_>, part: Part<'_>) -> Result<usize, ReadFault>
     ensures { IsReading (λ k. k) (use_reading (listed names.now) (place_of part.entry) (tree_of part.entry)) result }
 {
-    let atom = match part.item() {
-        Item::Atom(atom) => atom,
-        Item::List(list) => return Err(wrong(Pass::Shape, list.owner())),
-    };
-    if !is_name(atom.text().as_bytes()) {
-        return Err(wrong(Pass::Shape, atom.number()));
-    }
-    match names.place(atom.text()) {
-        None => Err(wrong(Pass::Unknown, atom.number())),
-        Some(_) if atom.text().len() > NAME_LIMIT => Err(wrong(Pass::Bound, atom.number())),
-        Some(place) => Ok(place),
-    }
+    let name = name_at(part)?;
+    known_name(name, names.place(name.text()))
 }
 
 /// Whether there are as many as there may be, if there is a limit.
@@ -49,18 +70,13 @@ pub fn read_declaration(
 ) -> Result<(), ReadFault>
     ensures { IsReading (λ u. u) (declaration_reading limit (listed before.now) (place_of part.entry) (tree_of part.entry)) result }
 {
-    let atom = match part.item() {
-        Item::Atom(atom) => atom,
-        Item::List(list) => return Err(wrong(Pass::Shape, list.owner())),
-    };
-    if !is_name(atom.text().as_bytes()) {
-        Err(wrong(Pass::Shape, atom.number()))
-    } else if is_reserved(atom.text()) || before.contains(atom.text()) {
-        Err(wrong(Pass::Repeated, atom.number()))
-    } else if is_full(limit, before.len()) || atom.text().len() > NAME_LIMIT {
-        Err(wrong(Pass::Bound, atom.number()))
+    let name = name_at(part)?;
+    if is_reserved(name.text()) || before.contains(name.text()) {
+        Err(wrong(Pass::Repeated, name.number()))
+    } else if is_full(limit, before.len()) {
+        Err(wrong(Pass::Bound, name.number()))
     } else {
-        Ok(())
+        within(name, ())
     }
 }
 
@@ -73,13 +89,10 @@ pub fn read_name(
     ensures { IsReading bytes_of (name_reading limit (listed before.now) (place_of part.entry) (tree_of part.entry)) result }
 {
     read_declaration(limit, before, part)?;
-    let atom = match part.item() {
-        Item::Atom(atom) => atom,
-        Item::List(list) => return Err(wrong(Pass::Shape, list.owner())),
-    };
-    match Name::new(atom.text()) {
+    let name = name_at(part)?;
+    match Name::new(name.text()) {
         Some(name) => Ok(name),
-        None => Err(wrong(Pass::Bound, atom.number())),
+        None => Err(wrong(Pass::Bound, name.number())),
     }
 }
 

@@ -1,3 +1,4 @@
+//! The passes over a file, in the order in which what they find is told.
 /// A pass over a file. What is wrong in an earlier one is told before what is wrong in a later one.
 #[derive(Clone, Copy)]
 pub enum Pass {

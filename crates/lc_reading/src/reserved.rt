@@ -1,3 +1,4 @@
+//! The names that no file declares.
 ghost use Rattle.std.specs.Prelude.{◌≡◌};
 ghost use Rattle.lc_reading.specs.Reserved.{is_client_name, is_call_column, is_reply_column, is_note_column, is_system_column, is_action_name, is_reserved};
 

@@ -112,10 +112,3 @@ module _ (operations : List Operation) (first : ℕ) (m : State) (p : ℕ) (choi
   not-read c x fault is h = subst (λ z. seq_says fault (HelpFits operations first m z p choice)) (sym is) (says-less (HelpFits operations first m (pos c) p choice) _ fault (λ t. t.0) h)
 
 -- ---- whether something is stored
-
-pub some-shown : (ws : List Stored) → (ws ≡ [] → ⊥) → writes_shown ws ≡ [] → ⊥
-some-shown [] h e = h refl
-some-shown (w ∷ ws) h e = absurd cc
-
-pub none-shown : (ws : List Stored) → ws ≡ [] → writes_shown ws ≡ []
-none-shown ws e = ap writes_shown e

@@ -1,6 +1,6 @@
-pub mod Cells
-pub mod Taking
-pub mod Deeding
-pub mod Wherever
-pub mod Agreeing
+mod Cells
+mod Taking
+mod Deeding
+mod Wherever
+mod Agreeing
 mod InOrder

@@ -1,3 +1,4 @@
+//! How the branch of a mark is chosen.
 ghost use Rattle.std.specs.Prelude.{◌≡◌, true};
 ghost use Rattle.std.specs.List.{list_all};
 ghost use Rattle.lc_term.specs.Computed.{IsComputed};

@@ -1,6 +1,8 @@
+//! What a mark does: it settles a call, or notes its reply.
 ghost use Rattle.std.specs.Prelude.{◌≡◌, ◌<◌, ◌≤◌, ◌^◌, [], ◌∷◌, true, pos, OnOk, OkIff, IfErr, IsTrue, FitsSigned, ◌↔◌, ◌≤ℤ◌};
 ghost use Rattle.std.specs.Int.{w64};
 ghost use Rattle.std.specs.Ordering.{int_eq};
+ghost use Rattle.lc_base.specs.Limits.{argument_limit};
 ghost use Rattle.lc_term.specs.SystemColumns.{column_count, op_column};
 ghost use Rattle.lc_seq.specs.Run.{seq_says};
 ghost use Rattle.lc_term.specs.State.{env_of, variable_count};
@@ -35,7 +37,7 @@ pub(crate) fn settle(
     marks: &mut Vec<Mark>,
 ) -> Result<bool, SeqFault>
     requires there { AreThere (operations_of operations.now) (first_of system) (draft_columns draft.old) }
-    requires few { arity (operations_of operations.now) operation.0 ≤ 3 }
+    requires few { arity (operations_of operations.now) operation.0 ≤ argument_limit }
     requires client { client < 2 ^ 63 }
     ensures done { let ops = operations_of operations.now in
         let m = written_in_draft draft.old in
@@ -80,7 +82,7 @@ pub(crate) fn note(
     marks: &mut Vec<Mark>,
 ) -> Result<bool, SeqFault>
     requires there { AreThere (operations_of operations.now) (first_of system) (draft_columns draft.old) }
-    requires few { arity (operations_of operations.now) operation.0 ≤ 3 }
+    requires few { arity (operations_of operations.now) operation.0 ≤ argument_limit }
     requires client { client < 2 ^ 63 }
     ensures done { let ops = operations_of operations.now in
         let m = written_in_draft draft.old in
@@ -162,7 +164,7 @@ fn help_client(
     marks: &mut Vec<Mark>,
 ) -> Result<bool, SeqFault>
     requires there { AreThere (operations_of operations.now) (first_of system) (draft_columns draft.old) }
-    requires few { arity (operations_of operations.now) operation.0 ≤ 3 }
+    requires few { arity (operations_of operations.now) operation.0 ≤ argument_limit }
     requires client { client < 2 ^ 63 }
     ensures done { let ops = operations_of operations.now in
         let m = written_in_draft draft.old in
@@ -191,7 +193,7 @@ pub(crate) fn help(
     marks: &mut Vec<Mark>,
 ) -> Result<bool, SeqFault>
     requires there { AreThere (operations_of operations.now) (first_of system) (draft_columns draft.old) }
-    requires few { arity (operations_of operations.now) operation.0 ≤ 3 }
+    requires few { arity (operations_of operations.now) operation.0 ≤ argument_limit }
     ensures done { let ops = operations_of operations.now in
         let m = written_in_draft draft.old in
         let first = first_of system in

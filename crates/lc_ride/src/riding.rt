@@ -1,5 +1,7 @@
+//! The riders of an edge, in their order.
 ghost use Rattle.std.specs.Prelude.{◌≡◌, ℕ, ◌<◌, ◌≤◌, ◌^◌, true};
 ghost use Rattle.std.specs.List.{list_all};
+ghost use Rattle.lc_base.specs.Limits.{argument_limit};
 ghost use Rattle.lc_term.specs.State.{env_of, variable_count};
 ghost use Rattle.lc_action.specs.ActionView.{first_of};
 ghost use Rattle.lc_term.specs.Drafts.{written_in_draft, saved_in_draft, draft_columns};
@@ -42,7 +44,7 @@ fn settle_own(
     marks: &mut Vec<Mark>,
 ) -> Result<bool, SeqFault>
     requires there { AreThere (operations_of rides.now.operations.now) (first_of rides.now.system) (draft_columns draft.old) }
-    requires few { (o : ℕ) → arity (operations_of rides.now.operations.now) o ≤ 3 }
+    requires few { (o : ℕ) → arity (operations_of rides.now.operations.now) o ≤ argument_limit }
     requires client { rides.now.client < 2 ^ 63 }
     requires seen { deed_is_seen (draft_columns draft.old) (variable_count rides.now.env.now) (Marks Own (choosing_of by.now)) ≡ true }
     ensures done { let ops = operations_of rides.now.operations.now in
@@ -78,7 +80,7 @@ fn settle_other(
     marks: &mut Vec<Mark>,
 ) -> Result<bool, SeqFault>
     requires there { AreThere (operations_of rides.now.operations.now) (first_of rides.now.system) (draft_columns draft.old) }
-    requires few { (o : ℕ) → arity (operations_of rides.now.operations.now) o ≤ 3 }
+    requires few { (o : ℕ) → arity (operations_of rides.now.operations.now) o ≤ argument_limit }
     requires client { rides.now.client < 2 ^ 63 }
     requires seen { deed_is_seen (draft_columns draft.old) (variable_count rides.now.env.now) (Marks (Other (term_of client.now) operation.0) (choosing_of by.now)) ≡ true }
     ensures done { let ops = operations_of rides.now.operations.now in
@@ -113,7 +115,7 @@ fn note_own(
     marks: &mut Vec<Mark>,
 ) -> Result<bool, SeqFault>
     requires there { AreThere (operations_of rides.now.operations.now) (first_of rides.now.system) (draft_columns draft.old) }
-    requires few { (o : ℕ) → arity (operations_of rides.now.operations.now) o ≤ 3 }
+    requires few { (o : ℕ) → arity (operations_of rides.now.operations.now) o ≤ argument_limit }
     requires client { rides.now.client < 2 ^ 63 }
     requires seen { deed_is_seen (draft_columns draft.old) (variable_count rides.now.env.now) (Marks Note (choosing_of by.now)) ≡ true }
     ensures done { let ops = operations_of rides.now.operations.now in
@@ -147,7 +149,7 @@ fn do_deed(
     marks: &mut Vec<Mark>,
 ) -> Result<bool, SeqFault>
     requires there { AreThere (operations_of rides.now.operations.now) (first_of rides.now.system) (draft_columns draft.old) }
-    requires few { (o : ℕ) → arity (operations_of rides.now.operations.now) o ≤ 3 }
+    requires few { (o : ℕ) → arity (operations_of rides.now.operations.now) o ≤ argument_limit }
     requires client { rides.now.client < 2 ^ 63 }
     requires seen { deed_is_seen (draft_columns draft.old) (variable_count rides.now.env.now) (rider_of rider.now).deed ≡ true }
     ensures done { let ops = operations_of rides.now.operations.now in
@@ -184,7 +186,7 @@ fn do_rider(
     marks: &mut Vec<Mark>,
 ) -> Result<bool, SeqFault>
     requires there { AreThere (operations_of rides.now.operations.now) (first_of rides.now.system) (draft_columns draft.old) }
-    requires few { (o : ℕ) → arity (operations_of rides.now.operations.now) o ≤ 3 }
+    requires few { (o : ℕ) → arity (operations_of rides.now.operations.now) o ≤ argument_limit }
     requires client { rides.now.client < 2 ^ 63 }
     requires seen { rider_is_seen (draft_columns draft.old) (variable_count rides.now.env.now) (rider_of rider.now) ≡ true }
     ensures done { let ops = operations_of rides.now.operations.now in
@@ -218,7 +220,7 @@ pub fn ride_all(
     marks: &mut Vec<Mark>,
 ) -> Result<bool, SeqFault>
     requires there { AreThere (operations_of rides.now.operations.now) (first_of rides.now.system) (draft_columns draft.old) }
-    requires few { (o : ℕ) → arity (operations_of rides.now.operations.now) o ≤ 3 }
+    requires few { (o : ℕ) → arity (operations_of rides.now.operations.now) o ≤ argument_limit }
     requires client { rides.now.client < 2 ^ 63 }
     requires seen { list_all (rider_is_seen (draft_columns draft.old) (variable_count rides.now.env.now)) (riders_of riders.now) ≡ true }
     ensures done { let ops = operations_of rides.now.operations.now in

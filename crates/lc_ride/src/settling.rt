@@ -1,4 +1,6 @@
+//! The branch that a client's call takes, with what it stores and replies.
 ghost use Rattle.std.specs.Prelude.{◌≡◌, ◌+◌, ◌<◌, ◌≤◌, ◌^◌, ◌++◌, length, map, take, pos, OnOk, IfOk, IfErr, IfSome};
+ghost use Rattle.lc_base.specs.Limits.{argument_limit};
 ghost use Rattle.lc_term.specs.Lists.{Every};
 ghost use Rattle.lc_term.specs.State.{state_of, env_of, column_count, variable_count};
 ghost use Rattle.lc_term.specs.SystemColumns as columns;
@@ -72,7 +74,7 @@ fn call_env(
     given: &[i64],
 ) -> Result<Env, SeqFault>
     requires there { columns.column_count (first_of system) ≤ column_count state.now }
-    requires few { arity (operations_of operations.now) operation.0 ≤ 3 }
+    requires few { arity (operations_of operations.now) operation.0 ≤ argument_limit }
     requires client { client < 2 ^ 63 }
     ensures env { let ops = operations_of operations.now in
         let m = state_of state.now in
@@ -101,7 +103,7 @@ pub(crate) fn taken(
     pick: &Pick,
 ) -> Result<Option<Outcome>, SeqFault>
     requires there { AreThere (operations_of operations.now) (first_of system) (column_count state.now) }
-    requires few { arity (operations_of operations.now) operation.0 ≤ 3 }
+    requires few { arity (operations_of operations.now) operation.0 ≤ argument_limit }
     requires client { client < 2 ^ 63 }
     ensures computed { let ops = operations_of operations.now in
         let m = state_of state.now in

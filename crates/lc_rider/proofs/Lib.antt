@@ -1,19 +1,19 @@
 pub mod Riding
 pub mod PathLaw
 pub mod PathTaken
-pub mod Lists
+mod Lists
 pub mod PathLater
-pub mod Placed
-pub mod Saying
-pub mod Reading
-pub mod Guarding
-pub mod PathSteps
-pub mod PathParts
-pub mod Marked
-pub mod MarkStores
-pub mod Assigned
-pub mod Ridden
-pub mod PathsAdded
-pub mod SaidStill
-pub mod SaidTerms
-pub mod BranchesTaken
+mod Placed
+mod Saying
+mod Reading
+mod Guarding
+mod PathSteps
+mod PathParts
+mod Marked
+mod MarkStores
+mod Assigned
+mod Ridden
+mod PathsAdded
+mod SaidStill
+mod SaidTerms
+mod BranchesTaken

@@ -21,14 +21,6 @@ use Rattle.lc_rider.specs.PathView.{with_duty}
 
 -- ---- operations
 
-pub found_branches : (os : List D.Operation) (k : ℕ) (o : D.Operation) → k < length os → o ≡ get_or os k o → branches_of o.branches.items ≡ op_branches (operations_of os) k
-found_branches [] k o l e = absurd (omega arith)
-found_branches (x ∷ os) zero o l e = ap (λ (y : D.Operation). branches_of y.branches.items) e
-found_branches (x ∷ os) (suc k) o l e = found_branches os k o (omega arith) e
-
-pub missing_branches : (os : List D.Operation) (k : ℕ) → length os ≤ k → op_branches (operations_of os) k ≡ []
-missing_branches os k past = ap branches_in (slice_get-map operation_of os k ∙ ap (option_map operation_of) (slice_get_past os k past))
-
 -- ---- variables
 
 three : {A : Type 0} (n : ℕ) (a b c : A) → take (min n 3) (a ∷ b ∷ c ∷ []) ≡ take n (a ∷ b ∷ c ∷ [])

@@ -30,11 +30,6 @@ pub puts-append : (σ : ℕ → Column) (us vs : List Update) → puts σ (us ++
 puts-append σ [] vs = refl
 puts-append σ (u ∷ us) vs = puts-append (put σ u) us vs
 
--- one update more, behind the others
-pub stored_last : (σ ρ new : ℕ → Column) (us : List M.Update) (u : M.Update) → ρ ≡ puts σ (updates_of us) → new ≡ put ρ (update_of u) → new ≡ puts σ (updates_of (us ++ u ∷ []))
-stored_last σ ρ new us u before is =
-    is ∙ ap (λ (τ : ℕ → Column). put τ (update_of u)) before ∙ sym (puts-append σ (updates_of us) (update_of u ∷ [])) ∙ ap (puts σ) (sym (map-append update_of us (u ∷ [])))
-
 -- ---- variables
 
 pub variables_more : (n k : ℕ) → variables_from n (k + 1) ≡ variables_from n k ++ Variable (n + k) ∷ []

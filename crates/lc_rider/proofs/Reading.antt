@@ -16,9 +16,6 @@ use Rattle.lc_table.proofs.Later.{kept_on, term_still, column_is}
 pub has_is_term : (ts : Table) (k : TermId) (t : Term) → HasTerm ts k t → IsTerm ts k
 has_is_term ts k t h = ap is_term h
 
-pub has_is_column : (ts : Table) (k : ColExprId) (c : Column) → HasColumn ts k c → IsColumn ts k
-has_is_column ts k c h = ap is_column h
-
 -- one term more
 pub are_terms_pushed : (old new : Table) (ks more : List TermId) (k : TermId) → more ≡ ks ++ k ∷ [] → AreTerms old ks → Keeps old new → IsTerm new k → AreTerms new more
 are_terms_pushed old new ks more k e h kept at = subst (AreTerms new) (sym e) (by ks (are_terms_later old new ks h kept))

@@ -1,3 +1,4 @@
+//! What a mark asks for.
 use lc_table::FormulaId;
 
 /// What a mark asks for.

@@ -1,3 +1,4 @@
+//! The paths past the riders of an edge, one rider after the other.
 ghost use Rattle.std.specs.Prelude.{◌≡◌, IfOk, OnOk, map};
 ghost use Rattle.lc_term.specs.Lists.{concat_map};
 ghost use Rattle.lc_table.specs.PutNumbers.{terms_in, AreTerms};

@@ -1,3 +1,4 @@
+//! The paths past one mark, by the branches that its choice leaves.
 ghost use Rattle.std.specs.Prelude.{◌≡◌, IfOk, OnOk};
 ghost use Rattle.lc_table.specs.PutNumbers.{terms_in, AreTerms};
 ghost use Rattle.lc_table.specs.Tables.{term_in, formula_in, IsTerm, IsFormula, HasFormula, Keeps};

@@ -1,3 +1,4 @@
+//! The columns behind a mark.
 ghost use Rattle.std.specs.Prelude.{◌≡◌, IfOk, OnOk, map};
 ghost use Rattle.lc_table.specs.PutNumbers.{columns_at, AreColumns, terms_in, AreTerms};
 ghost use Rattle.lc_term.specs.Said.{puts, said, after, at_client};

@@ -1,3 +1,4 @@
+//! Which call a mark marks.
 ghost use Rattle.std.specs.Prelude.{◌≡◌, ◌++◌, IfOk, OnOk, map};
 ghost use Rattle.lc_table.specs.PutNumbers.{columns_at, AreColumns, terms_in, AreTerms};
 ghost use Rattle.lc_term.specs.Said.{told, reads};

@@ -1,3 +1,4 @@
+//! The type of paths past the riders of an edge.
 ghost use Rattle.std.specs.Prelude.{◌≡◌, IfOk, length};
 ghost use Rattle.lc_rider.specs.DutyView.{AreKnown, known_once};
 

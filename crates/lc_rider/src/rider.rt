@@ -1,3 +1,4 @@
+//! The type of riders: what they do, under which condition.
 ghost use Rattle.std.specs.Prelude.{◌≡◌, true};
 ghost use Rattle.lc_term.specs.Truth.{is_ground};
 ghost use Rattle.lc_term.specs.View.{formula_of};

@@ -1,3 +1,4 @@
+//! Stores into columns that are kept by their numbers.
 ghost use Rattle.std.specs.Prelude.{◌≡◌, IfNone, IfSome, OnOk, OnErr};
 ghost use Rattle.lc_table.specs.PutNumbers.{columns_at, AreColumns, AreTerms, replacement_at};
 ghost use Rattle.lc_term.specs.Replacement.{replace_term};

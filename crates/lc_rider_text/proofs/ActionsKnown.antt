@@ -4,6 +4,7 @@ use Rattle.std.proofs.lemmas.Bool.Decides.{nat_tests}
 use Rattle.std.specs.List.{list_all, list_any}
 use Rattle.std.specs.Prelude.{◌||◌, nat_le, codes}
 use Rattle.lc_base.specs.NameText.{is_name}
+use Rattle.lc_base.specs.Limits.{action_limit, parameter_limit}
 use Rattle.lc_sexp.specs.Parts.{fits, misshapen}
 use Rattle.lc_sexp.specs.TreeCode.{tree_count}
 use Rattle.lc_sexp.specs.Trees.{Tree, Trees, atom, list, none, ◌▸◌, item_count}
@@ -34,11 +35,11 @@ use Rattle.lc_rider_text.specs.Updates.{update_reading, listed_update_reading}
 use Rattle.lc_rider_text.specs.declared.update.Stores.TheVariants.{InAll}
 
 -- there are as many names as items in their list
-names_counted : (before : List (List ℕ)) (m : ℕ) (ts : Trees) → Holds (λ ws. length ws ≡ tree_count ts) (declared_reading (name_reading (Some 3)) declared_by before m ts)
+names_counted : (before : List (List ℕ)) (m : ℕ) (ts : Trees) → Holds (λ ws. length ws ≡ tree_count ts) (declared_reading (name_reading (Some parameter_limit)) declared_by before m ts)
 names_counted before m none = refl
 names_counted before m (t ▸ ts) =
-    both_holds (λ w. Unit {0}) (λ ws. length ws ≡ tree_count ts) (λ ws. length ws ≡ tree_count (t ▸ ts)) (λ w ws. w ∷ ws) (name_reading (Some 3) before m t) _
-    (anything (name_reading (Some 3) before m t)) (names_counted (before ++ declared_by t) (m + item_count t) ts) (λ w ws h g. ap suc g)
+    both_holds (λ w. Unit {0}) (λ ws. length ws ≡ tree_count ts) (λ ws. length ws ≡ tree_count (t ▸ ts)) (λ w ws. w ∷ ws) (name_reading (Some parameter_limit) before m t) _
+    (anything (name_reading (Some parameter_limit) before m t)) (names_counted (before ++ declared_by t) (m + item_count t) ts) (λ w ws h g. ap suc g)
 
 -- and no more than there may be
 room : (n : ℕ) → nat_le 3 n ≡ false → n < 3
@@ -55,9 +56,9 @@ within_room : (before : List (List ℕ)) (n : ℕ) (w : List ℕ) (b : Bool) →
 within_room before n w true e = tt
 within_room before n w false e = if_holds (HasRoom before) (is_long w) (wrong Bound n) (fine tt) tt (room (length before) e)
 
-name_has_room : (before : List (List ℕ)) (n : ℕ) (w : List ℕ) → Holds (λ v. length before < 3) (name_reading (Some 3) before n (atom w))
+name_has_room : (before : List (List ℕ)) (n : ℕ) (w : List ℕ) → Holds (λ v. length before < 3) (name_reading (Some parameter_limit) before n (atom w))
 name_has_room before n w =
-    mapped_holds (HasRoom before) (λ v. length before < 3) (λ u. w) (declaration_reading (Some 3) before n (atom w))
+    mapped_holds (HasRoom before) (λ v. length before < 3) (λ u. w) (declaration_reading (Some parameter_limit) before n (atom w))
     (if_holds (HasRoom before) (is_name w) _ (wrong Shape n)
     (if_holds (HasRoom before) (is_reserved w || list_any (is w) before) (wrong Repeated n) _ tt (within_room before n w (nat_le 3 (length before)) refl)) tt)
     (λ u h. h)
@@ -66,12 +67,12 @@ name_has_room before n w =
 abbrev AreFew : List (List ℕ) → List (List ℕ) → Type 0
 AreFew before ws = length before ≤ 3 → length before + length ws ≤ 3
 
-names_few : (before : List (List ℕ)) (m : ℕ) (ts : Trees) → Holds (AreFew before) (declared_reading (name_reading (Some 3)) declared_by before m ts)
+names_few : (before : List (List ℕ)) (m : ℕ) (ts : Trees) → Holds (AreFew before) (declared_reading (name_reading (Some parameter_limit)) declared_by before m ts)
 names_few before m none = λ few. omega (arith, few)
 names_few before m (list us ▸ ts) =
-    both_holds (λ w. ⊥) (AreFew (before ++ [])) (AreFew before) (λ w ws. w ∷ ws) (name_reading (Some 3) before m (list us)) _ tt (names_few (before ++ []) (m + item_count (list us)) ts) (λ w ws h g. absurd h)
+    both_holds (λ w. ⊥) (AreFew (before ++ [])) (AreFew before) (λ w ws. w ∷ ws) (name_reading (Some parameter_limit) before m (list us)) _ tt (names_few (before ++ []) (m + item_count (list us)) ts) (λ w ws h g. absurd h)
 names_few before m (atom w ▸ ts) =
-    both_holds (λ v. length before < 3) (AreFew (before ++ w ∷ [])) (AreFew before) (λ w ws. w ∷ ws) (name_reading (Some 3) before m (atom w)) _
+    both_holds (λ v. length before < 3) (AreFew (before ++ w ∷ [])) (AreFew before) (λ w ws. w ∷ ws) (name_reading (Some parameter_limit) before m (atom w)) _
     (name_has_room before m w) (names_few (before ++ w ∷ []) (m + item_count (atom w)) ts)
     (λ v ws h g few. let size = length-append before (w ∷ []) in let all = g (omega (arith, size, h)) in omega (arith, size, all))
 
@@ -79,8 +80,8 @@ few_at_most : (ws : List (List ℕ)) → AreFew [] ws → nat_le (length ws) 3 �
 few_at_most ws h = let all = h (omega arith) in three_at_most (length ws) (omega (arith, all))
 
 -- and as many as its list declares
-one_name : (before : List (List ℕ)) (n : ℕ) (t : Tree) → Holds (λ w. length (declared_by t) ≡ 1) (name_reading (Some 3) before n t)
-one_name before n (atom w) = weaker (λ v. Unit {0}) (λ v. length (declared_by (atom w)) ≡ 1) (name_reading (Some 3) before n (atom w)) (λ v h. refl) (anything (name_reading (Some 3) before n (atom w)))
+one_name : (before : List (List ℕ)) (n : ℕ) (t : Tree) → Holds (λ w. length (declared_by t) ≡ 1) (name_reading (Some parameter_limit) before n t)
+one_name before n (atom w) = weaker (λ v. Unit {0}) (λ v. length (declared_by (atom w)) ≡ 1) (name_reading (Some parameter_limit) before n (atom w)) (λ v h. refl) (anything (name_reading (Some parameter_limit) before n (atom w)))
 one_name before n (list ts) = tt
 
 abbrev AreParameters : Tree → List (List ℕ) → Type 0
@@ -89,12 +90,12 @@ AreParameters t ws = (length ws ≡ tree_count (items_within t)) × (nat_le (len
 parameters_counted : (n : ℕ) (t : Tree) → Holds (AreParameters t) (parameters_reading n t)
 parameters_counted n (atom w) = tt
 parameters_counted n (list ts) =
-    let names = declared_reading (name_reading (Some 3)) declared_by [] (n + 1) ts in
+    let names = declared_reading (name_reading (Some parameter_limit)) declared_by [] (n + 1) ts in
     let Few : List (List ℕ) → Type 0 = λ ws. nat_le (length ws) 3 ≡ true in
     let AreDeclared : List (List ℕ) → Type 0 = λ ws. length ws ≡ length (all_declared declared_by ts) in
     weaker (λ ws. (length ws ≡ tree_count ts) × (Few ws × AreDeclared ws)) (AreParameters (list ts)) names (λ ws h. (h.0, h.1.0, h.1.1))
     (and_holds (λ ws. length ws ≡ tree_count ts) (λ ws. Few ws × AreDeclared ws) names (names_counted [] (n + 1) ts)
-    (and_holds Few AreDeclared names (weaker (AreFew []) Few names few_at_most (names_few [] (n + 1) ts)) (declared_counts (name_reading (Some 3)) declared_by one_name [] (n + 1) ts)))
+    (and_holds Few AreDeclared names (weaker (AreFew []) Few names few_at_most (names_few [] (n + 1) ts)) (declared_counts (name_reading (Some parameter_limit)) declared_by one_name [] (n + 1) ts)))
 
 -- an action has three parameters at most, and speaks of what is in scope
 abbrev pub has_bounds : Known → Action → Bool
@@ -149,4 +150,4 @@ headed_known d i n (list (atom w ▸ ts)) = by_word (is w (codes "action")) refl
       (λ p h. (h.0 ∙ ap (λ b. tree_count (within_first (later (parts_of_fit (cond b (fits ts) misshapen))))) (sym e), h.1))
 
 pub action_known : (d : Known) (i n : ℕ) (t : Tree) → Holds (IsActionKnown d t) (action_reading d i n t)
-action_known d i n t = limited_holds (IsActionKnown d t) (nat_le 64 i) n _ (headed_known d i n t)
+action_known d i n t = limited_holds (IsActionKnown d t) (nat_le action_limit i) n _ (headed_known d i n t)

@@ -4,6 +4,7 @@ use Rattle.std.proofs.lemmas.Bool.Decides.{nat_tests}
 use Rattle.std.specs.List.{list_all}
 use Rattle.std.specs.Prelude.{nat_lt}
 use Rattle.lc_base.specs.NameText.{is_name}
+use Rattle.lc_base.specs.Limits.{path_limit}
 use Rattle.lc_sexp.specs.Trees.{Tree, Trees, atom, list, none, ◌▸◌, item_count}
 use Rattle.lc_object.specs.declared.instr.EdgeKind.{EdgeKind}
 use Rattle.lc_object_text.specs.Rows.{cons}
@@ -230,7 +231,7 @@ module _ (d : Known) (others : Option (List (List ℕ))) where
   parts_scoped own edges n m (t ▸ none) = tt
   parts_scoped own edges n m (t ▸ u ▸ ts) =
       if_holds IsOn (is_refused edges (edge_of t)) (wrong Shape n) _ tt
-      (limited_holds IsOn (nat_lt 64 (path_count d own ts)) n _
+      (limited_holds IsOn (nat_lt path_limit (path_count d own ts)) n _
       (both_holds (λ (p : EdgeKind × (ℕ × List Term)). AreKnown p.1.1) (λ rs. list_all (rider_is_scoped columns count) rs ≡ true) IsOn the_on _ _
       (step_known m t (m + item_count t) u) (riders_scoped own (m + item_count t + item_count u) ts)
       (λ p rs h g. and_true (list_all term_is_known p.1.1) (list_all (rider_is_scoped columns count) rs) h g)))

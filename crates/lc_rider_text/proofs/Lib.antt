@@ -1,10 +1,10 @@
 pub mod ActionsKnown
 pub mod BesideScoped
-pub mod Capped
+mod Capped
 pub mod ChoicesKnown
-pub mod Ground
+mod Ground
 pub mod OnsLimited
-pub mod Parts
-pub mod PathsCounted
+mod Parts
+mod PathsCounted
 pub mod ReadsScoped
 pub mod RidersKnown

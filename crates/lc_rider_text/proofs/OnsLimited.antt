@@ -2,6 +2,7 @@
 use Rattle.std.proofs.Common.{◌≡◌, ℕ, ◌+◌, ◌<◌, ◌≤◌, Bool, true, false, List, Option, length, refl, sym, subst, arith}
 use Rattle.std.proofs.lemmas.Bool.Decides.{nat_tests}
 use Rattle.std.specs.Prelude.{nat_lt, nat_le}
+use Rattle.lc_base.specs.Limits.{path_limit, rider_limit}
 use Rattle.lc_sexp.specs.Trees.{Tree, Trees, none, ◌▸◌, item_count}
 use Rattle.lc_outline.specs.Development.{On}
 use Rattle.lc_outline.specs.Limits.{path_total}
@@ -27,11 +28,11 @@ use Rattle.lc_rider_text.specs.declared.edges.Edges.{Edges}
 -- ---- riders
 
 abbrev IsPlaced : ℕ → Tree → Rider → Type 0
-IsPlaced i t r = i < 6
+IsPlaced i t r = i < rider_limit
 
-few_riders : (d : Known) (names : Names) (own : Option Ways) (m : ℕ) (ts : Trees) → Holds (λ rs. length rs ≤ 6) (riders_reading d names own m ts)
+few_riders : (d : Known) (names : Names) (own : Option Ways) (m : ℕ) (ts : Trees) → Holds (λ rs. length rs ≤ rider_limit) (riders_reading d names own m ts)
 few_riders d names own m ts =
-    weaker (Each IsPlaced 0 ts) (λ rs. length rs ≤ 6) (riders_reading d names own m ts) (λ rs h. omega (arith, each_few IsPlaced 6 (λ i t r below. below) 0 ts rs (omega arith) h))
+    weaker (Each IsPlaced 0 ts) (λ rs. length rs ≤ rider_limit) (riders_reading d names own m ts) (λ rs h. omega (arith, each_few IsPlaced rider_limit (λ i t r below. below) 0 ts rs (omega arith) h))
     (placed_holds IsPlaced (ith_rider_reading d names own) (λ i n t. limited_below 6 i n (rider_reading d names own n t)) 0 m ts)
 
 -- ---- paths
@@ -47,7 +48,7 @@ within_limit P false n (fine x) h = h refl
 within_limit P false n (flawed f) h = tt
 
 abbrev HasFewPaths : List Operation → ℕ → On → Type 0
-HasFewPaths operations o x = path_total operations o x.riders ≤ 64
+HasFewPaths operations o x = path_total operations o x.riders ≤ path_limit
 
 paths_few : (d : Known) (operations : List Operation) (own : Option Ways) (o : ℕ) → IsWithin d operations own o → (names : Names) (edges : Edges) (n m : ℕ) (ts : Trees)
     → Holds (HasFewPaths operations o) (on_parts_reading d names own edges n m ts)
@@ -58,27 +59,27 @@ paths_few d operations own o w names edges n m (t ▸ u ▸ ts) =
     let step = step_reading d names m t (m + item_count t) u in
     let riders = riders_reading d names own (m + item_count t + item_count u) ts in
     if_holds P (is_refused edges (edge_of t)) (wrong Shape n) _ tt
-    (within_limit P (nat_lt 64 (path_count d own ts)) n (both the_on step riders)
+    (within_limit P (nat_lt path_limit (path_count d own ts)) n (both the_on step riders)
     (λ few. both_holds (λ p. Unit {0}) (λ rs. path_total operations o rs ≡ path_count d own ts) P the_on step riders (anything step) (row_counted d operations own o w names 0 (m + item_count t + item_count u) ts)
-    (λ p rs h g. subst (λ k. k ≤ 64) (sym g) (few_of (path_count d own ts) 64 few))))
+    (λ p rs h g. subst (λ k. k ≤ path_limit) (sym g) (few_of (path_count d own ts) path_limit few))))
 
-riders_few : (d : Known) (names : Names) (own : Option Ways) (edges : Edges) (n m : ℕ) (ts : Trees) → Holds (λ (x : On). length x.riders ≤ 6) (on_parts_reading d names own edges n m ts)
+riders_few : (d : Known) (names : Names) (own : Option Ways) (edges : Edges) (n m : ℕ) (ts : Trees) → Holds (λ (x : On). length x.riders ≤ rider_limit) (on_parts_reading d names own edges n m ts)
 riders_few d names own edges n m none = tt
 riders_few d names own edges n m (t ▸ none) = tt
 riders_few d names own edges n m (t ▸ u ▸ ts) =
-    let P : On → Type 0 = λ x. length x.riders ≤ 6 in
+    let P : On → Type 0 = λ x. length x.riders ≤ rider_limit in
     let step = step_reading d names m t (m + item_count t) u in
     let riders = riders_reading d names own (m + item_count t + item_count u) ts in
     if_holds P (is_refused edges (edge_of t)) (wrong Shape n) _ tt
-    (limited_holds P (nat_lt 64 (path_count d own ts)) n (both the_on step riders)
-    (both_holds (λ p. Unit {0}) (λ rs. length rs ≤ 6) P the_on step riders (anything step) (few_riders d names own (m + item_count t + item_count u) ts) (λ p rs h g. g)))
+    (limited_holds P (nat_lt path_limit (path_count d own ts)) n (both the_on step riders)
+    (both_holds (λ p. Unit {0}) (λ rs. length rs ≤ rider_limit) P the_on step riders (anything step) (few_riders d names own (m + item_count t + item_count u) ts) (λ p rs h g. g)))
 
 -- ---- what stands at an edge
 
 -- it has few riders, and few paths in the body of an operation that goes so
 abbrev pub IsOnLimited : Known → Option Ways → On → Type 0
 IsOnLimited d own x =
-    (length x.riders ≤ 6) × ((operations : List Operation) (o : ℕ) → AreBranches d operations → Goes own (op_branches operations o) → path_total operations o x.riders ≤ 64)
+    (length x.riders ≤ rider_limit) × ((operations : List Operation) (o : ℕ) → AreBranches d operations → Goes own (op_branches operations o) → path_total operations o x.riders ≤ path_limit)
 
 always : {X : Type 0} (P : List Operation → ℕ → X → Type 0) (d : Known) (own : Option Ways) (r : Reading X)
     → ((operations : List Operation) (o : ℕ) → AreBranches d operations → Goes own (op_branches operations o) → Holds (P operations o) r)
@@ -89,7 +90,7 @@ always P d own (flawed f) h = tt
 parts_limited : (d : Known) (names : Names) (own : Option Ways) (edges : Edges) (n m : ℕ) (ts : Trees) → Holds (IsOnLimited d own) (on_parts_reading d names own edges n m ts)
 parts_limited d names own edges n m ts =
     let r = on_parts_reading d names own edges n m ts in
-    and_holds (λ (x : On). length x.riders ≤ 6) (λ x. (operations : List Operation) (o : ℕ) → AreBranches d operations → Goes own (op_branches operations o) → HasFewPaths operations o x) r
+    and_holds (λ (x : On). length x.riders ≤ rider_limit) (λ x. (operations : List Operation) (o : ℕ) → AreBranches d operations → Goes own (op_branches operations o) → HasFewPaths operations o x) r
     (riders_few d names own edges n m ts)
     (always HasFewPaths d own r (λ operations o agree goes. paths_few d operations own o (record { others = agree; itself = goes }) names edges n m ts))
 

@@ -1,6 +1,7 @@
 -- Parts of actions and of what is done at edges, as cursors find them.
 use Rattle.std.proofs.Common.{◌≡◌, ℕ, ◌+◌, false, Option, Some, Ok, refl, sym, ap, ◌∙◌}
 use Rattle.std.specs.Prelude.{nat_lt}
+use Rattle.lc_base.specs.Limits.{path_limit}
 use Rattle.lc_sexp.specs.Trees.{Tree, Trees, ◌▸◌, item_count}
 use Rattle.lc_sexp.specs.Shown.{rest_of, number_of, owner_of}
 use Rattle.lc_sexp.specs.declared.cursor.Cursor.{Cursor}
@@ -41,13 +42,13 @@ action_found known p l first second third t u f (a1, n1) (a2, n2) (a3, n3) =
 on_at : (known : Known) (names : Names) (own : Option Ways) (edges : Edges) (n m i j k : ℕ) (t u : Tree) (us us1 ts : Trees)
     → us ≡ t ▸ us1 → us1 ≡ u ▸ ts → is_refused edges (edge_of t) ≡ false → i ≡ m → j ≡ m + item_count t → k ≡ j + item_count u
     → on_parts_reading known names own edges n m us
-    ≡ limited (nat_lt 64 (path_count known own ts)) n (both the_on (step_reading known names i t j u) (riders_reading known names own k ts))
+    ≡ limited (nat_lt path_limit (path_count known own ts)) n (both the_on (step_reading known names i t j u) (riders_reading known names own k ts))
 on_at known names own edges n m i j k t u us us1 ts e1 e2 due a1 a2 a3 = rw (e1, e2, due, a3, a2, a1) refl
 
 pub on_found : (known : Known) (names : Names) (own : Option Ways) (edges : Edges) (l first second : Cursor) (t u : Part)
     → IsNext l (Ok t) first → IsNext first (Ok u) second → is_refused edges (edge_of (tree_of t)) ≡ false
     → on_parts_reading known names own edges (owner_of l) (number_of l) (rest_of l)
-    ≡ limited (nat_lt 64 (path_count known own (rest_of second))) (owner_of l)
+    ≡ limited (nat_lt path_limit (path_count known own (rest_of second))) (owner_of l)
     (both the_on (step_reading known names (place_of t) (tree_of t) (place_of u) (tree_of u)) (riders_reading known names own (number_of second) (rest_of second)))
 on_found known names own edges l first second t u (a1, n1) (a2, n2) due =
     on_at known names own edges (owner_of l) (number_of l) (place_of t) (place_of u) (number_of second) (tree_of t) (tree_of u) (rest_of l) (rest_of first) (rest_of second)

@@ -4,6 +4,7 @@ use Rattle.std.proofs.lemmas.Bool.Decides.{nat_tests}
 use Rattle.std.specs.List.{list_all}
 use Rattle.std.specs.Prelude.{nat_lt, slice_get}
 use Rattle.lc_base.specs.NameText.{is_name}
+use Rattle.lc_base.specs.Limits.{path_limit}
 use Rattle.lc_sexp.specs.Trees.{Tree, Trees, atom, list, none, ◌▸◌, item_count}
 use Rattle.lc_object.specs.declared.instr.EdgeKind.{EdgeKind}
 use Rattle.lc_outline.specs.Development.{On}
@@ -214,7 +215,7 @@ parts_known d names own edges n m none = tt
 parts_known d names own edges n m (t ▸ none) = tt
 parts_known d names own edges n m (t ▸ u ▸ ts) =
     if_holds (IsOnKnown d own) (is_refused edges (edge_of t)) (wrong Shape n) _ tt
-    (limited_holds (IsOnKnown d own) (nat_lt 64 (path_count d own ts)) n _
+    (limited_holds (IsOnKnown d own) (nat_lt path_limit (path_count d own ts)) n _
     (both_holds (λ (p : EdgeKind × (ℕ × List Term)). IsCallKnown d p.1.0 p.1.1) (λ rs. list_all (rider_is_known d own) rs ≡ true) (IsOnKnown d own) the_on _ _
     (step_known d names m t (m + item_count t) u) (riders_known d names own (m + item_count t + item_count u) ts) (λ p rs h g. (h, g))))
 

@@ -1,5 +1,6 @@
 -- What a text reads as where an action is due.
 use Rattle.std.specs.Prelude.{ℕ, ◌+◌, nat_le, codes, List, [], Some}
+use Rattle.lc_base.specs.Limits.{action_limit, parameter_limit}
 use Rattle.lc_sexp.specs.Trees.{Tree, Trees, atom, list, ◌▸◌, item_count}
 use Rattle.lc_reading.specs.Listed.{declared_by}
 use Rattle.lc_reading.specs.Naming.{name_reading}
@@ -17,9 +18,9 @@ use Rattle.lc_rider_text.specs.Known.{Known}
 use Rattle.lc_rider_text.specs.Scopes.{beside_names}
 use Rattle.lc_rider_text.specs.Updates.{listed_update_reading}
 
--- (PARAM*): names, at most 3 of them
+-- (PARAM*): names, within the limit of parameters
 abbrev pub parameters_reading : ℕ → Tree → Reading (List (List ℕ))
-parameters_reading n t = listed_reading (λ n. declared_reading (name_reading (Some 3)) declared_by []) n t
+parameters_reading n t = listed_reading (λ n. declared_reading (name_reading (Some parameter_limit)) declared_by []) n t
 
 -- the parameters that an item declares
 abbrev pub parameters_in : Tree → List (List ℕ)
@@ -48,6 +49,6 @@ action_parts_reading known i n m _ = wrong Shape n
 abbrev pub headed_action_reading : Known → ℕ → ℕ → Tree → Reading Action
 headed_action_reading known i n t = mapped the_action (behind_reading (codes "action") (action_parts_reading known i) n t)
 
--- the same, of which there are at most 64
+-- the same, within the limit of actions
 abbrev pub action_reading : Known → ℕ → ℕ → Tree → Reading Action
-action_reading known i n t = limited (nat_le 64 i) n (headed_action_reading known i n t)
+action_reading known i n t = limited (nat_le action_limit i) n (headed_action_reading known i n t)

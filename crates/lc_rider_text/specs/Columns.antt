@@ -1,5 +1,6 @@
 -- What a text reads as where an auxiliary column is due.
 use Rattle.std.specs.Prelude.{ℕ, ◌+◌, ℤ, nat_le, List}
+use Rattle.lc_base.specs.Limits.{column_limit}
 use Rattle.lc_sexp.specs.Trees.{Tree, Trees, none, ◌▸◌, item_count}
 use Rattle.lc_seq.specs.Specification.{Column}
 use Rattle.lc_reading.specs.Readings.{Reading, wrong, limited, both, listed_reading}
@@ -15,6 +16,6 @@ abbrev pub column_parts_reading : List (List ℕ) → ℕ → ℕ → ℕ → Tr
 column_parts_reading names k n m none = wrong Shape n
 column_parts_reading names k n m (t ▸ ts) = both column_of (kth_name_reading names k m t) (numbers_reading n (m + item_count t) ts)
 
--- (NAME a b): the i-th auxiliary column, behind as many others of these; there are at most 64 in all
+-- (NAME a b): the i-th auxiliary column, behind as many others of these, within the limit of columns
 abbrev pub column_reading : List (List ℕ) → ℕ → ℕ → ℕ → Tree → Reading Column
-column_reading names base i n t = limited (nat_le 64 (base + i)) n (listed_reading (column_parts_reading names (base + i)) n t)
+column_reading names base i n t = limited (nat_le column_limit (base + i)) n (listed_reading (column_parts_reading names (base + i)) n t)

@@ -1,5 +1,6 @@
 -- What a text reads as where is said what is done at an edge.
 use Rattle.std.specs.Prelude.{ℕ, ◌+◌, nat_lt, codes, if◌then◌else◌, List, [], Option, None}
+use Rattle.lc_base.specs.Limits.{path_limit}
 use Rattle.lc_sexp.specs.Trees.{Tree, Trees, atom, list, none, ◌▸◌, item_count}
 use Rattle.lc_object.specs.declared.instr.EdgeKind.{EdgeKind}
 use Rattle.lc_reading.specs.Listed.{place_of}
@@ -39,6 +40,10 @@ call_parts_reading known names n m (t ▸ ts) = both pair (action_use known m t)
 abbrev pub call_reading : Known → Names → ℕ → Tree → Reading (ℕ × List Term)
 call_reading known names n t = listed_reading (call_parts_reading known names) n t
 
+-- the least count of paths that is beyond the limit
+abbrev pub path_cap : ℕ
+path_cap = 1 + path_limit
+
 -- EDGE (ACTION T*): the items m and n
 abbrev pub step_reading : Known → Names → ℕ → Tree → ℕ → Tree → Reading (EdgeKind × (ℕ × List Term))
 step_reading known names m t n u = both pair (edge_reading m t) (call_reading known names n u)
@@ -47,11 +52,11 @@ abbrev pub the_on : EdgeKind × (ℕ × List Term) → List Rider → On
 the_on p riders = record { edge = p.0; action = p.1.0; arguments = p.1.1; riders = riders }
 
 -- EDGE (ACTION T*) RIDER*, at one of these edges, in the body of an operation that goes so, if it is known: the parts of the list
--- n, numbered from m on. There are at most 64 paths
+-- n, numbered from m on. Its paths are within their limit
 abbrev pub on_parts_reading : Known → Names → Option Ways → Edges → ℕ → ℕ → Trees → Reading On
 on_parts_reading known names own edges n m (t ▸ u ▸ ts) =
     if is_refused edges (edge_of t) then wrong Shape n
-    else limited (nat_lt 64 (path_count known own ts)) n
+    else limited (nat_lt path_limit (path_count known own ts)) n
     (both the_on (step_reading known names m t (m + item_count t) u) (riders_reading known names own (m + item_count t + item_count u) ts))
 on_parts_reading known names own edges n m _ = wrong Shape n
 

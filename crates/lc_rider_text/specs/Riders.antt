@@ -1,5 +1,6 @@
 -- What a text reads as where a rider is due.
 use Rattle.std.specs.Prelude.{ℕ, ◌+◌, nat_le, codes, if◌then◌else◌, List, [], Option, Some, None}
+use Rattle.lc_base.specs.Limits.{rider_limit}
 use Rattle.lc_sexp.specs.Trees.{Tree, Trees, atom, list, ◌▸◌, item_count}
 use Rattle.lc_reading.specs.Listed.{place_of}
 use Rattle.lc_reading.specs.Naming.{use_reading}
@@ -84,9 +85,9 @@ rider_reading known names own n (list (atom w ▸ ts)) =
     if is w (codes "when") then mapped where_holds (when_reading known names own n (n + 2) ts) else mapped always (deed_with known names own n (n + 2) ts (head_of w))
 rider_reading known names own n _ = wrong Shape n
 
--- the i-th rider of an edge, of which there are at most 6
+-- the i-th rider of an edge, within the limit of riders
 abbrev pub ith_rider_reading : Known → Names → Option Ways → ℕ → ℕ → Tree → Reading Rider
-ith_rider_reading known names own i n t = limited (nat_le 6 i) n (rider_reading known names own n t)
+ith_rider_reading known names own i n t = limited (nat_le rider_limit i) n (rider_reading known names own n t)
 
 -- RIDER*: the items from m on
 abbrev pub riders_reading : Known → Names → Option Ways → ℕ → Trees → Reading (List Rider)

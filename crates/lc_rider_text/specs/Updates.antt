@@ -1,8 +1,7 @@
 -- What a text reads as where an update is due.
 use Rattle.std.specs.Prelude.{ℕ, ◌+◌, Bool, ◌&&◌, nat_le, nat_lt, true, if◌then◌else◌, List, [], length, Option, Some, None}
-use Rattle.lc_base.specs.NameText.{is_name}
-use Rattle.lc_sexp.specs.Trees.{Tree, Trees, atom, list, ◌▸◌, item_count}
-use Rattle.lc_reading.specs.Naming.{within}
+use Rattle.lc_sexp.specs.Trees.{Tree, Trees, ◌▸◌, item_count}
+use Rattle.lc_reading.specs.Naming.{within, spelled_reading}
 use Rattle.lc_reading.specs.Readings.{Reading, wrong, mapped, three_of, listed_reading}
 use Rattle.lc_reading.specs.declared.pass.Pass.TheVariants.{Shape, Unknown}
 use Rattle.lc_term.specs.Syntax.{Term}
@@ -26,8 +25,7 @@ stored stores known n w None = wrong Unknown n
 
 -- the item n where the column of an update is due
 abbrev pub stored_reading : Stores → Known → ℕ → Tree → Reading ℕ
-stored_reading stores known n (atom w) = if is_name w then stored stores known n w (column_place known.columns w) else wrong Shape n
-stored_reading stores known n (list ts) = wrong Shape n
+stored_reading stores known n t = spelled_reading (λ w. stored stores known n w (column_place known.columns w)) n t
 
 -- COLUMN T T: the parts of the list n, numbered from m on
 abbrev pub update_parts_reading : Stores → Known → Names → ℕ → ℕ → Trees → Reading ((ℕ × Term) × Term)

@@ -1,3 +1,4 @@
+//! How an action is read.
 ghost use Rattle.std.specs.Prelude.{ℕ, List};
 ghost use Rattle.lc_sexp.specs.Shown.{rest_of, number_of, owner_of};
 ghost use Rattle.lc_action.specs.ActionView.{action_of};
@@ -18,16 +19,13 @@ use crate::scope::Beside;
 use crate::update::Updates;
 use crate::variables::Variables;
 use lc_action::Action;
-use lc_base::Name;
+use lc_base::{ACTION_LIMIT, Name};
 use lc_object_text::{ReadsPlaced, read_kth_name};
 use lc_reading::{NameTable, Part, ReadFault, behind_word, both, limited, next_part, read_each};
 use lc_sexp::Cursor;
 use lc_term::{Formula, Update};
 use lc_text::{Scope, read_formula};
 use std::alloc::Global;
-
-/// The most actions of an object.
-const ACTION_LIMIT: u64 = 64;
 
 /// What an action is read into before it is made: its name with those of its parameters, and its guard with its updates.
 type ActionParts = ((Name, Vec<Name>), (Formula, Vec<Update>));

@@ -1,3 +1,4 @@
+//! How auxiliary columns are read.
 ghost use Rattle.lc_sexp.specs.Shown.{rest_of, number_of, owner_of};
 ghost use Rattle.lc_reading.specs.Parts.{tree_of, place_of};
 ghost use Rattle.lc_reading.specs.Readings.{listed_reading};
@@ -6,15 +7,13 @@ ghost use Rattle.lc_reading.specs.TableView.{listed};
 ghost use Rattle.lc_seq.specs.SpecView.{column_of};
 ghost use Rattle.lc_rider_text.specs.Columns.{column_parts_reading};
 
+use lc_base::COLUMN_LIMIT;
 use lc_object_text::{ReadsPlaced, read_kth_name};
 use lc_reading::{NameTable, Part, Pass, ReadFault, both, limited, next_part, wrong};
 use lc_seq::Column;
 use lc_sexp::{Cursor, Item};
 use lc_text::read_numbers;
 use std::alloc::Global;
-
-/// The most columns that a file declares.
-const COLUMN_LIMIT: u64 = 64;
 
 /// `NAME a b`, the column of this place among all.
 fn read_column_parts(

@@ -1,3 +1,4 @@
+//! How it is read by which choice a mark's branch is taken.
 ghost use Rattle.std.specs.Prelude.{◌≡◌};
 ghost use Rattle.lc_base.specs.Name.{bytes_of};
 ghost use Rattle.lc_sexp.specs.Shown.{rest_of, number_of, owner_of};

@@ -1,3 +1,4 @@
+//! The columns that a development file declares, with those of the system.
 ghost use Rattle.std.specs.Prelude.{◌+◌, ◌≤◌, ◌^◌, length};
 ghost use Rattle.lc_reading.specs.TableView.{listed};
 

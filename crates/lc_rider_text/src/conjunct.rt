@@ -1,3 +1,4 @@
+//! How the conjuncts of an invariant are read.
 ghost use Rattle.std.specs.Prelude.{ℕ, List};
 ghost use Rattle.lc_sexp.specs.Shown.{rest_of, number_of, owner_of};
 ghost use Rattle.lc_reading.specs.Parts.{tree_of, place_of};

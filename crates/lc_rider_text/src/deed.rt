@@ -1,3 +1,4 @@
+//! What a rider does, as it is read.
 use lc_base::OpId;
 use lc_rider::{Choosing, Rider, When};
 use lc_term::{Term, Update};

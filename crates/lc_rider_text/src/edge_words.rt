@@ -1,3 +1,4 @@
+//! How the name of an edge is read.
 ghost use Rattle.std.specs.Prelude.{◌≡◌};
 ghost use Rattle.lc_reading.specs.Parts.{tree_of, place_of};
 ghost use Rattle.lc_reading.specs.Results.{IsReading};

@@ -1,3 +1,4 @@
+//! The edges that an instruction has, at which an `on` may stand.
 /// The edges at which an `on` may stand.
 #[derive(Clone, Copy)]
 pub struct Edges {

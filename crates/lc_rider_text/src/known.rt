@@ -1,3 +1,4 @@
+//! What the reader of riders knows of the rest of the file.
 use crate::columns::Columns;
 use lc_reading::{NameTable, Part};
 use lc_sexp::Item;

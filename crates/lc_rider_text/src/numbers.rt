@@ -1,3 +1,4 @@
+//! Places as numbers of 32 bits.
 ghost use Rattle.std.specs.Prelude.{◌≡◌, IfOk};
 
 use lc_base::OutOfMemory;

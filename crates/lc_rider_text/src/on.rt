@@ -1,3 +1,4 @@
+//! How an `on` is read: its edge, the call of its action, its riders.
 ghost use Rattle.std.specs.Prelude.{◌≡◌, ℕ, List, map, nat_lt};
 ghost use Rattle.lc_object.specs.declared.instr.EdgeKind.{EdgeKind as Kind};
 ghost use Rattle.lc_sexp.specs.Shown.{rest_of, number_of, owner_of};
@@ -22,6 +23,7 @@ use crate::numbers::number_at;
 use crate::paths::path_count;
 use crate::rider::read_riders;
 use crate::terms::read_arguments;
+use lc_base::PATH_LIMIT;
 use lc_object::EdgeKind;
 use lc_outline::{ActionId, On};
 use lc_reading::{
@@ -32,9 +34,6 @@ use lc_sexp::{Cursor, Item};
 use lc_term::Term;
 use lc_text::Scope;
 use std::alloc::Global;
-
-/// The most paths of an edge.
-const PATH_LIMIT: u64 = 64;
 
 /// Whether an action of this name is built in.
 #[tactic(auto, unfolding(lc_reading::specs::Reserved::is_action_name))]

@@ -1,4 +1,6 @@
+//! How many paths pass the riders of an edge, counted from the text.
 ghost use Rattle.std.specs.Prelude.{◌≡◌, min};
+ghost use Rattle.lc_rider_text.specs.Ons.{path_cap};
 ghost use Rattle.lc_sexp.specs.Shown.{rest_of};
 ghost use Rattle.lc_reading.specs.Parts.{tree_of};
 ghost use Rattle.lc_rider_text.specs.KnownView.{known_seen, ways_there};
@@ -6,22 +8,23 @@ ghost use Rattle.lc_rider_text.specs.Paths.{mark_ways, other_ways, ways_with, de
 
 use crate::known::{Known, Ways};
 use crate::words::{Head, head_of};
+use lc_base::PATH_LIMIT;
 use lc_reading::{Part, headed, next_part, two};
 use lc_sexp::{Cursor, Item};
 
 /// So many paths are not told apart from more.
-const COUNT_CAP: u64 = 65;
+const COUNT_CAP: u64 = PATH_LIMIT + 1;
 
 /// This count, or the cap if it is beyond.
 fn capped(count: u64) -> u64
-    ensures { result ≡ min 65 count }
+    ensures { result ≡ min path_cap count }
 {
     if count < COUNT_CAP { count } else { COUNT_CAP }
 }
 
 /// How many branches an operation has that goes so, or one where it is not known; up to the cap.
 fn mark_ways(ways: Option<&Ways<'_>>) -> u64
-    ensures { result ≡ min 65 (mark_ways (ways_there ways.entry)) }
+    ensures { result ≡ min path_cap (mark_ways (ways_there ways.entry)) }
 {
     match ways {
         Some(ways) => capped(ways.count),
@@ -31,7 +34,7 @@ fn mark_ways(ways: Option<&Ways<'_>>) -> u64
 
 /// `T OP`: in how many ways the call of another client is settled, up to the cap.
 fn other_ways(known: Known<'_, '_>, list: Cursor<'_>) -> u64
-    ensures { result ≡ min 65 (other_ways (known_seen known.entry) (rest_of list.entry)) }
+    ensures { result ≡ min path_cap (other_ways (known_seen known.entry) (rest_of list.entry)) }
 {
     match two(list) {
         Ok((_, operation, _)) => mark_ways(known.ways_named(operation)),
@@ -47,7 +50,7 @@ fn ways_with(
     head: Option<Head>,
     list: Cursor<'_>,
 ) -> u64
-    ensures { result ≡ min 65 (ways_with (known_seen known.entry) (ways_there own.entry) (rest_of list.entry) head) }
+    ensures { result ≡ min path_cap (ways_with (known_seen known.entry) (ways_there own.entry) (rest_of list.entry) head) }
 {
     match head {
         Some(Head::Lin | Head::Note) => mark_ways(own),
@@ -56,9 +59,9 @@ fn ways_with(
     }
 }
 
-/// The same of an item that is no `when`.
+/// In how many ways a rider is passed that is no `when`, up to the cap.
 fn deed_ways(known: Known<'_, '_>, own: Option<&Ways<'_>>, part: Part<'_>) -> u64
-    ensures { result ≡ min 65 (deed_ways (known_seen known.entry) (ways_there own.entry) (tree_of part.entry)) }
+    ensures { result ≡ min path_cap (deed_ways (known_seen known.entry) (ways_there own.entry) (tree_of part.entry)) }
 {
     let list = match part.item() {
         Item::Atom(_) => return 1,
@@ -72,7 +75,7 @@ fn deed_ways(known: Known<'_, '_>, own: Option<&Ways<'_>>, part: Part<'_>) -> u6
 
 /// `F RIDER`: one way more; up to the cap.
 fn when_ways(known: Known<'_, '_>, own: Option<&Ways<'_>>, list: Cursor<'_>) -> u64
-    ensures { result ≡ min 65 (when_ways (known_seen known.entry) (ways_there own.entry) (rest_of list.entry)) }
+    ensures { result ≡ min path_cap (when_ways (known_seen known.entry) (ways_there own.entry) (rest_of list.entry)) }
 {
     match two(list) {
         Ok((_, rider, _)) => capped(1 + deed_ways(known, own, rider)),
@@ -80,10 +83,10 @@ fn when_ways(known: Known<'_, '_>, own: Option<&Ways<'_>>, list: Cursor<'_>) -> 
     }
 }
 
-/// In how many ways a rider is passed, in the body of an operation that goes so, if it is known; 65 where there are more than
-/// 64.
+/// In how many ways a rider is passed, in the body of an operation that goes so, if it is known; `COUNT_CAP` where there are more
+/// than the limit.
 pub fn rider_ways(known: Known<'_, '_>, own: Option<&Ways<'_>>, part: Part<'_>) -> u64
-    ensures { result ≡ min 65 (rider_ways (known_seen known.entry) (ways_there own.entry) (tree_of part.entry)) }
+    ensures { result ≡ min path_cap (rider_ways (known_seen known.entry) (ways_there own.entry) (tree_of part.entry)) }
 {
     let list = match part.item() {
         Item::Atom(_) => return 1,
@@ -96,10 +99,10 @@ pub fn rider_ways(known: Known<'_, '_>, own: Option<&Ways<'_>>, part: Part<'_>) 
     }
 }
 
-/// How many paths the riders make that are left in a list, in the body of an operation that goes so, if it is known; 65
-/// where there are more than 64.
+/// How many paths the riders make that are left in a list, in the body of an operation that goes so, if it is known;
+/// `COUNT_CAP` where there are more than the limit.
 pub fn path_count(known: Known<'_, '_>, own: Option<&Ways<'_>>, list: Cursor<'_>) -> u64
-    ensures { result ≡ min 65 (path_count (known_seen known.entry) (ways_there own.entry) (rest_of list.entry)) }
+    ensures { result ≡ min path_cap (path_count (known_seen known.entry) (ways_there own.entry) (rest_of list.entry)) }
 {
     let mut rest = list;
     let mut count = 1;

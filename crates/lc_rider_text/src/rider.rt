@@ -1,3 +1,4 @@
+//! How a rider is read.
 ghost use Rattle.std.specs.Prelude.{ℕ, []};
 ghost use Rattle.lc_sexp.specs.Shown.{rest_of, number_of, owner_of};
 ghost use Rattle.lc_reading.specs.Naming.{use_reading};
@@ -23,7 +24,7 @@ use crate::numbers::number_at;
 use crate::scope::Quiet;
 use crate::update::{Stores, read_update};
 use crate::words::{Head, head_of};
-use lc_base::OpId;
+use lc_base::{OpId, RIDER_LIMIT};
 use lc_object_text::{ReadsPlaced, read_placed};
 use lc_reading::{
     Part, Pass, ReadFault, both, ended, headed, limited, next_part, read_use, two, wrong,
@@ -33,9 +34,6 @@ use lc_sexp::{Cursor, Item};
 use lc_term::{Term, Update};
 use lc_text::{Scope, read_formula, read_term};
 use std::alloc::Global;
-
-/// The most riders of an edge.
-const RIDER_LIMIT: u64 = 6;
 
 /// The operation that an item names.
 fn read_operation(known: Known<'_, '_>, part: Part<'_>) -> Result<OpId, ReadFault>
@@ -152,7 +150,7 @@ fn read_headed<S: Scope>(
     }
 }
 
-/// The same of a list that begins so.
+/// What a rider does whose list begins so.
 fn read_deed_with<S: Scope>(
     alloc: Global,
     known: Known<'_, '_>,

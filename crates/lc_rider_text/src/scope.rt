@@ -1,3 +1,4 @@
+//! The columns and variables that a name may stand for beside the code.
 ghost use Rattle.std.specs.Prelude.{◌≡◌, ◌<◌, ◌∷◌, [], codes, IfSome};
 ghost use Rattle.lc_reading.specs.Listed.{place_of};
 ghost use Rattle.lc_reading.specs.TableView.{listed};
@@ -144,7 +145,7 @@ impl Scope for Beside<'_, '_> {
     }
 }
 
-/// The same names where no quantifier stands.
+/// The names of a scope where no quantifier stands.
 #[derive(Drop)]
 pub struct Quiet<'s, S>(pub &'s S);
 

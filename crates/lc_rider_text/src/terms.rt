@@ -1,3 +1,4 @@
+//! How just so many terms are read.
 ghost use Rattle.lc_sexp.specs.Shown.{rest_of, number_of, owner_of};
 ghost use Rattle.lc_reading.specs.Results.{IsReading};
 ghost use Rattle.lc_rider_text.specs.Seen.{terms_of};

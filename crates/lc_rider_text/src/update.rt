@@ -1,3 +1,4 @@
+//! How an update is read.
 ghost use Rattle.std.specs.Prelude.{◌≡◌, ℕ};
 ghost use Rattle.lc_sexp.specs.Shown.{rest_of, number_of, owner_of};
 ghost use Rattle.lc_reading.specs.Parts.{tree_of, place_of};
@@ -10,8 +11,8 @@ ghost use Rattle.lc_rider_text.specs.Seen.{update_parts};
 ghost use Rattle.lc_rider_text.specs.Updates.{is_open, stored_reading, update_parts_reading, the_update, update_reading, listed_update_reading};
 
 use crate::known::Known;
-use lc_base::{ColId, NAME_LIMIT, is_name};
-use lc_reading::{Part, Pass, ReadFault, Reads, both, ended, three, wrong};
+use lc_base::ColId;
+use lc_reading::{Part, Pass, ReadFault, Reads, both, ended, known_name, name_at, three, wrong};
 use lc_sexp::{Cursor, Item};
 use lc_term::{Term, Update};
 use lc_text::{Scope, read_term};
@@ -42,18 +43,10 @@ fn is_open(stores: Stores, known: Known<'_, '_>, column: u32) -> bool
 fn read_stored(stores: Stores, known: Known<'_, '_>, part: Part<'_>) -> Result<ColId, ReadFault>
     ensures { IsReading (λ column. column.0) (stored_reading stores (known_seen known.entry) (place_of part.entry) (tree_of part.entry)) result }
 {
-    let atom = match part.item() {
-        Item::Atom(atom) => atom,
-        Item::List(list) => return Err(wrong(Pass::Shape, list.owner())),
-    };
-    if !is_name(atom.text().as_bytes()) {
-        return Err(wrong(Pass::Shape, atom.number()));
-    }
-    match known.columns.place(atom.text()) {
-        None => Err(wrong(Pass::Unknown, atom.number())),
-        Some(place) if !is_open(stores, known, place) => Err(wrong(Pass::Shape, atom.number())),
-        Some(_) if atom.text().len() > NAME_LIMIT => Err(wrong(Pass::Bound, atom.number())),
-        Some(place) => Ok(ColId(place)),
+    let name = name_at(part)?;
+    match known.columns.place(name.text()) {
+        Some(place) if !is_open(stores, known, place) => Err(wrong(Pass::Shape, name.number())),
+        place => Ok(ColId(known_name(name, place)?)),
     }
 }
 

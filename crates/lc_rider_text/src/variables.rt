@@ -1,3 +1,4 @@
+//! The variables that a name may stand for beside the code.
 ghost use Rattle.std.specs.Prelude.{◌+◌, ◌≤◌, ◌^◌};
 ghost use Rattle.lc_rider_text.specs.Tables.{count_there};
 

@@ -1,3 +1,4 @@
+//! The first words of riders, and the words of edges.
 ghost use Rattle.std.specs.Prelude.{◌≡◌};
 ghost use Rattle.lc_rider_text.specs.Heads.{head_of, kind_of};
 

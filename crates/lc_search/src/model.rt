@@ -299,7 +299,7 @@ fn node_value(
     }
 }
 
-/// What a column has at an index.
+/// What a column has at an index: what its outermost store at that index stores there.
 #[cycle(value)]
 fn content_of(
     known: &Known,
@@ -312,14 +312,28 @@ fn content_of(
     if deep == 0 {
         return Err(Stop::Spent);
     }
-    match known.nodes.column_node(column) {
-        Some(TermNode::Base(column)) => Ok(model.content(column, index)),
-        Some(TermNode::Store(below, place, stored)) => {
-            if value(known, model, place, bound, deep - 1)? == index {
-                return value(known, model, stored, bound, deep - 1);
-            }
-            content_of(known, model, below, index, bound, deep - 1)
+    let mut base = column;
+    for _ in 0..known.nodes.term_count() {
+        let Some(TermNode::Store(below, place, stored)) = known.nodes.column_node(base) else {
+            break;
+        };
+        if value(known, model, place, bound, deep - 1)? == index {
+            return value(known, model, stored, bound, deep - 1);
         }
+        base = below;
+    }
+    content_of_base(known, model, base, index)
+}
+
+/// What a column that is no store has at an index.
+fn content_of_base(
+    known: &Known,
+    model: &Model,
+    base: ColExprId,
+    index: Rational,
+) -> Result<Rational, Stop> {
+    match known.nodes.column_node(base) {
+        Some(TermNode::Base(column)) => Ok(model.content(column, index)),
         Some(TermNode::Affine(slope, start)) => {
             let product = Rational::whole(i128::from(slope)).times(index)?;
             product.plus(Rational::whole(i128::from(start)))

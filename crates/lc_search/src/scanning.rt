@@ -86,18 +86,18 @@ fn scan_term(
         }
         Some(TermNode::Multiply(_, term)) => scan_term(nodes, term, level, found, deep - 1),
         Some(TermNode::Read(column, index)) => {
-            scan_index(nodes, column, index, level, found, deep - 1)?;
+            scan_index(nodes, nodes.base_of(column), index, level, found, deep - 1)?;
             scan_column(nodes, column, level, found, deep - 1)
         }
         _ => Ok(()),
     }
 }
 
-/// An index of a column, and what stands in the index.
+/// An index under a column, if it is under one, and what stands in the index.
 #[cycle(scan_part)]
 fn scan_index(
     nodes: &Nodes,
-    column: ColExprId,
+    column: Option<ColId>,
     index: TermId,
     level: u32,
     found: &mut Vec<Place>,
@@ -107,7 +107,7 @@ fn scan_index(
         return Err(Stop::Spent);
     }
     if nodes.term_loose(index) > level
-        && let Some(column) = nodes.base_of(column)
+        && let Some(column) = column
     {
         found.push(Place {
             column,
@@ -118,6 +118,7 @@ fn scan_index(
     scan_term(nodes, index, level, found, deep - 1)
 }
 
+/// The indexes at which a column expression stores, and what it stores there.
 #[cycle(scan_part)]
 fn scan_column(
     nodes: &Nodes,
@@ -129,12 +130,15 @@ fn scan_column(
     if deep == 0 {
         return Err(Stop::Spent);
     }
-    match nodes.column_node(column) {
-        Some(TermNode::Store(below, index, stored)) => {
-            scan_index(nodes, below, index, level, found, deep - 1)?;
-            scan_term(nodes, stored, level, found, deep - 1)?;
-            scan_column(nodes, below, level, found, deep - 1)
-        }
-        _ => Ok(()),
+    let base = nodes.base_of(column);
+    let mut rest = column;
+    for _ in 0..nodes.term_count() {
+        let Some(TermNode::Store(below, index, stored)) = nodes.column_node(rest) else {
+            break;
+        };
+        scan_index(nodes, base, index, level, found, deep - 1)?;
+        scan_term(nodes, stored, level, found, deep - 1)?;
+        rest = below;
     }
+    Ok(())
 }

@@ -1,3 +1,4 @@
+//! How the branch of a call is chosen: by order, or by a name with numbers.
 ghost use Rattle.std.specs.Prelude.{◌≡◌};
 
 use lc_base::Name;

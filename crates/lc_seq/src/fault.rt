@@ -1,3 +1,4 @@
+//! Why a call is not applied.
 use lc_base::OutOfMemory;
 use lc_term::EvalFault;
 use std::alloc::{AllocError, AllocFailed};

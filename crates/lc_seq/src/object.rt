@@ -1,3 +1,4 @@
+//! What a sequential object is, as a trait.
 use crate::fault::SeqFault;
 use lc_base::OutOfMemory;
 use std::alloc::Global;

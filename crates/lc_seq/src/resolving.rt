@@ -1,3 +1,4 @@
+//! Whether all columns and variables of a specification are there.
 ghost use Rattle.std.specs.Prelude.{◌≡◌, ◌+◌, ◌&&◌, ◌==◌, bytes_eq, not, true, length, map};
 ghost use Rattle.std.specs.List.{list_all, list_any};
 ghost use Rattle.lc_base.specs.Name.{bytes_of};

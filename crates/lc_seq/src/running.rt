@@ -1,3 +1,4 @@
+//! What a branch stores and replies, computed in 64 bits.
 ghost use Rattle.std.specs.Prelude.{◌≡◌, ◌+◌, ◌++◌, true, IfOk, IfSome, length, map};
 ghost use Rattle.std.specs.List.{list_all};
 ghost use Rattle.lc_term.specs.Places.{known, term_passes};

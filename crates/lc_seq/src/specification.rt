@@ -1,3 +1,4 @@
+//! The type of specifications: columns, operations and branches.
 ghost use Rattle.std.specs.Prelude.{◌≡◌, true, length};
 ghost use Rattle.lc_seq.specs.Specification.{are_resolved};
 ghost use Rattle.lc_seq.specs.SpecView.{operations_of};

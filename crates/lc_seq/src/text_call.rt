@@ -1,3 +1,4 @@
+//! A call of a specification in text.
 use lc_base::OpId;
 
 /// A call of a specification in text.

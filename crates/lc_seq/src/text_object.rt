@@ -1,3 +1,4 @@
+//! A specification in text, as a sequential object.
 ghost use Rattle.std.specs.Prelude.{◌≡◌, ◌↔◌, IsTrue};
 
 use crate::choice::Pick;

@@ -23,12 +23,6 @@ one_from text nodes t e w l =
     let is : head_tree (trees_of text nodes) ≡ t = ap head_tree h.1 in
     (record { flat = h.0; one = h.1 ∙ ap (λ x. x ▸ none) (sym is) }, is)
 
--- the entries of one tree, and how many there are
-pub one_entries : (text : List ℕ) (nodes : List Node) → IsOne text nodes → entries text nodes ≡ entries_of (head_tree (trees_of text nodes))
-unfolding trees_of
-one_entries text nodes h =
-    sym h.flat.whole ∙ ap entries_of_all h.one ∙ append-nil (entries_of (head_tree (trees_of text nodes)))
-
 pub one_counted : (text : List ℕ) (nodes : List Node) → IsOne text nodes → length nodes ≡ item_count (head_tree (trees_of text nodes))
 one_counted text nodes h = omega (arith, flat_counted text nodes h.flat, ap item_count_of_all h.one)
 

@@ -22,10 +22,6 @@ use Rattle.lc_sexp.proofs.Builds.{one_from}
 pub told_none : (text : List ℕ) (nodes : List Node) (tokens : List Token) → nodes ≡ [] → told_tokens text nodes tokens ≡ tokens
 told_none text nodes tokens e = ap (λ ns. told_tokens text ns tokens) e
 
-pub none_under_way : (text : List ℕ) (start : ℕ) (nodes : List Node) (holes : List ℕ) → nodes ≡ [] → IsUnderWay text start nodes holes → IsUnderWay [] 0 nodes holes
-none_under_way text start nodes holes e h =
-    subst (λ ns. IsUnderWay text start ns holes → IsUnderWay [] 0 ns holes) (sym e) (λ k. record { whole = refl; within = refl; places = k.places }) h
-
 -- the word that has begun is forgotten
 pub later_under_way : (text : List ℕ) (start end : ℕ) (nodes : List Node) (holes : List ℕ) → start ≤ end → IsUnderWay text start nodes holes → IsUnderWay text end nodes holes
 later_under_way text start end nodes holes le h = record { whole = h.whole; within = within_more start end nodes le h.within; places = h.places }

@@ -191,24 +191,6 @@ after_last fed piece within last i taken r e h =
 pub fault_before : (tail last rest : List ℕ) (s : Splitter) → ((rest : List ℕ) → fault_with None s (tail ++ rest) ≡ Some s.machine.offset) → fault_with None s ((tail ++ last) ++ rest) ≡ Some s.machine.offset
 fault_before tail last rest s wrong = ap (fault_with None s) (append_assoc tail last rest) ∙ wrong (last ++ rest)
 
--- the first part that is ready was taken
-pub after_part : (fed : List ℕ) (taken : List Part) (r : Reader) (q : VecDeque Part Global) (p : Part) → r.splitter.ready.items ≡ p ∷ q.items → IsAfterTaking fed taken r
-    → IsAfterTaking fed (taken ++ (p ∷ [])) (record r { splitter = record r.splitter { ready = q } })
-after_part fed taken r q p e h = record {
-  read = h.read;
-  unread = h.unread;
-  joined = h.joined;
-  going = h.going;
-  stopped = h.stopped;
-  offset = h.offset;
-  fault = λ rest. same_fault r.fault r.splitter q rest ∙ h.fault rest;
-  splits = record {
-    aside = same_parts _ _ _ _ r.splitter.in_list _ r.splitter.form r.splitter.item (append_assoc taken (p ∷ []) q.items ∙ ap (λ ps. taken ++ ps) (sym e)) h.splits.aside;
-    rooted = h.splits.rooted;
-    outside = h.splits.outside;
-  };
-}
-
 -- the rows in the lists that are open
 abbrev rows_open : Bool → Trees → List Trees → List Trees
 rows_open true items us = items ∷ us

@@ -27,16 +27,6 @@ pub no_open : (text : List ℕ) (nodes : List Node) → IsFlat text (Open ∷ no
 unfolding trees_of
 no_open text nodes h = let e = h.whole in cc
 
--- behind an atom
-pub atom_flat : (text : List ℕ) (s l : ℕ) (nodes : List Node) → IsFlat text (Atom s l ∷ nodes) → IsFlat text nodes
-unfolding trees_of
-atom_flat text s l nodes h =
-    let e : leaf (take l (drop s text)) ∷ entries_of_all (trees_of text nodes) ≡ leaf (take l (drop s text)) ∷ entries text nodes = h.whole in
-    record { whole = cc; within = (and_parts (nat_le (s + l) (length text)) (list_all (is_within (length text)) nodes) h.within).1; letters = h.letters }
-
-pub atom_within : (text : List ℕ) (s l : ℕ) (nodes : List Node) → IsFlat text (Atom s l ∷ nodes) → s + l ≤ length text
-atom_within text s l nodes h = within_reads s l (length text) (and_parts (nat_le (s + l) (length text)) (list_all (is_within (length text)) nodes) h.within).0
-
 pub atom_letters : (text : List ℕ) (s l : ℕ) (nodes : List Node) → IsFlat text (Atom s l ∷ nodes) → are_letters (take l (drop s text)) ≡ true
 atom_letters text s l nodes h = letters_take (drop s text) l (letters_drop text s h.letters)
 

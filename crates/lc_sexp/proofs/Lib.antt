@@ -1,26 +1,26 @@
-pub mod Answered
+mod Answered
 pub mod Atoms
-pub mod Builds
-pub mod Classes
-pub mod Cuts
+mod Builds
+mod Classes
+mod Cuts
 pub mod Cutting
 pub mod Exists
 pub mod Faults
-pub mod Fed
-pub mod FedForms
-pub mod Fills
-pub mod Flats
+mod Fed
+mod FedForms
+mod Fills
+mod Flats
 pub mod Items
-pub mod Limits
-pub mod Nodes
-pub mod Pieced
+mod Limits
+mod Nodes
+mod Pieced
 pub mod PrintedLemmas
-pub mod Prints
+mod Prints
 pub mod Rows
-pub mod Runs
-pub mod Splits
-pub mod Takings
-pub mod Tokens
+mod Runs
+mod Splits
+mod Takings
+mod Tokens
 pub mod Unique
-pub mod Walks
+mod Walks
 pub mod Whole

@@ -44,10 +44,6 @@ behind_joined none (u ▸ us) = refl
 behind_joined (t ▸ ts) us =
     behind_step t us (joined_rows ts us) _ (item_count_of_all ts) (omega (arith, item_count_some t)) (omega arith) (behind_joined ts us)
 
-pub joined_assoc : (ts us vs : Trees) → joined_rows (joined_rows ts us) vs ≡ joined_rows ts (joined_rows us vs)
-joined_assoc none us vs = refl
-joined_assoc (t ▸ ts) us vs = ap (λ x. t ▸ x) (joined_assoc ts us vs)
-
 -- entries are read as the trees that they are of
 mutual
   first_of : (t : Tree) (es : List Entry) → first_row (entries_of t ++ es) ≡ t ▸ first_row es

@@ -5,6 +5,7 @@ use Rattle.std.specs.List.{list_all}
 use Rattle.std.proofs.Math.Seq.{take-add}
 use Rattle.std.proofs.lemmas.Bool.Decides.{nat_tests}
 use Rattle.std.proofs.lemmas.List.{take_more, take_all, length-map, take-append-drop}
+use Rattle.lc_base.specs.Limits.{file_limit}
 use Rattle.lc_sexp.proofs.Tokens.{and_parts, Letter-from}
 use Rattle.lc_sexp.specs.Text.{class_of, is_Letter, are_letters, begins_word, lexed, before, uncommented, is_misplaced}
 use Rattle.lc_sexp.specs.Progress.{told, told_tokens, fault_from, depth_behind}
@@ -42,9 +43,9 @@ alone k (b ∷ []) e h = (b, refl, h.0)
 alone k (b ∷ c ∷ s) e h = absurd (omega (arith, e))
 
 abbrev at_limit : ℕ → Bool
-at_limit offset = offset == 16777216
+at_limit offset = offset == file_limit
 
-below_limit : (offset n : ℕ) → offset + n ≤ 16777216 → 0 < n → at_limit offset ≡ false
+below_limit : (offset n : ℕ) → offset + n ≤ file_limit → 0 < n → at_limit offset ≡ false
 below_limit offset n le some = grind (arith, nat_tests)
 
 -- one byte more without a fault
@@ -56,7 +57,7 @@ fault_byte k offset depth b s e l p =
     ∙ ap (λ t. cond t (Some offset) (fault_from (offset + 1) (depth_behind depth k) s)) p
 
 -- bytes that open and close nothing
-fault_flat : (k : Class) (offset depth : ℕ) (seen rest : List ℕ) → depth_behind depth k ≡ depth → is_misplaced depth k ≡ false → AreOf k seen → offset + length seen ≤ 16777216
+fault_flat : (k : Class) (offset depth : ℕ) (seen rest : List ℕ) → depth_behind depth k ≡ depth → is_misplaced depth k ≡ false → AreOf k seen → offset + length seen ≤ file_limit
     → fault_from offset depth (seen ++ rest) ≡ fault_from (offset + length seen) depth rest
 fault_flat k offset depth [] rest d p h le = ap (λ n. fault_from n depth rest) (let e : offset ≡ offset + 0 = omega arith in e)
 fault_flat k offset depth (b ∷ s) rest d p h le =
@@ -65,14 +66,14 @@ fault_flat k offset depth (b ∷ s) rest d p h le =
     ∙ fault_flat k (offset + 1) depth s rest d p h.1 (omega (arith, le))
     ∙ ap (λ n. fault_from n depth rest) (let e : (offset + 1) + length s ≡ offset + length (b ∷ s) = omega arith in e)
 
-fault_alone : (k : Class) (offset depth : ℕ) (seen rest : List ℕ) → length seen ≡ 1 → is_misplaced depth k ≡ false → AreOf k seen → offset + length seen ≤ 16777216
+fault_alone : (k : Class) (offset depth : ℕ) (seen rest : List ℕ) → length seen ≡ 1 → is_misplaced depth k ≡ false → AreOf k seen → offset + length seen ≤ file_limit
     → fault_from offset depth (seen ++ rest) ≡ fault_from (offset + length seen) (depth_behind depth k) rest
 fault_alone k offset depth [] rest e p h le = absurd (omega (arith, e))
 fault_alone k offset depth (b ∷ []) rest e p h le = fault_byte k offset depth b rest h.0 (below_limit offset 1 le (omega arith)) p
 fault_alone k offset depth (b ∷ c ∷ s) rest e p h le = absurd (omega (arith, e))
 
 -- a run that is not misplaced
-pub fault_run : (k : Class) (offset depth : ℕ) (seen rest : List ℕ) → IsCount k (length seen) → is_misplaced depth k ≡ false → AreOf k seen → offset + length seen ≤ 16777216
+pub fault_run : (k : Class) (offset depth : ℕ) (seen rest : List ℕ) → IsCount k (length seen) → is_misplaced depth k ≡ false → AreOf k seen → offset + length seen ≤ file_limit
     → fault_from offset depth (seen ++ rest) ≡ fault_from (offset + length seen) (depth_behind depth k) rest
 fault_run White offset depth seen rest n p h le = fault_flat White offset depth seen rest refl p h le
 fault_run Letter offset depth seen rest n p h le = fault_flat Letter offset depth seen rest refl p h le
@@ -93,7 +94,7 @@ fault_here k offset depth (b ∷ s) rest some p h =
     ∙ ap (λ t. cond t (Some offset) (fault_from (offset + 1) (depth_behind depth k) (s ++ rest))) (or_true (at_limit offset))
 
 -- a byte behind the file limit
-pub fault_full : (c : Bool) (offset depth : ℕ) (bytes rest : List ℕ) → 0 < length bytes → offset ≡ 16777216 → fault_from offset depth (uncommented c (bytes ++ rest)) ≡ Some offset
+pub fault_full : (c : Bool) (offset depth : ℕ) (bytes rest : List ℕ) → 0 < length bytes → offset ≡ file_limit → fault_from offset depth (uncommented c (bytes ++ rest)) ≡ Some offset
 fault_full c offset depth [] rest some e = absurd (omega (arith, some))
 fault_full c offset depth (b ∷ s) rest some e =
     by_tests (b == 10) (c || b == 59) (let t : at_limit offset ≡ true = grind (arith, nat_tests) in t) where
@@ -276,7 +277,7 @@ seen_length : (c : Bool) (bytes : List ℕ) (run : Run) → (h : IsRun c bytes r
 seen_length c bytes run h = let within = h.within in omega (arith, h.counts.size, length-take run.length bytes)
 
 -- a run that was taken
-pub fault_taken : (c c' : Bool) (bytes : List ℕ) (run : Run) (offset offset' depth depth' : ℕ) → IsRun c bytes run → is_misplaced depth run.class ≡ false → offset + run.length ≤ 16777216
+pub fault_taken : (c c' : Bool) (bytes : List ℕ) (run : Run) (offset offset' depth depth' : ℕ) → IsRun c bytes run → is_misplaced depth run.class ≡ false → offset + run.length ≤ file_limit
     → offset' ≡ offset + run.length → depth' ≡ depth_behind depth run.class → c' ≡ run.in_comment
     → (rest : List ℕ) → fault_from offset' depth' (uncommented c' rest) ≡ fault_from offset depth (uncommented c (take run.length bytes ++ rest))
 fault_taken c c' bytes run offset offset' depth depth' h p le eo ed ec rest =

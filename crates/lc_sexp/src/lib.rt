@@ -29,7 +29,6 @@ pub use laws::{
     pieces_read_as_the_whole, printed_is_read, read_has_atoms, reading_excludes_fault,
     reading_or_fault, taken_parts_are_the_first,
 };
-pub use machine::{DEPTH_LIMIT, FILE_LIMIT};
 pub use misfit::Misfit;
 pub use part::Part;
 pub use piece::{ends_in_comment, read_piece};

@@ -1,4 +1,5 @@
 ghost use Rattle.std.specs.Prelude.{◌≡◌, ◌≢◌, ◌+◌, ◌≤◌, ◌<◌, ◌++◌, ℕ, List, [], ◌∷◌, length, take, Some, None, false, true, not, if◌then◌else◌, OnOk, IfOk, IfErr, vec_len};
+ghost use Rattle.lc_base.specs.Limits.{file_limit};
 ghost use Rattle.lc_sexp.specs.Trees.{Trees, Token, item_count, tokens_of_all};
 ghost use Rattle.lc_sexp.specs.Text.{class_of, is_misplaced, begins_word, uncommented, lexed};
 ghost use Rattle.lc_sexp.specs.Runs.{AreSeen};
@@ -193,7 +194,7 @@ impl Splitter {
         requires some { 0 < length bytes.now }
         requires length { run.length ≡ length bytes.now }
         requires seen { (seen : List ℕ) × AreSeen run.class bytes.now seen }
-        requires room { self.old.machine.offset + run.length ≤ 16777216 }
+        requires room { self.old.machine.offset + run.length ≤ file_limit }
         ensures splits { IfOk result (λ went. went ≡ true → (whole : List ℕ → List Token) → (rest : List ℕ → List ℕ) → (taken : List Part) → (seen : List ℕ) →
             AreSeen run.class bytes.now seen →
             Splits whole (λ x. seen ++ rest x) taken self.old → Splits whole rest taken self.new) }
@@ -237,7 +238,7 @@ impl Splitter {
     /// nothing changes, and the offset is that of the first fault.
     pub(crate) fn push_run(&mut self, bytes: &[u8]) -> Result<usize, OutOfMemory>
         requires some { 0 < length bytes.now }
-        requires room { self.old.machine.offset + length bytes.now ≤ 16777216 }
+        requires room { self.old.machine.offset + length bytes.now ≤ file_limit }
         ensures within { IfOk result (λ count. count ≤ length bytes.now) }
         ensures splits { IfOk result (λ count. 0 < count → (whole : List ℕ → List Token) → (taken : List Part) →
             Splits whole (uncommented self.old.machine.in_comment) taken self.old →

@@ -1,36 +1,36 @@
-pub mod Own
-pub mod Legal
-pub mod Kept
-pub mod Cuts
-pub mod Linearized
-pub mod Rows
-pub mod RowChanges
-pub mod Book
-pub mod Steps
-pub mod Ordered
-pub mod Leaving
-pub mod Standing
-pub mod Once
-pub mod Headline
-pub mod Rideable
-pub mod Lifting
-pub mod Going
-pub mod Frames
-pub mod Stable
-pub mod Acting
-pub mod Others
-pub mod Gone
-pub mod Arrived
-pub mod Calling
-pub mod Simulated
-pub mod Relying
-pub mod Guaranteed
-pub mod EdgeTaken
-pub mod Ordinary
+mod Own
+mod Legal
+mod Kept
+mod Cuts
+mod Linearized
+mod Rows
+mod RowChanges
+mod Book
+mod Steps
+mod Ordered
+mod Leaving
+mod Standing
+mod Once
+mod Headline
+mod Rideable
+mod Lifting
+mod Going
+mod Frames
+mod Stable
+mod Acting
+mod Others
+mod Gone
+mod Arrived
+mod Calling
+mod Simulated
+mod Relying
+mod Guaranteed
+mod EdgeTaken
+mod Ordinary
 pub mod Lifted
-pub mod CounterResolved
-pub mod Counting
-pub mod Losing
-pub mod Helping
+mod CounterResolved
+mod Counting
+mod Losing
+mod Helping
 pub mod Proven
-pub mod Choosing
+mod Choosing

@@ -98,11 +98,3 @@ takes_return operations first s c (Done k reply) numbers call m just is whole =
       | inl j ↦ subst (λ r. Takes (Done k r) (Happens (Replied c numbers)) Free) (sym (same_reply operations k reply numbers (row s (rep_columns first) (pos c)) m.1 j.1 (subst (λ (x : Call). length numbers ≡ op_replies operations x.op) same whole))) returns_done
       | inr j ↦ absurd (cc (j.0, m.0))
     ]
-
-put_case : {A B : Type 0} (P : A → B → Type 0) (x x' : A) (y y' : B) → P x y → P x' y' → (b : Bool) → P (cond b x x') (cond b y y')
-put_case P x x' y y' here away true = here
-put_case P x x' y y' here away false = away
-
--- what holds of each client still does where it is put for one
-pub put_both : {A B : Type 0} (P : A → B → Type 0) (f : ℕ → A) (g : ℕ → B) (c : ℕ) (x : A) (y : B) → P x y → ((d : ℕ) → P (f d) (g d)) → (d : ℕ) → P (put f c x d) (put g c y d)
-put_both P f g c x y here away d = put_case P x (f d) y (g d) here (away d) (d == c)

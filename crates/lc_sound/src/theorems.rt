@@ -1,3 +1,4 @@
+//! The theorems by which valid conditions make an object linearizable.
 ghost use Rattle.lc_outline.specs.DevelopmentView.{development_shown};
 ghost use Rattle.lc_sound.specs.Claims.{OutlineHolds, StepsAreInstrumented, StepsAreInstances, RunsAreInstrumented, MarksLinearize};
 ghost use Rattle.lc_sound.specs.Derived.{AreDerived};

@@ -43,42 +43,6 @@ placed_behind vs ws w o e g =
 
 -- ---- declarations
 
-taken_too : (a b c : Bool) → b ≡ true → (a || (b || c)) ≡ true
-taken_too true b c e = refl
-taken_too false true c e = refl
-taken_too false false c e = absurd (cc)
-
-free_too : (a b c : Bool) → b ≡ false → (a || (b || c)) ≡ (a || c)
-free_too a true c e = absurd (cc)
-free_too a false c e = refl
-
-full_too : (k : ℕ) (vs ws : List (List ℕ)) → nat_le (k + length vs) (length (vs ++ ws)) ≡ nat_le k (length ws)
-full_too k vs ws = ap (nat_le (k + length vs)) (length-append vs ws) ∙ same k (length vs) (length ws) where
-  same : (k m n : ℕ) → nat_le (k + m) (m + n) ≡ nat_le k n
-  same k m n = grind (arith, nat_tests)
-
-pub declared_again : (vs ws : List (List ℕ)) (limit : Option ℕ) (n : ℕ) (t : Tree) → is_one_of vs t ≡ true → name_reading limit (vs ++ ws) n t ≡ wrong Repeated n
-declared_again vs ws limit n (list ts) e = absurd (cc)
-declared_again vs ws limit n (atom w) e = by_tests (is_name w) (list_any (is w) vs) refl refl e where
-  by_tests : (a b : Bool) → is_name w ≡ a → list_any (is w) vs ≡ b → (a && b) ≡ true → name_reading limit (vs ++ ws) n (atom w) ≡ wrong Repeated n
-  by_tests true true name taken e =
-      rw (name, ap (λ b. is_reserved w || b) (list_any-append (is w) vs ws), taken_too (is_reserved w) (list_any (is w) vs) (list_any (is w) ws) taken) refl
-  by_tests true false name taken e = absurd (cc)
-  by_tests false b name taken e = absurd (cc)
-
-pub declared_behind_others : (vs ws : List (List ℕ)) (k n : ℕ) (t : Tree) → is_one_of vs t ≡ false → name_reading (Some (k + length vs)) (vs ++ ws) n t ≡ name_reading (Some k) ws n t
-declared_behind_others vs ws k n (list ts) e = refl
-declared_behind_others vs ws k n (atom w) e = by_tests (is_name w) refl e where
-  by_tests : (a : Bool) → is_name w ≡ a → (a && list_any (is w) vs) ≡ false → name_reading (Some (k + length vs)) (vs ++ ws) n (atom w) ≡ name_reading (Some k) ws n (atom w)
-  by_tests true name free =
-      ap (λ b. mapped (λ (u : Unit {0}). w) (cond (is_name w) (cond (is_reserved w || b) (wrong Repeated n) (cond (nat_le (k + length vs) (length (vs ++ ws))) (wrong Bound n) (within n w tt))) (wrong Shape n)))
-      (list_any-append (is w) vs ws)
-      ∙ ap (λ b. mapped (λ (u : Unit {0}). w) (cond (is_name w) (cond b (wrong Repeated n) (cond (nat_le (k + length vs) (length (vs ++ ws))) (wrong Bound n) (within n w tt))) (wrong Shape n)))
-      (free_too (is_reserved w) (list_any (is w) vs) (list_any (is w) ws) free)
-      ∙ ap (λ b. mapped (λ (u : Unit {0}). w) (cond (is_name w) (cond (is_reserved w || list_any (is w) ws) (wrong Repeated n) (cond b (wrong Bound n) (within n w tt))) (wrong Shape n)))
-      (full_too k vs ws)
-  by_tests false name free = rw (name) refl
-
 -- a row of declarations
 pub declared_reading-behind : {X : Type 0} (read : List (List ℕ) → ℕ → Tree → Reading X) (declares : Tree → List (List ℕ)) (vs before : List (List ℕ)) (m : ℕ) (ts : Trees)
     → declared_reading (λ ws. read (vs ++ ws)) declares before m ts ≡ declared_reading read declares (vs ++ before) m ts

@@ -2,6 +2,7 @@
 use Rattle.std.proofs.Common.{◌≡◌, ℕ, zero, suc, Bool, true, false, List, [], ◌∷◌, Option, Some, None, Ok, Err, cond, refl, ap, arith}
 use Rattle.std.proofs.lemmas.Bool.Decides.{nat_tests}
 use Rattle.std.specs.Prelude.{◌==◌, nat_lt, option_map, ℤ, pos}
+use Rattle.lc_base.specs.Limits.{reply_limit}
 use Rattle.lc_sexp.specs.Numerals.{natural_of, negative_of, negated, integer_of}
 use Rattle.lc_sexp.specs.Parts.{Fit, fits, misshapen, beyond, fits_i64, integer_within, integer_fit}
 use Rattle.lc_sexp.specs.Shown.{Answers, Same}
@@ -39,11 +40,11 @@ not_natural (Some n) = by_zero (n == 0) refl where
   by_zero true e = refl
   by_zero false e = negated_not_natural n e
 
-large : (n : ℕ) → fits_i64 (pos n) ≡ false → nat_lt 3 n ≡ true
+large : (n : ℕ) → fits_i64 (pos n) ≡ false → nat_lt reply_limit n ≡ true
 large n e = grind (arith, nat_tests)
 
 many : (i n : ℕ) → fits_i64 (pos n) ≡ false → few i (Some n) ≡ wrong Bound i
-many i n e = let more : nat_lt 3 n ≡ true = large n e in rw more refl
+many i n e = let more : nat_lt reply_limit n ≡ true = large n e in rw more refl
 
 within_beyond : (i : ℕ) (o : Option ℕ) → integer_within (option_map pos o) ≡ beyond → few i (natural (option_map pos o)) ≡ wrong Bound i
 within_beyond i None e = absurd (cc)

@@ -1,8 +1,8 @@
-pub mod Counts
-pub mod Parts
-pub mod Places
-pub mod Behind
-pub mod Apart
-pub mod Named
+mod Counts
+mod Parts
+mod Places
+mod Behind
+mod Apart
+mod Named
 pub mod Resolved
 pub mod Ways

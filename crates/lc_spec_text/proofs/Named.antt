@@ -2,6 +2,7 @@
 use Rattle.std.proofs.Common.{◌≡◌, ℕ, ◌+◌, Bool, true, false, ◌&&◌, not, cond, List, [], ◌∷◌, refl}
 use Rattle.std.specs.Prelude.{codes, bytes_eq, length, Some}
 use Rattle.std.specs.List.{list_any}
+use Rattle.lc_base.specs.Limits.{operation_limit}
 use Rattle.lc_sexp.specs.Trees.{Tree, Trees, atom, list, none, ◌▸◌, item_count}
 use Rattle.lc_reading.proofs.Holding.{Holds, anything, weaker, mapped_holds, both_holds, three_holds, limited_holds}
 use Rattle.lc_reading.specs.Listed.{declared_by}
@@ -46,7 +47,7 @@ operation_item_names columns before n (list (atom w ▸ ts)) = operation_list_na
 
 operation_names : (columns : Columns) (before : List (List ℕ)) (n : ℕ) (t : Tree) → Holds (λ o. IsNew before o.name × (second_name t ≡ o.name ∷ [])) (operation_reading columns before n t)
 operation_names columns before n t =
-    limited_holds (λ o. IsNew before o.name × (second_name t ≡ o.name ∷ [])) (is_full (Some 16) (length before)) n _
+    limited_holds (λ o. IsNew before o.name × (second_name t ≡ o.name ∷ [])) (is_full (Some operation_limit) (length before)) n _
     (mapped_holds (λ p. IsNew before (the_operation p).name × (second_name t ≡ (the_operation p).name ∷ [])) (λ o. IsNew before o.name × (second_name t ≡ o.name ∷ [])) the_operation _
     (operation_item_names columns before n t) (λ p h. h))
 

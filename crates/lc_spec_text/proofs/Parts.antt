@@ -81,12 +81,3 @@ specification_found others l first second ahead t u o (a1, n1) (a2, n2) (a3, n3)
 -- the columns of a section
 columns_at : (t : Tree) (w : List ℕ) (ts us : Trees) → t ≡ list (atom w ▸ ts) → is w (codes "abstract") ≡ true → us ≡ ts → columns_in t ≡ all_declared first_name us
 columns_at t w ts us tree same rest = rw (tree, same, rest) refl
-
-pub columns_found : (part : Part) (c : Cursor) → IsBehindWord (codes "abstract") part (Ok c) → columns_in (tree_of part) ≡ all_declared first_name (rest_of c)
-columns_found part c (ts, w, tree, same, within) = columns_at (tree_of part) w ts (rest_of c) tree same within.rest
-
-pub no_columns : (t : Tree) → begins (codes "abstract") t ≡ false → columns_in t ≡ []
-no_columns (atom w) e = refl
-no_columns (list none) e = refl
-no_columns (list (list us ▸ ts)) e = refl
-no_columns (list (atom w ▸ ts)) e = rw e refl

@@ -23,6 +23,7 @@ use Rattle.lc_reading.specs.Words.{is}
 use Rattle.lc_reading.specs.declared.flaw.ReadFault.{ReadFault}
 use Rattle.lc_reading.specs.declared.pass.Pass.TheVariants.{Shape, Bound}
 use Rattle.lc_base.specs.declared.name.Name.{Name}
+use Rattle.lc_base.specs.Limits.{argument_limit, column_limit, operation_limit, reply_limit}
 use Rattle.lc_text.specs.Names.{column_at}
 use Rattle.lc_text.proofs.ReadHolds.{Kept, OfUsable, term_holds, formula_holds}
 use Rattle.lc_text.specs.DeclaredColumn.{column_parts_reading}
@@ -263,38 +264,38 @@ ways_hold columns variables count m ts =
     if_holds (AllBranched (length columns.own) (suc (length variables)) count) (begin_with_choice ts) _ _ (choices_hold columns variables count [] m ts) (branches_hold columns variables count m ts)
 
 -- a count that may stand there is due
-small_fits : (k : ℕ) → nat_lt 3 k ≡ false → fits_i64 (pos k) ≡ true
+small_fits : (k : ℕ) → nat_lt reply_limit k ≡ false → fits_i64 (pos k) ≡ true
 small_fits k e = grind (arith, nat_tests)
 
 due_of : (k : ℕ) (b : Bool) → b ≡ true → fitting_natural (cond b (fits (pos k)) beyond) ≡ Some k
 due_of k true e = refl
 due_of k false e = absurd (cc)
 
-due_is : (o : Option ℤ) (k : ℕ) → natural o ≡ Some k → nat_lt 3 k ≡ false → fitting_natural (integer_within o) ≡ Some k
+due_is : (o : Option ℤ) (k : ℕ) → natural o ≡ Some k → nat_lt reply_limit k ≡ false → fitting_natural (integer_within o) ≡ Some k
 due_is None k e g = absurd (cc)
 due_is (Some (negsuc n)) k e g = absurd (cc)
 due_is (Some (pos n)) k e g =
     let same : n ≡ k = cc in
-    due_of n (fits_i64 (pos n)) (small_fits n (ap (nat_lt 3) same ∙ g)) ∙ ap Some same
+    due_of n (fits_i64 (pos n)) (small_fits n (ap (nat_lt reply_limit) same ∙ g)) ∙ ap Some same
 
-few_small : (n : ℕ) (o : Option ℕ) → Holds (λ k. (o ≡ Some k) × (nat_lt 3 k ≡ false)) (few n o)
+few_small : (n : ℕ) (o : Option ℕ) → Holds (λ k. (o ≡ Some k) × (nat_lt reply_limit k ≡ false)) (few n o)
 few_small n None = tt
-few_small n (Some k) = by_test (nat_lt 3 k) refl where
-  by_test : (b : Bool) → nat_lt 3 k ≡ b → Holds (λ j. (Some k ≡ Some j) × (nat_lt 3 j ≡ false)) (cond b (wrong Bound n) (fine k))
+few_small n (Some k) = by_test (nat_lt reply_limit k) refl where
+  by_test : (b : Bool) → nat_lt reply_limit k ≡ b → Holds (λ j. (Some k ≡ Some j) × (nat_lt reply_limit j ≡ false)) (cond b (wrong Bound n) (fine k))
   by_test true e = tt
   by_test false e = (refl, e)
 
 count_holds : (n : ℕ) (t : Tree) → Holds (λ k. count_in t ≡ Some k) (count_reading n t)
 count_holds n (list ts) = tt
 count_holds n (atom w) = weaker (few n (natural (integer_of w))) (few_small n (natural (integer_of w))) where
-  weaker : (r : Reading ℕ) → Holds (λ k. (natural (integer_of w) ≡ Some k) × (nat_lt 3 k ≡ false)) r → Holds (λ k. count_in (atom w) ≡ Some k) r
+  weaker : (r : Reading ℕ) → Holds (λ k. (natural (integer_of w) ≡ Some k) × (nat_lt reply_limit k ≡ false)) r → Holds (λ k. count_in (atom w) ≡ Some k) r
   weaker (fine k) h = due_is (integer_of w) k h.0 h.1
   weaker (flawed f) h = tt
 
 -- arguments
 arguments_hold : (n : ℕ) (t : Tree) → Holds (λ ws. suc (length (variables_in t)) ≡ 2 + length ws) (arguments_reading n t)
 arguments_hold n (atom w) = tt
-arguments_hold n (list ts) = counted (declared_reading (name_reading (Some 4)) declared_by client (n + 1) ts) (declared_counts (name_reading (Some 4)) declared_by (one_name (Some 4)) client (n + 1) ts) where
+arguments_hold n (list ts) = counted (declared_reading (name_reading (Some (1 + argument_limit))) declared_by client (n + 1) ts) (declared_counts (name_reading (Some (1 + argument_limit))) declared_by (one_name (Some 4)) client (n + 1) ts) where
   counted : (r : Reading (List (List ℕ))) → Holds (λ ws. length ws ≡ length (all_declared declared_by ts)) r → Holds (λ ws. suc (length (client ++ all_declared declared_by ts)) ≡ 2 + length ws) r
   counted (fine ws) h = omega (arith, h, length-append client (all_declared declared_by ts))
   counted (flawed f) h = tt
@@ -325,7 +326,7 @@ operation_parts_hold columns before n m (t ▸ u ▸ x ▸ b ▸ bs) =
 operation_holds : (columns : Columns) (before : List (List ℕ)) (n : ℕ) (t : Tree) → Holds (λ o. operation_is_resolved (length columns.own) o ≡ true) (operation_reading columns before n t)
 operation_holds columns before n t =
     let c = length columns.own in
-    limited_holds (λ o. operation_is_resolved c o ≡ true) (is_full (Some 16) (length before)) n _
+    limited_holds (λ o. operation_is_resolved c o ≡ true) (is_full (Some operation_limit) (length before)) n _
     (mapped_holds (OperationMade c) (λ o. operation_is_resolved c o ≡ true) the_operation _
     (behind_holds (OperationMade c) (codes "op") (operation_parts_reading columns before) n t (operation_parts_hold columns before)) (λ p h. h))
 
@@ -346,7 +347,7 @@ column_list_holds before n (list ts) = column_parts_hold before n (n + 1) ts
 column_holds : (before : List (List ℕ)) (n : ℕ) (t : Tree) → Holds (λ d. length (first_name t) ≡ 1) (column_reading before n t)
 column_holds before n t =
     mapped_holds (λ p. length (first_name t) ≡ 1) (λ d. length (first_name t) ≡ 1) the_column _
-    (limited_holds (λ p. length (first_name t) ≡ 1) (is_full (Some 64) (length before)) n _ (column_list_holds before n t)) (λ p h. h)
+    (limited_holds (λ p. length (first_name t) ≡ 1) (is_full (Some column_limit) (length before)) n _ (column_list_holds before n t)) (λ p h. h)
 
 columns_counted : (n : ℕ) (w : List ℕ) (ts : Trees) (b : Bool) → is w (codes "abstract") ≡ b
     → Holds (λ ds. length ds ≡ length (cond b (all_declared first_name ts) [])) (cond b (declared_reading column_reading first_name [] (n + 2) ts) (wrong Shape n))

@@ -4,6 +4,7 @@ use Rattle.std.specs.Prelude.{codes, bytes_eq, option_map, slice_get}
 use Rattle.std.specs.List.{list_any}
 use Rattle.std.proofs.lemmas.Bool.{eq-eqb, or_parts}
 use Rattle.std.proofs.lemmas.Slice.Eq.{bytes_eq-Decides}
+use Rattle.lc_base.specs.Limits.{parameter_limit}
 use Rattle.lc_sexp.specs.Parts.{fits, misshapen, form_fit}
 use Rattle.lc_sexp.specs.TreeCode.{tree_count}
 use Rattle.lc_sexp.specs.Trees.{Tree, Trees, atom, list, none, ◌▸◌, item_count}
@@ -112,7 +113,7 @@ label_said variables before m (atom w) (atom v) =
     (anything (name_reading None before m (atom w))) tt (λ w ws h g. absurd g)
 label_said variables before m (atom w) (list ps) =
     both_holds (λ v. IsNew before v × (w ∷ [] ≡ v ∷ [])) (AreNames ps) (IsLabelOf before (atom w) (list ps)) pair (name_reading None before m (atom w)) (parameters_reading variables (m + item_count (atom w)) (list ps))
-    (name_declares before m (atom w)) (names_said (Some (3 + length variables)) variables (m + item_count (atom w) + 1) ps)
+    (name_declares before m (atom w)) (names_said (Some (parameter_limit + length variables)) variables (m + item_count (atom w) + 1) ps)
     (λ v ws h g. let same : v ≡ w = same_name w v h.1 in (same, g, subst (IsNew before) same h.0))
 
 -- what a choice says of its label, behind these names

@@ -1,12 +1,11 @@
 -- What a text reads as where a branch of an operation is due.
 use Rattle.std.specs.Prelude.{ℕ, ◌+◌, ◌||◌, codes, if◌then◌else◌, List, [], Option, Some, None}
 use Rattle.std.specs.List.{list_any}
-use Rattle.lc_base.specs.NameText.{is_name}
-use Rattle.lc_sexp.specs.Trees.{Tree, Trees, atom, list, ◌▸◌, item_count}
+use Rattle.lc_sexp.specs.Trees.{Tree, Trees, ◌▸◌, item_count}
 use Rattle.lc_text.specs.Names.{Names}
 use Rattle.lc_term.specs.Syntax.{Term, Formula}
 use Rattle.lc_reading.specs.Listed.{place_of}
-use Rattle.lc_reading.specs.Naming.{within}
+use Rattle.lc_reading.specs.Naming.{within, spelled_reading}
 use Rattle.lc_reading.specs.Readings.{Reading, wrong, mapped, behind_reading, listed_reading, three_of}
 use Rattle.lc_reading.specs.Reserved.{is_system_column}
 use Rattle.lc_reading.specs.Rows.{each_reading, counted_reading}
@@ -26,8 +25,7 @@ stored columns n w None = if is_system_column w || list_any (is w) columns.other
 
 -- the item n where the column of an update is due
 abbrev pub written_reading : Columns → ℕ → Tree → Reading ℕ
-written_reading columns n (atom w) = if is_name w then stored columns n w (place_of columns.own w) else wrong Shape n
-written_reading columns n (list ts) = wrong Shape n
+written_reading columns n t = spelled_reading (λ w. stored columns n w (place_of columns.own w)) n t
 
 abbrev pub the_update : (ℕ × Term) × Term → Update
 the_update p = record { column = p.0.0; index = p.0.1; value = p.1 }

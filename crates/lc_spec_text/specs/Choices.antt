@@ -2,6 +2,7 @@
 use Rattle.std.specs.Prelude.{ℕ, ◌+◌, Bool, false, ◌&&◌, if◌then◌else◌, codes, List, [], ◌++◌, length, Option, Some, None}
 use Rattle.std.specs.List.{list_any}
 use Rattle.lc_base.specs.NameText.{is_name}
+use Rattle.lc_base.specs.Limits.{parameter_limit}
 use Rattle.lc_sexp.specs.Trees.{Tree, Trees, atom, list, none, ◌▸◌, item_count}
 use Rattle.lc_term.specs.Syntax.{Term, Formula}
 use Rattle.lc_term.specs.Updates.{Update}
@@ -18,9 +19,9 @@ use Rattle.lc_text.specs.Terms.{pair}
 use Rattle.lc_spec_text.specs.Branches.{branch_parts_reading, branch_reading}
 use Rattle.lc_spec_text.specs.Scopes.{Columns, branch_names}
 
--- (PARAM*): names behind those of the client and of the arguments, and at most 3 of them
+-- (PARAM*): names behind those of the client and of the arguments, within the limit of parameters
 abbrev pub parameters_reading : List (List ℕ) → ℕ → Tree → Reading (List (List ℕ))
-parameters_reading variables n t = listed_reading (λ n. declared_reading (name_reading (Some (3 + length variables))) declared_by variables) n t
+parameters_reading variables n t = listed_reading (λ n. declared_reading (name_reading (Some (parameter_limit + length variables))) declared_by variables) n t
 
 -- the item is a name, and one of these
 abbrev pub is_one_of : List (List ℕ) → Tree → Bool

@@ -1,5 +1,6 @@
 -- What a text reads as where an operation is due.
 use Rattle.std.specs.Prelude.{ℕ, ◌+◌, ℤ, pos, Bool, false, ◌==◌, nat_lt, codes, if◌then◌else◌, List, [], ◌∷◌, ◌++◌, length, Option, Some, None}
+use Rattle.lc_base.specs.Limits.{argument_limit, operation_limit, reply_limit}
 use Rattle.lc_sexp.specs.Numerals.{integer_of}
 use Rattle.lc_sexp.specs.Parts.{Fit, fits, integer_fit}
 use Rattle.lc_sexp.specs.Trees.{Tree, Trees, atom, list, ◌▸◌, item_count}
@@ -18,10 +19,10 @@ abbrev pub natural : Option ℤ → Option ℕ
 natural (Some (pos n)) = Some n
 natural _ = None
 
--- at most 3
+-- within the limit of replies
 abbrev pub few : ℕ → Option ℕ → Reading ℕ
 few n None = wrong Shape n
-few n (Some k) = if nat_lt 3 k then wrong Bound n else fine k
+few n (Some k) = if nat_lt reply_limit k then wrong Bound n else fine k
 
 -- the item n where REPLIES is due: a NUMBER of at least 0
 abbrev pub count_reading : ℕ → Tree → Reading ℕ
@@ -41,9 +42,9 @@ fitting_natural _ = None
 abbrev pub count_in : Tree → Option ℕ
 count_in t = fitting_natural (integer_fit t)
 
--- (ARG*): names behind that of the client, and at most 3 of them
+-- (ARG*): names behind that of the client, within the limit of arguments
 abbrev pub arguments_reading : ℕ → Tree → Reading (List (List ℕ))
-arguments_reading n t = listed_reading (λ n. declared_reading (name_reading (Some 4)) declared_by client) n t
+arguments_reading n t = listed_reading (λ n. declared_reading (name_reading (Some (1 + argument_limit))) declared_by client) n t
 
 -- the client, and the arguments that an item declares
 abbrev pub variables_in : Tree → List (List ℕ)
@@ -65,7 +66,7 @@ operation_parts_reading columns before n m _ = wrong Shape n
 abbrev pub the_operation : ((List ℕ × List (List ℕ)) × ℕ) × List Branch → Operation
 the_operation p = record { name = p.0.0.0; arguments = p.0.0.1; replies = p.0.1; branches = p.1 }
 
--- (op NAME (ARG*) REPLIES BRANCH+) or (op NAME (ARG*) REPLIES CHOICE+), of which there are at most 16
+-- (op NAME (ARG*) REPLIES BRANCH+) or (op NAME (ARG*) REPLIES CHOICE+), within the limit of operations
 abbrev pub operation_reading : Columns → List (List ℕ) → ℕ → Tree → Reading Operation
 operation_reading columns before n t =
-    limited (is_full (Some 16) (length before)) n (mapped the_operation (behind_reading (codes "op") (operation_parts_reading columns before) n t))
+    limited (is_full (Some operation_limit) (length before)) n (mapped the_operation (behind_reading (codes "op") (operation_parts_reading columns before) n t))

@@ -1,5 +1,6 @@
 -- What a text reads as where a specification is due.
 use Rattle.std.specs.Prelude.{ℕ, ◌+◌, ℤ, codes, if◌then◌else◌, List, [], Some, None}
+use Rattle.lc_base.specs.Limits.{column_limit}
 use Rattle.lc_sexp.specs.Trees.{Tree, Trees, atom, list, none, ◌▸◌, item_count}
 use Rattle.lc_reading.specs.Naming.{name_reading}
 use Rattle.lc_reading.specs.Readings.{Reading, wrong, mapped, three, behind_reading}
@@ -15,9 +16,9 @@ use Rattle.lc_spec_text.specs.Operations.{operation_reading}
 abbrev pub the_column : (List ℕ × ℤ) × ℤ → Column
 the_column p = record { name = p.0.0; slope = p.0.1; start = p.1 }
 
--- (NAME a b), of which there are at most 64
+-- (NAME a b), within the limit of columns
 abbrev pub column_reading : List (List ℕ) → ℕ → Tree → Reading Column
-column_reading before n t = mapped the_column (declared_column_reading (Some 64) before n t)
+column_reading before n t = mapped the_column (declared_column_reading (Some column_limit) before n t)
 
 -- (abstract COL*)
 abbrev pub columns_reading : ℕ → Tree → Reading (List Column)

@@ -1,3 +1,4 @@
+//! How a branch is read.
 ghost use Rattle.std.specs.Prelude.{ℕ, List};
 ghost use Rattle.lc_sexp.specs.Shown.{rest_of, number_of, owner_of};
 ghost use Rattle.lc_term.specs.Syntax as T;

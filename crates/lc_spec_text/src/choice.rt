@@ -1,6 +1,8 @@
+//! How a choice is read: a branch with a name and parameters.
 ghost use Rattle.std.specs.Prelude.{◌≡◌, ◌+◌, ◌++◌, ℕ, List, [], length, Some, None, IfOk};
 ghost use Rattle.lc_sexp.specs.Shown.{rest_of, number_of, owner_of};
 ghost use Rattle.lc_base.specs.Name.{bytes_of};
+ghost use Rattle.lc_base.specs.Limits.{parameter_limit};
 ghost use Rattle.lc_term.specs.Syntax as T;
 ghost use Rattle.lc_reading.specs.Naming.{name_reading};
 ghost use Rattle.lc_reading.specs.Parts.{tree_of, place_of};
@@ -17,7 +19,7 @@ ghost use Rattle.lc_spec_text.specs.Seen.{names_of, branches_of, label_parts, ch
 
 use crate::branch::read_branch_parts;
 use crate::scope::{Columns, InBranch};
-use lc_base::{Name, OutOfMemory, is_name};
+use lc_base::{Name, OutOfMemory, PARAMETER_LIMIT, is_name};
 use lc_reading::{
     Declares, NameTable, Part, Pass, ReadFault, behind_word, both, next_part, read_declared,
     read_name, three, wrong,
@@ -26,9 +28,6 @@ use lc_seq::{Branch, Label};
 use lc_sexp::{Cursor, Item};
 use lc_term::{Formula, Term, Update};
 use std::alloc::Global;
-
-/// The most parameters of a choice.
-const PARAMETER_LIMIT: u64 = 3;
 
 /// Whether an item is a name, and one of these.
 fn is_one_of(names: &NameTable<'_>, part: Part<'_>) -> bool
@@ -46,7 +45,7 @@ fn read_parameter(
     before: &NameTable<'_>,
     part: Part<'_>,
 ) -> Result<Name, ReadFault>
-    ensures { IsReading bytes_of (name_reading (Some (3 + length (listed variables.now))) (listed variables.now ++ listed before.now) (place_of part.entry) (tree_of part.entry)) result }
+    ensures { IsReading bytes_of (name_reading (Some (parameter_limit + length (listed variables.now))) (listed variables.now ++ listed before.now) (place_of part.entry) (tree_of part.entry)) result }
 {
     let name = read_name(Some(PARAMETER_LIMIT), before, part);
     if is_one_of(variables, part) {
@@ -73,7 +72,7 @@ impl Declares for Parameters<'_, '_> {
 
     ghost meaning = { bytes_of };
 
-    ghost reading = { λ reader before. name_reading (Some (3 + length (listed reader.0.now))) (listed reader.0.now ++ before) };
+    ghost reading = { λ reader before. name_reading (Some (parameter_limit + length (listed reader.0.now))) (listed reader.0.now ++ before) };
 
     ghost declares = { declared_by };
 

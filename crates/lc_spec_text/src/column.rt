@@ -1,3 +1,4 @@
+//! How the columns of a specification are read.
 ghost use Rattle.std.specs.Prelude.{◌≡◌, ℕ, ℤ, List, IfOk};
 ghost use Rattle.lc_reading.specs.Parts.{tree_of, place_of};
 ghost use Rattle.lc_reading.specs.Readings.{Reading, mapped};
@@ -8,14 +9,11 @@ ghost use Rattle.lc_seq.specs.SpecView.{column_of};
 ghost use Rattle.lc_spec_text.specs.Specifications.{the_column, column_reading, columns_reading, columns_in};
 ghost use Rattle.lc_spec_text.specs.Seen.{columns_of};
 
-use lc_base::{Name, OutOfMemory};
+use lc_base::{COLUMN_LIMIT, Name, OutOfMemory};
 use lc_reading::{Declares, NameTable, Part, ReadFault, behind_word, read_declared};
 use lc_seq::Column;
 use lc_text::read_declared_column;
 use std::alloc::Global;
-
-/// The most columns that a file declares.
-const COLUMN_LIMIT: u64 = 64;
 
 /// The column of a name and its two numbers.
 fn made_column(parts: Result<((Name, i64), i64), ReadFault>) -> Result<Column, ReadFault>

@@ -1,4 +1,6 @@
-ghost use Rattle.std.specs.Prelude.{◌≡◌};
+//! How the specification at the head of a file is read.
+ghost use Rattle.std.specs.Prelude.{◌≡◌, ℕ, List};
+ghost use Rattle.lc_sexp.specs.Reads.{ReadsAs};
 ghost use Rattle.lc_sexp.specs.Shown.{rest_of, number_of};
 ghost use Rattle.lc_reading.specs.Files.{IsAnswerTo};
 ghost use Rattle.lc_reading.specs.Results.{IsReading};
@@ -24,6 +26,15 @@ fn read_forms(alloc: Global, forms: Cursor<'_>) -> Result<TextSpec, ReadFault>
     read_specification(alloc, &NameTable::new(alloc), form)
 }
 
+/// The specification of the file of which these are the forms. Where it is none, `Refused` has its first refusal, as in
+/// `spec_of`.
+pub fn spec_in(alloc: Global, forms: Forms) -> Result<TextSpec, Fault>
+    ensures { (bytes : List ℕ) → ReadsAs bytes forms → IsAnswerTo specification_of first_reading bytes result }
+{
+    let spec = read_forms(alloc, forms.cursor())?;
+    Ok(spec)
+}
+
 /// The specification that the first form of a file is:
 /// `(spec NAME (abstract COL*) (op NAME (ARG*) REPLIES BRANCH+)+)`. Forms behind it are not looked at.
 ///
@@ -34,6 +45,5 @@ pub fn spec_of(alloc: Global, bytes: &[u8]) -> Result<TextSpec, Fault>
     ensures { IsAnswerTo specification_of first_reading bytes.now result }
 {
     let forms = Forms::read(alloc, bytes)?;
-    let spec = read_forms(alloc, forms.cursor())?;
-    Ok(spec)
+    spec_in(alloc, forms)
 }

@@ -13,5 +13,5 @@ mod specification;
 mod update;
 mod way;
 
-pub use file::spec_of;
+pub use file::{spec_in, spec_of};
 pub use specification::read_specification;

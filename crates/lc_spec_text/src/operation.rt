@@ -1,3 +1,4 @@
+//! How an operation is read.
 ghost use Rattle.std.specs.Prelude.{ℕ, List, codes};
 ghost use Rattle.lc_sexp.specs.Shown.{rest_of, number_of, owner_of};
 ghost use Rattle.lc_reading.specs.Parts.{tree_of, place_of};
@@ -13,16 +14,13 @@ ghost use Rattle.lc_spec_text.specs.Seen.{operation_parts};
 use crate::scope::Columns;
 use crate::signature::{count_in, read_arguments, read_signature};
 use crate::way::read_ways;
-use lc_base::{Name, OutOfMemory};
+use lc_base::{Name, OPERATION_LIMIT, OutOfMemory};
 use lc_reading::{
     Declares, NameTable, Part, ReadFault, behind_word, both, is_full, limited, next_part,
 };
 use lc_seq::{Branch, Operation};
 use lc_sexp::Cursor;
 use std::alloc::Global;
-
-/// The most operations of a specification.
-const OPERATION_LIMIT: u64 = 16;
 
 /// `NAME (ARG*) REPLIES` and `BRANCH+` or `CHOICE+`, behind these operations, which are all that is left in a list.
 fn read_operation_parts(
@@ -73,7 +71,7 @@ fn read_form(
     made_operation(read_operation_parts(alloc, columns, before, list))
 }
 
-/// The same, of which there are only so many.
+/// An operation behind these, of which there are only so many.
 fn read_operation(
     alloc: Global,
     columns: Columns<'_, '_>,
@@ -84,7 +82,7 @@ fn read_operation(
 {
     let operation = read_form(alloc, columns, before, part);
     limited(
-        is_full(Some(OPERATION_LIMIT), before.len()),
+        is_full(Some(OPERATION_LIMIT as u64), before.len()),
         part.number(),
         operation,
     )

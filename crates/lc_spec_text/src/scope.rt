@@ -1,3 +1,4 @@
+//! The names that a branch sees.
 ghost use Rattle.std.specs.Prelude.{◌≡◌, ◌+◌, ◌<◌, ◌^◌, length};
 ghost use Rattle.lc_reading.specs.TableView.{listed};
 ghost use Rattle.lc_text.specs.Names.{column_at};

@@ -1,3 +1,4 @@
+//! How an operation's name, arguments and number of replies are read.
 ghost use Rattle.std.specs.Prelude.{◌≡◌, ℕ, List, IfOk, Some, None, if◌then◌else◌};
 ghost use Rattle.lc_sexp.specs.Shown.{text_of, atom_number};
 ghost use Rattle.lc_sexp.specs.Trees.{atom as the_atom};
@@ -13,51 +14,15 @@ ghost use Rattle.lc_text.specs.Terms.{triple};
 ghost use Rattle.lc_spec_text.specs.Operations.{natural, few, is_negative, count_reading, count_in, arguments_reading, variables_in};
 ghost use Rattle.lc_spec_text.specs.Seen.{names_of, signature_of};
 
-use lc_base::{Name, OutOfMemory};
+use lc_base::{ARGUMENT_LIMIT, Name, OutOfMemory, REPLY_LIMIT};
 use lc_reading::{
-    Declares, NameTable, Part, Pass, ReadFault, both, read_declared, read_name, wrong,
+    NameTable, NamesUpTo, Part, Pass, ReadFault, both, read_declared, read_name, wrong,
 };
 use lc_sexp::{Atom, Item, Misfit};
 use std::alloc::Global;
 
 /// The most arguments of an operation, with the client before them.
-const VARIABLE_LIMIT: u64 = 4;
-
-/// The most replies.
-const REPLY_LIMIT: i64 = 3;
-
-/// Reads the names of arguments.
-#[derive(Drop)]
-struct Arguments;
-
-impl Declares for Arguments {
-    ghost use Rattle.std.specs.Prelude.{ℕ, List, Some};
-    ghost use Rattle.lc_base.specs.Name.{bytes_of};
-    ghost use Rattle.lc_reading.specs.Listed.{declared_by};
-    ghost use Rattle.lc_reading.specs.Naming.{name_reading};
-
-    type Value = Name;
-
-    ghost Meaning = { List ℕ };
-
-    ghost meaning = { bytes_of };
-
-    ghost reading = { λ _. name_reading (Some 4) };
-
-    ghost declares = { declared_by };
-
-    fn read(&self, _: Global, before: &NameTable<'_>, part: Part<'_>) -> Result<Name, ReadFault> {
-        read_name(Some(VARIABLE_LIMIT), before, part)
-    }
-
-    fn enter<'a>(
-        &self,
-        names: NameTable<'a>,
-        part: Part<'a>,
-    ) -> Result<NameTable<'a>, OutOfMemory> {
-        names.enter_part(part)
-    }
-}
+const VARIABLE_LIMIT: u64 = ARGUMENT_LIMIT as u64 + 1;
 
 /// The client with the arguments that an item declares, and the names of these.
 pub(crate) fn read_arguments<'a>(
@@ -70,7 +35,7 @@ pub(crate) fn read_arguments<'a>(
     let client = NameTable::new(alloc).enter("self")?;
     match part.item() {
         Item::Atom(atom) => Ok((client, Err(wrong(Pass::Shape, atom.number())))),
-        Item::List(list) => read_declared(alloc, &Arguments, client, list),
+        Item::List(list) => read_declared(alloc, &NamesUpTo(VARIABLE_LIMIT), client, list),
     }
 }
 
@@ -87,7 +52,7 @@ fn few(number: i64, item: u64) -> Result<u32, ReadFault>
 {
     if number < 0 {
         Err(wrong(Pass::Shape, item))
-    } else if number > REPLY_LIMIT {
+    } else if number > i64::from(REPLY_LIMIT) {
         Err(wrong(Pass::Bound, item))
     } else {
         Ok(number as u32)

@@ -1,3 +1,4 @@
+//! How the updates of a branch are read.
 ghost use Rattle.std.specs.Prelude.{ℕ};
 ghost use Rattle.lc_sexp.specs.Shown.{rest_of, number_of, owner_of};
 ghost use Rattle.lc_term.specs.Syntax as T;
@@ -10,8 +11,10 @@ ghost use Rattle.lc_spec_text.specs.ScopeView.{columns_seen};
 ghost use Rattle.lc_spec_text.specs.Seen.{update_parts};
 
 use crate::scope::Columns;
-use lc_base::{ColId, NAME_LIMIT, is_name};
-use lc_reading::{Part, Pass, ReadFault, Reads, both, ended, is_system_column, three, wrong};
+use lc_base::ColId;
+use lc_reading::{
+    Part, Pass, ReadFault, Reads, both, ended, is_system_column, known_name, name_at, three, wrong,
+};
 use lc_sexp::{Cursor, Item};
 use lc_term::{Term, Update};
 use lc_text::{Scope, read_term};
@@ -21,21 +24,12 @@ use std::alloc::Global;
 fn read_written(columns: Columns<'_, '_>, part: Part<'_>) -> Result<ColId, ReadFault>
     ensures { IsReading (λ column. column.0) (written_reading (columns_seen columns.entry) (place_of part.entry) (tree_of part.entry)) result }
 {
-    let atom = match part.item() {
-        Item::Atom(atom) => atom,
-        Item::List(list) => return Err(wrong(Pass::Shape, list.owner())),
-    };
-    let name = atom.text();
-    if !is_name(name.as_bytes()) {
-        return Err(wrong(Pass::Shape, atom.number()));
-    }
-    match columns.place(name) {
-        Some(_) if name.len() > NAME_LIMIT => Err(wrong(Pass::Bound, atom.number())),
-        Some(place) => Ok(ColId(place)),
-        None if is_system_column(name) || columns.others.contains(name) => {
-            Err(wrong(Pass::Shape, atom.number()))
+    let name = name_at(part)?;
+    match columns.place(name.text()) {
+        None if is_system_column(name.text()) || columns.others.contains(name.text()) => {
+            Err(wrong(Pass::Shape, name.number()))
         }
-        None => Err(wrong(Pass::Unknown, atom.number())),
+        place => Ok(ColId(known_name(name, place)?)),
     }
 }
 

@@ -1,3 +1,4 @@
+//! How the branches or the choices of an operation are read.
 ghost use Rattle.std.specs.Prelude.{◌≡◌};
 ghost use Rattle.lc_sexp.specs.Shown.{rest_of, number_of};
 ghost use Rattle.lc_reading.specs.Results.{IsReading};

@@ -30,15 +30,9 @@ copies_kept there here later copied h kept = record {
 pub term_stands : (ts : Table) (k : TermId) → IsTerm ts k → is_some (slice_get (parts ts) k.0) ≡ true
 term_stands ts k h = ap is_some (term-there (parts ts) k h)
 
-pub column_stands : (ts : Table) (k : ColExprId) → IsColumn ts k → is_some (slice_get (parts ts) k.0) ≡ true
-column_stands ts k h = ap is_some (column-there (parts ts) k h)
-
 -- the number of what stands there at a term's number is a term's
 pub term_standing : (there here : Table) (k : TermId) (v : ℕ) → IsTerm there k → slice_get (parts here) v ≡ slice_get (parts there) k.0 → HasTerm here (record { 0 = v }) (term_in there k)
 term_standing there here k v h e = e ∙ term-there (parts there) k h
-
-pub column_standing : (there here : Table) (k : ColExprId) (v : ℕ) → IsColumn there k → slice_get (parts here) v ≡ slice_get (parts there) k.0 → HasColumn here (record { 0 = v }) (column_in there k)
-column_standing there here k v h e = e ∙ column-there (parts there) k h
 
 pub term_found : (there here : Table) (copied : Copied) (k : TermId) (v : ℕ) → Copies there here copied → IsTerm there k → lookup (nat_eq k.0) copied.parts.entries ≡ Some v
     → HasTerm here (record { 0 = v }) (term_in there k)
@@ -90,12 +84,3 @@ formula_noted there here old new k v h is at now rest = record {
   parts_copied = subst (λ m. AreCopied (parts there) (parts here) m.entries) (sym rest) h.parts_copied;
   formulas_copied = noted (formulas there) (formulas here) old.formulas.entries new.formulas.entries k.0 v.0 h.formulas_copied (at ∙ sym (formula-there (formulas there) k is)) now;
 }
-
-pub nothing_is_copied : (there here : Table) (copied : Copied) → copied.parts.entries ≡ [] → copied.formulas.entries ≡ [] → Copies there here copied
-nothing_is_copied there here copied p f = record {
-  parts_copied = subst (AreCopied (parts there) (parts here)) (sym p) (λ k v t found at. none v t found);
-  formulas_copied = subst (AreCopied (formulas there) (formulas here)) (sym f) (λ k v t found at. none v t found);
-}
-  where
-    none : {A B : Type 0} (v : ℕ) (t : A) → None ≡ Some v → B
-    none v t e = cc

@@ -80,10 +80,6 @@ pub numbered_found : (ts : Table) (cs : List (ColId × ColExprId)) (i : ℕ) (d 
     IsAbsent c (map (entry_in ts) (take i cs)) → columns_at ts cs c ≡ column_in ts (get_or cs i d).1
 numbered_found ts cs i d c h at absent = mapped_found (entry_in ts) cs i (get_or cs i d) c h (same_default cs i d h) at absent
 
-pub numbered_absent : (ts : Table) (cs : List (ColId × ColExprId)) (i : ℕ) (d : ColId × ColExprId) (c : ℕ) → i < length cs → ((get_or cs i d).0.0 == c) ≡ false →
-    IsAbsent c (map (entry_in ts) (take i cs)) → IsAbsent c (map (entry_in ts) (take (i + 1) cs))
-numbered_absent ts cs i d c h other absent = mapped_absent (entry_in ts) cs i (get_or cs i d) c h (same_default cs i d h) other absent
-
 pub numbered_missing : (ts : Table) (cs : List (ColId × ColExprId)) (i c : ℕ) → length cs ≤ i → IsAbsent c (map (entry_in ts) (take i cs)) → columns_at ts cs c ≡ Base c
 numbered_missing ts cs i c end absent = missing c (map (entry_in ts) cs) (subst (λ ps. IsAbsent c (map (entry_in ts) ps)) (take_all i cs end) absent)
 

@@ -59,9 +59,6 @@ tree_fits-kept ps ts us (Implies g h) f = (is_formula-kept ts us g f.0, is_formu
 tree_fits-kept ps ts us (Forall g) f = is_formula-kept ts us g f
 tree_fits-kept ps ts us (Exists g) f = is_formula-kept ts us g f
 
-id_eq : FormulaId → FormulaId → Bool
-id_eq a b = eqb a.0 b.0
-
 id-Decides : (a b : FormulaId) → Decides (eqb a.0 b.0) (a ≡ b)
 id-Decides a b = (λ h. ap (λ k. record { 0 = k }) ((Decides-eqb a.0 b.0).0 h), λ e. (Decides-eqb a.0 b.0).1 (ap (λ k. k.0) e))
 

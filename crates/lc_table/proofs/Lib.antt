@@ -1,15 +1,15 @@
-pub mod Rows
+mod Rows
 pub mod TermNodes
-pub mod FormulaNodes
-pub mod Tables
+mod FormulaNodes
+mod Tables
 pub mod Later
-pub mod Taken
+mod Taken
 pub mod Listed
-pub mod Copied
+mod Copied
 pub mod NodeReplacement
 pub mod Chained
 pub mod ByNumber
-pub mod NodeClosed
+mod NodeClosed
 pub mod Entries
-pub mod Remembered
-pub mod Filled
+mod Remembered
+mod Filled

@@ -40,22 +40,6 @@ closed_term ts k is h = subst (λ o. is_closed_part (as_part o) ≡ true) (term-
 closed_column : (ts : Table) (k : ColExprId) → IsColumn ts k → IsClosedAt ts k.0 → column_passes no_bounds (column_in ts k) ≡ true
 closed_column ts k is h = subst (λ o. is_closed_part (as_part o) ≡ true) (column-there (parts ts) k is) h
 
-closed_node : (ts : Table) (n : TermNode) → PartFits (parts ts) n → AreClosedParts ts n → is_closed_part (part_of (parts ts) n) ≡ true
-closed_node ts (Number n) f h = refl
-closed_node ts (Variable k) f h = refl
-closed_node ts (Bound k) f h = absurd h
-closed_node ts (Add a b) f h = and_from _ _ (closed_term ts a f.0 h.0) (closed_term ts b f.1 h.1)
-closed_node ts (Subtract a b) f h = and_from _ _ (closed_term ts a f.0 h.0) (closed_term ts b f.1 h.1)
-closed_node ts (Multiply n a) f h = closed_term ts a f h
-closed_node ts (Read c i) f h = and_from _ _ (closed_column ts c f.0 h.0) (closed_term ts i f.1 h.1)
-closed_node ts (Base c) f h = refl
-closed_node ts (Store c i v) f h = and_from _ _ (and_from _ _ (closed_column ts c f.0 h.0) (closed_term ts i f.1 h.1)) (closed_term ts v f.2 h.2)
-closed_node ts (Affine a b) f h = refl
-
--- a node at a number
-pub closed_at : (ts : Table) (k : ℕ) (n : TermNode) → slice_get (parts ts) k ≡ Some (part_of (parts ts) n) → PartFits (parts ts) n → AreClosedParts ts n → IsClosedAt ts k
-closed_at ts k n at f h = subst (λ o. is_closed_part (as_part o) ≡ true) (sym at) (closed_node ts n f h)
-
 -- what has no bound variable stays below quantifiers
 pub closed_term_stays : (ts : Table) (k : TermId) (d : ℕ) → IsTerm ts k → IsClosedAt ts k.0 → HasTerm ts k (shifted_term d 0 (term_in ts k))
 closed_term_stays ts k d is h = term-there (parts ts) k is ∙ ap (λ x. Some (term x)) (sym (shifted_closed d 0 (term_in ts k) (closed_term ts k is h)))

@@ -20,7 +20,7 @@ pub struct NodeChain {
     pub stores: Vec<ColExprId>,
 }
 
-/// The same, as far as it is not known already what becomes of it: what is known to become of the base, if that is.
+/// A chain, as far as it is not known already what becomes of it: what is known to become of the base, if that is.
 #[derive(Drop)]
 pub(crate) struct Waiting {
     pub(crate) base: ColExprId,

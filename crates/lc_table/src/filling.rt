@@ -11,7 +11,7 @@ use std::marker::Brand;
 pub(crate) enum Filling<'a> {
     /// Column expressions for columns, terms for free variables.
     Put(Put<'a>),
-    /// The same by their numbers.
+    /// Column expressions for columns, terms for free variables, by their numbers.
     Numbers(PutNumbers<'a>),
     /// A term for one free variable.
     Variable(u32, TermId),

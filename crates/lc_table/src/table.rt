@@ -1,3 +1,4 @@
+//! The table of terms, column expressions and formulas.
 ghost use Rattle.std.specs.Prelude.{◌≡◌, IfOk, ◌↔◌};
 ghost use Rattle.lc_table.specs.declared.node.TermId.{TermId};
 ghost use Rattle.lc_table.specs.declared.node.ColExprId.{ColExprId};

@@ -1,4 +1,4 @@
-pub mod Lists
+mod Lists
 pub mod Chained
 pub mod Stable
 pub mod Truth
@@ -8,12 +8,12 @@ pub mod Each
 pub mod Views
 pub mod Replaced
 pub mod Under
-pub mod Numbers
-pub mod Cells
+mod Numbers
+mod Cells
 pub mod Evaluated
 pub mod Closed
 pub mod Agree
-pub mod Written
+mod Written
 pub mod Stores
 pub mod Tests
 pub mod Symbolic

@@ -81,10 +81,6 @@ mutual
   raised_shifted_column n (Store c t v) = λ i. Store (raised_shifted_column n c i) (raised_shifted n t i) (raised_shifted n v i)
   raised_shifted_column n (Affine a b) = refl
 
--- raising is shifting by one quantifier
-pub raising_shifts : (c : Column) → replace_column (shifting 1 0) c ≡ replace_column raising c
-raising_shifts c = sym (raised_shifted_column 0 c) ∙ ap (replace_column raising) (shifted_column_none c)
-
 -- what is put in for a variable or a column is shifted by the quantifiers round it
 pub under_many-variable : (n : ℕ) (r : Replacement) (k : ℕ) → (under_many n r).variables k ≡ shifted_term n 0 (r.variables k)
 under_many-variable zero r k = sym (shifted_none (r.variables k))

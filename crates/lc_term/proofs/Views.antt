@@ -6,15 +6,6 @@ use Rattle.lc_term.specs.Syntax as S
 use Rattle.lc_term.specs.declared.formula.Formula.{Formula, Not, And, Or, Implies, Forall, Exists, the_lemmas}
 use Rattle.lc_term.specs.View.{formula_of, formulas_of}
 
-pub formula_of-Not : (f : Box Formula Global) → formula_of (Not f) ≡ S.Not (formula_of f.value)
-formula_of-Not f = search (rules, the_lemmas)
-
-pub formula_of-And : (fs : Vec Formula Global) → formula_of (And fs) ≡ S.And (S.formulas (formulas_of fs.items))
-formula_of-And fs = search (rules, the_lemmas)
-
-pub formula_of-Or : (fs : Vec Formula Global) → formula_of (Or fs) ≡ S.Or (S.formulas (formulas_of fs.items))
-formula_of-Or fs = search (rules, the_lemmas)
-
 pub formula_of-Implies : (f g : Box Formula Global) → formula_of (Implies f g) ≡ S.Implies (formula_of f.value) (formula_of g.value)
 formula_of-Implies f g = search (rules, the_lemmas)
 

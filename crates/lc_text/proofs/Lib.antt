@@ -1,5 +1,5 @@
-pub mod Binders
-pub mod Rows
+mod Binders
+mod Rows
 pub mod Variables
 pub mod PrintedTrees
 pub mod Numerals
@@ -7,4 +7,4 @@ pub mod Printed
 pub mod ReadBack
 pub mod ReadHolds
 pub mod Kept
-pub mod Stores
+mod Stores

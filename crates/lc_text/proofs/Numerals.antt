@@ -1,12 +1,12 @@
 -- Numbers that are written read back.
-use Rattle.std.proofs.Common.{◌≡◌, ℕ, ℤ, zero, suc, pos, negsuc, ◌+◌, ◌-◌, ◌*◌, ◌<◌, ◌^◌, true, ◌&&◌, List, [], ◌∷◌, length, get_or, Option, Some, ap, ◌∙◌, arith, rules}
+use Rattle.std.proofs.Common.{◌≡◌, ℕ, ℤ, zero, suc, pos, negsuc, ◌+◌, ◌-◌, ◌*◌, ◌<◌, ◌^◌, true, ◌&&◌, List, [], ◌∷◌, length, get_or, Some, ap, ◌∙◌, arith, rules}
 use Rattle.std.proofs.lemmas.Bool.{and_parts, and_from, or_right, not_from_false, ne_eqb, leb-true, cond-true, cond-false}
 use Rattle.std.proofs.lemmas.Fmt.{decimal_digit, decimal_nonempty, first_decimal, digits_decimal, digits_value-decimal}
 use Rattle.std.proofs.lemmas.Str.Parse.{IsNumeralModel, numerals_by_fold}
 use Rattle.std.specs.Prelude.{option_map, nat_lt, nat_le}
 use Rattle.std.specs.Fmt.{decimal, signed_decimal}
 use Rattle.lc_sexp.specs.Numerals.{are_digits, value_of_digits, natural_of, integer_of, negative_of}
-use Rattle.lc_sexp.specs.Parts.{Fit, fits, fits_i64, integer_within}
+use Rattle.lc_sexp.specs.Parts.{fits, fits_i64, integer_within}
 
 pub own : IsNumeralModel (λ ds. are_digits ds ≡ true) value_of_digits
 own = numerals_by_fold (λ ds. are_digits ds ≡ true) (search rules) (λ n ds. Rattle.std.specs.Prelude.fold (λ n b. n * 10 + (b - 48)) n ds) (search rules)

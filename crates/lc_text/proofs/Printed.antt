@@ -1,11 +1,12 @@
 -- The names that are printed of quantifiers.
-use Rattle.std.proofs.Common.{◌≡◌, ℕ, zero, suc, ◌+◌, ◌-◌, ◌<◌, ◌≤◌, ◌^◌, true, false, ◌&&◌, List, [], ◌∷◌, length, Option, Some, refl, ap, ◌∙◌, arith}
+use Rattle.std.proofs.Common.{◌≡◌, ℕ, zero, suc, ◌+◌, ◌-◌, ◌<◌, ◌≤◌, ◌^◌, true, false, ◌&&◌, List, [], ◌∷◌, length, Some, refl, ap, ◌∙◌, arith}
 use Rattle.std.proofs.lemmas.Bool.{and_parts, and_from, or_left, or_right, ltb-true, cond-true, cond-false, false_from_ne_true}
 use Rattle.std.proofs.lemmas.Fmt.{digits_decimal, decimal_injective, length-decimal-le}
-use Rattle.std.specs.Prelude.{option_map, nat_lt, nat_le}
+use Rattle.std.specs.Prelude.{option_map, nat_le}
 use Rattle.std.specs.List.{list_all}
 use Rattle.std.specs.Fmt.{decimal}
 use Rattle.lc_base.specs.NameText.{is_name, begins_name, continues_name, is_letter}
+use Rattle.lc_base.specs.Limits.{name_limit}
 use Rattle.lc_sexp.specs.Numerals.{are_digits}
 use Rattle.lc_reading.specs.Reserved.{is_reserved, is_client_name, is_call_column, is_reply_column, is_note_column, is_action_name}
 use Rattle.lc_reading.specs.Words.{is, is_long}
@@ -58,4 +59,4 @@ binder_is_free d = refl
 pub binder_is_short : (d : ℕ) → d < 2 ^ 64 → is_long (binder d) ≡ false
 binder_is_short d h =
     let most = length-decimal-le 20 d (omega arith) (omega arith) h in
-    false_from_ne_true _ (λ e. let more = ltb-true 64 (length (binder d)) e in omega arith)
+    false_from_ne_true _ (λ e. let more = ltb-true name_limit (length (binder d)) e in omega arith)

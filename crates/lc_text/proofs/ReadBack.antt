@@ -1,9 +1,9 @@
 -- What is printed reads back.
-use Rattle.std.proofs.Common.{◌≡◌, ℕ, ℤ, suc, ◌+◌, ◌-◌, ◌<◌, ◌≤◌, ◌^◌, true, false, List, [], ◌∷◌, ◌++◌, Option, Some, None, refl, ap, ap₂, ◌∙◌, arith}
+use Rattle.std.proofs.Common.{◌≡◌, ℕ, ℤ, suc, ◌+◌, ◌-◌, ◌<◌, ◌≤◌, ◌^◌, true, List, ◌++◌, Some, refl, ap, ap₂, ◌∙◌, arith}
 use Rattle.std.proofs.lemmas.Bool.{le-leb, cond-true, cond-false}
 use Rattle.std.specs.Prelude.{codes}
 use Rattle.std.specs.Fmt.{decimal, signed_decimal}
-use Rattle.lc_sexp.specs.Trees.{Tree, Trees, atom, list, none, ◌▸◌, item_count}
+use Rattle.lc_sexp.specs.Trees.{Tree, atom, list, none, ◌▸◌, item_count}
 use Rattle.lc_sexp.specs.Parts.{fits_i64, variable_within}
 use Rattle.lc_term.specs.Syntax as S
 use Rattle.lc_term.specs.Syntax.{Term, Number, Variable, Bound, Add, Subtract, Multiply, Read, Column, Base, Store, Affine}
@@ -24,7 +24,6 @@ use Rattle.lc_text.specs.Terms as T
 use Rattle.lc_text.specs.Terms.{term_reading, column_reading, terms_reading, numbers_reading, store_reading, atom_reading, word_reading, number_reading, number_or, fit_reading, bound_or_free, pair, triple, built_reading}
 use Rattle.lc_text.specs.declared.words.Built.TheVariants as B
 use Rattle.lc_text.specs.declared.words.Operation.TheVariants as O
-use Rattle.lc_text.specs.declared.words.Connective.{Connective}
 use Rattle.lc_text.specs.declared.words.Connective.TheVariants as C
 
 -- a number

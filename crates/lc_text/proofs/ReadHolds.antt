@@ -1,6 +1,6 @@
 -- What holds of all terms and formulas that are read where no quantifier and no column expression but a name may stand.
-use Rattle.std.proofs.Common.{◌≡◌, ℕ, ◌+◌, Bool, true, false, ◌&&◌, cond, List, [], Option, Some, None, refl, sym, subst, IfSome}
-use Rattle.std.specs.Prelude.{ℤ, not}
+use Rattle.std.proofs.Common.{◌≡◌, ℕ, ◌+◌, Bool, true, false, cond, List, [], Option, Some, None, IfSome}
+use Rattle.std.specs.Prelude.{ℤ}
 use Rattle.lc_base.specs.NameText.{is_name}
 use Rattle.lc_sexp.specs.Trees.{Tree, Trees, atom, list, none, ◌▸◌, item_count}
 use Rattle.lc_sexp.specs.Parts.{Fit, fits, misshapen, beyond, integer_fit}
@@ -13,11 +13,11 @@ use Rattle.lc_text.specs.declared.scope.Extra.{Extra}
 use Rattle.lc_text.specs.declared.scope.Extra.TheVariants.{Quantifiers, BuiltColumns, NumberedVariables}
 use Rattle.lc_reading.proofs.Holding.{Holds, anything, mapped_holds, both_holds, ended_holds, if_holds}
 use Rattle.lc_reading.specs.Naming.{within}
-use Rattle.lc_reading.specs.Readings.{Reading, wrong, both}
+use Rattle.lc_reading.specs.Readings.{Reading, wrong}
 use Rattle.lc_reading.specs.Words.{is_long}
 use Rattle.lc_reading.specs.declared.pass.Pass.{Pass}
 use Rattle.lc_text.specs.Formulas.{formula_reading, only_reading, both_reading, body_reading, formulas_reading, connective_reading, comparison_of, joined_by, implication_of}
-use Rattle.lc_text.specs.Heads.{operation_of, built_of, built_due, connective_of, allowed}
+use Rattle.lc_text.specs.Heads.{operation_of, built_of, connective_of, allowed}
 use Rattle.lc_text.specs.Terms.{pair, number_reading, number_or, bound_or_free, word_reading, atom_reading, used, built_reading, operation_reading, sum_of, product_of, access_of, term_reading, terms_reading, product_reading, access_reading, column_reading, numbers_reading, store_reading}
 use Rattle.lc_text.specs.declared.words.Operation.{Operation}
 use Rattle.lc_text.specs.declared.words.Operation.TheVariants as O

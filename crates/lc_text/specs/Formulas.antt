@@ -1,11 +1,10 @@
 -- What a text reads as where a formula is due.
 use Rattle.std.specs.Prelude.{ℕ, ◌+◌, if◌then◌else◌, List, [], ◌∷◌, ◌++◌, Option, Some, None}
-use Rattle.lc_base.specs.NameText.{is_name}
 use Rattle.lc_sexp.specs.Trees.{Tree, Trees, atom, list, none, ◌▸◌, item_count}
 use Rattle.lc_term.specs.Syntax as S
 use Rattle.lc_term.specs.Syntax.{Term, Formula, Formulas}
 use Rattle.lc_text.specs.Names.{Names}
-use Rattle.lc_reading.specs.Naming.{within}
+use Rattle.lc_reading.specs.Naming.{within, spelled_reading}
 use Rattle.lc_reading.specs.Readings.{Reading, fine, wrong, mapped, both, two_of, ended}
 use Rattle.lc_reading.specs.Reserved.{is_reserved}
 use Rattle.lc_reading.specs.declared.pass.Pass.TheVariants.{Shape, Repeated}
@@ -16,8 +15,7 @@ use Rattle.lc_text.specs.declared.words.Connective.TheVariants as C
 
 -- the name of a quantifier's variable, which may be declared
 abbrev pub binder_reading : ℕ → Tree → Reading (Unit {0})
-binder_reading n (list ts) = wrong Shape n
-binder_reading n (atom w) = if is_name w then (if is_reserved w then wrong Repeated n else within n w tt) else wrong Shape n
+binder_reading n t = spelled_reading (λ w. if is_reserved w then wrong Repeated n else within n w tt) n t
 
 -- the names that are bound inside a quantifier whose name is this
 abbrev pub bound_inside : Tree → List (List ℕ) → List (List ℕ)

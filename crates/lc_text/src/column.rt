@@ -1,3 +1,4 @@
+//! How column expressions are read.
 ghost use Rattle.std.specs.Prelude.{◌≡◌, []};
 ghost use Rattle.lc_sexp.specs.Shown.{rest_of, number_of, owner_of, text_of, atom_number};
 ghost use Rattle.lc_reading.specs.Parts.{tree_of, place_of};
@@ -11,8 +12,8 @@ use crate::made::{made_affine, made_store};
 use crate::scope::{ColumnUse, Scope};
 use crate::term::{read_bound_term, read_number};
 use crate::words::{Built, built_due};
-use lc_base::{NAME_LIMIT, is_name};
-use lc_reading::{Part, Pass, ReadFault, both, ended, headed, three, two, wrong};
+use lc_base::is_name;
+use lc_reading::{Part, Pass, ReadFault, both, ended, headed, three, two, within, wrong};
 use lc_sexp::{Atom, Cursor, Item};
 use lc_term::{ColExpr, Term};
 use std::alloc::Global;
@@ -21,17 +22,13 @@ use std::alloc::Global;
 fn read_base<S: Scope>(scope: &S, reader: u64, atom: &Atom<'_>) -> Result<ColExpr, ReadFault>
     ensures { IsReading column_of (base_reading (S.names scope.now) reader (atom_number atom.now) (text_of atom.now)) result }
 {
-    let column = match scope.column(atom.text()) {
-        ColumnUse::Misplaced => return Err(wrong(Pass::Shape, reader)),
-        _ if !is_name(atom.text().as_bytes()) => return Err(wrong(Pass::Shape, atom.number())),
-        ColumnUse::Undeclared => return Err(wrong(Pass::Unknown, atom.number())),
-        ColumnUse::Hidden => return Err(wrong(Pass::Auxiliary, reader)),
-        ColumnUse::Usable(column) => column,
-    };
-    if atom.text().len() > NAME_LIMIT {
-        return Err(wrong(Pass::Bound, atom.number()));
+    match scope.column(atom.text()) {
+        ColumnUse::Misplaced => Err(wrong(Pass::Shape, reader)),
+        _ if !is_name(atom.text().as_bytes()) => Err(wrong(Pass::Shape, atom.number())),
+        ColumnUse::Undeclared => Err(wrong(Pass::Unknown, atom.number())),
+        ColumnUse::Hidden => Err(wrong(Pass::Auxiliary, reader)),
+        ColumnUse::Usable(column) => within(*atom, ColExpr::Base(column)),
     }
-    Ok(ColExpr::Base(column))
 }
 
 /// The column expression that an item reads as. A column that may not be read so is told at the reader.

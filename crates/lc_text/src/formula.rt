@@ -1,3 +1,4 @@
+//! How formulas are read.
 ghost use Rattle.std.specs.Prelude.{◌≡◌, [], ◌∷◌, ◌++◌};
 ghost use Rattle.lc_sexp.specs.Shown.{rest_of, number_of, owner_of};
 ghost use Rattle.lc_reading.specs.Parts.{tree_of, place_of};
@@ -11,9 +12,9 @@ use crate::made::{made_comparison, made_implication, made_negation, made_quantif
 use crate::scope::Scope;
 use crate::term::read_terms;
 use crate::words::{Connective, connective_due};
-use lc_base::{NAME_LIMIT, is_name};
 use lc_reading::{
-    Part, Pass, ReadFault, both, ended, headed, is_reserved, next_part, one, pushed, two, wrong,
+    Part, Pass, ReadFault, both, ended, headed, is_reserved, name_at, next_part, one, pushed, two,
+    within, wrong,
 };
 use lc_sexp::{Cursor, Item};
 use lc_term::Formula;
@@ -151,19 +152,11 @@ fn read_bound_formulas<'a, S: Scope>(
 fn read_binder(part: Part<'_>) -> Result<(), ReadFault>
     ensures { IsReading (λ u. u) (binder_reading (place_of part.entry) (tree_of part.entry)) result }
 {
-    let atom = match part.item() {
-        Item::Atom(atom) => atom,
-        Item::List(list) => return Err(wrong(Pass::Shape, list.owner())),
-    };
-    if !is_name(atom.text().as_bytes()) {
-        Err(wrong(Pass::Shape, atom.number()))
-    } else if is_reserved(atom.text()) {
-        Err(wrong(Pass::Repeated, atom.number()))
-    } else if atom.text().len() > NAME_LIMIT {
-        Err(wrong(Pass::Bound, atom.number()))
-    } else {
-        Ok(())
+    let name = name_at(part)?;
+    if is_reserved(name.text()) {
+        return Err(wrong(Pass::Repeated, name.number()));
     }
+    within(name, ())
 }
 
 /// A name and the formula in which it is bound, which are all that is left in a list.

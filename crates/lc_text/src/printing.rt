@@ -1,4 +1,5 @@
-ghost use Rattle.std.specs.Prelude.{◌≡◌, ◌++◌, OnOk, codes, string_bytes, false};
+//! How terms, column expressions and formulas are printed.
+ghost use Rattle.std.specs.Prelude.{◌≡◌, ◌++◌, OnOk, OnErr, codes, string_bytes, false};
 ghost use Rattle.lc_term.specs.Chains.{is_store};
 ghost use Rattle.lc_term.specs.View.{term_of, column_of, formula_of, formulas_of};
 ghost use Rattle.lc_term.specs.Syntax.{formulas};
@@ -14,18 +15,69 @@ pub trait Spelling {
 
     ghost spelled: { Self → Spelled };
 
-    /// Writes a free variable behind what is there.
+    /// Writes a free variable behind what is there. Where memory is refused the text is let go, whatever stands there.
     fn variable(&self, out: &mut String, number: u32) -> Result<(), OutOfMemory>
         ensures { OnOk result (string_bytes out.new ≡ string_bytes out.old ++ (spelled self.now).variable number) };
 
-    /// Writes a column behind what is there.
+    /// Writes a column behind what is there, likewise.
     fn column(&self, out: &mut String, column: ColId) -> Result<(), OutOfMemory>
         ensures { OnOk result (string_bytes out.new ≡ string_bytes out.old ++ (spelled self.now).column column.0) };
 }
 
-/// Writes a term behind what is there, round whose place stand so many quantifiers.
-#[cycle(write_term)]
+/// Writes a term behind what is there, round whose place stand so many quantifiers. Where memory is refused nothing is
+/// written.
 pub fn write_term<S: Spelling>(
+    out: &mut String,
+    spelling: &S,
+    depth: u64,
+    term: &Term,
+) -> Result<(), OutOfMemory>
+    ensures text { OnOk result (string_bytes out.new ≡ string_bytes out.old ++ spelled_term (S.spelled spelling.now) depth (term_of term.now)) }
+    ensures unchanged { OnErr result (string_bytes out.new ≡ string_bytes out.old) }
+{
+    let mut text = String::new(*out.allocator());
+    push_term(&mut text, spelling, depth, term)?;
+    out.push_str(&text)?;
+    Ok(())
+}
+
+/// Writes a column expression behind what is there, round whose place stand so many quantifiers. Where memory is refused
+/// nothing is written.
+pub fn write_column<S: Spelling>(
+    out: &mut String,
+    spelling: &S,
+    depth: u64,
+    column: &ColExpr,
+) -> Result<(), OutOfMemory>
+    ensures text { OnOk result (string_bytes out.new ≡ string_bytes out.old ++ spelled_column (S.spelled spelling.now) depth (column_of column.now)) }
+    ensures unchanged { OnErr result (string_bytes out.new ≡ string_bytes out.old) }
+{
+    let mut text = String::new(*out.allocator());
+    push_column(&mut text, spelling, depth, column)?;
+    out.push_str(&text)?;
+    Ok(())
+}
+
+/// Writes a formula behind what is there, round which stand so many quantifiers. The variable of a quantifier is
+/// written `b` and the number of quantifiers round it. Where memory is refused nothing is written.
+pub fn write_formula<S: Spelling>(
+    out: &mut String,
+    spelling: &S,
+    depth: u64,
+    formula: &Formula,
+) -> Result<(), OutOfMemory>
+    ensures text { OnOk result (string_bytes out.new ≡ string_bytes out.old ++ spelled_formula (S.spelled spelling.now) depth (formula_of formula.now)) }
+    ensures unchanged { OnErr result (string_bytes out.new ≡ string_bytes out.old) }
+{
+    let mut text = String::new(*out.allocator());
+    push_formula(&mut text, spelling, depth, formula)?;
+    out.push_str(&text)?;
+    Ok(())
+}
+
+// A term behind what is there. Where memory is refused a beginning of it may stand there.
+#[cycle(push_term)]
+fn push_term<S: Spelling>(
     out: &mut String,
     spelling: &S,
     depth: u64,
@@ -42,38 +94,38 @@ pub fn write_term<S: Spelling>(
         }
         Term::Add(left, right) => {
             out.push_str("(+ ")?;
-            write_term(out, spelling, depth, left)?;
+            push_term(out, spelling, depth, left)?;
             out.push_str(" ")?;
-            write_term(out, spelling, depth, right)?;
+            push_term(out, spelling, depth, right)?;
             out.push_str(")")?;
         }
         Term::Subtract(left, right) => {
             out.push_str("(- ")?;
-            write_term(out, spelling, depth, left)?;
+            push_term(out, spelling, depth, left)?;
             out.push_str(" ")?;
-            write_term(out, spelling, depth, right)?;
+            push_term(out, spelling, depth, right)?;
             out.push_str(")")?;
         }
         Term::Multiply(factor, term) => {
             write!(out, "(* {factor} ")?;
-            write_term(out, spelling, depth, term)?;
+            push_term(out, spelling, depth, term)?;
             out.push_str(")")?;
         }
         Term::Read(column, index) => {
             out.push_str("(rd ")?;
-            write_column(out, spelling, depth, column)?;
+            push_column(out, spelling, depth, column)?;
             out.push_str(" ")?;
-            write_term(out, spelling, depth, index)?;
+            push_term(out, spelling, depth, index)?;
             out.push_str(")")?;
         }
     }
     Ok(())
 }
 
-/// Writes a column expression behind what is there, round whose place stand so many quantifiers: the words of all its
-/// stores, what is stored to, and what is stored, the innermost first.
-#[cycle(write_term)]
-pub fn write_column<S: Spelling>(
+// A column expression behind what is there, likewise: the words of all its stores, what is stored to, and what is
+// stored, the innermost first.
+#[cycle(push_term)]
+fn push_column<S: Spelling>(
     out: &mut String,
     spelling: &S,
     depth: u64,
@@ -85,19 +137,19 @@ pub fn write_column<S: Spelling>(
     for _ in 0..chain.stores.len() {
         out.push_str("(store ")?;
     }
-    write_base(out, spelling, depth, chain.base)?;
+    push_base(out, spelling, depth, chain.base)?;
     'stores: while let Some(store) = chain.stores.pop() {
         out.push_str(" ")?;
-        write_term(out, spelling, depth, store.index)?;
+        push_term(out, spelling, depth, store.index)?;
         out.push_str(" ")?;
-        write_term(out, spelling, depth, store.value)?;
+        push_term(out, spelling, depth, store.value)?;
         out.push_str(")")?;
     }
     Ok(())
 }
 
 // A column expression that is no store.
-fn write_base<S: Spelling>(
+fn push_base<S: Spelling>(
     out: &mut String,
     spelling: &S,
     depth: u64,
@@ -115,10 +167,9 @@ fn write_base<S: Spelling>(
     Ok(())
 }
 
-/// Writes a formula behind what is there, round which stand so many quantifiers. The variable of a quantifier is
-/// written `b` and the number of quantifiers round it.
-#[cycle(write_formula)]
-pub fn write_formula<S: Spelling>(
+// A formula behind what is there, likewise.
+#[cycle(push_formula)]
+fn push_formula<S: Spelling>(
     out: &mut String,
     spelling: &S,
     depth: u64,
@@ -127,45 +178,45 @@ pub fn write_formula<S: Spelling>(
     ensures { OnOk result (string_bytes out.new ≡ string_bytes out.old ++ spelled_formula (S.spelled spelling.now) depth (formula_of formula.now)) }
 {
     match formula {
-        Formula::Le(left, right) => write_comparison(out, spelling, depth, "(<= ", left, right)?,
-        Formula::Eq(left, right) => write_comparison(out, spelling, depth, "(= ", left, right)?,
+        Formula::Le(left, right) => push_comparison(out, spelling, depth, "(<= ", left, right)?,
+        Formula::Eq(left, right) => push_comparison(out, spelling, depth, "(= ", left, right)?,
         Formula::Not(formula) => {
             out.push_str("(not ")?;
-            write_formula(out, spelling, depth, formula)?;
+            push_formula(out, spelling, depth, formula)?;
             out.push_str(")")?;
         }
         Formula::And(parts) => {
             out.push_str("(and")?;
-            write_parts(out, spelling, depth, parts)?;
+            push_parts(out, spelling, depth, parts)?;
             out.push_str(")")?;
         }
         Formula::Or(parts) => {
             out.push_str("(or")?;
-            write_parts(out, spelling, depth, parts)?;
+            push_parts(out, spelling, depth, parts)?;
             out.push_str(")")?;
         }
         Formula::Implies(left, right) => {
             out.push_str("(=> ")?;
-            write_formula(out, spelling, depth, left)?;
+            push_formula(out, spelling, depth, left)?;
             out.push_str(" ")?;
-            write_formula(out, spelling, depth, right)?;
+            push_formula(out, spelling, depth, right)?;
             out.push_str(")")?;
         }
         Formula::Forall(body) => {
             write!(out, "(forall b{depth} ")?;
-            write_formula(out, spelling, depth.saturating_add(1), body)?;
+            push_formula(out, spelling, depth.saturating_add(1), body)?;
             out.push_str(")")?;
         }
         Formula::Exists(body) => {
             write!(out, "(exists b{depth} ")?;
-            write_formula(out, spelling, depth.saturating_add(1), body)?;
+            push_formula(out, spelling, depth.saturating_add(1), body)?;
             out.push_str(")")?;
         }
     }
     Ok(())
 }
 
-fn write_comparison<S: Spelling>(
+fn push_comparison<S: Spelling>(
     out: &mut String,
     spelling: &S,
     depth: u64,
@@ -177,15 +228,15 @@ fn write_comparison<S: Spelling>(
         (word.now ++ spelled_term (S.spelled spelling.now) depth (term_of left.now) ++ spaced (spelled_term (S.spelled spelling.now) depth (term_of right.now)) ++ codes ")")) }
 {
     out.push_str(word)?;
-    write_term(out, spelling, depth, left)?;
+    push_term(out, spelling, depth, left)?;
     out.push_str(" ")?;
-    write_term(out, spelling, depth, right)?;
+    push_term(out, spelling, depth, right)?;
     out.push_str(")")?;
     Ok(())
 }
 
-#[cycle(write_formula)]
-fn write_parts<S: Spelling>(
+#[cycle(push_formula)]
+fn push_parts<S: Spelling>(
     out: &mut String,
     spelling: &S,
     depth: u64,
@@ -195,7 +246,7 @@ fn write_parts<S: Spelling>(
 {
     for part in parts {
         out.push_str(" ")?;
-        write_formula(out, spelling, depth, part)?;
+        push_formula(out, spelling, depth, part)?;
     }
     Ok(())
 }

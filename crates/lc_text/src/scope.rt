@@ -1,3 +1,4 @@
+//! What names stand for at a place of a file, as a trait.
 ghost use Rattle.std.specs.Prelude.{◌≡◌};
 
 use lc_base::ColId;

@@ -1,3 +1,4 @@
+//! How terms are read.
 ghost use Rattle.std.specs.Prelude.{◌≡◌, []};
 ghost use Rattle.lc_sexp.specs.Shown.{rest_of, number_of, owner_of, text_of, atom_number};
 ghost use Rattle.lc_reading.specs.Parts.{tree_of, place_of};
@@ -11,8 +12,8 @@ use crate::column::read_bound_column;
 use crate::made::{made_access, made_product, made_sum};
 use crate::scope::{Extra, Scope};
 use crate::words::{Operation, operation_of};
-use lc_base::{NAME_LIMIT, is_name};
-use lc_reading::{Part, Pass, ReadFault, Reads, both, ended, headed, two, wrong};
+use lc_base::is_name;
+use lc_reading::{Part, Pass, ReadFault, Reads, both, ended, headed, two, within, wrong};
 use lc_sexp::{Atom, Cursor, Item, Misfit};
 use lc_term::{ColExpr, Term};
 use std::alloc::Global;
@@ -30,28 +31,20 @@ fn bound_index(bound: &[&str], text: &str) -> Option<usize>
 }
 
 /// The variable of a name.
-fn read_variable<S: Scope>(
-    scope: &S,
-    bound: &[&str],
-    number: u64,
-    text: &str,
-) -> Result<Term, ReadFault>
-    ensures { IsReading term_of (variable_reading (S.names scope.now) (names_in bound.now) number text.now) result }
+fn read_variable<S: Scope>(scope: &S, bound: &[&str], name: &Atom<'_>) -> Result<Term, ReadFault>
+    ensures { IsReading term_of (variable_reading (S.names scope.now) (names_in bound.now) (atom_number name.now) (text_of name.now)) result }
 {
-    let term = match bound_index(bound, text) {
+    let term = match bound_index(bound, name.text()) {
         Some(index) => match u32::try_from(index) {
             Ok(index) => Term::Bound(index),
             Err(_) => return Err(ReadFault::OutOfMemory),
         },
-        None => match scope.variable(text) {
+        None => match scope.variable(name.text()) {
             Some(variable) => Term::Variable(variable),
-            None => return Err(wrong(Pass::Unknown, number)),
+            None => return Err(wrong(Pass::Unknown, name.number())),
         },
     };
-    if text.len() > NAME_LIMIT {
-        return Err(wrong(Pass::Bound, number));
-    }
-    Ok(term)
+    within(*name, term)
 }
 
 /// A NUMBER.
@@ -80,7 +73,7 @@ fn read_word<S: Scope>(scope: &S, bound: &[&str], atom: &Atom<'_>) -> Result<Ter
     ensures { IsReading term_of (word_reading (S.names scope.now) (names_in bound.now) (atom_number atom.now) (text_of atom.now)) result }
 {
     if is_name(atom.text().as_bytes()) {
-        read_variable(scope, bound, atom.number(), atom.text())
+        read_variable(scope, bound, atom)
     } else {
         read_numbered(scope, atom)
     }

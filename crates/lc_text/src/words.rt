@@ -1,3 +1,4 @@
+//! The first words of terms, column expressions and formulas.
 ghost use Rattle.std.specs.Prelude.{◌≡◌};
 ghost use Rattle.lc_text.specs.Heads.{operation_of, built_of, built_due, connective_of, is_quantifier, connective_due};
 
@@ -55,7 +56,7 @@ fn built_of(word: &str) -> Option<Built>
     }
 }
 
-/// The same where a column expression is due, if one may be built here.
+/// What this word says where a column expression is due, if one may be built here.
 pub(crate) fn built_due<S: Scope>(scope: &S, word: &str) -> Option<Built>
     ensures { result ≡ built_due (S.names scope.now) word.now }
 {
@@ -88,7 +89,7 @@ fn is_quantifier(connective: Connective) -> bool
     matches!(connective, Connective::Forall | Connective::Exists)
 }
 
-/// The same where a formula is due: a quantifier only where these stand.
+/// What this word says where a formula is due: a quantifier only where these stand.
 pub(crate) fn connective_due<S: Scope>(scope: &S, word: &str) -> Option<Connective>
     ensures { result ≡ connective_due (S.names scope.now) word.now }
 {

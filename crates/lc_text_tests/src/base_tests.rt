@@ -1,3 +1,4 @@
+//! Tests of names, refusals and their lines.
 use lc_base::{Fault, Name, OutOfMemory, Refusal, code, is_name, refusal_line, write_line};
 use std::alloc::Global;
 use std::test::Fail;

@@ -1,3 +1,4 @@
+//! Tests of the table of terms and formulas.
 use lc_base::{ColId, OutOfMemory};
 use lc_table::Terms;
 use lc_term::{ColExpr, Formula, Term};

@@ -124,3 +124,20 @@ fn what_is_shared_is_replaced_once(rt: HostRuntime) -> Result<(), Fail> {
     assert!(rt; is_replaced_once(rt.alloc())?);
     Ok(())
 }
+
+/// A formula is written behind a text: whether it stands there whole, or where memory is refused, nothing of it.
+fn is_whole_or_nothing(alloc: Global) -> Result<bool, OutOfMemory> {
+    let formula = comparisons(alloc)?;
+    let mut text = String::from_str(alloc, "so: ")?;
+    let want = match write_formula(&mut text, &Numbers, 1, &formula) {
+        Ok(()) => "so: (and (forall b1 (<= (rd c0 b1) ?0)) (<= (rd c0 ?1) ?0))",
+        Err(OutOfMemory) => "so: ",
+    };
+    Ok(text.as_str() == want)
+}
+
+/// With any allocation refused: want of memory, or the answer with ample memory.
+#[test]
+fn formula_with_memory_refused(rt: HostRuntime) {
+    assert!(rt; is_whole_or_nothing(rt.alloc()).unwrap_or(true));
+}

@@ -1,1 +1,1 @@
-pub mod Starts
+mod Starts

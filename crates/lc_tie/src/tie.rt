@@ -1,3 +1,4 @@
+//! The type of what ties an object to its specification: the invariant, and what stands in the columns at first.
 ghost use Rattle.std.specs.Prelude.{◌≡◌, map, IfOk};
 ghost use Rattle.lc_term.specs.View.{column_of};
 ghost use Rattle.lc_tie.specs.Tie.{affine_of};

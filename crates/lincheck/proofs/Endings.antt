@@ -45,11 +45,6 @@ leaves_less before written after left piece seen rest text (Err e) leaves cut sa
 leaves_less before written after left piece seen rest text (Ok u) (done, is, first) cut same none appends =
     (done ++ piece, is ∙ ap (λ l. done ++ l) cut ∙ sym (append_assoc done piece rest), Appends-more before written after done piece first (subst (λ p. Appends written after p) same appends))
 
--- where nothing is left, all of it is printed
-pub leaves_none : (before written after : Option (List ℕ)) (left text : List ℕ) → LeavesOf before written left text → left ≡ [] → Keeps written after → Appends before after text
-leaves_none before written after left text (done, is, first) none keeps =
-    subst (λ t. Appends before after t) (sym (is ∙ ap (λ l. done ++ l) none ∙ append-nil done)) (Appends-flushed before written after done first keeps)
-
 -- for want of memory nothing is printed at first, and a beginning later
 pub prints_nothing : (known : Option (List ℕ)) (text : List ℕ) → PrintsText known known text (Err OutOfMemory)
 prints_nothing known text = (text, leaves_all known text)
@@ -58,12 +53,6 @@ pub prints_beginning : (before after : Option (List ℕ)) (left text : List ℕ)
 prints_beginning before after left text leaves = (left, leaves)
 
 -- ---- what a task leaves
-
--- nothing is printed where it fails
-pub leaves_kept : (task : Task) (IsAnswer : List ℕ → ℕ → Type 0) (before : Option (List ℕ)) (failure : Failure) → Leaves task IsAnswer before before (Err failure)
-leaves_kept task IsAnswer before (CannotRead path) = Keeps-same before
-leaves_kept task IsAnswer before CannotWrite = inl (Keeps-same before)
-leaves_kept task IsAnswer before OutOfMemory = inl (Keeps-same before)
 
 -- an answer is printed at once
 pub leaves_printed : (task : Task) (IsAnswer : List ℕ → ℕ → Type 0) (before after : Option (List ℕ)) (text : List ℕ) (said : ℕ) (r : Result ℕ Failure) → IsAnswer text said

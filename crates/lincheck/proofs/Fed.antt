@@ -4,12 +4,12 @@ use Rattle.std.proofs.KnownBytes.{Consumes-nil, Consumes-trans, Consumes-kept}
 use Rattle.std.proofs.lemmas.List.{length-append, length-drop, length-take-le, take-append-le}
 use Rattle.std.proofs.Math.Nat.{min-le_left, min-le_right}
 use Rattle.std.specs.Io.KnownBytes.{Consumes, Keeps}
-use Rattle.lincheck.specs.Reading.{IsFedOn}
+use Rattle.lincheck.specs.Reading.{IsFedOn, most_bytes}
 
 -- as it stood in between: so many bytes of the limit are left, and a sink was fed those that were read
 abbrev pub IsFedSoFar : {S X : Type 0} → (S → X → List ℕ → Type 0) → S → S → Option (List ℕ) → Option (List ℕ) → ℕ → Type 0
 IsFedSoFar WasFed old new before after left =
-    (bytes : List ℕ) × (length bytes + left ≡ 16777217) × Consumes before after bytes × IsFedOn WasFed old new bytes
+    (bytes : List ℕ) × (length bytes + left ≡ most_bytes) × Consumes before after bytes × IsFedOn WasFed old new bytes
 
 -- there is as much room as is left, and as the buffer has, which keeps its length where its front is filled
 pub filled : (front piece : List ℕ) (room left : ℕ) → room ≡ min left 4096 → length piece ≡ 4096 → length front ≡ length (take room piece)
@@ -31,7 +31,7 @@ fed_on (Err x) P e h = absurd (cc)
 
 module _ {S X : Type 0} (WasFed : S → X → List ℕ → Type 0) where
   -- nothing was fed
-  pub fed_none : (sink : S) (known : Option (List ℕ)) → IsFedSoFar WasFed sink sink known known 16777217
+  pub fed_none : (sink : S) (known : Option (List ℕ)) → IsFedSoFar WasFed sink sink known known most_bytes
   fed_none sink known = ([], refl, Consumes-nil known, λ about fed h. subst (WasFed sink about) (sym (append-nil fed)) h)
 
   -- one piece more

@@ -24,7 +24,7 @@ use Rattle.lc_seq.specs.TextView.{specification_of}
 use Rattle.lc_spec_text.specs.Specifications.{first_reading}
 use Rattle.lincheck.specs.CommandLine.{JudgeHistory}
 use Rattle.lincheck.specs.Execution.{IsUnread}
-use Rattle.lincheck.specs.Reading.{within_limit}
+use Rattle.lincheck.specs.Reading.{within_limit, most_bytes}
 use Rattle.lincheck.specs.declared.answer.Answer.{Answer}
 use Rattle.lincheck.specs.declared.answer.Failure.{Failure}
 use Rattle.lincheck.specs.declared.judge.Judgement.{Judgement}
@@ -65,15 +65,15 @@ unread spec bytes (Refused (Order k r)) wrong = absurd wrong
 unread spec bytes OutOfMemory wrong = tt
 
 -- the beginning of a file that is beyond the limit says nothing
-says_nothing : (Holds : Specification → List Event → List Entry → Type 0) (spec : Specification) (n : ℕ) (file : List ℕ) → n ≡ 16777217 → n ≤ length file → SaysSuch Holds spec (take n file) → ⊥
+says_nothing : (Holds : Specification → List Event → List Entry → Type 0) (spec : Specification) (n : ℕ) (file : List ℕ) → n ≡ most_bytes → n ≤ length file → SaysSuch Holds spec (take n file) → ⊥
 says_nothing Holds spec n file e long (history, order, says, holds) = omega (arith, length-take n file, says.text.limit)
 
 -- nor does the file, so item 0 is wrong in both
-wrong_of_long : (spec : Specification) (n : ℕ) (file : List ℕ) (item : ℕ) → n ≡ 16777217 → n ≤ length file → IsWrongItem spec.operations (take n file) item → IsWrongItem spec.operations file item
+wrong_of_long : (spec : Specification) (n : ℕ) (file : List ℕ) (item : ℕ) → n ≡ most_bytes → n ≤ length file → IsWrongItem spec.operations (take n file) item → IsWrongItem spec.operations file item
 wrong_of_long spec n file item e long (inl (is, none)) = inl (is, λ parts has. omega (arith, has.limit))
 wrong_of_long spec n file item e long (inr (parts, has, wrong)) = absurd (omega (arith, length-take n file, has.limit))
 
-of_long : (spec : Specification) (n : ℕ) (file : List ℕ) (judgement : Result Judgement Fault) → n ≡ 16777217 → n ≤ length file → IsJudgement spec (take n file) judgement → IsJudgement spec file judgement
+of_long : (spec : Specification) (n : ℕ) (file : List ℕ) (judgement : Result Judgement Fault) → n ≡ most_bytes → n ≤ length file → IsJudgement spec (take n file) judgement → IsJudgement spec file judgement
 of_long spec n file (Ok Linearizable) e long is = absurd (says_nothing IsLinearization spec n file e long is)
 of_long spec n file (Ok Overflow) e long is = absurd (says_nothing Overflows spec n file e long is)
 of_long spec n file (Err (Refused (HistoryShape item))) e long is = wrong_of_long spec n file item e long is
@@ -93,7 +93,7 @@ of_long spec n file (Err (Refused (Large k m))) e long is = absurd is
 of_long spec n file (Err OutOfMemory) e long is = tt
 
 -- the judgement of what is read of a file is that of the file
-of_whole : (spec : Specification) (n : ℕ) (file : List ℕ) (judgement : Result Judgement Fault) → n ≡ 16777217 → IsJudgement spec (take n file) judgement → IsJudgement spec file judgement
+of_whole : (spec : Specification) (n : ℕ) (file : List ℕ) (judgement : Result Judgement Fault) → n ≡ most_bytes → IsJudgement spec (take n file) judgement → IsJudgement spec file judgement
 of_whole spec n file judgement e is = elim (either (length file) n) [
   | inl h ↦ subst (λ l. IsJudgement spec l judgement) (take_all n file (omega arith)) is
   | inr h ↦ of_long spec n file judgement e h is
@@ -105,7 +105,7 @@ pub history_answered : (spec : Specification) (known : Option (List ℕ)) (bytes
     → IfSome known (λ file. AnswersHistory spec file text status)
 history_answered spec None bytes seen judgement text status read same is told = tt
 history_answered spec (Some file) bytes seen judgement text status read same is told =
-    (judgement, of_whole spec 16777217 file judgement refl (subst (λ b. IsJudgement spec b judgement) (same ∙ read) is), told)
+    (judgement, of_whole spec most_bytes file judgement refl (subst (λ b. IsJudgement spec b judgement) (same ∙ read) is), told)
 
 -- what is told of the history answers both files, where the development is read
 pub read_answered : (known history history' : Option (List ℕ)) (bytes seen : List ℕ) (spec : Specification) (text : List ℕ) (status : ℕ)

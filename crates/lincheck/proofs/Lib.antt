@@ -1,12 +1,12 @@
-pub mod Truncated
-pub mod Verdicts
-pub mod Judgements
-pub mod OneAnswer
-pub mod Taken
-pub mod Words
-pub mod Endings
-pub mod Opened
-pub mod Proving
-pub mod OneHistory
-pub mod OneCheck
-pub mod Fed
+mod Truncated
+mod Verdicts
+mod Judgements
+mod OneAnswer
+mod Taken
+mod Words
+mod Endings
+mod Opened
+mod Proving
+mod OneHistory
+mod OneCheck
+mod Fed

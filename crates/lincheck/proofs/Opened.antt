@@ -20,7 +20,7 @@ use Rattle.lincheck.specs.Answers.{ToldFault}
 use Rattle.lincheck.specs.CommandLine.{CheckCertificate}
 use Rattle.lincheck.specs.Check.{TellsRefusal, AnswersDevelopment, AnswersCertificate, AnswersCheck, TellsVerdict, accepted_line}
 use Rattle.lincheck.specs.Execution.{IsUnread}
-use Rattle.lincheck.specs.Reading.{within_limit}
+use Rattle.lincheck.specs.Reading.{within_limit, most_bytes}
 use Rattle.lincheck.specs.declared.answer.Answer.{Answer}
 use Rattle.lincheck.specs.declared.answer.Failure.{Failure}
 use Rattle.lincheck.proofs.Truncated.{said_of_whole, refusal_of_whole, fault_of_whole, reading_of_whole}
@@ -56,8 +56,8 @@ proven_of_whole : (D : S.Development) (file : List ℕ) → IsProvenBy D (within
 proven_of_whole D file (es, certifies, proves) = (es, said_of_whole (certificate_reading D) file es certifies, proves)
 
 certificate_of_whole : (D : S.Development) (file : List ℕ) (refusal : Refusal) → C.IsFirstRefusal D (within_limit file) refusal → C.IsFirstRefusal D file refusal
-certificate_of_whole D file refusal (inl (offset, is, fault)) = inl (offset, is, fault_of_whole 16777217 file offset refl fault)
-certificate_of_whole D file refusal (inr (ts, flaw, reads, flawed, is)) = inr (ts, flaw, reading_of_whole 16777217 file ts refl reads, flawed, is)
+certificate_of_whole D file refusal (inl (offset, is, fault)) = inl (offset, is, fault_of_whole most_bytes file offset refl fault)
+certificate_of_whole D file refusal (inr (ts, flaw, reads, flawed, is)) = inr (ts, flaw, reading_of_whole most_bytes file ts refl reads, flawed, is)
 
 refusal_of_certificate : (D : S.Development) (file : List ℕ) (refusal : Refusal) → IsCertificateRefusal D (within_limit file) refusal → IsCertificateRefusal D file refusal
 refusal_of_certificate D file refusal (inl first) = inl (certificate_of_whole D file refusal first)
@@ -77,11 +77,6 @@ certificate_answered D (Some file) bytes seen verdict text status read same is t
 
 -- ---- both files
 
-pub check_refused : (known certificate : Option (List ℕ)) (text : List ℕ) (status : ℕ) → IfSome known (λ file. TellsRefusal file text status)
-    → IfSome known (λ file. AnswersCheck file certificate text status)
-check_refused None certificate text status tells = tt
-check_refused (Some file) certificate text status tells = inl tells
-
 pub check_answered : (known certificate certificate' : Option (List ℕ)) (D : S.Development) (result : Result Answer Failure) → IfSome known (λ file. Says file_reading file D) → certificate' ≡ certificate
     → IfOk result (λ answer. IfSome certificate' (λ file. AnswersCertificate D file answer.text.items answer.status))
     → IfOk result (λ answer. IfSome known (λ file. AnswersCheck file certificate answer.text.items answer.status))
@@ -89,12 +84,6 @@ check_answered None certificate certificate' D (Ok answer) says keeps answers = 
 check_answered (Some file) certificate certificate' D (Ok answer) says keeps answers =
     inr (D, says, subst (λ c. IfSome c (λ f. AnswersCertificate D f answer.text.items answer.status)) keeps answers)
 check_answered known certificate certificate' D (Err failure) says keeps answers = tt
-
--- where a file that is needed cannot be opened, there is no answer: a development that is refused says nothing
-pub check_unread : {T E : Type 0} (CannotOpen : List ℕ → Type 0) (bytes_at : List ℕ → Option (List ℕ)) (development certificate : List ℕ) (result : Result T E)
-    → (CannotOpen development → ⊥) → (CannotOpen certificate → IsErr result) → IsUnread CannotOpen bytes_at (CheckCertificate development certificate) → IsErr result
-check_unread CannotOpen bytes_at development certificate result opens none (inl closed) = absurd (opens closed)
-check_unread CannotOpen bytes_at development certificate result opens none (inr (file, D, known, says, closed)) = none closed
 
 pub refused_opens : (CannotOpen : List ℕ → Type 0) (bytes_at : List ℕ → Option (List ℕ)) (development certificate : List ℕ) (text : List ℕ) (status : ℕ)
     → (CannotOpen development → ⊥) → IfSome (bytes_at development) (λ file. TellsRefusal file text status) → IsUnread CannotOpen bytes_at (CheckCertificate development certificate) → ⊥

@@ -5,9 +5,10 @@ use Rattle.lc_sexp.specs.Reads.{ReadsAs, IsFirstFault, text_of, is_wrong_at, is_
 use Rattle.lc_sexp.specs.Text.{uncommented}
 use Rattle.lc_sexp.specs.Trees.{Trees}
 use Rattle.lc_base.specs.declared.refusal.Refusal.{Refusal}
+use Rattle.lc_base.specs.Limits.{file_limit}
 use Rattle.lc_reading.specs.Files.{Says, IsFirstRefusal}
 use Rattle.lc_reading.specs.Readings.{Reading}
-use Rattle.lincheck.specs.Reading.{within_limit}
+use Rattle.lincheck.specs.Reading.{within_limit, most_bytes}
 
 take-take : (k n : ℕ) (l : List ℕ) → k ≤ n → take k (take n l) ≡ take k l
 take-take zero n l h = refl
@@ -56,7 +57,7 @@ length-uncommented c [] = refl
 length-uncommented c (b ∷ s) = length-byte_before (length s) (b == 10) (c || b == 59) b (λ d. uncommented d s) (λ d. length-uncommented d s)
 
 -- the byte behind the limit is wrong
-wrong_byte : (depth : ℕ) (byte : Option ℕ) (b : ℕ) → byte ≡ Some b → is_wrong 16777216 depth byte ≡ true
+wrong_byte : (depth : ℕ) (byte : Option ℕ) (b : ℕ) → byte ≡ Some b → is_wrong file_limit depth byte ≡ true
 wrong_byte depth None b e = cc
 wrong_byte depth (Some x) b e = refl
 
@@ -65,10 +66,10 @@ there [] k h = absurd (omega arith)
 there (x ∷ l) zero h = (x, refl)
 there (x ∷ l) (suc k) h = there l k (omega arith)
 
-wrong_at_limit : (bytes : List ℕ) → 16777216 < length bytes → is_wrong_at (text_of bytes) 16777216 ≡ true
+wrong_at_limit : (bytes : List ℕ) → file_limit < length bytes → is_wrong_at (text_of bytes) file_limit ≡ true
 wrong_at_limit bytes h =
-    let b = there (text_of bytes) 16777216 (omega (arith, length-uncommented false bytes)) in
-    wrong_byte (open_count (take 16777216 (text_of bytes))) (slice_get (text_of bytes) 16777216) b.0 b.1
+    let b = there (text_of bytes) file_limit (omega (arith, length-uncommented false bytes)) in
+    wrong_byte (open_count (take file_limit (text_of bytes))) (slice_get (text_of bytes) file_limit) b.0 b.1
 
 pub either : (j k : ℕ) → (j < k) ⊎ (k ≤ j)
 either j zero = inr (omega arith)
@@ -76,19 +77,19 @@ either zero (suc k) = inl (omega arith)
 either (suc j) (suc k) = elim (either j k) [ inl h ↦ inl (omega arith) | inr h ↦ inr (omega arith) ]
 
 -- the first fault of a longer file stands at the limit at the latest
-within : (bytes : List ℕ) (offset : ℕ) → 16777216 < length bytes → IsFirstFault bytes offset → offset ≤ 16777216
-within bytes offset long fault = elim (either 16777216 offset) [
-  | inl h ↦ absurd (true≢false (sym (wrong_at_limit bytes long) ∙ fault.first 16777216 h))
+within : (bytes : List ℕ) (offset : ℕ) → file_limit < length bytes → IsFirstFault bytes offset → offset ≤ file_limit
+within bytes offset long fault = elim (either file_limit offset) [
+  | inl h ↦ absurd (true≢false (sym (wrong_at_limit bytes long) ∙ fault.first file_limit h))
   | inr h ↦ h
 ]
 
 -- the first fault of the beginning is that of the file
-pub fault_of_whole : (n : ℕ) (bytes : List ℕ) (offset : ℕ) → n ≡ 16777217 → IsFirstFault (take n bytes) offset → IsFirstFault bytes offset
+pub fault_of_whole : (n : ℕ) (bytes : List ℕ) (offset : ℕ) → n ≡ most_bytes → IsFirstFault (take n bytes) offset → IsFirstFault bytes offset
 fault_of_whole n bytes offset e fault = elim (either (length bytes) n) [
   | inl h ↦ subst (λ l. IsFirstFault l offset) (take_all n bytes (omega arith)) fault
   | inr h ↦
-      let long : 16777216 < length (take n bytes) = omega (arith, length-take n bytes) in
-      let low : offset ≤ 16777216 = within (take n bytes) offset long fault in
+      let long : file_limit < length (take n bytes) = omega (arith, length-take n bytes) in
+      let low : offset ≤ file_limit = within (take n bytes) offset long fault in
       record {
         within = omega (arith, length-take n bytes, fault.within);
         wrong = sym (is_wrong_at-take n offset bytes (omega arith)) ∙ fault.wrong;
@@ -97,15 +98,15 @@ fault_of_whole n bytes offset e fault = elim (either (length bytes) n) [
 ]
 
 -- what the beginning reads as is what the file reads as
-pub reading_of_whole : (n : ℕ) (bytes : List ℕ) (trees : Trees) → n ≡ 16777217 → ReadsAs (take n bytes) trees → ReadsAs bytes trees
+pub reading_of_whole : (n : ℕ) (bytes : List ℕ) (trees : Trees) → n ≡ most_bytes → ReadsAs (take n bytes) trees → ReadsAs bytes trees
 reading_of_whole n bytes trees e reads =
     let short : length bytes ≤ n = omega (arith, length-take n bytes, reads.size) in
     subst (λ l. ReadsAs l trees) (take_all n bytes short) reads
 
 -- the file says what its beginning says, and has its first refusal
 pub said_of_whole : {X : Type 0} (read : Trees → Reading X) (file : List ℕ) (x : X) → Says read (within_limit file) x → Says read file x
-said_of_whole read file x (ts, reads, says) = (ts, reading_of_whole 16777217 file ts refl reads, says)
+said_of_whole read file x (ts, reads, says) = (ts, reading_of_whole most_bytes file ts refl reads, says)
 
 pub refusal_of_whole : {X : Type 0} (read : Trees → Reading X) (file : List ℕ) (refusal : Refusal) → IsFirstRefusal read (within_limit file) refusal → IsFirstRefusal read file refusal
-refusal_of_whole read file refusal (inl (offset, is, fault)) = inl (offset, is, fault_of_whole 16777217 file offset refl fault)
-refusal_of_whole read file refusal (inr (ts, flaw, reads, refused, is)) = inr (ts, flaw, reading_of_whole 16777217 file ts refl reads, refused, is)
+refusal_of_whole read file refusal (inl (offset, is, fault)) = inl (offset, is, fault_of_whole most_bytes file offset refl fault)
+refusal_of_whole read file refusal (inr (ts, flaw, reads, refused, is)) = inr (ts, flaw, reading_of_whole most_bytes file ts refl reads, refused, is)

@@ -59,9 +59,9 @@ prove_app = with_rule (with_rule (with_rule (new_app (codes "prove")) (file_rule
 abbrev pub library_app : App
 library_app = with_rule (with_rule (with_rule (new_app (codes "library")) (object_rule (codes "NAME"))) (flag_rule (codes "certificate"))) (flag_rule (codes "hints"))
 
--- a command of this name that needs a subcommand
+-- a command of this name that has a version and needs a subcommand
 abbrev pub needs_subcommand : Text → App
-needs_subcommand name = record { top = record (new_app name).top { subcommand_required = true }; subs = [] }
+needs_subcommand name = record { top = record (new_app name).top { subcommand_required = true; has_version = true }; subs = [] }
 
 -- the program with its first two commands
 abbrev pub first_app : App

@@ -1,3 +1,4 @@
+//! What a command answers: a text and a status, or why there is none.
 ghost use Rattle.std.specs.Prelude.{◌≡◌, IfOk};
 ghost use Rattle.lincheck.specs.Answers.{Told, ToldFault};
 

@@ -1,6 +1,9 @@
 //! The command `check`.
 ghost use Rattle.std.specs.Prelude.{◌≡◌, ℕ, List, IfOk, IfSome, IsErr};
+ghost use Rattle.lc_sexp.specs.Pieces.{WasFed};
+ghost use Rattle.lc_reading.specs.Files.{IsAnswerTo};
 ghost use Rattle.lc_outline.specs.DevelopmentView.{development_shown};
+ghost use Rattle.lc_outline_text.specs.Developments.{file_reading};
 ghost use Rattle.lc_check.specs.VerdictView.{development_in};
 ghost use Rattle.lincheck.specs.CommandLine.{CheckCertificate};
 ghost use Rattle.lincheck.specs.Check.{AnswersCertificate, AnswersCheck, OpensAs, TellsVerdict, accepted_line};
@@ -8,12 +11,21 @@ ghost use Rattle.lincheck.specs.Execution.{IsUnread};
 
 use crate::answer::{Answer, Failure, SUCCESS, told_fault};
 use crate::files::Files;
-use crate::reading::{feed_file, read_file};
+use crate::reading::{feed_file, feed_forms};
 use lc_base::{Fault, OutOfMemory, write_line};
 use lc_check::{Accepted, CertificateSession, Verdict};
 use lc_outline::Development;
-use lc_outline_text::development_of;
+use lc_outline_text::development_in;
+use lc_sexp::FormsReader;
 use std::alloc::Global;
+
+/// The development in the file that a reader was fed; else its first refusal.
+fn development_fed(alloc: Global, reader: FormsReader) -> Result<Development, Fault>
+    ensures { (bytes : List ℕ) → WasFed reader bytes → IsAnswerTo development_shown file_reading bytes result }
+{
+    let forms = reader.finish()?;
+    development_in(alloc, forms)
+}
 
 /// The development in the file at a path; else the answer that tells its first refusal.
 pub fn open_development<'a, F: Files>(
@@ -26,8 +38,8 @@ pub fn open_development<'a, F: Files>(
     ensures unread { F.CannotOpen files.old path.now → IsErr result }
     ensures opens { IfOk result (λ opened. IfSome (F.bytes_at files.old path.now) (λ file. OpensAs file opened)) }
 {
-    let bytes = read_file(alloc, files, path)?;
-    match development_of(alloc, &bytes) {
+    let reader = feed_forms(alloc, files, path)?;
+    match development_fed(alloc, reader) {
         Ok(development) => Ok(Ok(development)),
         Err(fault) => Ok(Err(told_fault(alloc, fault)?)),
     }

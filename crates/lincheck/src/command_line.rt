@@ -50,6 +50,8 @@ pub enum Request<'a> {
     },
 }
 
+static VERSION: &str = "0.1.0";
+
 static ABOUT: &str = "Checks written proofs that concurrent objects are linearizable";
 
 static EXIT_STATUS: &str = "\
@@ -340,6 +342,7 @@ fn first_commands<'a>(alloc: Global) -> Result<Command<'a>, AllocError>
     ensures { IfOk result (λ command. app_of command ≡ first_app) }
 {
     Command::new(alloc, "lincheck")
+        .version(VERSION)
         .about(ABOUT)
         .after_help(EXIT_STATUS)
         .subcommand_required(true)

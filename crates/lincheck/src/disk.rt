@@ -1,3 +1,4 @@
+//! The files of the system.
 use crate::files::Files;
 use std::{fs, io, rt};
 

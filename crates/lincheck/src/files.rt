@@ -1,3 +1,4 @@
+//! Where files are opened, as a trait.
 ghost use Rattle.std.specs.Prelude.{◌≡◌, ℕ, List, Option, Some, None, IfOk, IfSome, IsErr};
 
 use std::io;

@@ -6,7 +6,7 @@ ghost use Rattle.lincheck.specs.Formula.{IsVerdict, AnswersFormula, fault_of};
 
 use crate::answer::{Answer, Failure, told};
 use crate::files::Files;
-use crate::reading::feed_file;
+use crate::reading::feed_forms;
 use lc_base::{Fault, Refusal};
 use lc_kernel::{ProofFault, prove};
 use lc_proof_text::formula_in;
@@ -52,7 +52,7 @@ pub fn check_formula(alloc: Global, bytes: &[u8]) -> Result<(), Fault>
     check_forms(alloc, forms)
 }
 
-/// The same of the file that a reader has been fed.
+/// Whether the proof in the formula file that a reader has been fed derives what the file claims; else the first refusal.
 fn check_fed(alloc: Global, reader: FormsReader) -> Result<(), Fault>
     requires { (bytes : List ℕ) × WasFed reader bytes }
     ensures { (bytes : List ℕ) → WasFed reader bytes → IsVerdict bytes result }
@@ -70,8 +70,7 @@ pub fn answer_formula<'a, F: Files>(
     ensures unread { F.CannotOpen files.old path.now → IsErr result }
     ensures answers { IfOk result (λ answer. IfSome (F.bytes_at files.old path.now) (λ file. AnswersFormula file answer.text.items answer.status)) }
 {
-    let mut reader = FormsReader::new(alloc);
-    feed_file(files, path, &mut reader)?;
+    let reader = feed_forms(alloc, files, path)?;
     let verdict = check_fed(alloc, reader);
     Ok(told(alloc, "proved", verdict)?)
 }

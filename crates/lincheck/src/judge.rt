@@ -1,17 +1,21 @@
 //! The command `judge`.
-ghost use Rattle.std.specs.Prelude.{◌≡◌, IfOk, IfSome, IsErr};
+ghost use Rattle.std.specs.Prelude.{◌≡◌, ℕ, List, IfOk, IfSome, IsErr};
+ghost use Rattle.lc_sexp.specs.Pieces.{WasFed};
+ghost use Rattle.lc_reading.specs.Files.{IsAnswerTo};
 ghost use Rattle.lc_seq.specs.TextView.{specification_of};
+ghost use Rattle.lc_spec_text.specs.Specifications.{first_reading};
 ghost use Rattle.lincheck.specs.CommandLine.{JudgeHistory};
 ghost use Rattle.lincheck.specs.Execution.{IsUnread};
 ghost use Rattle.lincheck.specs.Judge.{AnswersHistory, AnswersJudge, IsJudgement, ToldJudgement, judgement_of};
 
 use crate::answer::{Answer, Failure, REFUSED, told, told_fault};
 use crate::files::Files;
-use crate::reading::read_file;
+use crate::reading::{feed_forms, read_file};
 use lc_base::{Fault, OutOfMemory, Refusal, write_line};
 use lc_hist::{JudgeFault, history_from_json, judge};
 use lc_seq::TextSpec;
-use lc_spec_text::spec_of;
+use lc_sexp::FormsReader;
+use lc_spec_text::spec_in;
 use std::alloc::Global;
 
 /// What is said of an order that is not refused.
@@ -76,6 +80,14 @@ fn answer_history<'a, F: Files>(
     Ok(tell_judgement(alloc, judgement)?)
 }
 
+/// The specification in the file that a reader was fed; else its first refusal.
+fn spec_fed(alloc: Global, reader: FormsReader) -> Result<TextSpec, Fault>
+    ensures { (bytes : List ℕ) → WasFed reader bytes → IsAnswerTo specification_of first_reading bytes result }
+{
+    let forms = reader.finish()?;
+    spec_in(alloc, forms)
+}
+
 /// The answer of the command `judge` to the development and the history at two paths. Where the development is
 /// refused, the history is not opened.
 pub fn answer_judge<'a, F: Files>(
@@ -87,8 +99,8 @@ pub fn answer_judge<'a, F: Files>(
     ensures unread { IsUnread (F.CannotOpen files.old) (F.bytes_at files.old) (JudgeHistory development.now history.now) → IsErr result }
     ensures answers { IfOk result (λ answer. IfSome (F.bytes_at files.old development.now) (λ file. AnswersJudge file (F.bytes_at files.old history.now) answer.text.items answer.status)) }
 {
-    let bytes = read_file(alloc, files, development)?;
-    match spec_of(alloc, &bytes) {
+    let reader = feed_forms(alloc, files, development)?;
+    match spec_fed(alloc, reader) {
         Ok(spec) => answer_history(alloc, files, &spec, history),
         Err(fault) => Ok(told_fault(alloc, fault)?),
     }

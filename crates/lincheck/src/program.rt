@@ -1,3 +1,4 @@
+//! What the program does with its command line.
 ghost use Rattle.std.specs.Prelude.{◌≡◌, ◌⊎◌, ℕ, List, true, IfSome, IsErr};
 ghost use Rattle.clap.specs.Words.{kind_of};
 ghost use Rattle.lincheck.specs.CommandLine.{AreWrong, AskForHelp, AsksForText, HasPlainPaths, Task, task_of, texts_of, words_for};

@@ -1,8 +1,10 @@
 //! The command `prove`.
-ghost use Rattle.std.specs.Prelude.{◌≡◌, ◌∷◌, [], IfOk, IfSome, IsErr};
+ghost use Rattle.std.specs.Prelude.{◌≡◌, ℕ, List, ◌∷◌, [], IfOk, IfSome, IsErr};
+ghost use Rattle.lc_sexp.specs.Pieces.{WasFed};
 ghost use Rattle.lc_base.specs.Line.{line_of};
 ghost use Rattle.lc_term.specs.Lists.{Every};
 ghost use Rattle.lc_cert.specs.Printed.{EntryReadsBack};
+ghost use Rattle.lc_hints.specs.Files.{IsAnswerTo};
 ghost use Rattle.lc_hints.specs.HintView.{proofs_in};
 ghost use Rattle.lc_outline.specs.DevelopmentView.{development_shown};
 ghost use Rattle.lincheck.specs.CommandLine.{ProveWithHints, path_in, proving};
@@ -12,12 +14,13 @@ ghost use Rattle.lincheck.specs.Prove.{AnswersFound, AnswersHinted, AnswersHints
 use crate::answer::{Answer, Failure, REFUSED, SUCCESS, told_fault};
 use crate::check::open_development;
 use crate::files::Files;
-use crate::reading::read_file;
-use lc_base::{OutOfMemory, write_line};
+use crate::reading::feed_forms;
+use lc_base::{Fault, OutOfMemory, write_line};
 use lc_cert::{Certificate, certificate_text};
 use lc_find::{FindFault, Progress, find_with};
-use lc_hints::{Hints, hints_of};
+use lc_hints::{Hints, hints_in};
 use lc_outline::Development;
+use lc_sexp::FormsReader;
 use std::alloc::Global;
 
 /// How many steps are tried for a condition.
@@ -67,6 +70,16 @@ fn answer_found<P: Progress>(
     told_found(alloc, development, found)
 }
 
+/// The hints for a development in the file that a reader was fed; else their first refusal.
+fn hints_fed(alloc: Global, development: &Development, reader: FormsReader) -> Result<Hints, Fault>
+    requires { (bytes : List ℕ) × WasFed reader bytes }
+    ensures answer { (bytes : List ℕ) → WasFed reader bytes → IsAnswerTo (development_shown development.now) bytes result }
+    ensures back { IfOk result (λ hints. Every (EntryReadsBack (development_shown development.now)) (proofs_in hints)) }
+{
+    let forms = reader.finish()?;
+    hints_in(alloc, development, forms)
+}
+
 /// The hints for a development in the file at a path; else the answer that tells its first refusal.
 fn open_hints<'a, F: Files>(
     alloc: Global,
@@ -78,8 +91,8 @@ fn open_hints<'a, F: Files>(
     ensures opens { IfOk result (λ opened. IfSome (F.bytes_at files.old path.now) (λ file. OpensHints (development_shown development.now) file opened)) }
     ensures back { IfOk result (λ opened. IfOk opened (λ hints. Every (EntryReadsBack (development_shown development.now)) (proofs_in hints))) }
 {
-    let bytes = read_file(alloc, files, path)?;
-    match hints_of(alloc, development, &bytes) {
+    let reader = feed_forms(alloc, files, path)?;
+    match hints_fed(alloc, development, reader) {
         Ok(hints) => Ok(Ok(hints)),
         Err(fault) => Ok(Err(told_fault(alloc, fault)?)),
     }

@@ -1,14 +1,18 @@
+//! How files are read: in pieces, and no further than their limit.
 ghost use Rattle.std.specs.Prelude.{◌≡◌, ℕ, List, OnOk, IfOk, IfSome, IsErr};
+ghost use Rattle.lc_sexp.specs.Pieces.{WasFed};
 ghost use Rattle.lincheck.specs.Reading.{ReadsToLimit, IsFedOn, within_limit};
 
 use crate::answer::Failure;
 use crate::files::Files;
 use crate::sink::Sink;
+use lc_base::FILE_LIMIT;
+use lc_sexp::FormsReader;
 use std::alloc::Global;
 use std::io::{ErrorKind, Read};
 
 /// The most bytes that are read of a file: one more than a file may have, so that a file that is too long is seen to be.
-pub const MOST_BYTES: usize = 16_777_217;
+pub const MOST_BYTES: usize = FILE_LIMIT as usize + 1;
 
 /// The most reads of a file.
 pub const MOST_READS: u64 = 33_554_432;
@@ -22,7 +26,7 @@ pub enum ReadFault {
     OutOfMemory,
 }
 
-/// Feeds the bytes of a file, or its first 16,777,217 bytes where it has more, in pieces.
+/// Feeds the bytes of a file, or its first `MOST_BYTES` bytes where it has more, in pieces.
 ///
 /// A read that answers `Interrupted` is tried again. Any other fault, and 33,554,432 reads that did not come to the
 /// end, are `Unreadable`.
@@ -54,7 +58,7 @@ pub fn feed_to_limit<R: Read, S: Sink>(reader: &mut R, sink: &mut S) -> Result<(
     Err(ReadFault::Unreadable)
 }
 
-/// Feeds the bytes of the file at a path, or its first 16,777,217 bytes where it has more, in pieces.
+/// Feeds the bytes of the file at a path, or its first `MOST_BYTES` bytes where it has more, in pieces.
 pub fn feed_file<'a, F: Files, S: Sink>(
     files: &mut F,
     path: &'a str,
@@ -75,7 +79,23 @@ pub fn feed_file<'a, F: Files, S: Sink>(
     }
 }
 
-/// The bytes of the file at a path, or its first 16,777,217 bytes where it has more. Room grows with what is read.
+/// A reader that was fed the file at a path, or its first `MOST_BYTES` bytes where it has more. The bytes are not held.
+pub fn feed_forms<'a, F: Files>(
+    alloc: Global,
+    files: &mut F,
+    path: &'a str,
+) -> Result<FormsReader, Failure<'a>>
+    ensures keeps { (other : List ℕ) → F.bytes_at files.new other ≡ F.bytes_at files.old other }
+    ensures closed { (other : List ℕ) → F.CannotOpen files.old other → F.CannotOpen files.new other }
+    ensures unread { F.CannotOpen files.old path.now → IsErr result }
+    ensures fed { IfOk result (λ reader. (bytes : List ℕ) × WasFed reader bytes × IfSome (F.bytes_at files.old path.now) (λ file. bytes ≡ within_limit file)) }
+{
+    let mut reader = FormsReader::new(alloc);
+    feed_file(files, path, &mut reader)?;
+    Ok(reader)
+}
+
+/// The bytes of the file at a path, or its first `MOST_BYTES` bytes where it has more. Room grows with what is read.
 pub fn read_file<'a, F: Files>(
     alloc: Global,
     files: &mut F,

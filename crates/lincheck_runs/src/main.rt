@@ -14,13 +14,14 @@
 ghost use Rattle.std.specs.Prelude.{◌≤◌};
 
 use anyhow::Context;
+use lc_base::FILE_LIMIT;
 use lc_check::{Session, Verdict};
 use lincheck::{Disk, execute};
 use std::alloc::{AllocError, Global};
 use std::{fs, str};
 
 /// More bytes than a file has.
-const WHOLE: usize = 16_777_217;
+const WHOLE: usize = FILE_LIMIT as usize + 1;
 
 fn words_of(alloc: Global, line: &str) -> Result<Vec<String>, AllocError> {
     let mut words = Vec::new(alloc);

@@ -1,3 +1,4 @@
+//! Tests of the program on files at their limits, and where memory or a stream is refused.
 use crate::memory::{End, Ended, Everywhere, File, Folder, Full, run, words_of};
 use lincheck::execute;
 use std::alloc::{AllocError, Global};

@@ -1,9 +1,12 @@
 //! Trees entered in a table.
+ghost use Rattle.std.specs.Prelude.{◌≡◌, false};
+ghost use Rattle.lc_term.specs.Chains.{is_store};
+ghost use Rattle.lc_term.specs.View.{column_of};
 
 use super::Nodes;
 use lc_farkas::Stop;
 use lc_table::{ColExprId, FormulaId, TermId};
-use lc_term::{ColExpr, Formula, Term};
+use lc_term::{ColExpr, Formula, Term, chain_of};
 
 impl Nodes {
     /// The number of a term.
@@ -38,15 +41,24 @@ impl Nodes {
     /// The number of a column expression.
     #[cycle(enter_term)]
     pub fn enter_column(&mut self, column: &ColExpr) -> Result<ColExprId, Stop> {
-        match column {
+        let mut chain = chain_of(self.alloc, column)?;
+        let mut entered = self.enter_base(chain.base)?;
+        'stores: while let Some(store) = chain.stores.pop() {
+            let index = self.enter_term(store.index)?;
+            let value = self.enter_term(store.value)?;
+            entered = self.store(entered, index, value)?;
+        }
+        Ok(entered)
+    }
+
+    /// The number of a column expression that is no store.
+    fn enter_base(&mut self, base: &ColExpr) -> Result<ColExprId, Stop>
+        requires { is_store (column_of base.now) ≡ false }
+    {
+        match base {
             ColExpr::Base(column) => self.base(*column),
-            ColExpr::Store(column, index, value) => {
-                let column = self.enter_column(column)?;
-                let index = self.enter_term(index)?;
-                let value = self.enter_term(value)?;
-                self.store(column, index, value)
-            }
             ColExpr::Affine(slope, start) => self.affine(*slope, *start),
+            ColExpr::Store(..) => unreachable!(),
         }
     }
 

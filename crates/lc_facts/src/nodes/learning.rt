@@ -3,7 +3,7 @@
 use super::{Learnt, NESTING, Nodes};
 use indexmap::IndexSet;
 use lc_farkas::Stop;
-use lc_table::{FormulaId, FormulaNode, TermId, TermNode};
+use lc_table::{ColExprId, FormulaId, FormulaNode, TermId, TermNode};
 
 impl Nodes {
     /// Nothing learnt yet.
@@ -32,7 +32,7 @@ impl Nodes {
             return Ok(());
         }
         let mut learnt = self.nothing_learnt();
-        self.gather_part(term.0, &mut learnt, NESTING)?;
+        self.gather_term(term, &mut learnt, NESTING)?;
         let form = self.form_of(term)?;
         self.forms.insert(term, form)?;
         self.learnt_terms.insert(term, learnt)?;
@@ -84,40 +84,48 @@ impl Nodes {
         self.reads(formula).get(place).copied()
     }
 
-    /// Notes what stands in a term or a column expression.
-    fn gather_part(&self, part: u32, learnt: &mut Learnt, fuel: u32) -> Result<(), Stop> {
+    /// Notes what stands in a term.
+    #[cycle(gather_term)]
+    fn gather_term(&self, term: TermId, learnt: &mut Learnt, fuel: u32) -> Result<(), Stop> {
         if fuel == 0 {
             return Err(Stop::Spent);
         }
-        if learnt.reads.contains(&TermId(part)) {
+        if learnt.reads.contains(&term) {
             return Ok(());
         }
-        let Some(node) = self.part(part) else {
-            return Ok(());
-        };
-        match node {
-            TermNode::Number(_) | TermNode::Bound(_) | TermNode::Base(_) | TermNode::Affine(_, _) =>
-                Ok(()),
-            TermNode::Variable(number) => {
+        match self.term_node(term) {
+            Some(TermNode::Variable(number)) => {
                 learnt.variables.insert(number)?;
                 Ok(())
             }
-            TermNode::Add(left, right) | TermNode::Subtract(left, right) => {
-                self.gather_part(left.0, learnt, fuel - 1)?;
-                self.gather_part(right.0, learnt, fuel - 1)
+            Some(TermNode::Add(left, right)) | Some(TermNode::Subtract(left, right)) => {
+                self.gather_term(left, learnt, fuel - 1)?;
+                self.gather_term(right, learnt, fuel - 1)
             }
-            TermNode::Multiply(_, term) => self.gather_part(term.0, learnt, fuel - 1),
-            TermNode::Read(column, index) => {
-                self.gather_part(column.0, learnt, fuel - 1)?;
-                self.gather_part(index.0, learnt, fuel - 1)?;
-                self.note_read(TermId(part), learnt)
+            Some(TermNode::Multiply(_, term)) => self.gather_term(term, learnt, fuel - 1),
+            Some(TermNode::Read(column, index)) => {
+                self.gather_column(column, learnt, fuel - 1)?;
+                self.gather_term(index, learnt, fuel - 1)?;
+                self.note_read(term, learnt)
             }
-            TermNode::Store(column, index, value) => {
-                self.gather_part(column.0, learnt, fuel - 1)?;
-                self.gather_part(index.0, learnt, fuel - 1)?;
-                self.gather_part(value.0, learnt, fuel - 1)
-            }
+            Some(TermNode::Number(_))
+            | Some(TermNode::Bound(_))
+            | Some(TermNode::Base(_))
+            | Some(TermNode::Store(_, _, _))
+            | Some(TermNode::Affine(_, _))
+            | None => Ok(()),
         }
+    }
+
+    /// Notes what stands in a column expression: in its stores, the innermost first.
+    #[cycle(gather_term)]
+    fn gather_column(&self, column: ColExprId, learnt: &mut Learnt, fuel: u32) -> Result<(), Stop> {
+        let mut chain = self.chain(column)?;
+        'stores: while let Some(store) = chain.stores.pop() {
+            self.gather_term(store.index, learnt, fuel)?;
+            self.gather_term(store.value, learnt, fuel)?;
+        }
+        Ok(())
     }
 
     /// Notes a read if it is closed.
@@ -133,7 +141,7 @@ impl Nodes {
         if self.term_loose(side) == 0 {
             learnt.compared.insert(side)?;
         }
-        self.gather_part(side.0, learnt, NESTING)
+        self.gather_term(side, learnt, NESTING)
     }
 
     /// Notes what stands in a formula.

@@ -12,7 +12,7 @@ struct Opening {
 }
 
 impl Opening {
-    /// The same below one quantifier more.
+    /// What is put in below one quantifier more.
     fn deeper(self) -> Opening {
         Opening {
             term: self.term,
@@ -62,8 +62,8 @@ impl Nodes {
         is_equation: bool,
         opening: Opening,
     ) -> Result<FormulaId, Stop> {
-        let left = TermId(self.open_part(left.0, opening, NESTING)?);
-        let right = TermId(self.open_part(right.0, opening, NESTING)?);
+        let left = self.open_term(left, opening, NESTING)?;
+        let right = self.open_term(right, opening, NESTING)?;
         if is_equation {
             self.eq(left, right)
         } else {
@@ -133,54 +133,66 @@ impl Nodes {
         Ok(opened)
     }
 
-    /// A term or a column expression with the term put in.
-    fn open_part(&mut self, part: u32, opening: Opening, fuel: u32) -> Result<u32, Stop> {
+    /// A term with the term put in.
+    #[cycle(open_term)]
+    fn open_term(&mut self, term: TermId, opening: Opening, fuel: u32) -> Result<TermId, Stop> {
         if fuel == 0 {
             return Err(Stop::Spent);
         }
-        if self.part_shape(part).loose <= opening.depth {
-            return Ok(part);
+        if self.term_loose(term) <= opening.depth {
+            return Ok(term);
         }
-        let Some(node) = self.part(part) else {
-            return Ok(part);
-        };
-        match node {
-            TermNode::Number(_)
-            | TermNode::Variable(_)
-            | TermNode::Base(_)
-            | TermNode::Affine(_, _) => Ok(part),
-            TermNode::Bound(number) => {
+        match self.term_node(term) {
+            Some(TermNode::Bound(number)) => {
                 if number <= opening.depth {
-                    Ok(opening.term.0)
+                    Ok(opening.term)
                 } else {
-                    self.enter_part(TermNode::Bound(number.saturating_sub(1)))
+                    self.bound(number.saturating_sub(1))
                 }
             }
-            TermNode::Add(left, right) => {
-                let left = self.open_part(left.0, opening, fuel - 1)?;
-                let right = self.open_part(right.0, opening, fuel - 1)?;
-                self.enter_part(TermNode::Add(TermId(left), TermId(right)))
+            Some(TermNode::Add(left, right)) => {
+                let left = self.open_term(left, opening, fuel - 1)?;
+                let right = self.open_term(right, opening, fuel - 1)?;
+                self.add(left, right)
             }
-            TermNode::Subtract(left, right) => {
-                let left = self.open_part(left.0, opening, fuel - 1)?;
-                let right = self.open_part(right.0, opening, fuel - 1)?;
-                self.enter_part(TermNode::Subtract(TermId(left), TermId(right)))
+            Some(TermNode::Subtract(left, right)) => {
+                let left = self.open_term(left, opening, fuel - 1)?;
+                let right = self.open_term(right, opening, fuel - 1)?;
+                self.subtract(left, right)
             }
-            TermNode::Multiply(factor, term) => {
-                let term = self.open_part(term.0, opening, fuel - 1)?;
-                self.enter_part(TermNode::Multiply(factor, TermId(term)))
+            Some(TermNode::Multiply(factor, term)) => {
+                let term = self.open_term(term, opening, fuel - 1)?;
+                self.multiply(factor, term)
             }
-            TermNode::Read(column, index) => {
-                let column = self.open_part(column.0, opening, fuel - 1)?;
-                let index = self.open_part(index.0, opening, fuel - 1)?;
-                self.enter_part(TermNode::Read(ColExprId(column), TermId(index)))
+            Some(TermNode::Read(column, index)) => {
+                let column = self.open_column(column, opening, fuel - 1)?;
+                let index = self.open_term(index, opening, fuel - 1)?;
+                self.read(column, index)
             }
-            TermNode::Store(column, index, value) => {
-                let column = self.open_part(column.0, opening, fuel - 1)?;
-                let index = self.open_part(index.0, opening, fuel - 1)?;
-                let value = self.open_part(value.0, opening, fuel - 1)?;
-                self.enter_part(TermNode::Store(ColExprId(column), TermId(index), TermId(value)))
-            }
+            Some(TermNode::Number(_))
+            | Some(TermNode::Variable(_))
+            | Some(TermNode::Base(_))
+            | Some(TermNode::Store(_, _, _))
+            | Some(TermNode::Affine(_, _))
+            | None => Ok(term),
         }
+    }
+
+    /// A column expression with the term put in. Below its last store in which the variable stands it stays as it is.
+    #[cycle(open_term)]
+    fn open_column(
+        &mut self,
+        column: ColExprId,
+        opening: Opening,
+        fuel: u32,
+    ) -> Result<ColExprId, Stop> {
+        let mut chain = self.loose_chain(column, opening.depth)?;
+        let mut opened = chain.base;
+        'stores: while let Some(store) = chain.stores.pop() {
+            let index = self.open_term(store.index, opening, fuel)?;
+            let value = self.open_term(store.value, opening, fuel)?;
+            opened = self.store(opened, index, value)?;
+        }
+        Ok(opened)
     }
 }

@@ -4,7 +4,7 @@ use super::{NESTING, Nodes};
 use lc_base::ColId;
 use lc_farkas::Stop;
 use lc_table::{ColExprId, FormulaId, FormulaNode, TermId, TermNode};
-use lc_term::{ColExpr, Formula, Term};
+use lc_term::{ColExpr, Formula, Term, with_store};
 
 /// The name of a variable, which is its own number where it has no other.
 fn name_of(names: &[u32], variable: u32) -> u32 {
@@ -72,20 +72,22 @@ impl Nodes {
 
     #[cycle(trees)]
     fn column_within(&self, names: &[u32], column: ColExprId, fuel: u32) -> Result<ColExpr, Stop> {
-        if fuel == 0 {
-            return Err(Stop::Spent);
+        let mut chain = self.chain(column)?;
+        let mut tree = self.base_tree(chain.base);
+        'stores: while let Some(store) = chain.stores.pop() {
+            let index = self.term_within(names, store.index, fuel)?;
+            let value = self.term_within(names, store.value, fuel)?;
+            tree = with_store(self.alloc, tree, index, value)?;
         }
-        match self.column_node(column) {
-            Some(TermNode::Base(column)) => Ok(ColExpr::Base(column)),
-            Some(TermNode::Affine(slope, start)) => Ok(ColExpr::Affine(slope, start)),
-            Some(TermNode::Store(column, index, value)) => {
-                let column = self.column_within(names, column, fuel - 1)?;
-                let column = Box::new(self.alloc, column)?;
-                let index = self.boxed_term(names, index, fuel - 1)?;
-                let value = self.boxed_term(names, value, fuel - 1)?;
-                Ok(ColExpr::Store(column, index, value))
-            }
-            _ => Ok(ColExpr::Base(ColId(0))),
+        Ok(tree)
+    }
+
+    /// The tree of a column expression that is no store.
+    fn base_tree(&self, base: ColExprId) -> ColExpr {
+        match self.column_node(base) {
+            Some(TermNode::Base(column)) => ColExpr::Base(column),
+            Some(TermNode::Affine(slope, start)) => ColExpr::Affine(slope, start),
+            _ => ColExpr::Base(ColId(0)),
         }
     }
 

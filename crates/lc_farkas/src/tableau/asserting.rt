@@ -125,7 +125,7 @@ impl Tableau {
         self.assert_sum(&summands, form.constant(), fact, is_equation)
     }
 
-    /// The same of a sum of atoms, each of which stands in it once and not 0 times, and a constant.
+    /// Asserts a bound of a sum of atoms, each of which stands in it once and not 0 times, and a constant.
     pub fn assert_sum(
         &mut self,
         summands: &[(TermId, i128)],

@@ -18,7 +18,7 @@ use Rattle.lc_cond.proofs.entries.push_entered.Goals as goal
 
 pub push_both_told-requires-clause-columns : goal.push_both_told-requires-clause-columns
 push_both_told-requires-clause-columns c =
-    are_columns_later c.args.terms.now c.entry_goals.new.terms c.args.columns.now c.requires (kept_on c.args.terms.now c.entered_variables.new.terms c.entry_goals.new.terms c.in_ok-variables.ensures.kept c.in_ok-invariant.ensures.kept)
+    are_columns_later c.args.terms.now c.entry_goals.new.terms c.args.columns.now c.requires.columns (kept_on c.args.terms.now c.entered_variables.new.terms c.entry_goals.new.terms c.in_ok-variables.ensures.kept c.in_ok-invariant.ensures.kept)
 
 pub push_both_told-requires-clause-variables : goal.push_both_told-requires-clause-variables
 push_both_told-requires-clause-variables c =
@@ -43,8 +43,8 @@ returns-clause-list c =
     on_ok_weaker c.push_both_told.result
     (λ list hs has σ columns. subst (Adds c.args.conditions.now.items c.push_both_told.new.terms c.push_both_told.new.conditions.items)
     (ap₂ (λ h k. conditions_of h hs (map (told σ (S.entry_variables o)) (invariant_of d)) ++ conditions_of k hs (map (told σ (S.entry_variables o)) (asserts_at d o.entry)))
-    (ap head_of c.at_entry.ensures ∙ entry_head K.Entry c.args.body.now c.in_ok-count.count c.in_ok-count.ensures)
-    (ap head_of c.at_entry-2.ensures ∙ entry_head K.First c.args.body.now c.in_ok-count.count c.in_ok-count.ensures))
+    (ap head_of c.at_entry.ensures ∙ entry_head K.Entry c.args.body.now c.entry_count-count.result c.entry_count-count.ensures)
+    (ap head_of c.at_entry-2.ensures ∙ entry_head K.First c.args.body.now c.entry_count-count.result c.entry_count-count.ensures))
     (list σ (S.entry_variables o) hs (invariant_of d) (asserts_at d o.entry) (columns_later t0 t2 c.args.columns.now σ columns kept) variables
     (formulas_later t0 t2 c.args.known.now hs has kept)
     (formulas_listed t2 c.in_ok-invariant.invariant.items c.deref-2.result.now _ c.in_ok-invariant.ensures.invariant c.deref-2.ensures.value)

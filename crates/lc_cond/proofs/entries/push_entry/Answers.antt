@@ -20,7 +20,10 @@ push_entered-requires c =
     let t2 = c.known_idle.new.terms in
     let t3 = c.in_range.new.terms in
     let kept13 = kept_on t1 t2 t3 c.in_ok-idle.ensures.kept c.in_ok-known.ensures.kept in
-    (columns_listed t3 c.in_ok-columns.columns.items c.deref-2.result.now _ (columns_later t1 t3 c.in_ok-columns.columns.items _ c.in_ok-columns.ensures.list kept13) c.deref-2.ensures.value).are
+    record {
+      limits = c.requires;
+      columns = (columns_listed t3 c.in_ok-columns.columns.items c.deref-2.result.now _ (columns_later t1 t3 c.in_ok-columns.columns.items _ c.in_ok-columns.ensures.list kept13) c.deref-2.ensures.value).are;
+    }
 
 pub returns-clause-list : goal.returns-clause-list
 returns-clause-list c =
@@ -30,12 +33,12 @@ returns-clause-list c =
     let t1 = c.entered_columns.new.terms in
     let t2 = c.known_idle.new.terms in
     let t3 = c.in_range.new.terms in
-    let system = c.in_ok-system.ensures in
-    let idle = idle_frame (first_of c.in_ok-system.system) ++ (invariant_of d ++ d.idle) in
+    let system = c.system_columns-system.ensures in
+    let idle = idle_frame (first_of c.system_columns-system.result) ++ (invariant_of d ++ d.idle) in
     let known = c.in_ok-known.ensures.list idle (formulas_listed t2 c.in_ok-idle.idle.items c.deref.result.now idle c.in_ok-idle.ensures.list c.deref.ensures.value) in
     let listed = formulas_listed t3 c.in_ok-known.known.items c.deref-3.result.now (range (Variable 1) ++ idle) known c.deref-3.ensures.value in
     let kept13 = kept_on t1 t2 t3 c.in_ok-idle.ensures.kept c.in_ok-known.ensures.kept in
-    let σ : ℕ → Column = after Base (enter_variables o c.argument_count.result) (enter (first_of c.in_ok-system.system)).updates in
+    let σ : ℕ → Column = after Base (enter_variables o c.argument_count.result) (enter (first_of c.system_columns-system.result)).updates in
     let columns = columns_listed t3 c.in_ok-columns.columns.items c.deref-2.result.now _ (columns_later t1 t3 c.in_ok-columns.columns.items _ c.in_ok-columns.ensures.list kept13) c.deref-2.ensures.value in
     let stored : σ ≡ entered (first_system d) o body = ap₂ (λ n first. after Base (enter_variables o n) (enter first).updates) c.argument_count.ensures system in
     on_ok_weaker c.push_entered.result

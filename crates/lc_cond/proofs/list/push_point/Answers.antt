@@ -7,8 +7,13 @@ use Rattle.lc_outline.specs.Development.{first_system, asserts_at}
 use Rattle.lc_outline.specs.DevelopmentView.{development_shown}
 use Rattle.lc_cond.specs.Adding.{Adds}
 use Rattle.lc_cond.specs.Conditions.{stable_conditions, body_frame}
+use Rattle.lc_cond.proofs.Few.{operation_limited}
 use Rattle.lc_cond.proofs.Ridden.{in_operation_said}
 use Rattle.lc_cond.proofs.list.push_point.Goals as goal
+
+pub push_stay-requires : goal.push_stay-requires
+push_stay-requires c =
+    operation_limited (development_shown c.args.development.now) c.args.development.now.resolved c.args.point.now.operation.0 (operation_of c.in-Some.body.now) (sym c.in-Some.ensures)
 
 pub returns-clause-list : goal.returns-clause-list
 returns-clause-list c =

@@ -23,7 +23,7 @@ loop-number-preserved c =
       kept_on c.args.terms.now t1 t2 c.loop-number.invariant.0 kept,
       subst (Adds c.args.conditions.now.items t2 c.push_point.new.conditions.items) (sym (places_more (point_stability D) point_of c.points_of-point-items.result.now c.loop-number.number x c.loop-number-test.true c.point-item.is))
           (adds_on c.args.conditions.now.items c.loop-number.conditions.items c.push_point.new.conditions.items t1 t2 _ _ c.loop-number.invariant.1 kept
-          (subst (λ n. Adds c.loop-number.conditions.items t2 c.push_point.new.conditions.items (point_stability D n (point_of x))) c.in_ok-place.ensures c.in_ok-push_point.ensures.list)),
+          c.in_ok-push_point.ensures.list),
     )
 
 pub returns-clause-list : goal.returns-clause-list

@@ -21,10 +21,10 @@ loop-number-preserved c =
     let t2 = c.push_column.new.terms in
     let kept01 = c.loop-number.invariant.0 in
     let kept = c.in_ok-push_column.ensures.kept in
-    let k = c.in_ok-place.place in (
+    let k = c.loop-number.number in (
       kept_on t0 t1 t2 kept01 kept,
-      λ hs has σ columns π action. columns_step (λ k goal. condition_made c.args.head (OfColumn k) hs goal) σ π c.loop-number.number k _ _
-          c.args.conditions.now.items c.loop-number.conditions.items c.push_column.new.conditions.items t1 t2 c.in_ok-place.ensures refl refl
+      λ hs has σ columns π action. columns_step (λ k goal. condition_made c.args.head (OfColumn k) hs goal) σ π k k _ _
+          c.args.conditions.now.items c.loop-number.conditions.items c.push_column.new.conditions.items t1 t2 refl refl refl
           (c.loop-number.invariant.1 hs has σ columns π action) kept
           (c.in_ok-push_column.ensures.list hs (formulas_later t0 t1 c.args.known.now hs has kept01) σ (columns_later t0 t1 c.args.columns.now σ columns kept01) π (columns_later t0 t1 c.args.action.now π action kept01)),
     )

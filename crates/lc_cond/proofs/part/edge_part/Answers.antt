@@ -1,9 +1,8 @@
-use Rattle.std.proofs.Common.{◌≡◌, IfOk, [], ◌∷◌, ◌++◌, option_map, sym, subst}
+use Rattle.std.proofs.Common.{[], ◌∷◌, ◌++◌, sym, ◌∙◌}
 use Rattle.lc_term.specs.Lists.{numbered}
 use Rattle.lc_object.specs.EdgeView.{edge_of}
 use Rattle.lc_outline.specs.DevelopmentView.{development_shown}
 use Rattle.lc_cond.specs.Conditions as S
-use Rattle.lc_cond.specs.PartView.{part_of}
 use Rattle.lc_cond.proofs.Parted.{mapped_at, mapped_behind}
 use Rattle.lc_cond.proofs.part.edge_part.Goals as goal
 
@@ -15,4 +14,4 @@ returns-then-place-edges c =
 pub returns : goal.returns
 returns c =
     let rest = numbered S.Stay 0 (development_shown c.args.development.now).object.points ++ S.StayIdle ∷ [] in
-    subst (λ o. IfOk c.point_part.result (λ part. option_map part_of part ≡ o)) (sym (mapped_behind edge_of S.Pass c.args.edges.now rest c.args.place c.if-place-edges.false)) c.point_part.ensures
+    c.point_part.ensures ∙ sym (mapped_behind edge_of S.Pass c.args.edges.now rest c.args.place c.if-place-edges.false)

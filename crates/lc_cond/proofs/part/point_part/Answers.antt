@@ -11,7 +11,7 @@ returns-then-place-points c =
     let xs = c.points_of-points.result.now in
     let x = c.index-points-place.result in
     let first : k ≡ 0 + k = omega arith in
-    ap (λ n. Some (S.Stay n (point_of x))) (c.in_ok-count_of.ensures ∙ first)
+    ap (λ n. Some (S.Stay n (point_of x))) first
     ∙ sym (numbered_at point_of S.Stay 0 xs (S.StayIdle ∷ []) k x c.if-place-points.true c.index-points-place.is)
     ∙ ap (λ l. slice_get (numbered S.Stay 0 l ++ S.StayIdle ∷ []) k) c.points_of-points.ensures
 

@@ -2,8 +2,11 @@ use Rattle.std.proofs.Common.{OnOk, sym, subst}
 use Rattle.lc_outline.specs.DevelopmentView.{development_shown}
 use Rattle.lc_cond.specs.Adding.{Adds}
 use Rattle.lc_cond.specs.Conditions.{conditions_in}
-use Rattle.lc_cond.specs.PartView.{part_of}
+use Rattle.lc_cond.specs.PartView.{part_of, HasLimits}
 use Rattle.lc_cond.proofs.part.push_part.Goals as goal
+
+pub push_entry-requires : goal.push_entry-requires
+push_entry-requires c = subst HasLimits c.in-Begin.is c.requires
 
 pub returns-in-Begin-clause-list : goal.returns-in-Begin-clause-list
 returns-in-Begin-clause-list c =

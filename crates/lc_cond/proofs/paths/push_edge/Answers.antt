@@ -6,8 +6,13 @@ use Rattle.lc_object.specs.View.{operation_of}
 use Rattle.lc_outline.specs.DevelopmentView.{development_shown}
 use Rattle.lc_cond.specs.Adding.{Adds}
 use Rattle.lc_cond.specs.Conditions.{edge_conditions_in}
+use Rattle.lc_cond.proofs.Few.{operation_limited}
 use Rattle.lc_cond.proofs.Ridden.{in_body_said, in_operation_said}
 use Rattle.lc_cond.proofs.paths.push_edge.Goals as goal
+
+pub push_edge_in-requires : goal.push_edge_in-requires
+push_edge_in-requires c =
+    operation_limited (development_shown c.args.development.now) c.args.development.now.resolved c.in-Some.operation.0 (operation_of c.in-Some-operation_at.body.now) (sym c.in-Some-operation_at.ensures)
 
 pub returns-clause-list : goal.returns-clause-list
 returns-clause-list c =

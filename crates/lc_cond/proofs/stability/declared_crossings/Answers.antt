@@ -6,10 +6,18 @@ use Rattle.lc_outline.specs.DevelopmentView.{development_shown}
 use Rattle.lc_cond.specs.Crossings.{AreCrossings}
 use Rattle.lc_cond.proofs.Adding.{formulas_later}
 use Rattle.lc_cond.proofs.Crossed.{given_later, crossings_put, seen_more}
+use Rattle.lc_cond.proofs.Few.{seen_at, action_few}
 use Rattle.lc_cond.proofs.stability.declared_crossings.Goals as goal
 
-pub cross-requires : goal.cross-requires
-cross-requires c = given_later c.args.terms.now c.loop-action.terms (development_shown c.args.development.now) c.args.given.now c.requires c.loop-action.invariant.0
+pub cross-requires-clause-action : goal.cross-requires-clause-action
+cross-requires-clause-action c =
+    let D = development_shown c.args.development.now in
+    let a = c.action-item.result in
+    let i = c.loop-action.action-index in
+    action_few D c.args.development.now.resolved i (action_of a) (seen_at action_of c.actions_of-actions.result.now D.actions i a c.actions_of-actions.ensures c.loop-action-test.true c.action-item.is)
+
+pub cross-requires-clause-given : goal.cross-requires-clause-given
+cross-requires-clause-given c = given_later c.args.terms.now c.loop-action.terms (development_shown c.args.development.now) c.args.given.now c.requires c.loop-action.invariant.0
 
 pub loop-action-preserved : goal.loop-action-preserved
 loop-action-preserved c =

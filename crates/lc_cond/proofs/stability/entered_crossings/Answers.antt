@@ -22,8 +22,9 @@ all_crossings-requires-clause-given c =
     let frame = c.args.frame.now in
     let invariant = subst (HasFormulas t3 c.in_ok-invariant.invariant.items) (ap (λ d. invariant_of d) c.parts.ensures.shown) (formulas_later t2 t3 c.in_ok-invariant.invariant.items _ c.in_ok-invariant.ensures.list kept23) in
     let known = known_all t0 t3 frame c.in_ok-invariant.invariant.items c.in_ok-asserted.asserted.items c.deref.result.now c.deref-2.result.now c.in_ok-known.known.items c.deref-4.result.now (formulas_in t0 frame) _ _
-    (formulas_are t0 frame c.requires) kept invariant c.in_ok-asserted.ensures.list c.deref.ensures.value c.deref-2.ensures.value c.in_ok-known.ensures c.deref-4.ensures.value in
+    (formulas_are t0 frame c.requires.frame) kept invariant c.in_ok-asserted.ensures.list c.deref.ensures.value c.deref-2.ensures.value c.in_ok-known.ensures c.deref-4.ensures.value in
     record {
+      few = c.requires.client;
       clients = formulas_listed t3 c.in_ok-clients.clients.items c.deref-3.result.now _ (formulas_later t1 t3 c.in_ok-clients.clients.items _ c.in_ok-clients.ensures.list kept13) c.deref-3.ensures.value;
       known = known.are;
       invariant = formulas_listed t3 c.in_ok-invariant.invariant.items c.deref-5.result.now _ invariant c.deref-5.ensures.value;

@@ -8,7 +8,7 @@ pub loop-number-init : goal.loop-number-init
 loop-number-init c = λ ts D n hs asserts actions h count. subst (λ l. Adds c.args.conditions.now.items ts l []) (sym c.reserve.ensures.items) (adds_nothing c.args.conditions.now.items ts)
 
 pub push_conjunct-requires : goal.push_conjunct-requires
-push_conjunct-requires c = goals_enough c.args.count c.loop-number.number c.args.crossings.now c.requires c.loop-number-test.true
+push_conjunct-requires c = goals_enough c.args.count c.loop-number.number c.args.crossings.now c.requires.goals c.loop-number-test.true
 
 pub loop-number-preserved : goal.loop-number-preserved
 loop-number-preserved c =

@@ -1,5 +1,6 @@
 use Rattle.std.proofs.Common.{◌≡◌, ◌≤◌, [], ◌∷◌, ◌++◌, length, length-append, true, refl, subst, arith, lit≤}
 use Rattle.lc_base.specs.NameText.{is_name}
+use Rattle.lc_base.specs.Limits.{name_limit}
 use Rattle.lc_outline.specs.DevelopmentView.{development_shown}
 use Rattle.lc_find.proofs.reading_back.an_empty_certificate_reads_back.Goals as goal
 
@@ -9,7 +10,7 @@ returns c =
     let n = D.object.name in
     let is = c.object_name-name.ensures.text in
     let limit = c.object_name-name.ensures.limit in
-    let short : length n ≤ 64 = subst (λ b. length b ≤ 64) is limit in
+    let short : length n ≤ name_limit = subst (λ b. length b ≤ name_limit) is limit in
     let a = length-append (n ++ [] ++ 41 ∷ []) (10 ∷ []) in
     let b = length-append (n ++ []) (41 ∷ []) in
     let e = length-append n [] in

@@ -1,5 +1,6 @@
 use Rattle.std.proofs.Common.{◌≡◌, ◌≤◌, ◌==◌, not, cond, take, arith, sym, ap, ◌∙◌}
 use Rattle.std.proofs.lemmas.List.{length-map}
+use Rattle.lc_base.specs.Limits.{client_limit}
 use Rattle.lc_hist.specs.InCall.{in_call}
 use Rattle.lc_hist.specs.View.{events_of, event_of}
 use Rattle.lc_hist.proofs.Turns.{busy_next, differ, agree, is_in_turn, is_out_of_turn, front_next, first_out_of_turn, event_at, well_formed}
@@ -31,7 +32,7 @@ loop-place-preserved c =
     let busy = in_call c.loop-place.busy in
     let is : busy (client_of event) ≡ not (begins event) =
     ap busy (sym c.client-client.ensures) ∙ sym c.contains.ensures ∙ differ _ _ c.if-contains-begins.false ∙ ap not c.begins-begins.ensures in
-    let le : client_of event ≤ 1000000 = omega (arith, c.client-client.ensures) in
+    let le : client_of event ≤ client_limit = omega (arith, c.client-client.ensures) in
     record {
       in_turn = front_next history place event c.loop-place.invariant.in_turn at (is_in_turn (take place history) event busy c.loop-place.invariant.busy le is);
       busy = busy_next history place event busy (in_call c.set.new.self) c.loop-place.invariant.busy at is

@@ -1,6 +1,7 @@
 use Rattle.std.proofs.Common.{◌<◌, ◌≤◌, sym, subst, length}
 use Rattle.std.proofs.lemmas.List.{length-map}
 use Rattle.lc_base.specs.declared.ids.ColId.{ColId}
+use Rattle.lc_base.specs.Limits.{width_limit}
 use Rattle.lc_object.specs.Objects.{object_shown}
 use Rattle.lc_object.specs.Syntax as S
 use Rattle.lc_object.specs.View.{array_of, columns_of, parts_of}
@@ -16,7 +17,7 @@ returns-clause-few c =
     let there = subst (λ (o : S.Object). c.args.array.0 < length o.arrays) (sym c.parts.ensures.shown) c.requires in
     let at = viewed_at array_of parts.arrays.items c.args.array.0 array there c.index.ensures in
     let few = few_columns (parts_of parts) c.args.array.0 (array_of array) c.parts.ensures.well_formed at in
-    subst (λ cs. length cs ≤ 4) (sym c.deref.ensures.value) (subst (λ n. n ≤ 4) (length-map array.columns.items (λ (column : ColId). column.0)) few)
+    subst (λ cs. length cs ≤ width_limit) (sym c.deref.ensures.value) (subst (λ n. n ≤ width_limit) (length-map array.columns.items (λ (column : ColId). column.0)) few)
 
 pub returns-clause-there : goal.returns-clause-there
 returns-clause-there c =

@@ -4,7 +4,7 @@ use Rattle.lc_object_text.specs.DeclaredView.{bodies_seen}
 use Rattle.lc_outline_text.specs.DeclarationsView.{declarations_seen}
 use Rattle.lc_outline_text.specs.Sizes.{bodies_conditions}
 use Rattle.lc_outline_text.specs.StoredView.{IsSet}
-use Rattle.lc_outline_text.specs.Views.{capped, totals_seen}
+use Rattle.lc_outline_text.specs.Views.{capped, totals_seen, count_cap}
 use Rattle.lc_outline_text.proofs.conditions.bodies_conditions.Given as goal
 
 -- the conditions so far, with those of the bodies that are left, are all
@@ -13,6 +13,6 @@ invariant-loop-body l = record {
   set : IsSet l.set;
   conditions : capped (l.count + bodies_conditions (declarations_seen l.declarations) (totals_seen l.totals) l.operation (bodies_seen (drop l.body-index l.declarations.declared.bodies.items)) (rest_of l.rest))
       ≡ capped (bodies_conditions (declarations_seen l.declarations) (totals_seen l.totals) 0 (bodies_seen l.declarations.declared.bodies.items) (rest_of l.fn.list));
-  few : l.count ≤ 100001;
+  few : l.count ≤ count_cap;
   number : l.operation ≡ l.body-index;
 }

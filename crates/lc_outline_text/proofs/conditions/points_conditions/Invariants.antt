@@ -7,14 +7,14 @@ use Rattle.lc_object_text.specs.Seen.{size, forms_left}
 use Rattle.lc_outline_text.specs.DeclarationsView.{declarations_seen}
 use Rattle.lc_outline_text.specs.Sizes.{point_conditions}
 use Rattle.lc_outline_text.specs.StoredView.{IsSet}
-use Rattle.lc_outline_text.specs.Views.{capped, totals_seen}
+use Rattle.lc_outline_text.specs.Views.{capped, totals_seen, count_cap}
 use Rattle.lc_outline_text.proofs.conditions.points_conditions.Given as goal
 
 -- the conditions so far, with those of the points that are left, are all
 abbrev pub invariant-points : goal.invariant-points
 invariant-points l = record {
   set : IsSet l.set;
-  few : l.count ≤ 100001;
+  few : l.count ≤ count_cap;
   counted :
       let each = point_conditions (declarations_seen l.declarations) (totals_seen l.totals) l.operation (body_seen l.body) l.asserts in
       capped (l.count + sum_by each (forms_left l.some (codes "point") (rest_of l.rest))) ≡ capped (sum_by each (points_in (rest_of l.fn.list)));

@@ -1,12 +1,12 @@
 use Rattle.std.proofs.Common.{◌≡◌, ◌*◌, ◌≤◌, drop}
 use Rattle.lc_outline_text.specs.Paths.{path_number}
 use Rattle.lc_outline_text.specs.StoredView.{riders_seen}
-use Rattle.lc_outline_text.specs.Views.{capped}
+use Rattle.lc_outline_text.specs.Views.{capped, count_cap}
 use Rattle.lc_outline_text.proofs.riders.path_number.Given as goal
 
 -- the ways past the riders so far, so many times the paths past those that are left
 abbrev pub invariant-loop-rider : goal.invariant-loop-rider
 invariant-loop-rider l = record {
-  few : l.number ≤ 100001;
+  few : l.number ≤ count_cap;
   whole : capped (l.number * path_number (riders_seen (drop l.rider-index l.riders))) ≡ capped (path_number (riders_seen l.riders));
 }

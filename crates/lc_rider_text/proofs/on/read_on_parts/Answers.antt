@@ -1,5 +1,6 @@
 use Rattle.std.proofs.Common.{sym, ap, ◌∙◌, subst}
 use Rattle.std.specs.Prelude.{nat_lt}
+use Rattle.lc_base.specs.Limits.{path_limit}
 use Rattle.lc_sexp.specs.Shown.{rest_of, number_of}
 use Rattle.lc_outline.specs.PartsView.{on_of}
 use Rattle.lc_reading.proofs.Listed.{limited_at}
@@ -23,7 +24,7 @@ returns g c =
     let u = c.in_ok-call.call in
     let rest = c.next_part-2.new.list in
     let due = sym (c.is_refused.ensures ∙ ap (is_refused c.args.edges) c.edge_of.ensures) ∙ c.if-is_refused.false in
-    let many = ap (nat_lt 64) c.path_count.ensures ∙ over_cap (path_count known own (rest_of rest)) in
+    let many = ap (nat_lt path_limit) c.path_count.ensures ∙ over_cap (path_count known own (rest_of rest)) in
     subst (λ r. IsReading on_of r c.limited.result)
     (sym (on_found known names own c.args.edges c.args.list c.next_part.new.list rest t u c.in_ok-edge.ensures c.in_ok-call.ensures due))
     (limited_at on_of _ _ c.owner-2.result _ _ c.made_on-on.result c.limited.result

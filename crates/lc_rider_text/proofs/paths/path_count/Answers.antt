@@ -1,5 +1,6 @@
 use Rattle.std.proofs.Common.{◌*◌, ap, sym, ◌∙◌, arith}
 use Rattle.std.specs.Prelude.{min}
+use Rattle.lc_rider_text.specs.Ons.{path_cap}
 use Rattle.lc_sexp.specs.Shown.{rest_of}
 use Rattle.lc_reading.specs.Parts.{tree_of}
 use Rattle.lc_rider_text.specs.KnownView.{known_seen, ways_there}
@@ -22,7 +23,7 @@ riders-preserved c =
     record {
       few = omega (arith, c.capped-count.ensures);
       counted = c.riders.invariant.counted
-          ∙ ap (λ n. min 65 (count * n)) (paths_more known own (tree_of c.in-Ok.part) (rest_of c.next_part.new.list) (rest_of c.riders.rest) next.rest)
+          ∙ ap (λ n. min path_cap (count * n)) (paths_more known own (tree_of c.in-Ok.part) (rest_of c.next_part.new.list) (rest_of c.riders.rest) next.rest)
           ∙ sym (capped_step count ways left)
-          ∙ ap (λ n. min 65 (n * left)) (sym (c.capped-count.ensures ∙ ap (λ w. min 65 (count * w)) c.rider_ways.ensures));
+          ∙ ap (λ n. min path_cap (n * left)) (sym (c.capped-count.ensures ∙ ap (λ w. min path_cap (count * w)) c.rider_ways.ensures));
     }

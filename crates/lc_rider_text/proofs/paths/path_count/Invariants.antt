@@ -1,5 +1,6 @@
 use Rattle.std.proofs.Common.{◌≡◌, ◌*◌, ◌≤◌}
 use Rattle.std.specs.Prelude.{min}
+use Rattle.lc_rider_text.specs.Ons.{path_cap}
 use Rattle.lc_sexp.specs.Shown.{rest_of}
 use Rattle.lc_sexp.specs.Trees.{item_count_of_all}
 use Rattle.lc_rider_text.specs.KnownView.{known_seen, ways_there}
@@ -9,8 +10,8 @@ use Rattle.lc_rider_text.proofs.paths.path_count.Given as goal
 abbrev pub invariant-riders : goal.invariant-riders
 invariant-riders l =
     record {
-      few : l.count ≤ 65;
-      counted : min 65 (path_count (known_seen l.fn.known) (ways_there l.fn.own) (rest_of l.fn.list)) ≡ min 65 (l.count * path_count (known_seen l.fn.known) (ways_there l.fn.own) (rest_of l.rest));
+      few : l.count ≤ path_cap;
+      counted : min path_cap (path_count (known_seen l.fn.known) (ways_there l.fn.own) (rest_of l.fn.list)) ≡ min path_cap (l.count * path_count (known_seen l.fn.known) (ways_there l.fn.own) (rest_of l.rest));
     }
 
 abbrev pub decreases-riders : goal.decreases-riders

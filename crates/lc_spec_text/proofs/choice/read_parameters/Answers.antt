@@ -1,5 +1,6 @@
 use Rattle.std.proofs.Common.{◌+◌, ◌++◌, Some, length, append-nil, sym, ap, ◌∙◌, subst}
 use Rattle.std.specs.Prelude.{IfOk}
+use Rattle.lc_base.specs.Limits.{parameter_limit}
 use Rattle.lc_sexp.specs.Shown.{rest_of, number_of}
 use Rattle.lc_reading.proofs.Listed.{listed_reading-is}
 use Rattle.lc_reading.specs.Listed.{declared_by}
@@ -15,7 +16,7 @@ use Rattle.lc_spec_text.proofs.choice.read_parameters.Goals as goal
 pub returns-in-List-clause-read : goal.returns-in-List-clause-read
 returns-in-List-clause-read c =
     let vs = listed c.args.variables.now in
-    let read = name_reading (Some (3 + length vs)) in
+    let read = name_reading (Some (parameter_limit + length vs)) in
     let l = c.in-List.list in
     subst (λ r. IfOk c.read_declared.result (λ x. IsReading names_of r x.1))
     (declared_reading-behind read declared_by vs (listed c.new-none.result) (number_of l) (rest_of l)

@@ -1,4 +1,5 @@
 use Rattle.std.proofs.Common.{◌<◌, length, arith}
+use Rattle.lincheck.specs.Reading.{most_bytes}
 use Rattle.lincheck.proofs.Taken.{taken}
 use Rattle.lincheck.proofs.reading.feed_file.Goals as goal
 
@@ -7,6 +8,6 @@ returns-in-Ok-feed_to_limit-clause-fed g c =
     let read = c.in-Ok-feed_to_limit.ensures in (
       read.0,
       read.2,
-      taken (g.F.Files.bytes_at c.args.files.now c.args.path.now) _ _ read.0 16777217 c.in-Ok.ensures.reads read.1.0 read.1.1
-          (λ h. let less : length read.0 < 16777217 = omega (arith, h) in read.1.2 less),
+      taken (g.F.Files.bytes_at c.args.files.now c.args.path.now) _ _ read.0 most_bytes c.in-Ok.ensures.reads read.1.0 read.1.1
+          (λ h. let less : length read.0 < most_bytes = omega (arith, h) in read.1.2 less),
     )

@@ -4,6 +4,7 @@ use Rattle.lc_outline.specs.DevelopmentView.{development_shown}
 use Rattle.lc_cond.specs.Adding.{Adds}
 use Rattle.lc_cond.specs.Conditions.{conditions_in}
 use Rattle.lc_cond.specs.PartView.{part_of, parts_along}
+use Rattle.lc_cond.proofs.Few.{part_limited}
 use Rattle.lc_cond.proofs.Streamed.{ended, none_left, part_given}
 use Rattle.lc_cond.proofs.stream.ConditionStream.next_part.Goals as goal
 
@@ -12,9 +13,16 @@ returns-in_default-clause-next c =
     let before = c.args.self.now in
     let D = development_shown c.args.development.now in
     let ps = parts_along D (map edge_of before.edges.items) in
-    let at = c.in_ok-part.ensures ∙ ap (λ l. slice_get (parts_along D (map edge_of l)) before.place) c.deref.ensures.value in
-    let (nothing, none) = none_left D ps before.place (ended c.in_ok-part.field-0 (slice_get ps before.place) c.in_default.not-Some at) in
+    let at = c.part_at.ensures ∙ ap (λ l. slice_get (parts_along D (map edge_of l)) before.place) c.deref.ensures.value in
+    let (nothing, none) = none_left D ps before.place (ended c.part_at.result (slice_get ps before.place) c.in_default.not-Some at) in
     record { nothing = nothing; none = none; same = refl }
+
+pub push_part-requires : goal.push_part-requires
+push_part-requires c =
+    let before = c.args.self.now in
+    let D = development_shown c.args.development.now in
+    let at = c.part_at.ensures ∙ ap (λ l. slice_get (parts_along D (map edge_of l)) before.place) c.deref.ensures.value in
+    part_limited D c.args.development.now.resolved (map edge_of before.edges.items) before.place c.in-Some.part (sym at ∙ ap (option_map part_of) c.in-Some.is)
 
 pub returns-clause-next : goal.returns-clause-next
 returns-clause-next c =
@@ -24,7 +32,7 @@ returns-clause-next c =
     let part = part_of c.in-Some.part in
     let ts = c.push_part.new.terms in
     let now = c.push_part.new.conditions.items in
-    let at = c.in_ok-part.ensures ∙ ap (λ l. slice_get (parts_along D (map edge_of l)) before.place) c.deref.ensures.value in
+    let at = c.part_at.ensures ∙ ap (λ l. slice_get (parts_along D (map edge_of l)) before.place) c.deref.ensures.value in
     let adds = subst (λ l. Adds l ts now (conditions_in D part)) c.new-conditions.ensures.items c.in_ok-push_part.ensures.list in
     let (are, rest) = part_given D ps before.place c.in_ok-place.place part ts now (sym at ∙ ap (option_map part_of) c.in-Some.is) c.in_ok-place.ensures adds in
     let (left, fewer) = rest in

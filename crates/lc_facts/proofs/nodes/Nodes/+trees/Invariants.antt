@@ -1,12 +1,15 @@
-use Rattle.std.proofs.Common.{◌*◌, ◌+◌}
+use Rattle.std.proofs.Common.{◌*◌, ◌+◌, vec_len}
 use Rattle.lc_facts.proofs.nodes.Nodes.+trees.Given as goal
 
--- by the fuel; a box comes before what is in it
+-- by the fuel; a box and a column expression come before what is in them
 abbrev pub decreases-boxed_term : goal.decreases-boxed_term
 decreases-boxed_term l = 2 * l.fuel + 1
 
 abbrev pub decreases-column_within : goal.decreases-column_within
-decreases-column_within l = 2 * l.fuel
+decreases-column_within l = 2 * l.fuel + 1
+
+abbrev pub decreases-column_within-stores : goal.decreases-column_within-stores
+decreases-column_within-stores l = vec_len l.chain.stores
 
 abbrev pub decreases-term_within : goal.decreases-term_within
 decreases-term_within l = 2 * l.fuel

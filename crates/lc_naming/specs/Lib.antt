@@ -1,0 +1,2 @@
+pub mod ColumnNames
+pub mod EdgeWords
