@@ -1,3 +1,5 @@
+//! The numbers by which files name columns, operations and points.
+
 /// A column, by its place in the list of columns: of a development, its abstract, concrete, auxiliary and
 /// system columns in that order; of a formula file, its columns as listed.
 #[derive(Clone, Copy, PartialEq, Eq, Hash)]

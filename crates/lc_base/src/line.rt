@@ -1,3 +1,4 @@
+//! The lines that answers print: a word and numbers.
 ghost use Rattle.std.specs.Prelude.{◌≡◌, IfOk};
 ghost use Rattle.lc_base.specs.Line.{line_of, refusal_line_of};
 

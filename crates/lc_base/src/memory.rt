@@ -1,3 +1,4 @@
+//! The answer where an allocation is refused.
 ghost use Rattle.std.specs.Prelude.{◌≡◌};
 
 use std::alloc::{AllocError, AllocFailed};

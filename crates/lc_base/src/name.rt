@@ -1,3 +1,4 @@
+//! Names: what a text has to be to name something, and the type of the texts that are.
 ghost use Rattle.std.specs.Prelude.{◌≡◌, true};
 ghost use Rattle.std.specs.List.{list_all};
 ghost use Rattle.lc_base.specs.NameText.{begins_name, continues_name, is_name};

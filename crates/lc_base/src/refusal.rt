@@ -1,3 +1,4 @@
+//! Why an input is refused, with the codes of the reasons, and what a reader answers in place of a value.
 ghost use Rattle.std.specs.Prelude.{◌≡◌};
 ghost use Rattle.lc_base.specs.Refusal.{code_of};
 

@@ -14,7 +14,7 @@ use Rattle.lc_object.specs.View.{operation_of}
 use Rattle.lc_object.specs.WellFormed.{variable_count, has_limits, is_array, is_first, is_point, is_instruction, are_apart, are_operations, passes_at}
 use Rattle.lc_object.proofs.ObjectParts.{operations_pass}
 use Rattle.lc_action.specs.Action.{Action}
-use Rattle.lc_outline.specs.Development.{Development, Outline, first_system, asserts_at, asserts_in, in_operation}
+use Rattle.lc_outline.specs.Development.{Development, Outline, first_system, invariant_of, asserts_at, asserts_in, in_operation}
 use Rattle.lc_outline.specs.Limits.{is_limited, on_is_limited, outlines_are_limited}
 use Rattle.lc_outline.specs.Resolved.{is_resolved}
 use Rattle.lc_outline.specs.Sizes.{sizes_of, count}
@@ -25,7 +25,7 @@ use Rattle.lc_cond.specs.Crossings.{code_variable_limit, TakesFew}
 use Rattle.lc_cond.specs.PartView.{part_of, parts_along, HasLimits}
 use Rattle.lc_cond.specs.declared.part.Part.{Part}
 use Rattle.lc_cond.specs.declared.part.Part.TheVariants.{Start, Begin, Pass, Stay, StayIdle}
-use Rattle.lc_cond.proofs.Sized.{stable_length, are_counted}
+use Rattle.lc_cond.proofs.Sized.{start_sized, stable_length, are_counted}
 
 -- ---- lists
 
@@ -186,6 +186,14 @@ module _ (D : Development) (h : is_resolved D ≡ true) (t : is_limited D ≡ tr
       let d = length-append stays (idle_stability D) in
       let all = conditions_few in
       omega (arith, a, b, c, d, all))
+
+  -- the conditions at the start
+  pub starts_few : length (invariant_of D) + length D.idle ≤ condition_limit
+  starts_few =
+      (let size = start_sized D (resolved D h) in
+      let a = length-append (start_conditions D) (entries ++ (passes ++ (stays ++ idle_stability D))) in
+      let all = conditions_few in
+      omega (arith, size, a, all))
 
   -- that what holds of idle clients stays, under each action
   pub idle_stays_few : length D.idle * (length D.actions + 2) ≤ condition_limit

@@ -17,6 +17,7 @@ mod Counts
 pub mod Sized
 mod VariableCounts
 mod Few
+mod FewParts
 mod Elements
 mod Below
 mod BelowStores

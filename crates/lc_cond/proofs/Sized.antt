@@ -76,17 +76,17 @@ more false e false false h = h
 -- ---- marks
 
 -- of a note one is asked behind its branch
-abbrev noting : Marking → ℕ
+abbrev pub noting : Marking → ℕ
 noting Own = 0
 noting (Other t o) = 0
 noting Note = 1
 
-observed : (ops : List Q.Operation) (first n : ℕ) (k : Marking) (fs : List Formula) (b : Branch) → length (observing_duty ops first n k fs b) ≡ noting k
+pub observed : (ops : List Q.Operation) (first n : ℕ) (k : Marking) (fs : List Formula) (b : Branch) → length (observing_duty ops first n k fs b) ≡ noting k
 observed ops first n Own fs b = refl
 observed ops first n (Other t o) fs b = refl
 observed ops first n Note fs b = refl
 
-owed : (ops : List Q.Operation) (first n : ℕ) (k : Marking) (p : Path) (c : Term) (υ : List Term) (bs : List Branch) → length (mark_duties ops first n k p c υ bs) + noting k ≡ asked_of k
+pub owed : (ops : List Q.Operation) (first n : ℕ) (k : Marking) (p : Path) (c : Term) (υ : List Term) (bs : List Branch) → length (mark_duties ops first n k p c υ bs) + noting k ≡ asked_of k
 owed ops first n Own p c υ bs = refl
 owed ops first n (Other t q) p c υ bs = refl
 owed ops first n Note p c υ bs = refl
@@ -330,11 +330,11 @@ module _ (D : Development) (R : IsResolved D) where
 
   -- ---- actions
 
-  abbrev acted_size : (ℕ → Column) → List Term → Option Action → ℕ
+  abbrev pub acted_size : (ℕ → Column) → List Term → Option Action → ℕ
   acted_size σ ts None = 0
   acted_size σ ts (Some a) = suc (changed 0 (column_count (first_system D)) σ (post_columns a (Variable 1) ts))
 
-  abbrev on_size : (ℕ → Column) → Option On → ℕ
+  abbrev pub on_size : (ℕ → Column) → Option On → ℕ
   on_size σ None = 0
   on_size σ (Some x) = acted_size σ x.arguments (slice_get D.actions x.action)
 
@@ -371,10 +371,10 @@ module _ (D : Development) (R : IsResolved D) where
   reply_length x None = refl
   reply_length x (Some q) = refl
 
-  abbrev path_size : Edge → Option On → Path → ℕ
+  abbrev pub path_size : Edge → Option On → Path → ℕ
   path_size e on p = length p.duties + (returned e.next + (length (invariant_of D) + (length (asserts_to D e.next) + on_size (at_end (first_system D) e.next p.columns) on)))
 
-  path_length : (e : Edge) (v : ℕ) (on : Option On) (hs : List Formula) (j : ℕ) (p : Path) → length (path_conditions D e v on hs j p) ≡ path_size e on p
+  pub path_length : (e : Edge) (v : ℕ) (on : Option On) (hs : List Formula) (j : ℕ) (p : Path) → length (path_conditions D e v on hs j p) ≡ path_size e on p
   path_length e v on hs j p =
       let first = first_system D in
       let τ = edge_variables v e in

@@ -8,6 +8,7 @@ pub mod Heads
 pub mod Scenes
 pub mod Crossings
 pub mod PartView
+pub mod PartLimits
 pub mod Stream
 pub mod Counted
 pub mod Numbering

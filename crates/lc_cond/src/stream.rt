@@ -1,5 +1,6 @@
 //! The list of the conditions of a development, part by part.
-ghost use Rattle.std.specs.Prelude.{◌≡◌, ◌+◌, suc, length, IfOk};
+ghost use Rattle.std.specs.Prelude.{◌≤◌, ◌*◌, length};
+ghost use Rattle.lc_cond.specs.PartLimits.{edge_limit, part_limit, part_size_limit};
 
 use crate::condition::Condition;
 use crate::list::edges_of;
@@ -7,11 +8,12 @@ use crate::part::{part_at, push_part};
 use lc_base::OutOfMemory;
 use lc_object::Edge;
 use lc_outline::Development;
+use lc_outline::laws::developments_are_limited;
 use lc_table::Terms;
 use std::alloc::Global;
 
 /// The conditions of a development in their order, of which only one part at a time is kept. Each call is given the same
-/// development.
+/// development; the bounds that are kept hold of any, as each is within its limits.
 #[derive(Drop)]
 pub struct ConditionStream {
     alloc: Global,
@@ -20,21 +22,9 @@ pub struct ConditionStream {
     place: usize,
     /// How many conditions were given.
     given: u64,
-}
-
-// The next place. The calls may be given other developments, so nothing bounds it.
-fn place_behind(place: usize) -> Result<usize, OutOfMemory>
-    ensures { IfOk result (λ next. next ≡ suc place) }
-{
-    place.checked_add(1).ok_or(OutOfMemory)
-}
-
-// How many conditions were given, with these. The calls may be given other developments, so nothing bounds the sum.
-fn given_with(given: u64, conditions: &Vec<Condition>) -> Result<u64, OutOfMemory>
-    ensures { IfOk result (λ count. count ≡ given + length conditions.now.items) }
-{
-    let count = conditions.len() as u64;
-    given.checked_add(count).ok_or(OutOfMemory)
+    ghost few_edges: { length edges.items ≤ edge_limit },
+    ghost few_parts: { place ≤ part_limit },
+    ghost few_conditions: { given ≤ place * part_size_limit },
 }
 
 impl ConditionStream {
@@ -80,12 +70,11 @@ impl ConditionStream {
         let Some(part) = part_at(development, &self.edges, self.place) else {
             return Ok(None);
         };
+        developments_are_limited();
         let mut conditions = Vec::new(self.alloc);
         push_part(self.alloc, terms, development, part, &mut conditions)?;
-        let place = place_behind(self.place)?;
-        let given = given_with(self.given, &conditions)?;
-        self.place = place;
-        self.given = given;
+        self.place += 1;
+        self.given += conditions.len() as u64;
         Ok(Some(conditions))
     }
 }

@@ -287,6 +287,16 @@ fn return_edge(
     Ok(edge)
 }
 
+// Two edges, behind these.
+fn push_both(both: (Edge, Edge), edges: &mut Vec<Edge>) -> Result<(), OutOfMemory>
+    ensures { OnOk result (map edge_of edges.new.items ≡ map edge_of edges.old.items ++ (edge_of both.0 ∷ edge_of both.1 ∷ [])) }
+{
+    let (then, otherwise) = both;
+    edges.push(then)?;
+    edges.push(otherwise)?;
+    Ok(())
+}
+
 // The edges of the instruction at a point, behind these.
 fn push_edges(
     alloc: Global,
@@ -317,13 +327,12 @@ fn push_edges(
             new,
             equal,
             different,
-        } => {
-            let (then, otherwise) = cas_edges(
+        } => push_both(
+            cas_edges(
                 alloc, object, point, *array, index, old, new, *equal, *different,
-            )?;
-            edges.push(then)?;
-            edges.push(otherwise)?;
-        }
+            )?,
+            edges,
+        )?,
         Instr::Set {
             targets,
             values,
@@ -340,11 +349,10 @@ fn push_edges(
             condition,
             holds,
             fails,
-        } => {
-            let (then, otherwise) = if_edges(alloc, object, point, condition, *holds, *fails)?;
-            edges.push(then)?;
-            edges.push(otherwise)?;
-        }
+        } => push_both(
+            if_edges(alloc, object, point, condition, *holds, *fails)?,
+            edges,
+        )?,
         Instr::Return { values } => edges.push(return_edge(alloc, object, point, values)?)?,
     }
     Ok(())

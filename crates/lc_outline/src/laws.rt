@@ -40,7 +40,7 @@ pub fn terms_are_in_scope()
 {}
 
 /// A development that passes the test of limits of its type is within the limits of columns, actions and conditions, as these are
-/// counted, and at each edge at most 6 riders and 64 paths.
+/// counted, and at each edge within those of riders and paths.
 pub fn developments_are_limited()
     ensures { WhatPassesIsLimited }
 {}

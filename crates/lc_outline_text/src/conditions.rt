@@ -12,7 +12,7 @@ ghost use Rattle.lc_outline_text.specs.Sizes.{assert_count, point_conditions, bo
 use crate::column_set::ColumnSet;
 use crate::counts::{COUNT_CAP, capped_product, capped_sum, sum_of};
 use crate::declarations::Declarations;
-use crate::edge_counts::{assert_count, point_conditions};
+use crate::edge_counts::{Counting, assert_count, point_conditions};
 use crate::instruction::{Totals, count_at};
 use crate::needs::parts_in;
 use crate::stored::{Stored, read_stored};
@@ -52,19 +52,14 @@ fn capped_total(counts: &[u64]) -> u64
 /// The conditions of all edges of the points of a body, up to the cap.
 fn points_conditions(
     alloc: Global,
-    declarations: &Declarations<'_>,
-    stored: &Stored,
+    counting: Counting<'_>,
     set: &mut ColumnSet,
-    totals: Totals,
-    operation: u32,
-    body: &Body<'_>,
-    asserts: &[u64],
     list: Cursor<'_>,
 ) -> Result<u64, OutOfMemory>
-    requires stored { IsStored (declarations_seen declarations.now) stored.now }
+    requires stored { IsStored (declarations_seen counting.declarations.now) counting.stored.now }
     requires set { IsSet set.old }
     ensures set { OnOk result (IsSet set.new) }
-    ensures count { IfOk result (λ count. count ≡ capped (sum_by (point_conditions (declarations_seen declarations.now) (totals_seen totals) operation (body_seen body.now) asserts.now) (points_in (rest_of list.entry)))) }
+    ensures count { IfOk result (λ count. count ≡ capped (sum_by (point_conditions (declarations_seen counting.entry.declarations.now) (totals_seen counting.entry.totals) counting.entry.operation (body_seen counting.entry.body.now) counting.entry.asserts.now) (points_in (rest_of list.entry)))) }
 {
     let mut rest = behind_first(behind_first(list));
     let mut some = true;
@@ -77,17 +72,7 @@ fn points_conditions(
         if count >= COUNT_CAP {
             return Ok(COUNT_CAP);
         }
-        let more = point_conditions(
-            alloc,
-            declarations,
-            stored,
-            set,
-            totals,
-            operation,
-            body,
-            asserts,
-            point,
-        )?;
+        let more = point_conditions(alloc, counting, set, point)?;
         count = capped_sum(count, more);
     }
 }
@@ -110,17 +95,15 @@ fn body_conditions(
 {
     let asserts = assert_counts(alloc, list)?;
     let entry = capped_sum(totals.invariant, count_at(&asserts, Some(0)));
-    let edges = points_conditions(
-        alloc,
+    let counting = Counting {
         declarations,
         stored,
-        set,
         totals,
         operation,
         body,
-        &asserts,
-        list,
-    )?;
+        asserts: &asserts,
+    };
+    let edges = points_conditions(alloc, counting, set, list)?;
     let stable = capped_product(capped_total(&asserts), totals.actions);
     Ok(capped_sum(capped_sum(entry, edges), stable))
 }

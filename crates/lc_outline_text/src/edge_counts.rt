@@ -24,6 +24,19 @@ use lc_object_text::{Body, behind_first, first_text, items_in_first, next_form, 
 use lc_sexp::Cursor;
 use std::alloc::Global;
 
+/// What is told of a body where its conditions are counted: what the file declares, the columns in which is stored by what is
+/// declared, how many conditions are asked everywhere, the number of its operation, the body, and how many assertions each of
+/// its points has.
+#[derive(Clone, Copy)]
+pub(crate) struct Counting<'a> {
+    pub(crate) declarations: &'a Declarations<'a>,
+    pub(crate) stored: &'a Stored,
+    pub(crate) totals: Totals,
+    pub(crate) operation: u32,
+    pub(crate) body: &'a Body<'a>,
+    pub(crate) asserts: &'a [u64],
+}
+
 /// What stands behind the edge's word in the first list `(on EDGE ..)` at the beginning that is of the edge of this word.
 fn on_of<'a>(list: Cursor<'a>, word: &str) -> Option<Cursor<'a>>
     ensures { rest_found result ≡ on_of word.now (forms_in (codes "on") (rest_of list.entry)) }
@@ -68,32 +81,27 @@ fn edge_conditions(
 /// The conditions of the edge of this kind of a point `NAME INSTR ASSERT ON ..`, up to the cap.
 fn kind_conditions(
     alloc: Global,
-    declarations: &Declarations<'_>,
-    stored: &Stored,
+    counting: Counting<'_>,
     set: &mut ColumnSet,
-    totals: Totals,
-    operation: u32,
-    body: &Body<'_>,
-    asserts: &[u64],
     point: Cursor<'_>,
     kind: EdgeKind,
 ) -> Result<u64, OutOfMemory>
-    requires stored { IsStored (declarations_seen declarations.now) stored.now }
+    requires stored { IsStored (declarations_seen counting.declarations.now) counting.stored.now }
     requires set { IsSet set.old }
     ensures set { OnOk result (IsSet set.new) }
-    ensures count { IfOk result (λ count. count ≡ capped (kind_conditions (declarations_seen declarations.now) (totals_seen totals) operation (body_seen body.now) asserts.now (rest_of point.entry) kind)) }
+    ensures count { IfOk result (λ count. count ≡ capped (kind_conditions (declarations_seen counting.entry.declarations.now) (totals_seen counting.entry.totals) counting.entry.operation (body_seen counting.entry.body.now) counting.entry.asserts.now (rest_of point.entry) kind)) }
 {
     let behind_name = behind_first(point);
     let code = within_first(behind_name);
     let ons = behind_first(behind_first(behind_name));
-    let asked = asked_behind(totals, body, asserts, kind, code)?;
+    let asked = asked_behind(counting.totals, counting.body, counting.asserts, kind, code)?;
     let on = on_of(ons, edge_word(kind));
     let count = edge_conditions(
         alloc,
-        declarations,
-        stored,
+        counting.declarations,
+        counting.stored,
         set,
-        operation,
+        counting.operation,
         on,
         asked,
         kind,
@@ -105,62 +113,24 @@ fn kind_conditions(
 /// The conditions of all edges of a point, up to the cap.
 pub(crate) fn point_conditions(
     alloc: Global,
-    declarations: &Declarations<'_>,
-    stored: &Stored,
+    counting: Counting<'_>,
     set: &mut ColumnSet,
-    totals: Totals,
-    operation: u32,
-    body: &Body<'_>,
-    asserts: &[u64],
     point: Cursor<'_>,
 ) -> Result<u64, OutOfMemory>
-    requires stored { IsStored (declarations_seen declarations.now) stored.now }
+    requires stored { IsStored (declarations_seen counting.declarations.now) counting.stored.now }
     requires set { IsSet set.old }
     ensures set { OnOk result (IsSet set.new) }
-    ensures count { IfOk result (λ count. count ≡ capped (point_conditions (declarations_seen declarations.now) (totals_seen totals) operation (body_seen body.now) asserts.now (rest_of point.entry))) }
+    ensures count { IfOk result (λ count. count ≡ capped (point_conditions (declarations_seen counting.entry.declarations.now) (totals_seen counting.entry.totals) counting.entry.operation (body_seen counting.entry.body.now) counting.entry.asserts.now (rest_of point.entry))) }
 {
     let code = within_first(behind_first(point));
     let word = first_text(&code);
     let mut count = 0;
     if goes_next(word) {
-        count = kind_conditions(
-            alloc,
-            declarations,
-            stored,
-            set,
-            totals,
-            operation,
-            body,
-            asserts,
-            point,
-            EdgeKind::Next,
-        )?;
+        count = kind_conditions(alloc, counting, set, point, EdgeKind::Next)?;
     }
     if branches_off(word) {
-        let holds = kind_conditions(
-            alloc,
-            declarations,
-            stored,
-            set,
-            totals,
-            operation,
-            body,
-            asserts,
-            point,
-            EdgeKind::Then,
-        )?;
-        let fails = kind_conditions(
-            alloc,
-            declarations,
-            stored,
-            set,
-            totals,
-            operation,
-            body,
-            asserts,
-            point,
-            EdgeKind::Else,
-        )?;
+        let holds = kind_conditions(alloc, counting, set, point, EdgeKind::Then)?;
+        let fails = kind_conditions(alloc, counting, set, point, EdgeKind::Else)?;
         count = capped_sum(count, capped_sum(holds, fails));
     }
     Ok(count)

@@ -1,5 +1,5 @@
 -- What readers answer of the parts of a step that stand before its proofs.
-use Rattle.std.specs.Prelude.{◌≡◌, ℕ, ℤ, zero, suc, ◌+◌, List, map, Vec, Result, Ok, Err}
+use Rattle.std.specs.Prelude.{◌≡◌, ℕ, ℤ, zero, suc, ◌+◌, List, map, Vec, Box, Result, Ok, Err}
 use Rattle.std.specs.declared.alloc.Global.{Global}
 use Rattle.lc_sexp.specs.Trees.{Trees, none, ◌▸◌, item_count}
 use Rattle.lc_sexp.specs.Shown.{rest_of, number_of, owner_of}
@@ -7,9 +7,9 @@ use Rattle.lc_sexp.specs.declared.cursor.Cursor.{Cursor}
 use Rattle.lc_sexp.specs.declared.misfit.Misfit.{Misfit}
 use Rattle.lc_sexp.specs.declared.misfit.Misfit.TheVariants.{Shape as Misshapen}
 use Rattle.lc_kernel.specs.Proofs as S
-use Rattle.lc_kernel.specs.View.{multiple_of, step_of, proofs_of}
+use Rattle.lc_kernel.specs.View.{multiple_of, step_of, proof_of, proofs_of}
 use Rattle.lc_kernel.specs.declared.proof.Multiple.{Multiple}
-use Rattle.lc_kernel.specs.declared.proof.Proof.{Proof}
+use Rattle.lc_kernel.specs.declared.proof.Proof.{Proof, out-Proof}
 use Rattle.lc_kernel.specs.declared.proof.Step.{Step}
 use Rattle.lc_reading.specs.Readings.{Reading, wrong}
 use Rattle.lc_reading.specs.Results.{IsReading}
@@ -32,6 +32,23 @@ IsShort (suc k) (t ▸ ts) = IsShort k ts
 abbrev pub IsOwn : Reading S.Step → ℕ → Cursor → Result (Result Step ReadFault × Cursor) Misfit → Type 0
 IsOwn read k l (Ok r) = IsReading step_of read r.0 × IsLeft k (number_of l) (rest_of l) r.1
 IsOwn read k l (Err misfit) = (misfit ≡ Misshapen (owner_of l)) × (read ≡ wrong Shape (owner_of l)) × IsShort k (rest_of l)
+
+-- the proof in a box, and its step
+abbrev pub boxed_proof : Box Proof Global → S.Proof
+boxed_proof b = proof_of b.value
+
+abbrev pub begun_step : Box Proof Global → S.Step
+begun_step b = step_of (out-Proof b.value).step
+
+-- the same where the step is that of a proof in a box
+abbrev pub IsBegun : Reading S.Step → ℕ → Cursor → Result (Result (Box Proof Global) ReadFault × Cursor) Misfit → Type 0
+IsBegun read k l (Ok r) = IsReading begun_step read r.0 × IsLeft k (number_of l) (rest_of l) r.1
+IsBegun read k l (Err misfit) = (misfit ≡ Misshapen (owner_of l)) × (read ≡ wrong Shape (owner_of l)) × IsShort k (rest_of l)
+
+-- the proof out of its box
+abbrev pub unboxed : Result (Box Proof Global) ReadFault → Result Proof ReadFault
+unboxed (Ok b) = Ok b.value
+unboxed (Err fault) = Err fault
 
 -- the proofs of branches
 abbrev pub branches_of : Vec Proof Global → S.Proofs

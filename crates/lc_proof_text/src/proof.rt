@@ -1,14 +1,15 @@
 //! How a proof is read.
-ghost use Rattle.std.specs.Prelude.{zero};
+ghost use Rattle.std.specs.Prelude.{◌≡◌, zero};
 ghost use Rattle.lc_sexp.specs.Shown.{rest_of, number_of, owner_of};
 ghost use Rattle.lc_kernel.specs.Proofs as S;
 ghost use Rattle.lc_kernel.specs.View.{multiple_of, step_of, proof_of};
 ghost use Rattle.lc_reading.specs.Parts.{tree_of, place_of};
 ghost use Rattle.lc_reading.specs.Readings.{Reading, both};
-ghost use Rattle.lc_reading.specs.Results.{IsReading};
-ghost use Rattle.lc_proof_text.specs.Own.{branches_of};
+ghost use Rattle.lc_reading.specs.Results.{IsReading, IsPushed, misshapen_too};
+ghost use Rattle.lc_proof_text.specs.Heads.{own_parts};
+ghost use Rattle.lc_proof_text.specs.Own.{IsBegun, begun_step, boxed_proof, branches_of, unboxed};
 ghost use Rattle.lc_proof_text.specs.Proofs.{sum_reading, proof_reading, proofs_reading, with_proofs};
-ghost use Rattle.lc_proof_text.specs.Steps.{multiple_reading};
+ghost use Rattle.lc_proof_text.specs.Steps.{multiple_reading, step_reading};
 
 use crate::head::{Due, Head, head_of};
 use crate::step::read_own;
@@ -16,7 +17,7 @@ use lc_kernel::{Multiple, Proof, Step};
 use lc_reading::{
     Part, Pass, ReadFault, Reads, both, headed, misshapen_too, next_part, pushed, read_each, wrong,
 };
-use lc_sexp::{Cursor, Item};
+use lc_sexp::{Cursor, Item, Misfit};
 use lc_text::{Scope, read_numbers};
 use std::alloc::Global;
 
@@ -41,7 +42,7 @@ struct Multiples;
 impl Reads for Multiples {
     ghost use Rattle.std.specs.Prelude.{ℤ};
     ghost use Rattle.lc_kernel.specs.View.{multiple_of};
-    ghost use Rattle.lc_proof_text.specs.Steps.{multiple_reading};
+    ghost use Rattle.lc_proof_text.specs.Steps.{multiple_reading, step_reading};
 
     type Value = Multiple;
 
@@ -57,32 +58,98 @@ impl Reads for Multiples {
 }
 
 /// `(sum (h k) ..)`
-fn read_sum(alloc: Global, list: Cursor<'_>) -> Result<Proof, ReadFault>
-    ensures { IsReading proof_of (sum_reading (number_of list.entry) (rest_of list.entry)) result }
+#[inline(never)]
+fn read_sum(alloc: Global, list: Cursor<'_>) -> Result<Box<Proof>, ReadFault>
+    ensures { IsReading boxed_proof (sum_reading (number_of list.entry) (rest_of list.entry)) result }
 {
     let multiples = read_each(alloc, &Multiples, list)?;
-    Ok(Proof {
+    let proof = Proof {
         step: Step::Sum { multiples },
         branches: Vec::new(alloc),
-    })
+    };
+    Ok(Box::new(alloc, proof)?)
 }
 
-/// A step with its proofs. It stands apart from those who call one another, which keeps what each level of them takes of the
-/// stack small.
-fn made_proof(
-    step: Result<Step, ReadFault>,
-    branches: Result<Vec<Proof>, ReadFault>,
-) -> Result<Proof, ReadFault>
-    ensures { (r : Reading S.Step) (s : Reading S.Proofs) → IsReading step_of r step → IsReading branches_of s branches → IsReading proof_of (both S.proof r s) result }
+/// A proof of one step, whose branches are still to come.
+fn boxed_step(alloc: Global, step: Result<Step, ReadFault>) -> Result<Box<Proof>, ReadFault>
+    ensures { (r : Reading S.Step) → IsReading step_of r step → IsReading begun_step r result }
 {
-    let (step, branches) = both(step, branches)?;
-    Ok(Proof { step, branches })
+    let proof = Proof {
+        step: step?,
+        branches: Vec::new(alloc),
+    };
+    Ok(Box::new(alloc, proof)?)
+}
+
+/// The step that begins so, of its own parts, as a proof whose branches are still to come. It stands apart from those who call
+/// one another, which keeps what each level of them takes of the stack small: so do `finished` and `pushed_out`.
+#[inline(never)]
+fn read_begun<'a, S: Scope>(
+    alloc: Global,
+    scope: &S,
+    head: Head,
+    list: Cursor<'a>,
+) -> Result<(Result<Box<Proof>, ReadFault>, Cursor<'a>), Misfit>
+    ensures { IsBegun (step_reading (S.names scope.now) head (owner_of list.entry) (number_of list.entry) (rest_of list.entry)) (own_parts head) list.entry result }
+{
+    let (step, rest) = read_own(alloc, scope, head, list)?;
+    Ok((boxed_step(alloc, step), rest))
+}
+
+/// A proof that is begun, with its branches.
+#[inline(never)]
+fn finished(
+    begun: Result<Box<Proof>, ReadFault>,
+    branches: Result<Vec<Proof>, ReadFault>,
+) -> Result<Box<Proof>, ReadFault>
+    ensures { (r : Reading S.Step) (s : Reading S.Proofs) → IsReading begun_step r begun → IsReading branches_of s branches → IsReading boxed_proof (both S.proof r s) result }
+{
+    let (begun, branches) = both(begun, branches)?;
+    let mut proof = begun;
+    proof.branches = branches;
+    Ok(proof)
+}
+
+/// The proof that a box has.
+fn out_of_box(proof: Result<Box<Proof>, ReadFault>) -> Result<Proof, ReadFault>
+    ensures { result ≡ unboxed proof }
+{
+    match proof {
+        Ok(proof) => Ok(Box::into_inner(proof)),
+        Err(fault) => Err(fault),
+    }
+}
+
+/// One proof more, where all before it are read; else what is wrong in any.
+#[inline(never)]
+fn pushed_out(
+    proofs: Result<Vec<Proof>, ReadFault>,
+    proof: Result<Box<Proof>, ReadFault>,
+) -> Result<Vec<Proof>, ReadFault>
+    ensures { IsPushed proofs (unboxed proof) result }
+{
+    pushed(proofs, out_of_box(proof))
+}
+
+/// The proofs, with the flaw too that an item is misshapen. It stands apart, likewise.
+#[inline(never)]
+fn with_misshapen(proofs: Result<Vec<Proof>, ReadFault>, item: u64) -> Result<Vec<Proof>, ReadFault>
+    ensures { result ≡ misshapen_too item proofs }
+{
+    misshapen_too(proofs, item)
 }
 
 /// The proof that an item reads as: a step, with its proofs.
-#[cycle(read_proof)]
 pub fn read_proof<S: Scope>(alloc: Global, scope: &S, part: Part<'_>) -> Result<Proof, ReadFault>
     ensures { IsReading proof_of (proof_reading (S.names scope.now) (place_of part.entry) (tree_of part.entry)) result }
+{
+    out_of_box(read_boxed(alloc, scope, part))
+}
+
+/// The same in a box.
+#[cycle(read_proof)]
+fn read_boxed<S: Scope>(alloc: Global, scope: &S, part: Part<'_>) -> Result<Box<Proof>, ReadFault>
+    ensures { IsReading boxed_proof (proof_reading (S.names scope.now) (place_of part.entry) (tree_of part.entry)) result }
 {
     let list = match part.item() {
         Item::Atom(atom) => return Err(wrong(Pass::Shape, atom.number())),
@@ -100,17 +167,18 @@ pub fn read_proof<S: Scope>(alloc: Global, scope: &S, part: Part<'_>) -> Result<
 
 /// The proof of a list's other parts that begins so.
 #[cycle(read_proof)]
+#[inline(never)]
 fn read_step<S: Scope>(
     alloc: Global,
     scope: &S,
     head: Head,
     list: Cursor<'_>,
-) -> Result<Proof, ReadFault>
-    ensures { IsReading proof_of (with_proofs (S.names scope.now) head (owner_of list.entry) (number_of list.entry) (rest_of list.entry)) result }
+) -> Result<Box<Proof>, ReadFault>
+    ensures { IsReading boxed_proof (with_proofs (S.names scope.now) head (owner_of list.entry) (number_of list.entry) (rest_of list.entry)) result }
 {
-    let (step, rest) = read_own(alloc, scope, head, list)?;
+    let (begun, rest) = read_begun(alloc, scope, head, list)?;
     let branches = read_branches(alloc, scope, list.owner(), head.proofs_due(), rest);
-    made_proof(step, branches)
+    finished(begun, branches)
 }
 
 /// The proofs that are due among the items that are left in a list.
@@ -133,14 +201,14 @@ fn read_branches<S: Scope>(
             return if due.is_met() {
                 proofs
             } else {
-                misshapen_too(proofs, owner)
+                with_misshapen(proofs, owner)
             };
         };
         if due.is_full() {
-            return misshapen_too(proofs, number);
+            return with_misshapen(proofs, number);
         }
-        let proof = read_proof(alloc, scope, part);
-        proofs = pushed(proofs, proof);
+        let proof = read_boxed(alloc, scope, part);
+        proofs = pushed_out(proofs, proof);
         due = due.later();
     }
 }

@@ -3,7 +3,7 @@ ghost use Rattle.std.specs.Prelude.{◌≡◌, ◌<◌, ◌≤◌, ◌^◌, [], 
 ghost use Rattle.std.specs.Int.{w64};
 ghost use Rattle.std.specs.Ordering.{int_eq};
 ghost use Rattle.lc_base.specs.Limits.{argument_limit};
-ghost use Rattle.lc_term.specs.SystemColumns.{column_count, op_column};
+ghost use Rattle.lc_term.specs.SystemColumns.{op_column};
 ghost use Rattle.lc_seq.specs.Run.{seq_says};
 ghost use Rattle.lc_term.specs.State.{env_of, variable_count};
 ghost use Rattle.lc_term.specs.UpdateView.{update_of, writes_shown};
@@ -13,12 +13,13 @@ ghost use Rattle.lc_term.specs.Drafts.{written_in_draft, saved_in_draft, draft_c
 ghost use Rattle.lc_seq.specs.Specification.{update_is_resolved};
 ghost use Rattle.lc_seq.specs.SpecView.{operations_of, choice_of};
 ghost use Rattle.lc_seq.specs.Branches.{arity};
-ghost use Rattle.lc_ride.specs.Riding.{settle, note, help};
-ghost use Rattle.lc_ride.specs.RidingFits.{TakenFits, HelpFits};
+ghost use Rattle.lc_ride.specs.Calls.{HasRoom, Settles, Notes, Helps};
+ghost use Rattle.lc_ride.specs.Riding.{help};
+ghost use Rattle.lc_ride.specs.RidingFits.{HelpFits};
 ghost use Rattle.lc_ride.specs.RideView.{AreThere, IsRidden};
 
 use crate::marks::{Mark, mark_writes, note_writes, stands};
-use crate::settling::taken;
+use crate::settling::{Call, taken};
 use lc_action::SystemColumns;
 use lc_base::OpId;
 use lc_seq::{Operation, Outcome, Pick, SeqFault};
@@ -28,41 +29,25 @@ use std::alloc::Global;
 /// A client's call takes effect under a choice, if it is not settled and a branch is taken.
 pub(crate) fn settle(
     alloc: Global,
-    operations: &[Operation],
-    system: SystemColumns,
+    call: Call<'_>,
     draft: &mut Draft,
-    client: u64,
-    operation: OpId,
     pick: Pick,
     marks: &mut Vec<Mark>,
 ) -> Result<bool, SeqFault>
-    requires there { AreThere (operations_of operations.now) (first_of system) (draft_columns draft.old) }
-    requires few { arity (operations_of operations.now) operation.0 ≤ argument_limit }
-    requires client { client < 2 ^ 63 }
-    ensures done { let ops = operations_of operations.now in
-        let m = written_in_draft draft.old in
-        let first = first_of system in
-        IsRidden (TakenFits ops first m client operation.0 (choice_of pick)) (settle ops first m client operation.0 (choice_of pick)) marks.old.items marks.new.items (written_in_draft draft.new) result }
+    requires { HasRoom call (draft_columns draft.old) }
+    ensures done { Settles call.entry (written_in_draft draft.old) (choice_of pick) marks.old.items marks.new.items (written_in_draft draft.new) result }
     ensures saved { saved_in_draft draft.new ≡ saved_in_draft draft.old }
     ensures columns { draft_columns draft.new ≡ draft_columns draft.old }
 {
-    let found = taken(
-        alloc,
-        operations,
-        system,
-        draft.state(),
-        client,
-        operation,
-        &pick,
-    )?;
+    let found = taken(alloc, call, draft.state(), &pick)?;
     let outcome = match found {
         None => return Ok(false),
         Some(outcome) => outcome,
     };
     draft.write_all(&outcome.writes)?;
-    draft.write_all(&mark_writes(alloc, system, client, &outcome.replies)?)?;
+    draft.write_all(&mark_writes(alloc, call.system, call.client, &outcome.replies)?)?;
     marks.push(Mark {
-        client,
+        client: call.client,
         note: false,
         choice: pick,
         reply: outcome.replies,
@@ -73,33 +58,17 @@ pub(crate) fn settle(
 /// The reply of a client's call is noted under a choice, if it is not settled and a branch is taken that stores nothing.
 pub(crate) fn note(
     alloc: Global,
-    operations: &[Operation],
-    system: SystemColumns,
+    call: Call<'_>,
     draft: &mut Draft,
-    client: u64,
-    operation: OpId,
     pick: Pick,
     marks: &mut Vec<Mark>,
 ) -> Result<bool, SeqFault>
-    requires there { AreThere (operations_of operations.now) (first_of system) (draft_columns draft.old) }
-    requires few { arity (operations_of operations.now) operation.0 ≤ argument_limit }
-    requires client { client < 2 ^ 63 }
-    ensures done { let ops = operations_of operations.now in
-        let m = written_in_draft draft.old in
-        let first = first_of system in
-        IsRidden (TakenFits ops first m client operation.0 (choice_of pick)) (note ops first m client operation.0 (choice_of pick)) marks.old.items marks.new.items (written_in_draft draft.new) result }
+    requires { HasRoom call (draft_columns draft.old) }
+    ensures done { Notes call.entry (written_in_draft draft.old) (choice_of pick) marks.old.items marks.new.items (written_in_draft draft.new) result }
     ensures saved { saved_in_draft draft.new ≡ saved_in_draft draft.old }
     ensures columns { draft_columns draft.new ≡ draft_columns draft.old }
 {
-    let found = taken(
-        alloc,
-        operations,
-        system,
-        draft.state(),
-        client,
-        operation,
-        &pick,
-    )?;
+    let found = taken(alloc, call, draft.state(), &pick)?;
     let outcome = match found {
         None => return Ok(false),
         Some(outcome) => outcome,
@@ -107,9 +76,9 @@ pub(crate) fn note(
     if !stores_nothing(&outcome) {
         return Ok(false);
     }
-    draft.write_all(&note_writes(alloc, system, client, &outcome.replies)?)?;
+    draft.write_all(&note_writes(alloc, call.system, call.client, &outcome.replies)?)?;
     marks.push(Mark {
-        client,
+        client: call.client,
         note: true,
         choice: pick,
         reply: outcome.replies,
@@ -117,22 +86,16 @@ pub(crate) fn note(
     Ok(true)
 }
 
-// Whether a client's call is of this operation.
-fn is_named(
-    draft: &Draft,
-    system: SystemColumns,
-    client: u64,
-    operation: OpId,
-) -> Result<bool, EvalFault>
-    requires there { column_count (first_of system) ≤ draft_columns draft.now }
-    requires client { client < 2 ^ 63 }
-    ensures { let cell = written_in_draft draft.now (op_column (first_of system)) (pos client) in OkIff result (FitsSigned w64 cell) (int_eq cell (pos operation.0)) }
+// Whether the call that a client is in is of this operation.
+fn is_named(draft: &Draft, call: Call<'_>) -> Result<bool, EvalFault>
+    requires { HasRoom call (draft_columns draft.now) }
+    ensures { let cell = written_in_draft draft.now (op_column (first_of call.entry.system)) (pos call.entry.client) in OkIff result (FitsSigned w64 cell) (int_eq cell (pos call.entry.operation.0)) }
 {
     stands(
         draft.state(),
-        system.operation(),
-        client,
-        i64::from(operation.0),
+        call.system.operation(),
+        call.client,
+        i64::from(call.operation.0),
     )
 }
 
@@ -155,30 +118,20 @@ fn stores_nothing(outcome: &Outcome) -> bool
 // The call of this operation by a client takes effect.
 fn help_client(
     alloc: Global,
-    operations: &[Operation],
-    system: SystemColumns,
+    call: Call<'_>,
     draft: &mut Draft,
-    client: u64,
-    operation: OpId,
     pick: Pick,
     marks: &mut Vec<Mark>,
 ) -> Result<bool, SeqFault>
-    requires there { AreThere (operations_of operations.now) (first_of system) (draft_columns draft.old) }
-    requires few { arity (operations_of operations.now) operation.0 ≤ argument_limit }
-    requires client { client < 2 ^ 63 }
-    ensures done { let ops = operations_of operations.now in
-        let m = written_in_draft draft.old in
-        let first = first_of system in
-        IsRidden (HelpFits ops first m (pos client) operation.0 (choice_of pick)) (help ops first m (pos client) operation.0 (choice_of pick)) marks.old.items marks.new.items (written_in_draft draft.new) result }
+    requires { HasRoom call (draft_columns draft.old) }
+    ensures done { Helps call.entry (written_in_draft draft.old) (choice_of pick) marks.old.items marks.new.items (written_in_draft draft.new) result }
     ensures saved { saved_in_draft draft.new ≡ saved_in_draft draft.old }
     ensures columns { draft_columns draft.new ≡ draft_columns draft.old }
 {
-    if !is_named(draft, system, client, operation)? {
+    if !is_named(draft, call)? {
         return Ok(false);
     }
-    settle(
-        alloc, operations, system, draft, client, operation, pick, marks,
-    )
+    settle(alloc, call, draft, pick, marks)
 }
 
 /// The call of this operation by the client of this number takes effect, if there is one.
@@ -205,9 +158,13 @@ pub(crate) fn help(
         return Ok(false);
     }
     let client = client_of(client);
-    help_client(
-        alloc, operations, system, draft, client, operation, pick, marks,
-    )
+    let call = Call {
+        operations,
+        system,
+        client,
+        operation,
+    };
+    help_client(alloc, call, draft, pick, marks)
 }
 
 /// A value is stored.

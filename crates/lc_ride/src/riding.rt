@@ -10,13 +10,15 @@ ghost use Rattle.lc_seq.specs.Branches.{arity};
 ghost use Rattle.lc_term.specs.View.{term_of};
 ghost use Rattle.lc_rider.specs.Rider.{Own, Other, Note, Marks};
 ghost use Rattle.lc_rider.specs.RiderView.{rider_of, riders_of, choosing_of};
-ghost use Rattle.lc_ride.specs.Riding.{do_deed, do_rider, do_all};
-ghost use Rattle.lc_ride.specs.RidingFits.{DeedFits, RiderFits, RidersFit};
+ghost use Rattle.lc_ride.specs.Calls.{CanRide, Does};
+ghost use Rattle.lc_ride.specs.Riding.{do_rider, do_all};
+ghost use Rattle.lc_ride.specs.RidingFits.{RiderFits, RidersFit};
 ghost use Rattle.lc_ride.specs.RideView.{AreThere, IsRidden, deed_is_seen, rider_is_seen};
 
 use crate::choosing::pick_of;
 use crate::deeds::{assign, help, note, settle};
 use crate::marks::Mark;
+use crate::settling::Call;
 use lc_action::SystemColumns;
 use lc_base::OpId;
 use lc_rider::{Choosing, Rider};
@@ -35,6 +37,18 @@ pub struct Rides<'a> {
     pub env: &'a Env,
 }
 
+// The client's own call.
+fn own_call<'a>(rides: &Rides<'a>) -> Call<'a>
+    ensures { let r = rides.now in result ≡ record { operations = r.operations; system = r.system; client = r.client; operation = r.operation } }
+{
+    Call {
+        operations: rides.operations,
+        system: rides.system,
+        client: rides.client,
+        operation: rides.operation,
+    }
+}
+
 // The client's own call takes effect.
 fn settle_own(
     alloc: Global,
@@ -43,30 +57,14 @@ fn settle_own(
     by: &Choosing,
     marks: &mut Vec<Mark>,
 ) -> Result<bool, SeqFault>
-    requires there { AreThere (operations_of rides.now.operations.now) (first_of rides.now.system) (draft_columns draft.old) }
-    requires few { (o : ℕ) → arity (operations_of rides.now.operations.now) o ≤ argument_limit }
-    requires client { rides.now.client < 2 ^ 63 }
+    requires rides { CanRide rides.now (draft_columns draft.old) }
     requires seen { deed_is_seen (draft_columns draft.old) (variable_count rides.now.env.now) (Marks Own (choosing_of by.now)) ≡ true }
-    ensures done { let ops = operations_of rides.now.operations.now in
-        let m = written_in_draft draft.old in
-        let first = first_of rides.now.system in
-        let e = env_of rides.now.env.now in
-        let d = Marks Own (choosing_of by.now) in
-        IsRidden (DeedFits ops first rides.now.client rides.now.operation.0 e m d) (do_deed ops first rides.now.client rides.now.operation.0 e m d) marks.old.items marks.new.items (written_in_draft draft.new) result }
+    ensures done { Does rides.now (written_in_draft draft.old) (Marks Own (choosing_of by.now)) marks.old.items marks.new.items (written_in_draft draft.new) result }
     ensures saved { saved_in_draft draft.new ≡ saved_in_draft draft.old }
     ensures columns { draft_columns draft.new ≡ draft_columns draft.old }
 {
     let pick = pick_of(alloc, by, draft.state(), rides.env)?;
-    settle(
-        alloc,
-        rides.operations,
-        rides.system,
-        draft,
-        rides.client,
-        rides.operation,
-        pick,
-        marks,
-    )
+    settle(alloc, own_call(rides), draft, pick, marks)
 }
 
 // The call of this operation takes effect, by the client that a term gives.
@@ -79,16 +77,9 @@ fn settle_other(
     by: &Choosing,
     marks: &mut Vec<Mark>,
 ) -> Result<bool, SeqFault>
-    requires there { AreThere (operations_of rides.now.operations.now) (first_of rides.now.system) (draft_columns draft.old) }
-    requires few { (o : ℕ) → arity (operations_of rides.now.operations.now) o ≤ argument_limit }
-    requires client { rides.now.client < 2 ^ 63 }
+    requires rides { CanRide rides.now (draft_columns draft.old) }
     requires seen { deed_is_seen (draft_columns draft.old) (variable_count rides.now.env.now) (Marks (Other (term_of client.now) operation.0) (choosing_of by.now)) ≡ true }
-    ensures done { let ops = operations_of rides.now.operations.now in
-        let m = written_in_draft draft.old in
-        let first = first_of rides.now.system in
-        let e = env_of rides.now.env.now in
-        let d = Marks (Other (term_of client.now) operation.0) (choosing_of by.now) in
-        IsRidden (DeedFits ops first rides.now.client rides.now.operation.0 e m d) (do_deed ops first rides.now.client rides.now.operation.0 e m d) marks.old.items marks.new.items (written_in_draft draft.new) result }
+    ensures done { Does rides.now (written_in_draft draft.old) (Marks (Other (term_of client.now) operation.0) (choosing_of by.now)) marks.old.items marks.new.items (written_in_draft draft.new) result }
     ensures saved { saved_in_draft draft.new ≡ saved_in_draft draft.old }
     ensures columns { draft_columns draft.new ≡ draft_columns draft.old }
 {
@@ -114,30 +105,14 @@ fn note_own(
     by: &Choosing,
     marks: &mut Vec<Mark>,
 ) -> Result<bool, SeqFault>
-    requires there { AreThere (operations_of rides.now.operations.now) (first_of rides.now.system) (draft_columns draft.old) }
-    requires few { (o : ℕ) → arity (operations_of rides.now.operations.now) o ≤ argument_limit }
-    requires client { rides.now.client < 2 ^ 63 }
+    requires rides { CanRide rides.now (draft_columns draft.old) }
     requires seen { deed_is_seen (draft_columns draft.old) (variable_count rides.now.env.now) (Marks Note (choosing_of by.now)) ≡ true }
-    ensures done { let ops = operations_of rides.now.operations.now in
-        let m = written_in_draft draft.old in
-        let first = first_of rides.now.system in
-        let e = env_of rides.now.env.now in
-        let d = Marks Note (choosing_of by.now) in
-        IsRidden (DeedFits ops first rides.now.client rides.now.operation.0 e m d) (do_deed ops first rides.now.client rides.now.operation.0 e m d) marks.old.items marks.new.items (written_in_draft draft.new) result }
+    ensures done { Does rides.now (written_in_draft draft.old) (Marks Note (choosing_of by.now)) marks.old.items marks.new.items (written_in_draft draft.new) result }
     ensures saved { saved_in_draft draft.new ≡ saved_in_draft draft.old }
     ensures columns { draft_columns draft.new ≡ draft_columns draft.old }
 {
     let pick = pick_of(alloc, by, draft.state(), rides.env)?;
-    note(
-        alloc,
-        rides.operations,
-        rides.system,
-        draft,
-        rides.client,
-        rides.operation,
-        pick,
-        marks,
-    )
+    note(alloc, own_call(rides), draft, pick, marks)
 }
 
 // What a rider does, whatever its condition.
@@ -148,16 +123,9 @@ fn do_deed(
     rider: &Rider,
     marks: &mut Vec<Mark>,
 ) -> Result<bool, SeqFault>
-    requires there { AreThere (operations_of rides.now.operations.now) (first_of rides.now.system) (draft_columns draft.old) }
-    requires few { (o : ℕ) → arity (operations_of rides.now.operations.now) o ≤ argument_limit }
-    requires client { rides.now.client < 2 ^ 63 }
+    requires rides { CanRide rides.now (draft_columns draft.old) }
     requires seen { deed_is_seen (draft_columns draft.old) (variable_count rides.now.env.now) (rider_of rider.now).deed ≡ true }
-    ensures done { let ops = operations_of rides.now.operations.now in
-        let m = written_in_draft draft.old in
-        let first = first_of rides.now.system in
-        let e = env_of rides.now.env.now in
-        let d = (rider_of rider.now).deed in
-        IsRidden (DeedFits ops first rides.now.client rides.now.operation.0 e m d) (do_deed ops first rides.now.client rides.now.operation.0 e m d) marks.old.items marks.new.items (written_in_draft draft.new) result }
+    ensures done { Does rides.now (written_in_draft draft.old) (rider_of rider.now).deed marks.old.items marks.new.items (written_in_draft draft.new) result }
     ensures saved { saved_in_draft draft.new ≡ saved_in_draft draft.old }
     ensures columns { draft_columns draft.new ≡ draft_columns draft.old }
 {
@@ -185,9 +153,7 @@ fn do_rider(
     rider: &Rider,
     marks: &mut Vec<Mark>,
 ) -> Result<bool, SeqFault>
-    requires there { AreThere (operations_of rides.now.operations.now) (first_of rides.now.system) (draft_columns draft.old) }
-    requires few { (o : ℕ) → arity (operations_of rides.now.operations.now) o ≤ argument_limit }
-    requires client { rides.now.client < 2 ^ 63 }
+    requires rides { CanRide rides.now (draft_columns draft.old) }
     requires seen { rider_is_seen (draft_columns draft.old) (variable_count rides.now.env.now) (rider_of rider.now) ≡ true }
     ensures done { let ops = operations_of rides.now.operations.now in
         let m = written_in_draft draft.old in

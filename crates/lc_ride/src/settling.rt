@@ -1,6 +1,5 @@
 //! The branch that a client's call takes, with what it stores and replies.
 ghost use Rattle.std.specs.Prelude.{◌≡◌, ◌+◌, ◌<◌, ◌≤◌, ◌^◌, ◌++◌, length, map, take, pos, OnOk, IfOk, IfErr, IfSome};
-ghost use Rattle.lc_base.specs.Limits.{argument_limit};
 ghost use Rattle.lc_term.specs.Lists.{Every};
 ghost use Rattle.lc_term.specs.State.{state_of, env_of, column_count, variable_count};
 ghost use Rattle.lc_term.specs.SystemColumns as columns;
@@ -15,7 +14,7 @@ ghost use Rattle.lc_seq.specs.TextStep.{call_env};
 ghost use Rattle.lc_rider.specs.Rider.{arguments_in};
 ghost use Rattle.lc_ride.specs.Riding.{taken};
 ghost use Rattle.lc_ride.specs.RidingFits.{CellsFit, CallFits, TakenFits};
-ghost use Rattle.lc_ride.specs.RideView.{AreThere};
+ghost use Rattle.lc_ride.specs.Calls.{HasRoom};
 
 use crate::marks::stands;
 use lc_action::SystemColumns;
@@ -23,6 +22,15 @@ use lc_base::{ColId, OpId};
 use lc_seq::{Branch, Operation, Outcome, Pick, SeqFault, run};
 use lc_term::{Env, State};
 use std::alloc::Global;
+
+/// The call that a client is in, of one of these operations, and where the system columns stand.
+#[derive(Clone, Copy)]
+pub(crate) struct Call<'a> {
+    pub operations: &'a [Operation],
+    pub system: SystemColumns,
+    pub client: u64,
+    pub operation: OpId,
+}
 
 // The branches of an operation.
 fn branches_at(operations: &[Operation], operation: OpId) -> &[Branch]
@@ -64,30 +72,20 @@ fn push_cells(
 }
 
 // The variables of a branch at a client's call that stands in the columns, where it is given these numbers for its parameters.
-fn call_env(
-    alloc: Global,
-    operations: &[Operation],
-    system: SystemColumns,
-    state: &State,
-    client: u64,
-    operation: OpId,
-    given: &[i64],
-) -> Result<Env, SeqFault>
-    requires there { columns.column_count (first_of system) ≤ column_count state.now }
-    requires few { arity (operations_of operations.now) operation.0 ≤ argument_limit }
-    requires client { client < 2 ^ 63 }
-    ensures env { let ops = operations_of operations.now in
+fn call_env(alloc: Global, call: Call<'_>, state: &State, given: &[i64]) -> Result<Env, SeqFault>
+    requires { HasRoom call (column_count state.now) }
+    ensures env { let ops = operations_of call.entry.operations.now in
         let m = state_of state.now in
-        let first = first_of system in
-        IsComputed seq_says env_of (CellsFit m (take (arity ops operation.0) (columns.arg_columns first)) (pos client)) (call_env client (arguments_in ops first m client operation.0 ++ given.now)) result }
-    ensures count { IfOk result (λ env. variable_count env ≡ 2 + arity (operations_of operations.now) operation.0 + length given.now) }
+        let first = first_of call.entry.system in
+        IsComputed seq_says env_of (CellsFit m (take (arity ops call.entry.operation.0) (columns.arg_columns first)) (pos call.entry.client)) (call_env call.entry.client (arguments_in ops first m call.entry.client call.entry.operation.0 ++ given.now)) result }
+    ensures count { IfOk result (λ env. variable_count env ≡ 2 + arity (operations_of call.entry.operations.now) call.entry.operation.0 + length given.now) }
 {
-    let columns = system.arguments();
-    let columns = &columns[..arity(operations, operation)];
+    let columns = call.system.arguments();
+    let columns = &columns[..arity(call.operations, call.operation)];
     let mut values = Vec::new(alloc);
     values.push(0)?;
-    values.push(client as i64)?;
-    push_cells(state, columns, client, &mut values)?;
+    values.push(call.client as i64)?;
+    push_cells(state, columns, call.client, &mut values)?;
     values.extend_from_slice(given)?;
     Ok(Env { values })
 }
@@ -95,33 +93,21 @@ fn call_env(
 /// What the branch stores and replies that a client's call takes under a choice, where the call is not settled.
 pub(crate) fn taken(
     alloc: Global,
-    operations: &[Operation],
-    system: SystemColumns,
+    call: Call<'_>,
     state: &State,
-    client: u64,
-    operation: OpId,
     pick: &Pick,
 ) -> Result<Option<Outcome>, SeqFault>
-    requires there { AreThere (operations_of operations.now) (first_of system) (column_count state.now) }
-    requires few { arity (operations_of operations.now) operation.0 ≤ argument_limit }
-    requires client { client < 2 ^ 63 }
-    ensures computed { let ops = operations_of operations.now in
+    requires { HasRoom call (column_count state.now) }
+    ensures computed { let ops = operations_of call.entry.operations.now in
         let m = state_of state.now in
-        let first = first_of system in
-        IsComputed seq_says outcome_in (TakenFits ops first m client operation.0 (choice_of pick.now)) (taken ops first m client operation.0 (choice_of pick.now)) result }
+        let first = first_of call.entry.system in
+        IsComputed seq_says outcome_in (TakenFits ops first m call.entry.client call.entry.operation.0 (choice_of pick.now)) (taken ops first m call.entry.client call.entry.operation.0 (choice_of pick.now)) result }
     ensures columns { IfOk result (λ found. IfSome found (λ outcome. AreWithin (column_count state.now) (writes_shown outcome.writes.items))) }
 {
-    if !stands(state, system.pend(), client, 1)? {
+    if !stands(state, call.system.pend(), call.client, 1)? {
         return Ok(None);
     }
-    let env = call_env(
-        alloc,
-        operations,
-        system,
-        state,
-        client,
-        operation,
-        pick.numbers(),
-    )?;
-    run(alloc, branches_at(operations, operation), pick, state, &env)
+    let env = call_env(alloc, call, state, pick.numbers())?;
+    let branches = branches_at(call.operations, call.operation);
+    run(alloc, branches, pick, state, &env)
 }

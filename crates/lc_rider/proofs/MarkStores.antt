@@ -15,8 +15,10 @@ use Rattle.lc_table.specs.declared.node.ColExprId.{ColExprId}
 use Rattle.lc_table.specs.declared.node.TermId.{TermId}
 use Rattle.lc_term.specs.declared.term.Term as D
 use Rattle.lc_term.specs.declared.update.Update as M
-use Rattle.lc_table.proofs.ByNumber.{columns_still, terms_still, replacement_still}
+use Rattle.lc_table.proofs.ByNumber.{are_columns_later, are_terms_later, columns_still, terms_still, replacement_still}
 use Rattle.lc_table.proofs.Later.{kept_on, term_is}
+use Rattle.lc_table.specs.declared.put_numbers.PutNumbers.{PutNumbers}
+use Rattle.lc_rider.specs.MarkStores.{CanStore}
 use Rattle.lc_rider.proofs.PathSteps.{puts-append}
 use Rattle.lc_rider.proofs.Saying.{said_is}
 
@@ -24,6 +26,14 @@ use Rattle.lc_rider.proofs.Saying.{said_is}
 pub puts_joined : (σ ρ μ : ℕ → Column) (τ : List Term) (start : ℕ → Column) (us vs : List Update) → ρ ≡ puts start (map (said σ τ) us) → μ ≡ puts ρ (map (said σ τ) vs) → μ ≡ puts start (map (said σ τ) (us ++ vs))
 puts_joined σ ρ μ τ start us vs first second =
     second ∙ ap (λ (x : ℕ → Column). puts x (map (said σ τ) vs)) first ∙ sym (puts-append start (map (said σ τ) us) (map (said σ τ) vs)) ∙ ap (puts start) (sym (map-append (said σ τ) us vs))
+
+-- what can be stored in a table can be stored in those that keep it
+pub can_store_later : (old mid : Table) (put : PutNumbers) (before now : List (ColId × ColExprId)) → CanStore old put before → Keeps old mid → AreColumns mid now → CanStore mid put now
+can_store_later old mid put before now can kept are = record {
+  before = are_columns_later old mid put.columns.now can.before kept;
+  variables = are_terms_later old mid put.variables.now can.variables kept;
+  columns = are;
+}
 
 -- one more update
 pub updates_more : (σ : ℕ → Column) (τ : List Term) (us : List M.Update) (i : ℕ) (u : M.Update) (ρ μ whole : ℕ → Column) → i < length us → u ≡ get_or us i u → μ ≡ put ρ (said σ τ (update_of u)) →

@@ -1,22 +1,15 @@
 -- Marks of the code, one branch after another.
-use Rattle.std.proofs.Common.{◌≡◌, ℕ, zero, suc, ◌+◌, ◌<◌, ◌≤◌, List, [], ◌∷◌, ◌++◌, length, drop, take, min, map, get_or, pos, refl, sym, ap, ap₂, ◌∙◌, arith, append_assoc}
-use Rattle.std.specs.Prelude.{option_map}
-use Rattle.std.proofs.lemmas.Option.{slice_get-map, slice_get_past}
-use Rattle.std.proofs.lemmas.List.{drop_more, take-map, take_all}
+use Rattle.std.proofs.Common.{◌≡◌, ℕ, zero, suc, ◌+◌, List, [], ◌∷◌, ◌++◌, take, min, map, pos, refl, sym, ap, ap₂, ◌∙◌, arith, append_assoc}
+use Rattle.std.proofs.lemmas.List.{take-map, take_all}
 use Rattle.lc_base.specs.declared.ids.ColId.{ColId}
-use Rattle.lc_term.specs.Said.{told, reads}
-use Rattle.lc_term.specs.Syntax.{Term, Number, Read, Column, Formula, Not}
+use Rattle.lc_term.specs.Said.{reads}
+use Rattle.lc_term.specs.Syntax.{Term, Number, Read, Column, Formula}
 use Rattle.lc_term.specs.SystemColumns.{arg_columns}
-use Rattle.lc_term.specs.View.{formula_of}
-use Rattle.lc_seq.specs.Branches.{branches_in, op_branches}
 use Rattle.lc_seq.specs.Specification.{Operation}
-use Rattle.lc_seq.specs.SpecView.{branch_of, branches_of, operation_of, operations_of}
-use Rattle.lc_seq.specs.declared.specification.Branch.{Branch}
-use Rattle.lc_seq.specs.declared.specification.Operation as D
 use Rattle.lc_rider.specs.Rider.{Marking, Own, Other, Note}
 use Rattle.lc_rider.specs.Paths as S
 use Rattle.lc_rider.specs.Paths.{Owing, Duty, Pending, Enabled, named_duty, with_fact}
-use Rattle.lc_rider.specs.MarkView.{with_duties, branch_path}
+use Rattle.lc_rider.specs.MarkView.{with_duties}
 use Rattle.lc_rider.specs.PathView.{with_duty}
 
 -- ---- operations

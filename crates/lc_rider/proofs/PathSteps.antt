@@ -1,12 +1,10 @@
 -- Paths of the code, one step after another.
-use Rattle.std.proofs.Common.{◌≡◌, ℕ, zero, suc, ◌+◌, ◌≤◌, List, [], ◌∷◌, ◌++◌, length, map, refl, sym, ap, ap₂, ◌∙◌, arith, add-one}
-use Rattle.std.proofs.lemmas.List.{take-append-le, map-append}
+use Rattle.std.proofs.Common.{◌≡◌, ℕ, zero, suc, ◌+◌, ◌≤◌, List, [], ◌∷◌, ◌++◌, length, map, refl, ap, ap₂, ◌∙◌, arith, add-one}
+use Rattle.std.proofs.lemmas.List.{take-append-le}
 use Rattle.lc_term.specs.Lists.{Every, concat_map}
 use Rattle.lc_term.specs.Syntax.{Term, Variable, Column, Formula}
 use Rattle.lc_term.specs.Said.{put, puts, variables_from}
 use Rattle.lc_term.specs.Updates.{Update}
-use Rattle.lc_term.specs.UpdateView.{update_of, updates_of}
-use Rattle.lc_term.specs.declared.update.Update as M
 use Rattle.lc_seq.specs.Specification.{Operation}
 use Rattle.lc_rider.specs.Rider.{Rider}
 use Rattle.lc_rider.specs.Paths.{Path, Duty, rider_paths, paths}

@@ -15,9 +15,9 @@ use Rattle.lc_term.proofs.Stores.{Every-append, Every-map, Every_left, Every_rig
 use Rattle.lc_term.proofs.Symbolic.{values_by, columns_by-put, columns_by-after, write-said, value-said, Holds-told, each_left, each_right}
 use Rattle.lc_seq.specs.Branches.{op_branches}
 use Rattle.lc_seq.specs.Sequential.{Chosen, Choice}
-use Rattle.lc_seq.specs.Specification.{Branch, Operation, chosen}
-use Rattle.lc_seq.specs.TextStep.{run, call_env}
-use Rattle.lc_rider.specs.Rider.{Mark, Marking, Own, Other, Note, Deed, Assign, Marks, Rider, arguments_in, IsSettled, IsNoted, IsDone, IsDoneWhere, RideAll, mark_writes, note_writes}
+use Rattle.lc_seq.specs.Specification.{Branch, Operation}
+use Rattle.lc_seq.specs.TextStep.{run}
+use Rattle.lc_rider.specs.Rider.{Mark, Marking, Own, Other, Note, Deed, Assign, Marks, Rider, IsSettled, IsNoted, IsDone, IsDoneWhere, RideAll, mark_writes, note_writes}
 use Rattle.lc_rider.specs.Paths.{Path, Duty, observing_duty, is_empty, with_fact, mark_updates, marked_op, mark_duties, branch_paths, deed_paths, deed_paths_where, rider_paths, paths}
 use Rattle.lc_rider.specs.PathLaws.{AreGround, OnlyClients, LeavesCalls, DeedLeavesCalls, PathsAreTaken}
 use Rattle.lc_seq.proofs.Choosing.{chosen-map, chosen-every}

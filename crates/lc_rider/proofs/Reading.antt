@@ -3,11 +3,11 @@ use Rattle.std.proofs.Common.{◌≡◌, ℕ, ◌+◌, ◌<◌, List, [], ◌∷
 use Rattle.std.proofs.lemmas.List.{drop_more, map-append}
 use Rattle.lc_base.specs.declared.ids.ColId.{ColId}
 use Rattle.lc_table.specs.NodeTables.{Table}
-use Rattle.lc_table.specs.Nodes.{term, is_term, is_column}
+use Rattle.lc_table.specs.Nodes.{term, is_term}
 use Rattle.lc_table.specs.PutNumbers.{columns_at, AreColumns, terms_in, AreTerms}
 use Rattle.lc_term.specs.Said.{reads}
 use Rattle.lc_term.specs.Syntax.{Term, Read, Column}
-use Rattle.lc_table.specs.Tables.{term_in, column_in, IsTerm, IsColumn, HasTerm, HasColumn, Keeps}
+use Rattle.lc_table.specs.Tables.{term_in, column_in, IsTerm, HasTerm, HasColumn, Keeps}
 use Rattle.lc_table.specs.declared.node.ColExprId.{ColExprId}
 use Rattle.lc_table.specs.declared.node.TermId.{TermId}
 use Rattle.lc_table.proofs.ByNumber.{are_terms_later, terms_still, columns_still}

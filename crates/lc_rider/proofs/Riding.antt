@@ -11,7 +11,7 @@ use Rattle.lc_term.specs.Replacement.{replacing, replace_term}
 use Rattle.lc_term.specs.Truth.{is_ground, truth}
 use Rattle.lc_term.proofs.Truth.{Decides-truth}
 use Rattle.lc_seq.specs.Sequential.{Chosen, Choice, given_in, choose_map}
-use Rattle.lc_seq.specs.Specification.{Branch, Operation, branch_is_resolved, chosen}
+use Rattle.lc_seq.specs.Specification.{Branch, Operation, chosen}
 use Rattle.lc_seq.specs.TextStep.{run, call_env}
 use Rattle.lc_seq.proofs.Choosing.{chosen-map, given-map, chosen-every, resolved_behind}
 use Rattle.lc_term.specs.Lists.{Every, concat_map, numbered, concat_places}

@@ -6,4 +6,6 @@ pub mod DutyView
 pub mod Stored
 pub mod PathView
 pub mod MarkView
+pub mod MarkStores
 pub mod PathsAdded
+pub mod Turns

@@ -14,10 +14,11 @@ ghost use Rattle.lc_action.specs.ActionView.{first_of};
 ghost use Rattle.lc_seq.specs.Sequential.{given_in};
 ghost use Rattle.lc_seq.specs.Specification.{chosen};
 ghost use Rattle.lc_rider.specs.MarkView.{marking_of};
-ghost use Rattle.lc_rider.specs.Paths.{choice_paths, deed_paths, rider_paths, paths, edge_variables, path_start};
+ghost use Rattle.lc_rider.specs.Paths.{choice_paths, paths, edge_variables, path_start};
 ghost use Rattle.lc_rider.specs.PathView.{path_in, with_columns, IsPath, ArePaths, HasPath, HavePaths};
 ghost use Rattle.lc_rider.specs.PathsAdded.{AddsPaths};
-ghost use Rattle.lc_rider.specs.RiderView.{choosing_of, rider_of, riders_of};
+ghost use Rattle.lc_rider.specs.RiderView.{choosing_of, riders_of};
+ghost use Rattle.lc_rider.specs.Turns.{IsBefore, paths_of_deed, paths_of_rider};
 
 use crate::edge::{Edge, edge_variables, path_start};
 use crate::mark_paths::mark_paths;
@@ -39,6 +40,14 @@ struct Riding<'a> {
     system: SystemColumns,
     operation: OpId,
     variables: &'a [TermId],
+}
+
+// The rider whose turn it is, at its place.
+#[derive(Clone, Copy)]
+struct Turn<'a> {
+    riding: Riding<'a>,
+    number: usize,
+    rider: &'a Rider,
 }
 
 // The path behind an assignment.
@@ -87,8 +96,7 @@ fn said_before(
 fn marked(
     alloc: Global,
     terms: &mut Terms,
-    riding: Riding<'_>,
-    rider: usize,
+    turn: Turn<'_>,
     marking: Marking,
     operation: OpId,
     client: &Term,
@@ -96,23 +104,23 @@ fn marked(
     path: Path,
     paths: &mut Vec<Path>,
 ) -> Result<(), OutOfMemory>
-    requires path { IsPath terms.old path }
-    requires variables { AreTerms terms.old riding.variables.now }
+    requires { IsBefore terms.old turn path }
     ensures paths { let p = path_in terms.old path in
-        let said = replace_term (replacing p.columns (term_at (terms_in terms.old riding.entry.variables.now))) in
+        let said = replace_term (replacing p.columns (term_at (terms_in terms.old turn.entry.riding.variables.now))) in
         let c = said (term_of client.now) in
-        let operations = (specification_of riding.entry.specification.now).operations in
+        let operations = (specification_of turn.entry.riding.specification.now).operations in
         OnOk result (AddsPaths paths.old.items terms.new paths.new.items
-        (choice_paths operations (first_of riding.entry.system) rider operation.0 (marking_of marking c) c
+        (choice_paths operations (first_of turn.entry.riding.system) turn.entry.number operation.0 (marking_of marking c) c
         (map said (given_in (choosing_of by.now))) (chosen (choosing_of by.now) (op_branches operations operation.0)) p)) }
     ensures kept { Keeps terms.old terms.new }
 {
+    let riding = turn.riding;
     let client = path.said_before(alloc, terms, riding.variables, client)?;
     let given = said_before(alloc, terms, riding.variables, &path, by.terms())?;
     let mark = Mark {
         specification: riding.specification,
         system: riding.system,
-        rider,
+        rider: turn.number,
         marking,
         operation,
         client,
@@ -124,39 +132,26 @@ fn marked(
 fn deed_paths(
     alloc: Global,
     terms: &mut Terms,
-    riding: Riding<'_>,
-    number: usize,
-    rider: &Rider,
+    turn: Turn<'_>,
     path: Path,
     paths: &mut Vec<Path>,
 ) -> Result<(), OutOfMemory>
-    requires path { IsPath terms.old path }
-    requires variables { AreTerms terms.old riding.variables.now }
-    ensures paths { OnOk result (AddsPaths paths.old.items terms.new paths.new.items
-        (deed_paths (specification_of riding.entry.specification.now).operations (first_of riding.entry.system) number riding.entry.operation.0
-        (terms_in terms.old riding.entry.variables.now) (rider_of rider.now).deed (path_in terms.old path))) }
+    requires { IsBefore terms.old turn path }
+    ensures paths { OnOk result (AddsPaths paths.old.items terms.new paths.new.items (paths_of_deed terms.old turn.entry (path_in terms.old path))) }
     ensures kept { Keeps terms.old terms.new }
 {
     let own = Term::Variable(1);
-    match rider {
+    let operation = turn.riding.operation;
+    match turn.rider {
         Rider::Assign { update, .. } => {
-            let behind = updated(alloc, terms, riding.variables, update, path)?;
+            let behind = updated(alloc, terms, turn.riding.variables, update, path)?;
             paths.push(behind)?;
             Ok(())
         }
         Rider::LinSelf { by, .. } => {
-            let operation = riding.operation;
+            let marking = Marking::Own;
             marked(
-                alloc,
-                terms,
-                riding,
-                number,
-                Marking::Own,
-                operation,
-                &own,
-                by,
-                path,
-                paths,
+                alloc, terms, turn, marking, operation, &own, by, path, paths,
             )
         }
         Rider::LinOther {
@@ -167,22 +162,13 @@ fn deed_paths(
         } => {
             let marking = Marking::Other(*operation);
             marked(
-                alloc, terms, riding, number, marking, *operation, client, by, path, paths,
+                alloc, terms, turn, marking, *operation, client, by, path, paths,
             )
         }
         Rider::Note { by, .. } => {
-            let operation = riding.operation;
+            let marking = Marking::Note;
             marked(
-                alloc,
-                terms,
-                riding,
-                number,
-                Marking::Note,
-                operation,
-                &own,
-                by,
-                path,
-                paths,
+                alloc, terms, turn, marking, operation, &own, by, path, paths,
             )
         }
     }
@@ -193,26 +179,21 @@ fn deed_paths(
 fn rider_paths(
     alloc: Global,
     terms: &mut Terms,
-    riding: Riding<'_>,
-    number: usize,
-    rider: &Rider,
+    turn: Turn<'_>,
     path: Path,
     paths: &mut Vec<Path>,
 ) -> Result<(), OutOfMemory>
-    requires path { IsPath terms.old path }
-    requires variables { AreTerms terms.old riding.variables.now }
-    ensures paths { OnOk result (AddsPaths paths.old.items terms.new paths.new.items
-        (rider_paths (specification_of riding.entry.specification.now).operations (first_of riding.entry.system) number riding.entry.operation.0
-        (terms_in terms.old riding.entry.variables.now) (rider_of rider.now) (path_in terms.old path))) }
+    requires { IsBefore terms.old turn path }
+    ensures paths { OnOk result (AddsPaths paths.old.items terms.new paths.new.items (paths_of_rider terms.old turn.entry (path_in terms.old path))) }
     ensures kept { Keeps terms.old terms.new }
 {
-    let Some(when) = rider.condition() else {
-        return deed_paths(alloc, terms, riding, number, rider, path, paths);
+    let Some(when) = turn.rider.condition() else {
+        return deed_paths(alloc, terms, turn, path, paths);
     };
-    let condition = path.told_before(alloc, terms, riding.variables, when.formula())?;
+    let condition = path.told_before(alloc, terms, turn.riding.variables, when.formula())?;
     let copy = path.try_clone(alloc)?;
     let holds = copy.with_fact(condition)?;
-    deed_paths(alloc, terms, riding, number, rider, holds, paths)?;
+    deed_paths(alloc, terms, turn, holds, paths)?;
     let negated = terms.not(condition)?;
     let fails = path.with_fact(negated)?;
     paths.push(fails)?;
@@ -223,21 +204,17 @@ fn rider_paths(
 fn each_ridden(
     alloc: Global,
     terms: &mut Terms,
-    riding: Riding<'_>,
-    number: usize,
-    rider: &Rider,
+    turn: Turn<'_>,
     paths: Vec<Path>,
 ) -> Result<Vec<Path>, OutOfMemory>
     requires paths { ArePaths terms.old paths.items }
-    requires variables { AreTerms terms.old riding.variables.now }
-    ensures paths { IfOk result (λ ridden. HavePaths terms.new ridden.items
-        (concat_map (rider_paths (specification_of riding.entry.specification.now).operations (first_of riding.entry.system) number riding.entry.operation.0
-        (terms_in terms.old riding.entry.variables.now) (rider_of rider.now)) (map (path_in terms.old) paths.items))) }
+    requires variables { AreTerms terms.old turn.riding.variables.now }
+    ensures paths { IfOk result (λ ridden. HavePaths terms.new ridden.items (concat_map (paths_of_rider terms.old turn.entry) (map (path_in terms.old) paths.items))) }
     ensures kept { Keeps terms.old terms.new }
 {
     let mut ridden = Vec::new(alloc);
     for path in paths {
-        rider_paths(alloc, terms, riding, number, rider, path, &mut ridden)?;
+        rider_paths(alloc, terms, turn, path, &mut ridden)?;
     }
     Ok(ridden)
 }
@@ -260,7 +237,12 @@ fn ridden(
     let mut paths = Vec::new(alloc);
     paths.push(start)?;
     for (number, rider) in riders.iter().enumerate() {
-        paths = each_ridden(alloc, terms, riding, number, rider, paths)?;
+        let turn = Turn {
+            riding,
+            number,
+            rider,
+        };
+        paths = each_ridden(alloc, terms, turn, paths)?;
     }
     Ok(paths)
 }

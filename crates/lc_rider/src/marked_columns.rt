@@ -1,13 +1,14 @@
 //! The columns behind a mark.
 ghost use Rattle.std.specs.Prelude.{◌≡◌, IfOk, OnOk, map};
 ghost use Rattle.lc_table.specs.PutNumbers.{columns_at, AreColumns, terms_in, AreTerms};
-ghost use Rattle.lc_term.specs.Said.{puts, said, after, at_client};
+ghost use Rattle.lc_term.specs.Said.{after, at_client};
 ghost use Rattle.lc_term.specs.Syntax as T;
 ghost use Rattle.lc_table.specs.Tables.{term_in, Keeps};
 ghost use Rattle.lc_term.specs.UpdateView.{updates_of};
 ghost use Rattle.lc_term.specs.View.{term_of};
 ghost use Rattle.lc_seq.specs.SpecView.{branch_of};
 ghost use Rattle.lc_action.specs.ActionView.{first_of};
+ghost use Rattle.lc_rider.specs.MarkStores.{CanStore, AreStored};
 ghost use Rattle.lc_rider.specs.MarkView.{marking_of};
 ghost use Rattle.lc_rider.specs.PathView.{path_in, IsPath};
 ghost use Rattle.lc_rider.specs.Paths.{mark_updates};
@@ -31,12 +32,9 @@ fn store_updates(
     updates: &[Update],
     columns: &mut Vec<(ColId, ColExprId)>,
 ) -> Result<(), OutOfMemory>
-    requires before { AreColumns terms.old before.columns.now }
-    requires variables { AreTerms terms.old before.variables.now }
-    requires columns { AreColumns terms.old columns.old.items }
+    requires { CanStore terms.old before columns.old.items }
     ensures are { OnOk result (AreColumns terms.new columns.new.items) }
-    ensures stored { OnOk result (columns_at terms.new columns.new.items ≡ puts (columns_at terms.old columns.old.items)
-        (map (said (columns_at terms.old before.entry.columns.now) (terms_in terms.old before.entry.variables.now)) (updates_of updates.now))) }
+    ensures stored { OnOk result (AreStored terms.old before.entry columns.old.items (updates_of updates.now) terms.new columns.new.items) }
     ensures kept { Keeps terms.old terms.new }
 {
     for update in updates {
@@ -64,12 +62,9 @@ fn store_own(
     values: &[Term],
     columns: &mut Vec<(ColId, ColExprId)>,
 ) -> Result<(), OutOfMemory>
-    requires before { AreColumns terms.old before.columns.now }
-    requires variables { AreTerms terms.old before.variables.now }
-    requires columns { AreColumns terms.old columns.old.items }
+    requires { CanStore terms.old before columns.old.items }
     ensures are { OnOk result (AreColumns terms.new columns.new.items) }
-    ensures stored { OnOk result (columns_at terms.new columns.new.items ≡ puts (columns_at terms.old columns.old.items)
-        (map (said (columns_at terms.old before.entry.columns.now) (terms_in terms.old before.entry.variables.now)) (at_client (map (λ c. c.0) cells.now) (map term_of values.now)))) }
+    ensures stored { OnOk result (AreStored terms.old before.entry columns.old.items (at_client (map (λ c. c.0) cells.now) (map term_of values.now)) terms.new columns.new.items) }
     ensures kept { Keeps terms.old terms.new }
 {
     let client = terms.variable(1)?;
@@ -83,37 +78,40 @@ fn store_own(
     Ok(())
 }
 
+// What a mark stores by a branch: the branch, and what is put in where its words are said.
+#[derive(Clone, Copy)]
+struct Effect<'a> {
+    before: PutNumbers<'a>,
+    system: SystemColumns,
+    branch: &'a Branch,
+}
+
 // What is stored where a call takes effect by this branch: its updates, then its replies, then that it has.
 fn store_settled(
     alloc: Global,
     terms: &mut Terms,
-    before: PutNumbers<'_>,
-    system: SystemColumns,
-    branch: &Branch,
+    effect: Effect<'_>,
     columns: &mut Vec<(ColId, ColExprId)>,
 ) -> Result<(), OutOfMemory>
-    requires before { AreColumns terms.old before.columns.now }
-    requires variables { AreTerms terms.old before.variables.now }
-    requires columns { AreColumns terms.old columns.old.items }
+    requires { CanStore terms.old effect.before columns.old.items }
     ensures are { OnOk result (AreColumns terms.new columns.new.items) }
-    ensures stored { OnOk result (columns_at terms.new columns.new.items ≡ puts (columns_at terms.old columns.old.items)
-        (map (said (columns_at terms.old before.entry.columns.now) (terms_in terms.old before.entry.variables.now)) (mark_updates (first_of system) Own (branch_of branch.now)))) }
+    ensures stored { OnOk result (AreStored terms.old effect.entry.before columns.old.items (mark_updates (first_of effect.entry.system) Own (branch_of effect.entry.branch.now)) terms.new columns.new.items) }
     ensures kept { Keeps terms.old terms.new }
 {
-    store_updates(alloc, terms, before, &branch.updates, columns)?;
+    store_updates(alloc, terms, effect.before, &effect.branch.updates, columns)?;
     store_own(
         alloc,
         terms,
-        before,
-        &system.replies(),
-        &branch.replies,
+        effect.before,
+        &effect.system.replies(),
+        &effect.branch.replies,
         columns,
     )?;
     store_own(
         alloc,
         terms,
-        before,
-        &[system.pend()],
+        effect.before,
+        &[effect.system.pend()],
         &[Term::Number(2)],
         columns,
     )
@@ -123,59 +121,50 @@ fn store_settled(
 fn store_noted(
     alloc: Global,
     terms: &mut Terms,
-    before: PutNumbers<'_>,
-    system: SystemColumns,
-    branch: &Branch,
+    effect: Effect<'_>,
     columns: &mut Vec<(ColId, ColExprId)>,
 ) -> Result<(), OutOfMemory>
-    requires before { AreColumns terms.old before.columns.now }
-    requires variables { AreTerms terms.old before.variables.now }
-    requires columns { AreColumns terms.old columns.old.items }
+    requires { CanStore terms.old effect.before columns.old.items }
     ensures are { OnOk result (AreColumns terms.new columns.new.items) }
-    ensures stored { OnOk result (columns_at terms.new columns.new.items ≡ puts (columns_at terms.old columns.old.items)
-        (map (said (columns_at terms.old before.entry.columns.now) (terms_in terms.old before.entry.variables.now)) (mark_updates (first_of system) Note (branch_of branch.now)))) }
+    ensures stored { OnOk result (AreStored terms.old effect.entry.before columns.old.items (mark_updates (first_of effect.entry.system) Note (branch_of effect.entry.branch.now)) terms.new columns.new.items) }
     ensures kept { Keeps terms.old terms.new }
 {
     store_own(
         alloc,
         terms,
-        before,
-        &[system.noted()],
+        effect.before,
+        &[effect.system.noted()],
         &[Term::Number(1)],
         columns,
     )?;
     store_own(
         alloc,
         terms,
-        before,
-        &system.notes(),
-        &branch.replies,
+        effect.before,
+        &effect.system.notes(),
+        &effect.branch.replies,
         columns,
     )
 }
 
-// What is stored at a mark by this branch.
+// What is stored at a mark.
 fn store_marked(
     alloc: Global,
     terms: &mut Terms,
-    before: PutNumbers<'_>,
-    mark: Mark<'_>,
-    branch: &Branch,
+    marking: Marking,
+    effect: Effect<'_>,
     columns: &mut Vec<(ColId, ColExprId)>,
 ) -> Result<(), OutOfMemory>
-    requires before { AreColumns terms.old before.columns.now }
-    requires variables { AreTerms terms.old before.variables.now }
-    requires columns { AreColumns terms.old columns.old.items }
+    requires { CanStore terms.old effect.before columns.old.items }
     ensures are { OnOk result (AreColumns terms.new columns.new.items) }
-    ensures stored { (client : T.Term) → OnOk result (columns_at terms.new columns.new.items ≡ puts (columns_at terms.old columns.old.items)
-        (map (said (columns_at terms.old before.entry.columns.now) (terms_in terms.old before.entry.variables.now))
-        (mark_updates (first_of mark.entry.system) (marking_of mark.entry.marking client) (branch_of branch.now)))) }
+    ensures stored { (client : T.Term) → OnOk result (AreStored terms.old effect.entry.before columns.old.items
+        (mark_updates (first_of effect.entry.system) (marking_of marking client) (branch_of effect.entry.branch.now)) terms.new columns.new.items) }
     ensures kept { Keeps terms.old terms.new }
 {
-    match mark.marking {
-        Marking::Own => store_settled(alloc, terms, before, mark.system, branch, columns),
-        Marking::Other(_) => store_settled(alloc, terms, before, mark.system, branch, columns),
-        Marking::Note => store_noted(alloc, terms, before, mark.system, branch, columns),
+    match marking {
+        Marking::Own => store_settled(alloc, terms, effect, columns),
+        Marking::Other(_) => store_settled(alloc, terms, effect, columns),
+        Marking::Note => store_noted(alloc, terms, effect, columns),
     }
 }
 
@@ -199,7 +188,11 @@ pub(crate) fn marked_columns(
 {
     let columns = path.columns();
     let mut stored = Vec::from_slice(alloc, columns)?;
-    let before = PutNumbers { columns, variables };
-    store_marked(alloc, terms, before, mark, branch, &mut stored)?;
+    let effect = Effect {
+        before: PutNumbers { columns, variables },
+        system: mark.system,
+        branch,
+    };
+    store_marked(alloc, terms, mark.marking, effect, &mut stored)?;
     Ok(stored)
 }

@@ -1,6 +1,6 @@
 -- A row of trees by its first node.
 use Rattle.std.proofs.Common.{◌≡◌, ℕ, zero, suc, ◌+◌, ◌≤◌, ◌<◌, true, List, [], ◌∷◌, ◌++◌, length, take, drop, get_or, refl, sym, ap, ◌∙◌, subst, arith, length-append}
-use Rattle.std.specs.Prelude.{nat_le, ◌==◌}
+use Rattle.std.specs.Prelude.{◌==◌}
 use Rattle.std.specs.List.{list_all}
 use Rattle.std.proofs.lemmas.List.{length-map, take-append-drop, take-map, drop-map}
 use Rattle.std.proofs.Math.Seq.{take-append_seam, drop-append_seam}
@@ -9,13 +9,13 @@ use Rattle.std.proofs.lemmas.List.Folds.{list_all-append}
 use Rattle.lc_sexp.specs.Trees.{Trees, list, none, ◌▸◌, item_count_of_all}
 use Rattle.lc_sexp.specs.Text.{are_letters, is_Letter, class_of}
 use Rattle.lc_sexp.specs.TreeCode.{tree_count}
-use Rattle.lc_sexp.specs.Entries.{Entry, leaf, branch, entries_of_all, first_items, behind_items, first_row}
+use Rattle.lc_sexp.specs.Entries.{Entry, branch, entries_of_all, first_items, behind_items, first_row}
 use Rattle.lc_sexp.specs.Flat.{entry_of, entries, is_within, trees_of, IsFlat}
 use Rattle.lc_sexp.specs.declared.node.Node.{Node}
 use Rattle.lc_sexp.specs.declared.node.Node.TheVariants.{Atom, List as ListOf, Open}
 use Rattle.lc_sexp.proofs.Tokens.{and_parts, Letter-from, letter_ascii}
 use Rattle.lc_sexp.proofs.Rows.{entries_all_counted, first_whole, item_count_some}
-use Rattle.lc_sexp.proofs.Nodes.{within_reads, letters_take, letters_drop}
+use Rattle.lc_sexp.proofs.Nodes.{letters_take, letters_drop}
 
 -- each node is an item
 pub flat_counted : (text : List ℕ) (nodes : List Node) → IsFlat text nodes → item_count_of_all (trees_of text nodes) ≡ length nodes

@@ -2,6 +2,7 @@ pub mod Answers
 pub mod Begins
 pub mod Built
 pub mod CutFiles
+pub mod CutLists
 pub mod Entries
 pub mod Filling
 pub mod Flat
@@ -22,3 +23,4 @@ pub mod Takes
 pub mod Text
 pub mod TreeCode
 pub mod Trees
+pub mod Words

@@ -1,3 +1,4 @@
+//! Trees that lie flat, put together from atoms, lists and copies of other items.
 ghost use Rattle.std.specs.Prelude.{◌≡◌, ◌++◌, ◌∷◌, [], length, true, vec_len, OnOk, IfOk};
 ghost use Rattle.std.specs.List.{list_all};
 ghost use Rattle.lc_sexp.specs.Text.{are_letters};

@@ -1,3 +1,4 @@
+//! How the items of a text are walked: a cursor that gives each part with its number, or names the misfit.
 ghost use Rattle.std.specs.Prelude.{◌+◌, ◌<◌, ◌^◌};
 ghost use Rattle.lc_sexp.specs.Trees.{item_count_of_all};
 ghost use Rattle.lc_sexp.specs.Flat.{trees_of, IsFlat};

@@ -1,3 +1,4 @@
+//! Forms that are answered with those of their parts that nobody has taken.
 ghost use Rattle.std.specs.Prelude.{◌≡◌, ◌+◌, ◌++◌, ℕ, List, ◌∷◌, length, true, IfOk, OnOk, MatchOption};
 ghost use Rattle.std.specs.VecDeque.{deque_len};
 ghost use Rattle.lc_sexp.specs.Trees.{Trees, none, ◌▸◌, row};

@@ -1,3 +1,4 @@
+//! The type of rows of s-expressions, as the forms of a file.
 use crate::builder::Builder;
 use crate::cursor::Cursor;
 use crate::machine::Machine;

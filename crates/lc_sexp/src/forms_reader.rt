@@ -1,3 +1,4 @@
+//! How the forms of a file are read that comes in pieces.
 use crate::forms::Forms;
 use crate::machine::Machine;
 use lc_base::{Fault, OutOfMemory, Refusal};

@@ -1,3 +1,4 @@
+//! The parts of a file that are handed out while it is read.
 use crate::sexp::Sexp;
 
 /// An item that stands directly in a list that is a form, as it is handed out while a file is read.

@@ -1,3 +1,4 @@
+//! How s-expressions are printed.
 ghost use Rattle.std.specs.Prelude.{◌≡◌, ◌++◌, ◌<◌, [], true, false, IfOk, OnOk};
 ghost use Rattle.lc_sexp.specs.Trees.{row};
 ghost use Rattle.lc_sexp.specs.Printed.{printed, printed_items};

@@ -1,3 +1,4 @@
+//! How a file is read at once, each s-expression into memory of its own.
 ghost use Rattle.std.specs.Prelude.{◌≤◌, length, IfOk};
 ghost use Rattle.lc_sexp.specs.Trees.{row, item_count_of_all};
 ghost use Rattle.lc_sexp.specs.Answers.{IsAnswerInParts};

@@ -1,3 +1,4 @@
+//! Runs of bytes that are read at once: comments, words and single bytes.
 ghost use Rattle.std.specs.Prelude.{◌≡◌, ◌<◌, ◌≤◌, length, take, true, false};
 ghost use Rattle.lc_sexp.specs.Text.{are_letters, begins_word};
 ghost use Rattle.lc_sexp.specs.Runs.{IsRun};

@@ -1,3 +1,4 @@
+//! The type of s-expressions, and the texts that may be atoms.
 ghost use Rattle.std.specs.Prelude.{◌≡◌, ◌+◌, ◌++◌, IfOk, OnOk};
 ghost use Rattle.lc_sexp.specs.Text.{are_letters};
 ghost use Rattle.lc_sexp.specs.Printed.{is_atom};

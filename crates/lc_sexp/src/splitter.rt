@@ -1,3 +1,4 @@
+//! How a text is read whose parts are set aside as they end.
 ghost use Rattle.std.specs.Prelude.{◌≡◌, ◌≢◌, ◌+◌, ◌≤◌, ◌<◌, ◌++◌, ℕ, List, [], ◌∷◌, length, take, Some, None, false, true, not, if◌then◌else◌, OnOk, IfOk, IfErr, vec_len};
 ghost use Rattle.lc_base.specs.Limits.{file_limit};
 ghost use Rattle.lc_sexp.specs.Trees.{Trees, Token, item_count, tokens_of_all};
@@ -5,6 +6,7 @@ ghost use Rattle.lc_sexp.specs.Text.{class_of, is_misplaced, begins_word, uncomm
 ghost use Rattle.lc_sexp.specs.Runs.{AreSeen};
 ghost use Rattle.lc_sexp.specs.Progress.{depth_behind, fault_from};
 ghost use Rattle.lc_sexp.specs.Splitting.{Splits, depth_of};
+ghost use Rattle.lc_sexp.specs.Words.{EndsWord, StaysPut};
 ghost use Rattle.lc_sexp.specs.Reading.{tokens_behind};
 ghost use Rattle.lc_sexp.specs.Takes.{parts_of, without};
 ghost use Rattle.lc_sexp.specs.Answers.{IsTextFault};
@@ -80,17 +82,8 @@ impl Splitter {
 
     /// Ends the word that has begun, if one has.
     fn end_word(&mut self) -> Result<(), OutOfMemory>
-        ensures splits { OnOk result ((whole : List ℕ → List Token) → (rest : List ℕ → List ℕ) → (taken : List Part) →
-            ((x : List ℕ) → begins_word (rest x) ≡ false) →
-            Splits whole rest taken self.old → Splits whole rest taken self.new) }
-        ensures ended { OnOk result (self.new.machine.start ≡ vec_len self.new.machine.text) }
-        ensures room { OnOk result (
-            vec_len self.old.machine.nodes + vec_len self.old.machine.text < self.old.machine.offset + self.old.machine.start →
-            vec_len self.new.machine.nodes < self.new.machine.offset) }
-        ensures holes { self.new.machine.holes ≡ self.old.machine.holes }
-        ensures in_list { self.new.in_list ≡ self.old.in_list }
-        ensures offset { self.new.machine.offset ≡ self.old.machine.offset }
-        ensures comment { self.new.machine.in_comment ≡ self.old.machine.in_comment }
+        ensures word { OnOk result (EndsWord self.old self.new) }
+        ensures place { StaysPut self.old self.new }
     {
         if self.machine.word().is_empty() {
             return Ok(());
@@ -102,17 +95,8 @@ impl Splitter {
     #[inline(never)]
     fn end_begun_word(&mut self) -> Result<(), OutOfMemory>
         requires { self.old.machine.start ≢ vec_len self.old.machine.text }
-        ensures splits { OnOk result ((whole : List ℕ → List Token) → (rest : List ℕ → List ℕ) → (taken : List Part) →
-            ((x : List ℕ) → begins_word (rest x) ≡ false) →
-            Splits whole rest taken self.old → Splits whole rest taken self.new) }
-        ensures ended { OnOk result (self.new.machine.start ≡ vec_len self.new.machine.text) }
-        ensures room { OnOk result (
-            vec_len self.old.machine.nodes + vec_len self.old.machine.text < self.old.machine.offset + self.old.machine.start →
-            vec_len self.new.machine.nodes < self.new.machine.offset) }
-        ensures holes { self.new.machine.holes ≡ self.old.machine.holes }
-        ensures in_list { self.new.in_list ≡ self.old.in_list }
-        ensures offset { self.new.machine.offset ≡ self.old.machine.offset }
-        ensures comment { self.new.machine.in_comment ≡ self.old.machine.in_comment }
+        ensures word { OnOk result (EndsWord self.old self.new) }
+        ensures place { StaysPut self.old self.new }
     {
         if self.machine.depth() > 0 {
             self.machine.end_word()?;

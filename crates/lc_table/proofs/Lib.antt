@@ -10,6 +10,7 @@ pub mod NodeReplacement
 pub mod Chained
 pub mod ByNumber
 mod NodeClosed
+mod Unmoved
 pub mod Entries
 mod Remembered
 mod Filled

@@ -63,7 +63,8 @@ impl Terms {
         self.is_seen_closed(part, &mut looks)
     }
 
-    // A term below as many further quantifiers as `depth` counts.
+    // A term below as many further quantifiers as `depth` counts. A number that has no place is answered as by a table that
+    // has no number left: what is put in is not asked to have room below all the quantifiers that stand round its places.
     #[tactic(auto, using(crate::proofs::NodeClosed::term_raised_nowhere, crate::proofs::NodeClosed::closed_term_stays))]
     pub(crate) fn raised(
         &mut self,
@@ -81,7 +82,8 @@ impl Terms {
         if self.has_no_bound_variable(term.0) {
             Ok(term)
         } else {
-            self.shift(alloc, term, depth, 0)
+            self.moved_term(alloc, term, depth, 0)
+                .map_err(|_| OutOfMemory)
         }
     }
 
@@ -103,7 +105,8 @@ impl Terms {
         if self.has_no_bound_variable(column.0) {
             Ok(column)
         } else {
-            self.shift_column(alloc, column, depth, 0)
+            self.moved_column(alloc, column, depth, 0)
+                .map_err(|_| OutOfMemory)
         }
     }
 }

@@ -1,10 +1,12 @@
 //! Terms and column expressions of a table, moved below further quantifiers.
-ghost use Rattle.std.specs.Prelude.{◌≡◌, IfOk, OnOk, slice_get, Some, is_some, true};
+ghost use Rattle.std.specs.Prelude.{◌≡◌, IfOk, IfErr, OnOk, slice_get, Some, is_some, true, false, IsTrue};
 ghost use Rattle.lc_term.specs.Chains.{is_store};
 ghost use Rattle.lc_table.specs.NodeChains.{stored_to};
 ghost use Rattle.lc_table.specs.Nodes.{is_term};
 ghost use Rattle.lc_term.specs.Syntax as S;
-ghost use Rattle.lc_table.specs.NodeReplacement.{part_in, replaced_part, AreReplaced};
+ghost use Rattle.lc_table.specs.NodeReplacement.{part_in, part_passes, replaced_part, AreReplaced};
+ghost use Rattle.lc_table.specs.declared.node_shift.Unmoved.TheVariants.{NoPlace};
+ghost use Rattle.lc_term.specs.Places.{term_passes, column_passes, shift_fits};
 ghost use Rattle.lc_term.specs.Replacement.{replace_column};
 ghost use Rattle.lc_term.specs.Substitution.{shifting, shifted_term};
 ghost use Rattle.lc_table.specs.Tables.{parts, term_in, column_in, IsTerm, IsColumn, HasTerm, HasColumn, Keeps};
@@ -13,23 +15,51 @@ use crate::node::{ColExprId, TermId, TermNode};
 use crate::table::Terms;
 use indexmap::IndexMap;
 use lc_base::OutOfMemory;
-use std::alloc::Global;
+use std::alloc::{AllocFailed, Global};
+
+// Why nothing is moved below further quantifiers.
+#[derive(Clone, Copy)]
+pub(crate) enum Unmoved {
+    OutOfMemory,
+    // The number of a bound variable has no place in 32 bits.
+    NoPlace,
+}
+
+impl From<OutOfMemory> for Unmoved {
+    ghost use Rattle.lc_table.specs.declared.node_shift.Unmoved.TheVariants.{OutOfMemory};
+
+    ghost from_gives = { λ _ fault. fault ≡ OutOfMemory };
+
+    fn from(_: OutOfMemory) -> Unmoved {
+        Unmoved::OutOfMemory
+    }
+}
+
+impl<T: Drop> From<AllocFailed<T>> for Unmoved {
+    ghost use Rattle.lc_table.specs.declared.node_shift.Unmoved.TheVariants.{OutOfMemory};
+
+    ghost from_gives = { λ _ fault. fault ≡ OutOfMemory };
+
+    fn from(_: AllocFailed<T>) -> Unmoved {
+        Unmoved::OutOfMemory
+    }
+}
 
 // The number of a bound variable after a shift.
-fn moved(number: u32, added: u32, cutoff: u32) -> Result<u32, OutOfMemory>
-    ensures { IfOk result (λ n. S.Bound n ≡ (shifting added cutoff).bounds number) }
+fn moved(number: u32, added: u32, cutoff: u32) -> Result<u32, Unmoved>
+    ensures moved { IfOk result (λ n. S.Bound n ≡ (shifting added cutoff).bounds number) }
+    ensures place { IfErr result (λ fault. (shift_fits added cutoff 0).bounds number ≡ false) }
 {
     if number < cutoff {
         Ok(number)
     } else {
-        number.checked_add(added).ok_or(OutOfMemory)
+        number.checked_add(added).ok_or(Unmoved::NoPlace)
     }
 }
 
 impl Terms {
     /// The term below `added` further quantifiers: bound variables that point beyond the innermost `cutoff`
-    /// quantifiers get `added` added to their numbers. `OutOfMemory` is answered also where such a number has no
-    /// place in 32 bits.
+    /// quantifiers get `added` added to their numbers.
     pub fn shift(
         &mut self,
         alloc: Global,
@@ -37,25 +67,47 @@ impl Terms {
         added: u32,
         cutoff: u32,
     ) -> Result<TermId, OutOfMemory>
+        requires term { IsTerm self.old term }
+        requires fits { IsTrue (term_passes (shift_fits added cutoff 0) (term_in self.old term)) }
+        ensures id { IfOk result (λ k. HasTerm self.new k (shifted_term added cutoff (term_in self.old term))) }
+        ensures kept { Keeps self.old self.new }
+    {
+        match self.moved_term(alloc, term, added, cutoff) {
+            Ok(moved) => Ok(moved),
+            Err(Unmoved::OutOfMemory) => Err(OutOfMemory),
+            Err(Unmoved::NoPlace) => unreachable!(),
+        }
+    }
+
+    // The same for any term of the table.
+    pub(crate) fn moved_term(
+        &mut self,
+        alloc: Global,
+        term: TermId,
+        added: u32,
+        cutoff: u32,
+    ) -> Result<TermId, Unmoved>
         requires { IsTerm self.old term }
         ensures id { IfOk result (λ k. HasTerm self.new k (shifted_term added cutoff (term_in self.old term))) }
         ensures kept { Keeps self.old self.new }
+        ensures place { IfErr result (λ fault. fault ≡ NoPlace → term_passes (shift_fits added cutoff 0) (term_in self.old term) ≡ false) }
     {
         let mut done = IndexMap::new(alloc);
         self.shifted_term(term, added, cutoff, &mut done)
     }
 
-    /// The column expression below `added` further quantifiers, as `shift` of a term.
-    pub fn shift_column(
+    // The column expression, likewise.
+    pub(crate) fn moved_column(
         &mut self,
         alloc: Global,
         column: ColExprId,
         added: u32,
         cutoff: u32,
-    ) -> Result<ColExprId, OutOfMemory>
+    ) -> Result<ColExprId, Unmoved>
         requires { IsColumn self.old column }
         ensures id { IfOk result (λ k. HasColumn self.new k (replace_column (shifting added cutoff) (column_in self.old column))) }
         ensures kept { Keeps self.old self.new }
+        ensures place { IfErr result (λ fault. fault ≡ NoPlace → column_passes (shift_fits added cutoff 0) (column_in self.old column) ≡ false) }
     {
         let mut done = IndexMap::new(alloc);
         self.shifted_column(column, added, cutoff, &mut done)
@@ -69,12 +121,13 @@ impl Terms {
         added: u32,
         cutoff: u32,
         done: &mut IndexMap<u32, u32>,
-    ) -> Result<TermId, OutOfMemory>
+    ) -> Result<TermId, Unmoved>
         requires there { IsTerm self.old term }
         requires done { AreReplaced (shifting added cutoff) (parts self.old) done.old.entries }
         ensures id { IfOk result (λ k. HasTerm self.new k (shifted_term added cutoff (term_in self.old term))) }
         ensures kept { Keeps self.old self.new }
         ensures done { OnOk result (AreReplaced (shifting added cutoff) (parts self.new) done.new.entries) }
+        ensures place { IfErr result (λ fault. fault ≡ NoPlace → term_passes (shift_fits added cutoff 0) (term_in self.old term) ≡ false) }
     {
         if let Some(number) = done.get(&term.0) {
             return Ok(TermId(*number));
@@ -92,12 +145,13 @@ impl Terms {
         added: u32,
         cutoff: u32,
         done: &mut IndexMap<u32, u32>,
-    ) -> Result<ColExprId, OutOfMemory>
+    ) -> Result<ColExprId, Unmoved>
         requires there { IsColumn self.old column }
         requires done { AreReplaced (shifting added cutoff) (parts self.old) done.old.entries }
         ensures id { IfOk result (λ k. HasColumn self.new k (replace_column (shifting added cutoff) (column_in self.old column))) }
         ensures kept { Keeps self.old self.new }
         ensures done { OnOk result (AreReplaced (shifting added cutoff) (parts self.new) done.new.entries) }
+        ensures place { IfErr result (λ fault. fault ≡ NoPlace → column_passes (shift_fits added cutoff 0) (column_in self.old column) ≡ false) }
     {
         let mut chain = self.chain_to_done(self.allocator(), column, done)?;
         let mut moved = chain.below();
@@ -117,7 +171,7 @@ impl Terms {
         added: u32,
         cutoff: u32,
         done: &mut IndexMap<u32, u32>,
-    ) -> Result<ColExprId, OutOfMemory>
+    ) -> Result<ColExprId, Unmoved>
         requires there { IsColumn self.old store }
         requires store { is_store (column_in self.old store) ≡ true }
         requires below { HasColumn self.old below (replace_column (shifting added cutoff) (stored_to (column_in self.old store))) }
@@ -125,6 +179,7 @@ impl Terms {
         ensures id { IfOk result (λ k. HasColumn self.new k (replace_column (shifting added cutoff) (column_in self.old store))) }
         ensures kept { Keeps self.old self.new }
         ensures done { OnOk result (AreReplaced (shifting added cutoff) (parts self.new) done.new.entries) }
+        ensures place { IfErr result (λ fault. fault ≡ NoPlace → column_passes (shift_fits added cutoff 0) (column_in self.old store) ≡ false) }
     {
         match self.column_node(store) {
             TermNode::Store(_, index, value) => {
@@ -147,13 +202,14 @@ impl Terms {
         added: u32,
         cutoff: u32,
         done: &mut IndexMap<u32, u32>,
-    ) -> Result<u32, OutOfMemory>
+    ) -> Result<u32, Unmoved>
         requires there { is_some (slice_get (parts self.old) part) ≡ true }
         requires term { is_term (slice_get (parts self.old) part) ≡ true }
         requires done { AreReplaced (shifting added cutoff) (parts self.old) done.old.entries }
         ensures id { IfOk result (λ k. slice_get (parts self.new) k ≡ Some (replaced_part (shifting added cutoff) (part_in self.old part))) }
         ensures kept { Keeps self.old self.new }
         ensures done { OnOk result (AreReplaced (shifting added cutoff) (parts self.new) done.new.entries) }
+        ensures place { IfErr result (λ fault. fault ≡ NoPlace → part_passes (shift_fits added cutoff 0) (part_in self.old part) ≡ false) }
     {
         match self.part_node(part) {
             TermNode::Bound(number) => Ok(self.bound(moved(number, added, cutoff)?)?.0),

@@ -1,5 +1,5 @@
 //! The trees that numbers of a table stand for.
-ghost use Rattle.std.specs.Prelude.{◌≡◌, true, false, IfOk};
+ghost use Rattle.std.specs.Prelude.{◌≡◌, ◌++◌, ◌∷◌, [], true, false, IfOk, OnOk};
 ghost use Rattle.lc_term.specs.Chains.{is_store};
 ghost use Rattle.lc_table.specs.NodeChains.{stored_to};
 ghost use Rattle.lc_term.specs.View.{term_of, column_of, formula_of, formulas_of};
@@ -10,6 +10,15 @@ use crate::table::Terms;
 use lc_base::OutOfMemory;
 use lc_term::{ColExpr, Formula, Term, with_store};
 use std::alloc::Global;
+
+// Takes a formula out of its box, and puts it behind others.
+#[inline(never)]
+fn push_out(trees: &mut Vec<Formula>, tree: Box<Formula>) -> Result<(), OutOfMemory>
+    ensures { OnOk result (trees.new.items ≡ trees.old.items ++ (tree.value ∷ [])) }
+{
+    trees.push(Box::into_inner(tree))?;
+    Ok(())
+}
 
 impl Terms {
     /// The term of a number.
@@ -23,23 +32,32 @@ impl Terms {
             TermNode::Variable(number) => Ok(Term::Variable(number)),
             TermNode::Bound(number) => Ok(Term::Bound(number)),
             TermNode::Add(left, right) => Ok(Term::Add(
-                Box::new(alloc, self.term(alloc, left)?)?,
-                Box::new(alloc, self.term(alloc, right)?)?,
+                self.boxed_term(alloc, left)?,
+                self.boxed_term(alloc, right)?,
             )),
             TermNode::Subtract(left, right) => Ok(Term::Subtract(
-                Box::new(alloc, self.term(alloc, left)?)?,
-                Box::new(alloc, self.term(alloc, right)?)?,
+                self.boxed_term(alloc, left)?,
+                self.boxed_term(alloc, right)?,
             )),
-            TermNode::Multiply(factor, term) => Ok(Term::Multiply(
-                factor,
-                Box::new(alloc, self.term(alloc, term)?)?,
-            )),
+            TermNode::Multiply(factor, term) => {
+                Ok(Term::Multiply(factor, self.boxed_term(alloc, term)?))
+            }
             TermNode::Read(column, index) => Ok(Term::Read(
                 self.column(alloc, column)?,
-                Box::new(alloc, self.term(alloc, index)?)?,
+                self.boxed_term(alloc, index)?,
             )),
             TermNode::Base(_) | TermNode::Store(_, _, _) | TermNode::Affine(_, _) => unreachable!(),
         }
+    }
+
+    // The term of a number, in a box. It stands apart, so that each level of a term takes little of the stack.
+    #[cycle(term)]
+    #[inline(never)]
+    fn boxed_term(&self, alloc: Global, term: TermId) -> Result<Box<Term>, OutOfMemory>
+        requires { IsTerm self.now term }
+        ensures { IfOk result (λ tree. term_of tree.value ≡ term_in self.now term) }
+    {
+        Ok(Box::new(alloc, self.term(alloc, term)?)?)
     }
 
     /// The column expression of a number.
@@ -107,25 +125,26 @@ impl Terms {
                 self.term(alloc, *left)?,
                 self.term(alloc, *right)?,
             )),
-            FormulaNode::Not(formula) => Ok(Formula::Not(Box::new(
-                alloc,
-                self.formula(alloc, *formula)?,
-            )?)),
+            FormulaNode::Not(formula) => Ok(Formula::Not(self.boxed_formula(alloc, *formula)?)),
             FormulaNode::And(parts) => Ok(Formula::And(self.formulas(alloc, parts)?)),
             FormulaNode::Or(parts) => Ok(Formula::Or(self.formulas(alloc, parts)?)),
             FormulaNode::Implies(left, right) => Ok(Formula::Implies(
-                Box::new(alloc, self.formula(alloc, *left)?)?,
-                Box::new(alloc, self.formula(alloc, *right)?)?,
+                self.boxed_formula(alloc, *left)?,
+                self.boxed_formula(alloc, *right)?,
             )),
-            FormulaNode::Forall(body) => Ok(Formula::Forall(Box::new(
-                alloc,
-                self.formula(alloc, *body)?,
-            )?)),
-            FormulaNode::Exists(body) => Ok(Formula::Exists(Box::new(
-                alloc,
-                self.formula(alloc, *body)?,
-            )?)),
+            FormulaNode::Forall(body) => Ok(Formula::Forall(self.boxed_formula(alloc, *body)?)),
+            FormulaNode::Exists(body) => Ok(Formula::Exists(self.boxed_formula(alloc, *body)?)),
         }
+    }
+
+    // The formula of a number, in a box, likewise.
+    #[cycle(formula)]
+    #[inline(never)]
+    fn boxed_formula(&self, alloc: Global, formula: FormulaId) -> Result<Box<Formula>, OutOfMemory>
+        requires { IsFormula self.now formula }
+        ensures { IfOk result (λ tree. formula_of tree.value ≡ formula_in self.now formula) }
+    {
+        Ok(Box::new(alloc, self.formula(alloc, formula)?)?)
     }
 
     /// The formulas of numbers.
@@ -140,7 +159,7 @@ impl Terms {
     {
         let mut trees = Vec::with_capacity(alloc, formulas.len())?;
         for formula in formulas {
-            trees.push(self.formula(alloc, *formula)?)?;
+            push_out(&mut trees, self.boxed_formula(alloc, *formula)?)?;
         }
         Ok(trees)
     }

@@ -1,3 +1,4 @@
+//! Terms and formulas computed in 64 bits.
 ghost use Rattle.std.specs.Prelude.{◌≡◌, ◌↔◌, OkIff, IsTrue, IsOk, IfOk};
 ghost use Rattle.lc_term.specs.Meaning.{outside, value, column, Holds};
 ghost use Rattle.lc_term.specs.Places.{known, term_passes, column_passes, is_known, are_known};

@@ -1,4 +1,5 @@
-ghost use Rattle.std.specs.Prelude.{◌≡◌, IfOk, IsTrue, ◌↔◌};
+//! The type of formulas: copies, and whether two are the same.
+ghost use Rattle.std.specs.Prelude.{◌≡◌, ◌++◌, ◌∷◌, [], IfOk, OnOk, IsTrue, ◌↔◌};
 ghost use Rattle.lc_term.specs.Syntax.{formulas};
 ghost use Rattle.lc_term.specs.View.{formula_of, formulas_of};
 ghost use Rattle.lc_term.specs.Equal.{formula_eq, formulas_eq};
@@ -56,17 +57,35 @@ impl Formula {
                 left.try_clone(alloc)?,
                 right.try_clone(alloc)?,
             )),
-            Formula::Not(formula) => Ok(Formula::Not(Box::new(alloc, formula.try_clone(alloc)?)?)),
+            Formula::Not(formula) => Ok(Formula::Not(boxed_copy(alloc, formula)?)),
             Formula::And(formulas) => Ok(Formula::And(copy_formulas(alloc, formulas)?)),
             Formula::Or(formulas) => Ok(Formula::Or(copy_formulas(alloc, formulas)?)),
             Formula::Implies(left, right) => Ok(Formula::Implies(
-                Box::new(alloc, left.try_clone(alloc)?)?,
-                Box::new(alloc, right.try_clone(alloc)?)?,
+                boxed_copy(alloc, left)?,
+                boxed_copy(alloc, right)?,
             )),
-            Formula::Forall(body) => Ok(Formula::Forall(Box::new(alloc, body.try_clone(alloc)?)?)),
-            Formula::Exists(body) => Ok(Formula::Exists(Box::new(alloc, body.try_clone(alloc)?)?)),
+            Formula::Forall(body) => Ok(Formula::Forall(boxed_copy(alloc, body)?)),
+            Formula::Exists(body) => Ok(Formula::Exists(boxed_copy(alloc, body)?)),
         }
     }
+}
+
+// The same formula in a box. It stands apart, so that each level of a formula takes little of the stack.
+#[cycle(copy_formula)]
+#[inline(never)]
+fn boxed_copy(alloc: Global, formula: &Formula) -> Result<Box<Formula>, OutOfMemory>
+    ensures { IfOk result (λ copy. formula_of copy.value ≡ formula_of formula.now) }
+{
+    Ok(Box::new(alloc, formula.try_clone(alloc)?)?)
+}
+
+// Takes a formula out of its box, and puts it behind others.
+#[inline(never)]
+fn push_out(copies: &mut Vec<Formula>, copy: Box<Formula>) -> Result<(), OutOfMemory>
+    ensures { OnOk result (copies.new.items ≡ copies.old.items ++ (copy.value ∷ [])) }
+{
+    copies.push(Box::into_inner(copy))?;
+    Ok(())
 }
 
 /// The same formulas, in memory of their own.
@@ -76,7 +95,7 @@ pub fn copy_formulas(alloc: Global, formulas: &[Formula]) -> Result<Vec<Formula>
 {
     let mut copies = Vec::with_capacity(alloc, formulas.len())?;
     for formula in formulas {
-        copies.push(formula.try_clone(alloc)?)?;
+        push_out(&mut copies, boxed_copy(alloc, formula)?)?;
     }
     Ok(copies)
 }

@@ -1,3 +1,4 @@
+//! Whether a quantifier stands in a formula, and a bound variable in a term.
 ghost use Rattle.std.specs.Prelude.{◌≡◌};
 ghost use Rattle.lc_term.specs.Places.{no_bounds, is_closed, column_passes};
 ghost use Rattle.lc_term.specs.Syntax.{formulas};

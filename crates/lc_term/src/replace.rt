@@ -1,3 +1,4 @@
+//! A walk over terms and formulas that replaces columns and variables, all at once.
 ghost use Rattle.std.specs.Prelude.{◌≡◌, ℕ, false, IfOk, IsTrue};
 ghost use Rattle.lc_term.specs.Chains.{is_store};
 ghost use Rattle.lc_term.specs.Counter.{HasCounted};

@@ -1,3 +1,4 @@
+//! Terms and formulas moved below further quantifiers.
 ghost use Rattle.std.specs.Prelude.{◌≡◌, ℕ, ◌+◌, ◌-◌, ◌^◌, min, nat_lt, if◌then◌else◌, IfOk, IsTrue};
 ghost use Rattle.lc_term.specs.Counter.{HasCounted};
 ghost use Rattle.lc_term.specs.Places.{term_passes, passes, shift_fits};

@@ -1,3 +1,4 @@
+//! States and environments: the numbers of columns and of variables.
 ghost use Rattle.std.specs.Prelude.{◌≡◌, ◌<◌, [], length, FitsSigned, OkIff, IfOk, OnOk, OnErr, OnSome, Some, IsSome};
 ghost use Rattle.std.specs.Int.{w64};
 ghost use Rattle.lc_term.specs.Meaning.{affine};

@@ -1,3 +1,4 @@
+//! Terms put in for a free variable, and for the variable of a quantifier.
 ghost use Rattle.std.specs.Prelude.{◌≡◌, IfOk, IsTrue};
 ghost use Rattle.lc_term.specs.Places.{passes, put_fits, open_fits};
 ghost use Rattle.lc_term.specs.Substitution.{putting, opening, substituted, instantiated};

@@ -1,3 +1,4 @@
+//! The types of terms and column expressions: copies, and whether two are the same.
 ghost use Rattle.std.specs.Prelude.{◌≡◌, IfOk, IsTrue, ◌↔◌};
 ghost use Rattle.lc_term.specs.View.{term_of, column_of};
 ghost use Rattle.lc_term.specs.Equal.{term_eq, column_eq};

@@ -1,6 +1,6 @@
 -- Formulas that are read one after another.
 use Rattle.std.proofs.Common.{◌≡◌, ℕ, List, [], ◌∷◌, Ok, Err, refl, sym, ap, ◌∙◌}
-use Rattle.std.specs.Prelude.{Result, Vec}
+use Rattle.std.specs.Prelude.{Result, Vec, Box}
 use Rattle.std.specs.declared.alloc.Global.{Global}
 use Rattle.lc_sexp.specs.Shown.{rest_of, number_of}
 use Rattle.lc_sexp.specs.declared.cursor.Cursor.{Cursor}
@@ -16,7 +16,7 @@ use Rattle.lc_reading.specs.declared.flaw.ReadFault.{ReadFault}
 use Rattle.lc_reading.specs.declared.flaw.ReadFault.TheVariants.{Flawed, OutOfMemory}
 use Rattle.lc_reading.specs.declared.part.Part.{Part}
 use Rattle.lc_text.specs.Formulas.{formula_reading, formulas_reading}
-use Rattle.lc_text.specs.Seen.{row_of}
+use Rattle.lc_text.specs.Seen.{boxed, unboxed, row_of}
 
 front_formulas : (fs : List Formula) → front more fs (fine none) ≡ fine (formulas fs)
 front_formulas [] = refl
@@ -35,3 +35,8 @@ formulas_more names bound l behind part at next =
     ap (formulas_reading names bound (number_of l)) next.rest
     ∙ ap (λ m. both more (formula_reading names bound (number_of l) (tree_of part)) (formulas_reading names bound m (rest_of behind))) (sym next.number)
     ∙ ap (λ n. both more (formula_reading names bound n (tree_of part)) (formulas_reading names bound (number_of behind) (rest_of behind))) (sym at)
+
+-- a formula is read out of its box
+pub unboxed_reads : (r : Reading Formula) (a : Result (Box SeenFormula Global) ReadFault) → IsReading boxed r a → IsReading formula_of r (unboxed a)
+unboxed_reads r (Ok b) h = h
+unboxed_reads r (Err fault) h = h

@@ -1,8 +1,9 @@
 -- What parts that are read together stand for.
-use Rattle.std.specs.Prelude.{ℕ, ℤ, List, Vec}
+use Rattle.std.specs.Prelude.{ℕ, ℤ, List, Vec, Box, Result, Ok, Err}
 use Rattle.std.specs.declared.alloc.Global.{Global}
 use Rattle.lc_base.specs.Name.{bytes_of}
 use Rattle.lc_base.specs.declared.name.Name.{Name}
+use Rattle.lc_reading.specs.declared.flaw.ReadFault.{ReadFault}
 use Rattle.lc_term.specs.Syntax as S
 use Rattle.lc_term.specs.View.{term_of, column_of, formula_of, formulas_of}
 use Rattle.lc_term.specs.declared.term.Term.{Term}
@@ -24,8 +25,17 @@ access_parts p = (column_of p.0, term_of p.1)
 abbrev pub store_parts : (ColExpr × Term) × Term → (S.Column × S.Term) × S.Term
 store_parts p = ((column_of p.0.0, term_of p.0.1), term_of p.1)
 
-abbrev pub formula_pair : Formula × Formula → S.Formula × S.Formula
-formula_pair p = (formula_of p.0, formula_of p.1)
+-- the formula in a box
+abbrev pub boxed : Box Formula Global → S.Formula
+boxed b = formula_of b.value
+
+abbrev pub boxed_pair : Box Formula Global × Box Formula Global → S.Formula × S.Formula
+boxed_pair p = (boxed p.0, boxed p.1)
+
+-- the formula out of its box
+abbrev pub unboxed : Result (Box Formula Global) ReadFault → Result Formula ReadFault
+unboxed (Ok b) = Ok b.value
+unboxed (Err fault) = Err fault
 
 -- the formulas of a vector
 abbrev pub row_of : Vec Formula Global → S.Formulas

@@ -5,20 +5,22 @@ ghost use Rattle.lc_reading.specs.Parts.{tree_of, place_of};
 ghost use Rattle.lc_reading.specs.Results.{IsReading};
 ghost use Rattle.lc_reading.specs.Words.{names_in};
 ghost use Rattle.lc_term.specs.View.{column_of};
-ghost use Rattle.lc_text.specs.Seen.{numbers_of, store_parts};
-ghost use Rattle.lc_text.specs.Terms.{base_reading, column_reading, numbers_reading, store_reading, built_with};
+ghost use Rattle.lc_text.specs.Seen.{numbers_of};
+ghost use Rattle.lc_reading.specs.Readings.{mapped};
+ghost use Rattle.lc_text.specs.Terms.{base_reading, column_reading, numbers_reading, store_reading, built_with, store_of};
 
-use crate::made::{made_affine, made_store};
+use crate::made::{made_affine, whole_store};
 use crate::scope::{ColumnUse, Scope};
 use crate::term::{read_bound_term, read_number};
 use crate::words::{Built, built_due};
 use lc_base::is_name;
 use lc_reading::{Part, Pass, ReadFault, both, ended, headed, three, two, within, wrong};
 use lc_sexp::{Atom, Cursor, Item};
-use lc_term::{ColExpr, Term};
+use lc_term::ColExpr;
 use std::alloc::Global;
 
 /// The column of a name. One that may not be read so is told at the reader.
+#[inline(never)]
 fn read_base<S: Scope>(scope: &S, reader: u64, atom: &Atom<'_>) -> Result<ColExpr, ReadFault>
     ensures { IsReading column_of (base_reading (S.names scope.now) reader (atom_number atom.now) (text_of atom.now)) result }
 {
@@ -40,7 +42,7 @@ pub fn read_column<S: Scope>(
 ) -> Result<ColExpr, ReadFault>
     ensures { IsReading column_of (column_reading (S.names scope.now) [] reader (place_of part.entry) (tree_of part.entry)) result }
 {
-    read_bound_column(alloc, scope, &[], reader, part)
+    read_bound_column(alloc, scope, &[], reader, &part)
 }
 
 /// The column expression that an item reads as, where quantifiers bind these names.
@@ -50,9 +52,9 @@ pub(crate) fn read_bound_column<S: Scope>(
     scope: &S,
     bound: &[&str],
     reader: u64,
-    part: Part<'_>,
+    part: &Part<'_>,
 ) -> Result<ColExpr, ReadFault>
-    ensures { IsReading column_of (column_reading (S.names scope.now) (names_in bound.now) reader (place_of part.entry) (tree_of part.entry)) result }
+    ensures { IsReading column_of (column_reading (S.names scope.now) (names_in bound.now) reader (place_of part.now) (tree_of part.now)) result }
 {
     let list = match part.item() {
         Item::Atom(atom) => return read_base(scope, reader, &atom),
@@ -78,7 +80,7 @@ fn read_built<S: Scope>(
 {
     match built {
         Built::Affine => made_affine(read_numbers(list)),
-        Built::Store => made_store(alloc, read_store(alloc, scope, bound, list)),
+        Built::Store => read_store(alloc, scope, bound, list),
     }
 }
 
@@ -90,19 +92,20 @@ pub fn read_numbers(list: Cursor<'_>) -> Result<(i64, i64), ReadFault>
     ended(both(read_number(first), read_number(second)), rest)
 }
 
-/// A column and two terms.
+/// A column with a value stored at an index: a column and two terms, which are all that is left in a list.
 #[cycle(read_term)]
+#[inline(never)]
 fn read_store<S: Scope>(
     alloc: Global,
     scope: &S,
     bound: &[&str],
     list: Cursor<'_>,
-) -> Result<((ColExpr, Term), Term), ReadFault>
-    ensures { IsReading store_parts (store_reading (S.names scope.now) (names_in bound.now) (owner_of list.entry) (number_of list.entry) (rest_of list.entry)) result }
+) -> Result<ColExpr, ReadFault>
+    ensures { IsReading column_of (mapped store_of (store_reading (S.names scope.now) (names_in bound.now) (owner_of list.entry) (number_of list.entry) (rest_of list.entry))) result }
 {
     let (first, second, third, rest) = three(list)?;
-    let column = read_bound_column(alloc, scope, bound, list.owner(), first);
-    let index = read_bound_term(alloc, scope, bound, second);
-    let value = read_bound_term(alloc, scope, bound, third);
-    ended(both(both(column, index), value), rest)
+    let column = read_bound_column(alloc, scope, bound, list.owner(), &first);
+    let index = read_bound_term(alloc, scope, bound, &second);
+    let value = read_bound_term(alloc, scope, bound, &third);
+    whole_store(alloc, column, index, value, rest)
 }

@@ -5,16 +5,22 @@ ghost use Rattle.lc_reading.specs.Parts.{tree_of, place_of};
 ghost use Rattle.lc_reading.specs.Results.{IsReading};
 ghost use Rattle.lc_reading.specs.Words.{names_in};
 ghost use Rattle.lc_term.specs.View.{formula_of};
-ghost use Rattle.lc_text.specs.Formulas.{binder_reading, bound_inside, formula_reading, formulas_reading, only_reading, both_reading, body_reading, connective_with};
-ghost use Rattle.lc_text.specs.Seen.{formula_pair, row_of};
+ghost use Rattle.lc_term.specs.Syntax as T;
+ghost use Rattle.lc_reading.specs.Readings.{mapped};
+ghost use Rattle.lc_text.specs.Formulas.{binder_reading, bound_inside, comparison_of, joined_by, implication_of, quantified_by, formula_reading, formulas_reading, only_reading, both_reading, body_reading, connective_with};
+ghost use Rattle.lc_text.specs.Seen.{boxed, boxed_pair, row_of};
+ghost use Rattle.lc_text.specs.Terms.{terms_reading};
 
-use crate::made::{made_comparison, made_implication, made_negation, made_quantifier, made_row};
+use crate::made::{
+    made_comparison, made_implication, made_negation, made_quantifier, made_row, out_of_box,
+    pushed_out,
+};
 use crate::scope::Scope;
 use crate::term::read_terms;
 use crate::words::{Connective, connective_due};
 use lc_reading::{
-    Part, Pass, ReadFault, both, ended, headed, is_reserved, name_at, next_part, one, pushed, two,
-    within, wrong,
+    Part, Pass, ReadFault, both, ended, headed, is_reserved, name_at, next_part, one, two, within,
+    wrong,
 };
 use lc_sexp::{Cursor, Item};
 use lc_term::Formula;
@@ -29,7 +35,7 @@ pub fn read_formula<S: Scope>(
     ensures { IsReading formula_of (formula_reading (S.names scope.now) [] (place_of part.entry) (tree_of part.entry)) result }
 {
     let mut bound = Vec::new(alloc);
-    read_bound_formula(alloc, scope, &mut bound, part)
+    out_of_box(read_bound_formula(alloc, scope, &mut bound, part))
 }
 
 /// The formulas that the items read as that are left in a list.
@@ -51,8 +57,8 @@ fn read_bound_formula<'a, S: Scope>(
     scope: &S,
     bound: &mut Vec<&'a str>,
     part: Part<'a>,
-) -> Result<Formula, ReadFault>
-    ensures read { IsReading formula_of (formula_reading (S.names scope.now) (names_in bound.old.items) (place_of part.entry) (tree_of part.entry)) result }
+) -> Result<Box<Formula>, ReadFault>
+    ensures read { IsReading boxed (formula_reading (S.names scope.now) (names_in bound.old.items) (place_of part.entry) (tree_of part.entry)) result }
     ensures bound { bound.new.items ≡ bound.old.items }
 {
     let list = match part.item() {
@@ -74,23 +80,99 @@ fn read_connective<'a, S: Scope>(
     bound: &mut Vec<&'a str>,
     connective: Connective,
     list: Cursor<'a>,
-) -> Result<Formula, ReadFault>
-    ensures read { IsReading formula_of (connective_with (S.names scope.now) (names_in bound.old.items) connective (owner_of list.entry) (number_of list.entry) (rest_of list.entry)) result }
+) -> Result<Box<Formula>, ReadFault>
+    ensures read { IsReading boxed (connective_with (S.names scope.now) (names_in bound.old.items) connective (owner_of list.entry) (number_of list.entry) (rest_of list.entry)) result }
     ensures bound { bound.new.items ≡ bound.old.items }
 {
     match connective {
-        Connective::Le | Connective::Eq => {
-            made_comparison(connective, read_terms(alloc, scope, bound, list))
-        }
-        Connective::Not => made_negation(alloc, read_only(alloc, scope, bound, list)),
-        Connective::And | Connective::Or => {
-            made_row(connective, read_bound_formulas(alloc, scope, bound, list))
-        }
-        Connective::Implies => made_implication(alloc, read_both(alloc, scope, bound, list)),
+        Connective::Le | Connective::Eq => read_comparison(alloc, scope, bound, connective, list),
+        Connective::Not => read_negation(alloc, scope, bound, list),
+        Connective::And | Connective::Or => read_row(alloc, scope, bound, connective, list),
+        Connective::Implies => read_implication(alloc, scope, bound, list),
         Connective::Forall | Connective::Exists => {
-            made_quantifier(alloc, connective, read_body(alloc, scope, bound, list))
+            read_quantifier(alloc, scope, bound, connective, list)
         }
     }
+}
+
+/// A comparison of two terms, which are all that is left in a list.
+#[inline(never)]
+fn read_comparison<S: Scope>(
+    alloc: Global,
+    scope: &S,
+    bound: &[&str],
+    connective: Connective,
+    list: Cursor<'_>,
+) -> Result<Box<Formula>, ReadFault>
+    ensures { IsReading boxed (mapped (comparison_of connective) (terms_reading (S.names scope.now) (names_in bound.now) (owner_of list.entry) (number_of list.entry) (rest_of list.entry))) result }
+{
+    made_comparison(alloc, connective, read_terms(alloc, scope, bound, list))
+}
+
+/// The negation of a formula, which is all that is left in a list.
+#[cycle(read_formula)]
+#[inline(never)]
+fn read_negation<'a, S: Scope>(
+    alloc: Global,
+    scope: &S,
+    bound: &mut Vec<&'a str>,
+    list: Cursor<'a>,
+) -> Result<Box<Formula>, ReadFault>
+    ensures read { IsReading boxed (mapped T.Not (only_reading (S.names scope.now) (names_in bound.old.items) (owner_of list.entry) (number_of list.entry) (rest_of list.entry))) result }
+    ensures bound { bound.new.items ≡ bound.old.items }
+{
+    made_negation(alloc, read_only(alloc, scope, bound, list))
+}
+
+/// The conjunction or the disjunction of the formulas that are left in a list.
+#[cycle(read_formula)]
+#[inline(never)]
+fn read_row<'a, S: Scope>(
+    alloc: Global,
+    scope: &S,
+    bound: &mut Vec<&'a str>,
+    connective: Connective,
+    list: Cursor<'a>,
+) -> Result<Box<Formula>, ReadFault>
+    ensures read { IsReading boxed (mapped (joined_by connective) (formulas_reading (S.names scope.now) (names_in bound.old.items) (number_of list.entry) (rest_of list.entry))) result }
+    ensures bound { bound.new.items ≡ bound.old.items }
+{
+    made_row(
+        alloc,
+        connective,
+        read_bound_formulas(alloc, scope, bound, list),
+    )
+}
+
+/// The implication of two formulas, which are all that is left in a list.
+#[cycle(read_formula)]
+#[inline(never)]
+fn read_implication<'a, S: Scope>(
+    alloc: Global,
+    scope: &S,
+    bound: &mut Vec<&'a str>,
+    list: Cursor<'a>,
+) -> Result<Box<Formula>, ReadFault>
+    ensures read { IsReading boxed (mapped implication_of (both_reading (S.names scope.now) (names_in bound.old.items) (owner_of list.entry) (number_of list.entry) (rest_of list.entry))) result }
+    ensures bound { bound.new.items ≡ bound.old.items }
+{
+    made_implication(alloc, read_both(alloc, scope, bound, list))
+}
+
+/// The quantifier of a name over the formula in which it is bound, which are all that is left in a list.
+#[cycle(read_formula)]
+#[inline(never)]
+fn read_quantifier<'a, S: Scope>(
+    alloc: Global,
+    scope: &S,
+    bound: &mut Vec<&'a str>,
+    connective: Connective,
+    list: Cursor<'a>,
+) -> Result<Box<Formula>, ReadFault>
+    ensures read { IsReading boxed (mapped (quantified_by connective) (body_reading (S.names scope.now) (names_in bound.old.items) (owner_of list.entry) (number_of list.entry) (rest_of list.entry))) result }
+    ensures bound { bound.new.items ≡ bound.old.items }
+{
+    made_quantifier(alloc, connective, read_body(alloc, scope, bound, list))
 }
 
 /// One formula, which is all that is left in a list.
@@ -100,8 +182,8 @@ fn read_only<'a, S: Scope>(
     scope: &S,
     bound: &mut Vec<&'a str>,
     list: Cursor<'a>,
-) -> Result<Formula, ReadFault>
-    ensures read { IsReading formula_of (only_reading (S.names scope.now) (names_in bound.old.items) (owner_of list.entry) (number_of list.entry) (rest_of list.entry)) result }
+) -> Result<Box<Formula>, ReadFault>
+    ensures read { IsReading boxed (only_reading (S.names scope.now) (names_in bound.old.items) (owner_of list.entry) (number_of list.entry) (rest_of list.entry)) result }
     ensures bound { bound.new.items ≡ bound.old.items }
 {
     let (part, rest) = one(list)?;
@@ -116,8 +198,8 @@ fn read_both<'a, S: Scope>(
     scope: &S,
     bound: &mut Vec<&'a str>,
     list: Cursor<'a>,
-) -> Result<(Formula, Formula), ReadFault>
-    ensures read { IsReading formula_pair (both_reading (S.names scope.now) (names_in bound.old.items) (owner_of list.entry) (number_of list.entry) (rest_of list.entry)) result }
+) -> Result<(Box<Formula>, Box<Formula>), ReadFault>
+    ensures read { IsReading boxed_pair (both_reading (S.names scope.now) (names_in bound.old.items) (owner_of list.entry) (number_of list.entry) (rest_of list.entry)) result }
     ensures bound { bound.new.items ≡ bound.old.items }
 {
     let (first, second, rest) = two(list)?;
@@ -144,7 +226,7 @@ fn read_bound_formulas<'a, S: Scope>(
             return formulas;
         };
         let formula = read_bound_formula(alloc, scope, bound, part);
-        formulas = pushed(formulas, formula);
+        formulas = pushed_out(formulas, formula);
     }
 }
 
@@ -166,8 +248,8 @@ fn read_body<'a, S: Scope>(
     scope: &S,
     bound: &mut Vec<&'a str>,
     list: Cursor<'a>,
-) -> Result<Formula, ReadFault>
-    ensures read { IsReading formula_of (body_reading (S.names scope.now) (names_in bound.old.items) (owner_of list.entry) (number_of list.entry) (rest_of list.entry)) result }
+) -> Result<Box<Formula>, ReadFault>
+    ensures read { IsReading boxed (body_reading (S.names scope.now) (names_in bound.old.items) (owner_of list.entry) (number_of list.entry) (rest_of list.entry)) result }
     ensures bound { bound.new.items ≡ bound.old.items }
 {
     let (first, second, rest) = two(list)?;
@@ -185,8 +267,8 @@ fn read_inside<'a, S: Scope>(
     bound: &mut Vec<&'a str>,
     binder: Part<'a>,
     part: Part<'a>,
-) -> Result<Formula, ReadFault>
-    ensures read { IsReading formula_of (formula_reading (S.names scope.now) (bound_inside (tree_of binder.entry) (names_in bound.old.items)) (place_of part.entry) (tree_of part.entry)) result }
+) -> Result<Box<Formula>, ReadFault>
+    ensures read { IsReading boxed (formula_reading (S.names scope.now) (bound_inside (tree_of binder.entry) (names_in bound.old.items)) (place_of part.entry) (tree_of part.entry)) result }
     ensures bound { bound.new.items ≡ bound.old.items }
 {
     match binder.item() {
@@ -203,8 +285,8 @@ fn read_named<'a, S: Scope>(
     bound: &mut Vec<&'a str>,
     name: &'a str,
     part: Part<'a>,
-) -> Result<Formula, ReadFault>
-    ensures read { IsReading formula_of (formula_reading (S.names scope.now) (names_in bound.old.items ++ (name.now ∷ [])) (place_of part.entry) (tree_of part.entry)) result }
+) -> Result<Box<Formula>, ReadFault>
+    ensures read { IsReading boxed (formula_reading (S.names scope.now) (names_in bound.old.items ++ (name.now ∷ [])) (place_of part.entry) (tree_of part.entry)) result }
     ensures bound { bound.new.items ≡ bound.old.items }
 {
     bound.push(name)?;

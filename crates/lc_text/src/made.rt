@@ -1,20 +1,25 @@
 //! What is made of parts that are read.
-ghost use Rattle.std.specs.Prelude.{ℤ};
+//!
+//! The functions `whole_` stand apart from the readers that call them. Readers call one another, as deep as a text is nested,
+//! and what is made of the parts on the way takes none of the stack of their levels.
+ghost use Rattle.std.specs.Prelude.{◌≡◌, ℤ};
+ghost use Rattle.lc_sexp.specs.Shown.{rest_of, number_of};
 ghost use Rattle.lc_reading.specs.Readings.{Reading, mapped};
-ghost use Rattle.lc_reading.specs.Results.{IsReading};
+ghost use Rattle.lc_reading.specs.Results.{IsReading, IsPushed, both_results, ended_result};
 ghost use Rattle.lc_term.specs.Syntax as S;
-ghost use Rattle.lc_term.specs.View.{term_of, column_of, formula_of};
+ghost use Rattle.lc_term.specs.View.{term_of, column_of};
 ghost use Rattle.lc_text.specs.Formulas.{comparison_of, joined_by, implication_of, quantified_by};
-ghost use Rattle.lc_text.specs.Seen.{numbers_of, terms_of, product_parts, access_parts, store_parts, formula_pair, row_of};
+ghost use Rattle.lc_text.specs.Seen.{numbers_of, terms_of, product_parts, access_parts, store_parts, boxed, boxed_pair, unboxed, row_of};
 ghost use Rattle.lc_text.specs.Terms.{sum_of, product_of, access_of, affine_of, store_of};
 
 use crate::words::{Connective, Operation};
-use lc_reading::ReadFault;
+use lc_reading::{ReadFault, both, ended, pushed};
+use lc_sexp::Cursor;
 use lc_term::{ColExpr, Formula, Term};
 use std::alloc::Global;
 
 /// The sum or the difference of two terms.
-pub(crate) fn made_sum(
+fn made_sum(
     alloc: Global,
     operation: Operation,
     terms: Result<(Term, Term), ReadFault>,
@@ -31,10 +36,7 @@ pub(crate) fn made_sum(
 }
 
 /// The product of a number and a term.
-pub(crate) fn made_product(
-    alloc: Global,
-    parts: Result<(i64, Term), ReadFault>,
-) -> Result<Term, ReadFault>
+fn made_product(alloc: Global, parts: Result<(i64, Term), ReadFault>) -> Result<Term, ReadFault>
     ensures { (r : Reading (ℤ × S.Term)) → IsReading product_parts r parts → IsReading term_of (mapped product_of r) result }
 {
     let (factor, term) = parts?;
@@ -42,10 +44,7 @@ pub(crate) fn made_product(
 }
 
 /// The cell of a column at an index.
-pub(crate) fn made_access(
-    alloc: Global,
-    parts: Result<(ColExpr, Term), ReadFault>,
-) -> Result<Term, ReadFault>
+fn made_access(alloc: Global, parts: Result<(ColExpr, Term), ReadFault>) -> Result<Term, ReadFault>
     ensures { (r : Reading (S.Column × S.Term)) → IsReading access_parts r parts → IsReading term_of (mapped access_of r) result }
 {
     let (column, index) = parts?;
@@ -61,7 +60,7 @@ pub(crate) fn made_affine(numbers: Result<(i64, i64), ReadFault>) -> Result<ColE
 }
 
 /// A column with another value at an index.
-pub(crate) fn made_store(
+fn made_store(
     alloc: Global,
     parts: Result<((ColExpr, Term), Term), ReadFault>,
 ) -> Result<ColExpr, ReadFault>
@@ -73,67 +72,155 @@ pub(crate) fn made_store(
     Ok(ColExpr::Store(column, index, Box::new(alloc, value)?))
 }
 
+/// The sum or the difference of two terms that are all of a list.
+#[inline(never)]
+pub(crate) fn whole_sum(
+    alloc: Global,
+    operation: Operation,
+    left: Result<Term, ReadFault>,
+    right: Result<Term, ReadFault>,
+    rest: Cursor<'_>,
+) -> Result<Term, ReadFault>
+    ensures { (r : Reading (S.Term × S.Term)) → IsReading terms_of r (ended_result (number_of rest.entry) (rest_of rest.entry) (both_results left right)) →
+        IsReading term_of (mapped (sum_of operation) r) result }
+{
+    made_sum(alloc, operation, ended(both(left, right), rest))
+}
+
+/// The product of a number and a term that are all of a list.
+#[inline(never)]
+pub(crate) fn whole_product(
+    alloc: Global,
+    factor: Result<i64, ReadFault>,
+    term: Result<Term, ReadFault>,
+    rest: Cursor<'_>,
+) -> Result<Term, ReadFault>
+    ensures { (r : Reading (ℤ × S.Term)) → IsReading product_parts r (ended_result (number_of rest.entry) (rest_of rest.entry) (both_results factor term)) →
+        IsReading term_of (mapped product_of r) result }
+{
+    made_product(alloc, ended(both(factor, term), rest))
+}
+
+/// The cell of a column at an index that are all of a list.
+#[inline(never)]
+pub(crate) fn whole_access(
+    alloc: Global,
+    column: Result<ColExpr, ReadFault>,
+    index: Result<Term, ReadFault>,
+    rest: Cursor<'_>,
+) -> Result<Term, ReadFault>
+    ensures { (r : Reading (S.Column × S.Term)) → IsReading access_parts r (ended_result (number_of rest.entry) (rest_of rest.entry) (both_results column index)) →
+        IsReading term_of (mapped access_of r) result }
+{
+    made_access(alloc, ended(both(column, index), rest))
+}
+
+/// A column with a value stored at an index, where these are all of a list.
+#[inline(never)]
+pub(crate) fn whole_store(
+    alloc: Global,
+    column: Result<ColExpr, ReadFault>,
+    index: Result<Term, ReadFault>,
+    value: Result<Term, ReadFault>,
+    rest: Cursor<'_>,
+) -> Result<ColExpr, ReadFault>
+    ensures { (r : Reading ((S.Column × S.Term) × S.Term)) → IsReading store_parts r (ended_result (number_of rest.entry) (rest_of rest.entry) (both_results (both_results column index) value)) →
+        IsReading column_of (mapped store_of r) result }
+{
+    made_store(alloc, ended(both(both(column, index), value), rest))
+}
+
 /// The comparison of two terms.
+#[inline(never)]
 pub(crate) fn made_comparison(
+    alloc: Global,
     connective: Connective,
     terms: Result<(Term, Term), ReadFault>,
-) -> Result<Formula, ReadFault>
-    ensures { (r : Reading (S.Term × S.Term)) → IsReading terms_of r terms → IsReading formula_of (mapped (comparison_of connective) r) result }
+) -> Result<Box<Formula>, ReadFault>
+    ensures { (r : Reading (S.Term × S.Term)) → IsReading terms_of r terms → IsReading boxed (mapped (comparison_of connective) r) result }
 {
     let (left, right) = terms?;
-    Ok(match connective {
+    let formula = match connective {
         Connective::Le => Formula::Le(left, right),
         _ => Formula::Eq(left, right),
-    })
+    };
+    Ok(Box::new(alloc, formula)?)
 }
 
 /// The negation of a formula.
+#[inline(never)]
 pub(crate) fn made_negation(
     alloc: Global,
-    formula: Result<Formula, ReadFault>,
-) -> Result<Formula, ReadFault>
-    ensures { (r : Reading S.Formula) → IsReading formula_of r formula → IsReading formula_of (mapped S.Not r) result }
+    formula: Result<Box<Formula>, ReadFault>,
+) -> Result<Box<Formula>, ReadFault>
+    ensures { (r : Reading S.Formula) → IsReading boxed r formula → IsReading boxed (mapped S.Not r) result }
 {
-    Ok(Formula::Not(Box::new(alloc, formula?)?))
+    Ok(Box::new(alloc, Formula::Not(formula?))?)
 }
 
 /// The conjunction or the disjunction of formulas.
+#[inline(never)]
 pub(crate) fn made_row(
+    alloc: Global,
     connective: Connective,
     formulas: Result<Vec<Formula>, ReadFault>,
-) -> Result<Formula, ReadFault>
-    ensures { (r : Reading S.Formulas) → IsReading row_of r formulas → IsReading formula_of (mapped (joined_by connective) r) result }
+) -> Result<Box<Formula>, ReadFault>
+    ensures { (r : Reading S.Formulas) → IsReading row_of r formulas → IsReading boxed (mapped (joined_by connective) r) result }
 {
     let formulas = formulas?;
-    Ok(match connective {
+    let formula = match connective {
         Connective::And => Formula::And(formulas),
         _ => Formula::Or(formulas),
-    })
+    };
+    Ok(Box::new(alloc, formula)?)
 }
 
 /// The implication of two formulas.
+#[inline(never)]
 pub(crate) fn made_implication(
     alloc: Global,
-    formulas: Result<(Formula, Formula), ReadFault>,
-) -> Result<Formula, ReadFault>
-    ensures { (r : Reading (S.Formula × S.Formula)) → IsReading formula_pair r formulas → IsReading formula_of (mapped implication_of r) result }
+    formulas: Result<(Box<Formula>, Box<Formula>), ReadFault>,
+) -> Result<Box<Formula>, ReadFault>
+    ensures { (r : Reading (S.Formula × S.Formula)) → IsReading boxed_pair r formulas → IsReading boxed (mapped implication_of r) result }
 {
     let (left, right) = formulas?;
-    let left = Box::new(alloc, left)?;
-    Ok(Formula::Implies(left, Box::new(alloc, right)?))
+    Ok(Box::new(alloc, Formula::Implies(left, right))?)
 }
 
 /// The quantifier with this body.
+#[inline(never)]
 pub(crate) fn made_quantifier(
     alloc: Global,
     connective: Connective,
-    body: Result<Formula, ReadFault>,
-) -> Result<Formula, ReadFault>
-    ensures { (r : Reading S.Formula) → IsReading formula_of r body → IsReading formula_of (mapped (quantified_by connective) r) result }
+    body: Result<Box<Formula>, ReadFault>,
+) -> Result<Box<Formula>, ReadFault>
+    ensures { (r : Reading S.Formula) → IsReading boxed r body → IsReading boxed (mapped (quantified_by connective) r) result }
 {
-    let body = Box::new(alloc, body?)?;
-    Ok(match connective {
+    let body = body?;
+    let formula = match connective {
         Connective::Forall => Formula::Forall(body),
         _ => Formula::Exists(body),
-    })
+    };
+    Ok(Box::new(alloc, formula)?)
+}
+
+/// One formula more, where all before it are read; else what is wrong in any.
+#[inline(never)]
+pub(crate) fn pushed_out(
+    formulas: Result<Vec<Formula>, ReadFault>,
+    formula: Result<Box<Formula>, ReadFault>,
+) -> Result<Vec<Formula>, ReadFault>
+    ensures { IsPushed formulas (unboxed formula) result }
+{
+    pushed(formulas, out_of_box(formula))
+}
+
+/// The formula that a box has.
+pub(crate) fn out_of_box(formula: Result<Box<Formula>, ReadFault>) -> Result<Formula, ReadFault>
+    ensures { result ≡ unboxed formula }
+{
+    match formula {
+        Ok(formula) => Ok(Box::into_inner(formula)),
+        Err(fault) => Err(fault),
+    }
 }

@@ -5,11 +5,12 @@ ghost use Rattle.lc_reading.specs.Parts.{tree_of, place_of};
 ghost use Rattle.lc_reading.specs.Results.{IsReading};
 ghost use Rattle.lc_reading.specs.Words.{names_in};
 ghost use Rattle.lc_term.specs.View.{term_of};
-ghost use Rattle.lc_text.specs.Seen.{terms_of, product_parts, access_parts};
-ghost use Rattle.lc_text.specs.Terms.{bound_index, variable_reading, number_reading, numbered_reading, word_reading, atom_reading, term_reading, terms_reading, product_reading, access_reading, operation_with};
+ghost use Rattle.lc_text.specs.Seen.{terms_of};
+ghost use Rattle.lc_reading.specs.Readings.{mapped};
+ghost use Rattle.lc_text.specs.Terms.{bound_index, variable_reading, number_reading, numbered_reading, word_reading, atom_reading, term_reading, terms_reading, product_reading, access_reading, operation_with, sum_of, product_of, access_of};
 
 use crate::column::read_bound_column;
-use crate::made::{made_access, made_product, made_sum};
+use crate::made::{whole_access, whole_product, whole_sum};
 use crate::scope::{Extra, Scope};
 use crate::words::{Operation, operation_of};
 use lc_base::is_name;
@@ -79,7 +80,8 @@ fn read_word<S: Scope>(scope: &S, bound: &[&str], atom: &Atom<'_>) -> Result<Ter
     }
 }
 
-/// A NUMBER, a NAME or a variable `?k`.
+/// A NUMBER, a NAME or a variable `?k`. It stands apart from the readers of terms, which call one another.
+#[inline(never)]
 fn read_atom<S: Scope>(scope: &S, bound: &[&str], atom: &Atom<'_>) -> Result<Term, ReadFault>
     ensures { IsReading term_of (atom_reading (S.names scope.now) (names_in bound.now) (atom_number atom.now) (text_of atom.now)) result }
 {
@@ -94,7 +96,7 @@ fn read_atom<S: Scope>(scope: &S, bound: &[&str], atom: &Atom<'_>) -> Result<Ter
 pub fn read_term<S: Scope>(alloc: Global, scope: &S, part: Part<'_>) -> Result<Term, ReadFault>
     ensures { IsReading term_of (term_reading (S.names scope.now) [] (place_of part.entry) (tree_of part.entry)) result }
 {
-    read_bound_term(alloc, scope, &[], part)
+    read_bound_term(alloc, scope, &[], &part)
 }
 
 /// The term that an item reads as, where quantifiers bind these names.
@@ -103,9 +105,9 @@ pub(crate) fn read_bound_term<S: Scope>(
     alloc: Global,
     scope: &S,
     bound: &[&str],
-    part: Part<'_>,
+    part: &Part<'_>,
 ) -> Result<Term, ReadFault>
-    ensures { IsReading term_of (term_reading (S.names scope.now) (names_in bound.now) (place_of part.entry) (tree_of part.entry)) result }
+    ensures { IsReading term_of (term_reading (S.names scope.now) (names_in bound.now) (place_of part.now) (tree_of part.now)) result }
 {
     let list = match part.item() {
         Item::Atom(atom) => return read_atom(scope, bound, &atom),
@@ -130,16 +132,31 @@ fn read_operation<S: Scope>(
     ensures { IsReading term_of (operation_with (S.names scope.now) (names_in bound.now) operation (owner_of list.entry) (number_of list.entry) (rest_of list.entry)) result }
 {
     match operation {
-        Operation::Add | Operation::Subtract => {
-            made_sum(alloc, operation, read_terms(alloc, scope, bound, list))
-        }
-        Operation::Multiply => made_product(alloc, read_product(alloc, scope, bound, list)),
-        Operation::Read => made_access(alloc, read_access(alloc, scope, bound, list)),
+        Operation::Add | Operation::Subtract => read_sum(alloc, scope, bound, operation, list),
+        Operation::Multiply => read_product(alloc, scope, bound, list),
+        Operation::Read => read_access(alloc, scope, bound, list),
     }
 }
 
-/// Two terms, which are all that is left in a list.
+/// The sum or the difference of two terms, which are all that is left in a list.
 #[cycle(read_term)]
+#[inline(never)]
+fn read_sum<S: Scope>(
+    alloc: Global,
+    scope: &S,
+    bound: &[&str],
+    operation: Operation,
+    list: Cursor<'_>,
+) -> Result<Term, ReadFault>
+    ensures { IsReading term_of (mapped (sum_of operation) (terms_reading (S.names scope.now) (names_in bound.now) (owner_of list.entry) (number_of list.entry) (rest_of list.entry))) result }
+{
+    let (first, second, rest) = two(list)?;
+    let left = read_bound_term(alloc, scope, bound, &first);
+    let right = read_bound_term(alloc, scope, bound, &second);
+    whole_sum(alloc, operation, left, right, rest)
+}
+
+/// Two terms, which are all that is left in a list.
 pub(crate) fn read_terms<S: Scope>(
     alloc: Global,
     scope: &S,
@@ -149,41 +166,43 @@ pub(crate) fn read_terms<S: Scope>(
     ensures { IsReading terms_of (terms_reading (S.names scope.now) (names_in bound.now) (owner_of list.entry) (number_of list.entry) (rest_of list.entry)) result }
 {
     let (first, second, rest) = two(list)?;
-    let left = read_bound_term(alloc, scope, bound, first);
-    let right = read_bound_term(alloc, scope, bound, second);
+    let left = read_bound_term(alloc, scope, bound, &first);
+    let right = read_bound_term(alloc, scope, bound, &second);
     ended(both(left, right), rest)
 }
 
-/// A number and a term.
+/// The product of a number and a term, which are all that is left in a list.
 #[cycle(read_term)]
+#[inline(never)]
 fn read_product<S: Scope>(
     alloc: Global,
     scope: &S,
     bound: &[&str],
     list: Cursor<'_>,
-) -> Result<(i64, Term), ReadFault>
-    ensures { IsReading product_parts (product_reading (S.names scope.now) (names_in bound.now) (owner_of list.entry) (number_of list.entry) (rest_of list.entry)) result }
+) -> Result<Term, ReadFault>
+    ensures { IsReading term_of (mapped product_of (product_reading (S.names scope.now) (names_in bound.now) (owner_of list.entry) (number_of list.entry) (rest_of list.entry))) result }
 {
     let (first, second, rest) = two(list)?;
     let factor = read_number(first);
-    let term = read_bound_term(alloc, scope, bound, second);
-    ended(both(factor, term), rest)
+    let term = read_bound_term(alloc, scope, bound, &second);
+    whole_product(alloc, factor, term, rest)
 }
 
-/// A column and an index.
+/// The cell of a column at an index, which are all that is left in a list.
 #[cycle(read_term)]
+#[inline(never)]
 fn read_access<S: Scope>(
     alloc: Global,
     scope: &S,
     bound: &[&str],
     list: Cursor<'_>,
-) -> Result<(ColExpr, Term), ReadFault>
-    ensures { IsReading access_parts (access_reading (S.names scope.now) (names_in bound.now) (owner_of list.entry) (number_of list.entry) (rest_of list.entry)) result }
+) -> Result<Term, ReadFault>
+    ensures { IsReading term_of (mapped access_of (access_reading (S.names scope.now) (names_in bound.now) (owner_of list.entry) (number_of list.entry) (rest_of list.entry))) result }
 {
     let (first, second, rest) = two(list)?;
-    let column = read_bound_column(alloc, scope, bound, list.owner(), first);
-    let index = read_bound_term(alloc, scope, bound, second);
-    ended(both(column, index), rest)
+    let column = read_bound_column(alloc, scope, bound, list.owner(), &first);
+    let index = read_bound_term(alloc, scope, bound, &second);
+    whole_access(alloc, column, index, rest)
 }
 
 /// Reads terms, with the names of this scope.

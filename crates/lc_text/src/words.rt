@@ -33,7 +33,8 @@ pub(crate) enum Connective {
     Exists,
 }
 
-/// What this word says, where a term is due.
+/// What this word says, where a term is due. It stands apart from the readers, which call one another: so do the others below.
+#[inline(never)]
 pub(crate) fn operation_of(word: &str) -> Option<Operation>
     ensures { result ≡ operation_of word.now }
 {
@@ -46,6 +47,7 @@ pub(crate) fn operation_of(word: &str) -> Option<Operation>
     }
 }
 
+#[inline(never)]
 fn built_of(word: &str) -> Option<Built>
     ensures { result ≡ built_of word.now }
 {
@@ -67,6 +69,7 @@ pub(crate) fn built_due<S: Scope>(scope: &S, word: &str) -> Option<Built>
     }
 }
 
+#[inline(never)]
 fn connective_of(word: &str) -> Option<Connective>
     ensures { result ≡ connective_of word.now }
 {

@@ -43,20 +43,17 @@ fn is_copied(alloc: Global) -> Result<bool, OutOfMemory> {
     Ok((other.formula(alloc, copy)? == formula) & (other.len() == 3))
 }
 
-// `(rd (store c0 b0 7) b1)`
-fn stored_cell(alloc: Global) -> Result<Term, OutOfMemory> {
+// A shift that moves nothing answers the same number.
+fn is_shifted(alloc: Global) -> Result<bool, OutOfMemory> {
+    // `(rd (store c0 b0 7) b1)`
     let column = Box::new(alloc, ColExpr::Base(ColId(0)))?;
     let index = Box::new(alloc, Term::Bound(0))?;
     let stored = ColExpr::Store(column, index, Box::new(alloc, Term::Number(7))?);
-    Ok(Term::Read(stored, Box::new(alloc, Term::Bound(1))?))
-}
-
-// A shift that moves nothing answers the same number.
-fn is_shifted(alloc: Global) -> Result<bool, OutOfMemory> {
-    let read = stored_cell(alloc)?;
+    let read = Term::Read(stored, Box::new(alloc, Term::Bound(1))?);
     let mut terms = Terms::new(alloc);
     let id = terms.enter_term(&read)?;
     let moved = terms.shift(alloc, id, 2, 1)?;
+    let id = terms.enter_term(&read)?;
     let stays = terms.shift(alloc, id, 2, 2)?;
     Ok((id == stays) & (id != moved) & (terms.term(alloc, id)? == read))
 }

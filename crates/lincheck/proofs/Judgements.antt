@@ -18,7 +18,7 @@ use Rattle.lc_seq.specs.TextStep.{text_step, TextFits, start_of}
 use Rattle.lc_seq.specs.declared.choice.Pick.{Pick}
 use Rattle.lc_seq.specs.declared.text_call.TextCall.{TextCall}
 use Rattle.lincheck.specs.Answers.{ToldFault}
-use Rattle.lincheck.specs.Judge.{IsLinearization, FailsFirst, Overflows, SaysSuch, IsJudgement, judgement_of, AnswersHistory, AnswersJudge, ToldJudgement}
+use Rattle.lincheck.specs.Judge.{IsLinearization, FailsFirst, Overflows, SaysSuch, IsJudgement, judgement_of, AnswersHistory, AnswersBoth, ToldJudgement}
 use Rattle.lc_reading.proofs.Files.{says_not_refused}
 use Rattle.lc_seq.specs.TextView.{specification_of}
 use Rattle.lc_spec_text.specs.Specifications.{first_reading}
@@ -69,7 +69,7 @@ says_nothing : (Holds : Specification → List Event → List Entry → Type 0) 
 says_nothing Holds spec n file e long (history, order, says, holds) = omega (arith, length-take n file, says.text.limit)
 
 -- nor does the file, so item 0 is wrong in both
-wrong_of_long : (spec : Specification) (n : ℕ) (file : List ℕ) (item : ℕ) → n ≡ most_bytes → n ≤ length file → IsWrongItem spec.operations (take n file) item → IsWrongItem spec.operations file item
+pub wrong_of_long : (spec : Specification) (n : ℕ) (file : List ℕ) (item : ℕ) → n ≡ most_bytes → n ≤ length file → IsWrongItem spec.operations (take n file) item → IsWrongItem spec.operations file item
 wrong_of_long spec n file item e long (inl (is, none)) = inl (is, λ parts has. omega (arith, has.limit))
 wrong_of_long spec n file item e long (inr (parts, has, wrong)) = absurd (omega (arith, length-take n file, has.limit))
 
@@ -108,30 +108,30 @@ history_answered spec (Some file) bytes seen judgement text status read same is 
     (judgement, of_whole spec most_bytes file judgement refl (subst (λ b. IsJudgement spec b judgement) (same ∙ read) is), told)
 
 -- what is told of the history answers both files, where the development is read
-pub read_answered : (known history history' : Option (List ℕ)) (bytes seen : List ℕ) (spec : Specification) (text : List ℕ) (status : ℕ)
-    → IfSome known (λ file. bytes ≡ within_limit file) → seen ≡ bytes → Says first_reading seen spec → history' ≡ history → IfSome history' (λ file. AnswersHistory spec file text status)
-    → IfSome known (λ file. AnswersJudge file history text status)
-read_answered None history history' bytes seen spec text status read same says keeps answers = tt
-read_answered (Some file) history history' bytes seen spec text status read same says keeps answers =
-    inr (spec, said_of_whole first_reading file spec (subst (λ b. Says first_reading b spec) (same ∙ read) says), subst (λ h. IfSome h (λ f. AnswersHistory spec f text status)) keeps answers)
+pub read_answered : (Answers : Specification → List ℕ → List ℕ → ℕ → Type 0) (known history history' : Option (List ℕ)) (bytes seen : List ℕ) (spec : Specification) (text : List ℕ) (status : ℕ)
+    → IfSome known (λ file. bytes ≡ within_limit file) → seen ≡ bytes → Says first_reading seen spec → history' ≡ history → IfSome history' (λ file. Answers spec file text status)
+    → IfSome known (λ file. AnswersBoth Answers file history text status)
+read_answered Answers None history history' bytes seen spec text status read same says keeps answers = tt
+read_answered Answers (Some file) history history' bytes seen spec text status read same says keeps answers =
+    inr (spec, said_of_whole first_reading file spec (subst (λ b. Says first_reading b spec) (same ∙ read) says), subst (λ h. IfSome h (λ f. Answers spec f text status)) keeps answers)
 
 -- likewise where it may not be told
-pub read_answered_if : (known history history' : Option (List ℕ)) (bytes seen : List ℕ) (spec : Specification) (result : Result Answer Failure)
+pub read_answered_if : (Answers : Specification → List ℕ → List ℕ → ℕ → Type 0) (known history history' : Option (List ℕ)) (bytes seen : List ℕ) (spec : Specification) (result : Result Answer Failure)
     → IfSome known (λ file. bytes ≡ within_limit file) → seen ≡ bytes → Says first_reading seen spec → history' ≡ history
-    → IfOk result (λ answer. IfSome history' (λ file. AnswersHistory spec file answer.text.items answer.status))
-    → IfOk result (λ answer. IfSome known (λ file. AnswersJudge file history answer.text.items answer.status))
-read_answered_if known history history' bytes seen spec (Ok answer) read same says keeps answers =
-    read_answered known history history' bytes seen spec answer.text.items answer.status read same says keeps answers
-read_answered_if known history history' bytes seen spec (Err failure) read same says keeps answers = tt
+    → IfOk result (λ answer. IfSome history' (λ file. Answers spec file answer.text.items answer.status))
+    → IfOk result (λ answer. IfSome known (λ file. AnswersBoth Answers file history answer.text.items answer.status))
+read_answered_if Answers known history history' bytes seen spec (Ok answer) read same says keeps answers =
+    read_answered Answers known history history' bytes seen spec answer.text.items answer.status read same says keeps answers
+read_answered_if Answers known history history' bytes seen spec (Err failure) read same says keeps answers = tt
 
 -- what is told of the refusal of the development answers both files
-pub refused_answered : (known history : Option (List ℕ)) (bytes seen : List ℕ) (fault : Fault) (text : List ℕ) (status : ℕ)
+pub refused_answered : (Answers : Specification → List ℕ → List ℕ → ℕ → Type 0) (known history : Option (List ℕ)) (bytes seen : List ℕ) (fault : Fault) (text : List ℕ) (status : ℕ)
     → IfSome known (λ file. bytes ≡ within_limit file) → seen ≡ bytes → IsAnswerTo specification_of first_reading seen (Err fault) → ToldFault fault text status
-    → IfSome known (λ file. AnswersJudge file history text status)
-refused_answered None history bytes seen fault text status read same is told = tt
-refused_answered (Some file) history bytes seen (Refused refusal) text status read same is told =
+    → IfSome known (λ file. AnswersBoth Answers file history text status)
+refused_answered Answers None history bytes seen fault text status read same is told = tt
+refused_answered Answers (Some file) history bytes seen (Refused refusal) text status read same is told =
     inl (refusal, refusal_of_whole first_reading file refusal (subst (λ b. IsFirstRefusal first_reading b refusal) (same ∙ read) is), told)
-refused_answered (Some file) history bytes seen OutOfMemory text status read same is told = absurd told
+refused_answered Answers (Some file) history bytes seen OutOfMemory text status read same is told = absurd told
 
 -- where a file that is needed cannot be opened, and the development is read, there is no answer
 pub read_unread : {T E : Type 0} (CannotOpen : List ℕ → Type 0) (bytes_at : List ℕ → Option (List ℕ)) (development history : List ℕ) (result : Result T E)

@@ -1,6 +1,7 @@
 mod Truncated
 mod Verdicts
 mod Judgements
+mod Drawn
 mod OneAnswer
 mod Taken
 mod Words

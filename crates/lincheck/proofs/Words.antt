@@ -17,7 +17,7 @@ use Rattle.lc_lib_texts.specs.declared.library.Lib.{Lib}
 use Rattle.lc_lib_texts.specs.declared.library.Lib.TheVariants.{Counter, Stack, Lock, Snapshot, Combining, Rendezvous, Queue, PoolStack}
 use Rattle.lincheck.specs.declared.command_line.LibraryText.{LibraryText}
 use Rattle.lincheck.specs.declared.command_line.LibraryText.TheVariants.{Development, Certificate, Hints}
-use Rattle.lincheck.specs.CommandLine.{AreWrong, AskForHelp, AsksForText, HasPlainPaths, Reads, Task, CheckFormula, JudgeHistory, ShowDevelopment, ListConditions, CheckCertificate, ProveDevelopment, ProveWithHints, PrintLibrary, is_plain, is_set, library_task, library_words, one_file_task, proving, proving_task, text_for, two_file_task, program_app, task_in, task_of, words_for}
+use Rattle.lincheck.specs.CommandLine.{AreWrong, AskForHelp, AsksForText, HasPlainPaths, Reads, Task, CheckFormula, JudgeHistory, ShowDevelopment, ListConditions, CheckCertificate, ProveDevelopment, ProveWithHints, DrawHistory, PrintLibrary, is_plain, is_set, library_task, library_words, one_file_task, proving, proving_task, text_for, two_file_task, program_app, task_in, task_of, words_for}
 
 is_other : (b : ℕ) → not (b == 45) ≡ true → (b == 45) ≡ false
 is_other b plain = by (b == 45) refl plain
@@ -97,6 +97,12 @@ task_is_read name (ProveWithHints [] (c ∷ other)) plain = let f = is_other c p
 task_is_read name (ProveWithHints (b ∷ path) (c ∷ other)) plain =
     let e = is_other b plain.0 in
     let f = is_other c plain.1 in simp (e, f) (refl {a = Some (ProveWithHints (b ∷ path) (c ∷ other))})
+task_is_read name (DrawHistory [] []) plain = refl {a = Some (DrawHistory [] [])}
+task_is_read name (DrawHistory (b ∷ path) []) plain = let e = is_other b plain.0 in simp e (refl {a = Some (DrawHistory (b ∷ path) [])})
+task_is_read name (DrawHistory [] (c ∷ other)) plain = let f = is_other c plain.1 in simp f (refl {a = Some (DrawHistory [] (c ∷ other))})
+task_is_read name (DrawHistory (b ∷ path) (c ∷ other)) plain =
+    let e = is_other b plain.0 in
+    let f = is_other c plain.1 in simp (e, f) (refl {a = Some (DrawHistory (b ∷ path) (c ∷ other))})
 task_is_read name (PrintLibrary lib text) plain =
     object_is_read name (name_of lib) text (names_are_plain lib) ∙ ap (option_and_then (λ l. Some (PrintLibrary l text))) (named_back lib)
 
@@ -127,6 +133,12 @@ words_are_taken name (ProveWithHints [] []) plain = refl {a = true}
 words_are_taken name (ProveWithHints (b ∷ path) []) plain = let e = is_other b plain.0 in simp e (refl {a = true})
 words_are_taken name (ProveWithHints [] (c ∷ other)) plain = let f = is_other c plain.1 in simp f (refl {a = true})
 words_are_taken name (ProveWithHints (b ∷ path) (c ∷ other)) plain =
+    let e = is_other b plain.0 in
+    let f = is_other c plain.1 in simp (e, f) (refl {a = true})
+words_are_taken name (DrawHistory [] []) plain = refl {a = true}
+words_are_taken name (DrawHistory (b ∷ path) []) plain = let e = is_other b plain.0 in simp e (refl {a = true})
+words_are_taken name (DrawHistory [] (c ∷ other)) plain = let f = is_other c plain.1 in simp f (refl {a = true})
+words_are_taken name (DrawHistory (b ∷ path) (c ∷ other)) plain =
     let e = is_other b plain.0 in
     let f = is_other c plain.1 in simp (e, f) (refl {a = true})
 words_are_taken name (PrintLibrary lib text) plain = object_is_taken name (name_of lib) text (names_are_plain lib)

@@ -13,7 +13,7 @@ use Rattle.lc_lib_texts.specs.declared.library.Lib.{Lib}
 use Rattle.lincheck.specs.declared.command_line.LibraryText.{LibraryText}
 use Rattle.lincheck.specs.declared.command_line.LibraryText.TheVariants.{Development, Certificate, Hints}
 use Rattle.lincheck.specs.declared.command_line.Request.{Request}
-use Rattle.lincheck.specs.declared.command_line.Request.TheVariants.{Formula, Judge, Show, Conditions, Check, Prove, Library}
+use Rattle.lincheck.specs.declared.command_line.Request.TheVariants.{Formula, Judge, Show, Conditions, Check, Prove, Draw, Library}
 
 -- a required argument that names a file
 abbrev pub file_rule : Text → Rule
@@ -59,6 +59,10 @@ prove_app = with_rule (with_rule (with_rule (new_app (codes "prove")) (file_rule
 abbrev pub library_app : App
 library_app = with_rule (with_rule (with_rule (new_app (codes "library")) (object_rule (codes "NAME"))) (flag_rule (codes "certificate"))) (flag_rule (codes "hints"))
 
+-- `draw DEV HISTORY`
+abbrev pub draw_app : App
+draw_app = with_rule (with_rule (new_app (codes "draw")) (file_rule (codes "DEV"))) (file_rule (codes "HISTORY"))
+
 -- a command of this name that has a version and needs a subcommand
 abbrev pub needs_subcommand : Text → App
 needs_subcommand name = record { top = record (new_app name).top { subcommand_required = true; has_version = true }; subs = [] }
@@ -71,18 +75,19 @@ first_app = with_subcommand (with_subcommand (needs_subcommand (codes "lincheck"
 abbrev pub further_app : App
 further_app = with_subcommand (with_subcommand first_app show_app.top) conditions_app.top
 
--- the program with all commands but the last
+-- the program with its first six commands
 abbrev pub proving_app : App
 proving_app = with_subcommand (with_subcommand further_app check_app.top) prove_app.top
 
 -- the program and its commands
 abbrev pub program_app : App
-program_app = with_subcommand proving_app library_app.top
+program_app = with_subcommand (with_subcommand proving_app library_app.top) draw_app.top
 
 -- What may be asked for: that the proof in the file at a path is checked; that the history in one file is judged by the
 -- specification in another; that the development in a file is shown, or its conditions are listed; that the certificate in
 -- one file is checked against the development in another; that a certificate is found of the development in a file, without
--- hints or with those in another; or that a text of an object of the library is printed
+-- hints or with those in another; that the history in one file is drawn by the specification in another; or that a text of an
+-- object of the library is printed
 pub data Task : Type 0 where
   CheckFormula : (path : List ℕ) → Task
   JudgeHistory : (development history : List ℕ) → Task
@@ -91,6 +96,7 @@ pub data Task : Type 0 where
   CheckCertificate : (development certificate : List ℕ) → Task
   ProveDevelopment : (development : List ℕ) → Task
   ProveWithHints : (development hints : List ℕ) → Task
+  DrawHistory : (development history : List ℕ) → Task
   PrintLibrary : (lib : Lib) (text : LibraryText) → Task
 
 -- the task of proving a development, with hints if there is a path of such
@@ -110,6 +116,7 @@ task_of (Show development) = ShowDevelopment development.now
 task_of (Conditions development) = ListConditions development.now
 task_of (Check development certificate) = CheckCertificate development.now certificate.now
 task_of (Prove development hints progress) = proving development.now (path_in hints)
+task_of (Draw development history) = DrawHistory development.now history.now
 task_of (Library lib text) = PrintLibrary lib text
 
 -- the task with the file that these arguments name so
@@ -156,7 +163,9 @@ task_in_command c =
     then two_file_task CheckCertificate (codes "CERT") c.1
     else (if bytes_eq c.0 (codes "prove")
     then proving_task c.1
-    else (if bytes_eq c.0 (codes "library") then library_task c.1 else None))))))
+    else (if bytes_eq c.0 (codes "library")
+    then library_task c.1
+    else (if bytes_eq c.0 (codes "draw") then two_file_task DrawHistory (codes "HISTORY") c.1 else None)))))))
 
 -- the task of a command with its arguments, if there is one
 abbrev pub task_in : Option (Text × List Row) → Option Task
@@ -210,6 +219,7 @@ words_for name (ListConditions development) = name ∷ codes "conditions" ∷ de
 words_for name (CheckCertificate development certificate) = name ∷ codes "check" ∷ development ∷ certificate ∷ []
 words_for name (ProveDevelopment development) = name ∷ codes "prove" ∷ development ∷ []
 words_for name (ProveWithHints development hints) = name ∷ codes "prove" ∷ development ∷ codes "--hints" ∷ hints ∷ []
+words_for name (DrawHistory development history) = name ∷ codes "draw" ∷ development ∷ history ∷ []
 words_for name (PrintLibrary lib text) = library_words name (name_of lib) text
 
 -- none of its paths begins with a hyphen
@@ -221,4 +231,5 @@ HasPlainPaths (ListConditions development) = is_plain development ≡ true
 HasPlainPaths (CheckCertificate development certificate) = (is_plain development ≡ true) × (is_plain certificate ≡ true)
 HasPlainPaths (ProveDevelopment development) = is_plain development ≡ true
 HasPlainPaths (ProveWithHints development hints) = (is_plain development ≡ true) × (is_plain hints ≡ true)
+HasPlainPaths (DrawHistory development history) = (is_plain development ≡ true) × (is_plain history ≡ true)
 HasPlainPaths (PrintLibrary lib text) = Unit {0}

@@ -9,7 +9,8 @@ use Rattle.lc_outline.specs.Development.{Development}
 use Rattle.lc_outline_print.specs.Developments.{development_printed}
 use Rattle.lc_outline_text.specs.Developments.{file_reading}
 use Rattle.lincheck.specs.Check.{AnswersDevelopment, AnswersCheck}
-use Rattle.lincheck.specs.CommandLine.{Task, CheckFormula, JudgeHistory, ShowDevelopment, ListConditions, CheckCertificate, ProveDevelopment, ProveWithHints, PrintLibrary}
+use Rattle.lincheck.specs.CommandLine.{Task, CheckFormula, JudgeHistory, ShowDevelopment, ListConditions, CheckCertificate, ProveDevelopment, ProveWithHints, DrawHistory, PrintLibrary}
+use Rattle.lincheck.specs.Draw.{AnswersDraw}
 use Rattle.lincheck.specs.Formula.{AnswersFormula}
 use Rattle.lincheck.specs.Judge.{AnswersJudge}
 use Rattle.lincheck.specs.Library.{AnswersLibrary}
@@ -31,6 +32,8 @@ AnswersTask bytes_at (ProveDevelopment development) text status =
     IfSome (bytes_at development) (λ file. AnswersProve file text status)
 AnswersTask bytes_at (ProveWithHints development hints) text status =
     IfSome (bytes_at development) (λ file. AnswersHinted file (bytes_at hints) text status)
+AnswersTask bytes_at (DrawHistory development history) text status =
+    IfSome (bytes_at development) (λ file. AnswersDraw file (bytes_at history) text status)
 AnswersTask bytes_at (PrintLibrary lib asked) text status = AnswersLibrary lib asked text status
 
 -- A file that a task needs cannot be opened: the only one or the development; or the other, where the development is read
@@ -48,6 +51,9 @@ IsUnread CannotOpen bytes_at (ProveDevelopment development) = CannotOpen develop
 IsUnread CannotOpen bytes_at (ProveWithHints development hints) =
     CannotOpen development
     ⊎ ((file : List ℕ) × (D : Development) × (bytes_at development ≡ Some file) × Says file_reading file D × CannotOpen hints)
+IsUnread CannotOpen bytes_at (DrawHistory development history) =
+    CannotOpen development
+    ⊎ ((file : List ℕ) × (spec : Specification) × (bytes_at development ≡ Some file) × Says first_reading file spec × CannotOpen history)
 IsUnread CannotOpen bytes_at (PrintLibrary lib asked) = ⊥
 
 -- The program ends with a task: with a fault of reading, or for want of memory, and nothing is printed; or with an answer of which

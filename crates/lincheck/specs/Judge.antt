@@ -82,11 +82,15 @@ AnswersHistory spec file text status = (judgement : Result Judgement Fault) × I
 abbrev pub AnswersRefused : List ℕ → List ℕ → ℕ → Type 0
 AnswersRefused development text status = (refusal : Refusal) × IsFirstRefusal first_reading development refusal × ToldFault (Refused refusal) text status
 
--- the first form of the development's file is a specification, by which the history's file is answered, where this is known
-abbrev pub AnswersRead : List ℕ → Option (List ℕ) → List ℕ → ℕ → Type 0
-AnswersRead development history text status =
-    (spec : Specification) × Says first_reading development spec × IfSome history (λ file. AnswersHistory spec file text status)
+-- the first form of the development's file is a specification, by which the history's file is answered so, where this is known
+abbrev pub AnswersRead : (Specification → List ℕ → List ℕ → ℕ → Type 0) → List ℕ → Option (List ℕ) → List ℕ → ℕ → Type 0
+AnswersRead Answers development history text status =
+    (spec : Specification) × Says first_reading development spec × IfSome history (λ file. Answers spec file text status)
 
--- The answer to a development's file and a history's: a refusal of the development decides, whatever the other file has
+-- a refusal of the development's file decides, whatever the history's has; else this is answered so
+abbrev pub AnswersBoth : (Specification → List ℕ → List ℕ → ℕ → Type 0) → List ℕ → Option (List ℕ) → List ℕ → ℕ → Type 0
+AnswersBoth Answers development history text status = AnswersRefused development text status ⊎ AnswersRead Answers development history text status
+
+-- The answer to a development's file and a history's
 abbrev pub AnswersJudge : List ℕ → Option (List ℕ) → List ℕ → ℕ → Type 0
-AnswersJudge development history text status = AnswersRefused development text status ⊎ AnswersRead development history text status
+AnswersJudge = AnswersBoth AnswersHistory

@@ -4,6 +4,7 @@ pub mod Answers
 pub mod Reading
 pub mod Formula
 pub mod Judge
+pub mod Draw
 pub mod Check
 pub mod Prove
 pub mod Library

@@ -1,7 +1,7 @@
 -- What a task leaves on standard output.
 use Rattle.std.specs.Prelude.{◌≡◌, ℕ, ◌⊎◌, List, ◌++◌, Option, Result, Ok, Err}
 use Rattle.std.specs.Io.KnownBytes.{Keeps, Appends}
-use Rattle.lincheck.specs.CommandLine.{Task, CheckFormula, JudgeHistory, ShowDevelopment, ListConditions, CheckCertificate, ProveDevelopment, ProveWithHints, PrintLibrary}
+use Rattle.lincheck.specs.CommandLine.{Task, CheckFormula, JudgeHistory, ShowDevelopment, ListConditions, CheckCertificate, ProveDevelopment, ProveWithHints, DrawHistory, PrintLibrary}
 use Rattle.lincheck.specs.declared.answer.Failure.{Failure}
 use Rattle.lincheck.specs.declared.answer.Failure.TheVariants.{CannotRead, CannotWrite, OutOfMemory}
 
@@ -29,6 +29,7 @@ IsInPieces (ListConditions development) = Unit {0}
 IsInPieces (CheckCertificate development certificate) = ⊥
 IsInPieces (ProveDevelopment development) = ⊥
 IsInPieces (ProveWithHints development hints) = ⊥
+IsInPieces (DrawHistory development history) = ⊥
 IsInPieces (PrintLibrary lib text) = ⊥
 
 -- an answer is printed, and its status answered; else nothing is, or of an answer that is printed as it is made a beginning,

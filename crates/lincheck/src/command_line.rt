@@ -3,7 +3,7 @@ ghost use Rattle.std.specs.Prelude.{◌≡◌, ◌⊎◌, ℕ, List, codes, IfOk
 ghost use Rattle.clap.specs.Words.{app_of, found_of, kind_of, rows_of, rule_of, subcommand_rows_of};
 ghost use Rattle.clap.specs.declared.builder.command.Command.TheViews.{out-Command};
 ghost use Rattle.clap.specs.declared.error.kind.ErrorKind.TheVariants.{OutOfMemory};
-ghost use Rattle.lincheck.specs.CommandLine.{AreWrong, AskForHelp, AsksForText, HasPlainPaths, CheckCertificate, CheckFormula, JudgeHistory, ListConditions, Reads, ShowDevelopment, Task, check_app, conditions_app, file_rule, first_app, flag_rule, formula_app, further_app, is_set, judge_app, library_app, library_task, object_rule, one_file_task, option_rule, program_app, prove_app, proving_app, proving_task, show_app, task_in, task_of, text_for, texts_of, two_file_task, words_for};
+ghost use Rattle.lincheck.specs.CommandLine.{AreWrong, AskForHelp, AsksForText, HasPlainPaths, CheckCertificate, CheckFormula, DrawHistory, JudgeHistory, ListConditions, Reads, ShowDevelopment, Task, check_app, conditions_app, draw_app, file_rule, first_app, flag_rule, formula_app, further_app, is_set, judge_app, library_app, library_task, object_rule, one_file_task, option_rule, program_app, prove_app, proving_app, proving_task, show_app, task_in, task_of, text_for, texts_of, two_file_task, words_for};
 
 use clap::error::ErrorKind;
 use clap::{Arg, ArgAction, ArgMatches, Command, Error};
@@ -42,6 +42,11 @@ pub enum Request<'a> {
         development: &'a str,
         hints: Option<&'a str>,
         progress: bool,
+    },
+    /// Draw the history in a file, with its order, by the specification in another.
+    Draw {
+        development: &'a str,
+        history: &'a str,
     },
     /// Print a text of an object of the library.
     Library {
@@ -124,6 +129,18 @@ Else it prints one line:
 Example:
   lincheck judge examples/counter.spec examples/linearizable.json
       reads how two clients counted at the same time, and prints `linearizable`";
+
+static DRAW: &str = "Draws a history with its order";
+
+static DRAW_ANSWER: &str = "\
+Reads DEV and HISTORY as `judge` does, and prints a picture as SVG: a line for each client, a bar for each call from its beginning
+to its return, open at the right where it has not returned, and in the bars the entries of the order as marks with their places.
+What makes the order no linearization stands out, and the reason stands below. A file that `judge` refuses by the codes 1 to 4,
+6 or 13 is refused so.
+
+Example:
+  lincheck draw examples/counter.spec examples/linearizable.json > history.svg
+      prints a picture of two clients that counted at the same time";
 
 static DEVELOPMENT: &str =
     "A development: a specification, the object's code, and what is claimed of it";
@@ -248,6 +265,17 @@ fn judge_command<'a>(alloc: Global) -> Result<Command<'a>, AllocError>
         .arg(file(alloc, "HISTORY", JUDGE_HISTORY))
 }
 
+fn draw_command<'a>(alloc: Global) -> Result<Command<'a>, AllocError>
+    ensures app { IfOk result (λ command. app_of command ≡ draw_app) }
+    ensures local { IfOk result (λ command. (out-Command command).has_globals ≡ false) }
+{
+    Command::new(alloc, "draw")
+        .about(DRAW)
+        .after_help(DRAW_ANSWER)
+        .arg(file(alloc, "DEV", JUDGE_DEVELOPMENT))?
+        .arg(file(alloc, "HISTORY", JUDGE_HISTORY))
+}
+
 fn show_command<'a>(alloc: Global) -> Result<Command<'a>, AllocError>
     ensures app { IfOk result (λ command. app_of command ≡ show_app) }
     ensures local { IfOk result (λ command. (out-Command command).has_globals ≡ false) }
@@ -359,7 +387,7 @@ fn further_commands<'a>(alloc: Global) -> Result<Command<'a>, AllocError>
         .subcommand(conditions_command(alloc)?)
 }
 
-/// The program with all commands but the last.
+/// The program with its first six commands.
 fn proving_commands<'a>(alloc: Global) -> Result<Command<'a>, AllocError>
     ensures { IfOk result (λ command. app_of command ≡ proving_app) }
 {
@@ -371,7 +399,9 @@ fn proving_commands<'a>(alloc: Global) -> Result<Command<'a>, AllocError>
 fn program<'a>(alloc: Global) -> Result<Command<'a>, AllocError>
     ensures { IfOk result (λ command. app_of command ≡ program_app) }
 {
-    proving_commands(alloc)?.subcommand(library_command(alloc)?)
+    proving_commands(alloc)?
+        .subcommand(library_command(alloc)?)?
+        .subcommand(draw_command(alloc)?)
 }
 
 fn formula_request<'a>(command: &ArgMatches<'a>) -> Option<Request<'a>>
@@ -387,6 +417,17 @@ fn judge_request<'a>(command: &ArgMatches<'a>) -> Option<Request<'a>>
     let development = command.get_str("DEV")?;
     let history = command.get_str("HISTORY")?;
     Some(Request::Judge {
+        development,
+        history,
+    })
+}
+
+fn draw_request<'a>(command: &ArgMatches<'a>) -> Option<Request<'a>>
+    ensures { option_map task_of result ≡ two_file_task DrawHistory (codes "HISTORY") (rows_of (found_of command.now)) }
+{
+    let development = command.get_str("DEV")?;
+    let history = command.get_str("HISTORY")?;
+    Some(Request::Draw {
         development,
         history,
     })
@@ -476,6 +517,7 @@ fn request_of<'a>(matches: &ArgMatches<'a>) -> Option<Request<'a>>
         "check" => check_request(command),
         "prove" => prove_request(command),
         "library" => library_request(command),
+        "draw" => draw_request(command),
         _ => None,
     }
 }

@@ -81,7 +81,7 @@ fn answer_history<'a, F: Files>(
 }
 
 /// The specification in the file that a reader was fed; else its first refusal.
-fn spec_fed(alloc: Global, reader: FormsReader) -> Result<TextSpec, Fault>
+pub fn spec_fed(alloc: Global, reader: FormsReader) -> Result<TextSpec, Fault>
     ensures { (bytes : List ℕ) → WasFed reader bytes → IsAnswerTo specification_of first_reading bytes result }
 {
     let forms = reader.finish()?;

@@ -6,6 +6,7 @@ mod check;
 mod command_line;
 mod conditions;
 mod disk;
+mod draw;
 mod files;
 mod formula;
 mod judge;

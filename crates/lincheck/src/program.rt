@@ -10,6 +10,7 @@ use crate::answer::{COMMAND_LINE_FAULT, Failure, SUCCESS};
 use crate::check::answer_check;
 use crate::command_line::{Request, read_words};
 use crate::conditions::list_conditions;
+use crate::draw::answer_draw;
 use crate::files::Files;
 use crate::formula::answer_formula;
 use crate::judge::answer_judge;
@@ -59,6 +60,10 @@ fn carry_out<'a, F: Files, O: Write, E: Write>(
             let answer = answer_prove(alloc, files, development, hints, &mut telling)?;
             print_answer(out, &answer)
         }
+        Request::Draw {
+            development,
+            history,
+        } => print_answer(out, &answer_draw(alloc, files, development, history)?),
         Request::Library { lib, text } => print_answer(out, &answer_library(alloc, lib, text)?),
     }
 }

@@ -30,40 +30,37 @@ term::read_operation-returns-in-Add g t c =
     let names = g.S.Scope.names c.args.scope.now in
     let bound = names_in c.args.bound.now in
     let terms = terms_reading names bound (owner_of c.args.list) (number_of c.args.list) (rest_of c.args.list) in
-    subst (λ r. IsReading term_of r c.made_sum.result) (sum_with c.args.operation (owner_of c.args.list) terms _ _ c.in-Add.is) (c.made_sum.ensures terms c.read_terms.ensures)
+    subst (λ r. IsReading term_of r c.read_sum.result) (sum_with c.args.operation (owner_of c.args.list) terms _ _ c.in-Add.is) c.read_sum.ensures
 
 pub term::read_operation-returns-in-Multiply : goal.term::read_operation-returns-in-Multiply
-term::read_operation-returns-in-Multiply g t c =
-    let names = g.S.Scope.names c.args.scope.now in
-    let bound = names_in c.args.bound.now in
-    rw c.in-Multiply.is (c.made_product.ensures (product_reading names bound (owner_of c.args.list) (number_of c.args.list) (rest_of c.args.list)) c.read_product.ensures)
+term::read_operation-returns-in-Multiply g t c = rw c.in-Multiply.is c.read_product.ensures
 
 pub term::read_operation-returns-in-Read : goal.term::read_operation-returns-in-Read
-term::read_operation-returns-in-Read g t c =
-    let names = g.S.Scope.names c.args.scope.now in
-    let bound = names_in c.args.bound.now in
-    rw c.in-Read.is (c.made_access.ensures (access_reading names bound (owner_of c.args.list) (number_of c.args.list) (rest_of c.args.list)) c.read_access.ensures)
+term::read_operation-returns-in-Read g t c = rw c.in-Read.is c.read_access.ensures
 
-pub term::read_terms-returns : goal.term::read_terms-returns
-term::read_terms-returns g t c =
+pub term::read_sum-returns : goal.term::read_sum-returns
+term::read_sum-returns g t c =
     let names = g.S.Scope.names c.args.scope.now in
     let bound = names_in c.args.bound.now in
-    two_parts term_of term_of pair (term_reading names bound) (term_reading names bound) (terms_reading names bound (owner_of c.args.list)) c.args.list c.in_ok-first.rest c.in_ok-first.first c.in_ok-first.second _ _ _ _
-    c.in_ok-first.ensures c.read_bound_term-left.ensures c.read_bound_term-right.ensures c.both.ensures c.ended.ensures (λ m ts. refl)
+    c.whole_sum.ensures (terms_reading names bound (owner_of c.args.list) (number_of c.args.list) (rest_of c.args.list))
+    (two_parts term_of term_of pair (term_reading names bound) (term_reading names bound) (terms_reading names bound (owner_of c.args.list)) c.args.list c.in_ok-first.rest c.in_ok-first.first c.in_ok-first.second _ _ _ _
+    c.in_ok-first.ensures c.read_bound_term-left.ensures c.read_bound_term-right.ensures refl refl (λ m ts. refl))
 
 pub term::read_product-returns : goal.term::read_product-returns
 term::read_product-returns g t c =
     let names = g.S.Scope.names c.args.scope.now in
     let bound = names_in c.args.bound.now in
-    two_parts (λ z. z) term_of pair number_reading (term_reading names bound) (product_reading names bound (owner_of c.args.list)) c.args.list c.in_ok-first.rest c.in_ok-first.first c.in_ok-first.second _ _ _ _
-    c.in_ok-first.ensures c.read_number-factor.ensures c.read_bound_term-term.ensures c.both.ensures c.ended.ensures (λ m ts. refl)
+    c.whole_product.ensures (product_reading names bound (owner_of c.args.list) (number_of c.args.list) (rest_of c.args.list))
+    (two_parts (λ z. z) term_of pair number_reading (term_reading names bound) (product_reading names bound (owner_of c.args.list)) c.args.list c.in_ok-first.rest c.in_ok-first.first c.in_ok-first.second _ _ _ _
+    c.in_ok-first.ensures c.read_number-factor.ensures c.read_bound_term-term.ensures refl refl (λ m ts. refl))
 
 pub term::read_access-returns : goal.term::read_access-returns
 term::read_access-returns g t c =
     let names = g.S.Scope.names c.args.scope.now in
     let bound = names_in c.args.bound.now in
-    two_parts column_of term_of pair (column_reading names bound (owner_of c.args.list)) (term_reading names bound) (access_reading names bound (owner_of c.args.list)) c.args.list c.in_ok-first.rest c.in_ok-first.first c.in_ok-first.second _ _ _ _
-    c.in_ok-first.ensures (rw c.owner.ensures at c.read_bound_column-column.ensures) c.read_bound_term-index.ensures c.both.ensures c.ended.ensures (λ m ts. refl)
+    c.whole_access.ensures (access_reading names bound (owner_of c.args.list) (number_of c.args.list) (rest_of c.args.list))
+    (two_parts column_of term_of pair (column_reading names bound (owner_of c.args.list)) (term_reading names bound) (access_reading names bound (owner_of c.args.list)) c.args.list c.in_ok-first.rest c.in_ok-first.first c.in_ok-first.second _ _ _ _
+    c.in_ok-first.ensures (rw c.owner.ensures at c.read_bound_column-column.ensures) c.read_bound_term-index.ensures refl refl (λ m ts. refl))
 
 pub column::read_bound_column-returns-in-Some : goal.column::read_bound_column-returns-in-Some
 column::read_bound_column-returns-in-Some g t c =
@@ -77,15 +74,13 @@ column::read_built-returns-in-Affine g t c =
     rw c.in-Affine.is (c.made_affine.ensures (numbers_reading (owner_of c.args.list) (number_of c.args.list) (rest_of c.args.list)) c.read_numbers.ensures)
 
 pub column::read_built-returns-in-Store : goal.column::read_built-returns-in-Store
-column::read_built-returns-in-Store g t c =
-    let names = g.S.Scope.names c.args.scope.now in
-    let bound = names_in c.args.bound.now in
-    rw c.in-Store.is (c.made_store.ensures (store_reading names bound (owner_of c.args.list) (number_of c.args.list) (rest_of c.args.list)) c.read_store.ensures)
+column::read_built-returns-in-Store g t c = rw c.in-Store.is c.read_store.ensures
 
 pub column::read_store-returns : goal.column::read_store-returns
 column::read_store-returns g t c =
     let names = g.S.Scope.names c.args.scope.now in
     let bound = names_in c.args.bound.now in
-    three_parts column_of term_of term_of triple (column_reading names bound (owner_of c.args.list)) (term_reading names bound) (term_reading names bound)
+    c.whole_store.ensures (store_reading names bound (owner_of c.args.list) (number_of c.args.list) (rest_of c.args.list))
+    (three_parts column_of term_of term_of triple (column_reading names bound (owner_of c.args.list)) (term_reading names bound) (term_reading names bound)
     (store_reading names bound (owner_of c.args.list)) c.args.list c.in_ok-first.rest c.in_ok-first.first c.in_ok-first.second c.in_ok-first.third _ _ _ _ _ _
-    c.in_ok-first.ensures (rw c.owner.ensures at c.read_bound_column-column.ensures) c.read_bound_term-index.ensures c.read_bound_term-value.ensures c.both.ensures c.both-2.ensures c.ended.ensures (λ m t u v ts. refl)
+    c.in_ok-first.ensures (rw c.owner.ensures at c.read_bound_column-column.ensures) c.read_bound_term-index.ensures c.read_bound_term-value.ensures refl refl refl (λ m t u v ts. refl))

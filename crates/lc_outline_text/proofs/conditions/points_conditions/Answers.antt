@@ -11,12 +11,12 @@ use Rattle.lc_outline_text.proofs.conditions.points_conditions.Goals as goal
 
 pub returns-in_default-clause-count : goal.returns-in_default-clause-count
 returns-in_default-clause-count c =
-    let each = point_conditions (declarations_seen c.args.declarations.now) (totals_seen c.args.totals) c.args.operation (body_seen c.args.body.now) c.args.asserts.now in
+    let each = point_conditions (declarations_seen c.args.counting.declarations.now) (totals_seen c.args.counting.totals) c.args.counting.operation (body_seen c.args.counting.body.now) c.args.counting.asserts.now in
     counted c.points.count _ _ c.points.invariant.few (ap (sum_by each) c.in_default.ensures) c.points.invariant.counted
 
 pub points-preserved : goal.points-preserved
 points-preserved c =
-    let each = point_conditions (declarations_seen c.args.declarations.now) (totals_seen c.args.totals) c.args.operation (body_seen c.args.body.now) c.args.asserts.now in
+    let each = point_conditions (declarations_seen c.args.counting.declarations.now) (totals_seen c.args.counting.totals) c.args.counting.operation (body_seen c.args.counting.body.now) c.args.counting.asserts.now in
     record {
       set = c.in_ok-more.ensures.set;
       few = few_counted c.capped_sum-count.result _ c.capped_sum-count.ensures;

@@ -16,7 +16,7 @@ invariant-points l = record {
   set : IsSet l.set;
   few : l.count ≤ count_cap;
   counted :
-      let each = point_conditions (declarations_seen l.declarations) (totals_seen l.totals) l.operation (body_seen l.body) l.asserts in
+      let each = point_conditions (declarations_seen l.counting.declarations.now) (totals_seen l.counting.totals) l.counting.operation (body_seen l.counting.body.now) l.counting.asserts.now in
       capped (l.count + sum_by each (forms_left l.some (codes "point") (rest_of l.rest))) ≡ capped (sum_by each (points_in (rest_of l.fn.list)));
 }
 

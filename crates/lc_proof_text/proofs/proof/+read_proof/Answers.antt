@@ -1,5 +1,6 @@
 use Rattle.std.proofs.Common.{◌≡◌, ℕ, ◌+◌, zero, false, refl, sym, ap, ap₂, ◌∙◌, arith}
-use Rattle.std.specs.Prelude.{Result}
+use Rattle.std.specs.Prelude.{Result, Box}
+use Rattle.std.specs.declared.alloc.Global.{Global}
 use Rattle.std.specs.Result.{IsErrAnd}
 use Rattle.lc_sexp.specs.Trees.{Tree, Trees, ◌▸◌, item_count, item_count_of_all}
 use Rattle.lc_sexp.specs.Shown.{rest_of, number_of, owner_of}
@@ -9,7 +10,7 @@ use Rattle.lc_sexp.specs.declared.misfit.Misfit.TheVariants.{Shape as Misshapen}
 use Rattle.lc_text.specs.Names.{Names}
 use Rattle.lc_kernel.specs.Proofs as S
 use Rattle.lc_kernel.specs.Proofs.{more}
-use Rattle.lc_proof_text.specs.Own.{IsShort}
+use Rattle.lc_proof_text.specs.Own.{IsShort, boxed_proof, unboxed}
 use Rattle.lc_kernel.specs.View.{proof_of}
 use Rattle.lc_kernel.specs.declared.proof.Proof.{Proof as SeenProof}
 use Rattle.lc_reading.specs.Results.{IsReading}
@@ -29,7 +30,7 @@ use Rattle.lc_proof_text.specs.Steps.{step_reading}
 use Rattle.lc_proof_text.specs.declared.head.Due.{Due}
 use Rattle.lc_proof_text.proofs.Behind.{misfit_at}
 use Rattle.lc_proof_text.proofs.Left.{left_proofs, short_proofs}
-use Rattle.lc_proof_text.proofs.Proofs.{proofs_end, proofs_wrong}
+use Rattle.lc_proof_text.proofs.Proofs.{proofs_end, proofs_wrong, unboxed_reads}
 use Rattle.lc_proof_text.proofs.proof.+read_proof.Goals as goal
 
 pub read_branches-returns-then-is_met : goal.read_branches-returns-then-is_met
@@ -43,7 +44,7 @@ read_branches-returns-else-is_met g t c =
     let names = g.S.Scope.names c.args.scope.now in
     let met = sym c.is_met.ensures ∙ c.if-is_met.false in
     proofs_wrong _ _ c.args.owner c.proofs.proofs _ (ap (proofs_reading names c.args.owner zero c.proofs.due (number_of c.proofs.rest)) c.in_default.ensures.1 ∙ rw met refl)
-    c.misshapen_too.ensures c.proofs.invariant.read
+    c.with_misshapen.ensures c.proofs.invariant.read
 
 pub read_branches-returns-then-is_full : goal.read_branches-returns-then-is_full
 read_branches-returns-then-is_full g t c =
@@ -51,7 +52,7 @@ read_branches-returns-then-is_full g t c =
     let full = sym c.is_full.ensures ∙ c.if-is_full.true in
     let (at, next) = c.in-Ok.ensures in
     proofs_wrong _ _ (number_of c.proofs.rest) c.proofs.proofs _ (ap (proofs_reading names c.args.owner zero c.proofs.due (number_of c.proofs.rest)) next.rest ∙ rw full refl)
-    (rw c.number-number.ensures at c.misshapen_too-then-is_full.ensures) c.proofs.invariant.read
+    (rw c.number-number.ensures at c.with_misshapen-then-is_full.ensures) c.proofs.invariant.read
 
 -- behind one proof the others are left, from k on
 one_more_at : (names : Names) (n : ℕ) (due due' : Due) (m i k : ℕ) (t : Tree) (ts us : Trees) → is_full due ≡ false → due' ≡ later due → i ≡ m → us ≡ t ▸ ts → k ≡ m + item_count t
@@ -71,31 +72,32 @@ read_branches-proofs-preserved g t c =
     let left = one_more names c.args.owner c.proofs.due c.later-due.result c.proofs.rest c.next_part.new.list c.in-Ok.part full c.later-due.ensures at next in
     let size = ap item_count_of_all next.rest in
     record {
-      read = so_far_push proof_of more _ _ _ c.proofs.proofs c.read_proof-proof.result c.pushed-proofs.result (rw left at c.proofs.invariant.read) c.read_proof-proof.ensures c.pushed-proofs.ensures;
+      read = so_far_push proof_of more _ _ _ c.proofs.proofs (unboxed c.read_boxed-proof.result) c.pushed_out-proofs.result (rw left at c.proofs.invariant.read)
+          (unboxed_reads _ _ c.read_boxed-proof.ensures) c.pushed_out-proofs.ensures;
       shorter = omega (arith, size, c.proofs.invariant.shorter);
     }
 
-pub read_proof-returns-in-Some : goal.read_proof-returns-in-Some
-read_proof-returns-in-Some g t c =
+pub read_boxed-returns-in-Some : goal.read_boxed-returns-in-Some
+read_boxed-returns-in-Some g t c =
     let names = g.S.Scope.names c.args.scope.now in
     let other = sym c.eq.ensures ∙ c.if-eq.false in
-    headed_at proof_of (proof_reading names) (with_proofs names c.in-Some.head) _ _ c.in-List.list c.in_ok-word.parts c.in_ok-word.word.now _
+    headed_at boxed_proof (proof_reading names) (with_proofs names c.in-Some.head) _ _ c.in-List.list c.in_ok-word.parts c.in_ok-word.word.now _
     c.in-List.ensures.tree c.in-List.ensures.number c.in-List.ensures.placed c.in_ok-word.ensures (λ n ts. rw (other, sym c.in-Some.ensures) refl) c.read_step.ensures
 
 -- a step that lacks parts
-short_step : (names : Names) (h : Head) (n m : ℕ) (ts : Trees) (misfit : Misfit) (result : Result SeenProof ReadFault)
+short_step : (names : Names) (h : Head) (n m : ℕ) (ts : Trees) (misfit : Misfit) (result : Result (Box SeenProof Global) ReadFault)
     → (misfit ≡ Misshapen n) × (step_reading names h n m ts ≡ wrong Shape n) × IsShort (own_parts h) ts → IsErrAnd result (λ fault. fault ≡ Flawed (misfit_flaw misfit))
-    → IsReading proof_of (with_proofs names h n m ts) result
+    → IsReading boxed_proof (with_proofs names h n m ts) result
 short_step names h n m ts misfit result (is, own, short) told =
-    misfit_at proof_of n (with_proofs names h n m ts) misfit result (ap₂ (both S.proof) own (short_proofs names n (own_parts h) (proofs_due h) m ts short)) is told
+    misfit_at boxed_proof n (with_proofs names h n m ts) misfit result (ap₂ (both S.proof) own (short_proofs names n (own_parts h) (proofs_due h) m ts short)) is told
 
-pub read_step-returns-in_err-step : goal.read_step-returns-in_err-step
-read_step-returns-in_err-step g t c =
-    short_step (g.S.Scope.names c.args.scope.now) c.args.head (owner_of c.args.list) (number_of c.args.list) (rest_of c.args.list) _ c.from_residual.result c.in_err-step.ensures c.from_residual.ensures.1
+pub read_step-returns-in_err-begun : goal.read_step-returns-in_err-begun
+read_step-returns-in_err-begun g t c =
+    short_step (g.S.Scope.names c.args.scope.now) c.args.head (owner_of c.args.list) (number_of c.args.list) (rest_of c.args.list) _ c.from_residual.result c.in_err-begun.ensures c.from_residual.ensures.1
 
 pub read_step-returns : goal.read_step-returns
 read_step-returns g t c =
     let names = g.S.Scope.names c.args.scope.now in
-    let (own, left) = c.in_ok-step.ensures in
-    let due = left_proofs names (owner_of c.args.list) (own_parts c.args.head) (proofs_due c.args.head) _ _ c.in_ok-step.rest left in
-    rw due (c.made_proof.ensures _ _ own (rw (c.owner.ensures, c.proofs_due.ensures) at c.read_branches-branches.ensures))
+    let (own, left) = c.in_ok-begun.ensures in
+    let due = left_proofs names (owner_of c.args.list) (own_parts c.args.head) (proofs_due c.args.head) _ _ c.in_ok-begun.rest left in
+    rw due (c.finished.ensures _ _ own (rw (c.owner.ensures, c.proofs_due.ensures) at c.read_branches-branches.ensures))

@@ -11,11 +11,11 @@ use Rattle.lc_ride.proofs.deeds.help_client.Goals as goal
 
 pub returns-clause-done : goal.returns-clause-done
 returns-clause-done c =
-    let ops = operations_of c.args.operations.now in
+    let ops = operations_of c.args.call.operations.now in
     let m = written_in_draft c.args.draft.now in
-    let first = first_of c.args.system in
-    let p = c.args.operation.0 in
-    let x = c.args.client in
+    let first = first_of c.args.call.system in
+    let p = c.args.call.operation.0 in
+    let x = c.args.call.client in
     let cell = m (op_column first) (pos x) in
     let fits : FitsSigned w64 cell = search rules in
     let equal : int_eq cell (pos p) ≡ true = search rules in
@@ -23,11 +23,11 @@ returns-clause-done c =
 
 pub returns-then-not-branch-clause-done : goal.returns-then-not-branch-clause-done
 returns-then-not-branch-clause-done c =
-    let ops = operations_of c.args.operations.now in
+    let ops = operations_of c.args.call.operations.now in
     let m = written_in_draft c.args.draft.now in
-    let first = first_of c.args.system in
-    let p = c.args.operation.0 in
-    let x = c.args.client in
+    let first = first_of c.args.call.system in
+    let p = c.args.call.operation.0 in
+    let x = c.args.call.client in
     let cell = m (op_column first) (pos x) in
     let fits : FitsSigned w64 cell = search rules in
     let differs : int_eq cell (pos p) ≡ false = search rules in

@@ -10,8 +10,8 @@ use Rattle.lc_ride.proofs.deeds.is_named.Goals as goal
 
 pub returns : goal.returns
 returns c =
-    let here = state_of c.state.result.now c.operation.result.0 (pos c.args.client) in
-    let cell : here ≡ written_in_draft c.args.draft.now (op_column (first_of c.args.system)) (pos c.args.client) =
-    λ i. c.state.ensures.written i (c.operation.ensures i) (pos c.args.client) in
-    let known : OkIff c.stands.result (FitsSigned w64 here) (int_eq here (pos c.args.operation.0)) = search rules in
-    subst (λ z. OkIff c.stands.result (FitsSigned w64 z) (int_eq z (pos c.args.operation.0))) cell known
+    let here = state_of c.state.result.now c.operation.result.0 (pos c.args.call.client) in
+    let cell : here ≡ written_in_draft c.args.draft.now (op_column (first_of c.args.call.system)) (pos c.args.call.client) =
+    λ i. c.state.ensures.written i (c.operation.ensures i) (pos c.args.call.client) in
+    let known : OkIff c.stands.result (FitsSigned w64 here) (int_eq here (pos c.args.call.operation.0)) = search rules in
+    subst (λ z. OkIff c.stands.result (FitsSigned w64 z) (int_eq z (pos c.args.call.operation.0))) cell known

@@ -15,11 +15,11 @@ use Rattle.lc_ride.proofs.deeds.note.Goals as goal
 
 pub returns-in_err-found-clause-done : goal.returns-in_err-found-clause-done
 returns-in_err-found-clause-done c =
-    let ops = operations_of c.args.operations.now in
+    let ops = operations_of c.args.call.operations.now in
     let m = written_in_draft c.args.draft.now in
-    let first = first_of c.args.system in
-    let o = c.args.operation.0 in
-    let x = c.args.client in
+    let first = first_of c.args.call.system in
+    let o = c.args.call.operation.0 in
+    let x = c.args.call.client in
     let ch = choice_of c.args.pick in
     let known : seq_says c.in_err-found.field-0.0 (TakenFits ops first m x o ch) =
     subst (λ s. seq_says c.in_err-found.field-0.0 (TakenFits ops first s x o ch)) c.state.ensures.written c.in_err-found.ensures.computed in
@@ -27,11 +27,11 @@ returns-in_err-found-clause-done c =
 
 pub returns-in-None-clause-done : goal.returns-in-None-clause-done
 returns-in-None-clause-done c =
-    let ops = operations_of c.args.operations.now in
+    let ops = operations_of c.args.call.operations.now in
     let m = written_in_draft c.args.draft.now in
-    let first = first_of c.args.system in
-    let o = c.args.operation.0 in
-    let x = c.args.client in
+    let first = first_of c.args.call.system in
+    let o = c.args.call.operation.0 in
+    let x = c.args.call.client in
     let ch = choice_of c.args.pick in
     let found : IsComputed seq_says outcome_in (TakenFits ops first m x o ch) (taken ops first m x o ch) (Ok c.in_ok-found.found) =
     subst (λ s. IsComputed seq_says outcome_in (TakenFits ops first s x o ch) (taken ops first s x o ch) (Ok c.in_ok-found.found)) c.state.ensures.written c.in_ok-found.ensures.computed in
@@ -40,11 +40,11 @@ returns-in-None-clause-done c =
 
 pub returns-then-not-stores_nothing-clause-done : goal.returns-then-not-stores_nothing-clause-done
 returns-then-not-stores_nothing-clause-done c =
-    let ops = operations_of c.args.operations.now in
+    let ops = operations_of c.args.call.operations.now in
     let m = written_in_draft c.args.draft.now in
-    let first = first_of c.args.system in
-    let o = c.args.operation.0 in
-    let x = c.args.client in
+    let first = first_of c.args.call.system in
+    let o = c.args.call.operation.0 in
+    let x = c.args.call.client in
     let ch = choice_of c.args.pick in
     let found : IsComputed seq_says outcome_in (TakenFits ops first m x o ch) (taken ops first m x o ch) (Ok c.in_ok-found.found) =
     subst (λ s. IsComputed seq_says outcome_in (TakenFits ops first s x o ch) (taken ops first s x o ch) (Ok c.in_ok-found.found)) c.state.ensures.written c.in_ok-found.ensures.computed in
@@ -55,11 +55,11 @@ returns-then-not-stores_nothing-clause-done c =
 
 pub returns-clause-done : goal.returns-clause-done
 returns-clause-done c =
-    let ops = operations_of c.args.operations.now in
+    let ops = operations_of c.args.call.operations.now in
     let m = written_in_draft c.args.draft.now in
-    let first = first_of c.args.system in
-    let o = c.args.operation.0 in
-    let x = c.args.client in
+    let first = first_of c.args.call.system in
+    let o = c.args.call.operation.0 in
+    let x = c.args.call.client in
     let ch = choice_of c.args.pick in
     let found : IsComputed seq_says outcome_in (TakenFits ops first m x o ch) (taken ops first m x o ch) (Ok c.in_ok-found.found) =
     subst (λ s. IsComputed seq_says outcome_in (TakenFits ops first s x o ch) (taken ops first s x o ch) (Ok c.in_ok-found.found)) c.state.ensures.written c.in_ok-found.ensures.computed in

@@ -1,5 +1,5 @@
-use Rattle.std.proofs.Common.{◌≡◌, subst}
-use Rattle.lc_term.specs.Drafts.{written_in_draft}
+use Rattle.std.proofs.Common.{◌≡◌, sym, subst}
+use Rattle.lc_term.specs.Drafts.{written_in_draft, draft_columns}
 use Rattle.lc_term.specs.Reached.{TermsFit}
 use Rattle.lc_term.specs.State.{env_of}
 use Rattle.lc_action.specs.ActionView.{first_of}
@@ -8,6 +8,7 @@ use Rattle.lc_seq.specs.Sequential.{given_in}
 use Rattle.lc_seq.specs.SpecView.{operations_of, choice_of}
 use Rattle.lc_rider.specs.Rider.{Note, Marks, choice_at}
 use Rattle.lc_rider.specs.RiderView.{choosing_of}
+use Rattle.lc_ride.specs.Calls.{HasRoom, Notes}
 use Rattle.lc_ride.specs.Riding.{note, do_deed}
 use Rattle.lc_ride.specs.RidingFits.{TakenFits, DeedFits}
 use Rattle.lc_ride.proofs.Deeding.{faulted, says-less}
@@ -29,6 +30,11 @@ returns-in_err-pick-clause-done c =
     c.from_residual.result c.in_err-pick.field-0.0 c.from_residual.ensures.1
     (says-less (DeedFits ops first x o e m (Marks Note by)) (TermsFit m e (given_in by)) c.in_err-pick.field-0.0 (λ t. t.0) known)
 
+pub note-requires : goal.note-requires
+note-requires c =
+    subst (λ call. HasRoom call (draft_columns c.args.draft.now)) (sym c.own_call.ensures)
+    (record { there = c.requires.rides.there; few = c.requires.rides.few c.args.rides.now.operation.0; client = c.requires.rides.client })
+
 pub returns-clause-done : goal.returns-clause-done
 returns-clause-done c =
     let ops = operations_of c.args.rides.now.operations.now in
@@ -41,4 +47,5 @@ returns-clause-done c =
     let picked : TermsFit m e (given_in by) × (choice_of c.in_ok-pick.pick ≡ choice_at m e by) =
     subst (λ s. TermsFit s e (given_in by) × (choice_of c.in_ok-pick.pick ≡ choice_at s e by)) c.state.ensures.written c.in_ok-pick.ensures in
     by-choice (TermsFit m e (given_in by)) (TakenFits ops first m x o) (note ops first m x o) (choice_of c.in_ok-pick.pick) (choice_at m e by)
-    c.args.marks.now.items c.note.new.marks.items (written_in_draft c.note.new.draft) c.note.result picked.0 picked.1 c.note.ensures.done
+    c.args.marks.now.items c.note.new.marks.items (written_in_draft c.note.new.draft) c.note.result picked.0 picked.1
+    (subst (λ call. Notes call m (choice_of c.in_ok-pick.pick) c.args.marks.now.items c.note.new.marks.items (written_in_draft c.note.new.draft) c.note.result) c.own_call.ensures c.note.ensures.done)

@@ -8,7 +8,7 @@ use Rattle.lc_seq.proofs.Runs.{dropped, dropped_all, and_right}
 use Rattle.lc_rider.specs.RiderView.{rider_of, riders_of}
 use Rattle.lc_ride.specs.Riding.{do_rider, do_all}
 use Rattle.lc_ride.specs.RidingFits.{RiderFits, RidersFit}
-use Rattle.lc_ride.specs.RideView.{IsRidden, rider_is_seen}
+use Rattle.lc_ride.specs.RideView.{AreThere, IsRidden, rider_is_seen}
 use Rattle.lc_ride.proofs.Deeding.{faulted, says-less}
 use Rattle.lc_ride.proofs.InOrder.{Answers, none-left, one-done, one-not-done}
 use Rattle.lc_ride.proofs.riding.ride_all.Goals as goal
@@ -62,6 +62,13 @@ returns-in_err-do_rider-clause-done c =
     let says = says-less (RidersFit ops first x o e m (r ∷ rs)) (RiderFits ops first x o e m r) fault (λ t. t.0) c.in_err-do_rider.ensures.done in
     let here = faulted (RidersFit ops first x o e m (r ∷ rs)) (do_all ops first x o e m (r ∷ rs)) marks new mid c.from_residual.result fault c.from_residual.ensures.1 says in
     c.loop-rider.invariant.leads new mid c.from_residual.result (subst (λ xs. Answers ops first x o e m xs marks new mid c.from_residual.result) (sym front) here)
+
+pub do_rider-requires-clause-rides : goal.do_rider-requires-clause-rides
+do_rider-requires-clause-rides c = record {
+  there = subst (AreThere (operations_of c.args.rides.now.operations.now) (first_of c.args.rides.now.system)) (sym c.loop-rider.invariant.columns) c.requires.there;
+  few = c.requires.few;
+  client = c.requires.client;
+}
 
 pub loop-rider-preserved : goal.loop-rider-preserved
 loop-rider-preserved c =

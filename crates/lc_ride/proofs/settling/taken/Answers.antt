@@ -17,25 +17,25 @@ use Rattle.lc_ride.proofs.settling.taken.Goals as goal
 
 pub run-requires : goal.run-requires
 run-requires c =
-    let ops = operations_of c.args.operations.now in
-    let o = c.args.operation.0 in
+    let ops = operations_of c.args.call.operations.now in
+    let o = c.args.call.operation.0 in
     let n = column_count c.args.state.now in
     let ch = choice_of c.args.pick.now in
     let left = chosen-resolved n (2 + arity ops o) ch (op_branches ops o) (c.requires.there.branches o) in
     let count = c.in_ok-env.ensures.count ∙ ap (λ xs. 2 + arity ops o + length xs) c.numbers.ensures in
-    subst (λ bs. list_all (branch_is_resolved n (variable_count c.in_ok-env.env)) (chosen ch bs) ≡ true) (sym c.branches_at.ensures)
+    subst (λ bs. list_all (branch_is_resolved n (variable_count c.in_ok-env.env)) (chosen ch bs) ≡ true) (sym c.branches_at-branches.ensures)
     (subst (λ k. list_all (branch_is_resolved n k) (chosen ch (op_branches ops o)) ≡ true) (sym count) left)
 
 pub returns-clause-computed : goal.returns-clause-computed
 returns-clause-computed c =
-    let ops = operations_of c.args.operations.now in
-    let first = first_of c.args.system in
+    let ops = operations_of c.args.call.operations.now in
+    let first = first_of c.args.call.system in
     let m = state_of c.args.state.now in
-    let o = c.args.operation.0 in
+    let o = c.args.call.operation.0 in
     let ch = choice_of c.args.pick.now in
-    let cell = m (pend first) (pos c.args.client) in
+    let cell = m (pend first) (pos c.args.call.client) in
     let fits : FitsSigned w64 cell = search rules in
     let equal : int_eq cell (pos 1) ≡ true = search rules in
-    is-taken ops first m c.args.client o ch
-    outcome_in (env_of c.in_ok-env.env) (chosen ch (branches_of c.branches_at.result.now)) c.run.result
-    fits equal c.in_ok-env.ensures.env.0 (c.in_ok-env.ensures.env.1 ∙ env-given c.args.client (arguments_in ops first m c.args.client o) c.numbers.ensures) (ap (chosen ch) c.branches_at.ensures) c.run.ensures.computed
+    is-taken ops first m c.args.call.client o ch
+    outcome_in (env_of c.in_ok-env.env) (chosen ch (branches_of c.branches_at-branches.result.now)) c.run.result
+    fits equal c.in_ok-env.ensures.env.0 (c.in_ok-env.ensures.env.1 ∙ env-given c.args.call.client (arguments_in ops first m c.args.call.client o) c.numbers.ensures) (ap (chosen ch) c.branches_at-branches.ensures) c.run.ensures.computed

@@ -17,10 +17,10 @@ use Rattle.lc_rider.proofs.edge_paths.each_ridden.Goals as goal
 
 pub loop-path-init : goal.loop-path-init
 loop-path-init c =
-    let operations = (specification_of c.args.riding.specification.now).operations in
-    let first = first_of c.args.riding.system in
+    let operations = (specification_of c.args.turn.riding.specification.now).operations in
+    let first = first_of c.args.turn.riding.system in
     let t = c.args.terms.now in
-    let each : Path → List Path = λ q. rider_paths operations first c.args.number c.args.riding.operation.0 (terms_in t c.args.riding.variables.now) (rider_of c.args.rider.now) q in
+    let each : Path → List Path = λ q. rider_paths operations first c.args.turn.number c.args.turn.riding.operation.0 (terms_in t c.args.turn.riding.variables.now) (rider_of c.args.turn.rider.now) q in
     let all = c.into_iter-path-iterator.ensures.into_iter_gives.0 in
     record {
       kept = keeps_itself t;
@@ -42,14 +42,14 @@ rider_paths-requires c =
     let these : ArePaths t (c.in-Some.path ∷ c.next.new.self.rest.items) = subst (ArePaths t) c.in-Some.ensures.steps.0 inv.left in
     record {
       path = is_path_later t c.loop-path.terms c.in-Some.path these.0 inv.kept;
-      variables = are_terms_later t c.loop-path.terms c.args.riding.variables.now c.requires.variables inv.kept;
+      variables = are_terms_later t c.loop-path.terms c.args.turn.riding.variables.now c.requires.variables inv.kept;
     }
 
 pub loop-path-preserved : goal.loop-path-preserved
 loop-path-preserved c =
-    let operations = (specification_of c.args.riding.specification.now).operations in
-    let first = first_of c.args.riding.system in
-    let o = c.args.riding.operation.0 in
+    let operations = (specification_of c.args.turn.riding.specification.now).operations in
+    let first = first_of c.args.turn.riding.system in
+    let o = c.args.turn.riding.operation.0 in
     let t = c.args.terms.now in
     let t0 = c.loop-path.terms in
     let t1 = c.rider_paths.new.terms in
@@ -58,12 +58,12 @@ loop-path-preserved c =
     let kept = c.in_ok-rider_paths.ensures.kept in
     let here = c.in-Some.ensures.steps.0 in
     let these : ArePaths t (p ∷ c.next.new.self.rest.items) = subst (ArePaths t) here inv.left in
-    let of : List Term → Path → List Path = λ τ q. rider_paths operations first c.args.number o τ (rider_of c.args.rider.now) q in
-    let each = of (terms_in t c.args.riding.variables.now) in
+    let of : List Term → Path → List Path = λ τ q. rider_paths operations first c.args.turn.number o τ (rider_of c.args.turn.rider.now) q in
+    let each = of (terms_in t c.args.turn.riding.variables.now) in
     let x = path_in t p in
     let done = inv.paths.0 in
     let added = adds_same c.loop-path.ridden.items c.rider_paths.new.paths.items t1 _ _ c.in_ok-rider_paths.ensures.paths
-    (λ i. of (terms_still t t0 c.args.riding.variables.now c.requires.variables inv.kept i) (path_still t t0 p these.0 inv.kept i)) in
+    (λ i. of (terms_still t t0 c.args.turn.riding.variables.now c.requires.variables inv.kept i) (path_still t t0 p these.0 inv.kept i)) in
     record {
       kept = kept_on t t0 t1 inv.kept kept;
       left = these.1;
@@ -77,13 +77,13 @@ loop-path-preserved c =
 
 pub returns-clause-paths : goal.returns-clause-paths
 returns-clause-paths c =
-    let operations = (specification_of c.args.riding.specification.now).operations in
-    let first = first_of c.args.riding.system in
-    let o = c.args.riding.operation.0 in
+    let operations = (specification_of c.args.turn.riding.specification.now).operations in
+    let first = first_of c.args.turn.riding.system in
+    let o = c.args.turn.riding.operation.0 in
     let t = c.args.terms.now in
     let t0 = c.loop-path.terms in
     let inv = c.loop-path.invariant in
-    let each : Path → List Path = λ q. rider_paths operations first c.args.number o (terms_in t c.args.riding.variables.now) (rider_of c.args.rider.now) q in
+    let each : Path → List Path = λ q. rider_paths operations first c.args.turn.number o (terms_in t c.args.turn.riding.variables.now) (rider_of c.args.turn.rider.now) q in
     let kept = c.loop-path.path-iterator.rest.ok in
     let ended = c.in-None.ensures.steps in
     let none : c.loop-path.path-iterator.rest.items ≡ [] = no_paths c.loop-path.path-iterator.rest.items (omega arith) in

@@ -14,7 +14,7 @@ use Rattle.lc_rider.proofs.edge_paths.each_ridden.Given as goal
 abbrev pub invariant-loop-path : goal.invariant-loop-path
 invariant-loop-path l =
     let each : Path → List Path =
-    rider_paths (specification_of l.riding.specification.now).operations (first_of l.riding.system) l.number l.riding.operation.0 (terms_in l.fn.terms l.riding.variables.now) (rider_of l.rider) in
+    rider_paths (specification_of l.turn.riding.specification.now).operations (first_of l.turn.riding.system) l.turn.number l.turn.riding.operation.0 (terms_in l.fn.terms l.turn.riding.variables.now) (rider_of l.turn.rider.now) in
     record {
       kept : Keeps l.fn.terms l.terms;
       left : ArePaths l.fn.terms l.path-iterator.rest.items;

@@ -17,31 +17,32 @@ use Rattle.lc_rider.specs.declared.rider.When.{When}
 use Rattle.lc_rider.proofs.PathsAdded.{is_later, adds_on, adds_one, adds_same}
 use Rattle.lc_rider.proofs.edge_paths.rider_paths.Goals as goal
 
-pub deed_paths-requires-2-clause-path : goal.deed_paths-requires-2-clause-path
-deed_paths-requires-2-clause-path c =
+pub deed_paths-requires-2 : goal.deed_paths-requires-2
+deed_paths-requires-2 c =
     let t0 = c.args.terms.now in
     let t1 = c.told_before.new.terms in
     let p = path_in t0 c.args.path in
-    (c.in_ok-holds.ensures t1 p _ (c.in_ok-copy.ensures t1 p (is_later t0 t1 c.args.path c.requires.path c.in_ok-condition.ensures.kept)) c.in_ok-condition.ensures.id).is
-
-pub deed_paths-requires-2-clause-variables : goal.deed_paths-requires-2-clause-variables
-deed_paths-requires-2-clause-variables c = are_terms_later c.args.terms.now c.told_before.new.terms c.args.riding.variables.now c.requires.variables c.in_ok-condition.ensures.kept
+    let kept = c.in_ok-condition.ensures.kept in
+    record {
+      path = (c.in_ok-holds.ensures t1 p _ (c.in_ok-copy.ensures t1 p (is_later t0 t1 c.args.path c.requires.path kept)) c.in_ok-condition.ensures.id).is;
+      variables = are_terms_later t0 t1 c.args.turn.riding.variables.now c.requires.variables kept;
+    }
 
 pub not-requires : goal.not-requires
 not-requires c = is_formula_later c.told_before.new.terms c.deed_paths-2.new.terms c.in_ok-condition.condition _ c.in_ok-condition.ensures.id c.in_ok-deed_paths.ensures.kept
 
 pub returns-clause-paths : goal.returns-clause-paths
 returns-clause-paths c =
-    let operations = (specification_of c.args.riding.specification.now).operations in
-    let first = first_of c.args.riding.system in
-    let o = c.args.riding.operation.0 in
+    let operations = (specification_of c.args.turn.riding.specification.now).operations in
+    let first = first_of c.args.turn.riding.system in
+    let o = c.args.turn.riding.operation.0 in
     let t0 = c.args.terms.now in
     let t1 = c.told_before.new.terms in
     let t2 = c.deed_paths-2.new.terms in
     let t3 = c.not.new.self in
     let p = path_in t0 c.args.path in
-    let τ = terms_in t0 c.args.riding.variables.now in
-    let r = rider_of c.args.rider.now in
+    let τ = terms_in t0 c.args.turn.riding.variables.now in
+    let r = rider_of c.args.turn.rider.now in
     let k = c.in_ok-condition.condition in
     let kept01 = c.in_ok-condition.ensures.kept in
     let kept12 = c.in_ok-deed_paths.ensures.kept in
@@ -53,13 +54,13 @@ returns-clause-paths c =
     let g : Formula = told p.columns τ (formula_of c.formula.result.now) in
     let copy : HasPath t1 c.in_ok-copy.copy p = c.in_ok-copy.ensures t1 p (is_later t0 t1 c.args.path c.requires.path kept01) in
     let holds : HasPath t1 c.in_ok-holds.holds (with_fact p g) = c.in_ok-holds.ensures t1 p g copy c.in_ok-condition.ensures.id in
-    let deed : List Term → Path → List Path = λ υ q. deed_paths operations first c.args.number o υ r.deed q in
+    let deed : List Term → Path → List Path = λ υ q. deed_paths operations first c.args.turn.number o υ r.deed q in
     let done : AddsPaths before t2 mid (deed τ (with_fact p g)) =
-    adds_same before mid t2 _ _ c.in_ok-deed_paths.ensures.paths (λ i. deed (terms_still t0 t1 c.args.riding.variables.now c.requires.variables kept01 i) (holds.path i)) in
+    adds_same before mid t2 _ _ c.in_ok-deed_paths.ensures.paths (λ i. deed (terms_still t0 t1 c.args.turn.riding.variables.now c.requires.variables kept01 i) (holds.path i)) in
     let negated : HasFormula t3 c.in_ok-negated.negated (Not g) =
     subst (λ (f : Formula). HasFormula t3 c.in_ok-negated.negated (Not f)) (formula_is t2 k g (formula_later t1 t2 k g c.in_ok-condition.ensures.id kept12)) c.in_ok-negated.ensures.id in
     let fails : HasPath t3 c.in_ok-fails.fails (with_fact p (Not g)) = c.in_ok-fails.ensures t3 p (Not g) (is_later t0 t3 c.args.path c.requires.path kept03) negated in
     let both = adds_on before mid now t2 t3 (deed τ (with_fact p g)) (with_fact p (Not g) ∷ []) done kept23 (adds_one mid now t3 c.in_ok-fails.fails (with_fact p (Not g)) c.in_ok-push.ensures.items fails) in
     let some : Some (formula_of c.formula.result.now) ≡ r.condition =
     ap Some c.formula.ensures.formula ∙ (ap (option_map (λ (w : Bor When). formula_in w.now)) (sym c.in-Some.is) ∙ c.condition.ensures) in
-    adds_same before now t3 _ _ both (ap (λ (f : Option Formula). deed_paths_where operations first f c.args.number o τ r.deed p) some)
+    adds_same before now t3 _ _ both (ap (λ (f : Option Formula). deed_paths_where operations first f c.args.turn.number o τ r.deed p) some)

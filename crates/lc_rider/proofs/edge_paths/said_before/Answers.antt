@@ -1,4 +1,3 @@
-use Rattle.std.proofs.Common.{map}
 use Rattle.lc_table.specs.Tables.{HasTerm}
 use Rattle.lc_table.proofs.ByNumber.{are_terms_later}
 use Rattle.lc_table.proofs.Later.{kept_on}

@@ -1,4 +1,4 @@
-use Rattle.std.proofs.Common.{ℕ, List, map, ap, ap₂, ◌∙◌, subst, refl, pos}
+use Rattle.std.proofs.Common.{ℕ, List, map, ap, ap₂, subst, refl, pos}
 use Rattle.std.proofs.lemmas.Result.{IfOk-weaker}
 use Rattle.lc_term.specs.Said.{told}
 use Rattle.lc_term.specs.Syntax.{Term, Column, Formula, Eq, Read, Number, Or, formulas}

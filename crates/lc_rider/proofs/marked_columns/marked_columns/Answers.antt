@@ -9,12 +9,14 @@ use Rattle.lc_rider.specs.MarkView.{marking_of}
 use Rattle.lc_rider.specs.Paths.{mark_updates}
 use Rattle.lc_rider.proofs.marked_columns.marked_columns.Goals as goal
 
-pub store_marked-requires-clause-before : goal.store_marked-requires-clause-before
-store_marked-requires-clause-before c = c.columns-columns.ensures.are c.args.terms.now c.requires.path
-
-pub store_marked-requires-clause-columns : goal.store_marked-requires-clause-columns
-store_marked-requires-clause-columns c =
-    subst (AreColumns c.args.terms.now) (sym c.in_ok-stored.ensures.items) (c.columns-columns.ensures.are c.args.terms.now c.requires.path)
+pub store_marked-requires : goal.store_marked-requires
+store_marked-requires c =
+    let are = c.columns-columns.ensures.are c.args.terms.now c.requires.path in
+    record {
+      before = are;
+      variables = c.requires.variables;
+      columns = subst (AreColumns c.args.terms.now) (sym c.in_ok-stored.ensures.items) are;
+    }
 
 pub returns-clause-columns : goal.returns-clause-columns
 returns-clause-columns c =

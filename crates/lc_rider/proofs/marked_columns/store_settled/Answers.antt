@@ -9,20 +9,31 @@ use Rattle.lc_term.specs.View.{term_of}
 use Rattle.lc_term.specs.declared.update.Update as M
 use Rattle.lc_table.proofs.Later.{kept_on}
 use Rattle.lc_action.specs.ActionView.{first_of}
-use Rattle.lc_rider.proofs.MarkStores.{more_stored}
+use Rattle.lc_rider.proofs.MarkStores.{can_store_later, more_stored}
 use Rattle.lc_rider.proofs.marked_columns.store_settled.Goals as goal
+
+pub store_own-requires : goal.store_own-requires
+store_own-requires c =
+    can_store_later c.args.terms.now c.store_updates.new.terms c.args.effect.before c.args.columns.now.items c.store_updates.new.columns.items c.requires c.in_ok-store_updates.ensures.kept c.in_ok-store_updates.ensures.are
+
+pub store_own-requires-2 : goal.store_own-requires-2
+store_own-requires-2 c =
+    let old = c.args.terms.now in
+    let now = c.store_own.new.terms in
+    can_store_later old now c.args.effect.before c.args.columns.now.items c.store_own.new.columns.items c.requires
+    (kept_on old c.store_updates.new.terms now c.store_updates.ensures.kept c.in_ok-store_own.ensures.kept) c.in_ok-store_own.ensures.are
 
 pub returns-clause-stored : goal.returns-clause-stored
 returns-clause-stored c =
     let old = c.args.terms.now in
     let mid = c.store_updates.new.terms in
     let now = c.store_own.new.terms in
-    let ps = c.args.before.columns.now in
-    let ks = c.args.before.variables.now in
-    let first = first_of c.args.system in
+    let ps = c.args.effect.before.columns.now in
+    let ks = c.args.effect.before.variables.now in
+    let first = first_of c.args.effect.system in
     let start = columns_at old c.args.columns.now.items in
-    let us = updates_of c.args.branch.now.updates.items in
-    let vs = at_client (Y.rep_columns first) (map term_of c.args.branch.now.replies.items) in
+    let us = updates_of c.args.effect.branch.now.updates.items in
+    let vs = at_client (Y.rep_columns first) (map term_of c.args.effect.branch.now.replies.items) in
     let ws = at_client (Y.pend first ∷ []) (Number (pos 2) ∷ []) in
     let one = c.store_updates.ensures.kept in
     let two = c.in_ok-store_own.ensures.stored ∙ more_stored old mid ps ks c.requires.before c.requires.variables one (columns_at mid c.store_updates.new.columns.items) start _ us _ vs

@@ -1,4 +1,4 @@
-use Rattle.std.proofs.Common.{◌≡◌, [], ◌∷◌, ◌++◌, List, min, ap, ap₂, ◌∙◌, sym, subst, arith, pos}
+use Rattle.std.proofs.Common.{◌≡◌, [], ◌∷◌, ◌++◌, min, ap, ap₂, ◌∙◌, sym, subst, arith, pos}
 use Rattle.std.proofs.lemmas.List.{map-append}
 use Rattle.std.proofs.lemmas.Grind.{common_steps}
 use Rattle.lc_table.specs.PutNumbers.{columns_at, terms_in, AreTerms}

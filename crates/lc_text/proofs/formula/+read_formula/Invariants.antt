@@ -13,7 +13,19 @@ abbrev pub decreases-read_bound_formula : goal.decreases-read_bound_formula
 decreases-read_bound_formula g l = 3 * item_count (tree_of l.part)
 
 abbrev pub decreases-read_connective : goal.decreases-read_connective
-decreases-read_connective g l = 3 * item_count_of_all (rest_of l.list) + 4
+decreases-read_connective g l = 3 * item_count_of_all (rest_of l.list) + 5
+
+abbrev pub decreases-read_negation : goal.decreases-read_negation
+decreases-read_negation g l = 3 * item_count_of_all (rest_of l.list) + 4
+
+abbrev pub decreases-read_row : goal.decreases-read_row
+decreases-read_row g l = 3 * item_count_of_all (rest_of l.list) + 4
+
+abbrev pub decreases-read_implication : goal.decreases-read_implication
+decreases-read_implication g l = 3 * item_count_of_all (rest_of l.list) + 4
+
+abbrev pub decreases-read_quantifier : goal.decreases-read_quantifier
+decreases-read_quantifier g l = 3 * item_count_of_all (rest_of l.list) + 4
 
 abbrev pub decreases-read_only : goal.decreases-read_only
 decreases-read_only g l = 3 * item_count_of_all (rest_of l.list) + 3

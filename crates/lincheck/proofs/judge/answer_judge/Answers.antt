@@ -2,20 +2,21 @@ use Rattle.std.proofs.Common.{◌≡◌, true, false, refl}
 use Rattle.std.specs.Prelude.{Ok}
 use Rattle.lc_seq.specs.TextView.{specification_of}
 use Rattle.lincheck.specs.declared.answer.Failure.{Failure}
+use Rattle.lincheck.specs.Judge.{AnswersHistory}
 use Rattle.lincheck.proofs.Judgements.{read_answered_if, refused_answered, read_unread, refused_unread}
 use Rattle.lincheck.proofs.judge.answer_judge.Goals as goal
 
 pub returns-in-Ok-clause-answers : goal.returns-in-Ok-clause-answers
 returns-in-Ok-clause-answers g c =
     let fed = c.in_ok-reader.ensures.fed in
-    read_answered_if (g.F.Files.bytes_at c.args.files.now c.args.development.now) (g.F.Files.bytes_at c.args.files.now c.args.history.now)
+    read_answered_if AnswersHistory (g.F.Files.bytes_at c.args.files.now c.args.development.now) (g.F.Files.bytes_at c.args.files.now c.args.history.now)
     (g.F.Files.bytes_at c.feed_forms.new.files c.args.history.now) fed.0 fed.0 (specification_of c.in-Ok.spec) c.answer_history.result
     fed.2 refl (c.in-Ok.ensures fed.0 fed.1) (c.in_ok-reader.ensures.keeps c.args.history.now) c.answer_history.ensures.answers
 
 pub returns-in_ok-told_fault-in-Err-clause-answers : goal.returns-in_ok-told_fault-in-Err-clause-answers
 returns-in_ok-told_fault-in-Err-clause-answers g c =
     let fed = c.in_ok-reader.ensures.fed in
-    refused_answered (g.F.Files.bytes_at c.args.files.now c.args.development.now) (g.F.Files.bytes_at c.args.files.now c.args.history.now)
+    refused_answered AnswersHistory (g.F.Files.bytes_at c.args.files.now c.args.development.now) (g.F.Files.bytes_at c.args.files.now c.args.history.now)
     fed.0 fed.0 c.in-Err.fault c.in_ok-told_fault-in-Err.field-0.text.items c.in_ok-told_fault-in-Err.field-0.status
     fed.2 refl (c.in-Err.ensures fed.0 fed.1) c.in_ok-told_fault-in-Err.ensures
 

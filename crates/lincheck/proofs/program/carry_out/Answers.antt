@@ -46,6 +46,14 @@ returns-in_ok-answer-in-Prove-clause-leaves g c =
     (subst (λ (r : Request). AnswersTask (g.F.Files.bytes_at c.args.files.now) (task_of r) answer.text.items answer.status) (sym c.in-Prove.is) c.in_ok-answer-in-Prove.ensures.answers)
     c.print_answer-in-Prove.ensures.prints c.print_answer-in-Prove.ensures.fails
 
+pub returns-in_ok-answer_draw-in-Draw-clause-leaves : goal.returns-in_ok-answer_draw-in-Draw-clause-leaves
+returns-in_ok-answer_draw-in-Draw-clause-leaves g c =
+    let answer = c.in_ok-answer_draw-in-Draw.field-0 in
+    leaves_printed (task_of c.args.request) (AnswersTask (g.F.Files.bytes_at c.args.files.now) (task_of c.args.request)) (g.O.Write.contents c.args.out.now)
+    (g.O.Write.contents c.print_answer-in-Draw.new.out) answer.text.items answer.status c.print_answer-in-Draw.result
+    (subst (λ (r : Request). AnswersTask (g.F.Files.bytes_at c.args.files.now) (task_of r) answer.text.items answer.status) (sym c.in-Draw.is) c.in_ok-answer_draw-in-Draw.ensures.answers)
+    c.print_answer-in-Draw.ensures.prints c.print_answer-in-Draw.ensures.fails
+
 pub returns-in_ok-answer_library-in-Library-clause-leaves : goal.returns-in_ok-answer_library-in-Library-clause-leaves
 returns-in_ok-answer_library-in-Library-clause-leaves g c =
     let answer = c.in_ok-answer_library-in-Library.field-0 in

@@ -1,4 +1,4 @@
-use Rattle.std.proofs.Common.{◌≡◌, ℕ, [], ◌∷◌, vec_len, ◌+◌, ◌-◌, ◌++◌, length, take, ap, ◌∙◌, arith}
+use Rattle.std.proofs.Common.{◌≡◌, ℕ, [], ◌∷◌, vec_len, ◌+◌, ◌-◌, ◌++◌, length, take, ap, ◌∙◌, arith, rules}
 use Rattle.lc_sexp.specs.Trees.{list, tokens_of}
 use Rattle.lc_sexp.specs.Progress.{told_tokens}
 use Rattle.lc_sexp.specs.Built.{entries_in}
@@ -51,22 +51,27 @@ into_sexp-requires c =
           (omega (arith, k, c.len.ensures, cuts.counted)),
     )
 
-pub returns-clause-told : goal.returns-clause-told
-returns-clause-told c = λ tokens.
-    let k = c.args.self.now.nodes.ok.0 in
-    let cuts = cut c.args.self.now c.only_hole-at.result c.only_hole-at.ensures c.requires.ended in
-    let is : c.into_sexp.result ≡ list cuts.trees =
-    c.into_sexp.ensures (list cuts.trees)
-    (list_built (entries_in c.in_ok-built.built) (entries_in c.push_list.new.self) (entries_in c.push_row.new.self) (c.len.result - c.only_hole-at.result - 1) cuts.trees
-    c.in_ok-built.ensures c.in_ok-push_list.ensures
-    (c.in_ok-push_row.ensures
-    ∙ ap (λ es. entries_in c.push_list.new.self ++ es)
-    (entries_slice c.args.self.now.text.items c.deref-2.result.now c.args.self.now.nodes.items c.deref.result.now (c.only_hole-at.result + 1) c.deref-2.ensures.value c.deref.ensures.value ∙ cuts.shown))
-    (omega (arith, k, c.len.ensures, cuts.counted))) in
-    c.drop_word.ensures.told (tokens_of c.into_sexp.result ++ tokens)
-    ∙ ap (λ ns. told_tokens c.args.self.now.text.items ns (tokens_of c.into_sexp.result ++ tokens)) c.truncate.ensures.items
-    ∙ ap (λ t. told_tokens c.args.self.now.text.items (take c.only_hole-at.result c.args.self.now.nodes.items) (tokens_of t ++ tokens)) is
-    ∙ cuts.told tokens
+pub returns-clause-cut : goal.returns-clause-cut
+returns-clause-cut c = record {
+  told = λ tokens.
+      let k = c.args.self.now.nodes.ok.0 in
+      let cuts = cut c.args.self.now c.only_hole-at.result c.only_hole-at.ensures c.requires.ended in
+      let is : c.into_sexp.result ≡ list cuts.trees =
+      c.into_sexp.ensures (list cuts.trees)
+      (list_built (entries_in c.in_ok-built.built) (entries_in c.push_list.new.self) (entries_in c.push_row.new.self) (c.len.result - c.only_hole-at.result - 1) cuts.trees
+      c.in_ok-built.ensures c.in_ok-push_list.ensures
+      (c.in_ok-push_row.ensures
+      ∙ ap (λ es. entries_in c.push_list.new.self ++ es)
+      (entries_slice c.args.self.now.text.items c.deref-2.result.now c.args.self.now.nodes.items c.deref.result.now (c.only_hole-at.result + 1) c.deref-2.ensures.value c.deref.ensures.value ∙ cuts.shown))
+      (omega (arith, k, c.len.ensures, cuts.counted))) in
+      c.drop_word.ensures.told (tokens_of c.into_sexp.result ++ tokens)
+      ∙ ap (λ ns. told_tokens c.args.self.now.text.items ns (tokens_of c.into_sexp.result ++ tokens)) c.truncate.ensures.items
+      ∙ ap (λ t. told_tokens c.args.self.now.text.items (take c.only_hole-at.result c.args.self.now.nodes.items) (tokens_of t ++ tokens)) is
+      ∙ cuts.told tokens;
+  ended = search rules;
+  holes = search rules;
+  nodes = search rules;
+}
 
 pub overflow_add-at : goal.overflow_add-at
 overflow_add-at c =

@@ -1,4 +1,4 @@
-use Rattle.std.proofs.Common.{◌≡◌, ◌-◌, [], ◌∷◌, ◌++◌, vec_len, ap, ◌∙◌, arith}
+use Rattle.std.proofs.Common.{◌≡◌, ◌-◌, [], ◌∷◌, ◌++◌, vec_len, ap, ◌∙◌, arith, rules}
 use Rattle.lc_sexp.specs.Trees.{tokens_of}
 use Rattle.lc_sexp.proofs.Cuts.{list_cut, IsCut, list_given, told_none}
 use Rattle.lc_sexp.specs.declared.machine.Machine.{Machine}
@@ -15,15 +15,20 @@ new-requires c =
     (ap (λ v. v.items) c.replace-text.ensures.value) (ap (λ v. v.items) c.replace-nodes.ensures.value)
     (let k = m.nodes.ok.0 in omega (arith, k, c.len-inside.ensures, cuts.room)) m.letters).0
 
-pub returns-clause-told : goal.returns-clause-told
-returns-clause-told c = λ tokens.
-    let m = c.args.self.now in
-    let cuts = cut m c.requires.first c.requires.ended in
-    let is = c.new.ensures
-    ∙ (list_given m.text.items c.replace-text.result.items m.start m.nodes.items c.replace-nodes.result.items (c.len-inside.result - 1) cuts
-    (ap (λ v. v.items) c.replace-text.ensures.value) (ap (λ v. v.items) c.replace-nodes.ensures.value)
-    (let k = m.nodes.ok.0 in omega (arith, k, c.len-inside.ensures, cuts.room)) m.letters).1 in
-    told_none c.replace-text.new.dest.items c.replace-nodes.new.dest.items (tokens_of c.new.result ++ tokens)
-    (ap (λ v. v.items) c.replace-nodes.ensures.after ∙ c.in_ok-next_nodes.ensures.items)
-    ∙ ap (λ t. tokens_of t ++ tokens) is
-    ∙ cuts.told tokens
+pub returns-clause-cut : goal.returns-clause-cut
+returns-clause-cut c = record {
+  told = λ tokens.
+      let m = c.args.self.now in
+      let cuts = cut m c.requires.first c.requires.ended in
+      let is = c.new.ensures
+      ∙ (list_given m.text.items c.replace-text.result.items m.start m.nodes.items c.replace-nodes.result.items (c.len-inside.result - 1) cuts
+      (ap (λ v. v.items) c.replace-text.ensures.value) (ap (λ v. v.items) c.replace-nodes.ensures.value)
+      (let k = m.nodes.ok.0 in omega (arith, k, c.len-inside.ensures, cuts.room)) m.letters).1 in
+      told_none c.replace-text.new.dest.items c.replace-nodes.new.dest.items (tokens_of c.new.result ++ tokens)
+      (ap (λ v. v.items) c.replace-nodes.ensures.after ∙ c.in_ok-next_nodes.ensures.items)
+      ∙ ap (λ t. tokens_of t ++ tokens) is
+      ∙ cuts.told tokens;
+  ended = search rules;
+  holes = search rules;
+  nodes = search rules;
+}

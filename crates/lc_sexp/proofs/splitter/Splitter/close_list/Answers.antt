@@ -29,7 +29,7 @@ returns-in_ok-set_aside-in-1-clause-splits c = λ whole rest taken byte k h.
     let t' = c.cut_list.new.self.text.ok.0 in
     let w = c.in-1 in
     let d = c.depth.ensures in
-    let made = c.in_ok-sexp-in-1.ensures in
+    let made = c.in_ok-sexp-in-1.ensures.cut in
     let root : is_rooted c.cut_list.new.self.nodes.items ≡ true = ap is_rooted made.nodes.1 ∙ rooted_take made.nodes.0 c.args.self.now.machine.nodes.items h.rooted in
     part_step whole (λ x. byte ∷ rest x) rest taken c.args.self.now c.set_aside.new.self c.cut_list.new.self c.in_ok-sexp-in-1.sexp
     (in_list_at c.args.self.now.in_list c.args.self.now.machine.holes.items h.outside (omega arith))

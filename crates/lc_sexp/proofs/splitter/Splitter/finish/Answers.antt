@@ -10,5 +10,5 @@ returns-clause-answer c = λ whole taken h.
     let t = s.machine.text.ok.0 in
     let d = c.depth.ensures in
     let no = none_listed c.args.self.machine.holes.items (omega (arith, n, d, c.if-depth-ne0.false)) in
-    all_aside s c.in_ok-fill.field-0 whole taken (c.end_word.ensures.in_list ∙ c.if-self.false) (ap (λ v. v.items) c.end_word.ensures.holes ∙ no) (omega (arith, t, c.in_ok-end_word.ensures.ended))
-    c.in_ok-fill.ensures (c.in_ok-end_word.ensures.splits (λ x. whole) (λ x. []) taken (λ x. refl) h)
+    all_aside s c.in_ok-fill.field-0 whole taken (c.end_word.ensures.place.in_list ∙ c.if-self.false) (ap (λ v. v.items) c.end_word.ensures.place.holes ∙ no) (omega (arith, t, c.in_ok-end_word.ensures.word.ended))
+    c.in_ok-fill.ensures (c.in_ok-end_word.ensures.word.splits (λ x. whole) (λ x. []) taken (λ x. refl) h)

@@ -26,9 +26,9 @@ returns-in_ok-end_word-in-White-clause-splits c = λ went whole rest taken seen 
     let s = c.end_word.new.self in
     let k = s.machine.text.ok.0 in
     machine_step whole (λ x. seen ++ rest x) rest taken s s.machine
-    (λ x. told_whites s.machine.text.items s.machine.start s.machine.nodes.items seen (rest x) (omega (arith, k, c.in_ok-end_word-in-White.ensures.ended)) (seen_of c.args.run.class White c.args.bytes.now seen c.in-White.is are))
+    (λ x. told_whites s.machine.text.items s.machine.start s.machine.nodes.items seen (rest x) (omega (arith, k, c.in_ok-end_word-in-White.ensures.word.ended)) (seen_of c.args.run.class White c.args.bytes.now seen c.in-White.is are))
     (λ r. r) (λ e o. o)
-    (c.in_ok-end_word-in-White.ensures.splits whole (λ x. seen ++ rest x) taken (λ x. seen_wordless c.args.run.class White c.args.bytes.now seen (rest x) c.in-White.is refl c.requires.some are)
+    (c.in_ok-end_word-in-White.ensures.word.splits whole (λ x. seen ++ rest x) taken (λ x. seen_wordless c.args.run.class White c.args.bytes.now seen (rest x) c.in-White.is refl c.requires.some are)
     (count_step whole (λ x. seen ++ rest x) taken c.args.self.now c.advance-in-White.new.self c.advance-in-White.ensures.told c.advance-in-White.ensures.nodes c.advance-in-White.ensures.holes h))
 
 pub returns-in_ok-open_list-in-Open-clause-splits : goal.returns-in_ok-open_list-in-Open-clause-splits
@@ -36,7 +36,7 @@ returns-in_ok-open_list-in-Open-clause-splits c = λ went whole rest taken seen 
     let byte = seen_byte c.args.run.class Open c.args.bytes.now seen c.in-Open.is (λ n e. e) are in
     c.in_ok-open_list-in-Open.ensures.splits whole rest taken byte.0 byte.2
     (subst (λ y. Splits whole (λ x. y ++ rest x) taken c.end_word-in-Open.new.self) byte.1
-    (c.in_ok-end_word-in-Open.ensures.splits whole (λ x. seen ++ rest x) taken (λ x. seen_wordless c.args.run.class Open c.args.bytes.now seen (rest x) c.in-Open.is refl c.requires.some are)
+    (c.in_ok-end_word-in-Open.ensures.word.splits whole (λ x. seen ++ rest x) taken (λ x. seen_wordless c.args.run.class Open c.args.bytes.now seen (rest x) c.in-Open.is refl c.requires.some are)
     (count_step whole (λ x. seen ++ rest x) taken c.args.self.now c.advance-in-Open.new.self c.advance-in-Open.ensures.told c.advance-in-Open.ensures.nodes c.advance-in-Open.ensures.holes h)))
 
 pub returns-in_ok-close_list-in-Close-clause-splits : goal.returns-in_ok-close_list-in-Close-clause-splits
@@ -44,5 +44,5 @@ returns-in_ok-close_list-in-Close-clause-splits c = λ went whole rest taken see
     let byte = seen_byte c.args.run.class Close c.args.bytes.now seen c.in-Close.is (λ n e. e) are in
     c.in_ok-close_list-in-Close.ensures.splits whole rest taken byte.0 byte.2
     (subst (λ y. Splits whole (λ x. y ++ rest x) taken c.end_word-in-Close.new.self) byte.1
-    (c.in_ok-end_word-in-Close.ensures.splits whole (λ x. seen ++ rest x) taken (λ x. seen_wordless c.args.run.class Close c.args.bytes.now seen (rest x) c.in-Close.is refl c.requires.some are)
+    (c.in_ok-end_word-in-Close.ensures.word.splits whole (λ x. seen ++ rest x) taken (λ x. seen_wordless c.args.run.class Close c.args.bytes.now seen (rest x) c.in-Close.is refl c.requires.some are)
     (count_step whole (λ x. seen ++ rest x) taken c.args.self.now c.advance-in-Close.new.self c.advance-in-Close.ensures.told c.advance-in-Close.ensures.nodes c.advance-in-Close.ensures.holes h)))

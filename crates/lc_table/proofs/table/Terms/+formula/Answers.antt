@@ -18,8 +18,8 @@ formula-formulas-requires-in-Or t c =
     let least = beyond-le c.args.formula.0 c.deref-in-Or.result.now below in
     (omega arith, fits)
 
-pub formulas-formula-requires : goal.formulas-formula-requires
-formulas-formula-requires t c =
+pub formulas-boxed_formula-requires : goal.formulas-boxed_formula-requires
+formulas-boxed_formula-requires t c =
     let lt : c.loop-formula.formula-index < length c.args.formulas.now = search rules in
     let below = get-beyond c.args.formulas.now c.loop-formula.formula-index (record { 0 = 0 }) lt in
     (omega arith, are_formulas-get c.args.self.now c.args.formulas.now c.loop-formula.formula-index (record { 0 = 0 }) c.requires lt)

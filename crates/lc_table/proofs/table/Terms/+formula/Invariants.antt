@@ -5,10 +5,13 @@ use Rattle.lc_table.proofs.Listed.{beyond}
 use Rattle.lc_table.proofs.table.Terms.+formula.Given as goal
 
 abbrev pub decreases-formula : goal.decreases-formula
-decreases-formula l = 2 * l.formula.0 + 1
+decreases-formula l = 3 * l.formula.0 + 2
+
+abbrev pub decreases-boxed_formula : goal.decreases-boxed_formula
+decreases-boxed_formula l = 3 * l.formula.0 + 3
 
 abbrev pub decreases-formulas : goal.decreases-formulas
-decreases-formulas l = 2 * beyond l.formulas.now
+decreases-formulas l = 3 * beyond l.formulas.now + 1
 
 -- the formulas so far
 abbrev pub invariant-formulas-loop-formula : goal.invariant-formulas-loop-formula

@@ -1,4 +1,4 @@
-use Rattle.std.proofs.Common.{◌≡◌, ap, ap₂, sym, ◌∙◌, Some, rules, refl, slice_get, subst, arith}
+use Rattle.std.proofs.Common.{◌≡◌, ap, ap₂, sym, ◌∙◌, Some, rules, refl, slice_get, subst, arith, false}
 use Rattle.lc_term.specs.Syntax as S
 use Rattle.lc_table.specs.Nodes.{term as term_part, column as column_part}
 use Rattle.lc_table.specs.Tables.{parts, term_in, column_in, IsTerm, HasColumn}
@@ -9,6 +9,9 @@ use Rattle.lc_term.specs.Replacement.{replace_column}
 use Rattle.lc_term.specs.Substitution.{shifting}
 use Rattle.lc_table.proofs.Chained.{next_store, moved_below, replaced_store, store_noted}
 use Rattle.lc_table.proofs.NodeReplacement.{replaced_later}
+use Rattle.lc_table.proofs.Unmoved.{below_stores_fails, handed_on}
+use Rattle.lc_table.specs.declared.node_shift.Unmoved.TheVariants.{NoPlace}
+use Rattle.lc_term.specs.Places.{column_passes, shift_fits}
 use Rattle.lc_table.proofs.table.Terms.+shifted_part.Goals as goal
 
 pub shifted_part-returns-in_ok-bound-in-Bound-clause-done : goal.shifted_part-returns-in_ok-bound-in-Bound-clause-done
@@ -104,6 +107,15 @@ shifted_column-stores-preserved t c =
       next.others,
       subst (λ d. HasColumn c.shifted_store.new.self c.in_ok-moved.moved (replace_column r d)) next.same c.in_ok-moved.ensures.id,
     )
+
+pub shifted_column-returns-in_err-moved-clause-place : goal.shifted_column-returns-in_err-moved-clause-place
+shifted_column-returns-in_err-moved-clause-place t c =
+    let i = c.stores.invariant in
+    let p = shift_fits c.args.added c.args.cutoff 0 in
+    let t0 = c.args.self.now in
+    let next = next_store (shifting c.args.added c.args.cutoff) t0 c.stores.self c.args.column c.stores.moved c.in-Some.store c.stores.chain.stores.items c.pop.new.self.items c.in-Some.ensures.items i.0 i.2 i.3 in
+    handed_on c.from_residual-in_err-moved.result c.in_err-moved.field-0.0 (λ fault. fault ≡ NoPlace → column_passes p (column_in t0 c.args.column) ≡ false) c.from_residual-in_err-moved.ensures.1
+    (λ e. below_stores_fails p (column_in t0 c.args.column) c.pop.new.self.items (subst (λ d. column_passes p d ≡ false) next.same (c.in_err-moved.ensures.place e)))
 
 pub shifted_store-returns-clause-done : goal.shifted_store-returns-clause-done
 shifted_store-returns-clause-done t c =

@@ -10,6 +10,9 @@ decreases-column l = 2 * l.column.0 + 1
 abbrev pub decreases-term : goal.decreases-term
 decreases-term l = 2 * l.term.0 + 1
 
+abbrev pub decreases-boxed_term : goal.decreases-boxed_term
+decreases-boxed_term l = 2 * l.term.0 + 2
+
 abbrev pub decreases-with_store_tree : goal.decreases-with_store_tree
 decreases-with_store_tree l = 2 * l.store.0
 

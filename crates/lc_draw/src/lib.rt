@@ -1,0 +1,10 @@
+//! Drawings of histories, as SVG: a lane for each client, a bar for each call, a mark for each entry of an order.
+#![tactic(auto)]
+
+mod calls;
+mod picture;
+mod places;
+mod svg;
+mod texts;
+
+pub use picture::drawing;

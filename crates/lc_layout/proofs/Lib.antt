@@ -1,0 +1,6 @@
+mod Back
+mod Laid
+mod Rows
+mod Walks
+mod Widths
+mod Words

@@ -1,0 +1,9 @@
+mod Depths
+mod Items
+mod Opened
+mod Places
+mod Preorder
+mod Spans
+mod Tokens
+mod Texts
+mod Windows

@@ -1,0 +1,70 @@
+-- How far an item goes.
+use Rattle.std.proofs.Common.{◌≡◌, ℕ, ◌+◌, ◌≤◌, ◌<◌, Bool, true, false, ◌||◌, inl, inr, List, [], ◌∷◌, length, get_or, take, drop, refl, sym, ap, ◌∙◌, subst, arith}
+use Rattle.std.specs.Prelude.{◌==◌}
+use Rattle.std.proofs.lemmas.Bool.{cases_eq, and_from}
+use Rattle.std.proofs.lemmas.List.{drop_more}
+use Rattle.std.proofs.lemmas.List.Folds.{list_all-append}
+use Rattle.lc_sexp.specs.Text.{class_of, is_Letter, are_letters, begins_word, uncommented}
+use Rattle.lc_sexp.specs.Reads.{text_of}
+use Rattle.lc_place.specs.Items.{begins_list, begins_item, IsWordOf}
+use Rattle.lc_place.proofs.Texts.{step_text, plain, letter_not_semi, word_ends, length-text, read_all, bracket_first, bracket_only}
+
+-- letters that were read up to an offset
+pub record IsWordSoFar (bytes : List ℕ) (i : ℕ) : Type 0 where
+  pub text : drop i (text_of bytes) ≡ uncommented false (drop i bytes)
+  pub letters : are_letters (take i (text_of bytes)) ≡ true
+
+pub word_start : (bytes : List ℕ) → IsWordSoFar bytes 0
+word_start bytes = record { text = refl; letters = refl }
+
+pub word_more : (bytes : List ℕ) (i : ℕ) → i < length bytes → is_Letter (class_of (get_or bytes i 0)) ≡ true → IsWordSoFar bytes i → IsWordSoFar bytes (i + 1)
+word_more bytes i lt h w =
+    let b : ℕ = get_or bytes i 0 in
+    let s = step_text bytes i 0 b false false lt w.text (λ rest. plain b rest (letter_not_semi b h)) in
+    record {
+      text = s.rest;
+      letters = ap are_letters s.read ∙ list_all-append (λ x. is_Letter (class_of x)) (take i (text_of bytes)) (b ∷ []) ∙ and_from _ _ w.letters (and_from _ _ h refl);
+    }
+
+ends_here : (bytes : List ℕ) (i : ℕ) → i < length bytes → is_Letter (class_of (get_or bytes i 0)) ≡ false → IsWordSoFar bytes i → begins_word (drop i (text_of bytes)) ≡ false
+ends_here bytes i lt h w = ap begins_word (w.text ∙ ap (uncommented false) (drop_more bytes i 0 lt)) ∙ word_ends (get_or bytes i 0) (drop (i + 1) bytes) h
+
+some_letters : (text : List ℕ) (i : ℕ) → begins_word text ≡ true → begins_word (drop i text) ≡ false → 0 < i
+some_letters text i h e = elim (cases_eq i 0) [
+  | inl z ↦ let none : begins_word text ≡ false = subst (λ n. begins_word (drop n text) ≡ false) z e in absurd (cc (none, h))
+  | inr n ↦ omega arith
+]
+
+-- a byte that is no letter stands behind them
+pub word_ended : (bytes : List ℕ) (i : ℕ) → begins_word (text_of bytes) ≡ true → i < length bytes → is_Letter (class_of (get_or bytes i 0)) ≡ false → IsWordSoFar bytes i → IsWordOf (text_of bytes) i
+word_ended bytes i h lt e w =
+    let end = ends_here bytes i lt e w in
+    record { some = some_letters (text_of bytes) i h end; within = omega (arith, length-text bytes); letters = w.letters; whole = end }
+
+-- or the end
+pub word_to_end : (bytes : List ℕ) (i n : ℕ) → begins_word (text_of bytes) ≡ true → length bytes ≤ i → n ≡ length bytes → IsWordSoFar bytes i → IsWordOf (text_of bytes) n
+word_to_end bytes i n h le e w =
+    let all = read_all bytes n (omega arith) in
+    let end : begins_word (drop n (text_of bytes)) ≡ false = ap begins_word all.1 in
+    record {
+      some = some_letters (text_of bytes) n h end;
+      within = omega (arith, length-text bytes);
+      letters = ap are_letters (all.0 ∙ sym (read_all bytes i le).0) ∙ w.letters;
+      whole = end;
+    }
+
+pub some_bytes : (bytes : List ℕ) → begins_item (text_of bytes) ≡ true → 0 < length bytes
+some_bytes [] h = absurd (cc)
+some_bytes (b ∷ s) h = omega arith
+
+pub list_first : (bytes : List ℕ) → begins_item (text_of bytes) ≡ true → get_or bytes 0 0 ≡ 40 → begins_list (text_of bytes) ≡ true
+list_first [] h e = absurd (cc)
+list_first (b ∷ s) h e = bracket_first b s (let t : (b == 40) ≡ true = rw e refl in t)
+
+no_list : (a b : Bool) → (a || b) ≡ true → a ≡ false → b ≡ true
+no_list true b h e = absurd (cc)
+no_list false b h e = h
+
+pub word_first_byte : (bytes : List ℕ) → begins_item (text_of bytes) ≡ true → (get_or bytes 0 0 == 40) ≡ false → begins_word (text_of bytes) ≡ true
+word_first_byte [] h e = absurd (cc)
+word_first_byte (b ∷ s) h e = no_list (begins_list (text_of (b ∷ s))) (begins_word (text_of (b ∷ s))) h (bracket_only b s e)

@@ -1,0 +1,141 @@
+-- The part of a line that is shown.
+use Rattle.std.proofs.Common.{◌≡◌, ◌≢◌, ℕ, suc, ◌+◌, ◌-◌, ◌≤◌, ◌<◌, Bool, true, false, ◌||◌, not, cond, List, [], ◌∷◌, ◌++◌, length, get_or, take, drop, count_by, take_while, reverse, slice_range, refl, ap, ◌∙◌, arith, take-add, drop-drop, get_or-drop, length-drop, min, subst}
+use Rattle.std.proofs.lemmas.Bool.Decides.{nat_tests}
+use Rattle.std.specs.List.{list_any}
+use Rattle.std.proofs.lemmas.List.{drop_more, take_more, reverse-append}
+use Rattle.std.proofs.lemmas.List.Folds.{list_any-append}
+use Rattle.std.proofs.lemmas.List.Sums.{sum_by-append, sum_by-cons, sum_by_push, take_while-cons}
+use Rattle.lc_place.specs.Lines.{is_feed, begins_character, back_to_line}
+use Rattle.lc_place.specs.Excerpt.{is_break, IsInLine, characters_in, two_lines, IsExcerpt}
+
+-- a byte more at the front
+pub range_front : (bytes : List ℕ) (from to : ℕ) → 0 < from → from ≤ to → from ≤ length bytes → slice_range bytes (from - 1) to ≡ get_or bytes (from - 1) 0 ∷ slice_range bytes from to
+range_front bytes from to some le within =
+    let e : to - (from - 1) ≡ suc (to - from) = omega arith in
+    let f : (from - 1) + 1 ≡ from = omega arith in
+    ap (λ n. take n (drop (from - 1) bytes)) e
+    ∙ ap (take (suc (to - from))) (drop_more bytes (from - 1) 0 (omega arith))
+    ∙ ap (λ n. get_or bytes (from - 1) 0 ∷ take (to - from) (drop n bytes)) f
+
+-- a byte more at the end
+pub range_back : (bytes : List ℕ) (from to : ℕ) → from ≤ to → to < length bytes → slice_range bytes from (to + 1) ≡ slice_range bytes from to ++ (get_or bytes to 0 ∷ [])
+range_back bytes from to le within =
+    let e : (to + 1) - from ≡ (to - from) + 1 = omega arith in
+    let f : from + (to - from) ≡ to = omega arith in
+    ap (λ n. take n (drop from bytes)) e
+    ∙ take_more (drop from bytes) (to - from) 0 (omega (arith, length-drop from bytes))
+    ∙ ap (λ x. slice_range bytes from to ++ (x ∷ [])) (get_or-drop from bytes (to - from) 0 ∙ ap (λ n. get_or bytes n 0) f)
+
+-- two parts that meet
+pub range_joined : (bytes : List ℕ) (from start to : ℕ) → from ≤ start → start ≤ to → slice_range bytes from to ≡ slice_range bytes from start ++ slice_range bytes start to
+range_joined bytes from start to a b =
+    let e : to - from ≡ (start - from) + (to - start) = omega arith in
+    let f : from + (start - from) ≡ start = omega arith in
+    ap (λ n. take n (drop from bytes)) e
+    ∙ take-add (start - from) (to - start) (drop from bytes)
+    ∙ ap (λ x. slice_range bytes from start ++ take (to - start) x) (drop-drop (start - from) from bytes ∙ ap (λ n. drop n bytes) f)
+
+pub range_none : (bytes : List ℕ) (at : ℕ) → slice_range bytes at at ≡ []
+range_none bytes at = ap (λ n. take n (drop at bytes)) (let e : at - at ≡ 0 = omega arith in e)
+
+pub characters-append : (p q : List ℕ) → characters_in (p ++ q) ≡ characters_in p + characters_in q
+characters-append p q = sum_by-append (λ b. cond (begins_character b) 1 0) p q
+
+-- what was found of a line, with so much room left
+pub record IsShown (bytes : List ℕ) (from to left room : ℕ) : Type 0 where
+  pub in_line : IsInLine (slice_range bytes from to)
+  pub few : characters_in (slice_range bytes from to) + left ≡ room
+
+pub shown_none : (bytes : List ℕ) (at room : ℕ) → IsShown bytes at at room room
+shown_none bytes at room =
+    record { in_line = ap (list_any is_break) (range_none bytes at); few = omega (arith, ap characters_in (range_none bytes at)) }
+
+or_both : (a b : Bool) → a ≡ false → b ≡ false → (a || b) ≡ false
+or_both a b e f = ap (λ x. x || b) e ∙ f
+
+-- how much room a byte takes
+abbrev pub room_of : ℕ → ℕ
+room_of b = cond (begins_character b) 1 0
+
+pub room_small : (b : ℕ) → room_of b ≤ 1
+room_small b = grind (arith, nat_tests)
+
+pub no_feed : (b : ℕ) → b ≢ 10 → is_feed b ≡ false
+no_feed b other = grind (arith, nat_tests)
+
+-- the column, where what stands before an offset in its line was counted so far
+abbrev pub columns_before : List ℕ → ℕ → ℕ
+columns_before bytes from = count_by begins_character (back_to_line bytes from)
+
+back_more : (bytes : List ℕ) (from : ℕ) → from < length bytes → reverse (take (from + 1) bytes) ≡ get_or bytes from 0 ∷ reverse (take from bytes)
+back_more bytes from lt = ap reverse (take_more bytes from 0 lt) ∙ reverse-append (take from bytes) (get_or bytes from 0 ∷ [])
+
+pub column_more : (bytes : List ℕ) (from : ℕ) → 0 < from → from ≤ length bytes → is_feed (get_or bytes (from - 1) 0) ≡ false
+    → columns_before bytes from ≡ room_of (get_or bytes (from - 1) 0) + columns_before bytes (from - 1)
+column_more bytes from some le other =
+    let f : from ≡ (from - 1) + 1 = omega arith in
+    let e : reverse (take from bytes) ≡ get_or bytes (from - 1) 0 ∷ reverse (take (from - 1) bytes) = ap (λ n. reverse (take n bytes)) f ∙ back_more bytes (from - 1) (omega arith) in
+    ap (λ x. count_by begins_character (take_while (λ b. not (is_feed b)) x)) e
+    ∙ ap (count_by begins_character) (take_while-cons (λ b. not (is_feed b)) (get_or bytes (from - 1) 0) (reverse (take (from - 1) bytes)))
+    ∙ ap (λ t. count_by begins_character (cond (not t) (get_or bytes (from - 1) 0 ∷ back_to_line bytes (from - 1)) [])) other
+    ∙ sum_by-cons room_of (get_or bytes (from - 1) 0) (back_to_line bytes (from - 1))
+
+pub column_end : (bytes : List ℕ) (from : ℕ) → 0 < from → from ≤ length bytes → is_feed (get_or bytes (from - 1) 0) ≡ true → columns_before bytes from ≡ 0
+column_end bytes from some le feed =
+    let f : from ≡ (from - 1) + 1 = omega arith in
+    let e : reverse (take from bytes) ≡ get_or bytes (from - 1) 0 ∷ reverse (take (from - 1) bytes) = ap (λ n. reverse (take n bytes)) f ∙ back_more bytes (from - 1) (omega arith) in
+    ap (λ x. count_by begins_character (take_while (λ b. not (is_feed b)) x)) e
+    ∙ ap (count_by begins_character) (take_while-cons (λ b. not (is_feed b)) (get_or bytes (from - 1) 0) (reverse (take (from - 1) bytes)))
+    ∙ ap (λ t. count_by begins_character (cond (not t) (get_or bytes (from - 1) 0 ∷ back_to_line bytes (from - 1)) [])) feed
+
+pub column_start : (bytes : List ℕ) (from : ℕ) → from ≡ 0 → columns_before bytes from ≡ 0
+column_start bytes from e = ap (columns_before bytes) e
+
+pub shown_front : (bytes : List ℕ) (from to left room : ℕ) → 0 < from → from ≤ to → from ≤ length bytes → is_break (get_or bytes (from - 1) 0) ≡ false → room_of (get_or bytes (from - 1) 0) ≤ left
+    → IsShown bytes from to left room → IsShown bytes (from - 1) to (left - room_of (get_or bytes (from - 1) 0)) room
+shown_front bytes from to left room some le within other fits s =
+    let e = range_front bytes from to some le within in
+    record {
+      in_line = ap (list_any is_break) e ∙ or_both _ _ other s.in_line;
+      few =
+          let c : characters_in (slice_range bytes (from - 1) to) ≡ room_of (get_or bytes (from - 1) 0) + characters_in (slice_range bytes from to) =
+          ap characters_in e ∙ sum_by-cons room_of (get_or bytes (from - 1) 0) (slice_range bytes from to) in
+          omega (arith, c, s.few, fits);
+    }
+
+pub shown_back : (bytes : List ℕ) (from to left room : ℕ) → from ≤ to → to < length bytes → is_break (get_or bytes to 0) ≡ false → room_of (get_or bytes to 0) ≤ left
+    → IsShown bytes from to left room → IsShown bytes from (to + 1) (left - room_of (get_or bytes to 0)) room
+shown_back bytes from to left room le within other fits s =
+    let e = range_back bytes from to le within in
+    record {
+      in_line = ap (list_any is_break) e ∙ list_any-append is_break (slice_range bytes from to) (get_or bytes to 0 ∷ []) ∙ or_both _ _ s.in_line (or_both _ _ other refl);
+      few =
+          let c : characters_in (slice_range bytes from (to + 1)) ≡ characters_in (slice_range bytes from to) + room_of (get_or bytes to 0) =
+          ap characters_in e ∙ sum_by_push room_of (slice_range bytes from to) (get_or bytes to 0) in
+          omega (arith, c, s.few, fits);
+    }
+
+pub line_joined : (bytes : List ℕ) (from start to : ℕ) → from ≤ start → start ≤ to → IsInLine (slice_range bytes from start) → IsInLine (slice_range bytes start to) → IsInLine (slice_range bytes from to)
+line_joined bytes from start to a b p q =
+    ap (list_any is_break) (range_joined bytes from start to a b) ∙ list_any-append is_break (slice_range bytes from start) (slice_range bytes start to) ∙ or_both _ _ p q
+
+pub few_joined : (bytes : List ℕ) (from start to room : ℕ) → from ≤ start → start ≤ to → characters_in (slice_range bytes from start) ≤ room
+    → characters_in (slice_range bytes start to) ≤ room - characters_in (slice_range bytes from start) → characters_in (slice_range bytes from to) ≤ room
+few_joined bytes from start to room a b p q =
+    omega (arith, ap characters_in (range_joined bytes from start to a b), characters-append (slice_range bytes from start) (slice_range bytes start to), p, q)
+
+-- the excerpt, by its parts
+pub excerpt_is : (bytes : List ℕ) (offset size start from to room : ℕ) (text : List ℕ) → start ≡ min offset (length bytes) → from ≤ start → IsInLine (slice_range bytes from start)
+    → characters_in (slice_range bytes from start) ≤ 100 → room ≡ 160 - characters_in (slice_range bytes from start) → start ≤ to → to ≤ length bytes → IsInLine (slice_range bytes start to)
+    → characters_in (slice_range bytes start to) ≤ room → text ≡ two_lines bytes from start (start + min size (to - start)) to → IsExcerpt bytes offset size text
+excerpt_is bytes offset size start from to room text e a p q r b w l f t =
+    record {
+      from = from;
+      to = to;
+      before = omega (arith, e);
+      behind = omega (arith, e);
+      within = w;
+      in_line = line_joined bytes from start to a b p l;
+      short = few_joined bytes from start to 160 a b (omega arith) (subst (λ n. characters_in (slice_range bytes start to) ≤ n) r f);
+      lines = t ∙ ap (λ n. two_lines bytes from n (n + min size (to - n)) to) e;
+    }

@@ -1,0 +1,5 @@
+pub mod Excerpt
+pub mod Items
+pub mod Lines
+pub mod Open
+pub mod Place

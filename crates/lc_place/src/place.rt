@@ -1,0 +1,91 @@
+ghost use Rattle.std.specs.Prelude.{◌≡◌, ◌≤◌, ◌<◌, ◌↔◌, IfSome, IsNone, length as list_length};
+ghost use Rattle.lc_place.specs.Items.{items_in};
+ghost use Rattle.lc_place.specs.Lines.{line_of, column_of, begins_character};
+ghost use Rattle.lc_place.specs.Place.{IsPlaceOf, IsItem, IsByte};
+
+use crate::span::item_length;
+use crate::start::item_start;
+use crate::text::counted;
+
+/// Where something stands in the bytes of a file.
+#[derive(Clone, Copy)]
+pub struct Place {
+    /// The offset of its first byte, from 0.
+    pub offset: usize,
+    /// How many bytes it has. The end of a file has none.
+    pub length: usize,
+    /// The line of its first byte, from 1. A line ends with a line feed.
+    pub line: usize,
+    /// The column of its first byte, from 1: characters are counted, where the bytes are UTF-8. A tab is one of them.
+    pub column: usize,
+}
+
+/// The line in which a byte stands, from 1.
+fn line_of(bytes: &[u8], offset: usize) -> usize
+    requires { offset ≤ list_length bytes.now }
+    ensures { result ≡ line_of bytes.now offset }
+{
+    bytes[..offset]
+        .iter()
+        .filter(|byte| **byte == b'\n')
+        .count()
+        + 1
+}
+
+/// Whether a byte begins a character: it does not go on with one, as the bytes 128 to 191 do in UTF-8.
+pub(crate) fn begins_character(byte: u8) -> bool
+    ensures { result ≡ begins_character byte }
+{
+    byte <= 127 || byte >= 192
+}
+
+/// The column in which a byte stands, from 1.
+fn column_of(bytes: &[u8], offset: usize) -> usize
+    requires { offset ≤ list_length bytes.now }
+    ensures { result ≡ column_of bytes.now offset }
+{
+    let mut column = 1;
+    let mut from = offset;
+    while from > 0 && bytes[from - 1] != b'\n' {
+        from -= 1;
+        column += counted(begins_character(bytes[from]));
+    }
+    column
+}
+
+/// The place of so many bytes from an offset on.
+pub(crate) fn place_at(bytes: &[u8], offset: usize, length: usize) -> Place
+    requires { offset ≤ list_length bytes.now }
+    ensures { IsPlaceOf bytes.now offset length result }
+{
+    Place {
+        offset,
+        length,
+        line: line_of(bytes, offset),
+        column: column_of(bytes, offset),
+    }
+}
+
+/// The place of the item of this number, where items are the atoms and the lists of a file, in preorder from 0. A list goes
+/// up to the bracket that closes it, or to the end of the file where none does. `None` exactly where the file has no such item.
+pub fn item_place(bytes: &[u8], number: u64) -> Option<Place>
+    ensures item { IfSome result (IsItem bytes.now number) }
+    ensures none { IsNone result ↔ (items_in bytes.now ≤ number) }
+{
+    let offset = item_start(bytes, number)?;
+    let length = item_length(&bytes[offset..]);
+    Some(place_at(bytes, offset, length))
+}
+
+/// The place of the byte at this offset, or of the end of the file. `None` exactly where the file ends before it.
+pub fn byte_place(bytes: &[u8], offset: u64) -> Option<Place>
+    ensures byte { IfSome result (IsByte bytes.now offset) }
+    ensures none { IsNone result ↔ (list_length bytes.now < offset) }
+{
+    let count = bytes.len();
+    if offset > count as u64 {
+        return None;
+    }
+    let offset = offset as usize;
+    Some(place_at(bytes, offset, 1.min(count - offset)))
+}

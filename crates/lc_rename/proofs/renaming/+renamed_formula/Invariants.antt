@@ -1,0 +1,10 @@
+use Rattle.std.proofs.Common.{◌≡◌, take}
+use Rattle.std.specs.Prelude.{map}
+use Rattle.lc_term.specs.Replacement.{replace}
+use Rattle.lc_term.specs.View.{formulas_of}
+use Rattle.lc_rename.specs.Renaming.{column_for, renaming}
+use Rattle.lc_rename.proofs.renaming.+renamed_formula.Given as goal
+
+-- the formulas so far are renamed
+abbrev pub invariant-renamed_parts-loop-part : goal.invariant-renamed_parts-loop-part
+invariant-renamed_parts-loop-part l = formulas_of l.renamed.items ≡ map (replace (renaming (column_for l.columns))) (formulas_of (take l.part-index l.parts))

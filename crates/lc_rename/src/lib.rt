@@ -1,0 +1,9 @@
+//! Terms, formulas and proofs with other columns in place of theirs.
+#![tactic(auto)]
+
+mod columns;
+mod covering;
+mod proof;
+mod renaming;
+
+pub use proof::{is_covered, renamed};

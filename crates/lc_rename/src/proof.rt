@@ -1,0 +1,185 @@
+//! Proofs with other columns in place of theirs.
+ghost use Rattle.std.specs.Prelude.{◌≡◌, map, IfOk};
+ghost use Rattle.lc_kernel.specs.Proofs.{proofs, size};
+ghost use Rattle.lc_kernel.specs.View.{step_of, proof_of, proofs_of};
+ghost use Rattle.lc_rename.specs.Renaming.{column_for};
+ghost use Rattle.lc_rename.specs.RenamedProofs.{step_is_covered, is_covered, are_covered, renamed_step, renamed};
+
+use crate::covering::{is_column_covered, is_formula_covered, is_term_covered};
+use crate::renaming::{renamed_column, renamed_formula, renamed_term};
+use lc_base::{ColId, OutOfMemory};
+use lc_kernel::{Proof, Step};
+use std::alloc::Global;
+
+/// Whether there is a column in place of each that a step names.
+fn is_step_covered(columns: &[Option<ColId>], step: &Step) -> bool
+    ensures { result ≡ step_is_covered (column_for columns.now) (step_of step.now) }
+{
+    match step {
+        Step::Instantiate { term, .. } => is_term_covered(columns, term),
+        Step::Cut { formula } => is_formula_covered(columns, formula),
+        Step::Written {
+            column,
+            index,
+            value,
+            other,
+        } => {
+            is_column_covered(columns, column)
+                && is_term_covered(columns, index)
+                && is_term_covered(columns, value)
+                && is_term_covered(columns, other)
+        }
+        Step::Same {
+            column,
+            index,
+            other,
+        } => {
+            is_column_covered(columns, column)
+                && is_term_covered(columns, index)
+                && is_term_covered(columns, other)
+        }
+        Step::Affine { index, .. } => is_term_covered(columns, index),
+        Step::Divide { quotient, .. } => is_formula_covered(columns, quotient),
+        Step::Split { .. }
+        | Step::Cases { .. }
+        | Step::Push { .. }
+        | Step::Fresh { .. }
+        | Step::Trichotomy { .. }
+        | Step::Sum { .. }
+        | Step::Opposite { .. }
+        | Step::Open => true,
+    }
+}
+
+/// Whether there is a column in place of each that a proof names.
+#[cycle(is_covered)]
+pub fn is_covered(columns: &[Option<ColId>], proof: &Proof) -> bool
+    ensures { result ≡ is_covered (column_for columns.now) (proof_of proof.now) }
+{
+    if !is_step_covered(columns, &proof.step) {
+        return false;
+    }
+    are_covered(columns, &proof.branches)
+}
+
+/// Whether there is a column in place of each that the proofs name.
+#[cycle(is_covered)]
+fn are_covered(columns: &[Option<ColId>], branches: &[Proof]) -> bool
+    ensures { result ≡ are_covered (column_for columns.now) (proofs (proofs_of branches.now)) }
+{
+    for proof in branches {
+        if !is_covered(columns, proof) {
+            return false;
+        }
+    }
+    true
+}
+
+/// A step with the columns in place of those that it names.
+fn renamed_step(alloc: Global, columns: &[Option<ColId>], step: &Step) -> Result<Step, OutOfMemory>
+    ensures { IfOk result (λ made. step_of made ≡ renamed_step (column_for columns.now) (step_of step.now)) }
+{
+    match step {
+        Step::Split { hypothesis } => Ok(Step::Split {
+            hypothesis: *hypothesis,
+        }),
+        Step::Cases { hypothesis } => Ok(Step::Cases {
+            hypothesis: *hypothesis,
+        }),
+        Step::Push { hypothesis } => Ok(Step::Push {
+            hypothesis: *hypothesis,
+        }),
+        Step::Instantiate { hypothesis, term } => Ok(Step::Instantiate {
+            hypothesis: *hypothesis,
+            term: renamed_term(alloc, columns, term)?,
+        }),
+        Step::Fresh { hypothesis } => Ok(Step::Fresh {
+            hypothesis: *hypothesis,
+        }),
+        Step::Cut { formula } => Ok(Step::Cut {
+            formula: renamed_formula(alloc, columns, formula)?,
+        }),
+        Step::Written {
+            column,
+            index,
+            value,
+            other,
+        } => Ok(Step::Written {
+            column: renamed_column(alloc, columns, column)?,
+            index: renamed_term(alloc, columns, index)?,
+            value: renamed_term(alloc, columns, value)?,
+            other: renamed_term(alloc, columns, other)?,
+        }),
+        Step::Same {
+            column,
+            index,
+            other,
+        } => Ok(Step::Same {
+            column: renamed_column(alloc, columns, column)?,
+            index: renamed_term(alloc, columns, index)?,
+            other: renamed_term(alloc, columns, other)?,
+        }),
+        Step::Affine {
+            slope,
+            start,
+            index,
+        } => Ok(Step::Affine {
+            slope: *slope,
+            start: *start,
+            index: renamed_term(alloc, columns, index)?,
+        }),
+        Step::Trichotomy { hypothesis } => Ok(Step::Trichotomy {
+            hypothesis: *hypothesis,
+        }),
+        Step::Divide {
+            hypothesis,
+            divisor,
+            quotient,
+        } => Ok(Step::Divide {
+            hypothesis: *hypothesis,
+            divisor: *divisor,
+            quotient: renamed_formula(alloc, columns, quotient)?,
+        }),
+        Step::Sum { multiples } => Ok(Step::Sum {
+            multiples: Vec::from_slice(alloc, multiples)?,
+        }),
+        Step::Opposite {
+            hypothesis,
+            negation,
+        } => Ok(Step::Opposite {
+            hypothesis: *hypothesis,
+            negation: *negation,
+        }),
+        Step::Open => Ok(Step::Open),
+    }
+}
+
+/// A proof with the columns in place of those that it names. A column in whose place there is none stays.
+#[cycle(renamed)]
+pub fn renamed(
+    alloc: Global,
+    columns: &[Option<ColId>],
+    proof: &Proof,
+) -> Result<Proof, OutOfMemory>
+    ensures { IfOk result (λ made. proof_of made ≡ renamed (column_for columns.now) (proof_of proof.now)) }
+{
+    let step = renamed_step(alloc, columns, &proof.step)?;
+    let branches = all_renamed(alloc, columns, &proof.branches)?;
+    Ok(Proof { step, branches })
+}
+
+/// Proofs with the columns in place of those that they name.
+#[cycle(renamed)]
+fn all_renamed(
+    alloc: Global,
+    columns: &[Option<ColId>],
+    proofs: &[Proof],
+) -> Result<Vec<Proof>, OutOfMemory>
+    ensures { IfOk result (λ made. proofs_of made.items ≡ map (renamed (column_for columns.now)) (proofs_of proofs.now)) }
+{
+    let mut made = Vec::with_capacity(alloc, proofs.len())?;
+    for proof in proofs {
+        made.push(renamed(alloc, columns, proof)?)?;
+    }
+    Ok(made)
+}

@@ -1,0 +1,10 @@
+mod Elements
+mod Wider
+mod Once
+mod Replying
+mod Telling
+mod Ridden
+mod Seen
+mod Advanced
+mod Begun
+mod Started

@@ -1,0 +1,9 @@
+use Rattle.std.proofs.Common.{◌≡◌, drop, map, ◌++◌}
+use Rattle.lc_seq.specs.SpecView.{columns_of}
+use Rattle.lc_steps.proofs.starting.push_columns.Given as goal
+
+-- the numbers so far, with those of the columns that are left, are those of all
+abbrev pub invariant-loop-column : goal.invariant-loop-column
+invariant-loop-column l =
+    l.numbers.items ++ map (λ c. (c.slope, c.start)) (columns_of (drop l.column-index l.columns))
+    ≡ l.fn.numbers.items ++ map (λ c. (c.slope, c.start)) (columns_of l.columns)

@@ -1,0 +1,16 @@
+//! Steps of a development's clients: an instruction with the riders beside it, told on a draft before they are kept.
+#![tactic(auto)]
+
+mod advancing;
+mod beginning;
+mod lookup;
+mod replies;
+mod riding;
+mod starting;
+mod steps;
+
+pub use advancing::advance;
+pub use beginning::begin;
+pub use lookup::{body_of, client_at};
+pub use starting::start;
+pub use steps::{Step, What};

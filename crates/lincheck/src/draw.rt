@@ -1,0 +1,63 @@
+//! The command `draw`.
+ghost use Rattle.std.specs.Prelude.{◌≡◌, IfOk, IfSome, IsErr};
+ghost use Rattle.lc_seq.specs.TextView.{specification_of};
+ghost use Rattle.lincheck.specs.CommandLine.{DrawHistory};
+ghost use Rattle.lincheck.specs.Draw.{AnswersDraw, AnswersDrawn};
+ghost use Rattle.lincheck.specs.Execution.{IsUnread};
+
+use crate::answer::{Answer, Failure, SUCCESS, told_fault};
+use crate::files::Files;
+use crate::judge::spec_fed;
+use crate::reading::{feed_forms, read_file};
+use lc_base::OutOfMemory;
+use lc_draw::drawing;
+use lc_hist::history_from_json;
+use lc_seq::TextSpec;
+use std::alloc::Global;
+
+/// The picture of the history that a text says, by a specification; else the answer that tells the first item that is wrong.
+fn picture_of(alloc: Global, spec: &TextSpec, bytes: &[u8]) -> Result<Answer, OutOfMemory>
+    ensures { IfOk result (λ answer. AnswersDrawn (specification_of spec.now) bytes.now answer.text.items answer.status) }
+{
+    match history_from_json(alloc, spec, bytes) {
+        Ok((history, order)) => {
+            Ok(Answer {
+                text: drawing(alloc, spec, &history, &order)?.into_bytes(),
+                status: SUCCESS,
+            })
+        }
+        Err(fault) => told_fault(alloc, fault),
+    }
+}
+
+/// The answer to the history at a path, by a specification.
+fn answer_drawn<'a, F: Files>(
+    alloc: Global,
+    files: &mut F,
+    spec: &TextSpec,
+    path: &'a str,
+) -> Result<Answer, Failure<'a>>
+    ensures unread { F.CannotOpen files.old path.now → IsErr result }
+    ensures answers { IfOk result (λ answer. IfSome (F.bytes_at files.old path.now) (λ file. AnswersDrawn (specification_of spec.now) file answer.text.items answer.status)) }
+{
+    let bytes = read_file(alloc, files, path)?;
+    Ok(picture_of(alloc, spec, &bytes)?)
+}
+
+/// The answer of the command `draw` to the development and the history at two paths. Where the development is refused, the history
+/// is not opened.
+pub fn answer_draw<'a, F: Files>(
+    alloc: Global,
+    files: &mut F,
+    development: &'a str,
+    history: &'a str,
+) -> Result<Answer, Failure<'a>>
+    ensures unread { IsUnread (F.CannotOpen files.old) (F.bytes_at files.old) (DrawHistory development.now history.now) → IsErr result }
+    ensures answers { IfOk result (λ answer. IfSome (F.bytes_at files.old development.now) (λ file. AnswersDraw file (F.bytes_at files.old history.now) answer.text.items answer.status)) }
+{
+    let reader = feed_forms(alloc, files, development)?;
+    match spec_fed(alloc, reader) {
+        Ok(spec) => answer_drawn(alloc, files, &spec, history),
+        Err(fault) => Ok(told_fault(alloc, fault)?),
+    }
+}
