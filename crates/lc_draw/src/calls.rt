@@ -8,7 +8,7 @@ use std::alloc::Global;
 
 /// A call, as it is drawn.
 pub(crate) struct Bar {
-    /// In the how manieth lane it lies.
+    /// The number of its lane, from 0 above.
     pub(crate) lane: usize,
     /// The operation with its numbers, how its branch was chosen, and what it returned.
     pub(crate) text: String,
