@@ -28,23 +28,6 @@ row_item r t ts b s e f g =
     ∙ ap (λ k. text k (spot_of r.stage r.column r.indent k t)) (sym f)
     ∙ ap (text b) (sym g)
 
-atom_parts : (out gap w behind around : List ℕ) → ((out ++ gap) ++ w) ++ (behind ++ around) ≡ out ++ (((gap ++ w) ++ behind) ++ around)
-atom_parts out gap w behind around = simp append_assoc
-
--- an atom was put
-pub told_atom : (out out1 out2 w : List ℕ) (r behind : Row) (ts : Trees) (b : ℕ) (s : Spot) (around : List Row) → out1 ≡ out ++ gap_text s.gap r.indent → out2 ≡ out1 ++ w
-    → rest_of r.rest ≡ atom w ▸ ts → b ≡ brackets_behind r.brackets ts → s ≡ spot_of r.stage r.column r.indent b (atom w)
-    → row_text behind ≡ laid_items s.stage s.behind r.indent r.brackets ts → out2 ++ (row_text behind ++ around_text around) ≡ out ++ (row_text r ++ around_text around)
-told_atom out out1 out2 w r behind ts b s around p q e f g h =
-    ap (λ x. x ++ (row_text behind ++ around_text around)) (q ∙ ap (λ x. x ++ w) p)
-    ∙ atom_parts out (gap_text s.gap r.indent) w (row_text behind) (around_text around)
-    ∙ ap (λ x. out ++ (((gap_text s.gap r.indent ++ w) ++ x) ++ around_text around)) h
-    ∙ ap (λ x. out ++ (x ++ around_text around)) (sym (row_item r (atom w) ts b s e f g))
-
-pub steps_atom : (r behind : Row) (w : List ℕ) (ts : Trees) (around : List Row) → rest_of r.rest ≡ atom w ▸ ts → rest_of behind.rest ≡ ts
-    → 2 * item_count_of_all (rest_of behind.rest) + steps_around around < 2 * item_count_of_all (rest_of r.rest) + steps_around around
-steps_atom r behind w ts around e f = omega (arith, ap item_count_of_all e, ap item_count_of_all f)
-
 list_parts : (out gap inner behind around : List ℕ) → ((out ++ gap) ++ (40 ∷ [])) ++ (inner ++ (behind ++ around)) ≡ out ++ (((gap ++ (40 ∷ inner)) ++ behind) ++ around)
 list_parts out gap inner behind around = simp append_assoc
 
@@ -82,15 +65,6 @@ told_close out out1 out2 r row gap around around' o p q g e h k =
     ∙ ap (λ x. out ++ ((gap_text gap r.indent ++ (41 ∷ [])) ++ x)) (sym (around_push around' row) ∙ ap around_text (sym (h ∙ ap (λ x. around' ++ option_to_list x) k)))
     ∙ ap (λ x. out ++ ((gap_text x r.indent ++ (41 ∷ [])) ++ around_text around)) g
     ∙ ap (λ x. out ++ (x ++ around_text around)) (sym (ap (laid_items r.stage r.column r.indent r.brackets) e))
-
--- and one that stands alone
-pub told_end : (out out1 out2 : List ℕ) (r : Row) (gap : Gap) (around : List Row) → out1 ≡ out ++ gap_text gap r.indent → out2 ≡ out1 ++ (41 ∷ [])
-    → gap ≡ closing_gap r.stage r.brackets → rest_of r.rest ≡ none → around ≡ [] → out2 ++ [] ≡ out ++ (row_text r ++ around_text around)
-told_end out out1 out2 r gap around p q g e h =
-    append-nil out2 ∙ q ∙ ap (λ x. x ++ (41 ∷ [])) p ∙ append_assoc out (gap_text gap r.indent) (41 ∷ [])
-    ∙ ap (λ x. out ++ (gap_text x r.indent ++ (41 ∷ []))) g
-    ∙ ap (λ x. out ++ x) (sym (ap (laid_items r.stage r.column r.indent r.brackets) e))
-    ∙ ap (λ x. out ++ x) (sym (append-nil (row_text r)) ∙ ap (λ x. row_text r ++ x) (sym (ap around_text h)))
 
 pub steps_close : (r row : Row) (around around' : List Row) (o : Option Row) → around ≡ around' ++ option_to_list o → o ≡ Some row
     → 2 * item_count_of_all (rest_of row.rest) + steps_around around' < 2 * item_count_of_all (rest_of r.rest) + steps_around around

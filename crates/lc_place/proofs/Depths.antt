@@ -64,9 +64,6 @@ pub record IsUnderWay (text : List ℕ) (i depth : ℕ) : Type 0 where
   pub never : (m : ℕ) → 0 < m → m ≤ i → 0 < open_count (take m text)
   pub small : depth ≤ i
 
-pub under_way_none : (text : List ℕ) → IsUnderWay text 0 0
-under_way_none text = record { depth_is = refl; never = λ m some le. absurd (omega arith); small = omega arith }
-
 opened_first : (bytes : List ℕ) (r : ℕ) (next : Bool) → IsStep bytes 0 r next → begins_list (text_of bytes) ≡ true → (r == 40) ≡ true
 opened_first bytes r next s h = sym (ap begins_list s.here) ∙ h
 

@@ -22,9 +22,6 @@ abbrev pub IsLastEven : List ℕ → ℕ → Option ℕ → Type 0
 IsLastEven text to None = AreNotEven text 0 to
 IsLastEven text to (Some o) = (o < to) × IsEven (drop o text) × AreNotEven text (o + 1) to
 
-pub none_even : (text : List ℕ) → AreNotEven text 0 0
-none_even text k le lt e = absurd (omega arith)
-
 -- where none is even, no more are opened than closed
 not_even_cons : (b : ℕ) (s : List ℕ) → opens s ≤ closes s → ((opens (b ∷ s) ≡ closes (b ∷ s) + 1) → (b == 40) ≡ true → ⊥) → opens (b ∷ s) ≤ closes (b ∷ s)
 not_even_cons b s le f = elim (cases_eq b 40) [

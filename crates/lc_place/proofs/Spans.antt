@@ -14,9 +14,6 @@ pub record IsWordSoFar (bytes : List ℕ) (i : ℕ) : Type 0 where
   pub text : drop i (text_of bytes) ≡ uncommented false (drop i bytes)
   pub letters : are_letters (take i (text_of bytes)) ≡ true
 
-pub word_start : (bytes : List ℕ) → IsWordSoFar bytes 0
-word_start bytes = record { text = refl; letters = refl }
-
 pub word_more : (bytes : List ℕ) (i : ℕ) → i < length bytes → is_Letter (class_of (get_or bytes i 0)) ≡ true → IsWordSoFar bytes i → IsWordSoFar bytes (i + 1)
 word_more bytes i lt h w =
     let b : ℕ = get_or bytes i 0 in
@@ -57,14 +54,6 @@ pub some_bytes : (bytes : List ℕ) → begins_item (text_of bytes) ≡ true →
 some_bytes [] h = absurd (cc)
 some_bytes (b ∷ s) h = omega arith
 
-pub list_first : (bytes : List ℕ) → begins_item (text_of bytes) ≡ true → get_or bytes 0 0 ≡ 40 → begins_list (text_of bytes) ≡ true
-list_first [] h e = absurd (cc)
-list_first (b ∷ s) h e = bracket_first b s (let t : (b == 40) ≡ true = rw e refl in t)
-
 no_list : (a b : Bool) → (a || b) ≡ true → a ≡ false → b ≡ true
 no_list true b h e = absurd (cc)
 no_list false b h e = h
-
-pub word_first_byte : (bytes : List ℕ) → begins_item (text_of bytes) ≡ true → (get_or bytes 0 0 == 40) ≡ false → begins_word (text_of bytes) ≡ true
-word_first_byte [] h e = absurd (cc)
-word_first_byte (b ∷ s) h e = no_list (begins_list (text_of (b ∷ s))) (begins_word (text_of (b ∷ s))) h (bracket_only b s e)

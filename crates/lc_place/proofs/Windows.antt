@@ -35,9 +35,6 @@ range_joined bytes from start to a b =
     ∙ take-add (start - from) (to - start) (drop from bytes)
     ∙ ap (λ x. slice_range bytes from start ++ take (to - start) x) (drop-drop (start - from) from bytes ∙ ap (λ n. drop n bytes) f)
 
-pub range_none : (bytes : List ℕ) (at : ℕ) → slice_range bytes at at ≡ []
-range_none bytes at = ap (λ n. take n (drop at bytes)) (let e : at - at ≡ 0 = omega arith in e)
-
 pub characters-append : (p q : List ℕ) → characters_in (p ++ q) ≡ characters_in p + characters_in q
 characters-append p q = sum_by-append (λ b. cond (begins_character b) 1 0) p q
 
@@ -45,10 +42,6 @@ characters-append p q = sum_by-append (λ b. cond (begins_character b) 1 0) p q
 pub record IsShown (bytes : List ℕ) (from to left room : ℕ) : Type 0 where
   pub in_line : IsInLine (slice_range bytes from to)
   pub few : characters_in (slice_range bytes from to) + left ≡ room
-
-pub shown_none : (bytes : List ℕ) (at room : ℕ) → IsShown bytes at at room room
-shown_none bytes at room =
-    record { in_line = ap (list_any is_break) (range_none bytes at); few = omega (arith, ap characters_in (range_none bytes at)) }
 
 or_both : (a b : Bool) → a ≡ false → b ≡ false → (a || b) ≡ false
 or_both a b e f = ap (λ x. x || b) e ∙ f
@@ -79,17 +72,6 @@ column_more bytes from some le other =
     ∙ ap (count_by begins_character) (take_while-cons (λ b. not (is_feed b)) (get_or bytes (from - 1) 0) (reverse (take (from - 1) bytes)))
     ∙ ap (λ t. count_by begins_character (cond (not t) (get_or bytes (from - 1) 0 ∷ back_to_line bytes (from - 1)) [])) other
     ∙ sum_by-cons room_of (get_or bytes (from - 1) 0) (back_to_line bytes (from - 1))
-
-pub column_end : (bytes : List ℕ) (from : ℕ) → 0 < from → from ≤ length bytes → is_feed (get_or bytes (from - 1) 0) ≡ true → columns_before bytes from ≡ 0
-column_end bytes from some le feed =
-    let f : from ≡ (from - 1) + 1 = omega arith in
-    let e : reverse (take from bytes) ≡ get_or bytes (from - 1) 0 ∷ reverse (take (from - 1) bytes) = ap (λ n. reverse (take n bytes)) f ∙ back_more bytes (from - 1) (omega arith) in
-    ap (λ x. count_by begins_character (take_while (λ b. not (is_feed b)) x)) e
-    ∙ ap (count_by begins_character) (take_while-cons (λ b. not (is_feed b)) (get_or bytes (from - 1) 0) (reverse (take (from - 1) bytes)))
-    ∙ ap (λ t. count_by begins_character (cond (not t) (get_or bytes (from - 1) 0 ∷ back_to_line bytes (from - 1)) [])) feed
-
-pub column_start : (bytes : List ℕ) (from : ℕ) → from ≡ 0 → columns_before bytes from ≡ 0
-column_start bytes from e = ap (columns_before bytes) e
 
 pub shown_front : (bytes : List ℕ) (from to left room : ℕ) → 0 < from → from ≤ to → from ≤ length bytes → is_break (get_or bytes (from - 1) 0) ≡ false → room_of (get_or bytes (from - 1) 0) ≤ left
     → IsShown bytes from to left room → IsShown bytes (from - 1) to (left - room_of (get_or bytes (from - 1) 0)) room
