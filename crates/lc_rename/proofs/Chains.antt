@@ -24,7 +24,3 @@ replaced_round r whole c d i v all ss s items is vs ds h =
     ∙ innermost_store c (map (replace_stored r) (stores_of ss)) (replace_stored r (stored_of s))
     ∙ sym (ap₂ (λ x y. with_stores (Store c x y) (map (replace_stored r) (stores_of ss))) is vs)
     ∙ ap (λ e. with_stores e (map (replace_stored r) (stores_of ss))) (sym ds)
-
--- none is left
-pub replaced_whole : (r : Replacement) (whole c : Column) (ss : List StoreAt) → ss ≡ [] → IsReplacedIn r whole c ss → c ≡ replace_column r whole
-replaced_whole r whole c ss none h = sym (h ∙ ap (λ l. with_stores c (map (replace_stored r) (stores_of l))) none)
