@@ -2,7 +2,7 @@
 use Rattle.std.proofs.Common.{◌≡◌, ℕ, ◌⊎◌, inl, inr, List, [], ◌++◌, Option, Some, None, Result, Ok, Err, IfOk, IfErr, OnOk, false, true≢false, refl, sym, subst, ap, ◌∙◌, append-nil, append_assoc}
 use Rattle.std.specs.Result.{is_err}
 use Rattle.std.specs.Io.KnownBytes.{Keeps, Appends}
-use Rattle.lincheck.specs.CommandLine.{Task}
+use Rattle.lc_words.specs.Tasks.{Task}
 use Rattle.lincheck.specs.Execution.{AnswersTask, Ends}
 use Rattle.lincheck.specs.Printing.{LeavesOf, PrintsText, IsInPieces, Leaves}
 use Rattle.lincheck.specs.Status.{status_of}

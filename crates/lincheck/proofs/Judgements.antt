@@ -22,7 +22,7 @@ use Rattle.lincheck.specs.Judge.{IsLinearization, FailsFirst, Overflows, SaysSuc
 use Rattle.lc_reading.proofs.Files.{says_not_refused}
 use Rattle.lc_seq.specs.TextView.{specification_of}
 use Rattle.lc_spec_text.specs.Specifications.{first_reading}
-use Rattle.lincheck.specs.CommandLine.{JudgeHistory}
+use Rattle.lc_words.specs.Tasks.{JudgeHistory}
 use Rattle.lincheck.specs.Execution.{IsUnread}
 use Rattle.lincheck.specs.Reading.{within_limit, most_bytes}
 use Rattle.lincheck.specs.declared.answer.Answer.{Answer}

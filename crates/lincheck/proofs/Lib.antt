@@ -4,7 +4,6 @@ mod Judgements
 mod Drawn
 mod OneAnswer
 mod Taken
-mod Words
 mod Endings
 mod Opened
 mod Proving

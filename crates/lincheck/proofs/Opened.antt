@@ -17,7 +17,7 @@ use Rattle.lc_outline_text.specs.Developments.{file_reading}
 use Rattle.lc_reading.proofs.Files.{says_not_refused}
 use Rattle.lc_reading.specs.Files.{Says, IsFirstRefusal, IsAnswerTo}
 use Rattle.lincheck.specs.Answers.{ToldFault}
-use Rattle.lincheck.specs.CommandLine.{CheckCertificate}
+use Rattle.lc_words.specs.Tasks.{CheckCertificate}
 use Rattle.lincheck.specs.Check.{TellsRefusal, AnswersDevelopment, AnswersCertificate, AnswersCheck, TellsVerdict, accepted_line}
 use Rattle.lincheck.specs.Execution.{IsUnread}
 use Rattle.lincheck.specs.Reading.{within_limit, most_bytes}

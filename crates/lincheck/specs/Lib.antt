@@ -1,5 +1,4 @@
 pub mod Status
-pub mod CommandLine
 pub mod Answers
 pub mod Reading
 pub mod Formula

@@ -7,8 +7,8 @@ use Rattle.lc_lib_texts.specs.Texts.{development_bytes, hint_bytes}
 use Rattle.lc_lib_texts.specs.declared.library.Lib.{Lib}
 use Rattle.lc_outline.specs.Development as S
 use Rattle.lincheck.specs.Prove.{ToldUnfound}
-use Rattle.lincheck.specs.declared.command_line.LibraryText.{LibraryText}
-use Rattle.lincheck.specs.declared.command_line.LibraryText.TheVariants.{Development, Certificate, Hints}
+use Rattle.lc_words.specs.declared.request.LibraryText.{LibraryText}
+use Rattle.lc_words.specs.declared.request.LibraryText.TheVariants.{Development, Certificate, Hints}
 
 -- the certificate that the object's hints make, which is accepted, and status 0; or, where they make none, a line that names a condition
 abbrev pub AnswersCertificateOf : Lib → List ℕ → ℕ → Type 0

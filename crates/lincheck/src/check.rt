@@ -5,7 +5,7 @@ ghost use Rattle.lc_reading.specs.Files.{IsAnswerTo};
 ghost use Rattle.lc_outline.specs.DevelopmentView.{development_shown};
 ghost use Rattle.lc_outline_text.specs.Developments.{file_reading};
 ghost use Rattle.lc_check.specs.VerdictView.{development_in};
-ghost use Rattle.lincheck.specs.CommandLine.{CheckCertificate};
+ghost use Rattle.lc_words.specs.Tasks.{CheckCertificate};
 ghost use Rattle.lincheck.specs.Check.{AnswersCertificate, AnswersCheck, OpensAs, TellsVerdict, accepted_line};
 ghost use Rattle.lincheck.specs.Execution.{IsUnread};
 

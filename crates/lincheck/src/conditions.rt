@@ -2,7 +2,7 @@
 ghost use Rattle.std.specs.Prelude.{◌≡◌, IsErr};
 ghost use Rattle.lc_cond_text.specs.ConditionText.{conditions_text};
 ghost use Rattle.lc_outline.specs.DevelopmentView.{development_shown};
-ghost use Rattle.lincheck.specs.CommandLine.{ListConditions};
+ghost use Rattle.lc_words.specs.Tasks.{ListConditions};
 ghost use Rattle.lincheck.specs.Execution.{AnswersTask};
 ghost use Rattle.lincheck.specs.Printing.{Leaves, PrintsText};
 

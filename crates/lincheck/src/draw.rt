@@ -1,7 +1,7 @@
 //! The command `draw`.
 ghost use Rattle.std.specs.Prelude.{◌≡◌, IfOk, IfSome, IsErr};
 ghost use Rattle.lc_seq.specs.TextView.{specification_of};
-ghost use Rattle.lincheck.specs.CommandLine.{DrawHistory};
+ghost use Rattle.lc_words.specs.Tasks.{DrawHistory};
 ghost use Rattle.lincheck.specs.Draw.{AnswersDraw, AnswersDrawn};
 ghost use Rattle.lincheck.specs.Execution.{IsUnread};
 

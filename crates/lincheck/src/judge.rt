@@ -4,7 +4,7 @@ ghost use Rattle.lc_sexp.specs.Pieces.{WasFed};
 ghost use Rattle.lc_reading.specs.Files.{IsAnswerTo};
 ghost use Rattle.lc_seq.specs.TextView.{specification_of};
 ghost use Rattle.lc_spec_text.specs.Specifications.{first_reading};
-ghost use Rattle.lincheck.specs.CommandLine.{JudgeHistory};
+ghost use Rattle.lc_words.specs.Tasks.{JudgeHistory};
 ghost use Rattle.lincheck.specs.Execution.{IsUnread};
 ghost use Rattle.lincheck.specs.Judge.{AnswersHistory, AnswersJudge, IsJudgement, ToldJudgement, judgement_of};
 

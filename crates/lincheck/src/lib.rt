@@ -3,7 +3,6 @@
 
 mod answer;
 mod check;
-mod command_line;
 mod conditions;
 mod disk;
 mod draw;

@@ -3,11 +3,11 @@ ghost use Rattle.std.specs.Prelude.{◌≡◌, IfOk};
 ghost use Rattle.lincheck.specs.Library.{AnswersCertificateOf, AnswersLibrary};
 
 use crate::answer::{Answer, SUCCESS};
-use crate::command_line::LibraryText;
 use crate::prove::told_unfound;
 use lc_base::OutOfMemory;
 use lc_lib::{FindFault, certificate};
 use lc_lib_texts::{Lib, development, hints};
+use lc_words::LibraryText;
 use std::alloc::{AllocError, Global};
 
 /// A text of the library, as it stands.

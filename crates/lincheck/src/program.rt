@@ -1,14 +1,14 @@
 //! What the program does with its command line.
 ghost use Rattle.std.specs.Prelude.{◌≡◌, ◌⊎◌, ℕ, List, true, IfSome, IsErr};
 ghost use Rattle.clap.specs.Words.{kind_of};
-ghost use Rattle.lincheck.specs.CommandLine.{AreWrong, AskForHelp, AsksForText, HasPlainPaths, Task, task_of, texts_of, words_for};
+ghost use Rattle.lc_words.specs.Reading.{AreWrong, AskForHelp, AsksForText};
+ghost use Rattle.lc_words.specs.Tasks.{HasPlainPaths, Task, task_of, texts_of, words_for};
 ghost use Rattle.lincheck.specs.Execution.{AnswersTask, Ends, IsUnread};
 ghost use Rattle.lincheck.specs.Printing.{Leaves};
 ghost use Rattle.lincheck.specs.Status.{status_of};
 
 use crate::answer::{COMMAND_LINE_FAULT, Failure, SUCCESS};
 use crate::check::answer_check;
-use crate::command_line::{Request, read_words};
 use crate::conditions::list_conditions;
 use crate::draw::answer_draw;
 use crate::files::Files;
@@ -20,6 +20,7 @@ use crate::prove::answer_prove;
 use crate::show::answer_show;
 use crate::telling::Telling;
 use clap::error::ErrorKind;
+use lc_words::{Request, read_words};
 use std::alloc::Global;
 use std::io;
 use std::io::Write;

@@ -7,7 +7,7 @@ ghost use Rattle.lc_cert.specs.Printed.{EntryReadsBack};
 ghost use Rattle.lc_hints.specs.Files.{IsAnswerTo};
 ghost use Rattle.lc_hints.specs.HintView.{proofs_in};
 ghost use Rattle.lc_outline.specs.DevelopmentView.{development_shown};
-ghost use Rattle.lincheck.specs.CommandLine.{ProveWithHints, path_in, proving};
+ghost use Rattle.lc_words.specs.Tasks.{ProveWithHints, path_in, proving};
 ghost use Rattle.lincheck.specs.Execution.{AnswersTask, IsUnread};
 ghost use Rattle.lincheck.specs.Prove.{AnswersFound, AnswersHinted, AnswersHints, AnswersProve, OpensHints, ToldFound};
 

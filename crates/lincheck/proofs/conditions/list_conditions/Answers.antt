@@ -4,7 +4,7 @@ use Rattle.lc_cond_text.specs.ConditionText.{conditions_text}
 use Rattle.lc_outline.specs.DevelopmentView.{development_shown}
 use Rattle.lc_outline.specs.declared.development.Development.{Development}
 use Rattle.lincheck.specs.Check.{OpensAs}
-use Rattle.lincheck.specs.CommandLine.{ListConditions}
+use Rattle.lc_words.specs.Tasks.{ListConditions}
 use Rattle.lincheck.specs.Execution.{AnswersTask}
 use Rattle.lincheck.specs.declared.answer.Answer.{Answer}
 use Rattle.lincheck.proofs.Endings.{leaves_broken, leaves_printed}

@@ -1,7 +1,7 @@
 use Rattle.std.proofs.Common.{sym, subst}
-use Rattle.lincheck.specs.CommandLine.{task_of}
+use Rattle.lc_words.specs.Tasks.{task_of}
 use Rattle.lincheck.specs.Execution.{AnswersTask}
-use Rattle.lincheck.specs.declared.command_line.Request.{Request}
+use Rattle.lc_words.specs.declared.request.Request.{Request}
 use Rattle.lincheck.specs.Printing.{Leaves}
 use Rattle.lincheck.proofs.Endings.{leaves_printed}
 use Rattle.lincheck.proofs.program.carry_out.Goals as goal

@@ -1,7 +1,7 @@
 use Rattle.std.proofs.Common.{◌≡◌, true, false, ap, refl, sym, subst}
 use Rattle.lincheck.proofs.Endings.{ends_unread, ends_ok, ends_failed, failed_status}
-use Rattle.lincheck.proofs.Words.{request_is}
-use Rattle.lincheck.specs.CommandLine.{Task, task_of, texts_of}
+use Rattle.lc_words.proofs.Faults.{request_is}
+use Rattle.lc_words.specs.Tasks.{Task, task_of, texts_of}
 use Rattle.lincheck.specs.Execution.{AnswersTask, IsUnread}
 use Rattle.lincheck.proofs.program.execute.Goals as goal
 

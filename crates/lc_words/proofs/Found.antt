@@ -1,0 +1,62 @@
+-- The task of a command, where clap finds its arguments.
+use Rattle.std.proofs.Common.{◌≡◌, ℕ, Bool, true, false, codes, List, Option, Some, None, ◌∙◌, ap, ap₂}
+use Rattle.std.specs.Prelude.{option_map, option_and_then}
+use Rattle.std.specs.Option.{option_map_or}
+use Rattle.std.specs.Str.{bytes_eq}
+use Rattle.clap.specs.Words.{Text, first_of, first_value, rows_of}
+use Rattle.clap.specs.declared.parser.matches.Found.{Found}
+use Rattle.clap.proofs.WalkLemmas.{first_value-rows}
+use Rattle.lc_lib_texts.specs.Names.{lib_named}
+use Rattle.lc_lib_texts.specs.declared.library.Lib.{Lib}
+use Rattle.lc_words.specs.Reading.{is_set, library_task, one_file_task, proving_task, text_for, two_file_task}
+use Rattle.lc_words.specs.Tasks.{PrintLibrary, Task, proving}
+use Rattle.lc_words.specs.declared.request.LibraryText.{LibraryText}
+
+-- the task of one path, and of two, where clap finds them
+pub one_found : (task : List ℕ → Task) (name : Text) (f : Found) (file : Option Text) → file ≡ first_value f name → option_map task file ≡ one_file_task task name (rows_of f)
+one_found task name f file is = ap (option_map task) (is ∙ first_value-rows f name)
+
+pub two_found : (task : List ℕ → List ℕ → Task) (name : Text) (f : Found) (development other : Option Text) → development ≡ first_value f (codes "DEV") → other ≡ first_value f name
+    → option_and_then (λ d. option_map (task d) other) development ≡ two_file_task task name (rows_of f)
+two_found task name f development other is is' =
+    ap₂ (λ x y. option_and_then (λ d. option_map (task d) y) x) (is ∙ first_value-rows f (codes "DEV")) (is' ∙ first_value-rows f name)
+
+-- without a development nothing is asked for
+pub two_unfound : (task : List ℕ → List ℕ → Task) (name : Text) (f : Found) → None ≡ first_value f (codes "DEV") → None ≡ two_file_task task name (rows_of f)
+two_unfound task name f is = ap (λ x. option_and_then (λ d. option_map (task d) (first_of name (rows_of f))) x) (is ∙ first_value-rows f (codes "DEV"))
+
+-- the same of a development that is to be proved, with hints or without
+pub proving_found : (f : Found) (development : Text) (hints : Option Text) → Some development ≡ first_value f (codes "DEV") → hints ≡ first_value f (codes "hints")
+    → Some (proving development hints) ≡ proving_task (rows_of f)
+proving_found f development hints is is' =
+    ap₂ (λ x y. option_map (λ d. proving d y) x) (is ∙ first_value-rows f (codes "DEV")) (is' ∙ first_value-rows f (codes "hints"))
+
+pub proving_unfound : (f : Found) → None ≡ first_value f (codes "DEV") → None ≡ proving_task (rows_of f)
+proving_unfound f is = ap (option_map (λ d. proving d (first_of (codes "hints") (rows_of f)))) (is ∙ first_value-rows f (codes "DEV"))
+
+-- a flag is set where its value is `true`
+pub flag_found : (f : Found) (name : Text) (value : Option Text) → value ≡ first_value f name → option_map_or (λ v. bytes_eq v (codes "true")) value false ≡ is_set name (rows_of f)
+flag_found f name value is = ap (λ x. option_map_or (λ v. bytes_eq v (codes "true")) x false) (is ∙ first_value-rows f name)
+
+-- the task of printing a text of the object, if the flags ask for one
+asked_of : Found → Lib → Option Task
+asked_of f lib = option_map (PrintLibrary lib) (text_for (is_set (codes "certificate") (rows_of f)) (is_set (codes "hints") (rows_of f)))
+
+-- without a name, and with a name of no object, nothing is asked for
+pub library_unfound : (f : Found) → None ≡ first_value f (codes "NAME") → None ≡ library_task (rows_of f)
+unfolding asked_of
+library_unfound f is = ap (λ x. option_and_then (asked_of f) (option_and_then lib_named x)) (is ∙ first_value-rows f (codes "NAME"))
+
+pub library_unnamed : (f : Found) (name : Text) → Some name ≡ first_value f (codes "NAME") → None ≡ lib_named name → None ≡ library_task (rows_of f)
+unfolding asked_of
+library_unnamed f name is none =
+    ap (option_and_then (asked_of f)) none ∙ ap (λ x. option_and_then (asked_of f) (option_and_then lib_named x)) (is ∙ first_value-rows f (codes "NAME"))
+
+-- else the text is that of the flags
+pub library_found : (f : Found) (name : Text) (lib : Lib) (certificate hints : Bool) (text : Option LibraryText) → Some name ≡ first_value f (codes "NAME") → Some lib ≡ lib_named name
+    → certificate ≡ is_set (codes "certificate") (rows_of f) → hints ≡ is_set (codes "hints") (rows_of f) → text ≡ text_for certificate hints
+    → option_map (PrintLibrary lib) text ≡ library_task (rows_of f)
+unfolding asked_of
+library_found f name lib certificate hints text is named c h asked =
+    ap (option_map (PrintLibrary lib)) (asked ∙ ap₂ text_for c h) ∙ ap (option_and_then (asked_of f)) named
+    ∙ ap (λ x. option_and_then (asked_of f) (option_and_then lib_named x)) (is ∙ first_value-rows f (codes "NAME"))

@@ -1,0 +1,4 @@
+mod Walks
+pub mod Plain
+pub mod Faults
+mod Found

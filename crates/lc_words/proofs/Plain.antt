@@ -1,0 +1,83 @@
+-- The words of each task are read as that task, and nothing is wrong in them.
+use Rattle.std.proofs.Common.{◌≡◌, ℕ, true, codes, List, [], ◌∷◌, Some, refl, ◌∙◌, ap}
+use Rattle.std.specs.Prelude.{option_and_then}
+use Rattle.clap.specs.Words.{Text, built, is_simple, is_simple_and_free, subcommand_of, takes}
+use Rattle.clap.specs.Simple.{names_of}
+use Rattle.clap.specs.Walk.{idle, subcommand_met}
+use Rattle.clap.proofs.OnLiterals.{clap_on_literals}
+use Rattle.lc_lib_texts.proofs.Named.{named_back}
+use Rattle.lc_lib_texts.specs.Names.{name_of}
+use Rattle.lc_lib_texts.specs.declared.library.Lib.{Lib}
+use Rattle.lc_lib_texts.specs.declared.library.Lib.TheVariants.{Counter, Stack, Lock, Snapshot, Combining, Rendezvous, Queue, PoolStack}
+use Rattle.lc_words.specs.Commands.{program_app}
+use Rattle.lc_words.specs.Reading.{task_in}
+use Rattle.lc_words.specs.Tasks.{HasPlainPaths, Task, CheckFormula, JudgeHistory, ShowDevelopment, ListConditions, CheckCertificate, ProveDevelopment, ProveWithHints, DrawHistory, PrintLibrary, is_plain, words_for}
+use Rattle.lc_words.specs.declared.request.LibraryText.TheVariants.{Development, Certificate, Hints}
+use Rattle.lc_words.proofs.Walks.{Piece, built_over, command_is_read, command_is_taken, command_over, known, plain, words_of}
+
+pub program_is_simple : is_simple program_app ≡ true
+unfolding clap_on_literals
+program_is_simple = refl
+
+pub program_is_free : is_simple_and_free program_app ≡ true
+unfolding clap_on_literals
+program_is_free = refl
+
+-- the name of an object begins with no hyphen
+names_are_plain : (lib : Lib) → is_plain (name_of lib) ≡ true
+names_are_plain Counter = refl
+names_are_plain Stack = refl
+names_are_plain Lock = refl
+names_are_plain Snapshot = refl
+names_are_plain Combining = refl
+names_are_plain Rendezvous = refl
+names_are_plain Queue = refl
+names_are_plain PoolStack = refl
+
+-- clap reads these words of a command as these pieces
+is_read : (name word : Text) (ps : List Piece) → subcommand_met (names_of (built program_app)) idle word ≡ Some word
+    → task_in (subcommand_of program_app (name ∷ word ∷ words_of ps)) ≡ task_in (command_over (built program_app) word ps)
+is_read name word ps is = ap task_in (command_is_read program_app name word word ps refl is)
+
+is_taken : (name word : Text) (ps : List Piece) → subcommand_met (names_of (built program_app)) idle word ≡ Some word
+    → takes program_app (name ∷ word ∷ words_of ps) ≡ built_over (built program_app) word ps
+is_taken name word ps is = command_is_taken program_app name word word ps program_is_simple refl is
+
+-- the paths are those that are given
+pub task_is_read : (name : List ℕ) (task : Task) → HasPlainPaths task → task_in (subcommand_of program_app (words_for name task)) ≡ Some task
+unfolding clap_on_literals
+task_is_read name (CheckFormula path) is = is_read name (codes "formula") (plain path is ∷ []) refl
+task_is_read name (JudgeHistory development history) is = is_read name (codes "judge") (plain development is.0 ∷ plain history is.1 ∷ []) refl
+task_is_read name (ShowDevelopment development) is = is_read name (codes "show") (plain development is ∷ []) refl
+task_is_read name (ListConditions development) is = is_read name (codes "conditions") (plain development is ∷ []) refl
+task_is_read name (CheckCertificate development certificate) is = is_read name (codes "check") (plain development is.0 ∷ plain certificate is.1 ∷ []) refl
+task_is_read name (ProveDevelopment development) is = is_read name (codes "prove") (plain development is ∷ []) refl
+task_is_read name (ProveWithHints development hints) is =
+    is_read name (codes "prove") (plain development is.0 ∷ known (codes "--hints") ∷ plain hints is.1 ∷ []) refl
+task_is_read name (DrawHistory development history) is = is_read name (codes "draw") (plain development is.0 ∷ plain history is.1 ∷ []) refl
+task_is_read name (PrintLibrary lib Development) is =
+    is_read name (codes "library") (plain (name_of lib) (names_are_plain lib) ∷ []) refl
+    ∙ ap (option_and_then (λ l. Some (PrintLibrary l Development))) (named_back lib)
+task_is_read name (PrintLibrary lib Certificate) is =
+    is_read name (codes "library") (plain (name_of lib) (names_are_plain lib) ∷ known (codes "--certificate") ∷ []) refl
+    ∙ ap (option_and_then (λ l. Some (PrintLibrary l Certificate))) (named_back lib)
+task_is_read name (PrintLibrary lib Hints) is =
+    is_read name (codes "library") (plain (name_of lib) (names_are_plain lib) ∷ known (codes "--hints") ∷ []) refl
+    ∙ ap (option_and_then (λ l. Some (PrintLibrary l Hints))) (named_back lib)
+
+-- nothing is wrong in the words
+pub words_are_taken : (name : List ℕ) (task : Task) → HasPlainPaths task → takes program_app (words_for name task) ≡ true
+unfolding clap_on_literals
+words_are_taken name (CheckFormula path) is = is_taken name (codes "formula") (plain path is ∷ []) refl
+words_are_taken name (JudgeHistory development history) is = is_taken name (codes "judge") (plain development is.0 ∷ plain history is.1 ∷ []) refl
+words_are_taken name (ShowDevelopment development) is = is_taken name (codes "show") (plain development is ∷ []) refl
+words_are_taken name (ListConditions development) is = is_taken name (codes "conditions") (plain development is ∷ []) refl
+words_are_taken name (CheckCertificate development certificate) is = is_taken name (codes "check") (plain development is.0 ∷ plain certificate is.1 ∷ []) refl
+words_are_taken name (ProveDevelopment development) is = is_taken name (codes "prove") (plain development is ∷ []) refl
+words_are_taken name (ProveWithHints development hints) is =
+    is_taken name (codes "prove") (plain development is.0 ∷ known (codes "--hints") ∷ plain hints is.1 ∷ []) refl
+words_are_taken name (DrawHistory development history) is = is_taken name (codes "draw") (plain development is.0 ∷ plain history is.1 ∷ []) refl
+words_are_taken name (PrintLibrary lib Development) is = is_taken name (codes "library") (plain (name_of lib) (names_are_plain lib) ∷ []) refl
+words_are_taken name (PrintLibrary lib Certificate) is =
+    is_taken name (codes "library") (plain (name_of lib) (names_are_plain lib) ∷ known (codes "--certificate") ∷ []) refl
+words_are_taken name (PrintLibrary lib Hints) is = is_taken name (codes "library") (plain (name_of lib) (names_are_plain lib) ∷ known (codes "--hints") ∷ []) refl

@@ -1,0 +1,89 @@
+-- What is read in words, in the terms in which clap's calls state it.
+use Rattle.std.specs.Prelude.{◌≡◌, ◌⊎◌, ℕ, Bool, true, false, if◌then◌else◌, codes, List, [], Option, Some, None, option_and_then, option_map}
+use Rattle.std.specs.Option.{option_map_or}
+use Rattle.std.specs.Str.{bytes_eq}
+use Rattle.clap.specs.Words.{IsAmong, Row, Text, fault_of, first_of, subcommand_of}
+use Rattle.clap.specs.declared.error.kind.ErrorKind.{ErrorKind}
+use Rattle.clap.specs.declared.error.kind.ErrorKind.TheVariants.{DisplayHelp, DisplayVersion}
+use Rattle.lc_lib_texts.specs.Names.{lib_named}
+use Rattle.lc_words.specs.Commands.{program_app}
+use Rattle.lc_words.specs.Tasks.{CheckCertificate, CheckFormula, DrawHistory, JudgeHistory, ListConditions, PrintLibrary, ShowDevelopment, Task, proving, task_of}
+use Rattle.lc_words.specs.declared.request.LibraryText.{LibraryText}
+use Rattle.lc_words.specs.declared.request.LibraryText.TheVariants.{Development, Certificate, Hints}
+use Rattle.lc_words.specs.declared.request.Request.{Request}
+
+-- the task with the file that these arguments name so
+abbrev pub one_file_task : (List ℕ → Task) → Text → List Row → Option Task
+one_file_task task name rows = option_map task (first_of name rows)
+
+-- the task with a development and the file that these arguments name so
+abbrev pub two_file_task : (List ℕ → List ℕ → Task) → Text → List Row → Option Task
+two_file_task task name rows = option_and_then (λ development. option_map (task development) (first_of name rows)) (first_of (codes "DEV") rows)
+
+-- the task of proving the development with the hints that these arguments name
+abbrev pub proving_task : List Row → Option Task
+proving_task rows = option_map (λ development. proving development (first_of (codes "hints") rows)) (first_of (codes "DEV") rows)
+
+-- the flag is set: its value is `true`
+abbrev pub is_set : Text → List Row → Bool
+is_set name rows = option_map_or (λ value. bytes_eq value (codes "true")) (first_of name rows) false
+
+-- the text that the two flags ask for, which exclude each other
+abbrev pub text_for : (certificate hints : Bool) → Option LibraryText
+text_for false false = Some Development
+text_for true false = Some Certificate
+text_for false true = Some Hints
+text_for true true = None
+
+-- the task of printing the text that these arguments ask for, of the object that they name
+abbrev pub library_task : List Row → Option Task
+library_task rows =
+    option_and_then (λ lib. option_map (PrintLibrary lib) (text_for (is_set (codes "certificate") rows) (is_set (codes "hints") rows)))
+    (option_and_then lib_named (first_of (codes "NAME") rows))
+
+-- the task of a command with its arguments
+abbrev pub task_in_command : Text × List Row → Option Task
+task_in_command c =
+    if bytes_eq c.0 (codes "formula")
+    then one_file_task CheckFormula (codes "FILE") c.1
+    else (if bytes_eq c.0 (codes "judge")
+    then two_file_task JudgeHistory (codes "HISTORY") c.1
+    else (if bytes_eq c.0 (codes "show")
+    then one_file_task ShowDevelopment (codes "DEV") c.1
+    else (if bytes_eq c.0 (codes "conditions")
+    then one_file_task ListConditions (codes "DEV") c.1
+    else (if bytes_eq c.0 (codes "check")
+    then two_file_task CheckCertificate (codes "CERT") c.1
+    else (if bytes_eq c.0 (codes "prove")
+    then proving_task c.1
+    else (if bytes_eq c.0 (codes "library")
+    then library_task c.1
+    else (if bytes_eq c.0 (codes "draw") then two_file_task DrawHistory (codes "HISTORY") c.1 else None)))))))
+
+-- the task of a command with its arguments, if there is one
+abbrev pub task_in : Option (Text × List Row) → Option Task
+task_in command = option_and_then task_in_command command
+
+-- the request is what clap reads in the words
+abbrev pub Reads : List Text → Request → Type 0
+Reads words request = task_in (subcommand_of program_app words) ≡ Some (task_of request)
+
+-- the error asks for a text to be shown, and tells no fault
+abbrev pub AsksForText : ErrorKind → Type 0
+AsksForText kind = (kind ≡ DisplayHelp) ⊎ (kind ≡ DisplayVersion)
+
+-- clap finds a fault in the words, and they ask for no help
+abbrev pub AreFaulty : List Text → Type 0
+AreFaulty words = (fault_of program_app words ≡ [] → ⊥) × ((kind : ErrorKind) → IsAmong kind (fault_of program_app words) → AsksForText kind → ⊥)
+
+-- clap finds no fault in the words, and they are no task: the object is none of the library's, or the flags exclude each other
+abbrev pub AreNoTask : List Text → Type 0
+AreNoTask words = (fault_of program_app words ≡ []) × (task_in (subcommand_of program_app words) ≡ None)
+
+-- the words are wrong
+abbrev pub AreWrong : List Text → Type 0
+AreWrong words = AreFaulty words ⊎ AreNoTask words
+
+-- the words ask for a text to be shown, and clap finds no other fault in them
+abbrev pub AskForHelp : List Text → Type 0
+AskForHelp words = (fault_of program_app words ≡ [] → ⊥) × ((kind : ErrorKind) → IsAmong kind (fault_of program_app words) → AsksForText kind)

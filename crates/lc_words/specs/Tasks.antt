@@ -1,0 +1,86 @@
+-- What may be asked for, and the words that ask for it.
+use Rattle.std.specs.Prelude.{◌≡◌, ℕ, ◌==◌, map, string_bytes, String, Bool, true, not, codes, List, [], ◌∷◌, Option, Some, None, option_map}
+use Rattle.std.specs.Borrow.{Bor}
+use Rattle.std.specs.declared.alloc.Global.{Global}
+use Rattle.clap.specs.Words.{Text}
+use Rattle.lc_lib_texts.specs.Names.{name_of}
+use Rattle.lc_lib_texts.specs.declared.library.Lib.{Lib}
+use Rattle.lc_words.specs.declared.request.LibraryText.{LibraryText}
+use Rattle.lc_words.specs.declared.request.LibraryText.TheVariants.{Development, Certificate, Hints}
+use Rattle.lc_words.specs.declared.request.Request.{Request}
+use Rattle.lc_words.specs.declared.request.Request.TheVariants.{Formula, Judge, Show, Conditions, Check, Prove, Draw, Library}
+
+-- What may be asked for: that the proof in the file at a path is checked; that the history in one file is judged by the
+-- specification in another; that the development in a file is shown, or its conditions are listed; that the certificate in
+-- one file is checked against the development in another; that a certificate is found of the development in a file, without
+-- hints or with those in another; that the history in one file is drawn by the specification in another; or that a text of an
+-- object of the library is printed
+pub data Task : Type 0 where
+  CheckFormula : (path : List ℕ) → Task
+  JudgeHistory : (development history : List ℕ) → Task
+  ShowDevelopment : (development : List ℕ) → Task
+  ListConditions : (development : List ℕ) → Task
+  CheckCertificate : (development certificate : List ℕ) → Task
+  ProveDevelopment : (development : List ℕ) → Task
+  ProveWithHints : (development hints : List ℕ) → Task
+  DrawHistory : (development history : List ℕ) → Task
+  PrintLibrary : (lib : Lib) (text : LibraryText) → Task
+
+-- the task of proving a development, with hints if there is a path of such
+abbrev pub proving : List ℕ → Option (List ℕ) → Task
+proving development None = ProveDevelopment development
+proving development (Some hints) = ProveWithHints development hints
+
+-- the path that is given, if one is
+abbrev pub path_in : Option (Bor (List ℕ)) → Option (List ℕ)
+path_in path = option_map (λ p. p.now) path
+
+-- the task of a request
+abbrev pub task_of : Request → Task
+task_of (Formula path) = CheckFormula path.now
+task_of (Judge development history) = JudgeHistory development.now history.now
+task_of (Show development) = ShowDevelopment development.now
+task_of (Conditions development) = ListConditions development.now
+task_of (Check development certificate) = CheckCertificate development.now certificate.now
+task_of (Prove development hints progress) = proving development.now (path_in hints)
+task_of (Draw development history) = DrawHistory development.now history.now
+task_of (Library lib text) = PrintLibrary lib text
+
+-- the texts of the words
+abbrev pub texts_of : List (String Global) → List Text
+texts_of words = map string_bytes words
+
+-- the path does not begin with a hyphen, so it is no option
+abbrev pub is_plain : List ℕ → Bool
+is_plain [] = true
+is_plain (b ∷ path) = not (b == 45)
+
+-- `NAME library OBJECT`, with the flag for the text
+abbrev pub library_words : List ℕ → List ℕ → LibraryText → List Text
+library_words name object Development = name ∷ codes "library" ∷ object ∷ []
+library_words name object Certificate = name ∷ codes "library" ∷ object ∷ codes "--certificate" ∷ []
+library_words name object Hints = name ∷ codes "library" ∷ object ∷ codes "--hints" ∷ []
+
+-- the words that ask for a task, behind the name of the program
+abbrev pub words_for : List ℕ → Task → List Text
+words_for name (CheckFormula path) = name ∷ codes "formula" ∷ path ∷ []
+words_for name (JudgeHistory development history) = name ∷ codes "judge" ∷ development ∷ history ∷ []
+words_for name (ShowDevelopment development) = name ∷ codes "show" ∷ development ∷ []
+words_for name (ListConditions development) = name ∷ codes "conditions" ∷ development ∷ []
+words_for name (CheckCertificate development certificate) = name ∷ codes "check" ∷ development ∷ certificate ∷ []
+words_for name (ProveDevelopment development) = name ∷ codes "prove" ∷ development ∷ []
+words_for name (ProveWithHints development hints) = name ∷ codes "prove" ∷ development ∷ codes "--hints" ∷ hints ∷ []
+words_for name (DrawHistory development history) = name ∷ codes "draw" ∷ development ∷ history ∷ []
+words_for name (PrintLibrary lib text) = library_words name (name_of lib) text
+
+-- none of its paths begins with a hyphen
+abbrev pub HasPlainPaths : Task → Type 0
+HasPlainPaths (CheckFormula path) = is_plain path ≡ true
+HasPlainPaths (JudgeHistory development history) = (is_plain development ≡ true) × (is_plain history ≡ true)
+HasPlainPaths (ShowDevelopment development) = is_plain development ≡ true
+HasPlainPaths (ListConditions development) = is_plain development ≡ true
+HasPlainPaths (CheckCertificate development certificate) = (is_plain development ≡ true) × (is_plain certificate ≡ true)
+HasPlainPaths (ProveDevelopment development) = is_plain development ≡ true
+HasPlainPaths (ProveWithHints development hints) = (is_plain development ≡ true) × (is_plain hints ≡ true)
+HasPlainPaths (DrawHistory development history) = (is_plain development ≡ true) × (is_plain history ≡ true)
+HasPlainPaths (PrintLibrary lib text) = Unit {0}

@@ -1,0 +1,185 @@
+//! The commands with their arguments, as `clap` takes them.
+ghost use Rattle.std.specs.Prelude.{◌≡◌, false, IfOk};
+ghost use Rattle.clap.specs.Words.{app_of, rule_of};
+ghost use Rattle.clap.specs.declared.builder.command.Command.TheViews.{out-Command};
+ghost use Rattle.lc_words.specs.Commands.{check_app, conditions_app, draw_app, file_rule, first_app, flag_rule, formula_app, further_app, judge_app, library_app, object_rule, option_rule, program_app, prove_app, proving_app, show_app};
+
+use crate::texts::{
+    ABOUT, CERTIFICATE_FILE, CHECK, CHECK_ANSWER, CONDITIONS, CONDITIONS_ANSWER, DEVELOPMENT, DRAW,
+    DRAW_ANSWER, EXIT_STATUS, FORMULA, FORMULA_ANSWER, FORMULA_FILE, HINTS, JUDGE, JUDGE_ANSWER,
+    JUDGE_DEVELOPMENT, JUDGE_HISTORY, LIBRARY, LIBRARY_ANSWER, LIBRARY_CERTIFICATE, LIBRARY_HINTS,
+    OBJECT, PROGRESS, PROVE, PROVE_ANSWER, SHOW, SHOW_ANSWER, VERSION,
+};
+use clap::{Arg, ArgAction, Command};
+use std::alloc::{AllocError, Global};
+
+/// An argument that names a file.
+fn file<'a>(alloc: Global, name: &'a str, help: &'a str) -> Arg<'a>
+    ensures rule { rule_of result ≡ file_rule name.entry.now }
+    ensures local { result.global ≡ false }
+{
+    Arg::new(alloc, name)
+        .required(true)
+        .action(ArgAction::Set)
+        .help(help)
+}
+
+fn formula_command<'a>(alloc: Global) -> Result<Command<'a>, AllocError>
+    ensures app { IfOk result (λ command. app_of command ≡ formula_app) }
+    ensures local { IfOk result (λ command. (out-Command command).has_globals ≡ false) }
+{
+    Command::new(alloc, "formula")
+        .about(FORMULA)
+        .after_help(FORMULA_ANSWER)
+        .arg(file(alloc, "FILE", FORMULA_FILE))
+}
+
+fn judge_command<'a>(alloc: Global) -> Result<Command<'a>, AllocError>
+    ensures app { IfOk result (λ command. app_of command ≡ judge_app) }
+    ensures local { IfOk result (λ command. (out-Command command).has_globals ≡ false) }
+{
+    Command::new(alloc, "judge")
+        .about(JUDGE)
+        .after_help(JUDGE_ANSWER)
+        .arg(file(alloc, "DEV", JUDGE_DEVELOPMENT))?
+        .arg(file(alloc, "HISTORY", JUDGE_HISTORY))
+}
+
+fn draw_command<'a>(alloc: Global) -> Result<Command<'a>, AllocError>
+    ensures app { IfOk result (λ command. app_of command ≡ draw_app) }
+    ensures local { IfOk result (λ command. (out-Command command).has_globals ≡ false) }
+{
+    Command::new(alloc, "draw")
+        .about(DRAW)
+        .after_help(DRAW_ANSWER)
+        .arg(file(alloc, "DEV", JUDGE_DEVELOPMENT))?
+        .arg(file(alloc, "HISTORY", JUDGE_HISTORY))
+}
+
+fn show_command<'a>(alloc: Global) -> Result<Command<'a>, AllocError>
+    ensures app { IfOk result (λ command. app_of command ≡ show_app) }
+    ensures local { IfOk result (λ command. (out-Command command).has_globals ≡ false) }
+{
+    Command::new(alloc, "show")
+        .about(SHOW)
+        .after_help(SHOW_ANSWER)
+        .arg(file(alloc, "DEV", DEVELOPMENT))
+}
+
+fn conditions_command<'a>(alloc: Global) -> Result<Command<'a>, AllocError>
+    ensures app { IfOk result (λ command. app_of command ≡ conditions_app) }
+    ensures local { IfOk result (λ command. (out-Command command).has_globals ≡ false) }
+{
+    Command::new(alloc, "conditions")
+        .about(CONDITIONS)
+        .after_help(CONDITIONS_ANSWER)
+        .arg(file(alloc, "DEV", DEVELOPMENT))
+}
+
+fn check_command<'a>(alloc: Global) -> Result<Command<'a>, AllocError>
+    ensures app { IfOk result (λ command. app_of command ≡ check_app) }
+    ensures local { IfOk result (λ command. (out-Command command).has_globals ≡ false) }
+{
+    Command::new(alloc, "check")
+        .about(CHECK)
+        .after_help(CHECK_ANSWER)
+        .arg(file(alloc, "DEV", DEVELOPMENT))?
+        .arg(file(alloc, "CERT", CERTIFICATE_FILE))
+}
+
+/// An option that names a file.
+fn file_option<'a>(alloc: Global, name: &'a str, help: &'a str) -> Arg<'a>
+    ensures rule { rule_of result ≡ option_rule name.entry.now }
+    ensures local { result.global ≡ false }
+{
+    Arg::new(alloc, name)
+        .long(name)
+        .value_name("FILE")
+        .action(ArgAction::Set)
+        .help(help)
+}
+
+fn prove_command<'a>(alloc: Global) -> Result<Command<'a>, AllocError>
+    ensures app { IfOk result (λ command. app_of command ≡ prove_app) }
+    ensures local { IfOk result (λ command. (out-Command command).has_globals ≡ false) }
+{
+    Command::new(alloc, "prove")
+        .about(PROVE)
+        .after_help(PROVE_ANSWER)
+        .arg(file(alloc, "DEV", DEVELOPMENT))?
+        .arg(file_option(alloc, "hints", HINTS))?
+        .arg(flag(alloc, "progress", PROGRESS))
+}
+
+/// An argument that names an object of the library.
+fn object<'a>(alloc: Global, name: &'a str, help: &'a str) -> Arg<'a>
+    ensures rule { rule_of result ≡ object_rule name.entry.now }
+    ensures local { result.global ≡ false }
+{
+    Arg::new(alloc, name)
+        .required(true)
+        .action(ArgAction::Set)
+        .help(help)
+}
+
+/// An option without a value.
+fn flag<'a>(alloc: Global, name: &'a str, help: &'a str) -> Arg<'a>
+    ensures rule { rule_of result ≡ flag_rule name.entry.now }
+    ensures local { result.global ≡ false }
+{
+    Arg::new(alloc, name)
+        .long(name)
+        .action(ArgAction::SetTrue)
+        .help(help)
+}
+
+fn library_command<'a>(alloc: Global) -> Result<Command<'a>, AllocError>
+    ensures app { IfOk result (λ command. app_of command ≡ library_app) }
+    ensures local { IfOk result (λ command. (out-Command command).has_globals ≡ false) }
+{
+    Command::new(alloc, "library")
+        .about(LIBRARY)
+        .after_help(LIBRARY_ANSWER)
+        .arg(object(alloc, "NAME", OBJECT))?
+        .arg(flag(alloc, "certificate", LIBRARY_CERTIFICATE))?
+        .arg(flag(alloc, "hints", LIBRARY_HINTS))
+}
+
+/// The program with its first two commands.
+fn first_commands<'a>(alloc: Global) -> Result<Command<'a>, AllocError>
+    ensures { IfOk result (λ command. app_of command ≡ first_app) }
+{
+    Command::new(alloc, "lincheck")
+        .version(VERSION)
+        .about(ABOUT)
+        .after_help(EXIT_STATUS)
+        .subcommand_required(true)
+        .subcommand(formula_command(alloc)?)?
+        .subcommand(judge_command(alloc)?)
+}
+
+/// The program with its first four commands.
+fn further_commands<'a>(alloc: Global) -> Result<Command<'a>, AllocError>
+    ensures { IfOk result (λ command. app_of command ≡ further_app) }
+{
+    first_commands(alloc)?
+        .subcommand(show_command(alloc)?)?
+        .subcommand(conditions_command(alloc)?)
+}
+
+/// The program with its first six commands.
+fn proving_commands<'a>(alloc: Global) -> Result<Command<'a>, AllocError>
+    ensures { IfOk result (λ command. app_of command ≡ proving_app) }
+{
+    further_commands(alloc)?
+        .subcommand(check_command(alloc)?)?
+        .subcommand(prove_command(alloc)?)
+}
+
+pub(crate) fn program<'a>(alloc: Global) -> Result<Command<'a>, AllocError>
+    ensures { IfOk result (λ command. app_of command ≡ program_app) }
+{
+    proving_commands(alloc)?
+        .subcommand(library_command(alloc)?)?
+        .subcommand(draw_command(alloc)?)
+}

@@ -1,0 +1,10 @@
+//! The words of the command line: which commands there are, and what is asked for by words.
+#![tactic(auto)]
+
+mod commands;
+mod reading;
+mod request;
+mod texts;
+
+pub use reading::read_words;
+pub use request::{LibraryText, Request};

@@ -1,0 +1,182 @@
+//! What each command says of itself when it is asked for help.
+
+pub(crate) static VERSION: &str = "0.1.0";
+
+pub(crate) static ABOUT: &str = "Checks written proofs that concurrent objects are linearizable";
+
+pub(crate) static EXIT_STATUS: &str = "\
+A file that is not accepted is answered by one line on standard output: `refused`, a code, and numbers.
+
+Exit status:
+  0  accepted, or what was asked for is printed
+  1  refused
+  2  the command line is wrong, and nothing was read
+  3  a file cannot be read, or the answer cannot be written
+  4  out of memory
+
+Examples:
+  lincheck formula examples/first.formula
+      reads a statement with its proof, and prints `proved`
+  lincheck judge examples/counter.spec examples/linearizable.json
+      reads how two clients counted at the same time, and prints `linearizable`
+  lincheck check examples/counter.lc examples/counter.cert
+      reads what is claimed of a counter, with the proofs, and prints `accepted counter 59`
+  lincheck prove examples/counter.lc
+      reads what is claimed of a counter, and prints proofs of it
+  lincheck library queue
+      prints a queue, with all that is claimed of it";
+
+pub(crate) static FORMULA: &str = "Checks the proof of one formula";
+
+pub(crate) static FORMULA_FILE: &str =
+    "A formula file: one form with the parts vars, cols, hyps, goal and proof";
+
+pub(crate) static FORMULA_ANSWER: &str = "\
+Reads FILE, which states that a goal follows from hypotheses, and gives a proof of it. Prints `proved` if each
+step of the proof holds. Else it prints one line:
+  refused 1 OFFSET     the byte there makes the text no s-expressions
+  refused 2 ITEM       the item does not fit the grammar
+  refused 3 ITEM       the name is not declared
+  refused 4 ITEM       the name is declared twice, or reserved
+  refused 6 ITEM       a number or a count is beyond a limit
+  refused 11 0 STEP R  the step of the proof does not hold, for reason R
+  refused 12 0 STEP    the arithmetic of the step leaves 128 bits
+Bytes, items and steps are counted from 0, items and steps each before what stands in it.
+
+Example:
+  lincheck formula examples/first.formula
+      reads that x = y follows from x <= y and y <= x, and prints `proved`";
+
+pub(crate) static JUDGE: &str = "Judges whether an order linearizes a history";
+
+pub(crate) static JUDGE_DEVELOPMENT: &str =
+    "A file that begins with a specification; what stands behind it is not looked at";
+
+pub(crate) static JUDGE_HISTORY: &str =
+    "A JSON file: an object with the arrays `events` and `order`";
+
+pub(crate) static JUDGE_ANSWER: &str = "\
+Reads the specification of an object in DEV, and in HISTORY the calls and returns of its clients, with an order of the
+calls. Prints `linearizable` if the clients can have seen the object do the calls one after the other, in that order.
+Else it prints one line:
+  refused 1 OFFSET         the byte there makes DEV no s-expressions
+  refused 2 ITEM           the item of DEV does not fit the grammar
+  refused 3 ITEM           the name is not declared
+  refused 4 ITEM           the name is declared twice, or reserved
+  refused 6 ITEM           a number or a count is beyond a limit
+  refused 13 ITEM          the item of HISTORY is not of the form: 0 is the whole, then come the events, then the order
+  refused 14 PLACE REASON  the entry there, counted from 0, is out of order:
+       1 it is not its client's call of this number, 2 the call returned another reply,
+       3 behind the last place: a call that returned is missing,
+       4 the object does not give this reply here, or not by the choice that the entry names,
+       5 the call of a later entry returned before this one began
+  overflow                 a number that the specification reaches leaves 64 bits
+
+Example:
+  lincheck judge examples/counter.spec examples/linearizable.json
+      reads how two clients counted at the same time, and prints `linearizable`";
+
+pub(crate) static DRAW: &str = "Draws a history with its order";
+
+pub(crate) static DRAW_ANSWER: &str = "\
+Reads DEV and HISTORY as `judge` does, and prints a picture as SVG: a line for each client, a bar for each call from its beginning
+to its return, open at the right where it has not returned, and in the bars the entries of the order as marks with their places.
+What makes the order no linearization stands out, and the reason stands below. A file that `judge` refuses by the codes 1 to 4,
+6 or 13 is refused so.
+
+Example:
+  lincheck draw examples/counter.spec examples/linearizable.json > history.svg
+      prints a picture of two clients that counted at the same time";
+
+pub(crate) static DEVELOPMENT: &str =
+    "A development: a specification, the object's code, and what is claimed of it";
+
+pub(crate) static SHOW: &str = "Prints a development as it was read";
+
+pub(crate) static SHOW_ANSWER: &str = "\
+Reads DEV and prints it on two lines, the specification and the object, without comments, with one space between items; the
+names that quantifiers bind are b0, b1, and so on, counted from the outermost. A DEV that is no development is refused as by
+`check`.
+
+Example:
+  lincheck show examples/counter.lc
+      prints the counter's specification and its object";
+
+pub(crate) static CONDITIONS: &str = "Prints what has to be proved of a development";
+
+pub(crate) static CONDITIONS_ANSWER: &str = "\
+Reads DEV and prints a line for each of its conditions, and then `total` with their number:
+  (condition K KIND POINT EDGE PATH NUM (vars V) (hyps F ..) (goal F))
+Where the goal of each follows from its hypotheses, in every state and for all numbers of its variables, the object is
+linearizable. Lines are printed as they are made. A DEV that is no development is refused as by `check`.
+
+Example:
+  lincheck conditions examples/counter.lc
+      prints 59 conditions, and `total 59`";
+
+pub(crate) static CHECK: &str = "Checks that a certificate proves a development";
+
+pub(crate) static CERTIFICATE_FILE: &str =
+    "A certificate: one form with a proof for each condition, by its number";
+
+pub(crate) static CHECK_ANSWER: &str = "\
+Reads DEV and, where it is a development, CERT. Prints `accepted NAME COUNT`, the name of the object and how many
+conditions it has, if CERT has a proof for each of them and each step holds. Then for every number of clients, however
+their steps come between each other, the history of their calls and returns is linearizable. Else it prints one line:
+  refused 1 OFFSET      the byte there makes DEV no s-expressions
+  refused 2 ITEM        the item of DEV does not fit the grammar
+  refused 3 ITEM        the name is not declared
+  refused 4 ITEM        the name is declared twice, or reserved
+  refused 5 ITEM        the code reads a column that is not its own
+  refused 6 ITEM        a number or a count is beyond a limit
+  refused 7 OFFSET      the byte there makes CERT no s-expressions
+  refused 8 ITEM        the item of CERT does not fit
+  refused 9 K           condition K has no proof
+  refused 10 K          there is no condition K
+  refused 11 K STEP R   the step of the proof of condition K does not hold, for reason R
+  refused 12 K STEP     the arithmetic of the step leaves 128 bits
+
+Example:
+  lincheck check examples/counter.lc examples/counter.cert
+      prints `accepted counter 59`";
+
+pub(crate) static PROVE: &str = "Finds a certificate of a development";
+
+pub(crate) static HINTS: &str =
+    "Hints: terms, formulas and proofs for conditions, by their numbers";
+
+pub(crate) static PROGRESS: &str =
+    "Say on standard error, by `condition K`, which condition is looked at";
+
+pub(crate) static PROVE_ANSWER: &str = "\
+Reads DEV and, where it is a development, the hints in FILE. Looks for a proof of each condition, and prints a certificate
+of all, which `check` accepts. Else it prints one line:
+  refused CODE ..  DEV is no development, or FILE no hints: the codes 1 to 6, as of `check`
+  not-found K      no proof of condition K was found
+  budget K         1,000,000 steps were tried for condition K, or the certificate would be too large
+  large K          a number of the search for condition K leaves 128 bits
+`conditions` prints the conditions by their numbers. For condition K, FILE offers terms (use K T ..), a formula (cut K F) or
+a whole proof (by K P).
+
+Example:
+  lincheck prove examples/counter.lc
+      prints a certificate of the counter, with 59 proofs";
+
+pub(crate) static LIBRARY: &str = "Prints an object of the library";
+
+pub(crate) static OBJECT: &str =
+    "The object: counter, stack, lock, snapshot, combining, rendezvous, queue or pool-stack";
+
+pub(crate) static LIBRARY_CERTIFICATE: &str = "Prints its certificate";
+
+pub(crate) static LIBRARY_HINTS: &str = "Prints its hints";
+
+pub(crate) static LIBRARY_ANSWER: &str = "\
+Prints the development of an object, with comments that explain it; or its certificate, which `check` accepts; or its hints, with
+which `prove` makes that certificate. No file is read.
+
+Example:
+  lincheck library stack > stack.lc
+  lincheck library stack --certificate > stack.cert
+  lincheck check stack.lc stack.cert
+      prints `accepted stack 775`";
