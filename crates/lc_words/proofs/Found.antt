@@ -1,15 +1,20 @@
 -- The task of a command, where clap finds its arguments.
-use Rattle.std.proofs.Common.{◌≡◌, ℕ, Bool, true, false, codes, List, Option, Some, None, ◌∙◌, ap, ap₂}
-use Rattle.std.specs.Prelude.{option_map, option_and_then}
+use Rattle.std.proofs.Common.{◌≡◌, ◌≤◌, ◌↔◌, ℕ, ◌&&◌, Bool, true, false, true≢false, nat_le, length, codes, List, Option, Some, None, IfSome, IsSome, refl, sym, ◌∙◌, ap, ap₂}
+use Rattle.std.proofs.lemmas.Bool.{le-leb, leb-true}
+use Rattle.std.specs.Prelude.{if◌then◌else◌, option_map, option_and_then}
 use Rattle.std.specs.Option.{option_map_or}
 use Rattle.std.specs.Str.{bytes_eq}
 use Rattle.clap.specs.Words.{Text, first_of, first_value, rows_of}
 use Rattle.clap.specs.declared.parser.matches.Found.{Found}
 use Rattle.clap.proofs.WalkLemmas.{first_value-rows}
+use Rattle.lc_base.specs.Limits.{name_limit}
+use Rattle.lc_base.specs.Name.{bytes_of}
+use Rattle.lc_base.specs.NameText.{is_name}
+use Rattle.lc_base.specs.declared.name.Name.{Name}
 use Rattle.lc_lib_texts.specs.Names.{lib_named}
 use Rattle.lc_lib_texts.specs.declared.library.Lib.{Lib}
-use Rattle.lc_words.specs.Reading.{is_set, library_task, one_file_task, proving_task, text_for, two_file_task}
-use Rattle.lc_words.specs.Tasks.{PrintLibrary, Task, proving}
+use Rattle.lc_words.specs.Reading.{beginning_task, begun, is_set, library_task, one_file_task, proving_task, showing_task, text_for, two_file_task}
+use Rattle.lc_words.specs.Tasks.{BeginDevelopment, PrintLibrary, Task, is_development_name, proving, showing}
 use Rattle.lc_words.specs.declared.request.LibraryText.{LibraryText}
 
 -- the task of one path, and of two, where clap finds them
@@ -60,3 +65,37 @@ unfolding asked_of
 library_found f name lib certificate hints text is named c h asked =
     ap (option_map (PrintLibrary lib)) (asked ∙ ap₂ text_for c h) ∙ ap (option_and_then (asked_of f)) named
     ∙ ap (λ x. option_and_then (asked_of f) (option_and_then lib_named x)) (is ∙ first_value-rows f (codes "NAME"))
+
+-- the development is shown as the flag says
+pub showing_found : (f : Found) (development : Text) (lines : Bool) → Some development ≡ first_value f (codes "DEV") → lines ≡ is_set (codes "lines") (rows_of f)
+    → Some (showing development lines) ≡ showing_task (rows_of f)
+showing_found f development lines is set =
+    ap₂ (λ x y. option_map (λ d. showing d y) x) (is ∙ first_value-rows f (codes "DEV")) set
+
+pub showing_unfound : (f : Found) → None ≡ first_value f (codes "DEV") → None ≡ showing_task (rows_of f)
+showing_unfound f is = ap (option_map (λ d. showing d (is_set (codes "lines") (rows_of f)))) (is ∙ first_value-rows f (codes "DEV"))
+
+fails : (text : Text) (s t : Bool) → is_name text ≡ s → nat_le (length text) name_limit ≡ t → ((is_name text ≡ true) × (length text ≤ name_limit) → ⊥) → is_development_name text ≡ false
+fails text false t e e' no = ap (λ b. b && nat_le (length text) name_limit) e
+fails text true false e e' no = ap₂ ◌&&◌ e e'
+fails text true true e e' no = absurd (no (e, leb-true (length text) name_limit e'))
+
+-- the bytes are a name exactly where the test says so
+named : (text : Text) (name : Option Name) → IsSome name ↔ ((is_name text ≡ true) × (length text ≤ name_limit)) → IfSome name (λ n. bytes_of n ≡ text)
+    → option_map (λ n. BeginDevelopment (bytes_of n)) name ≡ begun text
+named text (Some n) valid value =
+    let is = valid.0 refl in
+    let passes : is_development_name text ≡ true = ap₂ ◌&&◌ is.0 (le-leb (length text) name_limit is.1) in
+    ap (λ t. Some (BeginDevelopment t)) value ∙ sym (ap (λ b. if b then Some (BeginDevelopment text) else None) passes)
+named text None valid value =
+    let test : is_development_name text ≡ false =
+    fails text (is_name text) (nat_le (length text) name_limit) refl refl (λ both. true≢false (sym (valid.1 both))) in
+    sym (ap (λ b. if b then Some (BeginDevelopment text) else None) test)
+
+-- a development of a name is begun where it may have the name
+pub beginning_unfound : (f : Found) → None ≡ first_value f (codes "NAME") → None ≡ beginning_task (rows_of f)
+beginning_unfound f is = ap (option_and_then begun) (is ∙ first_value-rows f (codes "NAME"))
+
+pub beginning_found : (f : Found) (text : Text) (name : Option Name) → Some text ≡ first_value f (codes "NAME") → IsSome name ↔ ((is_name text ≡ true) × (length text ≤ name_limit))
+    → IfSome name (λ n. bytes_of n ≡ text) → option_map (λ n. BeginDevelopment (bytes_of n)) name ≡ beginning_task (rows_of f)
+beginning_found f text name is valid value = named text name valid value ∙ ap (option_and_then begun) (is ∙ first_value-rows f (codes "NAME"))

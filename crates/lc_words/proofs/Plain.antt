@@ -1,17 +1,19 @@
 -- The words of each task are read as that task, and nothing is wrong in them.
-use Rattle.std.proofs.Common.{◌≡◌, ℕ, true, codes, List, [], ◌∷◌, Some, refl, ◌∙◌, ap}
-use Rattle.std.specs.Prelude.{option_and_then}
+use Rattle.std.proofs.Common.{◌≡◌, ℕ, ◌==◌, Bool, true, false, not, true≢false, codes, List, [], ◌∷◌, Some, None, eqb-true, refl, sym, ◌∙◌, ap, subst}
+use Rattle.std.specs.Prelude.{if◌then◌else◌, option_and_then}
 use Rattle.clap.specs.Words.{Text, built, is_simple, is_simple_and_free, subcommand_of, takes}
 use Rattle.clap.specs.Simple.{names_of}
 use Rattle.clap.specs.Walk.{idle, subcommand_met}
 use Rattle.clap.proofs.OnLiterals.{clap_on_literals}
+use Rattle.clap.proofs.WalkLemmas.{both}
+use Rattle.lc_base.specs.NameText.{begins_name, is_name}
 use Rattle.lc_lib_texts.proofs.Named.{named_back}
 use Rattle.lc_lib_texts.specs.Names.{name_of}
 use Rattle.lc_lib_texts.specs.declared.library.Lib.{Lib}
 use Rattle.lc_lib_texts.specs.declared.library.Lib.TheVariants.{Counter, Stack, Lock, Snapshot, Combining, Rendezvous, Queue, PoolStack}
 use Rattle.lc_words.specs.Commands.{program_app}
 use Rattle.lc_words.specs.Reading.{task_in}
-use Rattle.lc_words.specs.Tasks.{HasPlainPaths, Task, CheckFormula, JudgeHistory, ShowDevelopment, ListConditions, CheckCertificate, ProveDevelopment, ProveWithHints, DrawHistory, PrintLibrary, is_plain, words_for}
+use Rattle.lc_words.specs.Tasks.{HasPlainPaths, Task, CheckFormula, JudgeHistory, ShowDevelopment, ShowLines, ListConditions, CheckCertificate, ProveDevelopment, ProveWithHints, DrawHistory, BeginDevelopment, PrintLibrary, is_development_name, is_plain, words_for}
 use Rattle.lc_words.specs.declared.request.LibraryText.TheVariants.{Development, Certificate, Hints}
 use Rattle.lc_words.proofs.Walks.{Piece, built_over, command_is_read, command_is_taken, command_over, known, plain, words_of}
 
@@ -34,6 +36,19 @@ names_are_plain Rendezvous = refl
 names_are_plain Queue = refl
 names_are_plain PoolStack = refl
 
+-- what may name a development begins with no hyphen
+no_hyphen : (b : ℕ) → begins_name b ≡ true → not (b == 45) ≡ true
+unfolding begins_name
+no_hyphen b begins = by (b == 45) refl
+  where
+    by : (t : Bool) → b == 45 ≡ t → not t ≡ true
+    by false e = refl
+    by true e = let no : false ≡ true = subst (λ c. begins_name c ≡ true) (eqb-true b 45 e) begins in absurd (true≢false (sym no))
+
+named_is_plain : (name : List ℕ) → is_development_name name ≡ true → is_plain name ≡ true
+named_is_plain [] is = refl
+named_is_plain (b ∷ name) is = no_hyphen b (both (begins_name b) _ (both (is_name (b ∷ name)) _ is).0).0
+
 -- clap reads these words of a command as these pieces
 is_read : (name word : Text) (ps : List Piece) → subcommand_met (names_of (built program_app)) idle word ≡ Some word
     → task_in (subcommand_of program_app (name ∷ word ∷ words_of ps)) ≡ task_in (command_over (built program_app) word ps)
@@ -49,12 +64,15 @@ unfolding clap_on_literals
 task_is_read name (CheckFormula path) is = is_read name (codes "formula") (plain path is ∷ []) refl
 task_is_read name (JudgeHistory development history) is = is_read name (codes "judge") (plain development is.0 ∷ plain history is.1 ∷ []) refl
 task_is_read name (ShowDevelopment development) is = is_read name (codes "show") (plain development is ∷ []) refl
+task_is_read name (ShowLines development) is = is_read name (codes "show") (plain development is ∷ known (codes "--lines") ∷ []) refl
 task_is_read name (ListConditions development) is = is_read name (codes "conditions") (plain development is ∷ []) refl
 task_is_read name (CheckCertificate development certificate) is = is_read name (codes "check") (plain development is.0 ∷ plain certificate is.1 ∷ []) refl
 task_is_read name (ProveDevelopment development) is = is_read name (codes "prove") (plain development is ∷ []) refl
 task_is_read name (ProveWithHints development hints) is =
     is_read name (codes "prove") (plain development is.0 ∷ known (codes "--hints") ∷ plain hints is.1 ∷ []) refl
 task_is_read name (DrawHistory development history) is = is_read name (codes "draw") (plain development is.0 ∷ plain history is.1 ∷ []) refl
+task_is_read name (BeginDevelopment own) is =
+    is_read name (codes "new") (plain own (named_is_plain own is) ∷ []) refl ∙ ap (λ b. if b then Some (BeginDevelopment own) else None) is
 task_is_read name (PrintLibrary lib Development) is =
     is_read name (codes "library") (plain (name_of lib) (names_are_plain lib) ∷ []) refl
     ∙ ap (option_and_then (λ l. Some (PrintLibrary l Development))) (named_back lib)
@@ -71,12 +89,14 @@ unfolding clap_on_literals
 words_are_taken name (CheckFormula path) is = is_taken name (codes "formula") (plain path is ∷ []) refl
 words_are_taken name (JudgeHistory development history) is = is_taken name (codes "judge") (plain development is.0 ∷ plain history is.1 ∷ []) refl
 words_are_taken name (ShowDevelopment development) is = is_taken name (codes "show") (plain development is ∷ []) refl
+words_are_taken name (ShowLines development) is = is_taken name (codes "show") (plain development is ∷ known (codes "--lines") ∷ []) refl
 words_are_taken name (ListConditions development) is = is_taken name (codes "conditions") (plain development is ∷ []) refl
 words_are_taken name (CheckCertificate development certificate) is = is_taken name (codes "check") (plain development is.0 ∷ plain certificate is.1 ∷ []) refl
 words_are_taken name (ProveDevelopment development) is = is_taken name (codes "prove") (plain development is ∷ []) refl
 words_are_taken name (ProveWithHints development hints) is =
     is_taken name (codes "prove") (plain development is.0 ∷ known (codes "--hints") ∷ plain hints is.1 ∷ []) refl
 words_are_taken name (DrawHistory development history) is = is_taken name (codes "draw") (plain development is.0 ∷ plain history is.1 ∷ []) refl
+words_are_taken name (BeginDevelopment own) is = is_taken name (codes "new") (plain own (named_is_plain own is) ∷ []) refl
 words_are_taken name (PrintLibrary lib Development) is = is_taken name (codes "library") (plain (name_of lib) (names_are_plain lib) ∷ []) refl
 words_are_taken name (PrintLibrary lib Certificate) is =
     is_taken name (codes "library") (plain (name_of lib) (names_are_plain lib) ∷ known (codes "--certificate") ∷ []) refl

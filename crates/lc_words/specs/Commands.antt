@@ -27,9 +27,9 @@ formula_app = with_rule (new_app (codes "formula")) (file_rule (codes "FILE"))
 abbrev pub judge_app : App
 judge_app = with_rule (with_rule (new_app (codes "judge")) (file_rule (codes "DEV"))) (file_rule (codes "HISTORY"))
 
--- `show DEV`
+-- `show DEV [--lines]`
 abbrev pub show_app : App
-show_app = with_rule (new_app (codes "show")) (file_rule (codes "DEV"))
+show_app = with_rule (with_rule (new_app (codes "show")) (file_rule (codes "DEV"))) (flag_rule (codes "lines"))
 
 -- `conditions DEV`
 abbrev pub conditions_app : App
@@ -51,6 +51,10 @@ library_app = with_rule (with_rule (with_rule (new_app (codes "library")) (objec
 abbrev pub draw_app : App
 draw_app = with_rule (with_rule (new_app (codes "draw")) (file_rule (codes "DEV"))) (file_rule (codes "HISTORY"))
 
+-- `new NAME`
+abbrev pub begin_app : App
+begin_app = with_rule (new_app (codes "new")) (object_rule (codes "NAME"))
+
 -- a command of this name that has a version and needs a subcommand
 abbrev pub needs_subcommand : Text → App
 needs_subcommand name = record { top = record (new_app name).top { subcommand_required = true; has_version = true }; subs = [] }
@@ -67,6 +71,10 @@ further_app = with_subcommand (with_subcommand first_app show_app.top) condition
 abbrev pub proving_app : App
 proving_app = with_subcommand (with_subcommand further_app check_app.top) prove_app.top
 
+-- the program with its first eight commands
+abbrev pub drawing_app : App
+drawing_app = with_subcommand (with_subcommand proving_app library_app.top) draw_app.top
+
 -- the program and its commands
 abbrev pub program_app : App
-program_app = with_subcommand (with_subcommand proving_app library_app.top) draw_app.top
+program_app = with_subcommand drawing_app begin_app.top

@@ -7,7 +7,7 @@ use Rattle.clap.specs.declared.error.kind.ErrorKind.{ErrorKind}
 use Rattle.clap.specs.declared.error.kind.ErrorKind.TheVariants.{DisplayHelp, DisplayVersion}
 use Rattle.lc_lib_texts.specs.Names.{lib_named}
 use Rattle.lc_words.specs.Commands.{program_app}
-use Rattle.lc_words.specs.Tasks.{CheckCertificate, CheckFormula, DrawHistory, JudgeHistory, ListConditions, PrintLibrary, ShowDevelopment, Task, proving, task_of}
+use Rattle.lc_words.specs.Tasks.{BeginDevelopment, CheckCertificate, CheckFormula, DrawHistory, JudgeHistory, ListConditions, PrintLibrary, Task, is_development_name, proving, showing, task_of}
 use Rattle.lc_words.specs.declared.request.LibraryText.{LibraryText}
 use Rattle.lc_words.specs.declared.request.LibraryText.TheVariants.{Development, Certificate, Hints}
 use Rattle.lc_words.specs.declared.request.Request.{Request}
@@ -20,13 +20,24 @@ one_file_task task name rows = option_map task (first_of name rows)
 abbrev pub two_file_task : (List ℕ → List ℕ → Task) → Text → List Row → Option Task
 two_file_task task name rows = option_and_then (λ development. option_map (task development) (first_of name rows)) (first_of (codes "DEV") rows)
 
--- the task of proving the development with the hints that these arguments name
-abbrev pub proving_task : List Row → Option Task
-proving_task rows = option_map (λ development. proving development (first_of (codes "hints") rows)) (first_of (codes "DEV") rows)
-
 -- the flag is set: its value is `true`
 abbrev pub is_set : Text → List Row → Bool
 is_set name rows = option_map_or (λ value. bytes_eq value (codes "true")) (first_of name rows) false
+
+-- the task of showing the development, as the flag says
+abbrev pub showing_task : List Row → Option Task
+showing_task rows = option_map (λ development. showing development (is_set (codes "lines") rows)) (first_of (codes "DEV") rows)
+
+-- the task of beginning a development, if it may have the name
+abbrev pub begun : List ℕ → Option Task
+begun name = if is_development_name name then Some (BeginDevelopment name) else None
+
+abbrev pub beginning_task : List Row → Option Task
+beginning_task rows = option_and_then begun (first_of (codes "NAME") rows)
+
+-- the task of proving the development with the hints that these arguments name
+abbrev pub proving_task : List Row → Option Task
+proving_task rows = option_map (λ development. proving development (first_of (codes "hints") rows)) (first_of (codes "DEV") rows)
 
 -- the text that the two flags ask for, which exclude each other
 abbrev pub text_for : (certificate hints : Bool) → Option LibraryText
@@ -49,7 +60,7 @@ task_in_command c =
     else (if bytes_eq c.0 (codes "judge")
     then two_file_task JudgeHistory (codes "HISTORY") c.1
     else (if bytes_eq c.0 (codes "show")
-    then one_file_task ShowDevelopment (codes "DEV") c.1
+    then showing_task c.1
     else (if bytes_eq c.0 (codes "conditions")
     then one_file_task ListConditions (codes "DEV") c.1
     else (if bytes_eq c.0 (codes "check")
@@ -58,7 +69,9 @@ task_in_command c =
     then proving_task c.1
     else (if bytes_eq c.0 (codes "library")
     then library_task c.1
-    else (if bytes_eq c.0 (codes "draw") then two_file_task DrawHistory (codes "HISTORY") c.1 else None)))))))
+    else (if bytes_eq c.0 (codes "draw")
+    then two_file_task DrawHistory (codes "HISTORY") c.1
+    else (if bytes_eq c.0 (codes "new") then beginning_task c.1 else None))))))))
 
 -- the task of a command with its arguments, if there is one
 abbrev pub task_in : Option (Text × List Row) → Option Task
@@ -76,7 +89,7 @@ AsksForText kind = (kind ≡ DisplayHelp) ⊎ (kind ≡ DisplayVersion)
 abbrev pub AreFaulty : List Text → Type 0
 AreFaulty words = (fault_of program_app words ≡ [] → ⊥) × ((kind : ErrorKind) → IsAmong kind (fault_of program_app words) → AsksForText kind → ⊥)
 
--- clap finds no fault in the words, and they are no task: the object is none of the library's, or the flags exclude each other
+-- clap finds no fault in the words, and they are no task: the object is none of the library's, or the flags exclude each other, or a name is none
 abbrev pub AreNoTask : List Text → Type 0
 AreNoTask words = (fault_of program_app words ≡ []) × (task_in (subcommand_of program_app words) ≡ None)
 

@@ -1,30 +1,40 @@
 -- What may be asked for, and the words that ask for it.
-use Rattle.std.specs.Prelude.{◌≡◌, ℕ, ◌==◌, map, string_bytes, String, Bool, true, not, codes, List, [], ◌∷◌, Option, Some, None, option_map}
+use Rattle.std.specs.Prelude.{◌≡◌, ℕ, ◌==◌, ◌&&◌, nat_le, length, map, string_bytes, String, Bool, true, false, not, codes, List, [], ◌∷◌, Option, Some, None, option_map}
 use Rattle.std.specs.Borrow.{Bor}
 use Rattle.std.specs.declared.alloc.Global.{Global}
 use Rattle.clap.specs.Words.{Text}
+use Rattle.lc_base.specs.Limits.{name_limit}
+use Rattle.lc_base.specs.Name.{bytes_of}
+use Rattle.lc_base.specs.NameText.{is_name}
 use Rattle.lc_lib_texts.specs.Names.{name_of}
 use Rattle.lc_lib_texts.specs.declared.library.Lib.{Lib}
 use Rattle.lc_words.specs.declared.request.LibraryText.{LibraryText}
 use Rattle.lc_words.specs.declared.request.LibraryText.TheVariants.{Development, Certificate, Hints}
 use Rattle.lc_words.specs.declared.request.Request.{Request}
-use Rattle.lc_words.specs.declared.request.Request.TheVariants.{Formula, Judge, Show, Conditions, Check, Prove, Draw, Library}
+use Rattle.lc_words.specs.declared.request.Request.TheVariants.{Formula, Judge, Show, Conditions, Check, Prove, Draw, New, Library}
 
 -- What may be asked for: that the proof in the file at a path is checked; that the history in one file is judged by the
--- specification in another; that the development in a file is shown, or its conditions are listed; that the certificate in
+-- specification in another; that the development in a file is shown, or laid out over lines, or its conditions are listed; that the certificate in
 -- one file is checked against the development in another; that a certificate is found of the development in a file, without
--- hints or with those in another; that the history in one file is drawn by the specification in another; or that a text of an
--- object of the library is printed
+-- hints or with those in another; that the history in one file is drawn by the specification in another; that a development of
+-- a name is begun; or that a text of an object of the library is printed
 pub data Task : Type 0 where
   CheckFormula : (path : List ℕ) → Task
   JudgeHistory : (development history : List ℕ) → Task
   ShowDevelopment : (development : List ℕ) → Task
+  ShowLines : (development : List ℕ) → Task
   ListConditions : (development : List ℕ) → Task
   CheckCertificate : (development certificate : List ℕ) → Task
   ProveDevelopment : (development : List ℕ) → Task
   ProveWithHints : (development hints : List ℕ) → Task
   DrawHistory : (development history : List ℕ) → Task
+  BeginDevelopment : (name : List ℕ) → Task
   PrintLibrary : (lib : Lib) (text : LibraryText) → Task
+
+-- the task of showing a development, on two lines or laid out
+abbrev pub showing : List ℕ → (lines : Bool) → Task
+showing development false = ShowDevelopment development
+showing development true = ShowLines development
 
 -- the task of proving a development, with hints if there is a path of such
 abbrev pub proving : List ℕ → Option (List ℕ) → Task
@@ -39,11 +49,12 @@ path_in path = option_map (λ p. p.now) path
 abbrev pub task_of : Request → Task
 task_of (Formula path) = CheckFormula path.now
 task_of (Judge development history) = JudgeHistory development.now history.now
-task_of (Show development) = ShowDevelopment development.now
+task_of (Show development lines) = showing development.now lines
 task_of (Conditions development) = ListConditions development.now
 task_of (Check development certificate) = CheckCertificate development.now certificate.now
 task_of (Prove development hints progress) = proving development.now (path_in hints)
 task_of (Draw development history) = DrawHistory development.now history.now
+task_of (New name) = BeginDevelopment (bytes_of name)
 task_of (Library lib text) = PrintLibrary lib text
 
 -- the texts of the words
@@ -54,6 +65,10 @@ texts_of words = map string_bytes words
 abbrev pub is_plain : List ℕ → Bool
 is_plain [] = true
 is_plain (b ∷ path) = not (b == 45)
+
+-- the name may name a development
+abbrev pub is_development_name : List ℕ → Bool
+is_development_name name = is_name name && nat_le (length name) name_limit
 
 -- `NAME library OBJECT`, with the flag for the text
 abbrev pub library_words : List ℕ → List ℕ → LibraryText → List Text
@@ -66,21 +81,25 @@ abbrev pub words_for : List ℕ → Task → List Text
 words_for name (CheckFormula path) = name ∷ codes "formula" ∷ path ∷ []
 words_for name (JudgeHistory development history) = name ∷ codes "judge" ∷ development ∷ history ∷ []
 words_for name (ShowDevelopment development) = name ∷ codes "show" ∷ development ∷ []
+words_for name (ShowLines development) = name ∷ codes "show" ∷ development ∷ codes "--lines" ∷ []
 words_for name (ListConditions development) = name ∷ codes "conditions" ∷ development ∷ []
 words_for name (CheckCertificate development certificate) = name ∷ codes "check" ∷ development ∷ certificate ∷ []
 words_for name (ProveDevelopment development) = name ∷ codes "prove" ∷ development ∷ []
 words_for name (ProveWithHints development hints) = name ∷ codes "prove" ∷ development ∷ codes "--hints" ∷ hints ∷ []
 words_for name (DrawHistory development history) = name ∷ codes "draw" ∷ development ∷ history ∷ []
+words_for name (BeginDevelopment own) = name ∷ codes "new" ∷ own ∷ []
 words_for name (PrintLibrary lib text) = library_words name (name_of lib) text
 
--- none of its paths begins with a hyphen
+-- none of its paths begins with a hyphen, and what is to be a name is one
 abbrev pub HasPlainPaths : Task → Type 0
 HasPlainPaths (CheckFormula path) = is_plain path ≡ true
 HasPlainPaths (JudgeHistory development history) = (is_plain development ≡ true) × (is_plain history ≡ true)
 HasPlainPaths (ShowDevelopment development) = is_plain development ≡ true
+HasPlainPaths (ShowLines development) = is_plain development ≡ true
 HasPlainPaths (ListConditions development) = is_plain development ≡ true
 HasPlainPaths (CheckCertificate development certificate) = (is_plain development ≡ true) × (is_plain certificate ≡ true)
 HasPlainPaths (ProveDevelopment development) = is_plain development ≡ true
 HasPlainPaths (ProveWithHints development hints) = (is_plain development ≡ true) × (is_plain hints ≡ true)
 HasPlainPaths (DrawHistory development history) = (is_plain development ≡ true) × (is_plain history ≡ true)
+HasPlainPaths (BeginDevelopment name) = is_development_name name ≡ true
 HasPlainPaths (PrintLibrary lib text) = Unit {0}

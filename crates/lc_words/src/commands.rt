@@ -2,13 +2,14 @@
 ghost use Rattle.std.specs.Prelude.{◌≡◌, false, IfOk};
 ghost use Rattle.clap.specs.Words.{app_of, rule_of};
 ghost use Rattle.clap.specs.declared.builder.command.Command.TheViews.{out-Command};
-ghost use Rattle.lc_words.specs.Commands.{check_app, conditions_app, draw_app, file_rule, first_app, flag_rule, formula_app, further_app, judge_app, library_app, object_rule, option_rule, program_app, prove_app, proving_app, show_app};
+ghost use Rattle.lc_words.specs.Commands.{begin_app, check_app, conditions_app, draw_app, drawing_app, file_rule, first_app, flag_rule, formula_app, further_app, judge_app, library_app, object_rule, option_rule, program_app, prove_app, proving_app, show_app};
 
 use crate::texts::{
     ABOUT, CERTIFICATE_FILE, CHECK, CHECK_ANSWER, CONDITIONS, CONDITIONS_ANSWER, DEVELOPMENT, DRAW,
     DRAW_ANSWER, EXIT_STATUS, FORMULA, FORMULA_ANSWER, FORMULA_FILE, HINTS, JUDGE, JUDGE_ANSWER,
     JUDGE_DEVELOPMENT, JUDGE_HISTORY, LIBRARY, LIBRARY_ANSWER, LIBRARY_CERTIFICATE, LIBRARY_HINTS,
-    OBJECT, PROGRESS, PROVE, PROVE_ANSWER, SHOW, SHOW_ANSWER, VERSION,
+    NEW, NEW_ANSWER, NEW_NAME, OBJECT, PROGRESS, PROVE, PROVE_ANSWER, SHOW, SHOW_ANSWER,
+    SHOW_LINES, VERSION,
 };
 use clap::{Arg, ArgAction, Command};
 use std::alloc::{AllocError, Global};
@@ -63,7 +64,8 @@ fn show_command<'a>(alloc: Global) -> Result<Command<'a>, AllocError>
     Command::new(alloc, "show")
         .about(SHOW)
         .after_help(SHOW_ANSWER)
-        .arg(file(alloc, "DEV", DEVELOPMENT))
+        .arg(file(alloc, "DEV", DEVELOPMENT))?
+        .arg(flag(alloc, "lines", SHOW_LINES))
 }
 
 fn conditions_command<'a>(alloc: Global) -> Result<Command<'a>, AllocError>
@@ -145,6 +147,16 @@ fn library_command<'a>(alloc: Global) -> Result<Command<'a>, AllocError>
         .arg(flag(alloc, "hints", LIBRARY_HINTS))
 }
 
+fn new_command<'a>(alloc: Global) -> Result<Command<'a>, AllocError>
+    ensures app { IfOk result (λ command. app_of command ≡ begin_app) }
+    ensures local { IfOk result (λ command. (out-Command command).has_globals ≡ false) }
+{
+    Command::new(alloc, "new")
+        .about(NEW)
+        .after_help(NEW_ANSWER)
+        .arg(object(alloc, "NAME", NEW_NAME))
+}
+
 /// The program with its first two commands.
 fn first_commands<'a>(alloc: Global) -> Result<Command<'a>, AllocError>
     ensures { IfOk result (λ command. app_of command ≡ first_app) }
@@ -176,10 +188,17 @@ fn proving_commands<'a>(alloc: Global) -> Result<Command<'a>, AllocError>
         .subcommand(prove_command(alloc)?)
 }
 
-pub(crate) fn program<'a>(alloc: Global) -> Result<Command<'a>, AllocError>
-    ensures { IfOk result (λ command. app_of command ≡ program_app) }
+/// The program with its first eight commands.
+fn drawing_commands<'a>(alloc: Global) -> Result<Command<'a>, AllocError>
+    ensures { IfOk result (λ command. app_of command ≡ drawing_app) }
 {
     proving_commands(alloc)?
         .subcommand(library_command(alloc)?)?
         .subcommand(draw_command(alloc)?)
+}
+
+pub(crate) fn program<'a>(alloc: Global) -> Result<Command<'a>, AllocError>
+    ensures { IfOk result (λ command. app_of command ≡ program_app) }
+{
+    drawing_commands(alloc)?.subcommand(new_command(alloc)?)
 }

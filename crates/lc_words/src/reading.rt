@@ -2,13 +2,14 @@
 ghost use Rattle.std.specs.Prelude.{◌≡◌, ◌⊎◌, ℕ, List, codes, IfOk, IfErr, IsErrAnd, option_map};
 ghost use Rattle.clap.specs.Words.{found_of, kind_of, rows_of, subcommand_rows_of};
 ghost use Rattle.clap.specs.declared.error.kind.ErrorKind.TheVariants.{OutOfMemory};
-ghost use Rattle.lc_words.specs.Tasks.{CheckCertificate, CheckFormula, DrawHistory, HasPlainPaths, JudgeHistory, ListConditions, ShowDevelopment, Task, task_of, texts_of, words_for};
-ghost use Rattle.lc_words.specs.Reading.{AreWrong, AskForHelp, AsksForText, Reads, is_set, library_task, one_file_task, proving_task, task_in, text_for, two_file_task};
+ghost use Rattle.lc_words.specs.Tasks.{CheckCertificate, CheckFormula, DrawHistory, HasPlainPaths, JudgeHistory, ListConditions, Task, task_of, texts_of, words_for};
+ghost use Rattle.lc_words.specs.Reading.{AreWrong, AskForHelp, AsksForText, Reads, beginning_task, is_set, library_task, one_file_task, proving_task, showing_task, task_in, text_for, two_file_task};
 
 use crate::commands::program;
 use crate::request::{LibraryText, Request};
 use clap::error::ErrorKind;
 use clap::{ArgMatches, Error};
+use lc_base::Name;
 use lc_lib_texts::Lib;
 use std::alloc::Global;
 
@@ -42,10 +43,19 @@ fn draw_request<'a>(command: &ArgMatches<'a>) -> Option<Request<'a>>
 }
 
 fn show_request<'a>(command: &ArgMatches<'a>) -> Option<Request<'a>>
-    ensures { option_map task_of result ≡ one_file_task ShowDevelopment (codes "DEV") (rows_of (found_of command.now)) }
+    ensures { option_map task_of result ≡ showing_task (rows_of (found_of command.now)) }
 {
     let development = command.get_str("DEV")?;
-    Some(Request::Show(development))
+    let lines = is_set(command, "lines");
+    Some(Request::Show { development, lines })
+}
+
+fn new_request<'a>(command: &ArgMatches<'a>) -> Option<Request<'a>>
+    ensures { option_map task_of result ≡ beginning_task (rows_of (found_of command.now)) }
+{
+    let text = command.get_str("NAME")?;
+    let name = Name::new(text)?;
+    Some(Request::New(name))
 }
 
 fn conditions_request<'a>(command: &ArgMatches<'a>) -> Option<Request<'a>>
@@ -126,6 +136,7 @@ fn request_of<'a>(matches: &ArgMatches<'a>) -> Option<Request<'a>>
         "prove" => prove_request(command),
         "library" => library_request(command),
         "draw" => draw_request(command),
+        "new" => new_request(command),
         _ => None,
     }
 }
@@ -153,6 +164,10 @@ fn fault_in(matches: &ArgMatches<'_>) -> (ErrorKind, &'static str)
 {
     match matches.subcommand() {
         Some(("library", command)) => library_fault(command),
+        Some(("new", _)) => (
+            ErrorKind::ValueValidation,
+            "NAME is no name: a letter or `_`, then letters, digits, `_`, `-` and `.`, at most 64 of them",
+        ),
         _ => (ErrorKind::MissingSubcommand, "a command is missing"),
     }
 }

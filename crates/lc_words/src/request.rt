@@ -1,4 +1,5 @@
 //! What the command line asks for.
+use lc_base::Name;
 use lc_lib_texts::Lib;
 
 /// Which text of an object of the library is asked for.
@@ -19,8 +20,11 @@ pub enum Request<'a> {
         development: &'a str,
         history: &'a str,
     },
-    /// Print the development in the file at this path.
-    Show(&'a str),
+    /// Print the development in a file, on two lines or laid out.
+    Show {
+        development: &'a str,
+        lines: bool,
+    },
     /// List the conditions of the development in the file at this path.
     Conditions(&'a str),
     /// Check the certificate in a file against the development in another.
@@ -39,6 +43,8 @@ pub enum Request<'a> {
         development: &'a str,
         history: &'a str,
     },
+    /// Print a development of this name to begin with.
+    New(Name),
     /// Print a text of an object of the library.
     Library {
         lib: Lib,

@@ -93,14 +93,35 @@ pub(crate) static DEVELOPMENT: &str =
 
 pub(crate) static SHOW: &str = "Prints a development as it was read";
 
+pub(crate) static SHOW_LINES: &str = "Lay it out over lines, with indentation";
+
 pub(crate) static SHOW_ANSWER: &str = "\
 Reads DEV and prints it on two lines, the specification and the object, without comments, with one space between items; the
 names that quantifiers bind are b0, b1, and so on, counted from the outermost. A DEV that is no development is refused as by
 `check`.
 
-Example:
+With --lines it prints the two forms as they stand in DEV, without comments, over lines of 100 columns: a list that does not fit
+into the rest of its line goes on below, indented by 2. What is printed so is printed again as it stands.
+
+Examples:
   lincheck show examples/counter.lc
-      prints the counter's specification and its object";
+      prints the counter's specification and its object
+  lincheck show examples/counter.lc --lines
+      prints them over lines with indentation";
+
+pub(crate) static NEW: &str = "Prints a development to begin with";
+
+pub(crate) static NEW_NAME: &str =
+    "Its name: a letter or `_`, then letters, digits, `_`, `-` and `.`";
+
+pub(crate) static NEW_ANSWER: &str = "\
+Prints a small development of this name, a cell that clients put a number into and get it from, with a comment at each part that
+says what it is for. No file is read. A NAME that means something else in developments, as `self`, is refused as by `show`.
+
+Example:
+  lincheck new mine > mine.lc
+  lincheck show mine.lc --lines
+      prints the development without its comments";
 
 pub(crate) static CONDITIONS: &str = "Prints what has to be proved of a development";
 

@@ -10,3 +10,5 @@ mod Proving
 mod OneHistory
 mod OneCheck
 mod Fed
+mod LaidOut
+mod Beginnings

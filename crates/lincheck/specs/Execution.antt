@@ -9,11 +9,13 @@ use Rattle.lc_outline.specs.Development.{Development}
 use Rattle.lc_outline_print.specs.Developments.{development_printed}
 use Rattle.lc_outline_text.specs.Developments.{file_reading}
 use Rattle.lincheck.specs.Check.{AnswersDevelopment, AnswersCheck}
-use Rattle.lc_words.specs.Tasks.{Task, CheckFormula, JudgeHistory, ShowDevelopment, ListConditions, CheckCertificate, ProveDevelopment, ProveWithHints, DrawHistory, PrintLibrary}
+use Rattle.lc_words.specs.Tasks.{Task, CheckFormula, JudgeHistory, ShowDevelopment, ShowLines, ListConditions, CheckCertificate, ProveDevelopment, ProveWithHints, DrawHistory, BeginDevelopment, PrintLibrary}
 use Rattle.lincheck.specs.Draw.{AnswersDraw}
 use Rattle.lincheck.specs.Formula.{AnswersFormula}
 use Rattle.lincheck.specs.Judge.{AnswersJudge}
 use Rattle.lincheck.specs.Library.{AnswersLibrary}
+use Rattle.lincheck.specs.Lines.{AnswersLines}
+use Rattle.lincheck.specs.New.{AnswersNew}
 use Rattle.lincheck.specs.Prove.{AnswersProve, AnswersHinted}
 use Rattle.lincheck.specs.Printing.{Begins, IsInPieces}
 
@@ -24,6 +26,7 @@ AnswersTask bytes_at (JudgeHistory development history) text status =
     IfSome (bytes_at development) (λ file. AnswersJudge file (bytes_at history) text status)
 AnswersTask bytes_at (ShowDevelopment development) text status =
     IfSome (bytes_at development) (λ file. AnswersDevelopment development_printed file text status)
+AnswersTask bytes_at (ShowLines development) text status = IfSome (bytes_at development) (λ file. AnswersLines file text status)
 AnswersTask bytes_at (ListConditions development) text status =
     IfSome (bytes_at development) (λ file. AnswersDevelopment conditions_text file text status)
 AnswersTask bytes_at (CheckCertificate development certificate) text status =
@@ -34,6 +37,7 @@ AnswersTask bytes_at (ProveWithHints development hints) text status =
     IfSome (bytes_at development) (λ file. AnswersHinted file (bytes_at hints) text status)
 AnswersTask bytes_at (DrawHistory development history) text status =
     IfSome (bytes_at development) (λ file. AnswersDraw file (bytes_at history) text status)
+AnswersTask bytes_at (BeginDevelopment name) text status = AnswersNew name text status
 AnswersTask bytes_at (PrintLibrary lib asked) text status = AnswersLibrary lib asked text status
 
 -- A file that a task needs cannot be opened: the only one or the development; or the other, where the development is read
@@ -43,6 +47,7 @@ IsUnread CannotOpen bytes_at (JudgeHistory development history) =
     CannotOpen development
     ⊎ ((file : List ℕ) × (spec : Specification) × (bytes_at development ≡ Some file) × Says first_reading file spec × CannotOpen history)
 IsUnread CannotOpen bytes_at (ShowDevelopment development) = CannotOpen development
+IsUnread CannotOpen bytes_at (ShowLines development) = CannotOpen development
 IsUnread CannotOpen bytes_at (ListConditions development) = CannotOpen development
 IsUnread CannotOpen bytes_at (CheckCertificate development certificate) =
     CannotOpen development
@@ -54,6 +59,7 @@ IsUnread CannotOpen bytes_at (ProveWithHints development hints) =
 IsUnread CannotOpen bytes_at (DrawHistory development history) =
     CannotOpen development
     ⊎ ((file : List ℕ) × (spec : Specification) × (bytes_at development ≡ Some file) × Says first_reading file spec × CannotOpen history)
+IsUnread CannotOpen bytes_at (BeginDevelopment name) = ⊥
 IsUnread CannotOpen bytes_at (PrintLibrary lib asked) = ⊥
 
 -- The program ends with a task: with a fault of reading, or for want of memory, and nothing is printed; or with an answer of which

@@ -5,6 +5,8 @@ pub mod Formula
 pub mod Judge
 pub mod Draw
 pub mod Check
+pub mod Lines
+pub mod New
 pub mod Prove
 pub mod Library
 pub mod Printing

@@ -1,7 +1,7 @@
 -- What a task leaves on standard output.
 use Rattle.std.specs.Prelude.{◌≡◌, ℕ, ◌⊎◌, List, ◌++◌, Option, Result, Ok, Err}
 use Rattle.std.specs.Io.KnownBytes.{Keeps, Appends}
-use Rattle.lc_words.specs.Tasks.{Task, CheckFormula, JudgeHistory, ShowDevelopment, ListConditions, CheckCertificate, ProveDevelopment, ProveWithHints, DrawHistory, PrintLibrary}
+use Rattle.lc_words.specs.Tasks.{Task, CheckFormula, JudgeHistory, ShowDevelopment, ShowLines, ListConditions, CheckCertificate, ProveDevelopment, ProveWithHints, DrawHistory, BeginDevelopment, PrintLibrary}
 use Rattle.lincheck.specs.declared.answer.Failure.{Failure}
 use Rattle.lincheck.specs.declared.answer.Failure.TheVariants.{CannotRead, CannotWrite, OutOfMemory}
 
@@ -25,11 +25,13 @@ abbrev pub IsInPieces : Task → Type 0
 IsInPieces (CheckFormula path) = ⊥
 IsInPieces (JudgeHistory development history) = ⊥
 IsInPieces (ShowDevelopment development) = ⊥
+IsInPieces (ShowLines development) = ⊥
 IsInPieces (ListConditions development) = Unit {0}
 IsInPieces (CheckCertificate development certificate) = ⊥
 IsInPieces (ProveDevelopment development) = ⊥
 IsInPieces (ProveWithHints development hints) = ⊥
 IsInPieces (DrawHistory development history) = ⊥
+IsInPieces (BeginDevelopment name) = ⊥
 IsInPieces (PrintLibrary lib text) = ⊥
 
 -- an answer is printed, and its status answered; else nothing is, or of an answer that is printed as it is made a beginning,

@@ -1,5 +1,6 @@
 //! What holds of answers. Each function is a law: it does nothing, and its contract is the law.
-ghost use Rattle.std.specs.Prelude.{◌≡◌, ℕ, List, Some};
+ghost use Rattle.std.specs.Prelude.{◌≡◌, ◌≤◌, ℕ, List, Some, length};
+ghost use Rattle.lc_base.specs.Limits.{file_limit};
 ghost use Rattle.lc_proof_text.specs.Files.{Claim, file_reading};
 ghost use Rattle.lc_reading.specs.Files.{Says};
 ghost use Rattle.lc_hist.specs.History.{Event, Entry};
@@ -11,7 +12,10 @@ ghost use Rattle.lc_outline_text.specs.Developments as Outline;
 ghost use Rattle.lc_sound.specs.Linearizable.{IsLinearizableObject};
 ghost use Rattle.lincheck.specs.Check.{AnswersCheck};
 ghost use Rattle.lincheck.specs.Formula.{AnswersFormula, IsTrueClaim};
+ghost use Rattle.lincheck.specs.Lines.{AnswersLines};
 ghost use Rattle.lincheck.specs.Judge.{AnswersJudge, IsSpecified};
+
+use lc_layout::laid_out_reads_back;
 
 /// A formula file has one answer at most: what is printed and the status are determined by its bytes.
 pub fn a_file_has_one_answer()
@@ -52,3 +56,18 @@ pub fn a_checked_object_is_linearizable()
     ensures { (development certificate text : List ℕ) → AnswersCheck development (Some certificate) text 0 →
         (D : Development) × Says Outline.file_reading development D × IsLinearizableObject D.specification D.object }
 {}
+
+/// A development's file has one layout at most: what `show` prints with `--lines`, and the status, are determined by its bytes.
+pub fn a_file_has_one_layout()
+    ensures { (file text text' : List ℕ) (status status' : ℕ) →
+        AnswersLines file text status → AnswersLines file text' status' → (text ≡ text') × (status ≡ status') }
+{}
+
+/// What `show` prints with `--lines` is a file that says the same development, and of which the same is printed, where it is within
+/// the limit of size.
+pub fn a_layout_stays()
+    ensures says { (file text : List ℕ) (D : Development) → AnswersLines file text 0 → Says Outline.file_reading file D → length text ≤ file_limit → Says Outline.file_reading text D }
+    ensures again { (file text : List ℕ) → AnswersLines file text 0 → length text ≤ file_limit → AnswersLines text text 0 }
+{
+    laid_out_reads_back();
+}

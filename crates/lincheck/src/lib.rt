@@ -11,6 +11,8 @@ mod formula;
 mod judge;
 pub mod laws;
 mod library;
+mod lines;
+mod new;
 mod printing;
 mod program;
 mod prove;

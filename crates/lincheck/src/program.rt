@@ -15,6 +15,7 @@ use crate::files::Files;
 use crate::formula::answer_formula;
 use crate::judge::answer_judge;
 use crate::library::answer_library;
+use crate::new::answer_new;
 use crate::printing::print_answer;
 use crate::prove::answer_prove;
 use crate::show::answer_show;
@@ -43,7 +44,9 @@ fn carry_out<'a, F: Files, O: Write, E: Write>(
             development,
             history,
         } => print_answer(out, &answer_judge(alloc, files, development, history)?),
-        Request::Show(development) => print_answer(out, &answer_show(alloc, files, development)?),
+        Request::Show { development, lines } => {
+            print_answer(out, &answer_show(alloc, files, development, lines)?)
+        }
         Request::Conditions(development) => list_conditions(alloc, files, development, out),
         Request::Check {
             development,
@@ -65,6 +68,7 @@ fn carry_out<'a, F: Files, O: Write, E: Write>(
             development,
             history,
         } => print_answer(out, &answer_draw(alloc, files, development, history)?),
+        Request::New(name) => print_answer(out, &answer_new(alloc, &name)?),
         Request::Library { lib, text } => print_answer(out, &answer_library(alloc, lib, text)?),
     }
 }

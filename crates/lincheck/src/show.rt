@@ -1,16 +1,19 @@
 //! The command `show`.
-ghost use Rattle.std.specs.Prelude.{◌≡◌, IfOk, IfSome, IsErr};
+ghost use Rattle.std.specs.Prelude.{IfOk, IfSome, IsErr};
 ghost use Rattle.lc_outline_print.specs.Developments.{development_printed};
+ghost use Rattle.lc_words.specs.Tasks.{showing};
 ghost use Rattle.lincheck.specs.Check.{AnswersDevelopment};
+ghost use Rattle.lincheck.specs.Execution.{AnswersTask, IsUnread};
 
 use crate::answer::{Answer, Failure, SUCCESS};
 use crate::check::open_development;
 use crate::files::Files;
+use crate::lines::answer_lines;
 use lc_outline_print::development_text;
 use std::alloc::Global;
 
-/// The answer of the command `show` to the file at a path: the text of the development that it says.
-pub fn answer_show<'a, F: Files>(
+/// The text of the development that the file at a path says.
+fn answer_printed<'a, F: Files>(
     alloc: Global,
     files: &mut F,
     path: &'a str,
@@ -24,5 +27,22 @@ pub fn answer_show<'a, F: Files>(
             status: SUCCESS,
         }),
         Err(answer) => Ok(answer),
+    }
+}
+
+/// The answer of the command `show` to the file at a path: the text of the development that it says, on two lines or laid out.
+pub fn answer_show<'a, F: Files>(
+    alloc: Global,
+    files: &mut F,
+    path: &'a str,
+    lines: bool,
+) -> Result<Answer, Failure<'a>>
+    ensures unread { IsUnread (F.CannotOpen files.old) (F.bytes_at files.old) (showing path.now lines) → IsErr result }
+    ensures answers { IfOk result (λ answer. AnswersTask (F.bytes_at files.old) (showing path.now lines) answer.text.items answer.status) }
+{
+    if lines {
+        answer_lines(alloc, files, path)
+    } else {
+        answer_printed(alloc, files, path)
     }
 }

@@ -54,6 +54,14 @@ returns-in_ok-answer_draw-in-Draw-clause-leaves g c =
     (subst (λ (r : Request). AnswersTask (g.F.Files.bytes_at c.args.files.now) (task_of r) answer.text.items answer.status) (sym c.in-Draw.is) c.in_ok-answer_draw-in-Draw.ensures.answers)
     c.print_answer-in-Draw.ensures.prints c.print_answer-in-Draw.ensures.fails
 
+pub returns-in_ok-answer_new-in-New-clause-leaves : goal.returns-in_ok-answer_new-in-New-clause-leaves
+returns-in_ok-answer_new-in-New-clause-leaves g c =
+    let answer = c.in_ok-answer_new-in-New.field-0 in
+    leaves_printed (task_of c.args.request) (AnswersTask (g.F.Files.bytes_at c.args.files.now) (task_of c.args.request)) (g.O.Write.contents c.args.out.now)
+    (g.O.Write.contents c.print_answer-in-New.new.out) answer.text.items answer.status c.print_answer-in-New.result
+    (subst (λ (r : Request). AnswersTask (g.F.Files.bytes_at c.args.files.now) (task_of r) answer.text.items answer.status) (sym c.in-New.is) c.in_ok-answer_new-in-New.ensures)
+    c.print_answer-in-New.ensures.prints c.print_answer-in-New.ensures.fails
+
 pub returns-in_ok-answer_library-in-Library-clause-leaves : goal.returns-in_ok-answer_library-in-Library-clause-leaves
 returns-in_ok-answer_library-in-Library-clause-leaves g c =
     let answer = c.in_ok-answer_library-in-Library.field-0 in

@@ -5,7 +5,7 @@ use Rattle.lc_outline_print.specs.Developments.{development_printed}
 use Rattle.lincheck.specs.Check.{OpensAs}
 use Rattle.lincheck.specs.declared.answer.Answer.{Answer}
 use Rattle.lincheck.proofs.Opened.{shown, told_refused}
-use Rattle.lincheck.proofs.show.answer_show.Goals as goal
+use Rattle.lincheck.proofs.show.answer_printed.Goals as goal
 
 pub returns-in_ok-development_text-in-Ok-clause-answers : goal.returns-in_ok-development_text-in-Ok-clause-answers
 returns-in_ok-development_text-in-Ok-clause-answers g c =

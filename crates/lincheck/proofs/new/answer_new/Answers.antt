@@ -1,0 +1,16 @@
+use Rattle.std.proofs.Common.{◌∙◌, inr, refl, subst}
+use Rattle.lc_base.specs.Name.{bytes_of}
+use Rattle.lc_outline.specs.DevelopmentView.{development_shown}
+use Rattle.lc_outline_text.specs.Developments.{file_reading}
+use Rattle.lc_reading.specs.Files.{Says}
+use Rattle.lincheck.proofs.Beginnings.{begun_refused}
+use Rattle.lincheck.proofs.new.answer_new.Goals as goal
+
+pub returns-in-Ok : goal.returns-in-Ok
+returns-in-Ok c =
+    let D = development_shown c.in-Ok.field-0 in
+    inr (D, subst (λ t. Says file_reading t D) c.deref.ensures.value c.in-Ok.ensures, c.in_ok-text.ensures, refl)
+
+pub returns-in-Err : goal.returns-in-Err
+returns-in-Err c =
+    begun_refused (bytes_of c.args.name.now) c.deref.result.now c.in-Err.fault c.told_fault.result (c.deref.ensures.value ∙ c.in_ok-text.ensures) c.in-Err.ensures c.told_fault.ensures
