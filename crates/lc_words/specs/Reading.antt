@@ -7,7 +7,7 @@ use Rattle.clap.specs.declared.error.kind.ErrorKind.{ErrorKind}
 use Rattle.clap.specs.declared.error.kind.ErrorKind.TheVariants.{DisplayHelp, DisplayVersion}
 use Rattle.lc_lib_texts.specs.Names.{lib_named}
 use Rattle.lc_words.specs.Commands.{program_app}
-use Rattle.lc_words.specs.Tasks.{CheckCertificate, CheckFormula, DrawHistory, JudgeHistory, ListConditions, PrintLibrary, ShowDevelopment, Task, proving, task_of}
+use Rattle.lc_words.specs.Tasks.{CheckCertificate, CheckFormula, DrawHistory, JudgeHistory, ListConditions, PrintLibrary, ShowDevelopment, Task, carrying, proving, task_of}
 use Rattle.lc_words.specs.declared.request.LibraryText.{LibraryText}
 use Rattle.lc_words.specs.declared.request.LibraryText.TheVariants.{Development, Certificate, Hints}
 use Rattle.lc_words.specs.declared.request.Request.{Request}
@@ -23,6 +23,12 @@ two_file_task task name rows = option_and_then (λ development. option_map (task
 -- the task of proving the development with the hints that these arguments name
 abbrev pub proving_task : List Row → Option Task
 proving_task rows = option_map (λ development. proving development (first_of (codes "hints") rows)) (first_of (codes "DEV") rows)
+
+-- the task of carrying the certificate that these arguments name, with the hints that they name
+abbrev pub carrying_task : List Row → Option Task
+carrying_task rows =
+    option_and_then (λ old. option_and_then (λ certificate. option_map (λ new. carrying old certificate new (first_of (codes "hints") rows)) (first_of (codes "NEW") rows)) (first_of (codes "CERT") rows))
+    (first_of (codes "OLD") rows)
 
 -- the flag is set: its value is `true`
 abbrev pub is_set : Text → List Row → Bool
@@ -56,9 +62,11 @@ task_in_command c =
     then two_file_task CheckCertificate (codes "CERT") c.1
     else (if bytes_eq c.0 (codes "prove")
     then proving_task c.1
+    else (if bytes_eq c.0 (codes "carry")
+    then carrying_task c.1
     else (if bytes_eq c.0 (codes "library")
     then library_task c.1
-    else (if bytes_eq c.0 (codes "draw") then two_file_task DrawHistory (codes "HISTORY") c.1 else None)))))))
+    else (if bytes_eq c.0 (codes "draw") then two_file_task DrawHistory (codes "HISTORY") c.1 else None))))))))
 
 -- the task of a command with its arguments, if there is one
 abbrev pub task_in : Option (Text × List Row) → Option Task

@@ -2,13 +2,14 @@
 ghost use Rattle.std.specs.Prelude.{◌≡◌, false, IfOk};
 ghost use Rattle.clap.specs.Words.{app_of, rule_of};
 ghost use Rattle.clap.specs.declared.builder.command.Command.TheViews.{out-Command};
-ghost use Rattle.lc_words.specs.Commands.{check_app, conditions_app, draw_app, file_rule, first_app, flag_rule, formula_app, further_app, judge_app, library_app, object_rule, option_rule, program_app, prove_app, proving_app, show_app};
+ghost use Rattle.lc_words.specs.Commands.{carry_app, carrying_app, check_app, conditions_app, draw_app, file_rule, first_app, flag_rule, formula_app, further_app, judge_app, library_app, object_rule, option_rule, program_app, prove_app, proving_app, show_app};
 
 use crate::texts::{
-    ABOUT, CERTIFICATE_FILE, CHECK, CHECK_ANSWER, CONDITIONS, CONDITIONS_ANSWER, DEVELOPMENT, DRAW,
-    DRAW_ANSWER, EXIT_STATUS, FORMULA, FORMULA_ANSWER, FORMULA_FILE, HINTS, JUDGE, JUDGE_ANSWER,
-    JUDGE_DEVELOPMENT, JUDGE_HISTORY, LIBRARY, LIBRARY_ANSWER, LIBRARY_CERTIFICATE, LIBRARY_HINTS,
-    OBJECT, PROGRESS, PROVE, PROVE_ANSWER, SHOW, SHOW_ANSWER, VERSION,
+    ABOUT, CARRY, CARRY_ANSWER, CERTIFICATE_FILE, CHECK, CHECK_ANSWER, CONDITIONS,
+    CONDITIONS_ANSWER, DEVELOPMENT, DRAW, DRAW_ANSWER, EXIT_STATUS, FORMULA, FORMULA_ANSWER,
+    FORMULA_FILE, HINTS, JUDGE, JUDGE_ANSWER, JUDGE_DEVELOPMENT, JUDGE_HISTORY, LIBRARY,
+    LIBRARY_ANSWER, LIBRARY_CERTIFICATE, LIBRARY_HINTS, NEW, NEW_HINTS, OBJECT, OLD,
+    OLD_CERTIFICATE, PROGRESS, PROVE, PROVE_ANSWER, SHOW, SHOW_ANSWER, VERSION,
 };
 use clap::{Arg, ArgAction, Command};
 use std::alloc::{AllocError, Global};
@@ -111,6 +112,20 @@ fn prove_command<'a>(alloc: Global) -> Result<Command<'a>, AllocError>
         .arg(flag(alloc, "progress", PROGRESS))
 }
 
+fn carry_command<'a>(alloc: Global) -> Result<Command<'a>, AllocError>
+    ensures app { IfOk result (λ command. app_of command ≡ carry_app) }
+    ensures local { IfOk result (λ command. (out-Command command).has_globals ≡ false) }
+{
+    Command::new(alloc, "carry")
+        .about(CARRY)
+        .after_help(CARRY_ANSWER)
+        .arg(file(alloc, "OLD", OLD))?
+        .arg(file(alloc, "CERT", OLD_CERTIFICATE))?
+        .arg(file(alloc, "NEW", NEW))?
+        .arg(file_option(alloc, "hints", NEW_HINTS))?
+        .arg(flag(alloc, "progress", PROGRESS))
+}
+
 /// An argument that names an object of the library.
 fn object<'a>(alloc: Global, name: &'a str, help: &'a str) -> Arg<'a>
     ensures rule { rule_of result ≡ object_rule name.entry.now }
@@ -176,10 +191,17 @@ fn proving_commands<'a>(alloc: Global) -> Result<Command<'a>, AllocError>
         .subcommand(prove_command(alloc)?)
 }
 
+/// The program with its first eight commands.
+fn carrying_commands<'a>(alloc: Global) -> Result<Command<'a>, AllocError>
+    ensures { IfOk result (λ command. app_of command ≡ carrying_app) }
+{
+    proving_commands(alloc)?
+        .subcommand(carry_command(alloc)?)?
+        .subcommand(library_command(alloc)?)
+}
+
 pub(crate) fn program<'a>(alloc: Global) -> Result<Command<'a>, AllocError>
     ensures { IfOk result (λ command. app_of command ≡ program_app) }
 {
-    proving_commands(alloc)?
-        .subcommand(library_command(alloc)?)?
-        .subcommand(draw_command(alloc)?)
+    carrying_commands(alloc)?.subcommand(draw_command(alloc)?)
 }

@@ -10,3 +10,4 @@ mod Proving
 mod OneHistory
 mod OneCheck
 mod Fed
+mod Carrying

@@ -5,6 +5,7 @@ pub mod Formula
 pub mod Judge
 pub mod Draw
 pub mod Check
+pub mod Carry
 pub mod Prove
 pub mod Library
 pub mod Printing
