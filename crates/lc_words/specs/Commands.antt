@@ -43,11 +43,13 @@ check_app = with_rule (with_rule (new_app (codes "check")) (file_rule (codes "DE
 abbrev pub prove_app : App
 prove_app = with_rule (with_rule (with_rule (new_app (codes "prove")) (file_rule (codes "DEV"))) (option_rule (codes "hints"))) (flag_rule (codes "progress"))
 
+-- `carry OLD CERT NEW`
+abbrev pub carry_files_app : App
+carry_files_app = with_rule (with_rule (with_rule (new_app (codes "carry")) (file_rule (codes "OLD"))) (file_rule (codes "CERT"))) (file_rule (codes "NEW"))
+
 -- `carry OLD CERT NEW [--hints FILE] [--progress]`
 abbrev pub carry_app : App
-carry_app =
-    with_rule (with_rule (with_rule (with_rule (with_rule (new_app (codes "carry")) (file_rule (codes "OLD"))) (file_rule (codes "CERT"))) (file_rule (codes "NEW"))) (option_rule (codes "hints")))
-    (flag_rule (codes "progress"))
+carry_app = with_rule (with_rule carry_files_app (option_rule (codes "hints"))) (flag_rule (codes "progress"))
 
 -- `library NAME [--certificate] [--hints]`
 abbrev pub library_app : App

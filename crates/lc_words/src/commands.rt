@@ -2,7 +2,7 @@
 ghost use Rattle.std.specs.Prelude.{◌≡◌, false, IfOk};
 ghost use Rattle.clap.specs.Words.{app_of, rule_of};
 ghost use Rattle.clap.specs.declared.builder.command.Command.TheViews.{out-Command};
-ghost use Rattle.lc_words.specs.Commands.{carry_app, carrying_app, check_app, conditions_app, draw_app, file_rule, first_app, flag_rule, formula_app, further_app, judge_app, library_app, object_rule, option_rule, program_app, prove_app, proving_app, show_app};
+ghost use Rattle.lc_words.specs.Commands.{carry_app, carry_files_app, carrying_app, check_app, conditions_app, draw_app, file_rule, first_app, flag_rule, formula_app, further_app, judge_app, library_app, object_rule, option_rule, program_app, prove_app, proving_app, show_app};
 
 use crate::texts::{
     ABOUT, CARRY, CARRY_ANSWER, CERTIFICATE_FILE, CHECK, CHECK_ANSWER, CONDITIONS,
@@ -112,8 +112,9 @@ fn prove_command<'a>(alloc: Global) -> Result<Command<'a>, AllocError>
         .arg(flag(alloc, "progress", PROGRESS))
 }
 
-fn carry_command<'a>(alloc: Global) -> Result<Command<'a>, AllocError>
-    ensures app { IfOk result (λ command. app_of command ≡ carry_app) }
+/// The command `carry` with its files.
+fn carry_files<'a>(alloc: Global) -> Result<Command<'a>, AllocError>
+    ensures app { IfOk result (λ command. app_of command ≡ carry_files_app) }
     ensures local { IfOk result (λ command. (out-Command command).has_globals ≡ false) }
 {
     Command::new(alloc, "carry")
@@ -121,7 +122,14 @@ fn carry_command<'a>(alloc: Global) -> Result<Command<'a>, AllocError>
         .after_help(CARRY_ANSWER)
         .arg(file(alloc, "OLD", OLD))?
         .arg(file(alloc, "CERT", OLD_CERTIFICATE))?
-        .arg(file(alloc, "NEW", NEW))?
+        .arg(file(alloc, "NEW", NEW))
+}
+
+fn carry_command<'a>(alloc: Global) -> Result<Command<'a>, AllocError>
+    ensures app { IfOk result (λ command. app_of command ≡ carry_app) }
+    ensures local { IfOk result (λ command. (out-Command command).has_globals ≡ false) }
+{
+    carry_files(alloc)?
         .arg(file_option(alloc, "hints", NEW_HINTS))?
         .arg(flag(alloc, "progress", PROGRESS))
 }
