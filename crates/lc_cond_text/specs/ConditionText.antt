@@ -61,13 +61,18 @@ abbrev pub formulas_text : Spelled → List Formula → List ℕ
 formulas_text by [] = []
 formulas_text by (f ∷ fs) = spaced (spelled_formula by 0 f) ++ formulas_text by fs
 
+-- what the condition says: the end of its line, from (vars V) on, with the space before it
+abbrev pub statement_text : Development → Condition → List ℕ
+statement_text d c =
+    codes " (vars " ++ decimal c.variables ++ codes ") (hyps" ++ formulas_text (spelled d) c.hypotheses ++ codes ") (goal" ++ spaced (spelled_formula (spelled d) 0 c.goal) ++ codes "))"
+
 -- (condition K KIND POINT EDGE PATH NUM (vars V) (hyps F ..) (goal F))
 abbrev pub condition_text : Development → ℕ → Condition → List ℕ
 condition_text d k c =
     codes "(condition " ++ decimal k
     ++ spaced (kind_word c.kind) ++ spaced (or_hyphen (name_at (point_names d)) c.place.point) ++ spaced (passage_text d c.place.passage)
     ++ spaced (or_hyphen decimal c.place.path) ++ spaced (which_text d c.place.which)
-    ++ codes " (vars " ++ decimal c.variables ++ codes ") (hyps" ++ formulas_text (spelled d) c.hypotheses ++ codes ") (goal" ++ spaced (spelled_formula (spelled d) 0 c.goal) ++ codes "))"
+    ++ statement_text d c
 
 abbrev pub lines_from : Development → ℕ → List Condition → List ℕ
 lines_from d k [] = []

@@ -5,8 +5,11 @@ pub mod laws;
 mod lines;
 mod naming;
 mod nodes;
+mod statement;
 mod text;
 mod texts;
 
 pub use lines::ConditionLines;
+pub use statement::push_statement;
 pub use text::condition_text;
+pub use texts::{FormulaTexts, no_texts};

@@ -167,8 +167,8 @@ fn push_head(
     push_place(out, development, &condition.place)
 }
 
-// How many variables there are, and the hypotheses.
-fn push_known(
+/// How many variables there are, and the hypotheses.
+pub(crate) fn push_known(
     out: &mut Vec<u8>,
     texts: &mut FormulaTexts,
     terms: &Terms,
@@ -186,8 +186,8 @@ fn push_known(
     push_hypotheses(out, texts, terms, development, &goal.hypotheses)
 }
 
-// What is to be proved, and the end of the line.
-fn push_claim(
+/// What is to be proved, and the end of the line.
+pub(crate) fn push_claim(
     out: &mut Vec<u8>,
     texts: &mut FormulaTexts,
     terms: &Terms,

@@ -23,7 +23,7 @@ struct Place {
 
 /// Texts of formulas, by the formulas' numbers: they serve one development and one table, which may grow, so that what
 /// stands in many lines is spelled once. After an error they are to be let go.
-pub(crate) struct FormulaTexts {
+pub struct FormulaTexts {
     bytes: Vec<u8>,
     places: Vec<Option<Place>>,
     // Whether a formula was met already that is kept only where it is met again.
@@ -41,7 +41,7 @@ impl Drop for FormulaTexts {
 }
 
 /// No formula is spelled yet.
-pub(crate) fn no_texts(alloc: Global) -> FormulaTexts
+pub fn no_texts(alloc: Global) -> FormulaTexts
     ensures { (by : Spelled) (ts : Table) → Recalls by ts result }
 {
     FormulaTexts {

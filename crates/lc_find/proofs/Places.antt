@@ -1,5 +1,5 @@
 -- Where proofs stand first.
-use Rattle.std.proofs.Common.{◌≡◌, ◌≢◌, ℕ, zero, suc, ◌+◌, ◌⊎◌, inl, inr, Bool, true, false, cond, List, [], ◌∷◌, Option, Some, None, option_map, slice_get, refl, sym, ap, subst, ◌∙◌, arith}
+use Rattle.std.proofs.Common.{◌≡◌, ◌≢◌, ℕ, zero, suc, ◌+◌, ◌⊎◌, inl, inr, Bool, true, false, cond, List, [], ◌∷◌, ◌++◌, Option, Some, None, option_map, slice_get, refl, sym, ap, subst, ◌∙◌, arith}
 use Rattle.std.proofs.lemmas.Bool.Decides.{eqb_tells}
 use Rattle.std.specs.Prelude.{◌==◌}
 use Rattle.std.specs.Option.{option_or}
@@ -50,3 +50,12 @@ noted false n None p = counted_on n p
 pub none_of_map : {A B : Type 0} (f : A → B) (o : Option A) (p : Option B) → option_map f o ≡ p → ((x : A) → o ≡ Some x → ⊥) → p ≡ None
 none_of_map f None p is none = sym is
 none_of_map f (Some x) p is none = absurd (none x refl)
+
+first_of_two : (here : Bool) (p : Proof) (o r : Option Proof) → cond here (Some p) (option_or o r) ≡ option_or (cond here (Some p) o) r
+first_of_two true p o r = refl
+first_of_two false p o r = refl
+
+-- the first proof of a number among these, and else among those behind them
+pub proof_at-append : (es fs : List Entry) (n : ℕ) → proof_at (es ++ fs) n ≡ option_or (proof_at es n) (proof_at fs n)
+proof_at-append [] fs n = refl
+proof_at-append (e ∷ es) fs n = ap (cond (e.number == n) (Some e.proof)) (proof_at-append es fs n) ∙ first_of_two (e.number == n) e.proof (proof_at es n) (proof_at fs n)

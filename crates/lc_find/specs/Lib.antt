@@ -1,4 +1,5 @@
 pub mod Faults
+pub mod Certified
 pub mod Hinted
 pub mod FirstProofs
 pub mod FirstView

@@ -1,8 +1,10 @@
 //! Certificates are found: each proof is checked before it is taken, and the text of all of them before it is given.
-ghost use Rattle.std.specs.Prelude.{◌≡◌, length, IfOk, IfErr};
+ghost use Rattle.std.specs.Prelude.{◌≡◌, ◌++◌, length, IfOk, IfErr};
 ghost use Rattle.lc_term.specs.Lists.{Every};
 ghost use Rattle.lc_outline.specs.DevelopmentView.{development_shown};
+ghost use Rattle.lc_cert.specs.Certificates.{HaveFewSteps};
 ghost use Rattle.lc_cert.specs.CertificateView.{entries_in};
+ghost use Rattle.lc_cert.specs.EntryView.{entries_of};
 ghost use Rattle.lc_cert.specs.Printed.{certificate_line, EntryReadsBack, IsPrintable};
 ghost use Rattle.lc_check.specs.Verdicts.{AreProved, IsProvenBy};
 ghost use Rattle.lc_cond.specs.Conditions.{conditions};
@@ -11,8 +13,8 @@ ghost use Rattle.lc_find.specs.Found.{AreFound, TakesFirst, IsByHints};
 ghost use Rattle.lc_hints.specs.HintView.{proofs_in};
 ghost use Rattle.lc_find.specs.Hinted.{by_entries};
 
+use crate::candidates::Candidates;
 use crate::fault::FindFault;
-use crate::first_proofs::FirstProofs;
 use crate::progress::{Progress, Silent};
 use crate::reading_back::read_back;
 use crate::taking::next_entry;
@@ -27,13 +29,15 @@ use std::alloc::Global;
 fn found_entries<P: Progress>(
     alloc: Global,
     development: &Development,
+    given: &[Entry],
     hints: &Hints,
     budget: u64,
     progress: &mut P,
 ) -> Result<Vec<Entry>, FindFault>
-    ensures { AreFound (development_shown development.now) (proofs_in hints.now) budget result }
+    requires { HaveFewSteps (entries_of given.now) }
+    ensures { AreFound (development_shown development.now) (entries_of given.now ++ proofs_in hints.now) budget result }
 {
-    let first = FirstProofs::new(alloc, hints.proofs())?;
+    let first = Candidates::new(alloc, given, hints.proofs())?;
     let mut walk = Walk::new(alloc, development)?;
     let mut entries = Vec::new(alloc);
     'conditions: loop {
@@ -87,7 +91,27 @@ pub fn find_with<P: Progress>(
     ensures first { let D = development_shown development.now in IfOk result (λ c. TakesFirst D (proofs_in hints.now) (entries_in c)) }
     ensures unbudgeted { budget ≡ 0 → IsByHints (development_shown development.now) (proofs_in hints.now) result }
 {
-    let entries = found_entries(alloc, development, hints, budget, progress)?;
+    find_beside(alloc, development, &[], hints, budget, progress)
+}
+
+/// As `find_with`, where some proofs are given beside the hints, and stand before those of the hints.
+pub(crate) fn find_beside<P: Progress>(
+    alloc: Global,
+    development: &Development,
+    given: &[Entry],
+    hints: &Hints,
+    budget: u64,
+    progress: &mut P,
+) -> Result<Certificate, FindFault>
+    requires { HaveFewSteps (entries_of given.now) }
+    ensures accepted { let D = development_shown development.now in IfOk result (λ c. IsProvenBy D (certificate_line D (entries_in c))) }
+    ensures range { IfErr result (IsInRange (length (conditions (development_shown development.now)))) }
+    ensures by { let D = development_shown development.now in let hs = entries_of given.now ++ proofs_in hints.now in
+        Every (EntryReadsBack D) hs → AreProved hs 0 (conditions D) → IsPrintable D (by_entries hs 0 (conditions D)) → IsOkOrNoMemory result }
+    ensures first { let D = development_shown development.now in IfOk result (λ c. TakesFirst D (entries_of given.now ++ proofs_in hints.now) (entries_in c)) }
+    ensures unbudgeted { budget ≡ 0 → IsByHints (development_shown development.now) (entries_of given.now ++ proofs_in hints.now) result }
+{
+    let entries = found_entries(alloc, development, given, hints, budget, progress)?;
     printed_certificates_read_back();
     read_back(alloc, development, entries)
 }

@@ -1,4 +1,4 @@
-//! The first of the proofs that hints have for a condition.
+//! The first of some proofs that there is for a condition.
 ghost use Rattle.std.specs.Prelude.{◌≡◌, ℕ, Some, None, OnOk, if◌then◌else◌, ◌==◌};
 ghost use Rattle.std.specs.Map.{lookup};
 ghost use Rattle.std.specs.Option.{option_or};
@@ -47,11 +47,11 @@ impl<'a> FirstProofs<'a> {
     ghost use Rattle.lc_kernel.specs.View.{proof_of};
     ghost use Rattle.lc_cert.specs.Certificates.{proof_at};
     ghost use Rattle.lc_cert.specs.EntryView.{entries_of};
-    ghost use Rattle.lc_find.specs.FirstView.{all_of};
+    ghost use Rattle.lc_find.specs.FirstView.{placed_in};
 
     /// The first of these proofs, by their numbers.
     pub(crate) fn new(alloc: Global, entries: &'a [Entry]) -> Result<FirstProofs<'a>, OutOfMemory>
-        ensures { IfOk result (λ first. all_of first ≡ entries_of entries.now) }
+        ensures { IfOk result (λ first. placed_in first ≡ entries_of entries.now) }
     {
         let mut places = IndexMap::new(alloc);
         for (place, entry) in entries.iter().enumerate() {
@@ -62,7 +62,7 @@ impl<'a> FirstProofs<'a> {
 
     /// The first proof of a number, if there is one.
     pub(crate) fn first(&self, number: u64) -> Option<&Proof>
-        ensures { option_map (λ p. proof_of p.now) result ≡ proof_at (all_of self.now) number }
+        ensures { option_map (λ p. proof_of p.now) result ≡ proof_at (placed_in self.now) number }
     {
         let place = self.places.get(&number).copied()?;
         let entry = self.entries.get(place)?;

@@ -6,8 +6,8 @@ ghost use Rattle.lc_check.specs.Walking.{HasNext, IsKnown, IsInTurn};
 ghost use Rattle.lc_find.specs.FirstView.{all_of};
 ghost use Rattle.lc_find.specs.Taken.{IsHintTaken, IsSought, IsTaken};
 
+use crate::candidates::Candidates;
 use crate::fault::FindFault;
-use crate::first_proofs::FirstProofs;
 use lc_base::{FILE_LIMIT, Fault, OutOfMemory};
 use lc_cert::Entry;
 use lc_check::Walk;
@@ -21,7 +21,7 @@ fn hinted_entry(
     alloc: Global,
     development: &Development,
     walk: &mut Walk,
-    first: &FirstProofs<'_>,
+    first: &Candidates<'_>,
 ) -> Result<Option<Entry>, OutOfMemory>
     requires in_turn { (taken : List Proved) × IsInTurn (development_shown development.now) taken walk.old }
     requires stands { HasNext walk.old }
@@ -91,7 +91,7 @@ pub(crate) fn next_entry(
     alloc: Global,
     development: &Development,
     walk: &mut Walk,
-    first: &FirstProofs<'_>,
+    first: &Candidates<'_>,
     hints: &Hints,
     budget: u64,
 ) -> Result<Entry, FindFault>

@@ -13,8 +13,8 @@ use Rattle.lc_base.specs.NameText.{is_name}
 use Rattle.lc_base.specs.declared.name.Name.{Name}
 use Rattle.lc_lib_texts.specs.Names.{lib_named}
 use Rattle.lc_lib_texts.specs.declared.library.Lib.{Lib}
-use Rattle.lc_words.specs.Reading.{beginning_task, begun, is_set, library_task, one_file_task, proving_task, showing_task, text_for, two_file_task}
-use Rattle.lc_words.specs.Tasks.{BeginDevelopment, PrintLibrary, Task, is_development_name, proving, showing}
+use Rattle.lc_words.specs.Reading.{beginning_task, begun, is_set, library_task, one_file_task, proving_task, showing_task, text_for, two_file_task, carrying_task}
+use Rattle.lc_words.specs.Tasks.{BeginDevelopment, PrintLibrary, Task, is_development_name, proving, showing, carrying}
 use Rattle.lc_words.specs.declared.request.LibraryText.{LibraryText}
 
 -- the task of one path, and of two, where clap finds them
@@ -38,6 +38,14 @@ proving_found f development hints is is' =
 
 pub proving_unfound : (f : Found) → None ≡ first_value f (codes "DEV") → None ≡ proving_task (rows_of f)
 proving_unfound f is = ap (option_map (λ d. proving d (first_of (codes "hints") (rows_of f)))) (is ∙ first_value-rows f (codes "DEV"))
+
+-- the task of carrying a certificate, where clap finds its paths
+pub carrying_found : (f : Found) (old certificate new hints : Option Text) → old ≡ first_value f (codes "OLD") → certificate ≡ first_value f (codes "CERT") → new ≡ first_value f (codes "NEW")
+    → hints ≡ first_value f (codes "hints") → option_and_then (λ o. option_and_then (λ c. option_map (λ n. carrying o c n hints) new) certificate) old ≡ carrying_task (rows_of f)
+carrying_found f old certificate new hints is_old is_certificate is_new is_hints =
+    ap₂ (λ x y. option_and_then (λ o. option_and_then (λ c. option_map (λ n. carrying o c n hints) new) y) x) (is_old ∙ first_value-rows f (codes "OLD")) (is_certificate ∙ first_value-rows f (codes "CERT"))
+    ∙ ap₂ (λ x y. option_and_then (λ o. option_and_then (λ c. option_map (λ n. carrying o c n y) x) (first_of (codes "CERT") (rows_of f))) (first_of (codes "OLD") (rows_of f)))
+    (is_new ∙ first_value-rows f (codes "NEW")) (is_hints ∙ first_value-rows f (codes "hints"))
 
 -- a flag is set where its value is `true`
 pub flag_found : (f : Found) (name : Text) (value : Option Text) → value ≡ first_value f name → option_map_or (λ v. bytes_eq v (codes "true")) value false ≡ is_set name (rows_of f)

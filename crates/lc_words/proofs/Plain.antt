@@ -13,7 +13,7 @@ use Rattle.lc_lib_texts.specs.declared.library.Lib.{Lib}
 use Rattle.lc_lib_texts.specs.declared.library.Lib.TheVariants.{Counter, Stack, Lock, Snapshot, Combining, Rendezvous, Queue, PoolStack}
 use Rattle.lc_words.specs.Commands.{program_app}
 use Rattle.lc_words.specs.Reading.{task_in}
-use Rattle.lc_words.specs.Tasks.{HasPlainPaths, Task, CheckFormula, JudgeHistory, ShowDevelopment, ShowLines, ListConditions, CheckCertificate, ProveDevelopment, ProveWithHints, DrawHistory, BeginDevelopment, PrintLibrary, is_development_name, is_plain, words_for}
+use Rattle.lc_words.specs.Tasks.{HasPlainPaths, Task, CheckFormula, JudgeHistory, ShowDevelopment, ShowLines, ListConditions, CheckCertificate, ProveDevelopment, ProveWithHints, DrawHistory, BeginDevelopment, PrintLibrary, is_development_name, is_plain, words_for, CarryCertificate, CarryWithHints}
 use Rattle.lc_words.specs.declared.request.LibraryText.TheVariants.{Development, Certificate, Hints}
 use Rattle.lc_words.proofs.Walks.{Piece, built_over, command_is_read, command_is_taken, command_over, known, plain, words_of}
 
@@ -70,6 +70,10 @@ task_is_read name (CheckCertificate development certificate) is = is_read name (
 task_is_read name (ProveDevelopment development) is = is_read name (codes "prove") (plain development is ∷ []) refl
 task_is_read name (ProveWithHints development hints) is =
     is_read name (codes "prove") (plain development is.0 ∷ known (codes "--hints") ∷ plain hints is.1 ∷ []) refl
+task_is_read name (CarryCertificate old certificate new) is =
+    is_read name (codes "carry") (plain old is.0 ∷ plain certificate is.1 ∷ plain new is.2 ∷ []) refl
+task_is_read name (CarryWithHints old certificate new hints) is =
+    is_read name (codes "carry") (plain old is.0 ∷ plain certificate is.1 ∷ plain new is.2 ∷ known (codes "--hints") ∷ plain hints is.3 ∷ []) refl
 task_is_read name (DrawHistory development history) is = is_read name (codes "draw") (plain development is.0 ∷ plain history is.1 ∷ []) refl
 task_is_read name (BeginDevelopment own) is =
     is_read name (codes "new") (plain own (named_is_plain own is) ∷ []) refl ∙ ap (λ b. if b then Some (BeginDevelopment own) else None) is
@@ -95,6 +99,10 @@ words_are_taken name (CheckCertificate development certificate) is = is_taken na
 words_are_taken name (ProveDevelopment development) is = is_taken name (codes "prove") (plain development is ∷ []) refl
 words_are_taken name (ProveWithHints development hints) is =
     is_taken name (codes "prove") (plain development is.0 ∷ known (codes "--hints") ∷ plain hints is.1 ∷ []) refl
+words_are_taken name (CarryCertificate old certificate new) is =
+    is_taken name (codes "carry") (plain old is.0 ∷ plain certificate is.1 ∷ plain new is.2 ∷ []) refl
+words_are_taken name (CarryWithHints old certificate new hints) is =
+    is_taken name (codes "carry") (plain old is.0 ∷ plain certificate is.1 ∷ plain new is.2 ∷ known (codes "--hints") ∷ plain hints is.3 ∷ []) refl
 words_are_taken name (DrawHistory development history) is = is_taken name (codes "draw") (plain development is.0 ∷ plain history is.1 ∷ []) refl
 words_are_taken name (BeginDevelopment own) is = is_taken name (codes "new") (plain own (named_is_plain own is) ∷ []) refl
 words_are_taken name (PrintLibrary lib Development) is = is_taken name (codes "library") (plain (name_of lib) (names_are_plain lib) ∷ []) refl

@@ -43,6 +43,14 @@ check_app = with_rule (with_rule (new_app (codes "check")) (file_rule (codes "DE
 abbrev pub prove_app : App
 prove_app = with_rule (with_rule (with_rule (new_app (codes "prove")) (file_rule (codes "DEV"))) (option_rule (codes "hints"))) (flag_rule (codes "progress"))
 
+-- `carry OLD CERT NEW`
+abbrev pub carry_files_app : App
+carry_files_app = with_rule (with_rule (with_rule (new_app (codes "carry")) (file_rule (codes "OLD"))) (file_rule (codes "CERT"))) (file_rule (codes "NEW"))
+
+-- `carry OLD CERT NEW [--hints FILE] [--progress]`
+abbrev pub carry_app : App
+carry_app = with_rule (with_rule carry_files_app (option_rule (codes "hints"))) (flag_rule (codes "progress"))
+
 -- `library NAME [--certificate] [--hints]`
 abbrev pub library_app : App
 library_app = with_rule (with_rule (with_rule (new_app (codes "library")) (object_rule (codes "NAME"))) (flag_rule (codes "certificate"))) (flag_rule (codes "hints"))
@@ -72,9 +80,9 @@ abbrev pub proving_app : App
 proving_app = with_subcommand (with_subcommand further_app check_app.top) prove_app.top
 
 -- the program with its first eight commands
-abbrev pub drawing_app : App
-drawing_app = with_subcommand (with_subcommand proving_app library_app.top) draw_app.top
+abbrev pub carrying_app : App
+carrying_app = with_subcommand (with_subcommand proving_app carry_app.top) library_app.top
 
 -- the program and its commands
 abbrev pub program_app : App
-program_app = with_subcommand drawing_app begin_app.top
+program_app = with_subcommand (with_subcommand carrying_app draw_app.top) begin_app.top

@@ -7,7 +7,7 @@ use Rattle.clap.specs.declared.error.kind.ErrorKind.{ErrorKind}
 use Rattle.clap.specs.declared.error.kind.ErrorKind.TheVariants.{DisplayHelp, DisplayVersion}
 use Rattle.lc_lib_texts.specs.Names.{lib_named}
 use Rattle.lc_words.specs.Commands.{program_app}
-use Rattle.lc_words.specs.Tasks.{BeginDevelopment, CheckCertificate, CheckFormula, DrawHistory, JudgeHistory, ListConditions, PrintLibrary, Task, is_development_name, proving, showing, task_of}
+use Rattle.lc_words.specs.Tasks.{BeginDevelopment, CheckCertificate, CheckFormula, DrawHistory, JudgeHistory, ListConditions, PrintLibrary, Task, is_development_name, proving, showing, task_of, ShowDevelopment, carrying}
 use Rattle.lc_words.specs.declared.request.LibraryText.{LibraryText}
 use Rattle.lc_words.specs.declared.request.LibraryText.TheVariants.{Development, Certificate, Hints}
 use Rattle.lc_words.specs.declared.request.Request.{Request}
@@ -19,6 +19,12 @@ one_file_task task name rows = option_map task (first_of name rows)
 -- the task with a development and the file that these arguments name so
 abbrev pub two_file_task : (List ℕ → List ℕ → Task) → Text → List Row → Option Task
 two_file_task task name rows = option_and_then (λ development. option_map (task development) (first_of name rows)) (first_of (codes "DEV") rows)
+
+-- the task of carrying the certificate that these arguments name, with the hints that they name
+abbrev pub carrying_task : List Row → Option Task
+carrying_task rows =
+    option_and_then (λ old. option_and_then (λ certificate. option_map (λ new. carrying old certificate new (first_of (codes "hints") rows)) (first_of (codes "NEW") rows)) (first_of (codes "CERT") rows))
+    (first_of (codes "OLD") rows)
 
 -- the flag is set: its value is `true`
 abbrev pub is_set : Text → List Row → Bool
@@ -67,11 +73,13 @@ task_in_command c =
     then two_file_task CheckCertificate (codes "CERT") c.1
     else (if bytes_eq c.0 (codes "prove")
     then proving_task c.1
+    else (if bytes_eq c.0 (codes "carry")
+    then carrying_task c.1
     else (if bytes_eq c.0 (codes "library")
     then library_task c.1
     else (if bytes_eq c.0 (codes "draw")
     then two_file_task DrawHistory (codes "HISTORY") c.1
-    else (if bytes_eq c.0 (codes "new") then beginning_task c.1 else None))))))))
+    else (if bytes_eq c.0 (codes "new") then beginning_task c.1 else None)))))))))
 
 -- the task of a command with its arguments, if there is one
 abbrev pub task_in : Option (Text × List Row) → Option Task

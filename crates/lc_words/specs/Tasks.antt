@@ -11,13 +11,14 @@ use Rattle.lc_lib_texts.specs.declared.library.Lib.{Lib}
 use Rattle.lc_words.specs.declared.request.LibraryText.{LibraryText}
 use Rattle.lc_words.specs.declared.request.LibraryText.TheVariants.{Development, Certificate, Hints}
 use Rattle.lc_words.specs.declared.request.Request.{Request}
-use Rattle.lc_words.specs.declared.request.Request.TheVariants.{Formula, Judge, Show, Conditions, Check, Prove, Draw, New, Library}
+use Rattle.lc_words.specs.declared.request.Request.TheVariants.{Formula, Judge, Show, Conditions, Check, Prove, Draw, New, Library, Carry}
 
 -- What may be asked for: that the proof in the file at a path is checked; that the history in one file is judged by the
 -- specification in another; that the development in a file is shown, or laid out over lines, or its conditions are listed; that the certificate in
 -- one file is checked against the development in another; that a certificate is found of the development in a file, without
--- hints or with those in another; that the history in one file is drawn by the specification in another; that a development of
--- a name is begun; or that a text of an object of the library is printed
+-- hints or with those in another; that a certificate is found of a new development, with the proofs of an old one, by its
+-- certificate, without hints or with those in a further file; that the history in one file is drawn by the specification in another;
+-- that a development of a name is begun; or that a text of an object of the library is printed
 pub data Task : Type 0 where
   CheckFormula : (path : List ℕ) → Task
   JudgeHistory : (development history : List ℕ) → Task
@@ -27,6 +28,8 @@ pub data Task : Type 0 where
   CheckCertificate : (development certificate : List ℕ) → Task
   ProveDevelopment : (development : List ℕ) → Task
   ProveWithHints : (development hints : List ℕ) → Task
+  CarryCertificate : (old certificate new : List ℕ) → Task
+  CarryWithHints : (old certificate new hints : List ℕ) → Task
   DrawHistory : (development history : List ℕ) → Task
   BeginDevelopment : (name : List ℕ) → Task
   PrintLibrary : (lib : Lib) (text : LibraryText) → Task
@@ -41,6 +44,11 @@ abbrev pub proving : List ℕ → Option (List ℕ) → Task
 proving development None = ProveDevelopment development
 proving development (Some hints) = ProveWithHints development hints
 
+-- the task of carrying a certificate, with hints if there is a path of such
+abbrev pub carrying : List ℕ → List ℕ → List ℕ → Option (List ℕ) → Task
+carrying old certificate new None = CarryCertificate old certificate new
+carrying old certificate new (Some hints) = CarryWithHints old certificate new hints
+
 -- the path that is given, if one is
 abbrev pub path_in : Option (Bor (List ℕ)) → Option (List ℕ)
 path_in path = option_map (λ p. p.now) path
@@ -53,6 +61,7 @@ task_of (Show development lines) = showing development.now lines
 task_of (Conditions development) = ListConditions development.now
 task_of (Check development certificate) = CheckCertificate development.now certificate.now
 task_of (Prove development hints progress) = proving development.now (path_in hints)
+task_of (Carry old certificate new hints progress) = carrying old.now certificate.now new.now (path_in hints)
 task_of (Draw development history) = DrawHistory development.now history.now
 task_of (New name) = BeginDevelopment (bytes_of name)
 task_of (Library lib text) = PrintLibrary lib text
@@ -86,6 +95,8 @@ words_for name (ListConditions development) = name ∷ codes "conditions" ∷ de
 words_for name (CheckCertificate development certificate) = name ∷ codes "check" ∷ development ∷ certificate ∷ []
 words_for name (ProveDevelopment development) = name ∷ codes "prove" ∷ development ∷ []
 words_for name (ProveWithHints development hints) = name ∷ codes "prove" ∷ development ∷ codes "--hints" ∷ hints ∷ []
+words_for name (CarryCertificate old certificate new) = name ∷ codes "carry" ∷ old ∷ certificate ∷ new ∷ []
+words_for name (CarryWithHints old certificate new hints) = name ∷ codes "carry" ∷ old ∷ certificate ∷ new ∷ codes "--hints" ∷ hints ∷ []
 words_for name (DrawHistory development history) = name ∷ codes "draw" ∷ development ∷ history ∷ []
 words_for name (BeginDevelopment own) = name ∷ codes "new" ∷ own ∷ []
 words_for name (PrintLibrary lib text) = library_words name (name_of lib) text
@@ -100,6 +111,8 @@ HasPlainPaths (ListConditions development) = is_plain development ≡ true
 HasPlainPaths (CheckCertificate development certificate) = (is_plain development ≡ true) × (is_plain certificate ≡ true)
 HasPlainPaths (ProveDevelopment development) = is_plain development ≡ true
 HasPlainPaths (ProveWithHints development hints) = (is_plain development ≡ true) × (is_plain hints ≡ true)
+HasPlainPaths (CarryCertificate old certificate new) = (is_plain old ≡ true) × (is_plain certificate ≡ true) × (is_plain new ≡ true)
+HasPlainPaths (CarryWithHints old certificate new hints) = (is_plain old ≡ true) × (is_plain certificate ≡ true) × (is_plain new ≡ true) × (is_plain hints ≡ true)
 HasPlainPaths (DrawHistory development history) = (is_plain development ≡ true) × (is_plain history ≡ true)
 HasPlainPaths (BeginDevelopment name) = is_development_name name ≡ true
 HasPlainPaths (PrintLibrary lib text) = Unit {0}

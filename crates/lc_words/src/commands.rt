@@ -2,14 +2,15 @@
 ghost use Rattle.std.specs.Prelude.{◌≡◌, false, IfOk};
 ghost use Rattle.clap.specs.Words.{app_of, rule_of};
 ghost use Rattle.clap.specs.declared.builder.command.Command.TheViews.{out-Command};
-ghost use Rattle.lc_words.specs.Commands.{begin_app, check_app, conditions_app, draw_app, drawing_app, file_rule, first_app, flag_rule, formula_app, further_app, judge_app, library_app, object_rule, option_rule, program_app, prove_app, proving_app, show_app};
+ghost use Rattle.lc_words.specs.Commands.{begin_app, carry_app, carry_files_app, carrying_app, check_app, conditions_app, draw_app, file_rule, first_app, flag_rule, formula_app, further_app, judge_app, library_app, object_rule, option_rule, program_app, prove_app, proving_app, show_app};
 
 use crate::texts::{
-    ABOUT, CERTIFICATE_FILE, CHECK, CHECK_ANSWER, CONDITIONS, CONDITIONS_ANSWER, DEVELOPMENT, DRAW,
-    DRAW_ANSWER, EXIT_STATUS, FORMULA, FORMULA_ANSWER, FORMULA_FILE, HINTS, JUDGE, JUDGE_ANSWER,
-    JUDGE_DEVELOPMENT, JUDGE_HISTORY, LIBRARY, LIBRARY_ANSWER, LIBRARY_CERTIFICATE, LIBRARY_HINTS,
-    NEW, NEW_ANSWER, NEW_NAME, OBJECT, PROGRESS, PROVE, PROVE_ANSWER, SHOW, SHOW_ANSWER,
-    SHOW_LINES, VERSION,
+    ABOUT, CARRY, CARRY_ANSWER, CERTIFICATE_FILE, CHECK, CHECK_ANSWER, CONDITIONS,
+    CONDITIONS_ANSWER, DEVELOPMENT, DRAW, DRAW_ANSWER, EXIT_STATUS, FORMULA, FORMULA_ANSWER,
+    FORMULA_FILE, HINTS, JUDGE, JUDGE_ANSWER, JUDGE_DEVELOPMENT, JUDGE_HISTORY, LIBRARY,
+    LIBRARY_ANSWER, LIBRARY_CERTIFICATE, LIBRARY_HINTS, NEW, NEW_ANSWER, NEW_DEVELOPMENT,
+    NEW_HINTS, NEW_NAME, OBJECT, OLD, OLD_CERTIFICATE, PROGRESS, PROVE, PROVE_ANSWER, SHOW,
+    SHOW_ANSWER, SHOW_LINES, VERSION,
 };
 use clap::{Arg, ArgAction, Command};
 use std::alloc::{AllocError, Global};
@@ -113,6 +114,28 @@ fn prove_command<'a>(alloc: Global) -> Result<Command<'a>, AllocError>
         .arg(flag(alloc, "progress", PROGRESS))
 }
 
+/// The command `carry` with its files.
+fn carry_files<'a>(alloc: Global) -> Result<Command<'a>, AllocError>
+    ensures app { IfOk result (λ command. app_of command ≡ carry_files_app) }
+    ensures local { IfOk result (λ command. (out-Command command).has_globals ≡ false) }
+{
+    Command::new(alloc, "carry")
+        .about(CARRY)
+        .after_help(CARRY_ANSWER)
+        .arg(file(alloc, "OLD", OLD))?
+        .arg(file(alloc, "CERT", OLD_CERTIFICATE))?
+        .arg(file(alloc, "NEW", NEW_DEVELOPMENT))
+}
+
+fn carry_command<'a>(alloc: Global) -> Result<Command<'a>, AllocError>
+    ensures app { IfOk result (λ command. app_of command ≡ carry_app) }
+    ensures local { IfOk result (λ command. (out-Command command).has_globals ≡ false) }
+{
+    carry_files(alloc)?
+        .arg(file_option(alloc, "hints", NEW_HINTS))?
+        .arg(flag(alloc, "progress", PROGRESS))
+}
+
 /// An argument that names an object of the library.
 fn object<'a>(alloc: Global, name: &'a str, help: &'a str) -> Arg<'a>
     ensures rule { rule_of result ≡ object_rule name.entry.now }
@@ -189,16 +212,18 @@ fn proving_commands<'a>(alloc: Global) -> Result<Command<'a>, AllocError>
 }
 
 /// The program with its first eight commands.
-fn drawing_commands<'a>(alloc: Global) -> Result<Command<'a>, AllocError>
-    ensures { IfOk result (λ command. app_of command ≡ drawing_app) }
+fn carrying_commands<'a>(alloc: Global) -> Result<Command<'a>, AllocError>
+    ensures { IfOk result (λ command. app_of command ≡ carrying_app) }
 {
     proving_commands(alloc)?
-        .subcommand(library_command(alloc)?)?
-        .subcommand(draw_command(alloc)?)
+        .subcommand(carry_command(alloc)?)?
+        .subcommand(library_command(alloc)?)
 }
 
 pub(crate) fn program<'a>(alloc: Global) -> Result<Command<'a>, AllocError>
     ensures { IfOk result (λ command. app_of command ≡ program_app) }
 {
-    drawing_commands(alloc)?.subcommand(new_command(alloc)?)
+    carrying_commands(alloc)?
+        .subcommand(draw_command(alloc)?)?
+        .subcommand(new_command(alloc)?)
 }

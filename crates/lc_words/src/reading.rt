@@ -2,8 +2,8 @@
 ghost use Rattle.std.specs.Prelude.{◌≡◌, ◌⊎◌, ℕ, List, codes, IfOk, IfErr, IsErrAnd, option_map};
 ghost use Rattle.clap.specs.Words.{found_of, kind_of, rows_of, subcommand_rows_of};
 ghost use Rattle.clap.specs.declared.error.kind.ErrorKind.TheVariants.{OutOfMemory};
-ghost use Rattle.lc_words.specs.Tasks.{CheckCertificate, CheckFormula, DrawHistory, HasPlainPaths, JudgeHistory, ListConditions, Task, task_of, texts_of, words_for};
-ghost use Rattle.lc_words.specs.Reading.{AreWrong, AskForHelp, AsksForText, Reads, beginning_task, is_set, library_task, one_file_task, proving_task, showing_task, task_in, text_for, two_file_task};
+ghost use Rattle.lc_words.specs.Tasks.{CheckCertificate, CheckFormula, DrawHistory, HasPlainPaths, JudgeHistory, ListConditions, Task, task_of, texts_of, words_for, ShowDevelopment};
+ghost use Rattle.lc_words.specs.Reading.{AreWrong, AskForHelp, AsksForText, Reads, beginning_task, is_set, library_task, one_file_task, proving_task, showing_task, task_in, text_for, two_file_task, carrying_task};
 
 use crate::commands::program;
 use crate::request::{LibraryText, Request};
@@ -89,6 +89,23 @@ fn prove_request<'a>(command: &ArgMatches<'a>) -> Option<Request<'a>>
     })
 }
 
+fn carry_request<'a>(command: &ArgMatches<'a>) -> Option<Request<'a>>
+    ensures { option_map task_of result ≡ carrying_task (rows_of (found_of command.now)) }
+{
+    let old = command.get_str("OLD")?;
+    let certificate = command.get_str("CERT")?;
+    let new = command.get_str("NEW")?;
+    let hints = command.get_str("hints");
+    let progress = command.get_flag("progress");
+    Some(Request::Carry {
+        old,
+        certificate,
+        new,
+        hints,
+        progress,
+    })
+}
+
 /// Whether a flag is set.
 fn is_set(command: &ArgMatches<'_>, name: &str) -> bool
     ensures { result ≡ is_set name.now (rows_of (found_of command.now)) }
@@ -134,6 +151,7 @@ fn request_of<'a>(matches: &ArgMatches<'a>) -> Option<Request<'a>>
         "conditions" => conditions_request(command),
         "check" => check_request(command),
         "prove" => prove_request(command),
+        "carry" => carry_request(command),
         "library" => library_request(command),
         "draw" => draw_request(command),
         "new" => new_request(command),

@@ -38,6 +38,14 @@ pub enum Request<'a> {
         hints: Option<&'a str>,
         progress: bool,
     },
+    /// Find a certificate of the new development, with the proofs of an old one, as `Prove` does for the rest.
+    Carry {
+        old: &'a str,
+        certificate: &'a str,
+        new: &'a str,
+        hints: Option<&'a str>,
+        progress: bool,
+    },
     /// Draw the history in a file, with its order, by the specification in another.
     Draw {
         development: &'a str,

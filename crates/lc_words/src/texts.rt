@@ -183,6 +183,30 @@ Example:
   lincheck prove examples/counter.lc
       prints a certificate of the counter, with 59 proofs";
 
+pub(crate) static CARRY: &str = "Finds a certificate of a development that was changed";
+
+pub(crate) static OLD: &str = "The development before it was changed";
+
+pub(crate) static OLD_CERTIFICATE: &str = "Its certificate, which `check` accepts";
+
+pub(crate) static NEW_DEVELOPMENT: &str = "The development after it was changed";
+
+pub(crate) static NEW_HINTS: &str =
+    "Hints for NEW: terms, formulas and proofs for its conditions, by their numbers";
+
+pub(crate) static CARRY_ANSWER: &str = "\
+Reads OLD and its certificate CERT, and then NEW and the hints in FILE. A condition of NEW that reads as one of OLD from `(vars`
+on has the proof of that one, with the columns of the same names. For the others a proof is looked for as by `prove`. Prints a
+certificate of NEW, which `check` accepts. Else it prints one line:
+  refused CODE ..  OLD or CERT is refused as by `check`, or NEW or FILE as by `prove`
+  not-found K      no proof of condition K of NEW was found
+  budget K         1,000,000 steps were tried for condition K, or the certificate would be too large
+  large K          a number of the search for condition K leaves 128 bits
+
+Example:
+  lincheck carry examples/counter.lc examples/counter.cert examples/faa_counter.lc
+      prints a certificate of a counter that adds in one step, with 51 proofs";
+
 pub(crate) static LIBRARY: &str = "Prints an object of the library";
 
 pub(crate) static OBJECT: &str =

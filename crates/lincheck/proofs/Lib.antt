@@ -12,3 +12,4 @@ mod OneCheck
 mod Fed
 mod LaidOut
 mod Beginnings
+mod Carrying

@@ -59,7 +59,7 @@ certificate_of_whole : (D : S.Development) (file : List ℕ) (refusal : Refusal)
 certificate_of_whole D file refusal (inl (offset, is, fault)) = inl (offset, is, fault_of_whole most_bytes file offset refl fault)
 certificate_of_whole D file refusal (inr (ts, flaw, reads, flawed, is)) = inr (ts, flaw, reading_of_whole most_bytes file ts refl reads, flawed, is)
 
-refusal_of_certificate : (D : S.Development) (file : List ℕ) (refusal : Refusal) → IsCertificateRefusal D (within_limit file) refusal → IsCertificateRefusal D file refusal
+pub refusal_of_certificate : (D : S.Development) (file : List ℕ) (refusal : Refusal) → IsCertificateRefusal D (within_limit file) refusal → IsCertificateRefusal D file refusal
 refusal_of_certificate D file refusal (inl first) = inl (certificate_of_whole D file refusal first)
 refusal_of_certificate D file refusal (inr (es, certifies, refuses)) = inr (es, said_of_whole (certificate_reading D) file es certifies, refuses)
 

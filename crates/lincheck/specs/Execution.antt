@@ -1,5 +1,5 @@
 -- What the program leaves on standard output, and its exit status.
-use Rattle.std.specs.Prelude.{◌≡◌, ℕ, ◌⊎◌, List, Option, Some, IfSome}
+use Rattle.std.specs.Prelude.{◌≡◌, ℕ, ◌⊎◌, List, Option, Some, None, IfSome}
 use Rattle.std.specs.Io.KnownBytes.{Keeps, Appends}
 use Rattle.lc_reading.specs.Files.{Says}
 use Rattle.lc_spec_text.specs.Specifications.{first_reading}
@@ -8,8 +8,9 @@ use Rattle.lc_cond_text.specs.ConditionText.{conditions_text}
 use Rattle.lc_outline.specs.Development.{Development}
 use Rattle.lc_outline_print.specs.Developments.{development_printed}
 use Rattle.lc_outline_text.specs.Developments.{file_reading}
+use Rattle.lincheck.specs.Carry.{AnswersCarry, AnswersWith, IsUnreadCarry}
 use Rattle.lincheck.specs.Check.{AnswersDevelopment, AnswersCheck}
-use Rattle.lc_words.specs.Tasks.{Task, CheckFormula, JudgeHistory, ShowDevelopment, ShowLines, ListConditions, CheckCertificate, ProveDevelopment, ProveWithHints, DrawHistory, BeginDevelopment, PrintLibrary}
+use Rattle.lc_words.specs.Tasks.{Task, CheckFormula, JudgeHistory, ShowDevelopment, ShowLines, ListConditions, CheckCertificate, ProveDevelopment, ProveWithHints, DrawHistory, BeginDevelopment, PrintLibrary, CarryCertificate, CarryWithHints}
 use Rattle.lincheck.specs.Draw.{AnswersDraw}
 use Rattle.lincheck.specs.Formula.{AnswersFormula}
 use Rattle.lincheck.specs.Judge.{AnswersJudge}
@@ -35,6 +36,10 @@ AnswersTask bytes_at (ProveDevelopment development) text status =
     IfSome (bytes_at development) (λ file. AnswersProve file text status)
 AnswersTask bytes_at (ProveWithHints development hints) text status =
     IfSome (bytes_at development) (λ file. AnswersHinted file (bytes_at hints) text status)
+AnswersTask bytes_at (CarryCertificate old certificate new) text status =
+    IfSome (bytes_at old) (λ file. AnswersCarry (AnswersWith None) file (bytes_at certificate) (bytes_at new) text status)
+AnswersTask bytes_at (CarryWithHints old certificate new hints) text status =
+    IfSome (bytes_at old) (λ file. AnswersCarry (AnswersWith (Some (bytes_at hints))) file (bytes_at certificate) (bytes_at new) text status)
 AnswersTask bytes_at (DrawHistory development history) text status =
     IfSome (bytes_at development) (λ file. AnswersDraw file (bytes_at history) text status)
 AnswersTask bytes_at (BeginDevelopment name) text status = AnswersNew name text status
@@ -56,6 +61,8 @@ IsUnread CannotOpen bytes_at (ProveDevelopment development) = CannotOpen develop
 IsUnread CannotOpen bytes_at (ProveWithHints development hints) =
     CannotOpen development
     ⊎ ((file : List ℕ) × (D : Development) × (bytes_at development ≡ Some file) × Says file_reading file D × CannotOpen hints)
+IsUnread CannotOpen bytes_at (CarryCertificate old certificate new) = IsUnreadCarry CannotOpen bytes_at old certificate new None
+IsUnread CannotOpen bytes_at (CarryWithHints old certificate new hints) = IsUnreadCarry CannotOpen bytes_at old certificate new (Some hints)
 IsUnread CannotOpen bytes_at (DrawHistory development history) =
     CannotOpen development
     ⊎ ((file : List ℕ) × (spec : Specification) × (bytes_at development ≡ Some file) × Says first_reading file spec × CannotOpen history)

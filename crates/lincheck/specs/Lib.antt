@@ -7,6 +7,7 @@ pub mod Draw
 pub mod Check
 pub mod Lines
 pub mod New
+pub mod Carry
 pub mod Prove
 pub mod Library
 pub mod Printing

@@ -2,6 +2,7 @@
 #![tactic(auto)]
 
 mod answer;
+mod carry;
 mod check;
 mod conditions;
 mod disk;

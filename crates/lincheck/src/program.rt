@@ -8,6 +8,7 @@ ghost use Rattle.lincheck.specs.Printing.{Leaves};
 ghost use Rattle.lincheck.specs.Status.{status_of};
 
 use crate::answer::{COMMAND_LINE_FAULT, Failure, SUCCESS};
+use crate::carry::answer_carry;
 use crate::check::answer_check;
 use crate::conditions::list_conditions;
 use crate::draw::answer_draw;
@@ -62,6 +63,20 @@ fn carry_out<'a, F: Files, O: Write, E: Write>(
                 is_asked: progress,
             };
             let answer = answer_prove(alloc, files, development, hints, &mut telling)?;
+            print_answer(out, &answer)
+        }
+        Request::Carry {
+            old,
+            certificate,
+            new,
+            hints,
+            progress,
+        } => {
+            let mut telling = Telling {
+                err,
+                is_asked: progress,
+            };
+            let answer = answer_carry(alloc, files, old, certificate, new, hints, &mut telling)?;
             print_answer(out, &answer)
         }
         Request::Draw {

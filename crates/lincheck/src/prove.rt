@@ -24,7 +24,7 @@ use lc_sexp::FormsReader;
 use std::alloc::Global;
 
 /// How many steps are tried for a condition.
-const BUDGET: u64 = 1_000_000;
+pub const BUDGET: u64 = 1_000_000;
 
 /// The line of a word and a condition's number.
 pub fn told_unfound(alloc: Global, word: &str, number: u64) -> Result<Answer, OutOfMemory>
@@ -37,7 +37,7 @@ pub fn told_unfound(alloc: Global, word: &str, number: u64) -> Result<Answer, Ou
 }
 
 /// A certificate as its text; else the line that names the first condition without a proof.
-fn told_found(
+pub fn told_found(
     alloc: Global,
     development: &Development,
     found: Result<Certificate, FindFault>,
@@ -81,7 +81,7 @@ fn hints_fed(alloc: Global, development: &Development, reader: FormsReader) -> R
 }
 
 /// The hints for a development in the file at a path; else the answer that tells its first refusal.
-fn open_hints<'a, F: Files>(
+pub fn open_hints<'a, F: Files>(
     alloc: Global,
     files: &mut F,
     development: &Development,

@@ -9,14 +9,24 @@
 //!
 //! A line of the file `made` has two command lines, with ` : ` between them. What is printed of it is the line, then the verdict
 //! on what they write on standard output: a development and a certificate.
+//!
+//! A line of the file `carried` has four command lines, with ` : ` between them: an old development, its certificate, a new
+//! development, and hints for it. What is printed of it is the line, how many proofs are carried, the verdict on the certificate that
+//! `carry` makes of what they write on standard output, and whether that is carried to the same development as it is.
 #![tactic(auto)]
+
+mod folder;
 
 ghost use Rattle.std.specs.Prelude.{◌≤◌};
 
 use anyhow::Context;
+use folder::Folder;
 use lc_base::FILE_LIMIT;
+use lc_carry::carried_entries;
+use lc_cert::certificate_of;
 use lc_check::{Session, Verdict};
-use lincheck::{Disk, execute};
+use lc_outline_text::development_of;
+use lincheck::{Disk, Files, execute};
 use std::alloc::{AllocError, Global};
 use std::{fs, str};
 
@@ -39,19 +49,18 @@ struct Ran {
     status: u8,
 }
 
-/// Runs the program on the words of a line.
-fn run_words(rt: &HostRuntime, line: &str) -> anyhow::Result<Ran> {
-    let words = words_of(rt.alloc(), line)?;
-    let mut out = Vec::new(rt.alloc());
-    let mut err = Vec::new(rt.alloc());
-    let status = execute(
-        rt.alloc(),
-        words.as_slice(),
-        &mut Disk::new(rt),
-        &mut out,
-        &mut err,
-    );
+/// Runs the program on the words of a line, over these files.
+fn run_over<F: Files>(alloc: Global, line: &str, files: &mut F) -> anyhow::Result<Ran> {
+    let words = words_of(alloc, line)?;
+    let mut out = Vec::new(alloc);
+    let mut err = Vec::new(alloc);
+    let status = execute(alloc, words.as_slice(), files, &mut out, &mut err);
     Ok(Ran { out, err, status })
+}
+
+/// Runs the program on the words of a line, over the files of the system.
+fn run_words(rt: &HostRuntime, line: &str) -> anyhow::Result<Ran> {
+    run_over(rt.alloc(), line, &mut Disk::new(rt))
 }
 
 /// Runs the program on the words of a line, and prints what it did.
@@ -105,6 +114,51 @@ fn check_made(rt: &HostRuntime, line: &str) -> anyhow::Result<()> {
     check_pieces(rt, &dev.out, &cert.out, WHOLE)
 }
 
+/// How many proofs are carried from an old development to a new one.
+fn count_carried(alloc: Global, dev: &[u8], cert: &[u8], new: &[u8]) -> anyhow::Result<usize> {
+    let old = development_of(alloc, dev)?;
+    let certificate = certificate_of(alloc, &old, cert)?;
+    let new = development_of(alloc, new)?;
+    let carried = carried_entries(alloc, &old, &certificate, &new)?;
+    Ok(carried.len())
+}
+
+/// The certificate that `carry` makes of the files in a folder.
+fn carried_in(alloc: Global, folder: &mut Folder<'_>) -> anyhow::Result<Vec<u8>> {
+    let words = "lincheck carry old certificate new --hints hints";
+    Ok(run_over(alloc, words, folder)?.out)
+}
+
+/// Carries a certificate between what the command lines of a line make, and then on to the same development.
+fn carry_line(rt: &HostRuntime, line: &str) -> anyhow::Result<()> {
+    let mut commands = line.split(" : ");
+    let old = run_words(rt, commands.next().context("no old development")?)?;
+    let certificate = run_words(rt, commands.next().context("no certificate")?)?;
+    let new = run_words(rt, commands.next().context("no new development")?)?;
+    let hints = run_words(rt, commands.next().context("no hints")?)?;
+    let count = count_carried(rt.alloc(), &old.out, &certificate.out, &new.out)?;
+    println!(rt; "carried {line}\n{count} proofs are carried")?;
+    let mut folder = Folder {
+        old: &old.out,
+        certificate: &certificate.out,
+        new: &new.out,
+        hints: &hints.out,
+    };
+    let carried = carried_in(rt.alloc(), &mut folder)?;
+    check_pieces(rt, &new.out, &carried, WHOLE)?;
+    let mut folder = Folder {
+        old: &new.out,
+        certificate: &carried,
+        new: &new.out,
+        hints: b"(hints)",
+    };
+    let again = carried_in(rt.alloc(), &mut folder)?;
+    if again.as_slice() == carried.as_slice() {
+        println!(rt; "carried on, it is the same certificate")?;
+    }
+    Ok(())
+}
+
 fn run_lines(rt: &HostRuntime) -> anyhow::Result<()> {
     let lines = fs::read_to_string(rt, "runs")?;
     for line in lines.as_str().split('\n') {
@@ -135,8 +189,19 @@ fn check_made_lines(rt: &HostRuntime) -> anyhow::Result<()> {
     Ok(())
 }
 
+fn carry_lines(rt: &HostRuntime) -> anyhow::Result<()> {
+    let lines = fs::read_to_string(rt, "carried")?;
+    for line in lines.as_str().split('\n') {
+        if !line.is_empty() {
+            carry_line(rt, line)?;
+        }
+    }
+    Ok(())
+}
+
 fn main(rt: HostRuntime) -> anyhow::Result<()> {
     run_lines(&rt)?;
     check_lines(&rt)?;
-    check_made_lines(&rt)
+    check_made_lines(&rt)?;
+    carry_lines(&rt)
 }

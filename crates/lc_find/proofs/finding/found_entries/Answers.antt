@@ -1,9 +1,12 @@
-use Rattle.std.proofs.Common.{◌≡◌, [], ◌∷◌, true, false, sym, ap, ◌∙◌, subst}
+use Rattle.std.proofs.Common.{◌≡◌, ◌≤◌, [], ◌∷◌, ◌++◌, true, false, sym, ap, ◌∙◌, subst}
 use Rattle.std.proofs.lemmas.List.{map-append}
 use Rattle.lc_term.proofs.Stores.{Every-append}
 use Rattle.lc_term.specs.Lists.{Every}
 use Rattle.lc_outline.specs.DevelopmentView.{development_shown}
+use Rattle.lc_base.specs.Limits.{file_limit}
+use Rattle.lc_cert.specs.Certificates.{Entry, HaveFewSteps}
 use Rattle.lc_cert.specs.EntryView.{entry_of, entries_of}
+use Rattle.lc_kernel.specs.Proofs.{size}
 use Rattle.lc_check.proofs.Walking.{went_on}
 use Rattle.lc_check.specs.Walking.{IsInTurn, IsAdvanced}
 use Rattle.lc_find.proofs.Passing.{all_proved, none_taken}
@@ -19,11 +22,17 @@ returns-then-not-branch g c =
     let old = c.conditions.walk in
     let hs = all_of c.in_ok-first.first in
     let es = entries_of c.conditions.entries.items in
-    let same : hs ≡ proofs_in c.args.hints.now = c.in_ok-first.ensures ∙ c.proofs.ensures.shown in
+    let same : hs ≡ entries_of c.args.given.now ++ proofs_in c.args.hints.now = c.in_ok-first.ensures ∙ ap (λ l. entries_of c.args.given.now ++ l) c.proofs.ensures.shown in
     let here : IsAdvanced d old c.advance.new.self false = subst (IsAdvanced d old c.advance.new.self) c.if-not-branch.true c.in_ok-advance.ensures in
     let inv = c.conditions.invariant in
     let passed : ArePassed d hs c.args.budget es = record { in_turn = all_proved d es old inv.in_turn here.0; first = inv.first; hinted = inv.hinted } in
     subst (λ l. ArePassed d l c.args.budget es) same passed
+
+pub next_entry-requires-clause-steps : goal.next_entry-requires-clause-steps
+next_entry-requires-clause-steps g c =
+    let given = entries_of c.args.given.now in
+    let hinted = entries_of c.proofs.result.now in
+    subst HaveFewSteps (sym c.in_ok-first.ensures) (Every-append (λ (e : Entry). size e.proof ≤ file_limit) given hinted c.requires c.proofs.ensures.few)
 
 pub returns-in-Err : goal.returns-in-Err
 returns-in-Err g c =
@@ -32,7 +41,7 @@ returns-in-Err g c =
     let mid = c.advance.new.self in
     let hs = all_of c.in_ok-first.first in
     let es = entries_of c.conditions.entries.items in
-    let same : hs ≡ proofs_in c.args.hints.now = c.in_ok-first.ensures ∙ c.proofs.ensures.shown in
+    let same : hs ≡ entries_of c.args.given.now ++ proofs_in c.args.hints.now = c.in_ok-first.ensures ∙ ap (λ l. entries_of c.args.given.now ++ l) c.proofs.ensures.shown in
     let here : IsAdvanced d old mid true = subst (IsAdvanced d old mid) c.if-not-branch.false c.in_ok-advance.ensures in
     let inv = c.conditions.invariant in
     subst (λ l. IsUnfound d l c.args.budget c.in-Err.fault) same

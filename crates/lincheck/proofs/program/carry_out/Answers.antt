@@ -46,6 +46,14 @@ returns-in_ok-answer-in-Prove-clause-leaves g c =
     (subst (λ (r : Request). AnswersTask (g.F.Files.bytes_at c.args.files.now) (task_of r) answer.text.items answer.status) (sym c.in-Prove.is) c.in_ok-answer-in-Prove.ensures.answers)
     c.print_answer-in-Prove.ensures.prints c.print_answer-in-Prove.ensures.fails
 
+pub returns-in_ok-answer-in-Carry-clause-leaves : goal.returns-in_ok-answer-in-Carry-clause-leaves
+returns-in_ok-answer-in-Carry-clause-leaves g c =
+    let answer = c.in_ok-answer-in-Carry.answer in
+    leaves_printed (task_of c.args.request) (AnswersTask (g.F.Files.bytes_at c.args.files.now) (task_of c.args.request)) (g.O.Write.contents c.args.out.now)
+    (g.O.Write.contents c.print_answer-in-Carry.new.out) answer.text.items answer.status c.print_answer-in-Carry.result
+    (subst (λ (r : Request). AnswersTask (g.F.Files.bytes_at c.args.files.now) (task_of r) answer.text.items answer.status) (sym c.in-Carry.is) c.in_ok-answer-in-Carry.ensures.answers)
+    c.print_answer-in-Carry.ensures.prints c.print_answer-in-Carry.ensures.fails
+
 pub returns-in_ok-answer_draw-in-Draw-clause-leaves : goal.returns-in_ok-answer_draw-in-Draw-clause-leaves
 returns-in_ok-answer_draw-in-Draw-clause-leaves g c =
     let answer = c.in_ok-answer_draw-in-Draw.field-0 in

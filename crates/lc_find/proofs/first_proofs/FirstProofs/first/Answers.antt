@@ -9,19 +9,19 @@ use Rattle.lc_cert.specs.EntryView.{entry_of}
 use Rattle.lc_find.proofs.Passing.{length_entries}
 use Rattle.lc_find.proofs.Places.{proof_of_place, at_place}
 use Rattle.lc_find.specs.FirstProofs.{place_at}
-use Rattle.lc_find.specs.FirstView.{all_of}
+use Rattle.lc_find.specs.FirstView.{placed_in}
 use Rattle.lc_find.proofs.first_proofs.FirstProofs.first.Goals as goal
 
 pub returns-in_err-place : goal.returns-in_err-place
 returns-in_err-place c =
-    let es = all_of c.args.self.now in
+    let es = placed_in c.args.self.now in
     let n = c.args.number in
     let place : place_at es n ≡ None = sym (c.args.self.now.placed n) ∙ sym c.get.ensures.value ∙ sym c.in_err-place.ensures in
     ap (option_map (λ (p : Bor Proof). proof_of p.now)) c.from_residual.ensures ∙ sym (ap (proof_of_place es) place) ∙ at_place es n
 
 pub returns-in_err-entry : goal.returns-in_err-entry
 returns-in_err-entry c =
-    let es = all_of c.args.self.now in
+    let es = placed_in c.args.self.now in
     let n = c.args.number in
     let i = c.in_ok-place.place in
     let place : place_at es n ≡ Some i = sym (c.args.self.now.placed n) ∙ sym c.get.ensures.value ∙ sym c.in_ok-place.ensures in
@@ -33,7 +33,7 @@ returns-in_err-entry c =
 pub returns : goal.returns
 returns c =
     let xs = c.args.self.now.entries.now in
-    let es = all_of c.args.self.now in
+    let es = placed_in c.args.self.now in
     let n = c.args.number in
     let i = c.in_ok-place.place in
     let e = c.in_ok-entry.entry.now in

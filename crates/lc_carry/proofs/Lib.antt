@@ -1,0 +1,6 @@
+mod Least
+mod PartByPart
+mod Between
+mod Few
+mod Parts
+mod Chosen

@@ -1,0 +1,4 @@
+pub mod Carried
+pub mod CarriedFrom
+pub mod Numbers
+pub mod OldProofs

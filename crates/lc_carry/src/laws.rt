@@ -1,0 +1,9 @@
+//! What holds of the proofs that are carried. Each function is a law: it does nothing, and its contract is the law.
+ghost use Rattle.lc_carry.specs.CarriedFrom.{CarriesLeast, CarriesNothingElse};
+
+/// To a condition the proof of the least old condition is carried that says the same, and whose proof names only columns that there
+/// are, with each column replaced by the one of its name; and no other proof is carried.
+pub fn the_least_is_carried()
+    ensures least { CarriesLeast }
+    ensures nothing_else { CarriesNothingElse }
+{}

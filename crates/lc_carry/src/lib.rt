@@ -1,0 +1,10 @@
+//! Proofs of an old development for a new one, where conditions of both say the same.
+#![tactic(auto)]
+
+mod columns;
+mod entries;
+pub mod laws;
+mod numbers;
+mod old_proofs;
+
+pub use entries::carried_entries;

@@ -1,0 +1,204 @@
+//! The command `carry`.
+ghost use Rattle.std.specs.Prelude.{◌≡◌, ◌++◌, ℕ, List, IfOk, IfSome, IsErr};
+ghost use Rattle.lc_carry.specs.Carried.{carried};
+ghost use Rattle.lc_cert.specs.CertificateView.{entries_in};
+ghost use Rattle.lc_check.specs.VerdictView.{development_in};
+ghost use Rattle.lc_check.specs.Verdicts.{IsProvenBy};
+ghost use Rattle.lc_hints.specs.HintView.{proofs_in};
+ghost use Rattle.lc_outline.specs.DevelopmentView.{development_shown};
+ghost use Rattle.lincheck.specs.Carry.{AnswersNew, AnswersSought, OpensCertificate, OpensOld, AnswersWith, IsCertified, IsUnreadNew, hints_at};
+ghost use Rattle.lc_words.specs.Tasks.{CheckCertificate, carrying, path_in};
+ghost use Rattle.lincheck.specs.Execution.{AnswersTask, IsUnread};
+
+use crate::answer::{Answer, Failure, told_fault};
+use crate::check::open_development;
+use crate::files::Files;
+use crate::prove::{BUDGET, open_hints, told_found};
+use crate::reading::read_file;
+use lc_base::{Fault, OutOfMemory};
+use lc_cert::laws::a_certificate_is_read_or_refused;
+use lc_cert::{Certificate, certificate_of};
+use lc_check::{Accepted, Verdict, check_certificate};
+use lc_find::{Progress, carry_with};
+use lc_hints::Hints;
+use lc_outline::Development;
+use std::alloc::Global;
+
+/// A development that is accepted, and its certificate.
+pub struct Old {
+    pub accepted: Accepted,
+    pub certificate: Certificate,
+}
+
+impl Drop for Old {
+    fn drop(self) {
+        let Old {
+            accepted: _,
+            certificate: _,
+        } = self;
+    }
+}
+
+/// The certificate that a file is, of a development that is accepted by it.
+fn old_of(
+    alloc: Global,
+    accepted: Accepted,
+    cert: &[u8],
+) -> Result<Result<Old, Answer>, OutOfMemory>
+    requires { IsProvenBy (development_in accepted) cert.now }
+    ensures opens { IfOk result (OpensCertificate (development_in accepted) cert.now) }
+    ensures certified { IfOk result (λ opened. IfOk opened IsCertified) }
+{
+    a_certificate_is_read_or_refused();
+    match certificate_of(alloc, accepted.development(), cert) {
+        Ok(certificate) => Ok(Ok(Old {
+            accepted,
+            certificate,
+        })),
+        Err(fault) => Ok(Err(told_fault(alloc, fault)?)),
+    }
+}
+
+/// A development and its certificate, if the file is one that is accepted; else the answer that tells its refusal.
+fn accept_certificate(
+    alloc: Global,
+    development: Development,
+    cert: &[u8],
+) -> Result<Result<Old, Answer>, OutOfMemory>
+    ensures opens { IfOk result (OpensCertificate (development_shown development) cert.now) }
+    ensures certified { IfOk result (λ opened. IfOk opened IsCertified) }
+{
+    let verdict = check_certificate(alloc, development, cert)?;
+    match verdict {
+        Verdict::Accepted(accepted) => old_of(alloc, accepted, cert),
+        Verdict::Refused(refusal) => Ok(Err(told_fault(alloc, Fault::Refused(refusal))?)),
+    }
+}
+
+/// The certificate at a path, of a development; else the answer that tells its refusal.
+fn open_certificate<'a, F: Files>(
+    alloc: Global,
+    files: &mut F,
+    development: Development,
+    path: &'a str,
+) -> Result<Result<Old, Answer>, Failure<'a>>
+    ensures keeps { (other : List ℕ) → F.bytes_at files.new other ≡ F.bytes_at files.old other }
+    ensures closed { (other : List ℕ) → F.CannotOpen files.old other → F.CannotOpen files.new other }
+    ensures unread { F.CannotOpen files.old path.now → IsErr result }
+    ensures opens { IfOk result (λ opened. IfSome (F.bytes_at files.old path.now) (λ file. OpensCertificate (development_shown development) file opened)) }
+    ensures certified { IfOk result (λ opened. IfOk opened IsCertified) }
+{
+    let bytes = read_file(alloc, files, path)?;
+    Ok(accept_certificate(alloc, development, &bytes)?)
+}
+
+/// The development and its certificate at two paths; else the answer that tells the first refusal. Where the development is
+/// refused, the certificate is not opened.
+fn open_old<'a, F: Files>(
+    alloc: Global,
+    files: &mut F,
+    development: &'a str,
+    certificate: &'a str,
+) -> Result<Result<Old, Answer>, Failure<'a>>
+    ensures keeps { (other : List ℕ) → F.bytes_at files.new other ≡ F.bytes_at files.old other }
+    ensures closed { (other : List ℕ) → F.CannotOpen files.old other → F.CannotOpen files.new other }
+    ensures unread { IsUnread (F.CannotOpen files.old) (F.bytes_at files.old) (CheckCertificate development.now certificate.now) → IsErr result }
+    ensures opens { IfOk result (λ opened. IfSome (F.bytes_at files.old development.now) (λ file. OpensOld file (F.bytes_at files.old certificate.now) opened)) }
+    ensures certified { IfOk result (λ opened. IfOk opened IsCertified) }
+{
+    match open_development(alloc, files, development)? {
+        Ok(development) => open_certificate(alloc, files, development, certificate),
+        Err(answer) => Ok(Err(answer)),
+    }
+}
+
+/// The answer for a new development with these hints.
+fn answer_carried<P: Progress>(
+    alloc: Global,
+    old: &Old,
+    development: &Development,
+    hints: &Hints,
+    progress: &mut P,
+) -> Result<Answer, OutOfMemory>
+    requires { IsCertified old.now }
+    ensures { let E = development_shown development.now in
+        IfOk result (λ answer. AnswersSought E (carried (development_in old.now.accepted) (entries_in old.now.certificate) E ++ proofs_in hints.now) answer.text.items answer.status) }
+{
+    let found = carry_with(
+        alloc,
+        &old.accepted,
+        &old.certificate,
+        development,
+        hints,
+        BUDGET,
+        progress,
+    );
+    told_found(alloc, development, found)
+}
+
+/// The answer for a new development, with the hints at a path, if there is one.
+fn answer_development<'a, F: Files, P: Progress>(
+    alloc: Global,
+    files: &mut F,
+    old: &Old,
+    development: &Development,
+    hints: Option<&'a str>,
+    progress: &mut P,
+) -> Result<Answer, Failure<'a>>
+    requires { IsCertified old.now }
+    ensures unread { IfSome (path_in hints.entry) (λ path. F.CannotOpen files.old path) → IfSome (path_in hints.entry) (λ path. IsErr result) }
+    ensures answers { let E = development_shown development.now in
+        IfOk result (λ answer. AnswersWith (hints_at (F.bytes_at files.old) (path_in hints.entry)) E (carried (development_in old.now.accepted) (entries_in old.now.certificate) E) answer.text.items answer.status) }
+{
+    match hints {
+        None => {
+            let none = Hints::new(alloc);
+            Ok(answer_carried(alloc, old, development, &none, progress)?)
+        }
+        Some(path) => match open_hints(alloc, files, development, path)? {
+            Ok(hints) => Ok(answer_carried(alloc, old, development, &hints, progress)?),
+            Err(answer) => Ok(answer),
+        },
+    }
+}
+
+/// The answer for the new development at a path. Where it is refused, the hints are not opened.
+fn answer_new<'a, F: Files, P: Progress>(
+    alloc: Global,
+    files: &mut F,
+    old: &Old,
+    new: &'a str,
+    hints: Option<&'a str>,
+    progress: &mut P,
+) -> Result<Answer, Failure<'a>>
+    requires { IsCertified old.now }
+    ensures unread { IsUnreadNew (F.CannotOpen files.old) (F.bytes_at files.old) new.now (path_in hints.entry) → IsErr result }
+    ensures answers { IfOk result (λ answer. IfSome (F.bytes_at files.old new.now) (λ file. AnswersNew (AnswersWith (hints_at (F.bytes_at files.old) (path_in hints.entry)))
+        (development_in old.now.accepted) (entries_in old.now.certificate) file answer.text.items answer.status)) }
+{
+    match open_development(alloc, files, new)? {
+        Ok(development) => answer_development(alloc, files, old, &development, hints, progress),
+        Err(answer) => Ok(answer),
+    }
+}
+
+/// The answer of the command `carry` to an old development and its certificate at two paths, and a new development at another,
+/// with the hints at a further one, if there is one: the text of a certificate of the new development; or the line that names the
+/// first condition of which no proof was found. Files are opened in this order, and none behind a refusal.
+pub fn answer_carry<'a, F: Files, P: Progress>(
+    alloc: Global,
+    files: &mut F,
+    old: &'a str,
+    certificate: &'a str,
+    new: &'a str,
+    hints: Option<&'a str>,
+    progress: &mut P,
+) -> Result<Answer, Failure<'a>>
+    ensures unread { IsUnread (F.CannotOpen files.old) (F.bytes_at files.old) (carrying old.now certificate.now new.now (path_in hints.entry)) → IsErr result }
+    ensures answers { IfOk result (λ answer. AnswersTask (F.bytes_at files.old) (carrying old.now certificate.now new.now (path_in hints.entry)) answer.text.items answer.status) }
+{
+    match open_old(alloc, files, old, certificate)? {
+        Ok(old) => answer_new(alloc, files, &old, new, hints, progress),
+        Err(answer) => Ok(answer),
+    }
+}
