@@ -1,9 +1,9 @@
 -- Texts that are written behind one another.
 use Rattle.std.proofs.Common.{◌≡◌, ℕ, List, ◌++◌, ap, ◌∙◌, append_assoc}
 
--- a line of three parts, behind what is there
+-- a line of three parts, behind what is there: the last two are what it says
 pub line_joined : (c k w p q r s cv v ch f cg g ce o o1 o2 o3 : List ℕ) → o1 ≡ o ++ (c ++ k ++ w ++ (p ++ q ++ r ++ s)) → o2 ≡ o1 ++ (cv ++ v ++ ch ++ f) → o3 ≡ o2 ++ (cg ++ g ++ ce) →
-    o3 ≡ o ++ (c ++ k ++ w ++ p ++ q ++ r ++ s ++ cv ++ v ++ ch ++ f ++ cg ++ g ++ ce)
+    o3 ≡ o ++ (c ++ k ++ w ++ p ++ q ++ r ++ s ++ (cv ++ v ++ ch ++ f ++ cg ++ g ++ ce))
 line_joined c k w p q r s cv v ch f cg g ce o o1 o2 o3 first second third =
     third ∙ ap (λ l. l ++ (cg ++ g ++ ce)) (second ∙ ap (λ l. l ++ (cv ++ v ++ ch ++ f)) first) ∙ simp append_assoc
 
