@@ -19,7 +19,7 @@ OBJECT = {
     "points": "(point p0 (load cell 0 (x) p1) (assert))",
     "bodies": "",
 }
-DEVELOPMENT = ["show DEV", "conditions DEV", "check DEV CERT", "judge DEV HISTORY"]
+DEVELOPMENT = ["show DEV", "show DEV --lines", "conditions DEV", "check DEV CERT", "judge DEV HISTORY"]
 HISTORY = b'{"events":[],"order":[]}'
 
 
