@@ -79,10 +79,10 @@ fn template(alloc: Global, name: &Name) -> Result<Vec<u8>, AllocError>
 
 /// The answer of the command `new`: a development of this name, with a comment at each part. It is read before it is answered, so
 /// a name that no development may have is refused.
-pub fn answer_new(alloc: Global, name: &Name) -> Result<Answer, OutOfMemory>
-    ensures { IfOk result (λ answer. AnswersNew (bytes_of name.now) answer.text.items answer.status) }
+pub fn answer_new(alloc: Global, name: Name) -> Result<Answer, OutOfMemory>
+    ensures { IfOk result (λ answer. AnswersNew (bytes_of name) answer.text.items answer.status) }
 {
-    let text = template(alloc, name)?;
+    let text = template(alloc, &name)?;
     match development_of(alloc, &text) {
         Ok(_) => Ok(Answer {
             text,

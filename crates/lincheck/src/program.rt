@@ -83,7 +83,7 @@ fn carry_out<'a, F: Files, O: Write, E: Write>(
             development,
             history,
         } => print_answer(out, &answer_draw(alloc, files, development, history)?),
-        Request::New(name) => print_answer(out, &answer_new(alloc, &name)?),
+        Request::New(name) => print_answer(out, &answer_new(alloc, name)?),
         Request::Library { lib, text } => print_answer(out, &answer_library(alloc, lib, text)?),
     }
 }

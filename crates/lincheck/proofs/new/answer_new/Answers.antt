@@ -13,4 +13,4 @@ returns-in-Ok c =
 
 pub returns-in-Err : goal.returns-in-Err
 returns-in-Err c =
-    begun_refused (bytes_of c.args.name.now) c.deref.result.now c.in-Err.fault c.told_fault.result (c.deref.ensures.value ∙ c.in_ok-text.ensures) c.in-Err.ensures c.told_fault.ensures
+    begun_refused (bytes_of c.args.name) c.deref.result.now c.in-Err.fault c.told_fault.result (c.deref.ensures.value ∙ c.in_ok-text.ensures) c.in-Err.ensures c.told_fault.ensures
