@@ -76,9 +76,9 @@ pub showing_unfound : (f : Found) → None ≡ first_value f (codes "DEV") → N
 showing_unfound f is = ap (option_map (λ d. showing d (is_set (codes "lines") (rows_of f)))) (is ∙ first_value-rows f (codes "DEV"))
 
 fails : (text : Text) (s t : Bool) → is_name text ≡ s → nat_le (length text) name_limit ≡ t → ((is_name text ≡ true) × (length text ≤ name_limit) → ⊥) → is_development_name text ≡ false
-fails text false t e e' no = ap (λ b. b && nat_le (length text) name_limit) e
-fails text true false e e' no = ap₂ ◌&&◌ e e'
-fails text true true e e' no = absurd (no (e, leb-true (length text) name_limit e'))
+fails text false t e e' neither = ap (λ b. b && nat_le (length text) name_limit) e
+fails text true false e e' neither = ap₂ ◌&&◌ e e'
+fails text true true e e' neither = absurd (neither (e, leb-true (length text) name_limit e'))
 
 -- the bytes are a name exactly where the test says so
 named : (text : Text) (name : Option Name) → IsSome name ↔ ((is_name text ≡ true) × (length text ≤ name_limit)) → IfSome name (λ n. bytes_of n ≡ text)
