@@ -46,7 +46,8 @@ fn carry_out<'a, F: Files, O: Write, E: Write>(
             history,
         } => print_answer(out, &answer_judge(alloc, files, development, history)?),
         Request::Show { development, lines } => {
-            print_answer(out, &answer_show(alloc, files, development, lines)?)
+            let answer = answer_show(alloc, files, development, lines)?;
+            print_answer(out, &answer)
         }
         Request::Conditions(development) => list_conditions(alloc, files, development, out),
         Request::Check {

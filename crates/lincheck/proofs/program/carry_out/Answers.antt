@@ -22,12 +22,12 @@ returns-in_ok-answer_judge-in-Judge-clause-leaves g c =
     (subst (λ (r : Request). AnswersTask (g.F.Files.bytes_at c.args.files.now) (task_of r) answer.text.items answer.status) (sym c.in-Judge.is) c.in_ok-answer_judge-in-Judge.ensures.answers)
     c.print_answer-in-Judge.ensures.prints c.print_answer-in-Judge.ensures.fails
 
-pub returns-in_ok-answer_show-in-Show-clause-leaves : goal.returns-in_ok-answer_show-in-Show-clause-leaves
-returns-in_ok-answer_show-in-Show-clause-leaves g c =
-    let answer = c.in_ok-answer_show-in-Show.field-0 in
+pub returns-in_ok-answer-in-Show-clause-leaves : goal.returns-in_ok-answer-in-Show-clause-leaves
+returns-in_ok-answer-in-Show-clause-leaves g c =
+    let answer = c.in_ok-answer-in-Show.answer in
     leaves_printed (task_of c.args.request) (AnswersTask (g.F.Files.bytes_at c.args.files.now) (task_of c.args.request)) (g.O.Write.contents c.args.out.now)
     (g.O.Write.contents c.print_answer-in-Show.new.out) answer.text.items answer.status c.print_answer-in-Show.result
-    (subst (λ (r : Request). AnswersTask (g.F.Files.bytes_at c.args.files.now) (task_of r) answer.text.items answer.status) (sym c.in-Show.is) c.in_ok-answer_show-in-Show.ensures.answers)
+    (subst (λ (r : Request). AnswersTask (g.F.Files.bytes_at c.args.files.now) (task_of r) answer.text.items answer.status) (sym c.in-Show.is) c.in_ok-answer-in-Show.ensures.answers)
     c.print_answer-in-Show.ensures.prints c.print_answer-in-Show.ensures.fails
 
 pub returns-in_ok-answer_check-in-Check-clause-leaves : goal.returns-in_ok-answer_check-in-Check-clause-leaves
