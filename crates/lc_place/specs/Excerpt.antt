@@ -54,14 +54,16 @@ IsInLine bytes = list_any is_break bytes ≡ false
 abbrev pub characters_in : List ℕ → ℕ
 characters_in bytes = count_by begins_character bytes
 
--- Two lines of the bytes from one offset to another, where the item begins and ends at offsets between: the bytes as they are shown, and marks under the item.
-abbrev pub two_lines : List ℕ → ℕ → ℕ → ℕ → ℕ → List ℕ
-two_lines bytes from start until to =
-    cut_mark 46 (is_cut_before bytes from) ++ map shown (slice_range bytes from to) ++ cut_mark 46 (is_cut_at bytes to) ++ (10 ∷ [])
-    ++ cut_mark 32 (is_cut_before bytes from) ++ under_before (slice_range bytes from start) ++ under_item (slice_range bytes start until) ++ (10 ∷ [])
+-- the bytes from one offset to another as they are shown
+abbrev pub line_shown : List ℕ → ℕ → ℕ → List ℕ
+line_shown bytes from to = cut_mark 46 (is_cut_before bytes from) ++ map shown (slice_range bytes from to) ++ cut_mark 46 (is_cut_at bytes to)
 
--- The text is the line of the item at the offset, or 160 characters of it, of which 100 at most stand before the item, with marks under the item as far as it goes there.
-pub record IsExcerpt (bytes : List ℕ) (offset size : ℕ) (text : List ℕ) : Type 0 where
+-- what stands under them: marks under the item, which begins and ends at offsets between
+abbrev pub marks_shown : List ℕ → ℕ → ℕ → ℕ → List ℕ
+marks_shown bytes from start until = cut_mark 32 (is_cut_before bytes from) ++ under_before (slice_range bytes from start) ++ under_item (slice_range bytes start until)
+
+-- The line of the item at the offset, or 160 characters of it, of which 100 at most stand before the item, and marks under the item as far as it goes there.
+pub record IsExcerpt (bytes : List ℕ) (offset size : ℕ) (line marks : List ℕ) : Type 0 where
   pub from : ℕ
   pub to : ℕ
   pub before : from ≤ min offset (length bytes)
@@ -69,4 +71,5 @@ pub record IsExcerpt (bytes : List ℕ) (offset size : ℕ) (text : List ℕ) : 
   pub within : to ≤ length bytes
   pub in_line : IsInLine (slice_range bytes from to)
   pub short : characters_in (slice_range bytes from to) ≤ 160
-  pub lines : text ≡ two_lines bytes from (min offset (length bytes)) (min offset (length bytes) + min size (to - min offset (length bytes))) to
+  pub line_is : line ≡ line_shown bytes from to
+  pub marks_are : marks ≡ marks_shown bytes from (min offset (length bytes)) (min offset (length bytes) + min size (to - min offset (length bytes)))

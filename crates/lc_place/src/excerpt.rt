@@ -1,5 +1,5 @@
 ghost use Rattle.std.specs.Prelude.{◌≡◌, ◌++◌, ◌≤◌, map, drop, length as list_length, slice_range, OnOk, IfOk};
-ghost use Rattle.lc_place.specs.Excerpt.{is_break, shown, blank, caret, under_before, under_item, carets, cut_mark, is_cut_before, is_cut_at, IsInLine, characters_in, two_lines, IsExcerpt};
+ghost use Rattle.lc_place.specs.Excerpt.{is_break, shown, blank, caret, under_before, under_item, carets, cut_mark, is_cut_before, is_cut_at, IsInLine, characters_in, line_shown, marks_shown, IsExcerpt};
 
 use crate::place::{Place, begins_character};
 use crate::text::counted;
@@ -161,38 +161,50 @@ fn window_end(bytes: &[u8], offset: usize, room: usize) -> usize
     to
 }
 
-/// The line that is shown, and the line of marks under it.
-fn two_lines(
+/// The line of a place, or a part of it, and the marks under the place. Neither ends with a line feed.
+#[derive(Drop)]
+pub struct Excerpt {
+    pub line: Vec<u8>,
+    pub marks: Vec<u8>,
+}
+
+/// The line that is shown.
+fn line_shown(alloc: Global, bytes: &[u8], from: usize, to: usize) -> Result<Vec<u8>, OutOfMemory>
+    requires behind { from ≤ to }
+    requires within { to ≤ list_length bytes.now }
+    ensures { IfOk result (λ line. line.items ≡ line_shown bytes.now from to) }
+{
+    let mut line = Vec::new(alloc);
+    push_cut(&mut line, b'.', is_cut_before(bytes, from))?;
+    push_shown(&mut line, &bytes[from..to])?;
+    push_cut(&mut line, b'.', is_cut_at(bytes, to))?;
+    Ok(line)
+}
+
+/// The marks under it.
+fn marks_shown(
     alloc: Global,
     bytes: &[u8],
     from: usize,
     start: usize,
     until: usize,
-    to: usize,
 ) -> Result<Vec<u8>, OutOfMemory>
     requires before { from ≤ start }
     requires item { start ≤ until }
-    requires behind { until ≤ to }
-    requires within { to ≤ list_length bytes.now }
-    ensures { IfOk result (λ text. text.items ≡ two_lines bytes.now from start until to) }
+    requires within { until ≤ list_length bytes.now }
+    ensures { IfOk result (λ marks. marks.items ≡ marks_shown bytes.now from start until) }
 {
-    let cut = is_cut_before(bytes, from);
-    let mut text = Vec::new(alloc);
-    push_cut(&mut text, b'.', cut)?;
-    push_shown(&mut text, &bytes[from..to])?;
-    push_cut(&mut text, b'.', is_cut_at(bytes, to))?;
-    text.push(b'\n')?;
-    push_cut(&mut text, b' ', cut)?;
-    push_under_before(&mut text, &bytes[from..start])?;
-    push_under_item(&mut text, &bytes[start..until])?;
-    text.push(b'\n')?;
-    Ok(text)
+    let mut marks = Vec::new(alloc);
+    push_cut(&mut marks, b' ', is_cut_before(bytes, from))?;
+    push_under_before(&mut marks, &bytes[from..start])?;
+    push_under_item(&mut marks, &bytes[start..until])?;
+    Ok(marks)
 }
 
-/// The line of a place, or of a long line 160 characters with the place among them, and a line with marks under the place as far as
-/// it goes in that line.
-pub fn line_excerpt(alloc: Global, bytes: &[u8], place: Place) -> Result<Vec<u8>, OutOfMemory>
-    ensures { IfOk result (λ text. IsExcerpt bytes.now place.offset place.length text.items) }
+/// The line of a place, or of a long line 160 characters with the place among them, and marks under the place as far as it goes in
+/// that line.
+pub fn line_excerpt(alloc: Global, bytes: &[u8], place: Place) -> Result<Excerpt, OutOfMemory>
+    ensures { IfOk result (λ excerpt. IsExcerpt bytes.now place.offset place.length excerpt.line.items excerpt.marks.items) }
 {
     let count = bytes.len();
     let start = place.offset.min(count);
@@ -200,5 +212,7 @@ pub fn line_excerpt(alloc: Global, bytes: &[u8], place: Place) -> Result<Vec<u8>
     let room = SHOWN - characters_in(&bytes[from..start]);
     let to = window_end(bytes, start, room);
     let until = start + place.length.min(to - start);
-    two_lines(alloc, bytes, from, start, until, to)
+    let line = line_shown(alloc, bytes, from, to)?;
+    let marks = marks_shown(alloc, bytes, from, start, until)?;
+    Ok(Excerpt { line, marks })
 }

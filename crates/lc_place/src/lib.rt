@@ -10,7 +10,7 @@ mod span;
 mod start;
 mod text;
 
-pub use excerpt::line_excerpt;
+pub use excerpt::{Excerpt, line_excerpt};
 pub use laws::the_item_stands_at_its_place;
 pub use open::open_list_place;
 pub use place::{Place, byte_place, item_place};

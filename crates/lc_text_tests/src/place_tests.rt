@@ -84,17 +84,19 @@ fn bytes_and_the_end(rt: HostRuntime) {
     assert!(rt; byte_place(text, 5).is_none() & is_at(byte_place(b"", 0), 0, 0, 1, 1));
 }
 
-/// Whether the excerpt of a place is this text.
+/// Whether the excerpt of a place has this line, and these marks under it.
 fn is_shown(
     alloc: Global,
     bytes: &[u8],
     place: Option<Place>,
-    text: &[u8],
+    line: &[u8],
+    marks: &[u8],
 ) -> Result<bool, OutOfMemory> {
     let Some(place) = place else {
         return Ok(false);
     };
-    Ok(line_excerpt(alloc, bytes, place)?.as_slice() == text)
+    let excerpt = line_excerpt(alloc, bytes, place)?;
+    Ok((excerpt.line.as_slice() == line) & (excerpt.marks.as_slice() == marks))
 }
 
 #[test]
@@ -105,21 +107,22 @@ fn lines_with_marks(rt: HostRuntime) -> Result<(), Fail> {
             rt.alloc(),
             text,
             item_place(text, 4),
-            b"\t(b cc)\n\t   ^^\n"
+            b"\t(b cc)",
+            b"\t   ^^"
         )?
     );
-    assert!(rt; is_shown(rt.alloc(), text, item_place(text, 0), b"(a\n^^\n")?);
+    assert!(rt; is_shown(rt.alloc(), text, item_place(text, 0), b"(a", b"^^")?);
     let returns = b"(a\r\nb";
-    assert!(rt; is_shown(rt.alloc(), returns, item_place(returns, 1), b"(a\n ^\n")?);
+    assert!(rt; is_shown(rt.alloc(), returns, item_place(returns, 1), b"(a", b" ^")?);
     Ok(())
 }
 
 #[test]
 fn lines_with_other_bytes(rt: HostRuntime) -> Result<(), Fail> {
     let control = b"(\x01)";
-    assert!(rt; is_shown(rt.alloc(), control, byte_place(control, 1), b"(?)\n ^\n")?);
+    assert!(rt; is_shown(rt.alloc(), control, byte_place(control, 1), b"(?)", b" ^")?);
     let open = b"(a";
-    assert!(rt; is_shown(rt.alloc(), open, byte_place(open, 2), b"(a\n  ^\n")?);
+    assert!(rt; is_shown(rt.alloc(), open, byte_place(open, 2), b"(a", b"  ^")?);
     Ok(())
 }
 
@@ -143,10 +146,10 @@ fn a_long_line_is_cut(rt: HostRuntime) -> Result<(), Fail> {
     push_many(&mut shown, b'a', 99)?;
     shown.push(b' ')?;
     push_many(&mut shown, b'b', 60)?;
-    shown.extend_from_slice(b"...\n   ")?;
-    push_many(&mut shown, b' ', 100)?;
-    push_many(&mut shown, b'^', 60)?;
-    shown.push(b'\n')?;
-    assert!(rt; is_shown(rt.alloc(), &text, item_place(&text, 2), &shown)?);
+    shown.extend_from_slice(b"...")?;
+    let mut marks = Vec::new(rt.alloc());
+    push_many(&mut marks, b' ', 103)?;
+    push_many(&mut marks, b'^', 60)?;
+    assert!(rt; is_shown(rt.alloc(), &text, item_place(&text, 2), &shown, &marks)?);
     Ok(())
 }

@@ -1,6 +1,5 @@
 use Rattle.std.proofs.Common.{◌≡◌, ◌+◌, ◌-◌, min, length, slice_range, ap, ◌∙◌, arith}
-use Rattle.std.proofs.lemmas.Result.{IfOk-weaker}
-use Rattle.lc_place.specs.Excerpt.{characters_in, two_lines}
+use Rattle.lc_place.specs.Excerpt.{characters_in, marks_shown}
 use Rattle.lc_place.proofs.Windows.{excerpt_is}
 use Rattle.lc_place.proofs.excerpt.line_excerpt.Goals as goal
 
@@ -16,8 +15,5 @@ returns c =
     let e : start ≡ min c.args.place.offset (length bytes) = omega arith in
     let r : 160 - c.characters_in-room.result ≡ 160 - characters_in (slice_range bytes from start) = ap (λ n. 160 - n) c.characters_in-room.ensures in
     let u : start + c.min.result ≡ start + min size (to - start) = omega arith in
-    IfOk-weaker c.two_lines.result _ _
-    (λ text h.
-    excerpt_is bytes c.args.place.offset size start from to (160 - c.characters_in-room.result) text.items e a.before a.in_line a.few r b.behind b.within b.in_line b.few
-    (h ∙ ap (λ n. two_lines bytes from start n to) u))
-    c.two_lines.ensures
+    excerpt_is bytes c.args.place.offset size start from to (160 - c.characters_in-room.result) c.in_ok-line.line.items c.in_ok-marks.marks.items e a.before a.in_line a.few r b.behind b.within b.in_line b.few
+    c.in_ok-line.ensures (c.in_ok-marks.ensures ∙ ap (λ n. marks_shown bytes from start n) u)

@@ -1,0 +1,184 @@
+//! How the lists of files are written, by the word with which they begin and the one of the list that they stand in.
+
+/// A specification's lists, and an object's but for its code.
+fn part_of_object(word: &str) -> Option<&'static str> {
+    match word {
+        "spec" => Some("(spec NAME (abstract COL ..) (op ..) ..)"),
+        "abstract" => Some("(abstract (NAME a b) ..)"),
+        "op" => Some(
+            "(op NAME (ARG ..) REPLIES (branch ..) ..), or with (choice ..) for each branch",
+        ),
+        "branch" => Some("(branch F ((COLUMN T T) ..) (T ..))"),
+        "choice" => Some("(choice NAME (PARAM ..) F ((COLUMN T T) ..) (T ..))"),
+        "object" => {
+            Some(
+                "(object NAME (array ..) .. (aux ..) (action ..) .. (invariant ..) (idle ..) (body ..) ..)",
+            )
+        }
+        "array" => Some("(array NAME (NAME a b) ..)"),
+        "aux" => Some("(aux (NAME a b) ..)"),
+        "action" => Some("(action NAME (PARAM ..) F (COLUMN T T) ..)"),
+        "invariant" => Some("(invariant (NAME F) ..)"),
+        "idle" => Some("(idle F ..)"),
+        "body" => Some("(body OP (LOCAL ..) (point ..) ..)"),
+        "point" => Some("(point NAME INSTRUCTION (assert F ..) (on ..) ..)"),
+        "assert" => Some("(assert F ..)"),
+        _ => None,
+    }
+}
+
+/// Instructions.
+fn instruction(word: &str) -> Option<&'static str> {
+    match word {
+        "load" => Some("(load ARRAY T (LOCAL ..) POINT)"),
+        "store" => Some("(store ARRAY T (T ..) POINT)"),
+        "cas" => Some("(cas ARRAY T (T ..) (T ..) POINT POINT)"),
+        "faa" => Some("(faa ARRAY T (LOCAL ..) (T ..) POINT)"),
+        "set" => Some("(set ((LOCAL T) ..) POINT)"),
+        "if" => Some("(if F POINT POINT)"),
+        "return" => Some("(return T ..)"),
+        _ => None,
+    }
+}
+
+/// What stands beside the code at an edge.
+fn rider(word: &str) -> Option<&'static str> {
+    match word {
+        "on" => Some("(on EDGE (ACTION T ..) RIDER ..)"),
+        "set" => Some("(set COLUMN T T), of an auxiliary column"),
+        "lin" => Some("(lin), of an operation with branches"),
+        "note" => Some("(note), of an operation with branches"),
+        "lin-other" => Some("(lin-other T OP), of an operation with branches"),
+        "lin-by" => Some("(lin-by CHOICE T ..), of an operation with choices"),
+        "note-by" => Some("(note-by CHOICE T ..), of an operation with choices"),
+        "lin-other-by" => Some("(lin-other-by T OP CHOICE T ..), of an operation with choices"),
+        "when" => Some("(when F RIDER)"),
+        _ => None,
+    }
+}
+
+/// Terms, columns and formulas.
+fn formula(word: &str) -> Option<&'static str> {
+    match word {
+        "+" => Some("(+ T T)"),
+        "-" => Some("(- T T)"),
+        "*" => Some("(* NUMBER T)"),
+        "rd" => Some("(rd COLUMN T)"),
+        "<=" => Some("(<= T T)"),
+        "=" => Some("(= T T)"),
+        "not" => Some("(not F)"),
+        "and" => Some("(and F ..)"),
+        "or" => Some("(or F ..)"),
+        "=>" => Some("(=> F F)"),
+        "forall" => Some("(forall NAME F)"),
+        "exists" => Some("(exists NAME F)"),
+        _ => None,
+    }
+}
+
+/// Columns that are no names.
+fn column(word: &str) -> Option<&'static str> {
+    match word {
+        "store" => Some("(store COLUMN T T)"),
+        "affine" => Some("(affine NUMBER NUMBER)"),
+        _ => None,
+    }
+}
+
+/// Steps of proofs.
+fn step(word: &str) -> Option<&'static str> {
+    match word {
+        "split" => Some("(split h P)"),
+        "cases" => Some("(cases h P ..)"),
+        "push" => Some("(push h P)"),
+        "inst" => Some("(inst h T P)"),
+        "fresh" => Some("(fresh h P)"),
+        "cut" => Some("(cut F P P)"),
+        "written" => Some("(written COLUMN T T T P)"),
+        "same" => Some("(same COLUMN T T P)"),
+        "affine" => Some("(affine NUMBER NUMBER T P)"),
+        "trich" => Some("(trich h P P)"),
+        "divide" => Some("(divide h NUMBER F P)"),
+        "sum" => Some("(sum (h NUMBER) ..)"),
+        "opposite" => Some("(opposite h h)"),
+        "open" => Some("(open)"),
+        _ => None,
+    }
+}
+
+/// The lists of files that have proofs in them.
+fn file_part(word: &str) -> Option<&'static str> {
+    match word {
+        "formula" => Some("(formula (vars ..) (cols ..) (hyps ..) (goal F) (proof P))"),
+        "vars" => Some("(vars NAME ..)"),
+        "cols" => Some("(cols NAME ..)"),
+        "hyps" => Some("(hyps F ..)"),
+        "goal" => Some("(goal F)"),
+        "certificate" => Some("(certificate NAME (proof K P) ..)"),
+        "hints" => Some("(hints HINT ..)"),
+        "use" => Some("(use K T ..)"),
+        "by" => Some("(by K P)"),
+        _ => None,
+    }
+}
+
+/// Whether this is the word of a step.
+pub(crate) fn is_step(word: &str) -> bool {
+    step(word).is_some()
+}
+
+/// Whether this is the word of a list in which columns stand that are no names.
+pub(crate) fn has_columns(word: &str) -> bool {
+    matches!(word, "rd" | "store" | "written" | "same")
+}
+
+/// How the list is written that begins with this word and stands in one that begins with `outer`.
+pub(crate) fn form_of(word: &str, outer: &str) -> Option<&'static str> {
+    match (word, outer) {
+        ("store", "point") => instruction(word),
+        ("store", _) => column(word),
+        ("set", "on" | "when") => rider(word),
+        ("cut", "hints") => Some("(cut K F)"),
+        ("proof", "formula") => Some("(proof P)"),
+        ("proof", _) => Some("(proof K P)"),
+        ("affine", _) if has_columns(outer) => column(word),
+        _ => part_of_object(word)
+            .or(instruction(word))
+            .or(rider(word))
+            .or(formula(word))
+            .or(file_part(word))
+            .or(step(word)),
+    }
+}
+
+/// What may stand in the list that begins with this word, where its form does not say it.
+pub(crate) fn parts_of(word: &str) -> &'static str {
+    match word {
+        "on" => ", RIDER being set, when, lin, lin-other, note, lin-by, lin-other-by or note-by",
+        "point" => ", INSTRUCTION being load, store, cas, faa, set, if or return",
+        _ => "",
+    }
+}
+
+/// What the list that begins with this word needs besides its parts.
+pub(crate) fn needs_of(word: &str) -> &'static str {
+    match word {
+        "point" => ", with an `on` of a declared action at each edge that stores or has a rider",
+        _ => "",
+    }
+}
+
+/// What the item of a list names, by the word of the list and how many items stand before it, where that is known.
+pub(crate) fn noun_of(word: &str, outer: &str, part: usize) -> &'static str {
+    match (word, part) {
+        ("store", 1) if outer == "point" => "the array ",
+        ("store", 4) if outer == "point" => "the point ",
+        ("load" | "cas" | "faa", 1) => "the array ",
+        ("set", 1) if outer == "point" => "the name ",
+        ("rd" | "set" | "store" | "written" | "same", 1) => "the column ",
+        ("body", 1) | ("lin-other" | "lin-other-by", 2) => "the operation ",
+        ("lin-by" | "note-by", 1) | ("lin-other-by", 3) => "the choice ",
+        ("load", 4) | ("cas", 5 | 6) | ("faa", 5) | ("set", 2) | ("if", 2 | 3) => "the point ",
+        _ => "the name ",
+    }
+}
