@@ -1,5 +1,5 @@
 -- The task of a command, where clap finds its arguments.
-use Rattle.std.proofs.Common.{◌≡◌, ◌≤◌, ◌↔◌, ℕ, ◌&&◌, Bool, true, false, true≢false, nat_le, length, codes, List, Option, Some, None, IfSome, IsSome, refl, sym, ◌∙◌, ap, ap₂}
+use Rattle.std.proofs.Common.{◌≡◌, ◌≤◌, ◌↔◌, ℕ, ◌&&◌, Bool, true, false, true≢false, nat_le, length, codes, List, Option, Some, None, IsSome, refl, sym, ◌∙◌, ap, ap₂}
 use Rattle.std.proofs.lemmas.Bool.{le-leb, leb-true}
 use Rattle.std.specs.Prelude.{if◌then◌else◌, option_map, option_and_then}
 use Rattle.std.specs.Option.{option_map_or}
@@ -8,7 +8,6 @@ use Rattle.clap.specs.Words.{Text, first_of, first_value, rows_of}
 use Rattle.clap.specs.declared.parser.matches.Found.{Found}
 use Rattle.clap.proofs.WalkLemmas.{first_value-rows}
 use Rattle.lc_base.specs.Limits.{name_limit}
-use Rattle.lc_base.specs.Name.{bytes_of}
 use Rattle.lc_base.specs.NameText.{is_name}
 use Rattle.lc_base.specs.declared.name.Name.{Name}
 use Rattle.lc_lib_texts.specs.Names.{lib_named}
@@ -89,13 +88,13 @@ fails text true false e e' never = ap₂ ◌&&◌ e e'
 fails text true true e e' never = absurd (never (e, leb-true (length text) name_limit e'))
 
 -- the bytes are a name exactly where the test says so
-named : (text : Text) (name : Option Name) → IsSome name ↔ ((is_name text ≡ true) × (length text ≤ name_limit)) → IfSome name (λ n. bytes_of n ≡ text)
-    → option_map (λ n. BeginDevelopment (bytes_of n)) name ≡ begun text
-named text (Some n) valid value =
+named : (text : Text) (name : Option Name) → IsSome name ↔ ((is_name text ≡ true) × (length text ≤ name_limit))
+    → option_map (λ n. BeginDevelopment text) name ≡ begun text
+named text (Some n) valid =
     let is = valid.0 refl in
     let passes : is_development_name text ≡ true = ap₂ ◌&&◌ is.0 (le-leb (length text) name_limit is.1) in
-    ap (λ t. Some (BeginDevelopment t)) value ∙ sym (ap (λ b. if b then Some (BeginDevelopment text) else None) passes)
-named text None valid value =
+    sym (ap (λ b. if b then Some (BeginDevelopment text) else None) passes)
+named text None valid =
     let test : is_development_name text ≡ false =
     fails text (is_name text) (nat_le (length text) name_limit) refl refl (λ both. true≢false (sym (valid.1 both))) in
     sym (ap (λ b. if b then Some (BeginDevelopment text) else None) test)
@@ -105,5 +104,5 @@ pub beginning_unfound : (f : Found) → None ≡ first_value f (codes "NAME") �
 beginning_unfound f is = ap (option_and_then begun) (is ∙ first_value-rows f (codes "NAME"))
 
 pub beginning_found : (f : Found) (text : Text) (name : Option Name) → Some text ≡ first_value f (codes "NAME") → IsSome name ↔ ((is_name text ≡ true) × (length text ≤ name_limit))
-    → IfSome name (λ n. bytes_of n ≡ text) → option_map (λ n. BeginDevelopment (bytes_of n)) name ≡ beginning_task (rows_of f)
-beginning_found f text name is valid value = named text name valid value ∙ ap (option_and_then begun) (is ∙ first_value-rows f (codes "NAME"))
+    → option_map (λ n. BeginDevelopment text) name ≡ beginning_task (rows_of f)
+beginning_found f text name is valid = named text name valid ∙ ap (option_and_then begun) (is ∙ first_value-rows f (codes "NAME"))

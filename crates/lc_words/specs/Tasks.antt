@@ -4,7 +4,6 @@ use Rattle.std.specs.Borrow.{Bor}
 use Rattle.std.specs.declared.alloc.Global.{Global}
 use Rattle.clap.specs.Words.{Text}
 use Rattle.lc_base.specs.Limits.{name_limit}
-use Rattle.lc_base.specs.Name.{bytes_of}
 use Rattle.lc_base.specs.NameText.{is_name}
 use Rattle.lc_lib_texts.specs.Names.{name_of}
 use Rattle.lc_lib_texts.specs.declared.library.Lib.{Lib}
@@ -63,7 +62,7 @@ task_of (Check development certificate) = CheckCertificate development.now certi
 task_of (Prove development hints progress) = proving development.now (path_in hints)
 task_of (Carry old certificate new hints progress) = carrying old.now certificate.now new.now (path_in hints)
 task_of (Draw development history) = DrawHistory development.now history.now
-task_of (New name) = BeginDevelopment (bytes_of name)
+task_of (New name) = BeginDevelopment name.now
 task_of (Library lib text) = PrintLibrary lib text
 
 -- the texts of the words

@@ -54,8 +54,8 @@ fn new_request<'a>(command: &ArgMatches<'a>) -> Option<Request<'a>>
     ensures { option_map task_of result ≡ beginning_task (rows_of (found_of command.now)) }
 {
     let text = command.get_str("NAME")?;
-    let name = Name::new(text)?;
-    Some(Request::New(name))
+    Name::new(text)?;
+    Some(Request::New(text))
 }
 
 fn conditions_request<'a>(command: &ArgMatches<'a>) -> Option<Request<'a>>

@@ -1,5 +1,4 @@
 //! What the command line asks for.
-use lc_base::Name;
 use lc_lib_texts::Lib;
 
 /// Which text of an object of the library is asked for.
@@ -52,7 +51,7 @@ pub enum Request<'a> {
         history: &'a str,
     },
     /// Print a development of this name to begin with.
-    New(Name),
+    New(&'a str),
     /// Print a text of an object of the library.
     Library {
         lib: Lib,

@@ -1,10 +1,9 @@
 //! The command `new`: a development to begin with.
 ghost use Rattle.std.specs.Prelude.{◌≡◌, IfOk};
-ghost use Rattle.lc_base.specs.Name.{bytes_of};
 ghost use Rattle.lincheck.specs.New.{AnswersNew, template_of};
 
 use crate::answer::{Answer, SUCCESS, told_fault};
-use lc_base::{Name, OutOfMemory};
+use lc_base::OutOfMemory;
 use lc_outline_text::development_of;
 use std::alloc::{AllocError, Global};
 
@@ -64,10 +63,10 @@ const TAIL: &[u8] = b"
 ";
 
 /// The text of the development of this name.
-fn template(alloc: Global, name: &Name) -> Result<Vec<u8>, AllocError>
-    ensures { IfOk result (λ text. text.items ≡ template_of (bytes_of name.now)) }
+fn template(alloc: Global, name: &str) -> Result<Vec<u8>, AllocError>
+    ensures { IfOk result (λ text. text.items ≡ template_of name.now) }
 {
-    let name = name.as_str().as_bytes();
+    let name = name.as_bytes();
     let mut text = Vec::new(alloc);
     text.extend_from_slice(HEAD)?;
     text.extend_from_slice(name)?;
@@ -79,10 +78,10 @@ fn template(alloc: Global, name: &Name) -> Result<Vec<u8>, AllocError>
 
 /// The answer of the command `new`: a development of this name, with a comment at each part. It is read before it is answered, so
 /// a name that no development may have is refused.
-pub fn answer_new(alloc: Global, name: Name) -> Result<Answer, OutOfMemory>
-    ensures { IfOk result (λ answer. AnswersNew (bytes_of name) answer.text.items answer.status) }
+pub fn answer_new(alloc: Global, name: &str) -> Result<Answer, OutOfMemory>
+    ensures { IfOk result (λ answer. AnswersNew name.now answer.text.items answer.status) }
 {
-    let text = template(alloc, &name)?;
+    let text = template(alloc, name)?;
     match development_of(alloc, &text) {
         Ok(_) => Ok(Answer {
             text,

@@ -1,5 +1,4 @@
 use Rattle.std.proofs.Common.{◌∙◌, inr, refl, subst}
-use Rattle.lc_base.specs.Name.{bytes_of}
 use Rattle.lc_outline.specs.DevelopmentView.{development_shown}
 use Rattle.lc_outline_text.specs.Developments.{file_reading}
 use Rattle.lc_reading.specs.Files.{Says}
@@ -13,4 +12,4 @@ returns-in-Ok c =
 
 pub returns-in-Err : goal.returns-in-Err
 returns-in-Err c =
-    begun_refused (bytes_of c.args.name) c.deref.result.now c.in-Err.fault c.told_fault.result (c.deref.ensures.value ∙ c.in_ok-text.ensures) c.in-Err.ensures c.told_fault.ensures
+    begun_refused c.args.name.now c.deref.result.now c.in-Err.fault c.told_fault.result (c.deref.ensures.value ∙ c.in_ok-text.ensures) c.in-Err.ensures c.told_fault.ensures

@@ -12,5 +12,4 @@ returns c =
       c.in_ok-extend_from_slice.ensures.items,
       c.new-text.ensures.items,
       c.as_bytes-name.ensures.value,
-      c.as_str.ensures.text,
     )
