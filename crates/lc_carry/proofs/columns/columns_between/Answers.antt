@@ -18,8 +18,8 @@ returns c =
     let names : names_in items ≡ column_names D = ap names_in c.deref-name-items.ensures.value ∙ c.in_ok-names.ensures ∙ ap column_names c.parts.ensures.shown in
     let others : listed c.in_ok-table.table ≡ column_names E = c.in_ok-table.ensures ∙ ap names_in c.deref.ensures.value ∙ c.in_ok-others.ensures ∙ ap column_names c.parts-2.ensures.shown in
     let columns : map number_in c.loop-name.columns.items ≡ map (place_of (column_names E)) (column_names D) =
-        c.loop-name.invariant
-        ∙ ap (λ l. map (place_of (listed c.in_ok-table.table)) (names_in l)) (take_all i items end)
-        ∙ ap (map (place_of (listed c.in_ok-table.table))) names
-        ∙ ap (λ l. map (place_of l) (column_names D)) others in
+    c.loop-name.invariant
+    ∙ ap (λ l. map (place_of (listed c.in_ok-table.table)) (names_in l)) (take_all i items end)
+    ∙ ap (map (place_of (listed c.in_ok-table.table))) names
+    ∙ ap (λ l. map (place_of l) (column_names D)) others in
     same_columns c.loop-name.columns.items (column_names D) (place_of (column_names E)) columns
