@@ -17,3 +17,5 @@ pub mod Refutes
 mod Sameness
 pub mod InTables
 mod Made
+mod Owing
+mod Loads

@@ -1,6 +1,7 @@
 pub mod Form
 pub mod Listed
 pub mod Numbered
+pub mod Owed
 pub mod LinForm
 pub mod Arithmetic
 pub mod Divided

@@ -1,15 +1,19 @@
 //! Sums of comparisons.
-ghost use Rattle.std.specs.Prelude.{◌≡◌, ◌↔◌, ◌*ℤ◌, IsTrue, IfSome, IfOk, OnOk, Err};
+ghost use Rattle.std.specs.Prelude.{◌≡◌, ◌↔◌, ◌*◌, ◌*ℤ◌, max, unsigned_abs, IsTrue, IfSome, IfOk, OnOk, Err};
 ghost use Rattle.lc_table.specs.Tables.{formula_in, IsFormula};
 ghost use Rattle.lc_linear.specs.Closing.{Closes, combined, entries_in, AreEntries, gap, is_allowed, are_allowed};
 ghost use Rattle.lc_linear.specs.Form.{form_of, HasForm};
 ghost use Rattle.lc_linear.specs.LinForm.{IsFormIn, AddsIn, GivesFormIn};
+ghost use Rattle.lc_linear.specs.Owed.{Appends, AreTogether};
 ghost use Rattle.lc_linear.specs.Weight.{weight};
 
 use crate::exact::exact_difference;
+use crate::number::{negated, wide};
 use crate::quick::{add_difference, difference_weight, is_light};
+use crate::shared::shared_form;
 use crate::{LinFault, LinForm};
-use lc_table::{FormulaId, FormulaNode, Terms};
+use lc_base::OutOfMemory;
+use lc_table::{FormulaId, FormulaNode, TermId, Terms};
 use std::alloc::Global;
 
 /// Whether comparisons contradict each other: their forms, each so many times, add up to a constant above 0. The form
@@ -61,12 +65,64 @@ fn sum_of(terms: &Terms, alloc: Global, entries: &[(FormulaId, i64)]) -> Result<
     ensures { let t = combined (entries_in terms.now entries.now) in GivesFormIn terms.now result (HasForm t) (form_of t) }
 {
     if !is_light(sum_weight(terms, entries)) {
-        return exact_sum(terms, alloc, entries);
+        return large_sum(terms, alloc, entries);
     }
     match quick_sum(terms, alloc, entries) {
         Ok(sum) => Ok(sum),
         Err(LinFault::Large) => exact_sum(terms, alloc, entries),
         Err(LinFault::OutOfMemory) => Err(LinFault::OutOfMemory),
+    }
+}
+
+// Puts the sides of a comparison into the list, the first so many times, and the second as often taken away.
+fn push_gap(
+    multiples: &mut Vec<(TermId, i128)>,
+    terms: &Terms,
+    formula: FormulaId,
+    multiplier: i64,
+) -> Result<(), OutOfMemory>
+    requires { IsFormula terms.now formula }
+    ensures { let g = gap (formula_in terms.now formula) in
+        OnOk result (Appends terms.now multiples.old.items multiples.new.items (λ p. multiplier *ℤ form_of g p) (max (unsigned_abs multiplier) 1 * weight g)) }
+{
+    match terms.formula_node(formula) {
+        FormulaNode::Le(left, right) | FormulaNode::Eq(left, right) => {
+            multiples.push((*left, wide(multiplier)))?;
+            multiples.push((*right, negated(multiplier)))?;
+            Ok(())
+        }
+        _ => Ok(()),
+    }
+}
+
+// The sides of the comparisons, each so many times as it stands in their sum.
+fn multiples_of(
+    terms: &Terms,
+    alloc: Global,
+    entries: &[(FormulaId, i64)],
+) -> Result<Vec<(TermId, i128)>, OutOfMemory>
+    requires { AreEntries terms.now entries.now }
+    ensures { IfOk result (λ multiples. AreTogether terms.now multiples.items (combined (entries_in terms.now entries.now))) }
+{
+    let mut multiples = Vec::new(alloc);
+    for (formula, multiplier) in entries {
+        push_gap(&mut multiples, terms, *formula, *multiplier)?;
+    }
+    Ok(multiples)
+}
+
+// The sum where it has many nodes, or large numbers.
+fn large_sum(
+    terms: &Terms,
+    alloc: Global,
+    entries: &[(FormulaId, i64)],
+) -> Result<LinForm, LinFault>
+    requires { AreEntries terms.now entries.now }
+    ensures { let t = combined (entries_in terms.now entries.now) in GivesFormIn terms.now result (HasForm t) (form_of t) }
+{
+    match shared_form(terms, alloc, &multiples_of(terms, alloc, entries)?)? {
+        Some(sum) => Ok(sum),
+        None => exact_sum(terms, alloc, entries),
     }
 }
 

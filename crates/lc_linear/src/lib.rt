@@ -10,6 +10,7 @@ pub mod laws;
 mod making;
 mod number;
 mod quick;
+mod shared;
 
 pub use closing::closes;
 pub use fault::LinFault;

@@ -6,6 +6,7 @@ ghost use Rattle.lc_linear.specs.Form.{form_of, HasForm};
 
 use crate::exact::{exact_difference, exact_form};
 use crate::quick::{difference_weight, is_light, quick_difference, quick_form, weight};
+use crate::shared::shared_form;
 use crate::{LinFault, LinForm};
 use lc_table::{TermId, Terms};
 use std::alloc::Global;
@@ -20,7 +21,7 @@ pub fn form_of(terms: &Terms, alloc: Global, term: TermId) -> Result<LinForm, Li
     ensures { let t = term_in terms.now term in GivesFormIn terms.now result (HasForm t) (form_of t) }
 {
     if !is_light(weight(terms, term)) {
-        return exact_form(terms, alloc, term);
+        return large_form(terms, alloc, term);
     }
     match quick_form(terms, alloc, term) {
         Ok(form) => Ok(form),
@@ -42,11 +43,39 @@ pub fn form_of_difference(
     ensures { let t = S.Subtract (term_in terms.now left) (term_in terms.now right) in GivesFormIn terms.now result (HasForm t) (form_of t) }
 {
     if !is_light(difference_weight(terms, left, right)) {
-        return exact_difference(terms, alloc, left, right);
+        return large_difference(terms, alloc, left, right);
     }
     match quick_difference(terms, alloc, left, right) {
         Ok(form) => Ok(form),
         Err(LinFault::Large) => exact_difference(terms, alloc, left, right),
         Err(LinFault::OutOfMemory) => Err(LinFault::OutOfMemory),
+    }
+}
+
+// The form of a term that has many nodes, or large numbers.
+fn large_form(terms: &Terms, alloc: Global, term: TermId) -> Result<LinForm, LinFault>
+    requires { IsTerm terms.now term }
+    ensures { let t = term_in terms.now term in GivesFormIn terms.now result (HasForm t) (form_of t) }
+{
+    match shared_form(terms, alloc, &[(term, 1)])? {
+        Some(form) => Ok(form),
+        None => exact_form(terms, alloc, term),
+    }
+}
+
+// The form of such a difference.
+fn large_difference(
+    terms: &Terms,
+    alloc: Global,
+    left: TermId,
+    right: TermId,
+) -> Result<LinForm, LinFault>
+    requires left { IsTerm terms.now left }
+    requires right { IsTerm terms.now right }
+    ensures { let t = S.Subtract (term_in terms.now left) (term_in terms.now right) in GivesFormIn terms.now result (HasForm t) (form_of t) }
+{
+    match shared_form(terms, alloc, &[(left, 1), (right, -1)])? {
+        Some(form) => Ok(form),
+        None => exact_difference(terms, alloc, left, right),
     }
 }

@@ -23,6 +23,20 @@ pub(crate) fn product(left: i128, right: i128) -> Result<i128, LinFault>
     left.checked_mul(right).ok_or(LinFault::Large)
 }
 
+// A number of 64 bits, in 128.
+pub(crate) fn wide(number: i64) -> i128
+    ensures { result ≡ number }
+{
+    i128::from(number)
+}
+
+// Its negation, which always fits.
+pub(crate) fn negated(number: i64) -> i128
+    ensures { result ≡ pos 0 -ℤ number }
+{
+    -i128::from(number)
+}
+
 // The quotient, where there is no remainder.
 pub(crate) fn exact_quotient(number: i128, divisor: i128) -> Option<i128>
     requires { pos 1 ≤ℤ divisor }

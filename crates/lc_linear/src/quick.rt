@@ -4,7 +4,7 @@
 //! the forms of its parts. Where the weight fits, all of these fit, and need not be made one by one: each atom is added
 //! to one form, as often as the factors around it say. Where it does not, as in a number of 64 bits multiplied by two
 //! others, the form is made part by part (`exact`), which alone finds out whether a number leaves 128 bits, in time up
-//! to the size of the term times its depth.
+//! to the size of the term times its depth. Where a term has many nodes, each part is looked at once (`shared`).
 ghost use Rattle.std.specs.Prelude.{◌≡◌, ◌*ℤ◌, ◌^◌, ◌<◌, IsTrue, IfSome, IsSomeAnd, IfOk, OnOk};
 ghost use Rattle.lc_term.specs.Syntax as S;
 ghost use Rattle.lc_table.specs.Tables.{term_in, IsTerm};
@@ -17,25 +17,39 @@ use crate::{LinFault, LinForm};
 use lc_table::{TermId, TermNode, Terms, numbers_are_exact};
 use std::alloc::Global;
 
-// A bound of all numbers of the form and of the forms of its parts; none where the bound leaves 128 bits.
-pub(crate) fn weight(terms: &Terms, term: TermId) -> Option<u128>
+// How many nodes of a term are walked over before its parts are taken each once, in place of each time that they stand there.
+const WALK_LIMIT: u32 = 4096;
+
+// A bound of all numbers of the form and of the forms of its parts; none where the bound leaves 128 bits, or where the
+// term has more nodes than steps are left.
+fn walked(terms: &Terms, term: TermId, steps: &mut u32) -> Option<u128>
     requires { IsTerm terms.now term }
     ensures { IfSome result (λ w. w ≡ weight (term_in terms.now term)) }
 {
+    *steps = steps.checked_sub(1)?;
     match terms.term_node(term) {
         TermNode::Number(number) => Some(u128::from(number.unsigned_abs())),
         TermNode::Variable(_) | TermNode::Bound(_) | TermNode::Read(_, _) => Some(1),
         TermNode::Add(left, right) | TermNode::Subtract(left, right) => {
-            weight(terms, left)?.checked_add(weight(terms, right)?)
+            walked(terms, left, steps)?.checked_add(walked(terms, right, steps)?)
         }
         TermNode::Multiply(factor, term) => {
-            u128::from(factor.unsigned_abs().max(1)).checked_mul(weight(terms, term)?)
+            u128::from(factor.unsigned_abs().max(1)).checked_mul(walked(terms, term, steps)?)
         }
         TermNode::Base(_) | TermNode::Store(_, _, _) | TermNode::Affine(_, _) => unreachable!(),
     }
 }
 
-// A bound of all numbers of the form of a difference, likewise.
+// The bound for a term; none also where the term is large as a tree.
+pub(crate) fn weight(terms: &Terms, term: TermId) -> Option<u128>
+    requires { IsTerm terms.now term }
+    ensures { IfSome result (λ w. w ≡ weight (term_in terms.now term)) }
+{
+    let mut steps = WALK_LIMIT;
+    walked(terms, term, &mut steps)
+}
+
+// The bound for a difference, likewise.
 pub(crate) fn difference_weight(terms: &Terms, left: TermId, right: TermId) -> Option<u128>
     requires left { IsTerm terms.now left }
     requires right { IsTerm terms.now right }
