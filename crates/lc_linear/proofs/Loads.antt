@@ -1,7 +1,6 @@
 -- Weights that are known, and terms that are together so many times.
 use Rattle.std.proofs.Common.{◌≡◌, ℕ, zero, suc, ◌+◌, ◌*◌, ◌<◌, ◌^◌, max, length, take, get_or, ◌++◌, Bool, true, false, cond, List, [], ◌∷◌, Option, Some, None, refl, sym, ap, ap₂, subst, ◌∙◌, arith}
 use Rattle.std.specs.Prelude.{ℤ, pos, ◌+ℤ◌, ◌-ℤ◌, ◌*ℤ◌, unsigned_abs, if◌then◌else◌, IfSome}
-use Rattle.std.specs.List.{AllByRecursion}
 use Rattle.std.specs.Map.{lookup}
 use Rattle.std.proofs.Math.Seq.{take-suc}
 use Rattle.std.proofs.lemmas.Int.{ints}
@@ -13,7 +12,7 @@ use Rattle.lc_table.specs.Tables.{term_in, IsTerm}
 use Rattle.lc_table.specs.declared.node.TermId.{TermId}
 use Rattle.lc_linear.proofs.Ids.{Decides-is_same}
 use Rattle.lc_linear.proofs.InTables.{Reads-same}
-use Rattle.lc_linear.proofs.Products.{mul-add, mul-sub, mul-neg, mul-one}
+use Rattle.lc_linear.proofs.Products.{mul-sub, mul-neg}
 use Rattle.lc_linear.proofs.Weights.{HasForm-weight}
 use Rattle.lc_linear.specs.Form as T
 use Rattle.lc_linear.specs.Form.{form_of, HasForm}
@@ -154,9 +153,6 @@ nothing_behind ts old k g is = record {
   form = λ p. let e = number_nothing p in rw (is, e) (omega (arith, ints));
   heavy = rw is (omega arith);
 }
-
-pub together_start : (ts : Table) → AreTogether ts [] (Number (pos 0))
-together_start ts = record { are_terms = tt; form = λ p. sym (number_nothing p); heavy = refl }
 
 pub together_more : (ts : Table) (ms new : Multiples) (so_far g whole : Term) (k k' : ℤ) → k' ≡ k → whole ≡ Add so_far (Multiply k g) → AreTogether ts ms so_far →
     Appends ts ms new (λ p. k' *ℤ form_of g p) (max (unsigned_abs k') 1 * weight g) → AreTogether ts new whole
