@@ -1,8 +1,8 @@
 -- The least of the old conditions is the one whose proof is carried.
 use Rattle.std.proofs.Common.{◌≡◌, ◌≢◌, ℕ, zero, suc, ◌+◌, ◌<◌, ◌≤◌, ◌⊎◌, inl, inr, Bool, true, false, ◌&&◌, cond, List, [], ◌∷◌, ◌++◌, Option, Some, None, option_map, slice_get, refl, sym, ap, ap₂, ◌∙◌, subst, arith, add-zero, zero-add}
-use Rattle.std.proofs.lemmas.Bool.{and_from, eq-eqb}
 use Rattle.std.proofs.lemmas.Bool.Decides.{eqb_tells}
 use Rattle.std.specs.Prelude.{◌==◌, option_and_then}
+use Rattle.lc_carry.proofs.Keys.{same_text}
 use Rattle.lc_carry.specs.Carried.{can_carry, least_number, renamed_at, entry_for, carried_from, carried_proof, carried, column_between}
 use Rattle.lc_carry.specs.CarriedFrom.{IsCarriedFrom, IsLeast, CarriesLeast, CarriesNothingElse}
 use Rattle.lc_cert.specs.Certificates.{Entry, proof_at}
@@ -138,11 +138,6 @@ can to o p is h = ap (can_carry to) is ∙ h
 
 both : (a b : Bool) → a ≡ true → b ≡ true → (a && b) ≡ true
 both a b p q = ap₂ (λ x y. x && y) p q
-
--- a text is itself
-same_text : (w : List ℕ) → is w w ≡ true
-same_text [] = refl
-same_text (b ∷ w) = and_from _ _ (eq-eqb b b refl) (same_text w)
 
 module _ (D : Development) (es : List Entry) (E : Development) where
   carried_at : (k : ℕ) → proof_at (carried D es E) k ≡ option_and_then (λ c. carried_proof D es E (statement_text E c)) (slice_get (conditions E) k)

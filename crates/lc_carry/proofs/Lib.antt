@@ -4,3 +4,6 @@ mod Between
 mod Few
 mod Parts
 mod Chosen
+mod Keys
+mod Cuts
+mod Noted

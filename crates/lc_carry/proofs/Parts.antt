@@ -1,7 +1,9 @@
--- The end of a list of conditions that is given part by part.
-use Rattle.std.proofs.Common.{◌≡◌, Option, Some, None, refl}
+-- A list of conditions that is given part by part.
+use Rattle.std.proofs.Common.{◌≡◌, ℕ, ◌+◌, ◌<◌, List, ◌∷◌, length, get_or, drop, map, Option, Some, None, refl, sym, ap, ◌∙◌}
+use Rattle.std.proofs.lemmas.List.{drop_more}
 use Rattle.std.specs.Prelude.{Vec}
 use Rattle.std.specs.declared.alloc.Global.{Global}
+use Rattle.lc_cond.specs.ConditionView.{condition_in}
 use Rattle.lc_cond.specs.Stream.{IsNextPart, IsEnd}
 use Rattle.lc_cond.specs.declared.condition.Condition.{Condition}
 use Rattle.lc_cond.specs.declared.stream.ConditionStream.{ConditionStream}
@@ -13,3 +15,7 @@ pub ended : (d : Development) (ts : Table) (before after : ConditionStream) (par
     → IsEnd d before after
 ended d ts before after None none next = next
 ended d ts before after (Some cs) none next = absurd (none cs refl)
+
+-- the condition at hand stands before those that are left of a part
+pub at_hand : (ts : Table) (cs : List Condition) (i : ℕ) (c : Condition) → i < length cs → c ≡ get_or cs i c → map (condition_in ts) (drop i cs) ≡ condition_in ts c ∷ map (condition_in ts) (drop (i + 1) cs)
+at_hand ts cs i c lt is = ap (map (condition_in ts)) (drop_more cs i c lt) ∙ ap (λ x. condition_in ts x ∷ map (condition_in ts) (drop (i + 1) cs)) (sym is)

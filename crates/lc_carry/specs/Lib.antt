@@ -1,4 +1,5 @@
 pub mod Carried
 pub mod CarriedFrom
-pub mod Numbers
 pub mod OldProofs
+pub mod Pieces
+pub mod TextNumbers

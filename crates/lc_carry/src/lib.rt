@@ -6,5 +6,7 @@ mod entries;
 pub mod laws;
 mod numbers;
 mod old_proofs;
+mod pieces;
+mod text_numbers;
 
 pub use entries::carried_entries;

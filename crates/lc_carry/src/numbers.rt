@@ -1,8 +1,8 @@
 //! By what conditions of the old development say, the least number of one whose proof can be carried.
-ghost use Rattle.std.specs.Prelude.{◌≡◌, ℕ, List, Some, None, OnOk, IfOk, map, if◌then◌else◌};
+ghost use Rattle.std.specs.Prelude.{◌≡◌, ℕ, List, OnOk, IfOk, map};
 ghost use Rattle.std.specs.Option.{option_or};
 ghost use Rattle.lc_carry.specs.Carried.{can_carry, number_here, least_number};
-ghost use Rattle.lc_carry.specs.Numbers.{number_of};
+ghost use Rattle.lc_carry.specs.TextNumbers.{number_of};
 ghost use Rattle.lc_cert.specs.Certificates.{proof_at};
 ghost use Rattle.lc_cert.specs.CertificateView.{entries_in};
 ghost use Rattle.lc_cond.specs.Conditions.{conditions};
@@ -10,10 +10,9 @@ ghost use Rattle.lc_cond.specs.ConditionView.{condition_in, IsCondition, AreCond
 ghost use Rattle.lc_cond_text.specs.ConditionText.{spelled};
 ghost use Rattle.lc_cond_text.specs.Recalled.{Recalls};
 ghost use Rattle.lc_outline.specs.DevelopmentView.{development_shown};
-ghost use Rattle.lc_reading.specs.Words.{is};
 ghost use Rattle.lc_rename.specs.Renaming.{column_for};
 
-use indexmap::IndexMap;
+use crate::text_numbers::TextNumbers;
 use lc_base::{ColId, OutOfMemory};
 use lc_cert::Certificate;
 use lc_cond::{Condition, ConditionStream};
@@ -31,16 +30,6 @@ pub(crate) struct Old<'a> {
     pub columns: &'a [Option<ColId>],
 }
 
-/// Notes the number of a condition by what it says, unless another one says that already.
-fn note(numbers: &mut IndexMap<Vec<u8>, u64>, text: Vec<u8>, number: u64) -> Result<(), OutOfMemory>
-    ensures { OnOk result ((t : List ℕ) → number_of numbers.new.entries t ≡ option_or (number_of numbers.old.entries t) (if is t text.items then Some number else None)) }
-{
-    if !numbers.contains_key(text.as_slice()) {
-        numbers.insert(text, number)?;
-    }
-    Ok(())
-}
-
 /// Whether the certificate has a proof of this number that can be carried.
 fn has_carried(old: &Old<'_>, number: u64) -> bool
     ensures { result ≡ can_carry (column_for old.now.columns.now) (proof_at (entries_in old.now.certificate.now) number) }
@@ -53,7 +42,7 @@ fn has_carried(old: &Old<'_>, number: u64) -> bool
 
 /// Notes the number of a condition, if its proof can be carried.
 fn note_condition(
-    numbers: &mut IndexMap<Vec<u8>, u64>,
+    numbers: &mut TextNumbers,
     old: &Old<'_>,
     terms: &Terms,
     texts: &mut FormulaTexts,
@@ -63,21 +52,21 @@ fn note_condition(
     requires condition { IsCondition terms.now condition.now }
     requires recalls { Recalls (spelled (development_shown old.now.development.now)) terms.now texts.old }
     ensures noted { let D = development_shown old.now.development.now in
-        OnOk result ((t : List ℕ) → number_of numbers.new.entries t ≡ option_or (number_of numbers.old.entries t)
+        OnOk result ((t : List ℕ) → number_of numbers.new t ≡ option_or (number_of numbers.old t)
         (number_here D (entries_in old.now.certificate.now) (column_for old.now.columns.now) t number (condition_in terms.now condition.now))) }
     ensures recalls { OnOk result (Recalls (spelled (development_shown old.now.development.now)) terms.now texts.new) }
 {
     if !has_carried(old, number) {
         return Ok(());
     }
-    let mut text = Vec::new(*numbers.allocator());
+    let mut text = Vec::new(numbers.allocator());
     push_statement(&mut text, texts, terms, old.development, condition)?;
-    note(numbers, text, number)
+    numbers.note(&text, number)
 }
 
 /// Notes the numbers of the conditions of a part, of which the first has this number.
 fn note_part(
-    numbers: &mut IndexMap<Vec<u8>, u64>,
+    numbers: &mut TextNumbers,
     old: &Old<'_>,
     terms: &Terms,
     first: u64,
@@ -85,10 +74,10 @@ fn note_part(
 ) -> Result<(), OutOfMemory>
     requires { AreConditions terms.now part.now }
     ensures { let D = development_shown old.now.development.now in
-        OnOk result ((t : List ℕ) → number_of numbers.new.entries t ≡ option_or (number_of numbers.old.entries t)
+        OnOk result ((t : List ℕ) → number_of numbers.new t ≡ option_or (number_of numbers.old t)
         (least_number D (entries_in old.now.certificate.now) (column_for old.now.columns.now) t first (map (condition_in terms.now) part.now))) }
 {
-    let mut texts = no_texts(*numbers.allocator());
+    let mut texts = no_texts(numbers.allocator());
     let mut number = first;
     for condition in part {
         note_condition(numbers, old, terms, &mut texts, number, condition)?;
@@ -99,14 +88,11 @@ fn note_part(
 
 /// The numbers of the conditions of the old development whose proofs can be carried, by what they say; of those that say the
 /// same the least.
-pub(crate) fn numbers_of(
-    alloc: Global,
-    old: &Old<'_>,
-) -> Result<IndexMap<Vec<u8>, u64>, OutOfMemory>
+pub(crate) fn numbers_of(alloc: Global, old: &Old<'_>) -> Result<TextNumbers, OutOfMemory>
     ensures { let D = development_shown old.now.development.now in
-        IfOk result (λ numbers. (t : List ℕ) → number_of numbers.entries t ≡ least_number D (entries_in old.now.certificate.now) (column_for old.now.columns.now) t 0 (conditions D)) }
+        IfOk result (λ numbers. (t : List ℕ) → number_of numbers t ≡ least_number D (entries_in old.now.certificate.now) (column_for old.now.columns.now) t 0 (conditions D)) }
 {
-    let mut numbers = IndexMap::new(alloc);
+    let mut numbers = TextNumbers::new(alloc);
     let mut stream = ConditionStream::new(alloc, old.development)?;
     'parts: loop {
         let first = stream.first_number();

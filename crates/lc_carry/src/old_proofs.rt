@@ -1,7 +1,7 @@
 //! Proofs of the old development, by what conditions say.
 use crate::columns::columns_between;
 use crate::numbers::{Old, numbers_of};
-use indexmap::IndexMap;
+use crate::text_numbers::TextNumbers;
 use lc_base::{ColId, OutOfMemory};
 use lc_cert::Certificate;
 use lc_kernel::Proof;
@@ -13,7 +13,7 @@ use std::alloc::Global;
 pub(crate) struct OldProofs<'a> {
     certificate: &'a Certificate,
     columns: Vec<Option<ColId>>,
-    numbers: IndexMap<Vec<u8>, u64>,
+    numbers: TextNumbers,
 }
 
 impl Drop for OldProofs<'_> {
@@ -63,7 +63,7 @@ impl<'a> OldProofs<'a> {
     pub(crate) fn proof(&self, alloc: Global, text: &[u8]) -> Result<Option<Proof>, OutOfMemory>
         ensures { IfOk result (λ proof. option_map proof_of proof ≡ proof_for self.now text.now) }
     {
-        let Some(number) = self.numbers.get(text).copied() else {
+        let Some(number) = self.numbers.number(alloc, text)? else {
             return Ok(None);
         };
         let Some(proof) = self.certificate.proof(number) else {

@@ -4,5 +4,5 @@ pub mod InTurn
 pub mod Walking
 mod Stepping
 mod Derived
-mod Answered
+pub mod Answered
 pub mod AcceptedObjects

@@ -31,14 +31,14 @@ use Rattle.lc_check.specs.declared.walk.Walk.{Walk}
 
 pub still_known : (old new : Table) (cs : List Condition) → AreConditions old cs → Keeps old new → AreConditions new cs
 still_known old new [] h kept = tt
-still_known old new (c ∷ cs) h kept = ((are_formulas_still old new c.goal.hypotheses.items h.0.0 kept, is_formula_still old new c.goal.goal h.0.1 kept), still_known old new cs h.1 kept)
+still_known old new (c ∷ cs) h kept = ((are_formulas_still old new c.goal.hypotheses h.0.0 kept, is_formula_still old new c.goal.goal h.0.1 kept), still_known old new cs h.1 kept)
 
-still_seen : (old new : Table) (cs : List Condition) → AreConditions old cs → Keeps old new → map (condition_in new) cs ≡ map (condition_in old) cs
+pub still_seen : (old new : Table) (cs : List Condition) → AreConditions old cs → Keeps old new → map (condition_in new) cs ≡ map (condition_in old) cs
 still_seen old new [] h kept = refl
 still_seen old new (c ∷ cs) h kept =
     let here : condition_in new c ≡ condition_in old c =
     ap₂ (λ hs g. record { kind = kind_of c.kind; place = place_of c.place; variables = c.goal.vars; hypotheses = hs; goal = g })
-    (formulas_still old new c.goal.hypotheses.items h.0.0 kept) (formula_still old new c.goal.goal h.0.1 kept) in
+    (formulas_still old new c.goal.hypotheses h.0.0 kept) (formula_still old new c.goal.goal h.0.1 kept) in
     ap₂ (λ x xs. x ∷ xs) here (still_seen old new cs h.1 kept)
 
 -- ---- the next condition

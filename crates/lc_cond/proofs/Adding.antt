@@ -98,12 +98,12 @@ columns_listed ts ps now σ h same = (let P : List (ColId × ColExprId) → Type
 condition_still : (old new : Table) (c : Condition) → IsCondition old c → Keeps old new → condition_in new c ≡ condition_in old c
 condition_still old new c h kept =
     ap₂ (λ hs g. record { kind = kind_of c.kind; place = place_of c.place; variables = c.goal.vars; hypotheses = hs; goal = g })
-    (formulas_still old new c.goal.hypotheses.items h.0 kept) (formula_still old new c.goal.goal h.1 kept)
+    (formulas_still old new c.goal.hypotheses h.0 kept) (formula_still old new c.goal.goal h.1 kept)
 
 are_later : (old new : Table) (cs : List Condition) → AreConditions old cs → Keeps old new → AreConditions new cs
 are_later old new [] h kept = tt
 are_later old new (c ∷ cs) h kept =
-    ((are_formulas_still old new c.goal.hypotheses.items h.0.0 kept, is_formula_still old new c.goal.goal h.0.1 kept), are_later old new cs h.1 kept)
+    ((are_formulas_still old new c.goal.hypotheses h.0.0 kept, is_formula_still old new c.goal.goal h.0.1 kept), are_later old new cs h.1 kept)
 
 conditions_still : (old new : Table) (cs : List Condition) → AreConditions old cs → Keeps old new → map (condition_in new) cs ≡ map (condition_in old) cs
 conditions_still old new [] h kept = refl

@@ -4,14 +4,11 @@ use Rattle.std.proofs.lemmas.Bool.Decides.{nat_tests}
 use Rattle.std.proofs.lemmas.List.{take_more}
 use Rattle.lc_base.specs.declared.ids.ColId.{ColId}
 use Rattle.lc_term.specs.Lists.{Every}
-use Rattle.lc_table.specs.Nodes.{Part, is_term_node, column_of_node}
 use Rattle.lc_table.specs.NodeTables.{Table}
 use Rattle.lc_table.specs.PutNumbers.{columns_at}
 use Rattle.lc_term.specs.Syntax.{Column, Formula, Base}
 use Rattle.lc_table.specs.Tables.{Keeps, column_in}
 use Rattle.lc_table.specs.declared.node.ColExprId.{ColExprId}
-use Rattle.lc_table.specs.declared.node.TermNode.{TermNode}
-use Rattle.lc_table.specs.declared.node.TermNode.TheVariants as N
 use Rattle.lc_term.proofs.Stores.{Every-append}
 use Rattle.lc_cond.specs.Adding.{HasColumns, Adds}
 use Rattle.lc_cond.specs.Heads.{condition_made}

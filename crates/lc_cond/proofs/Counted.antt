@@ -1,7 +1,6 @@
 -- Variables in order, and zeros behind them.
 use Rattle.std.proofs.Common.{◌≡◌, ℕ, zero, suc, ◌+◌, List, [], ◌∷◌, ◌++◌, if◌then◌else◌, nat_lt, pos, map, refl, sym, ap, ◌∙◌, arith, add-zero, add-one, true, ◌<◌}
 use Rattle.std.proofs.lemmas.Bool.Decides.{nat_tests}
-use Rattle.std.specs.Prelude.{replicate}
 use Rattle.lc_term.specs.Syntax.{Term, Number, Variable}
 use Rattle.lc_term.specs.Said.{variables_from}
 use Rattle.lc_term.specs.View.{term_of}

@@ -48,7 +48,7 @@ known_all old new frame invariant asserts i a known now hs gs fs at kept is hold
 crossing_later : (old new : Table) (D : Development) (n : ℕ) (hs fs : List Formula) (a : Action) (c : Crossing) → IsCrossing old D n hs fs a c → Keeps old new → IsCrossing new D n hs fs a c
 crossing_later old new D n hs fs a c h kept = record {
   variables = h.variables;
-  hypotheses = formulas_later old new c.hypotheses.items _ h.hypotheses kept;
+  hypotheses = formulas_later old new c.hypotheses _ h.hypotheses kept;
   goals = formulas_later old new c.goals.items _ h.goals kept;
 }
 
@@ -119,7 +119,7 @@ crossings_last ts D n hs fs (b ∷ actions) (d ∷ cs) c h =
 -- one action more
 pub stable_more : (point : Option PointId) (k : ℕ) (cs : List Crossing) (i : ℕ) (c : Crossing) (d : FormulaId) (old now new : List Condition) → i < length cs → c ≡ get_or cs i c →
     MakesStable point k (take i cs) old now →
-    MakesOne (record { kind = K.Stable; variables = c.variables; point = point; passage = P.Action i; path = None }) (W.Numbered k) c.hypotheses.items (get_or c.goals.items k d) now new →
+    MakesOne (record { kind = K.Stable; variables = c.variables; point = point; passage = P.Action i; path = None }) (W.Numbered k) c.hypotheses (get_or c.goals.items k d) now new →
     MakesStable point k (take (i + 1) cs) old new
 stable_more point k cs i c d old now new below is so_far one ts D n hs fs actions f h at =
     let split : take (i + 1) cs ≡ take i cs ++ c ∷ [] = take_more cs i c below ∙ ap (λ x. take i cs ++ x ∷ []) (sym is) in

@@ -1,14 +1,12 @@
 -- Terms that stand in the cells of a client, one after another.
-use Rattle.std.proofs.Common.{◌≡◌, ℕ, zero, suc, ◌+◌, ◌<◌, ◌≤◌, List, [], ◌∷◌, ◌++◌, length, drop, map, get_or, refl, sym, ap, ap₂, ◌∙◌, append-nil, append_assoc, arith}
-use Rattle.std.proofs.lemmas.List.{drop_more, map-append}
+use Rattle.std.proofs.Common.{◌≡◌, ℕ, ◌≤◌, List, [], ◌∷◌, ◌++◌, length, drop, map, refl, sym, ap, ◌∙◌, append-nil}
 use Rattle.std.proofs.Math.ListN.{drop_of_length-le}
 use Rattle.lc_base.specs.declared.ids.ColId.{ColId}
 use Rattle.lc_term.specs.Syntax as S
 use Rattle.lc_term.specs.Syntax.{Variable}
-use Rattle.lc_term.specs.View.{term_of, formula_of, formulas_of}
+use Rattle.lc_term.specs.View.{term_of}
 use Rattle.lc_term.specs.declared.term.Term.{Term}
-use Rattle.lc_term.specs.declared.formula.Formula.{Formula}
-use Rattle.lc_cond.specs.Conditions.{is_cell, hold_terms, hold_variables}
+use Rattle.lc_cond.specs.Conditions.{hold_terms}
 
 abbrev pub numbers_of : List ColId → List ℕ
 numbers_of cs = map (λ c. c.0) cs

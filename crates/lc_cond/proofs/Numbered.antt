@@ -1,5 +1,5 @@
 -- Parts of the list of conditions, by the numbers of their conditions.
-use Rattle.std.proofs.Common.{◌≡◌, ℕ, zero, suc, ◌+◌, ◌*◌, ◌-◌, ◌<◌, ◌≤◌, Option, Some, None, List, [], ◌∷◌, ◌++◌, map, option_map, length, take, drop, get_or, slice_get, refl, sym, ap, ◌∙◌, subst, arith, append-nil}
+use Rattle.std.proofs.Common.{◌≡◌, ℕ, zero, suc, ◌+◌, ◌*◌, ◌-◌, ◌<◌, ◌≤◌, Some, None, List, [], ◌∷◌, ◌++◌, map, length, take, get_or, slice_get, refl, sym, ap, ◌∙◌, subst, arith}
 use Rattle.std.proofs.lemmas.List.{length-append, length-map}
 use Rattle.std.proofs.lemmas.Option.{same_Some, slice_get_past}
 use Rattle.lc_term.specs.Lists.{concat_map}
@@ -12,7 +12,7 @@ use Rattle.lc_cond.specs.Conditions as S
 use Rattle.lc_cond.specs.Conditions.{parts, conditions_in, conditions, body_frame, stable_conditions, point_stability}
 use Rattle.lc_cond.specs.ConditionView.{condition_in, AreConditions}
 use Rattle.lc_cond.specs.Adding.{Adds}
-use Rattle.lc_cond.specs.Numbering.{count_before, AreFirsts, StandFrom, IsPartWith}
+use Rattle.lc_cond.specs.Numbering.{count_before, AreFirsts, IsPartWith}
 use Rattle.lc_cond.specs.declared.condition.Condition.{Condition}
 use Rattle.lc_cond.specs.declared.numbering.NumberedPart.{NumberedPart}
 use Rattle.lc_cond.proofs.Adding.{adds_to_none}

@@ -1,8 +1,9 @@
 -- What a scene says in later tables, and the parts of its conditions.
-use Rattle.std.proofs.Common.{◌≡◌, ℕ, zero, suc, ◌+◌, ◌<◌, ◌≤◌, Option, Some, None, List, [], ◌∷◌, ◌++◌, map, take, length, get_or, pos, Bor, refl, sym, subst, ap, ap₂, ◌∙◌, arith}
+use Rattle.std.proofs.Common.{◌≡◌, ℕ, zero, suc, ◌+◌, ◌-◌, ◌<◌, ◌≤◌, Option, Some, None, List, [], ◌∷◌, ◌++◌, map, take, length, get_or, pos, Bor, sym, subst, ap, ap₂, ◌∙◌, arith}
 use Rattle.std.specs.Prelude.{option_map, slice_get}
-use Rattle.std.proofs.lemmas.List.{map-append, take_more, take_all, length-map, length-take-le}
+use Rattle.std.proofs.lemmas.List.{map-append, take_more, take_all, length-append, length-map}
 use Rattle.std.proofs.lemmas.Option.{same_Some}
+use Rattle.std.proofs.Math.Seq.{take-append-add}
 use Rattle.lc_base.specs.declared.ids.ColId.{ColId}
 use Rattle.lc_base.specs.declared.ids.PointId.{PointId}
 use Rattle.lc_term.specs.Syntax.{Term, Column, Formula, Variable, Number}
@@ -14,6 +15,7 @@ use Rattle.lc_table.specs.Tables.{Keeps, formula_in, formulas_in, IsFormula, Are
 use Rattle.lc_table.specs.declared.node.TermId.{TermId}
 use Rattle.lc_table.specs.declared.node.ColExprId.{ColExprId}
 use Rattle.lc_table.specs.declared.node.FormulaId.{FormulaId}
+use Rattle.lc_table.proofs.ByNumber.{are_columns_later}
 use Rattle.lc_table.proofs.Later.{are_formulas_still, formulas_still, formula_later, formula_is, formula_has}
 use Rattle.lc_rider.specs.Paths.{edge_variables, Path}
 use Rattle.lc_rider.specs.PathView.{path_in, IsPath, ArePaths, HasPath}
@@ -30,9 +32,10 @@ use Rattle.lc_cond.specs.Conditions as S
 use Rattle.lc_cond.specs.Conditions.{at_end, path_place, conditions_of, alone_on_path, action_conditions, on_conditions}
 use Rattle.lc_cond.specs.Adding.{HasFormulas, HasTerms, HasColumns, Adds}
 use Rattle.lc_cond.specs.Heads.{MakesOne}
-use Rattle.lc_cond.specs.Scenes.{IsScene, IsSceneOf, IsReply, IsActing, duty_head, MakesDuties, acting_on, code_in, told_in, duty_conditions}
+use Rattle.lc_cond.specs.Scenes.{IsScene, IsSceneOf, IsOutcome, IsReply, IsActing, duty_head, MakesDuties, acting_on, code_in, told_in, duty_conditions}
 use Rattle.lc_cond.specs.declared.condition.Condition.{Condition}
 use Rattle.lc_cond.specs.declared.condition.Which.TheVariants as W
+use Rattle.lc_cond.specs.declared.edge_conditions.Outcome.{Outcome}
 use Rattle.lc_cond.specs.declared.matching.Acting.{Acting}
 use Rattle.lc_cond.specs.declared.scene.Scene.{Scene}
 use Rattle.lc_cond.proofs.Adding.{formulas_later, formulas_joined, first_formulas, terms_later, columns_later, adds_both, adds_nothing}
@@ -56,6 +59,9 @@ scene_later old new s h kept = record {
   reply = reply_later old new s.reply _ h.reply kept;
   acting = acting_later old new s.acting _ h.acting kept;
 }
+
+pub outcome_later : (old new : Table) (o : Outcome) → IsOutcome old o → Keeps old new → IsOutcome new o
+outcome_later old new o h kept = record { scene = scene_later old new o.scene.now h.scene kept; columns = are_columns_later old new o.columns.now h.columns kept }
 
 pub scene_of_later : (old new : Table) (d : D.Development) (o : ℕ) (operation : Operation) (e : Edge) (s : Scene) → IsSceneOf old d o operation e s → Keeps old new → IsSceneOf new d o operation e s
 scene_of_later old new d o operation e s h kept = record {
@@ -134,18 +140,29 @@ duties_all s j facts ds path i before now end trees are owed goals below ts hs p
     ap (λ l. map (duty_in (path_in ts path).facts) (map (owed_in ts) l)) (take_all i ds end) ∙ owed ts ∙ ap (λ (q : Path). q.duties) has.path in
     subst (λ l. Adds before ts now (duty_conditions s j hs l)) says (below ts hs (path_in ts path).facts known here (goals ts has.is))
 
--- a duty knows no more facts than there are, so many of them are its
-pub known_here : (facts : List FormulaId) (path : P.Path) (ds : List Duty) (i : ℕ) (d : Duty) → i < length ds →
-    ((ts : Table) → formulas_in ts facts ≡ (path_in ts path).facts) → ((ts : Table) → AreKnown (length (path_in ts path).facts) ds) → (get_or ds i d).known ≡ length (take (get_or ds i d).known facts)
-known_here facts path ds i d below trees known =
+-- a duty knows no more facts than there are
+pub known_within : (facts : List FormulaId) (path : P.Path) (ds : List Duty) (i : ℕ) (d : Duty) → i < length ds →
+    ((ts : Table) → formulas_in ts facts ≡ (path_in ts path).facts) → ((ts : Table) → AreKnown (length (path_in ts path).facts) ds) → (get_or ds i d).known ≤ length facts
+known_within facts path ds i d below trees known =
     let ts : Table = record { terms = []; formulas = [] } in
     let count : length (path_in ts path).facts ≡ length facts = ap length (sym (trees ts)) ∙ length-map facts (formula_in ts) in
-    sym (length-take-le (get_or ds i d).known facts (subst (λ n. (get_or ds i d).known ≤ n) count (few ds i below (known ts))))
+    subst (λ n. (get_or ds i d).known ≤ n) count (few ds i below (known ts))
   where
     few : {n : ℕ} → (es : List Duty) (k : ℕ) → k < length es → AreKnown n es → (get_or es k d).known ≤ n
     few [] k below h = absurd (omega arith)
     few (x ∷ es) zero below h = h.0
     few (x ∷ es) (suc k) below h = few es k (omega arith) h.1
+
+-- so what is known before an edge, with those facts, is the first of what is known on the path
+pub known_enough : (before facts these known : List FormulaId) (k : ℕ) → these ≡ known → known ≡ before ++ facts → k ≤ length facts → (length these - length facts) + k ≤ length known
+known_enough before facts these known k same is within =
+    let all : length known ≡ length before + length facts = ap length is ∙ length-append before facts in omega (arith, ap length same)
+
+pub known_first : (before facts these known : List FormulaId) (k : ℕ) → these ≡ known → known ≡ before ++ facts → take ((length these - length facts) + k) known ≡ before ++ take k facts
+known_first before facts these known k same is =
+    let all : length these ≡ length before + length facts = ap length (same ∙ is) ∙ length-append before facts in
+    let count : length these - length facts ≡ length before = omega arith in
+    ap₂ (λ n l. take (n + k) l) count is ∙ take-append-add before facts k
 
 -- the columns at the end of an edge that reaches a point, and of a return
 pub at_end-some : (first : ℕ) (o : Option PointId) (q : PointId) (σ τ : ℕ → Column) → o ≡ Some q → σ ≡ τ → σ ≡ at_end first (option_map (λ (p : PointId). p.0) o) τ

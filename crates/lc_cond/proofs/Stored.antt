@@ -4,10 +4,9 @@ use Rattle.std.proofs.lemmas.Bool.Decides.{nat_tests}
 use Rattle.std.proofs.lemmas.List.{length-append}
 use Rattle.std.proofs.lemmas.List.Folds.{list_any-append}
 use Rattle.lc_term.specs.Lists.{Every}
-use Rattle.lc_term.specs.Syntax.{Term, Column, Base, Store, Formula}
+use Rattle.lc_term.specs.Syntax.{Term, Column, Store, Formula}
 use Rattle.lc_term.specs.Updates.{Update}
 use Rattle.lc_term.specs.Said.{put, puts, said, after}
-use Rattle.lc_term.proofs.Stores.{same_self}
 use Rattle.lc_cond.specs.Conditions.{Condition, is_base, same_column, column_conditions}
 use Rattle.lc_outline.specs.Sizes.{columns_of, stands, different}
 

@@ -47,13 +47,13 @@ condition_in ts c = record {
   kind = kind_of c.kind;
   place = place_of c.place;
   variables = c.goal.vars;
-  hypotheses = formulas_in ts c.goal.hypotheses.items;
+  hypotheses = formulas_in ts c.goal.hypotheses;
   goal = formula_in ts c.goal.goal;
 }
 
 -- the table has its formulas
 abbrev pub IsCondition : Table → Condition → Type 0
-IsCondition ts c = AreFormulas ts c.goal.hypotheses.items × IsFormula ts c.goal.goal
+IsCondition ts c = AreFormulas ts c.goal.hypotheses × IsFormula ts c.goal.goal
 
 abbrev pub AreConditions : Table → List Condition → Type 0
 AreConditions ts cs = Every (IsCondition ts) cs

@@ -38,7 +38,7 @@ pub record IsGiven (ts : Table) (D : Development) (g : Given) : Type 0 where
 -- client u, whose variable is the n-th, does this action, where hs is known of the other client and these are asserted
 pub record IsCrossing (ts : Table) (D : Development) (n : ℕ) (hs asserts : List Formula) (a : Action) (c : Crossing) : Type 0 where
   pub variables : c.variables ≡ suc n + length a.parameters
-  pub hypotheses : HasFormulas ts c.hypotheses.items (stable_hypotheses D n hs a)
+  pub hypotheses : HasFormulas ts c.hypotheses (stable_hypotheses D n hs a)
   pub goals : HasFormulas ts c.goals.items (map (λ f. stable_goal n f a) asserts)
 
 abbrev pub AreCrossings : Table → Development → ℕ → List Formula → List Formula → List Action → List Crossing → Type 0

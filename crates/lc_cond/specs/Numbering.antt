@@ -1,5 +1,5 @@
 -- The parts of the list of conditions, by the numbers of their conditions.
-use Rattle.std.specs.Prelude.{◌≡◌, ℕ, zero, suc, ◌+◌, ◌<◌, ◌≤◌, List, [], ◌∷◌, map, length, take, Some, slice_get}
+use Rattle.std.specs.Prelude.{◌≡◌, ℕ, suc, ◌+◌, ◌<◌, ◌≤◌, List, [], ◌∷◌, map, length, take, Some, slice_get}
 use Rattle.lc_term.specs.Lists.{concat_map}
 use Rattle.lc_table.specs.NodeTables.{Table}
 use Rattle.lc_object.specs.Edges.{edges}

@@ -3,6 +3,7 @@ use Rattle.std.specs.Prelude.{◌≡◌, ℕ, List, [], ◌∷◌, ◌++◌, map
 use Rattle.lc_term.specs.Syntax.{Term, Variable, Column, Formula}
 use Rattle.lc_term.specs.Said.{told}
 use Rattle.lc_table.specs.NodeTables.{Table}
+use Rattle.lc_table.specs.PutNumbers.{AreColumns}
 use Rattle.lc_table.specs.Tables.{formulas_in, AreFormulas, HasFormula}
 use Rattle.lc_table.specs.declared.node.FormulaId.{FormulaId}
 use Rattle.lc_object.specs.Syntax.{Operation}
@@ -12,7 +13,7 @@ use Rattle.lc_object.specs.EdgeView.{edge_of}
 use Rattle.lc_action.specs.Action.{Action, guard_for, post_columns}
 use Rattle.lc_action.specs.ActionView.{first_of}
 use Rattle.lc_rider.specs.Paths.{edge_variables, Duty, Path}
-use Rattle.lc_rider.specs.PathView.{HasPath}
+use Rattle.lc_rider.specs.PathView.{path_in, IsPath, HasPath}
 use Rattle.lc_rider.specs.declared.duty.Duty as M
 use Rattle.lc_rider.specs.declared.path.Path as P
 use Rattle.lc_outline.specs.Development as D
@@ -20,10 +21,11 @@ use Rattle.lc_outline.specs.Development.{first_system, invariant_of, on_at, asse
 use Rattle.lc_outline.specs.DevelopmentView.{development_shown, on_of}
 use Rattle.lc_cond.specs.Conditions as S
 use Rattle.lc_cond.specs.Conditions.{reply_goals, body_hypotheses, conditions_of, alone_on_path, on_path, duty_condition, on_conditions, path_conditions, at_end}
-use Rattle.lc_cond.specs.Adding.{HasFormulas, HasTerms, HasColumns, Adds}
+use Rattle.lc_cond.specs.Adding.{HasFormulas, HasTerms, HasColumns, Adds, Under, Over}
 use Rattle.lc_cond.specs.declared.condition.Condition as C
 use Rattle.lc_cond.specs.declared.condition.Kind.TheVariants as K
 use Rattle.lc_cond.specs.declared.condition.Passage.TheVariants as G
+use Rattle.lc_cond.specs.declared.edge_conditions.Outcome.{Outcome}
 use Rattle.lc_cond.specs.declared.making.Head.{Head}
 use Rattle.lc_cond.specs.declared.matching.Acting.{Acting}
 use Rattle.lc_cond.specs.declared.scene.Scene.{Scene}
@@ -98,6 +100,21 @@ outcome_conditions s j hs p =
 
 abbrev pub path_conditions_in : Scene → ℕ → List Formula → Path → List S.Condition
 path_conditions_in s j hs p = path_conditions (development_in s) (code_in s) s.count (on_in s) hs j p
+
+-- the table has what the conditions behind a path are made of
+pub record IsOutcome (ts : Table) (o : Outcome) : Type 0 where
+  pub scene : IsScene ts o.scene.now
+  pub columns : AreColumns ts o.columns.now
+
+-- what holds of what is known behind a path, and of the columns there
+abbrev pub Behind : Table → Outcome → (List Formula → (ℕ → Column) → Type 0) → Type 0
+Behind ts o P = Under ts o.known.now (λ hs. Over ts o.columns.now (λ σ. P hs σ))
+
+-- these are the facts of a path of the code, and these are known on it
+pub record IsKnownOn (s : Scene) (path : P.Path) (facts known : List FormulaId) : Type 0 where
+  pub trees : (ts : Table) → formulas_in ts facts ≡ (path_in ts path).facts
+  pub are : (ts : Table) → IsPath ts path → AreFormulas ts facts
+  pub all : known ≡ s.hypotheses.items ++ facts
 
 -- what holds of what a path of the code stands for
 abbrev pub Along : Table → P.Path → (Path → Type 0) → Type 0

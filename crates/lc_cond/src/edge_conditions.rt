@@ -6,9 +6,9 @@ ghost use Rattle.lc_term.specs.Syntax.{Variable, Number};
 ghost use Rattle.lc_term.specs.SystemColumns.{pend};
 ghost use Rattle.lc_table.specs.Tables.{Keeps};
 ghost use Rattle.lc_action.specs.ActionView.{first_of};
-ghost use Rattle.lc_cond.specs.Adding.{HasColumns, Adds, Under, Over};
+ghost use Rattle.lc_cond.specs.Adding.{HasColumns, Adds, Over};
 ghost use Rattle.lc_cond.specs.Heads.{MakesOne};
-ghost use Rattle.lc_cond.specs.Scenes.{IsScene, duty_head, MakesDuties, reply_conditions, next_conditions};
+ghost use Rattle.lc_cond.specs.Scenes.{IsKnownOn, IsOutcome, Behind, duty_head, MakesDuties, reply_conditions, next_conditions};
 
 use crate::condition::{Condition, Kind, Passage, Which};
 use crate::entering::joined;
@@ -16,9 +16,20 @@ use crate::making::{Head, push_made, push_one};
 use crate::scene::Scene;
 use crate::telling::push_both_told;
 use lc_base::{ColId, OutOfMemory};
+use lc_kernel::Hypotheses;
 use lc_rider::{Duty, Path, store_in};
 use lc_table::{ColExprId, FormulaId, PutNumbers, Terms, nothing_replaced};
 use std::alloc::Global;
+
+/// What a path of an edge comes to: its place among those of the edge, what stands in the columns behind it, and what is known
+/// on it.
+#[derive(Clone, Copy)]
+pub(crate) struct Outcome<'a, 's> {
+    pub scene: &'a Scene<'s>,
+    pub number: usize,
+    pub columns: &'a [(ColId, ColExprId)],
+    pub known: &'a Hypotheses,
+}
 
 /// What the conditions of a kind on a path share.
 pub(crate) fn on_path(scene: &Scene<'_>, kind: Kind, number: usize) -> Head
@@ -33,45 +44,47 @@ pub(crate) fn on_path(scene: &Scene<'_>, kind: Kind, number: usize) -> Head
     }
 }
 
-/// The first of a path's facts, so many, behind what is known before the edge.
+/// What is known on a path of these facts: they stand behind what is known before the edge.
 pub(crate) fn known_with(
     alloc: Global,
     scene: &Scene<'_>,
     facts: &[FormulaId],
-) -> Result<Vec<FormulaId>, OutOfMemory>
-    ensures { IfOk result (λ ks. ks.items ≡ scene.now.hypotheses.items ++ facts.now) }
+) -> Result<Hypotheses, OutOfMemory>
+    ensures { IfOk result (λ ks. ks ≡ scene.now.hypotheses.items ++ facts.now) }
 {
-    joined(alloc, &scene.hypotheses, facts)
+    Hypotheses::new(joined(alloc, &scene.hypotheses, facts)?)
 }
 
 // What a mark asks for, where these are known.
 fn push_duty(
     scene: &Scene<'_>,
     number: usize,
-    known: Vec<FormulaId>,
+    known: Hypotheses,
     duty: &Duty,
     conditions: &mut Vec<Condition>,
 ) -> Result<(), OutOfMemory>
-    ensures { OnOk result (MakesOne (duty_head scene.now number duty.now) (Which.Numbered duty.now.rider) known.items duty.now.goal conditions.old.items conditions.new.items) }
+    ensures { OnOk result (MakesOne (duty_head scene.now number duty.now) (Which.Numbered duty.now.rider) known duty.now.goal conditions.old.items conditions.new.items) }
 {
     let head = on_path(scene, Kind::Owed(duty.kind), number);
     let which = Which::Numbered(duty.rider);
     push_made(head, which, known, duty.goal, conditions)
 }
 
-/// What the marks of a path ask for.
+/// What the marks of a path ask for, each under what is known before the edge and the first of the path's facts, so many.
 pub(crate) fn push_duties(
-    alloc: Global,
     scene: &Scene<'_>,
     number: usize,
     path: &Path,
+    facts: &[FormulaId],
+    known: &Hypotheses,
     conditions: &mut Vec<Condition>,
 ) -> Result<(), OutOfMemory>
+    requires { IsKnownOn scene.now path.now facts.now known.now }
     ensures { OnOk result (MakesDuties scene.now number path.now conditions.old.items conditions.new.items) }
 {
-    let facts = path.facts();
+    let before = known.as_slice().len() - facts.len();
     for duty in path.marks() {
-        let known = known_with(alloc, scene, &facts[..duty.known])?;
+        let known = known.first(before + duty.known)?;
         push_duty(scene, number, known, duty, conditions)?;
     }
     Ok(())
@@ -81,61 +94,55 @@ pub(crate) fn push_duties(
 pub(crate) fn push_reply(
     alloc: Global,
     terms: &mut Terms,
-    scene: &Scene<'_>,
-    number: usize,
-    columns: &[(ColId, ColExprId)],
-    known: &[FormulaId],
+    outcome: Outcome<'_, '_>,
     conditions: &mut Vec<Condition>,
 ) -> Result<(), OutOfMemory>
-    requires scene { IsScene terms.old scene.now }
-    requires columns { AreColumns terms.old columns.now }
-    ensures list { OnOk result (Under terms.old known.now (λ hs. Over terms.old columns.now (λ σ. Adds conditions.old.items terms.new conditions.new.items
-        (reply_conditions scene.now number hs σ)))) }
+    requires { IsOutcome terms.old outcome }
+    ensures list { OnOk result (Behind terms.old outcome.entry (λ hs σ. Adds conditions.old.items terms.new conditions.new.items
+        (reply_conditions outcome.entry.scene.now outcome.entry.number hs σ))) }
     ensures kept { Keeps terms.old terms.new }
 {
+    let scene = outcome.scene;
     let Some(reply) = scene.reply else {
         return Ok(());
     };
     let put = PutNumbers {
-        columns,
+        columns: outcome.columns,
         variables: &scene.variables,
     };
     let mut done = nothing_replaced(alloc);
     let goal = terms.put_in_formula(alloc, put, &mut done, reply)?;
-    let head = on_path(scene, Kind::Reply, number);
-    push_one(alloc, head, Which::Alone, known, goal, conditions)
+    let head = on_path(scene, Kind::Reply, outcome.number);
+    push_one(head, Which::Alone, outcome.known, goal, conditions)
 }
 
 /// The invariant, and what holds where the edge leads to, in these columns.
 pub(crate) fn push_next(
     alloc: Global,
     terms: &mut Terms,
-    scene: &Scene<'_>,
-    number: usize,
-    columns: &[(ColId, ColExprId)],
-    known: &[FormulaId],
+    outcome: Outcome<'_, '_>,
     conditions: &mut Vec<Condition>,
 ) -> Result<(), OutOfMemory>
-    requires scene { IsScene terms.old scene.now }
-    requires columns { AreColumns terms.old columns.now }
-    ensures list { OnOk result (Under terms.old known.now (λ hs. Over terms.old columns.now (λ σ. Adds conditions.old.items terms.new conditions.new.items
-        (next_conditions scene.now number hs σ)))) }
+    requires { IsOutcome terms.old outcome }
+    ensures list { OnOk result (Behind terms.old outcome.entry (λ hs σ. Adds conditions.old.items terms.new conditions.new.items
+        (next_conditions outcome.entry.scene.now outcome.entry.number hs σ))) }
     ensures kept { Keeps terms.old terms.new }
 {
+    let scene = outcome.scene;
     let put = PutNumbers {
-        columns,
+        columns: outcome.columns,
         variables: &scene.variables,
     };
     let heads = (
-        on_path(scene, Kind::Invariant, number),
-        on_path(scene, Kind::Next, number),
+        on_path(scene, Kind::Invariant, outcome.number),
+        on_path(scene, Kind::Next, outcome.number),
     );
     push_both_told(
         alloc,
         terms,
         heads,
         put,
-        known,
+        outcome.known,
         &scene.invariant,
         &scene.next,
         conditions,

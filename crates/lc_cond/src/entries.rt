@@ -24,6 +24,7 @@ use crate::telling::push_both_told;
 use crate::variables::{enter_variables, entry_variables};
 use lc_action::{Before, SystemColumns, enter, store_together};
 use lc_base::{ColId, OpId, OutOfMemory};
+use lc_kernel::Hypotheses;
 use lc_object::Operation;
 use lc_outline::Development;
 use lc_table::{ColExprId, FormulaId, PutNumbers, TermId, Terms};
@@ -115,7 +116,7 @@ fn push_entered(
     development: &Development,
     body: &Operation,
     columns: &[(ColId, ColExprId)],
-    known: &[FormulaId],
+    known: &Hypotheses,
     conditions: &mut Vec<Condition>,
 ) -> Result<(), OutOfMemory>
     requires limits { has_limits (operation_of body.now) ≡ true }
@@ -161,7 +162,8 @@ pub(crate) fn push_entry(
     let system = system_columns(development);
     let columns = entered_columns(alloc, terms, system, operation, argument_count(body))?;
     let idle = known_idle(alloc, terms, development, system)?;
-    let known = in_range(alloc, terms, &idle)?;
+    let ranged = in_range(alloc, terms, &idle)?;
+    let known = Hypotheses::new(ranged)?;
     push_entered(
         alloc,
         terms,

@@ -4,9 +4,8 @@ ghost use Rattle.lc_cond.specs.Heads.{MakesOne, MakesEach};
 
 use crate::condition::{Condition, Kind, Passage, Place, Which};
 use lc_base::{OutOfMemory, PointId};
-use lc_kernel::Goal;
+use lc_kernel::{Goal, Hypotheses};
 use lc_table::FormulaId;
-use std::alloc::Global;
 
 /// What conditions that are made together share: what they ask for, how many variables they have, and where they stand.
 #[derive(Clone, Copy)]
@@ -22,11 +21,11 @@ pub(crate) struct Head {
 pub(crate) fn push_made(
     head: Head,
     which: Which,
-    hypotheses: Vec<FormulaId>,
+    hypotheses: Hypotheses,
     goal: FormulaId,
     conditions: &mut Vec<Condition>,
 ) -> Result<(), OutOfMemory>
-    ensures { OnOk result (MakesOne head which hypotheses.items goal conditions.old.items conditions.new.items) }
+    ensures { OnOk result (MakesOne head which hypotheses goal conditions.old.items conditions.new.items) }
 {
     conditions.push(Condition {
         kind: head.kind,
@@ -45,26 +44,23 @@ pub(crate) fn push_made(
     Ok(())
 }
 
-/// One more condition, which has these hypotheses in memory of its own.
+/// One more condition, which shares these hypotheses.
 pub(crate) fn push_one(
-    alloc: Global,
     head: Head,
     which: Which,
-    hypotheses: &[FormulaId],
+    hypotheses: &Hypotheses,
     goal: FormulaId,
     conditions: &mut Vec<Condition>,
 ) -> Result<(), OutOfMemory>
     ensures { OnOk result (MakesOne head which hypotheses.now goal conditions.old.items conditions.new.items) }
 {
-    let hypotheses = Vec::from_slice(alloc, hypotheses)?;
-    push_made(head, which, hypotheses, goal, conditions)
+    push_made(head, which, hypotheses.share()?, goal, conditions)
 }
 
 /// A condition for each of these goals, by their places.
 pub(crate) fn push_each(
-    alloc: Global,
     head: Head,
-    hypotheses: &[FormulaId],
+    hypotheses: &Hypotheses,
     goals: &[FormulaId],
     conditions: &mut Vec<Condition>,
 ) -> Result<(), OutOfMemory>
@@ -72,7 +68,7 @@ pub(crate) fn push_each(
 {
     for (number, goal) in goals.iter().enumerate() {
         let which = Which::Numbered(number);
-        push_one(alloc, head, which, hypotheses, *goal, conditions)?;
+        push_one(head, which, hypotheses, *goal, conditions)?;
     }
     Ok(())
 }

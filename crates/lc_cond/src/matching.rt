@@ -15,15 +15,15 @@ ghost use Rattle.lc_outline.specs.DevelopmentView.{development_shown, on_of};
 ghost use Rattle.lc_cond.specs.Adding.{HasColumns, Adds, Under, Over};
 ghost use Rattle.lc_cond.specs.Conditions.{OfColumn, is_base, same_column, column_conditions, action_conditions};
 ghost use Rattle.lc_cond.specs.Heads.{condition_made};
-ghost use Rattle.lc_cond.specs.Scenes.{IsScene, IsActing, acting_on, development_in, code_in, on_conditions_in};
+ghost use Rattle.lc_cond.specs.Scenes.{IsActing, IsOutcome, Behind, acting_on, development_in, code_in, on_conditions_in};
 
 use crate::condition::{Condition, Kind, Which};
-use crate::edge_conditions::on_path;
+use crate::edge_conditions::{Outcome, on_path};
 use crate::lookup::action_at;
 use crate::making::{Head, push_one};
-use crate::scene::Scene;
 use lc_action::{Action, SystemColumns, post_columns};
 use lc_base::{ColId, OutOfMemory};
+use lc_kernel::Hypotheses;
 use lc_outline::{Development, On};
 use lc_table::{
     ColExprId, FormulaId, Put, PutColumns, PutVariables, TermId, TermNode, Terms, nothing_replaced,
@@ -103,7 +103,7 @@ fn push_sides(
     alloc: Global,
     terms: &mut Terms,
     head: Head,
-    known: &[FormulaId],
+    known: &Hypotheses,
     column: ColId,
     left: ColExprId,
     right: ColExprId,
@@ -120,7 +120,7 @@ fn push_sides(
         return Ok(());
     }
     let goal = same_column(alloc, terms, left, right)?;
-    push_one(alloc, head, Which::Column(column), known, goal, conditions)
+    push_one(head, Which::Column(column), known, goal, conditions)
 }
 
 // Whether a column has no entry, so that the column itself stands in it.
@@ -149,7 +149,7 @@ fn push_column(
     alloc: Global,
     terms: &mut Terms,
     head: Head,
-    known: &[FormulaId],
+    known: &Hypotheses,
     column: ColId,
     columns: &[(ColId, ColExprId)],
     action: &[(ColId, ColExprId)],
@@ -176,7 +176,7 @@ fn push_columns(
     terms: &mut Terms,
     head: Head,
     count: usize,
-    known: &[FormulaId],
+    known: &Hypotheses,
     columns: &[(ColId, ColExprId)],
     action: &[(ColId, ColExprId)],
     conditions: &mut Vec<Condition>,
@@ -283,32 +283,29 @@ pub(crate) fn entered_on(
 fn push_action(
     alloc: Global,
     terms: &mut Terms,
-    scene: &Scene<'_>,
-    number: usize,
-    columns: &[(ColId, ColExprId)],
+    outcome: Outcome<'_, '_>,
     acting: &Acting,
-    known: &[FormulaId],
     conditions: &mut Vec<Condition>,
 ) -> Result<(), OutOfMemory>
-    requires scene { IsScene terms.old scene.now }
-    requires columns { AreColumns terms.old columns.now }
+    requires outcome { IsOutcome terms.old outcome }
     requires acting { AreColumns terms.old acting.now.columns.items }
     ensures list { OnOk result ((ts : List T.Term) (a : A.Action) → HasFormula terms.old acting.now.guard (guard_for a (Variable 1) ts) → HasColumns terms.old acting.now.columns.items (post_columns a (Variable 1) ts) →
-        Under terms.old known.now (λ hs. Over terms.old columns.now (λ σ. Adds conditions.old.items terms.new conditions.new.items
-        (action_conditions (development_in scene.now) (code_in scene.now) scene.now.count number hs σ ts (Some a))))) }
+        Behind terms.old outcome.entry (λ hs σ. Adds conditions.old.items terms.new conditions.new.items
+        (let s = outcome.entry.scene.now in action_conditions (development_in s) (code_in s) s.count outcome.entry.number hs σ ts (Some a)))) }
     ensures kept { Keeps terms.old terms.new }
 {
-    let head = on_path(scene, Kind::Guard, number);
-    push_one(alloc, head, Which::Alone, known, acting.guard, conditions)?;
-    let head = on_path(scene, Kind::Column, number);
-    let count = column_count(scene.system);
+    let known = outcome.known;
+    let head = on_path(outcome.scene, Kind::Guard, outcome.number);
+    push_one(head, Which::Alone, known, acting.guard, conditions)?;
+    let head = on_path(outcome.scene, Kind::Column, outcome.number);
+    let count = column_count(outcome.scene.system);
     push_columns(
         alloc,
         terms,
         head,
         count,
         known,
-        columns,
+        outcome.columns,
         &acting.columns,
         conditions,
     )
@@ -318,22 +315,16 @@ fn push_action(
 pub(crate) fn push_on(
     alloc: Global,
     terms: &mut Terms,
-    scene: &Scene<'_>,
-    number: usize,
-    columns: &[(ColId, ColExprId)],
-    known: &[FormulaId],
+    outcome: Outcome<'_, '_>,
     conditions: &mut Vec<Condition>,
 ) -> Result<(), OutOfMemory>
-    requires scene { IsScene terms.old scene.now }
-    requires columns { AreColumns terms.old columns.now }
-    ensures list { OnOk result (Under terms.old known.now (λ hs. Over terms.old columns.now (λ σ. Adds conditions.old.items terms.new conditions.new.items
-        (on_conditions_in scene.now number hs σ)))) }
+    requires { IsOutcome terms.old outcome }
+    ensures list { OnOk result (Behind terms.old outcome.entry (λ hs σ. Adds conditions.old.items terms.new conditions.new.items
+        (on_conditions_in outcome.entry.scene.now outcome.entry.number hs σ))) }
     ensures kept { Keeps terms.old terms.new }
 {
-    let Some(acting) = &scene.acting else {
+    let Some(acting) = &outcome.scene.acting else {
         return Ok(());
     };
-    push_action(
-        alloc, terms, scene, number, columns, acting, known, conditions,
-    )
+    push_action(alloc, terms, outcome, acting, conditions)
 }

@@ -1,27 +1,27 @@
 //! The conditions of the paths of an edge.
 ghost use Rattle.std.specs.Prelude.{◌≡◌, ◌++◌, true, map, OnOk};
 ghost use Rattle.lc_term.specs.Lists.{concat_places};
-ghost use Rattle.lc_table.specs.PutNumbers.{AreColumns};
 ghost use Rattle.lc_table.specs.Tables.{formulas_in, Keeps};
 ghost use Rattle.lc_object.specs.EdgeView.{edge_of};
 ghost use Rattle.lc_object.specs.View.{operation_of};
 ghost use Rattle.lc_object.specs.WellFormed.{has_limits};
 ghost use Rattle.lc_outline.specs.DevelopmentView.{development_shown};
 ghost use Rattle.lc_rider.specs.PathView.{path_in, IsPath, ArePaths};
-ghost use Rattle.lc_cond.specs.Adding.{Adds, Under, Over};
+ghost use Rattle.lc_cond.specs.Adding.{Adds, Under};
 ghost use Rattle.lc_cond.specs.Conditions.{edge_conditions, edge_conditions_in};
-ghost use Rattle.lc_cond.specs.Scenes.{IsScene, Along, next_conditions, on_conditions_in, outcome_conditions, path_conditions_in};
+ghost use Rattle.lc_cond.specs.Scenes.{IsScene, IsOutcome, Behind, Along, next_conditions, on_conditions_in, outcome_conditions, path_conditions_in};
 
 use crate::condition::Condition;
-use crate::edge_conditions::{at_return, known_with, push_duties, push_next, push_reply};
+use crate::edge_conditions::{Outcome, at_return, known_with, push_duties, push_next, push_reply};
 use crate::lookup::{body_at, operation_at, riders_in};
 use crate::matching::push_on;
 use crate::scene::{Scene, set_scene};
-use lc_base::{ColId, OpId, OutOfMemory};
+use lc_base::{OpId, OutOfMemory};
+use lc_kernel::Hypotheses;
 use lc_object::{Edge, Operation};
 use lc_outline::Development;
 use lc_rider::{Path, paths};
-use lc_table::{ColExprId, FormulaId, Terms};
+use lc_table::Terms;
 use std::alloc::Global;
 
 // What is asked in the columns behind a path: of what holds there, and of the action that stands beside the edge.
@@ -29,20 +29,16 @@ use std::alloc::Global;
 fn push_behind(
     alloc: Global,
     terms: &mut Terms,
-    scene: &Scene<'_>,
-    number: usize,
-    columns: &[(ColId, ColExprId)],
-    known: &[FormulaId],
+    outcome: Outcome<'_, '_>,
     conditions: &mut Vec<Condition>,
 ) -> Result<(), OutOfMemory>
-    requires scene { IsScene terms.old scene.now }
-    requires columns { AreColumns terms.old columns.now }
-    ensures list { OnOk result (Under terms.old known.now (λ hs. Over terms.old columns.now (λ σ. Adds conditions.old.items terms.new conditions.new.items
-        (next_conditions scene.now number hs σ ++ on_conditions_in scene.now number hs σ)))) }
+    requires { IsOutcome terms.old outcome }
+    ensures list { OnOk result (Behind terms.old outcome.entry (λ hs σ. Adds conditions.old.items terms.new conditions.new.items
+        (let s = outcome.entry.scene.now in let j = outcome.entry.number in next_conditions s j hs σ ++ on_conditions_in s j hs σ))) }
     ensures kept { Keeps terms.old terms.new }
 {
-    push_next(alloc, terms, scene, number, columns, known, conditions)?;
-    push_on(alloc, terms, scene, number, columns, known, conditions)
+    push_next(alloc, terms, outcome, conditions)?;
+    push_on(alloc, terms, outcome, conditions)
 }
 
 // What is asked behind a path, besides what its marks ask for.
@@ -53,7 +49,7 @@ fn push_outcome(
     scene: &Scene<'_>,
     number: usize,
     path: &Path,
-    known: &[FormulaId],
+    known: &Hypotheses,
     conditions: &mut Vec<Condition>,
 ) -> Result<(), OutOfMemory>
     requires scene { IsScene terms.old scene.now }
@@ -63,12 +59,24 @@ fn push_outcome(
     ensures kept { Keeps terms.old terms.new }
 {
     let columns = path.columns();
-    push_reply(alloc, terms, scene, number, columns, known, conditions)?;
+    let outcome = Outcome {
+        scene,
+        number,
+        columns,
+        known,
+    };
+    push_reply(alloc, terms, outcome, conditions)?;
     match scene.code.next {
-        Some(_) => push_behind(alloc, terms, scene, number, columns, known, conditions),
+        Some(_) => push_behind(alloc, terms, outcome, conditions),
         None => {
             let left = at_return(alloc, terms, scene, columns)?;
-            push_behind(alloc, terms, scene, number, &left, known, conditions)
+            let outcome = Outcome {
+                scene,
+                number,
+                columns: &left,
+                known,
+            };
+            push_behind(alloc, terms, outcome, conditions)
         }
     }
 }
@@ -88,8 +96,9 @@ fn push_path(
         (path_conditions_in scene.now number (formulas_in terms.old scene.now.hypotheses.items) p))) }
     ensures kept { Keeps terms.old terms.new }
 {
-    push_duties(alloc, scene, number, path, conditions)?;
-    let known = known_with(alloc, scene, path.facts())?;
+    let facts = path.facts();
+    let known = known_with(alloc, scene, facts)?;
+    push_duties(scene, number, path, facts, &known, conditions)?;
     push_outcome(alloc, terms, scene, number, path, &known, conditions)
 }
 

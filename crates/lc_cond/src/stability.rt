@@ -23,6 +23,7 @@ use crate::matching::entered_guard;
 use crate::variables::variables_from;
 use lc_action::{Action, SystemColumns, enter, leave, post_columns};
 use lc_base::{OutOfMemory, PointId};
+use lc_kernel::Hypotheses;
 use lc_outline::Development;
 use lc_table::{FormulaId, Put, PutColumns, PutVariables, Terms, nothing_replaced};
 use lc_term::{Formula, Term};
@@ -32,7 +33,7 @@ use std::alloc::Global;
 pub(crate) struct Crossing {
     /// How many variables there are: those of the client's code, the other client and its action's parameters.
     pub variables: u32,
-    pub hypotheses: Vec<FormulaId>,
+    pub hypotheses: Hypotheses,
     /// A goal for each of the assertions.
     pub goals: Vec<FormulaId>,
 }
@@ -186,7 +187,8 @@ fn cross(
         given.asserts,
     )?;
     let guard = entered_guard(alloc, terms, action, given.client, &parameters)?;
-    let hypotheses = gathered(alloc, given.clients, given.known, guard, &behind)?;
+    let known = gathered(alloc, given.clients, given.known, guard, &behind)?;
+    let hypotheses = Hypotheses::new(known)?;
     Ok(Crossing {
         variables,
         hypotheses,
@@ -311,7 +313,6 @@ fn entered_crossings(
 
 // A condition for each of these actions, of the conjunct at this place.
 fn push_conjunct(
-    alloc: Global,
     point: Option<PointId>,
     number: usize,
     crossings: &[Crossing],
@@ -330,14 +331,13 @@ fn push_conjunct(
         };
         let goal = crossing.goals[number];
         let which = Which::Numbered(number);
-        push_one(alloc, head, which, &crossing.hypotheses, goal, conditions)?;
+        push_one(head, which, &crossing.hypotheses, goal, conditions)?;
     }
     Ok(())
 }
 
 // The same of each conjunct, so many.
 fn push_conjuncts(
-    alloc: Global,
     point: Option<PointId>,
     count: usize,
     crossings: &[Crossing],
@@ -349,7 +349,7 @@ fn push_conjuncts(
 {
     conditions.reserve(count * crossings.len())?;
     for number in 0..count {
-        push_conjunct(alloc, point, number, crossings, conditions)?;
+        push_conjunct(point, number, crossings, conditions)?;
     }
     Ok(())
 }
@@ -374,5 +374,5 @@ pub(crate) fn push_stable(
     ensures kept { Keeps terms.old terms.new }
 {
     let crossings = entered_crossings(alloc, terms, development, variables, frame, asserts)?;
-    push_conjuncts(alloc, point, asserts.len(), &crossings, conditions)
+    push_conjuncts(point, asserts.len(), &crossings, conditions)
 }

@@ -18,6 +18,7 @@ use crate::lookup::idle_of;
 use crate::making::Head;
 use crate::telling::push_all_told;
 use lc_base::OutOfMemory;
+use lc_kernel::Hypotheses;
 use lc_outline::Development;
 use lc_table::{FormulaId, Put, PutColumns, PutVariables, Terms};
 use lc_term::{ColExpr, Formula, Term};
@@ -72,7 +73,8 @@ fn push_init(
         columns: PutColumns::All(columns),
         variables: PutVariables::Own,
     };
-    let known = entered_count(alloc, terms)?;
+    let count = entered_count(alloc, terms)?;
+    let known = Hypotheses::new(count)?;
     let invariant = entered_invariant(alloc, terms, &development.parts().tie)?;
     let head = at_start(Kind::Init, 1);
     push_all_told(alloc, terms, head, &put, &known, &invariant, conditions)
@@ -96,7 +98,8 @@ fn push_init_idle(
         columns: PutColumns::All(columns),
         variables: PutVariables::Own,
     };
-    let known = range(alloc, terms, 1)?;
+    let ranges = range(alloc, terms, 1)?;
+    let known = Hypotheses::new(ranges)?;
     let idle = entered(alloc, terms, idle_of(development))?;
     let head = at_start(Kind::InitIdle, 2);
     push_all_told(alloc, terms, head, &put, &known, &idle, conditions)

@@ -12,6 +12,7 @@ use crate::condition::Condition;
 use crate::entering::{told, told_by_number};
 use crate::making::{Head, push_each};
 use lc_base::OutOfMemory;
+use lc_kernel::Hypotheses;
 use lc_table::{FormulaId, Put, PutNumbers, ReplacedNodes, Terms, nothing_replaced};
 use std::alloc::Global;
 
@@ -21,7 +22,7 @@ pub(crate) fn push_all_told(
     terms: &mut Terms,
     head: Head,
     put: &Put<'_>,
-    known: &[FormulaId],
+    known: &Hypotheses,
     formulas: &[FormulaId],
     conditions: &mut Vec<Condition>,
 ) -> Result<(), OutOfMemory>
@@ -32,7 +33,7 @@ pub(crate) fn push_all_told(
 {
     let mut done = nothing_replaced(alloc);
     let goals = told(alloc, terms, put, &mut done, formulas)?;
-    push_each(alloc, head, known, &goals, conditions)
+    push_each(head, known, &goals, conditions)
 }
 
 // A condition for each of these formulas, with columns and variables put in by their numbers.
@@ -42,7 +43,7 @@ fn push_told(
     head: Head,
     put: PutNumbers<'_>,
     done: &mut ReplacedNodes,
-    known: &[FormulaId],
+    known: &Hypotheses,
     formulas: &[FormulaId],
     conditions: &mut Vec<Condition>,
 ) -> Result<(), OutOfMemory>
@@ -55,7 +56,7 @@ fn push_told(
     ensures done { OnOk result (Remembers (replacement_at terms.new put.entry.columns.now put.entry.variables.now) terms.new done.new) }
 {
     let goals = told_by_number(alloc, terms, put, done, formulas)?;
-    push_each(alloc, head, known, &goals, conditions)
+    push_each(head, known, &goals, conditions)
 }
 
 /// A condition for each of some formulas, and for each of others behind them, with columns and variables put in by their
@@ -65,7 +66,7 @@ pub(crate) fn push_both_told(
     terms: &mut Terms,
     heads: (Head, Head),
     put: PutNumbers<'_>,
-    known: &[FormulaId],
+    known: &Hypotheses,
     first: &[FormulaId],
     second: &[FormulaId],
     conditions: &mut Vec<Condition>,

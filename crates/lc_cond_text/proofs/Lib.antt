@@ -1,4 +1,5 @@
 mod Joined
+mod LeftOver
 mod LinesFrom
 mod Printed
 mod Recalled

@@ -27,13 +27,3 @@ part_passes d n m left cs rest old new is number written =
     ap (λ l. old ++ text_from d n l) is ∙ ap (λ t. old ++ t) (text_from-append d n cs rest)
     ∙ sym (append_assoc old (lines_from d n cs) (text_from d (n + length cs) rest)) ∙ ap (λ l. l ++ text_from d (n + length cs) rest) (sym written)
     ∙ ap (λ k. new ++ text_from d k rest) (sym number)
-
-feed_joined : (done text rest : List ℕ) → (done ++ text ++ 10 ∷ []) ++ rest ≡ done ++ (text ++ 10 ∷ rest)
-feed_joined done text rest = append_assoc (done ++ text) (10 ∷ []) rest ∙ append_assoc done text (10 ∷ rest)
-
--- a line more is written
-pub line_passes : (d : Development) (n m : ℕ) (x : Condition) (left rest : List Condition) (done written new all : List ℕ) → left ≡ x ∷ rest → m ≡ suc n → written ≡ done ++ condition_text d n x
-    → new ≡ written ++ 10 ∷ [] → done ++ lines_from d n left ≡ all → new ++ lines_from d m rest ≡ all
-line_passes d n m x left rest done written new all is next line feed before =
-    ap (λ l. l ++ lines_from d m rest) (feed ∙ ap (λ l. l ++ 10 ∷ []) line) ∙ ap (λ k. (done ++ condition_text d n x ++ 10 ∷ []) ++ lines_from d k rest) next
-    ∙ feed_joined done (condition_text d n x) (lines_from d (suc n) rest) ∙ ap (λ l. done ++ lines_from d n l) (sym is) ∙ before

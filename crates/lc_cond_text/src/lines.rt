@@ -1,12 +1,10 @@
 //! The lines of the conditions of a development, in pieces.
-ghost use Rattle.std.specs.Prelude.{◌≡◌, ◌++◌, ℕ, suc, ◌≤◌, map, true, false, if◌then◌else◌, IfOk, OnOk, is_err};
-ghost use Rattle.lc_cond.specs.ConditionView.{condition_in, AreConditions};
-ghost use Rattle.lc_cond.specs.Stream.{parts_left};
+ghost use Rattle.std.specs.Prelude.{◌≡◌, ◌++◌, ◌<◌, ◌≤◌, length, true, false, IfOk, OnOk, is_err};
 ghost use Rattle.lc_text.specs.Spelling.{Spelled};
 ghost use Rattle.lc_outline.specs.DevelopmentView.{development_shown};
-ghost use Rattle.lc_cond_text.specs.ConditionText.{spelled, lines_from, total_line, conditions_text};
+ghost use Rattle.lc_cond_text.specs.ConditionText.{total_line, conditions_text};
 ghost use Rattle.lc_cond_text.specs.Recalled.{Recalls};
-ghost use Rattle.lc_cond_text.specs.LinesView.{text_left, is_spent, stream_text, IsNextPiece, Passes};
+ghost use Rattle.lc_cond_text.specs.LinesView.{text_left, is_spent, IsLeft, IsNextPiece, GoesOn, Passes};
 
 use crate::nodes::{push_number, push_text};
 use crate::text::push_condition;
@@ -33,30 +31,50 @@ enum State {
     Failed,
 }
 
-/// The lines of the conditions of a development, and that of how many there are, in pieces: no more is held than the
-/// conditions of one part of the list, with their table, and one piece.
-pub struct ConditionLines<'d> {
-    alloc: Global,
-    development: &'d Development,
+/// What is left to write: of the last part that was made the conditions from a place on, and the parts that the stream has left.
+pub(crate) struct Left {
     stream: ConditionStream,
     terms: Terms,
     texts: FormulaTexts,
+    part: Vec<Condition>,
+    written: usize,
+    /// The number of the next condition.
+    number: u64,
+}
+
+impl Drop for Left {
+    fn drop(self) {
+        let Left {
+            stream: _,
+            terms: _,
+            texts: _,
+            part: _,
+            written: _,
+            number: _,
+        } = self;
+    }
+}
+
+/// The lines of the conditions of a development, and that of how many there are, in pieces: no more is held than the
+/// conditions of one part of the list, with their table, and one piece, which is as long as `PIECE` and a line.
+pub struct ConditionLines<'d> {
+    alloc: Global,
+    development: &'d Development,
+    left: Left,
     state: State,
 }
 
 impl<'d> Model for ConditionLines<'d> {
     ghost use Rattle.std.specs.Prelude.{◌≡◌};
     ghost use Rattle.lc_outline.specs.DevelopmentView.{development_shown};
-    ghost use Rattle.lc_cond_text.specs.ConditionText.{spelled};
-    ghost use Rattle.lc_cond_text.specs.Recalled.{Recalls};
-    ghost use Rattle.lc_cond_text.specs.LinesView.{LinesLeft, left_in};
+    ghost use Rattle.lc_cond_text.specs.LinesView.{LinesLeft, IsLeft, left_in};
     ghost use Rattle.lc_cond_text.specs.declared.lines.State.TheVariants.{Going};
 
     ghost Value = { LinesLeft };
 
-    ghost view = { λ l. left_in (development_shown l.development.now) l.state l.stream };
+    ghost view = { λ l. left_in (development_shown l.development.now) l.state l.left };
 
-    ghost invariant = { λ l. l.state ≡ Going → Recalls (spelled (development_shown l.development.now)) l.terms l.texts };
+    ghost invariant = { λ l. l.state ≡ Going → IsLeft (development_shown l.development.now) l.left };
 }
 
 impl Drop for ConditionLines<'_> {
@@ -64,35 +82,10 @@ impl Drop for ConditionLines<'_> {
         let ConditionLines {
             alloc: _,
             development: _,
-            stream: _,
-            terms: _,
-            texts: _,
+            left: _,
             state: _,
         } = self;
     }
-}
-
-// The lines of conditions, of which the first has this number.
-fn push_lines(
-    piece: &mut Vec<u8>,
-    texts: &mut FormulaTexts,
-    terms: &Terms,
-    development: &Development,
-    first: u64,
-    conditions: &[Condition],
-) -> Result<(), OutOfMemory>
-    requires conditions { AreConditions terms.now conditions.now }
-    requires recalls { Recalls (spelled (development_shown development.now)) terms.now texts.old }
-    ensures text { OnOk result (piece.new.items ≡ piece.old.items ++ lines_from (development_shown development.now) first (map (condition_in terms.now) conditions.now)) }
-    ensures recalls { OnOk result (Recalls (spelled (development_shown development.now)) terms.now texts.new) }
-{
-    let mut number = first;
-    for condition in conditions {
-        push_condition(piece, texts, terms, development, number, condition)?;
-        push_text(piece, "\n")?;
-        number = number.checked_add(1).ok_or(OutOfMemory)?;
-    }
-    Ok(())
 }
 
 fn push_total(piece: &mut Vec<u8>, count: u64) -> Result<(), OutOfMemory>
@@ -101,6 +94,31 @@ fn push_total(piece: &mut Vec<u8>, count: u64) -> Result<(), OutOfMemory>
     push_text(piece, "total ")?;
     push_number(piece, count)?;
     push_text(piece, "\n")
+}
+
+// The line of the next condition, which is one of the last part.
+fn push_line(
+    piece: &mut Vec<u8>,
+    left: &mut Left,
+    development: &Development,
+) -> Result<(), OutOfMemory>
+    requires left { IsLeft (development_shown development.now) left.old }
+    requires some { left.old.written < length left.old.part.items }
+    ensures { OnOk result (GoesOn (development_shown development.now) piece.old.items left.old piece.new.items left.new) }
+{
+    let condition = &left.part[left.written];
+    push_condition(
+        piece,
+        &mut left.texts,
+        &left.terms,
+        development,
+        left.number,
+        condition,
+    )?;
+    push_text(piece, "\n")?;
+    left.written += 1;
+    left.number = left.number.checked_add(1).ok_or(OutOfMemory)?;
+    Ok(())
 }
 
 // Begins the table anew, and what is recalled of it, once it is large.
@@ -115,45 +133,62 @@ fn renew(alloc: Global, terms: &mut Terms, texts: &mut FormulaTexts)
     }
 }
 
-// The lines of the next part; or, where nothing is left, that of how many there are. Whether there was a part.
-fn push_part(
+// The conditions of the next part, of which none is written; or, where nothing is left, the line of how many there are.
+// Whether there was a part.
+fn make_part(
+    alloc: Global,
     piece: &mut Vec<u8>,
-    texts: &mut FormulaTexts,
-    terms: &mut Terms,
+    left: &mut Left,
     development: &Development,
-    stream: &mut ConditionStream,
 ) -> Result<bool, OutOfMemory>
-    requires recalls { Recalls (spelled (development_shown development.now)) terms.old texts.old }
-    ensures { IfOk result (λ more. Passes (development_shown development.now) piece.old.items stream.old piece.new.items stream.new terms.new texts.new more) }
+    requires left { IsLeft (development_shown development.now) left.old }
+    requires none { length left.old.part.items ≤ left.old.written }
+    ensures { IfOk result (λ more. Passes (development_shown development.now) piece.old.items left.old piece.new.items left.new more) }
 {
-    let number = stream.first_number();
-    match stream.next_part(development, terms)? {
+    renew(alloc, &mut left.terms, &mut left.texts);
+    match left.stream.next_part(development, &mut left.terms)? {
         Some(part) => {
-            push_lines(piece, texts, terms, development, number, &part)?;
+            left.part = part;
+            left.written = 0;
             Ok(true)
         }
         None => {
-            push_total(piece, number)?;
+            push_total(piece, left.number)?;
             Ok(false)
         }
     }
 }
 
-// Lines of parts, until the piece is large enough. Whether something may be left.
+// A line more, or the next part. Whether something may be left.
+fn go_on(
+    alloc: Global,
+    piece: &mut Vec<u8>,
+    left: &mut Left,
+    development: &Development,
+) -> Result<bool, OutOfMemory>
+    requires { IsLeft (development_shown development.now) left.old }
+    ensures { IfOk result (λ more. Passes (development_shown development.now) piece.old.items left.old piece.new.items left.new more) }
+{
+    if left.written < left.part.len() {
+        push_line(piece, left, development)?;
+        Ok(true)
+    } else {
+        make_part(alloc, piece, left, development)
+    }
+}
+
+// Lines, until the piece is large enough. Whether something may be left.
 fn fill(
     alloc: Global,
     piece: &mut Vec<u8>,
-    texts: &mut FormulaTexts,
-    terms: &mut Terms,
+    left: &mut Left,
     development: &Development,
-    stream: &mut ConditionStream,
 ) -> Result<bool, OutOfMemory>
-    requires recalls { Recalls (spelled (development_shown development.now)) terms.old texts.old }
-    ensures { IfOk result (λ more. Passes (development_shown development.now) piece.old.items stream.old piece.new.items stream.new terms.new texts.new more) }
+    requires { IsLeft (development_shown development.now) left.old }
+    ensures { IfOk result (λ more. Passes (development_shown development.now) piece.old.items left.old piece.new.items left.new more) }
 {
     loop {
-        renew(alloc, terms, texts);
-        if !push_part(piece, texts, terms, development, stream)? {
+        if !go_on(alloc, piece, left, development)? {
             return Ok(false);
         }
         if piece.len() >= PIECE {
@@ -171,21 +206,24 @@ impl<'d> ConditionLines<'d> {
         ensures text { IfOk result (λ lines. text_left lines ≡ conditions_text (development_shown development.entry.now)) }
         ensures memory { IfOk result (λ lines. is_spent lines ≡ false) }
     {
-        let stream = ConditionStream::new(alloc, development)?;
-        let terms = Terms::new(alloc);
-        let texts = no_texts(alloc);
+        let left = Left {
+            stream: ConditionStream::new(alloc, development)?,
+            terms: Terms::new(alloc),
+            texts: no_texts(alloc),
+            part: Vec::new(alloc),
+            written: 0,
+            number: 0,
+        };
         Ok(ConditionLines {
             alloc,
             development,
-            stream,
-            terms,
-            texts,
+            left,
             state: State::Going,
         })
     }
 
-    /// The next piece of the lines, of 64 KiB or more unless it is the last; `None` where nothing is left. After an allocation
-    /// was refused it answers `OutOfMemory` from then on.
+    /// The next piece of the lines, of 64 KiB and at most a line more unless it is the last; `None` where nothing is left.
+    /// After an allocation was refused it answers `OutOfMemory` from then on.
     pub fn next_piece(&mut self) -> Result<Option<Vec<u8>>, OutOfMemory>
         ensures piece { IfOk result (IsNextPiece self.old self.new) }
         ensures spent { is_spent self.new ≡ is_err result }
@@ -198,14 +236,7 @@ impl<'d> ConditionLines<'d> {
         }
         self.state = State::Failed;
         let mut piece = Vec::new(self.alloc);
-        let more = fill(
-            self.alloc,
-            &mut piece,
-            &mut self.texts,
-            &mut self.terms,
-            self.development,
-            &mut self.stream,
-        )?;
+        let more = fill(self.alloc, &mut piece, &mut self.left, self.development)?;
         self.state = if more { State::Going } else { State::Ended };
         Ok(Some(piece))
     }

@@ -175,15 +175,15 @@ pub(crate) fn push_known(
     development: &Development,
     goal: &Goal,
 ) -> Result<(), OutOfMemory>
-    requires formulas { AreFormulas terms.now goal.now.hypotheses.items }
+    requires formulas { AreFormulas terms.now goal.now.hypotheses }
     requires recalls { Recalls (spelled (development_shown development.now)) terms.now texts.old }
-    ensures text { OnOk result (out.new.items ≡ out.old.items ++ (codes " (vars " ++ decimal goal.now.vars ++ codes ") (hyps" ++ formulas_text (spelled (development_shown development.now)) (formulas_in terms.now goal.now.hypotheses.items))) }
+    ensures text { OnOk result (out.new.items ≡ out.old.items ++ (codes " (vars " ++ decimal goal.now.vars ++ codes ") (hyps" ++ formulas_text (spelled (development_shown development.now)) (formulas_in terms.now goal.now.hypotheses))) }
     ensures recalls { OnOk result (Recalls (spelled (development_shown development.now)) terms.now texts.new) }
 {
     push_text(out, " (vars ")?;
     push_number(out, u64::from(goal.vars))?;
     push_text(out, ") (hyps")?;
-    push_hypotheses(out, texts, terms, development, &goal.hypotheses)
+    push_hypotheses(out, texts, terms, development, goal.hypotheses.as_slice())
 }
 
 /// What is to be proved, and the end of the line.

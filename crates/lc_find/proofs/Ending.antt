@@ -16,7 +16,7 @@ use Rattle.lc_check.specs.Walking.{ProveInTurn}
 use Rattle.lc_find.proofs.FirstHints.{takes_first, hints_prove, hints_are, all_hints, hinted_each, hints_read}
 use Rattle.lc_find.proofs.Passing.{rising_all}
 use Rattle.lc_find.specs.Faults.{IsInRange, IsOkOrNoMemory}
-use Rattle.lc_find.specs.Found.{TakesFirst, IsNoCertificate, IsByHints, ArePassed, IsUnfound, IsGivenBack}
+use Rattle.lc_find.specs.Found.{TakesFirst, IsNoCertificate, IsByHints, Finds, ArePassed, IsUnfound, IsGivenBack}
 use Rattle.lc_find.specs.Hinted.{by_entries, IsHinted, IsFirstHint}
 use Rattle.lc_find.specs.declared.fault.FindFault.{FindFault}
 use Rattle.lc_find.specs.declared.fault.FindFault.TheVariants.{NotFound, Budget, Large, OutOfMemory}
@@ -45,18 +45,18 @@ empty_back D (e ∷ es) none h certifies = absurd (omega (arith, none))
 
 -- ---- what `find` answers of all proofs
 
-pub accepted_back : (D : Development) (es : List Entry) (result : Result Certificate FindFault) → IsGivenBack D es result → IfOk result (λ c. IsProvenBy D (certificate_line D (entries_in c)))
+accepted_back : (D : Development) (es : List Entry) (result : Result Certificate FindFault) → IsGivenBack D es result → IfOk result (λ c. IsProvenBy D (certificate_line D (entries_in c)))
 accepted_back D es (Ok c) h = subst (λ l. IsProvenBy D (certificate_line D l)) (sym h.0) h.1
 accepted_back D es (Err fault) h = tt
 
-pub range_back : (D : Development) (es : List Entry) (result : Result Certificate FindFault) → IsGivenBack D es result → IfErr result (IsInRange (length (conditions D)))
+range_back : (D : Development) (es : List Entry) (result : Result Certificate FindFault) → IsGivenBack D es result → IfErr result (IsInRange (length (conditions D)))
 range_back D es (Ok c) h = tt
 range_back D es (Err (NotFound k)) h = absurd h
 range_back D es (Err (Budget k)) h = h.0
 range_back D es (Err (Large k)) h = absurd h
 range_back D es (Err OutOfMemory) h = tt
 
-pub first_back : (D : Development) (hs es : List Entry) (budget : ℕ) (result : Result Certificate FindFault) → ArePassed D hs budget es → IsGivenBack D es result → IfOk result (λ c. TakesFirst D hs (entries_in c))
+first_back : (D : Development) (hs es : List Entry) (budget : ℕ) (result : Result Certificate FindFault) → ArePassed D hs budget es → IsGivenBack D es result → IfOk result (λ c. TakesFirst D hs (entries_in c))
 first_back D hs es budget (Ok c) passed h = subst (TakesFirst D hs) (sym h.0) (takes_first D hs es passed.in_turn passed.first)
 first_back D hs es budget (Err fault) passed h = tt
 
@@ -64,7 +64,7 @@ first_back D hs es budget (Err fault) passed h = tt
 abbrev pub IsMadeBack : Type 0
 IsMadeBack = (D : Development) (es : List Entry) → is_rising None es ≡ true → Every (EntryReadsBack D) es → IsPrintable D es → Certifies D (certificate_line D es) es
 
-pub by_back : (D : Development) (hs es : List Entry) (budget : ℕ) (result : Result Certificate FindFault) → IsMadeBack → ArePassed D hs budget es → IsGivenBack D es result
+by_back : (D : Development) (hs es : List Entry) (budget : ℕ) (result : Result Certificate FindFault) → IsMadeBack → ArePassed D hs budget es → IsGivenBack D es result
     → Every (EntryReadsBack D) hs → AreProved hs 0 (conditions D) → IsPrintable D (by_entries hs 0 (conditions D)) → IsOkOrNoMemory result
 by_back D hs es budget (Ok c) made passed h read proved fits = tt
 by_back D hs es budget (Err (NotFound k)) made passed h read proved fits = h
@@ -75,16 +75,25 @@ by_back D hs es budget (Err (Budget k)) made passed h read proved fits =
 by_back D hs es budget (Err (Large k)) made passed h read proved fits = h
 by_back D hs es budget (Err OutOfMemory) made passed h read proved fits = tt
 
-pub unbudgeted_back : (D : Development) (hs es : List Entry) (result : Result Certificate FindFault) → ProveInTurn 0 es (conditions D) → Every (IsFirstHint hs) es → IsGivenBack D es result → IsByHints D hs result
+unbudgeted_back : (D : Development) (hs es : List Entry) (result : Result Certificate FindFault) → ProveInTurn 0 es (conditions D) → Every (IsFirstHint hs) es → IsGivenBack D es result → IsByHints D hs result
 unbudgeted_back D hs es (Ok c) turn hints h = (hints_prove hs es 0 (conditions D) turn hints, h.0 ∙ sym (hints_are hs es 0 (conditions D) turn hints))
 unbudgeted_back D hs es (Err (NotFound k)) turn hints h = h
 unbudgeted_back D hs es (Err (Budget k)) turn hints h = inr (hints_prove hs es 0 (conditions D) turn hints, subst (IsNoCertificate D) (sym (hints_are hs es 0 (conditions D) turn hints)) h.1)
 unbudgeted_back D hs es (Err (Large k)) turn hints h = h
 unbudgeted_back D hs es (Err OutOfMemory) turn hints h = tt
 
+pub given_back : (D : Development) (hs es : List Entry) (budget : ℕ) (result : Result Certificate FindFault) → IsMadeBack → ArePassed D hs budget es → IsGivenBack D es result → Finds D hs budget result
+given_back D hs es budget result made passed h = record {
+  accepted = accepted_back D es result h;
+  range = range_back D es result h;
+  first = first_back D hs es budget result passed h;
+  by = by_back D hs es budget result made passed h;
+  unbudgeted = λ zero. unbudgeted_back D hs es result passed.in_turn (passed.hinted zero) h;
+}
+
 -- ---- what `find` answers where a condition has no proof
 
-pub range_unfound : (D : Development) (hs : List Entry) (budget : ℕ) (fault : FindFault) → IsUnfound D hs budget fault → IsInRange (length (conditions D)) fault
+range_unfound : (D : Development) (hs : List Entry) (budget : ℕ) (fault : FindFault) → IsUnfound D hs budget fault → IsInRange (length (conditions D)) fault
 range_unfound D hs budget (NotFound k) h = h.0
 range_unfound D hs budget (Budget k) h = h.0
 range_unfound D hs budget (Large k) h = h.0
@@ -93,14 +102,23 @@ range_unfound D hs budget OutOfMemory h = tt
 not_all : (D : Development) (hs : List Entry) (k : ℕ) → k < length (conditions D) → (IsHinted D hs k → ⊥) → AreProved hs 0 (conditions D) → ⊥
 not_all D hs k lt not proved = not (hinted_each D hs k lt proved)
 
-pub by_unfound : (A : Type 0) (D : Development) (hs : List Entry) (budget : ℕ) (fault : FindFault) → IsUnfound D hs budget fault → AreProved hs 0 (conditions D) → IsOkOrNoMemory {A = A} (Err fault)
+by_unfound : (A : Type 0) (D : Development) (hs : List Entry) (budget : ℕ) (fault : FindFault) → IsUnfound D hs budget fault → AreProved hs 0 (conditions D) → IsOkOrNoMemory {A = A} (Err fault)
 by_unfound A D hs budget (NotFound k) h proved = not_all D hs k h.0 h.1 proved
 by_unfound A D hs budget (Budget k) h proved = not_all D hs k h.0 h.1 proved
 by_unfound A D hs budget (Large k) h proved = not_all D hs k h.0 h.1 proved
 by_unfound A D hs budget OutOfMemory h proved = tt
 
-pub unbudgeted_unfound : (D : Development) (hs : List Entry) (budget : ℕ) (fault : FindFault) → IsUnfound D hs budget fault → budget ≡ 0 → IsByHints D hs (Err fault)
+unbudgeted_unfound : (D : Development) (hs : List Entry) (budget : ℕ) (fault : FindFault) → IsUnfound D hs budget fault → budget ≡ 0 → IsByHints D hs (Err fault)
 unbudgeted_unfound D hs budget (NotFound k) h zero = h.2 zero
 unbudgeted_unfound D hs budget (Budget k) h zero = inl (h.2 zero, h.1)
 unbudgeted_unfound D hs budget (Large k) h zero = h.2 zero
 unbudgeted_unfound D hs budget OutOfMemory h zero = tt
+
+pub unfound : (D : Development) (hs : List Entry) (budget : ℕ) (fault : FindFault) → IsUnfound D hs budget fault → Finds D hs budget (Err fault)
+unfound D hs budget fault h = record {
+  accepted = tt;
+  range = range_unfound D hs budget fault h;
+  first = tt;
+  by = λ read proved fits. by_unfound Certificate D hs budget fault h proved;
+  unbudgeted = unbudgeted_unfound D hs budget fault h;
+}

@@ -1,5 +1,5 @@
 -- What is found of a development with hints.
-use Rattle.std.specs.Prelude.{◌≡◌, ℕ, ◌<◌, ◌⊎◌, Bool, true, false, List, length, take, Vec, Result, Ok, Err}
+use Rattle.std.specs.Prelude.{◌≡◌, ℕ, ◌<◌, ◌⊎◌, Bool, true, false, List, length, take, Vec, Result, Ok, Err, IfOk, IfErr}
 use Rattle.std.specs.declared.alloc.Global.{Global}
 use Rattle.lc_term.specs.Lists.{Every}
 use Rattle.lc_outline.specs.Development.{Development}
@@ -7,12 +7,13 @@ use Rattle.lc_cert.specs.Certificates.{Entry as Proved, proof_at}
 use Rattle.lc_cert.specs.CertificateView.{entries_in}
 use Rattle.lc_cert.specs.EntryView.{entries_of}
 use Rattle.lc_cert.specs.Files.{Certifies}
-use Rattle.lc_cert.specs.Printed.{certificate_line}
+use Rattle.lc_cert.specs.Printed.{certificate_line, EntryReadsBack, IsPrintable}
 use Rattle.lc_cert.specs.declared.certificate.Certificate.{Certificate}
 use Rattle.lc_cert.specs.declared.entry.Entry.{Entry}
 use Rattle.lc_cond.specs.Conditions.{conditions}
 use Rattle.lc_check.specs.Verdicts.{AreProved, IsProvenBy}
 use Rattle.lc_check.specs.Walking.{ProveInTurn}
+use Rattle.lc_find.specs.Faults.{IsInRange, IsOkOrNoMemory}
 use Rattle.lc_find.specs.Hinted.{IsHinted, IsFirstHint, IsFirstTaken, by_entries}
 use Rattle.lc_find.specs.declared.fault.FindFault.{FindFault}
 use Rattle.lc_find.specs.declared.fault.FindFault.TheVariants.{NotFound, Budget, Large, OutOfMemory}
@@ -38,6 +39,16 @@ IsByHints D hs (Err (NotFound k)) = ⊥
 IsByHints D hs (Err (Budget k)) = IsFirstUnhinted D hs k ⊎ (AreProved hs 0 (conditions D) × IsNoCertificate D (by_entries hs 0 (conditions D)))
 IsByHints D hs (Err (Large k)) = ⊥
 IsByHints D hs (Err OutOfMemory) = Unit {0}
+
+-- what is found where these proofs are tried first, and others sought in so many steps a condition: the text of a certificate is
+-- accepted; a fault names a condition that there is; each condition has the first of these proofs that there is for it, where that
+-- holds; where these hold for all, read back, and their text is within the limits of a file, nothing is told but want of memory
+pub record Finds (D : Development) (hs : List Proved) (budget : ℕ) (result : Result Certificate FindFault) : Type 0 where
+  pub accepted : IfOk result (λ c. IsProvenBy D (certificate_line D (entries_in c)))
+  pub range : IfErr result (IsInRange (length (conditions D)))
+  pub first : IfOk result (λ c. TakesFirst D hs (entries_in c))
+  pub by : Every (EntryReadsBack D) hs → AreProved hs 0 (conditions D) → IsPrintable D (by_entries hs 0 (conditions D)) → IsOkOrNoMemory result
+  pub unbudgeted : budget ≡ 0 → IsByHints D hs result
 
 -- ---- the proofs of all conditions
 

@@ -1,18 +1,12 @@
 //! Certificates of a new development, from the proofs of an old one and from what is found.
-ghost use Rattle.std.specs.Prelude.{◌≡◌, ◌++◌, length, IfOk, IfErr};
+ghost use Rattle.std.specs.Prelude.{◌++◌};
 ghost use Rattle.lc_carry.specs.Carried.{carried};
 ghost use Rattle.lc_cert.specs.CertificateView.{entries_in};
-ghost use Rattle.lc_cert.specs.Printed.{certificate_line, EntryReadsBack, IsPrintable};
-ghost use Rattle.lc_check.specs.Verdicts.{AreProved, IsProvenBy};
 ghost use Rattle.lc_check.specs.VerdictView.{development_in};
-ghost use Rattle.lc_cond.specs.Conditions.{conditions};
 ghost use Rattle.lc_find.specs.Certified.{IsCertifiedBy};
-ghost use Rattle.lc_find.specs.Faults.{IsInRange, IsOkOrNoMemory};
-ghost use Rattle.lc_find.specs.Found.{TakesFirst, IsByHints};
-ghost use Rattle.lc_find.specs.Hinted.{by_entries};
+ghost use Rattle.lc_find.specs.Found.{Finds};
 ghost use Rattle.lc_hints.specs.HintView.{proofs_in};
 ghost use Rattle.lc_outline.specs.DevelopmentView.{development_shown};
-ghost use Rattle.lc_term.specs.Lists.{Every};
 
 use crate::fault::FindFault;
 use crate::finding::find_beside;
@@ -39,14 +33,8 @@ pub fn carry(
     budget: u64,
 ) -> Result<Certificate, FindFault>
     requires { IsCertifiedBy (development_in accepted.now) (entries_in certificate.now) }
-    ensures accepted { let E = development_shown development.now in IfOk result (λ c. IsProvenBy E (certificate_line E (entries_in c))) }
-    ensures range { IfErr result (IsInRange (length (conditions (development_shown development.now)))) }
-    ensures carried { let E = development_shown development.now in
-        IfOk result (λ c. TakesFirst E (carried (development_in accepted.now) (entries_in certificate.now) E ++ proofs_in hints.now) (entries_in c)) }
-    ensures by { let E = development_shown development.now in let hs = carried (development_in accepted.now) (entries_in certificate.now) E ++ proofs_in hints.now in
-        Every (EntryReadsBack E) hs → AreProved hs 0 (conditions E) → IsPrintable E (by_entries hs 0 (conditions E)) → IsOkOrNoMemory result }
-    ensures unbudgeted { let E = development_shown development.now in
-        budget ≡ 0 → IsByHints E (carried (development_in accepted.now) (entries_in certificate.now) E ++ proofs_in hints.now) result }
+    ensures { let E = development_shown development.now in
+        Finds E (carried (development_in accepted.now) (entries_in certificate.now) E ++ proofs_in hints.now) budget result }
 {
     carry_with(
         alloc,
@@ -70,14 +58,8 @@ pub fn carry_with<P: Progress>(
     progress: &mut P,
 ) -> Result<Certificate, FindFault>
     requires { IsCertifiedBy (development_in accepted.now) (entries_in certificate.now) }
-    ensures accepted { let E = development_shown development.now in IfOk result (λ c. IsProvenBy E (certificate_line E (entries_in c))) }
-    ensures range { IfErr result (IsInRange (length (conditions (development_shown development.now)))) }
-    ensures carried { let E = development_shown development.now in
-        IfOk result (λ c. TakesFirst E (carried (development_in accepted.now) (entries_in certificate.now) E ++ proofs_in hints.now) (entries_in c)) }
-    ensures by { let E = development_shown development.now in let hs = carried (development_in accepted.now) (entries_in certificate.now) E ++ proofs_in hints.now in
-        Every (EntryReadsBack E) hs → AreProved hs 0 (conditions E) → IsPrintable E (by_entries hs 0 (conditions E)) → IsOkOrNoMemory result }
-    ensures unbudgeted { let E = development_shown development.now in
-        budget ≡ 0 → IsByHints E (carried (development_in accepted.now) (entries_in certificate.now) E ++ proofs_in hints.now) result }
+    ensures { let E = development_shown development.now in
+        Finds E (carried (development_in accepted.now) (entries_in certificate.now) E ++ proofs_in hints.now) budget result }
 {
     a_certificate_is_read_or_refused();
     let carried = carried_entries(alloc, accepted.development(), certificate, development)?;

@@ -1,17 +1,10 @@
 //! Certificates are found: each proof is checked before it is taken, and the text of all of them before it is given.
-ghost use Rattle.std.specs.Prelude.{◌≡◌, ◌++◌, length, IfOk, IfErr};
-ghost use Rattle.lc_term.specs.Lists.{Every};
+ghost use Rattle.std.specs.Prelude.{◌++◌};
 ghost use Rattle.lc_outline.specs.DevelopmentView.{development_shown};
 ghost use Rattle.lc_cert.specs.Certificates.{HaveFewSteps};
-ghost use Rattle.lc_cert.specs.CertificateView.{entries_in};
 ghost use Rattle.lc_cert.specs.EntryView.{entries_of};
-ghost use Rattle.lc_cert.specs.Printed.{certificate_line, EntryReadsBack, IsPrintable};
-ghost use Rattle.lc_check.specs.Verdicts.{AreProved, IsProvenBy};
-ghost use Rattle.lc_cond.specs.Conditions.{conditions};
-ghost use Rattle.lc_find.specs.Faults.{IsInRange, IsOkOrNoMemory};
-ghost use Rattle.lc_find.specs.Found.{AreFound, TakesFirst, IsByHints};
+ghost use Rattle.lc_find.specs.Found.{AreFound, Finds};
 ghost use Rattle.lc_hints.specs.HintView.{proofs_in};
-ghost use Rattle.lc_find.specs.Hinted.{by_entries};
 
 use crate::candidates::Candidates;
 use crate::fault::FindFault;
@@ -66,12 +59,7 @@ pub fn find(
     hints: &Hints,
     budget: u64,
 ) -> Result<Certificate, FindFault>
-    ensures accepted { let D = development_shown development.now in IfOk result (λ c. IsProvenBy D (certificate_line D (entries_in c))) }
-    ensures range { IfErr result (IsInRange (length (conditions (development_shown development.now)))) }
-    ensures by { let D = development_shown development.now in let hs = proofs_in hints.now in
-        Every (EntryReadsBack D) hs → AreProved hs 0 (conditions D) → IsPrintable D (by_entries hs 0 (conditions D)) → IsOkOrNoMemory result }
-    ensures first { let D = development_shown development.now in IfOk result (λ c. TakesFirst D (proofs_in hints.now) (entries_in c)) }
-    ensures unbudgeted { budget ≡ 0 → IsByHints (development_shown development.now) (proofs_in hints.now) result }
+    ensures { Finds (development_shown development.now) (proofs_in hints.now) budget result }
 {
     find_with(alloc, development, hints, budget, &mut Silent)
 }
@@ -84,12 +72,7 @@ pub fn find_with<P: Progress>(
     budget: u64,
     progress: &mut P,
 ) -> Result<Certificate, FindFault>
-    ensures accepted { let D = development_shown development.now in IfOk result (λ c. IsProvenBy D (certificate_line D (entries_in c))) }
-    ensures range { IfErr result (IsInRange (length (conditions (development_shown development.now)))) }
-    ensures by { let D = development_shown development.now in let hs = proofs_in hints.now in
-        Every (EntryReadsBack D) hs → AreProved hs 0 (conditions D) → IsPrintable D (by_entries hs 0 (conditions D)) → IsOkOrNoMemory result }
-    ensures first { let D = development_shown development.now in IfOk result (λ c. TakesFirst D (proofs_in hints.now) (entries_in c)) }
-    ensures unbudgeted { budget ≡ 0 → IsByHints (development_shown development.now) (proofs_in hints.now) result }
+    ensures { Finds (development_shown development.now) (proofs_in hints.now) budget result }
 {
     find_beside(alloc, development, &[], hints, budget, progress)
 }
@@ -104,12 +87,7 @@ pub(crate) fn find_beside<P: Progress>(
     progress: &mut P,
 ) -> Result<Certificate, FindFault>
     requires { HaveFewSteps (entries_of given.now) }
-    ensures accepted { let D = development_shown development.now in IfOk result (λ c. IsProvenBy D (certificate_line D (entries_in c))) }
-    ensures range { IfErr result (IsInRange (length (conditions (development_shown development.now)))) }
-    ensures by { let D = development_shown development.now in let hs = entries_of given.now ++ proofs_in hints.now in
-        Every (EntryReadsBack D) hs → AreProved hs 0 (conditions D) → IsPrintable D (by_entries hs 0 (conditions D)) → IsOkOrNoMemory result }
-    ensures first { let D = development_shown development.now in IfOk result (λ c. TakesFirst D (entries_of given.now ++ proofs_in hints.now) (entries_in c)) }
-    ensures unbudgeted { budget ≡ 0 → IsByHints (development_shown development.now) (entries_of given.now ++ proofs_in hints.now) result }
+    ensures { Finds (development_shown development.now) (entries_of given.now ++ proofs_in hints.now) budget result }
 {
     let entries = found_entries(alloc, development, given, hints, budget, progress)?;
     printed_certificates_read_back();

@@ -1,6 +1,6 @@
 -- The proofs of branches, checked one after the other.
-use Rattle.std.specs.Prelude.{◌≡◌, ℕ, zero, suc, ◌+◌, ◌<◌, ◌≤◌, List, [], ◌∷◌, ◌++◌, length, slice_get, Some, Err}
-use Rattle.std.proofs.Common.{refl, sym, ap, ap₂, subst, ◌∙◌, arith, drop, get_or}
+use Rattle.std.specs.Prelude.{◌≡◌, ℕ, zero, suc, ◌+◌, ◌<◌, ◌≤◌, List, [], ◌∷◌, ◌++◌, length, slice_get, Err}
+use Rattle.std.proofs.Common.{refl, sym, ap, subst, ◌∙◌, append_assoc, arith, drop, get_or}
 use Rattle.std.proofs.lemmas.List.{map-append, length-map}
 use Rattle.lc_table.specs.NodeTables.{Table}
 use Rattle.lc_term.specs.Syntax as S
@@ -123,6 +123,12 @@ pub next_left : (v : ℕ) (H : List S.Formula) (bs : List (List S.Formula)) (ps 
 next_left v H bs ps first next ts cs qs i p h g at left =
     subst (λ x. Left v H bs ps first next x (more (proof_of p) (proofs (proofs_of (drop (i + 1) qs))))) (branches_at ts cs i h)
     (subst (λ x. Left v H bs ps first next (drop i (branches_in ts cs)) x) (proofs_at qs i p g at) left)
+
+-- the hypotheses of its proof, of which some are appended
+pub next_hypotheses : (old now : Table) (given own xs : List FormulaId) (cs : Branches) (i : ℕ) → i < branch_count cs → xs ≡ own ++ branch_at cs i → AreFormulas old (given ++ own) → AreBranches old cs → Keeps old now →
+    AreFormulas now (given ++ xs) × (formulas_in now (given ++ xs) ≡ formulas_in old (given ++ own) ++ formulas_in old (branch_at cs i))
+next_hypotheses old now given own xs cs i h is are opened kept =
+    known_later old now (given ++ own) (branch_at cs i) (given ++ xs) (ap (λ ks. given ++ ks) is ∙ sym (append_assoc given own (branch_at cs i))) are (branch_are old cs i opened h) kept
 
 pub drop_past : (qs : List Proof) (i : ℕ) → length qs ≤ i → proofs (proofs_of (drop i qs)) ≡ none
 drop_past [] zero h = refl

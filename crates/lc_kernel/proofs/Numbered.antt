@@ -1,5 +1,5 @@
 -- Hypotheses and parts of formulas by number, and their trees.
-use Rattle.std.proofs.Common.{◌≡◌, ℕ, zero, suc, ◌+◌, ◌<◌, ℤ, pos, List, [], ◌∷◌, ◌++◌, length, take, get_or, slice_get, Option, Some, None, refl, sym, ap, ◌∙◌, subst, arith}
+use Rattle.std.proofs.Common.{◌≡◌, ℕ, zero, suc, ◌+◌, ◌<◌, ℤ, pos, List, [], ◌∷◌, ◌++◌, length, take, get_or, slice_get, Some, None, refl, sym, ap, ◌∙◌, subst, arith}
 use Rattle.std.specs.Prelude.{negsuc, Bool, true, false, IsTrue, ◌↔◌, Result, Ok, Err, Vec}
 use Rattle.std.specs.Bool.{Decides}
 use Rattle.std.specs.declared.alloc.Global.{Global}
@@ -12,8 +12,8 @@ use Rattle.lc_table.specs.Tables.{parts, formulas, formula_in, formulas_in, IsFo
 use Rattle.lc_table.specs.declared.node.FormulaId.{FormulaId}
 use Rattle.lc_table.specs.declared.node.FormulaNode.{FormulaNode}
 use Rattle.lc_table.specs.declared.node.FormulaNode.TheVariants.{And, Or}
-use Rattle.lc_table.proofs.Later.{formula_is, formulas_pushed, formula_still, is_formula_later}
-use Rattle.lc_kernel.specs.Answers.{FindsNumber, FindsIn, MakesIn, hypothesis_of}
+use Rattle.lc_table.proofs.Later.{are_formulas_pushed, formulas_pushed}
+use Rattle.lc_kernel.specs.Answers.{FindsNumber, FindsIn, hypothesis_of}
 use Rattle.lc_kernel.specs.Table.{hypothesis, conjuncts, failing, alternatives, negations, pushed_inward}
 use Rattle.lc_kernel.specs.declared.reason.Flaw.{Flaw}
 use Rattle.lc_kernel.specs.declared.reason.Reason.TheVariants.{NoHypothesis}
@@ -90,3 +90,12 @@ pub negations_more : (ts : Table) (ks : List FormulaId) (i : ℕ) (k : FormulaId
 negations_more ts ks i k h is =
     ap negations (map_more (formula_in ts) ks i k h) ∙ map-append S.Not (formulas_in ts (take i ks)) (formula_in ts (get_or ks i k) ∷ []) ∙
     ap (λ x. negations (formulas_in ts (take i ks)) ++ S.Not (formula_in ts x) ∷ []) (sym is)
+
+-- one formula more behind those that are given
+pub given_and_one : (old new : Table) (given xs ks : List FormulaId) (k : FormulaId) (f : S.Formula) → xs ≡ given → ks ≡ k ∷ [] → AreFormulas old given → Keeps old new → HasFormula new k f →
+    AreFormulas new (xs ++ ks) × (formulas_in new (xs ++ ks) ≡ formulas_in old given ++ f ∷ [])
+given_and_one old new given xs ks k f same one are kept at =
+    let numbers : xs ++ ks ≡ given ++ k ∷ [] = ap (λ l. l ++ ks) same ∙ ap (λ l. given ++ l) one in (
+      subst (AreFormulas new) (sym numbers) (are_formulas_pushed old new given k f are kept at),
+      ap (formulas_in new) numbers ∙ formulas_pushed old new given k f are kept at,
+    )

@@ -1,5 +1,5 @@
 -- Quotients of comparisons, by the forms that are kept.
-use Rattle.std.specs.Prelude.{◌≡◌, ℕ, ℤ, pos, ◌*ℤ◌, Option, Some, None, Ok, Err}
+use Rattle.std.specs.Prelude.{◌≡◌, ℤ, pos, ◌*ℤ◌, Option, Some, None, Ok, Err}
 use Rattle.std.proofs.Common.{refl, sym, subst, arith}
 use Rattle.std.proofs.lemmas.Int.{ints}
 use Rattle.lc_table.specs.NodeTables.{Table}
@@ -12,11 +12,10 @@ use Rattle.lc_linear.specs.Numbered.{Form}
 use Rattle.lc_linear.specs.declared.form.LinForm.{LinForm}
 use Rattle.lc_linear.proofs.InTables.{each_atom_of_trees, each_atom_kept}
 use Rattle.lc_linear.proofs.Refutes.{IsDivided-Divides, IsDivided-unique, IsDivided-same}
-use Rattle.lc_kernel.specs.Answers.{Meets, GivesClaim, IsClaimed, TestsQuotient}
-use Rattle.lc_kernel.specs.Table.{excess, CanCompare, IsQuotient, QuotientGives}
-use Rattle.lc_kernel.specs.declared.fault.StepFault.{StepFault}
-use Rattle.lc_kernel.specs.declared.fault.StepFault.TheVariants.{Flawed, OutOfMemory}
-use Rattle.lc_kernel.specs.declared.reason.Flaw.TheVariants.{Bad, Large}
+use Rattle.lc_kernel.specs.Answers.{GivesClaim, IsClaimed, TestsQuotient}
+use Rattle.lc_kernel.specs.Table.{excess, CanCompare, IsQuotient}
+use Rattle.lc_kernel.specs.declared.fault.StepFault.TheVariants.{Flawed}
+use Rattle.lc_kernel.specs.declared.reason.Flaw.TheVariants.{Bad}
 use Rattle.lc_kernel.specs.declared.reason.Reason.TheVariants.{NotDivisible, WrongQuotient}
 
 scaled_zero : (k : ℤ) → pos 0 ≡ k *ℤ pos 0

@@ -1,5 +1,5 @@
 -- The variables of a column expression, from those of its stores.
-use Rattle.std.proofs.Common.{◌≡◌, ℕ, ℤ, Bool, true, false, ◌&&◌, List, [], ◌∷◌, ap, sym, ◌∙◌}
+use Rattle.std.proofs.Common.{◌≡◌, ℕ, ℤ, true, false, ◌&&◌, List, [], ◌∷◌, ap, sym, ◌∙◌}
 use Rattle.lc_term.specs.Syntax as S
 use Rattle.lc_table.specs.NodeTables.{Table}
 use Rattle.lc_table.specs.NodeChains.{stored_to, below_stores, AreStores}

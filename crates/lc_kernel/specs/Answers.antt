@@ -7,6 +7,7 @@ use Rattle.lc_table.specs.Tables.{term_in, formula_in, formulas_in, IsTerm, IsFo
 use Rattle.lc_table.specs.declared.node.FormulaId.{FormulaId}
 use Rattle.lc_table.specs.declared.node.TermId.{TermId}
 use Rattle.lc_kernel.specs.Branches.{branches_in, AreBranches}
+use Rattle.lc_kernel.specs.Settings.{hypotheses_at}
 use Rattle.lc_kernel.specs.Proofs.{Step, Proof, Proofs, size, size_of_all}
 use Rattle.lc_kernel.specs.Table.{Outcome, flawed, opens, Gives, excess, CanCompare, IsQuotient}
 use Rattle.lc_kernel.specs.Derivation.{Derives, EachDerives, Fails, SomeFails, DerivesGoal, FailsGoal}
@@ -19,6 +20,7 @@ use Rattle.lc_kernel.specs.declared.fault.StepFault.TheVariants.{Flawed, OutOfMe
 use Rattle.lc_kernel.specs.declared.fault.ProofFault.{ProofFault}
 use Rattle.lc_kernel.specs.declared.fault.ProofFault.TheVariants.{Bad as NotHolding, Large as TooLarge, OutOfMemory as NoMore}
 use Rattle.lc_kernel.specs.declared.opened.Opened.{Opened}
+use Rattle.lc_kernel.specs.declared.setting.Setting.{Setting}
 use Rattle.lc_linear.specs.Closing.{Entry, entries_in, AreEntries}
 use Rattle.lc_linear.specs.Divided.{Divides, IsDivided}
 use Rattle.lc_linear.specs.Form.{form_of, HasForm}
@@ -39,9 +41,9 @@ Meets ts P (Ok opened) = AreBranches ts opened.branches × P (opens opened.varia
 Meets ts P (Err (Flawed why)) = P (flawed why)
 Meets ts P (Err OutOfMemory) = Unit {0}
 
--- what a step comes to, where n proofs stand below it; its hypotheses stand in the one table, its branches in the other
-abbrev pub StepMeets : Table → Table → ℕ → List FormulaId → ℕ → Step → Result Opened StepFault → Type 0
-StepMeets old new v ks n s result = Meets new (Gives v (formulas_in old ks) n s) result
+-- what a step comes to where this is its setting; its hypotheses stand in the one table, its branches in the other
+abbrev pub StepMeets : Table → Table → Setting → Step → Result Opened StepFault → Type 0
+StepMeets old new at step result = Meets new (Gives at.variables (hypotheses_at old at) at.proofs step) result
 
 -- a test that holds, or the reason that is told where it fails
 abbrev pub Tests : Bool → Reason → Result (Unit {0}) Flaw → Type 0

@@ -5,5 +5,6 @@ pub mod Reasons
 pub mod Table
 pub mod Derivation
 pub mod Branches
+pub mod Settings
 pub mod Answers
 pub mod Uses

@@ -2,6 +2,7 @@
 ghost use Rattle.std.specs.Prelude.{◌≡◌, ◌↔◌, IsTrue, map};
 ghost use Rattle.lc_kernel.specs.Answers.{StepMeets, Meets, MakesEntriesIn, GivesClaim, DividesAs, IsClaimed, TestsQuotient};
 ghost use Rattle.lc_kernel.specs.Proofs as S;
+ghost use Rattle.lc_kernel.specs.Settings.{IsSetting, hypotheses_at};
 ghost use Rattle.lc_kernel.specs.Table.{entries, excess, is_comparison, all_comparisons, SumGives, QuotientGives};
 ghost use Rattle.lc_kernel.specs.View.{multiple_of};
 ghost use Rattle.lc_kernel.specs.declared.reason.Reason.TheVariants.{NoHypothesis};
@@ -17,6 +18,7 @@ use crate::forms::{find, inequality};
 use crate::opened::{Branches, Opened, appending, count_branches};
 use crate::proof::Multiple;
 use crate::reason::{Flaw, Reason};
+use crate::setting::Setting;
 use lc_linear::{LinFault, LinForm, closes, form_of_difference};
 use lc_table::{FormulaId, FormulaNode, TermId, Terms};
 use lc_term::Formula;
@@ -26,15 +28,15 @@ use std::alloc::Global;
 fn find_all(
     alloc: Global,
     terms: &Terms,
-    hypotheses: &[FormulaId],
+    setting: Setting<'_>,
     multiples: &[Multiple],
 ) -> Result<Vec<(FormulaId, i64)>, StepFault>
-    requires { AreFormulas terms.now hypotheses.now }
-    ensures { MakesEntriesIn terms.now (entries (formulas_in terms.now hypotheses.now) (map multiple_of multiples.now)) NoHypothesis result }
+    requires { IsSetting terms.now setting }
+    ensures { MakesEntriesIn terms.now (entries (hypotheses_at terms.now setting.entry) (map multiple_of multiples.now)) NoHypothesis result }
 {
     let mut found = Vec::with_capacity(alloc, multiples.len())?;
     for multiple in multiples {
-        let formula = find(terms, hypotheses, multiple.hypothesis)?;
+        let formula = find(terms, setting, multiple.hypothesis)?;
         found.push((formula, multiple.multiplier))?;
     }
     Ok(found)
@@ -88,20 +90,18 @@ fn close(
 pub(crate) fn sum(
     alloc: Global,
     terms: &Terms,
-    hypotheses: &[FormulaId],
-    variables: u32,
-    proofs: usize,
+    setting: Setting<'_>,
     multiples: &[Multiple],
 ) -> Result<Opened, StepFault>
-    requires { AreFormulas terms.now hypotheses.now }
-    ensures { StepMeets terms.now terms.now variables hypotheses.now proofs (S.Sum (map multiple_of multiples.now)) result }
+    requires { IsSetting terms.now setting }
+    ensures { StepMeets terms.now terms.now setting.entry (S.Sum (map multiple_of multiples.now)) result }
 {
-    let entries = find_all(alloc, terms, hypotheses, multiples)?;
+    let entries = find_all(alloc, terms, setting, multiples)?;
     if !all_comparisons(terms, &entries) {
         return Err(StepFault::Flawed(Flaw::Bad(Reason::WrongForm)));
     }
-    count_branches(proofs, 0)?;
-    close(alloc, terms, variables, &entries)
+    count_branches(setting.proofs, 0)?;
+    close(alloc, terms, setting.variables, &entries)
 }
 
 /// The form of a `<=`; none of another formula, whose form is not made.
@@ -191,21 +191,27 @@ fn quotient_of(
 pub(crate) fn divide(
     alloc: Global,
     terms: &mut Terms,
-    hypotheses: &[FormulaId],
-    variables: u32,
-    proofs: usize,
+    setting: Setting<'_>,
     hypothesis: i64,
     divisor: i64,
     quotient: &Formula,
 ) -> Result<Opened, StepFault>
-    requires { AreFormulas terms.old hypotheses.now }
+    requires { IsSetting terms.old setting }
     ensures kept { Keeps terms.old terms.new }
-    ensures step { StepMeets terms.old terms.new variables hypotheses.now proofs (S.Divide hypothesis divisor (formula_of quotient.now)) result }
+    ensures step { StepMeets terms.old terms.new setting.entry (S.Divide hypothesis divisor (formula_of quotient.now)) result }
 {
-    let (left, right) = inequality(terms, find(terms, hypotheses, hypothesis)?)?;
-    count_branches(proofs, 1)?;
-    if !formula_below(variables, quotient) {
+    let (left, right) = inequality(terms, find(terms, setting, hypothesis)?)?;
+    count_branches(setting.proofs, 1)?;
+    if !formula_below(setting.variables, quotient) {
         return Err(StepFault::Flawed(Flaw::Bad(Reason::VariableNotInUse)));
     }
-    quotient_of(alloc, terms, variables, left, right, divisor, quotient)
+    quotient_of(
+        alloc,
+        terms,
+        setting.variables,
+        left,
+        right,
+        divisor,
+        quotient,
+    )
 }

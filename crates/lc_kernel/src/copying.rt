@@ -1,98 +1,158 @@
 //! Copies of proofs.
-ghost use Rattle.std.specs.Prelude.{◌≡◌, IfOk};
-ghost use Rattle.lc_kernel.specs.View.{step_of, proof_of, proofs_of};
+ghost use Rattle.std.specs.Prelude.{◌≡◌, ◌++◌, ◌∷◌, [], map, IfOk, OnOk};
+ghost use Rattle.lc_kernel.specs.Proofs as S;
+ghost use Rattle.lc_kernel.specs.View.{multiple_of, step_of, proof_of, proofs_of};
+ghost use Rattle.lc_term.specs.View.{term_of, column_of, formula_of};
 
-use crate::proof::{Proof, Step};
+use crate::proof::{Multiple, Proof, Step};
 use lc_base::OutOfMemory;
+use lc_term::{ColExpr, Formula, Term};
 use std::alloc::Global;
+
+fn instantiated(alloc: Global, hypothesis: i64, term: &Term) -> Result<Step, OutOfMemory>
+    ensures { IfOk result (λ copy. step_of copy ≡ S.Instantiate hypothesis (term_of term.now)) }
+{
+    let term = term.try_clone(alloc)?;
+    Ok(Step::Instantiate { hypothesis, term })
+}
+
+fn cut(alloc: Global, formula: &Formula) -> Result<Step, OutOfMemory>
+    ensures { IfOk result (λ copy. step_of copy ≡ S.Cut (formula_of formula.now)) }
+{
+    let formula = formula.try_clone(alloc)?;
+    Ok(Step::Cut { formula })
+}
+
+fn written(
+    alloc: Global,
+    column: &ColExpr,
+    index: &Term,
+    value: &Term,
+    other: &Term,
+) -> Result<Step, OutOfMemory>
+    ensures { IfOk result (λ copy. step_of copy ≡ S.Written (column_of column.now) (term_of index.now) (term_of value.now) (term_of other.now)) }
+{
+    Ok(Step::Written {
+        column: column.try_clone(alloc)?,
+        index: index.try_clone(alloc)?,
+        value: value.try_clone(alloc)?,
+        other: other.try_clone(alloc)?,
+    })
+}
+
+fn same(alloc: Global, column: &ColExpr, index: &Term, other: &Term) -> Result<Step, OutOfMemory>
+    ensures { IfOk result (λ copy. step_of copy ≡ S.Same (column_of column.now) (term_of index.now) (term_of other.now)) }
+{
+    Ok(Step::Same {
+        column: column.try_clone(alloc)?,
+        index: index.try_clone(alloc)?,
+        other: other.try_clone(alloc)?,
+    })
+}
+
+fn affine(alloc: Global, slope: i64, start: i64, index: &Term) -> Result<Step, OutOfMemory>
+    ensures { IfOk result (λ copy. step_of copy ≡ S.Affine slope start (term_of index.now)) }
+{
+    Ok(Step::Affine {
+        slope,
+        start,
+        index: index.try_clone(alloc)?,
+    })
+}
+
+fn divide(
+    alloc: Global,
+    hypothesis: i64,
+    divisor: i64,
+    quotient: &Formula,
+) -> Result<Step, OutOfMemory>
+    ensures { IfOk result (λ copy. step_of copy ≡ S.Divide hypothesis divisor (formula_of quotient.now)) }
+{
+    Ok(Step::Divide {
+        hypothesis,
+        divisor,
+        quotient: quotient.try_clone(alloc)?,
+    })
+}
+
+fn sum(alloc: Global, multiples: &[Multiple]) -> Result<Step, OutOfMemory>
+    ensures { IfOk result (λ copy. step_of copy ≡ S.Sum (map multiple_of multiples.now)) }
+{
+    let multiples = Vec::from_slice(alloc, multiples)?;
+    Ok(Step::Sum { multiples })
+}
 
 /// The same step, in memory of its own.
 fn copy_of_step(alloc: Global, step: &Step) -> Result<Step, OutOfMemory>
     ensures { IfOk result (λ copy. step_of copy ≡ step_of step.now) }
 {
-    match step {
-        Step::Split { hypothesis } => Ok(Step::Split {
-            hypothesis: *hypothesis,
-        }),
-        Step::Cases { hypothesis } => Ok(Step::Cases {
-            hypothesis: *hypothesis,
-        }),
-        Step::Push { hypothesis } => Ok(Step::Push {
-            hypothesis: *hypothesis,
-        }),
-        Step::Instantiate { hypothesis, term } => Ok(Step::Instantiate {
-            hypothesis: *hypothesis,
-            term: term.try_clone(alloc)?,
-        }),
-        Step::Fresh { hypothesis } => Ok(Step::Fresh {
-            hypothesis: *hypothesis,
-        }),
-        Step::Cut { formula } => Ok(Step::Cut {
-            formula: formula.try_clone(alloc)?,
-        }),
+    match *step {
+        Step::Split { hypothesis } => Ok(Step::Split { hypothesis }),
+        Step::Cases { hypothesis } => Ok(Step::Cases { hypothesis }),
+        Step::Push { hypothesis } => Ok(Step::Push { hypothesis }),
+        Step::Instantiate {
+            hypothesis,
+            ref term,
+        } => instantiated(alloc, hypothesis, term),
+        Step::Fresh { hypothesis } => Ok(Step::Fresh { hypothesis }),
+        Step::Cut { ref formula } => cut(alloc, formula),
         Step::Written {
-            column,
-            index,
-            value,
-            other,
-        } => Ok(Step::Written {
-            column: column.try_clone(alloc)?,
-            index: index.try_clone(alloc)?,
-            value: value.try_clone(alloc)?,
-            other: other.try_clone(alloc)?,
-        }),
+            ref column,
+            ref index,
+            ref value,
+            ref other,
+        } => written(alloc, column, index, value, other),
         Step::Same {
-            column,
-            index,
-            other,
-        } => Ok(Step::Same {
-            column: column.try_clone(alloc)?,
-            index: index.try_clone(alloc)?,
-            other: other.try_clone(alloc)?,
-        }),
+            ref column,
+            ref index,
+            ref other,
+        } => same(alloc, column, index, other),
         Step::Affine {
             slope,
             start,
-            index,
-        } => Ok(Step::Affine {
-            slope: *slope,
-            start: *start,
-            index: index.try_clone(alloc)?,
-        }),
-        Step::Trichotomy { hypothesis } => Ok(Step::Trichotomy {
-            hypothesis: *hypothesis,
-        }),
+            ref index,
+        } => affine(alloc, slope, start, index),
+        Step::Trichotomy { hypothesis } => Ok(Step::Trichotomy { hypothesis }),
         Step::Divide {
             hypothesis,
             divisor,
-            quotient,
-        } => Ok(Step::Divide {
-            hypothesis: *hypothesis,
-            divisor: *divisor,
-            quotient: quotient.try_clone(alloc)?,
-        }),
-        Step::Sum { multiples } => Ok(Step::Sum {
-            multiples: Vec::from_slice(alloc, multiples)?,
-        }),
+            ref quotient,
+        } => divide(alloc, hypothesis, divisor, quotient),
+        Step::Sum { ref multiples } => sum(alloc, multiples),
         Step::Opposite {
             hypothesis,
             negation,
         } => Ok(Step::Opposite {
-            hypothesis: *hypothesis,
-            negation: *negation,
+            hypothesis,
+            negation,
         }),
         Step::Open => Ok(Step::Open),
     }
 }
 
-/// The same proof, in memory of its own.
-#[cycle(copy_proof)]
-fn copy_of(alloc: Global, proof: &Proof) -> Result<Proof, OutOfMemory>
-    ensures { IfOk result (λ copy. proof_of copy ≡ proof_of proof.now) }
+/// Puts a proof behind others: the same step, with these branches. It stands apart from those who call one another, so that
+/// each level of a proof takes little of the stack.
+#[inline(never)]
+fn push_with_step(
+    alloc: Global,
+    copies: &mut Vec<Proof>,
+    step: &Step,
+    branches: Vec<Proof>,
+) -> Result<(), OutOfMemory>
+    ensures { OnOk result (proofs_of copies.new.items ≡ proofs_of copies.old.items ++ S.proof (step_of step.now) (S.proofs (proofs_of branches.items)) ∷ []) }
 {
-    let step = copy_of_step(alloc, &proof.step)?;
+    let step = copy_of_step(alloc, step)?;
+    copies.push(Proof { step, branches })?;
+    Ok(())
+}
+
+/// Puts the same proof behind others, in memory of its own.
+#[cycle(copy_proof)]
+fn push_copy(alloc: Global, proof: &Proof, copies: &mut Vec<Proof>) -> Result<(), OutOfMemory>
+    ensures { OnOk result (proofs_of copies.new.items ≡ proofs_of copies.old.items ++ proof_of proof.now ∷ []) }
+{
     let branches = copies_of(alloc, &proof.branches)?;
-    Ok(Proof { step, branches })
+    push_with_step(alloc, copies, &proof.step, branches)
 }
 
 /// The same proofs, in memory of their own.
@@ -102,7 +162,7 @@ fn copies_of(alloc: Global, proofs: &[Proof]) -> Result<Vec<Proof>, OutOfMemory>
 {
     let mut copies = Vec::with_capacity(alloc, proofs.len())?;
     for proof in proofs {
-        copies.push(copy_of(alloc, proof)?)?;
+        push_copy(alloc, proof, &mut copies)?;
     }
     Ok(copies)
 }
@@ -115,6 +175,8 @@ impl Proof {
     pub fn try_clone(&self, alloc: Global) -> Result<Proof, OutOfMemory>
         ensures { IfOk result (λ copy. proof_of copy ≡ proof_of self.now) }
     {
-        copy_of(alloc, self)
+        let step = copy_of_step(alloc, &self.step)?;
+        let branches = copies_of(alloc, &self.branches)?;
+        Ok(Proof { step, branches })
     }
 }

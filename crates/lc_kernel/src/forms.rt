@@ -1,6 +1,7 @@
 //! The forms that steps ask of hypotheses.
 ghost use Rattle.std.specs.Prelude.{◌≡◌, IfOk, [], ◌∷◌};
 ghost use Rattle.lc_kernel.specs.Answers.{FindsNumber, FindsIn, FindsSides, FindsExcess, MakesIn, MakesAllIn};
+ghost use Rattle.lc_kernel.specs.Settings.{IsSetting, numbers_at, hypotheses_at};
 ghost use Rattle.lc_kernel.specs.Table.{hypothesis, conjuncts, failing, alternatives, negations, less, pushed_inward, pushed, for_all, for_some, sides, apart, excess};
 ghost use Rattle.lc_kernel.specs.declared.reason.Reason.TheVariants.{NoHypothesis, WrongForm};
 ghost use Rattle.lc_term.specs.Syntax as T;
@@ -8,28 +9,33 @@ ghost use Rattle.lc_table.specs.Tables.{term_in, formula_in, formulas_in, IsTerm
 
 use crate::fault::StepFault;
 use crate::reason::{Flaw, Reason};
+use crate::setting::Setting;
 use lc_base::OutOfMemory;
 use lc_table::{FormulaId, FormulaNode, TermId, Terms};
 use std::alloc::Global;
 
-// Where a hypothesis stands.
-fn place_of(hypotheses: &[FormulaId], number: i64) -> Result<FormulaId, Flaw>
-    ensures { FindsNumber hypotheses.now number result }
+// The number of the hypothesis that stands at this place.
+fn place_of(setting: Setting<'_>, number: i64) -> Result<FormulaId, Flaw>
+    ensures { FindsNumber (numbers_at setting.entry) number result }
 {
-    let found = usize::try_from(number)
-        .ok()
-        .and_then(|index| hypotheses.get(index));
+    let Ok(place) = usize::try_from(number) else {
+        return Err(Flaw::Bad(Reason::NoHypothesis));
+    };
+    let found = match place.checked_sub(setting.given.len()) {
+        None => setting.given.get(place),
+        Some(behind) => setting.appended.get(behind),
+    };
     found.copied().ok_or(Flaw::Bad(Reason::NoHypothesis))
 }
 
 /// The hypothesis of a number.
 #[tactic(auto, using(crate::proofs::Numbered::number_found, crate::proofs::Numbered::number_missed))]
-pub(crate) fn find(terms: &Terms, hypotheses: &[FormulaId], number: i64) -> Result<FormulaId, Flaw>
-    requires { AreFormulas terms.now hypotheses.now }
-    ensures { FindsIn terms.now (hypothesis (formulas_in terms.now hypotheses.now) number) NoHypothesis result }
+pub(crate) fn find(terms: &Terms, setting: Setting<'_>, number: i64) -> Result<FormulaId, Flaw>
+    requires { IsSetting terms.now setting }
+    ensures { FindsIn terms.now (hypothesis (hypotheses_at terms.now setting.entry) number) NoHypothesis result }
 {
     let _ = terms;
-    place_of(hypotheses, number)
+    place_of(setting, number)
 }
 
 fn copied(alloc: Global, formulas: &[FormulaId]) -> Result<Vec<FormulaId>, OutOfMemory>

@@ -3,7 +3,8 @@ ghost use Rattle.std.specs.Prelude.{◌≡◌, ◌&&◌, IfOk};
 ghost use Rattle.lc_kernel.specs.Below.{all_below, formula_below};
 ghost use Rattle.lc_table.specs.Tables.{formula_in, formulas_in, IsFormula, AreFormulas};
 
-use crate::uses::{are_formulas_below, is_formula_below, nothing_known};
+use crate::hypotheses::Hypotheses;
+use crate::uses::{InUse, are_formulas_below, is_formula_below, nothing_known};
 use lc_base::OutOfMemory;
 use lc_table::{FormulaId, Terms};
 use std::alloc::Global;
@@ -13,21 +14,26 @@ use std::alloc::Global;
 pub struct Goal {
     /// How many free variables there are: those with numbers below this.
     pub vars: u32,
-    pub hypotheses: Vec<FormulaId>,
+    pub hypotheses: Hypotheses,
     pub goal: FormulaId,
 }
 
 impl Goal {
     /// Whether each free variable of the hypotheses and of the goal is one of those that there are, as `prove` asks.
+    /// It looks at each hypothesis.
     pub fn uses_its_variables(&self, alloc: Global, terms: &Terms) -> Result<bool, OutOfMemory>
-        requires hypotheses { AreFormulas terms.now self.now.hypotheses.items }
+        requires hypotheses { AreFormulas terms.now self.now.hypotheses }
         requires goal { IsFormula terms.now self.now.goal }
-        ensures { IfOk result (λ yes'. yes' ≡ (all_below self.now.vars (formulas_in terms.now self.now.hypotheses.items) && formula_below self.now.vars (formula_in terms.now self.now.goal))) }
+        ensures { IfOk result (λ yes'. yes' ≡ (all_below self.now.vars (formulas_in terms.now self.now.hypotheses) && formula_below self.now.vars (formula_in terms.now self.now.goal))) }
     {
+        let in_use = InUse {
+            terms,
+            count: self.vars,
+        };
         let mut known = nothing_known(alloc);
-        if !are_formulas_below(terms, self.vars, &self.hypotheses, &mut known)? {
+        if !are_formulas_below(in_use, self.hypotheses.as_slice(), &mut known)? {
             return Ok(false);
         }
-        is_formula_below(terms, self.vars, self.goal, &mut known)
+        is_formula_below(in_use, self.goal, &mut known)
     }
 }

@@ -41,19 +41,19 @@ pub(crate) fn count_branches(proofs: usize, branches: usize) -> Result<(), Flaw>
     }
 }
 
-/// Appends the formulas of a branch.
+/// The formulas of a branch, behind those that are appended.
 pub(crate) fn append_branch(
-    hypotheses: &mut Vec<FormulaId>,
+    appended: &mut Vec<FormulaId>,
     branches: &Branches,
     index: usize,
 ) -> Result<(), OutOfMemory>
     requires { index < branch_count branches.now }
-    ensures { OnOk result (hypotheses.new.items ≡ hypotheses.old.items ++ branch_at branches.now index) }
+    ensures { OnOk result (appended.new.items ≡ appended.old.items ++ branch_at branches.now index) }
 {
     match branches {
         Branches::Nothing => {}
-        Branches::One(formulas) => hypotheses.extend_from_slice(formulas)?,
-        Branches::Each(formulas) => hypotheses.push(formulas[index])?,
+        Branches::One(formulas) => appended.extend_from_slice(formulas)?,
+        Branches::Each(formulas) => appended.push(formulas[index])?,
     }
     Ok(())
 }

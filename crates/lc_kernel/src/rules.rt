@@ -1,6 +1,7 @@
 //! The rules, one function a step, each under the line of the table that it follows. Its tests come in the order of
 //! the reasons.
 ghost use Rattle.lc_kernel.specs.Answers.{StepMeets};
+ghost use Rattle.lc_kernel.specs.Settings.{IsSetting};
 ghost use Rattle.lc_kernel.specs.Table.{less};
 ghost use Rattle.lc_kernel.specs.Proofs as S;
 ghost use Rattle.std.specs.Prelude.{◌≡◌, ◌+◌, ◌<◌, ◌^◌, [], ◌∷◌, IfOk, IsTrue};
@@ -9,6 +10,7 @@ ghost use Rattle.lc_term.specs.Equal.{formula_eq};
 ghost use Rattle.lc_term.specs.Places.{is_closed};
 ghost use Rattle.lc_term.specs.Substitution.{instantiated};
 ghost use Rattle.lc_term.specs.Syntax as T;
+ghost use Rattle.lc_table.specs.NodeTables.{Table};
 ghost use Rattle.lc_table.specs.Tables.{term_in, formula_in, formulas_in, IsTerm, IsFormula, AreFormulas, HasTerm, HasColumn, HasFormula, Keeps};
 ghost use Rattle.lc_term.specs.View.{term_of, column_of, formula_of};
 
@@ -17,6 +19,7 @@ use crate::fault::StepFault;
 use crate::forms::{alternatives, apart, conjuncts, find, for_all, for_some, less, pair, pushed};
 use crate::opened::{Branches, Opened, appending, count_branches};
 use crate::reason::{Flaw, Reason};
+use crate::setting::Setting;
 use lc_array::{affine_axiom, same_index_axiom, written_axiom};
 use lc_base::OutOfMemory;
 use lc_table::{ColExprId, FormulaId, FormulaNode, TermId, Terms};
@@ -27,19 +30,17 @@ use std::alloc::Global;
 pub(crate) fn split(
     alloc: Global,
     terms: &Terms,
-    hypotheses: &[FormulaId],
-    variables: u32,
-    proofs: usize,
+    setting: Setting<'_>,
     hypothesis: i64,
 ) -> Result<Opened, StepFault>
-    requires { AreFormulas terms.now hypotheses.now }
-    ensures { StepMeets terms.now terms.now variables hypotheses.now proofs (S.Split hypothesis) result }
+    requires { IsSetting terms.now setting }
+    ensures { StepMeets terms.now terms.now setting.entry (S.Split hypothesis) result }
 {
-    let formula = find(terms, hypotheses, hypothesis)?;
+    let formula = find(terms, setting, hypothesis)?;
     let parts = conjuncts(alloc, terms, formula)?;
-    count_branches(proofs, 1)?;
+    count_branches(setting.proofs, 1)?;
     Ok(Opened {
-        variables,
+        variables: setting.variables,
         branches: Branches::One(parts),
     })
 }
@@ -50,20 +51,18 @@ pub(crate) fn split(
 pub(crate) fn cases(
     alloc: Global,
     terms: &mut Terms,
-    hypotheses: &[FormulaId],
-    variables: u32,
-    proofs: usize,
+    setting: Setting<'_>,
     hypothesis: i64,
 ) -> Result<Opened, StepFault>
-    requires { AreFormulas terms.old hypotheses.now }
+    requires { IsSetting terms.old setting }
     ensures kept { Keeps terms.old terms.new }
-    ensures step { StepMeets terms.old terms.new variables hypotheses.now proofs (S.Cases hypothesis) result }
+    ensures step { StepMeets terms.old terms.new setting.entry (S.Cases hypothesis) result }
 {
-    let formula = find(terms, hypotheses, hypothesis)?;
+    let formula = find(terms, setting, hypothesis)?;
     let parts = alternatives(alloc, terms, formula)?;
-    count_branches(proofs, parts.len())?;
+    count_branches(setting.proofs, parts.len())?;
     Ok(Opened {
-        variables,
+        variables: setting.variables,
         branches: Branches::Each(parts),
     })
 }
@@ -73,19 +72,17 @@ pub(crate) fn cases(
 pub(crate) fn push(
     alloc: Global,
     terms: &mut Terms,
-    hypotheses: &[FormulaId],
-    variables: u32,
-    proofs: usize,
+    setting: Setting<'_>,
     hypothesis: i64,
 ) -> Result<Opened, StepFault>
-    requires { AreFormulas terms.old hypotheses.now }
+    requires { IsSetting terms.old setting }
     ensures kept { Keeps terms.old terms.new }
-    ensures step { StepMeets terms.old terms.new variables hypotheses.now proofs (S.Push hypothesis) result }
+    ensures step { StepMeets terms.old terms.new setting.entry (S.Push hypothesis) result }
 {
-    let formula = find(terms, hypotheses, hypothesis)?;
+    let formula = find(terms, setting, hypothesis)?;
     let formula = pushed(alloc, terms, formula)?;
-    count_branches(proofs, 1)?;
-    Ok(appending(alloc, terms, variables, formula)?)
+    count_branches(setting.proofs, 1)?;
+    Ok(appending(alloc, terms, setting.variables, formula)?)
 }
 
 /// The body of a quantifier where its variable is a term.
@@ -111,23 +108,21 @@ fn with_term(
 pub(crate) fn instantiated(
     alloc: Global,
     terms: &mut Terms,
-    hypotheses: &[FormulaId],
-    variables: u32,
-    proofs: usize,
+    setting: Setting<'_>,
     hypothesis: i64,
     term: &Term,
 ) -> Result<Opened, StepFault>
-    requires { AreFormulas terms.old hypotheses.now }
+    requires { IsSetting terms.old setting }
     ensures kept { Keeps terms.old terms.new }
-    ensures step { StepMeets terms.old terms.new variables hypotheses.now proofs (S.Instantiate hypothesis (term_of term.now)) result }
+    ensures step { StepMeets terms.old terms.new setting.entry (S.Instantiate hypothesis (term_of term.now)) result }
 {
-    let body = for_all(terms, find(terms, hypotheses, hypothesis)?)?;
-    count_branches(proofs, 1)?;
-    if !(term_below(variables, term) && is_closed(term)) {
+    let body = for_all(terms, find(terms, setting, hypothesis)?)?;
+    count_branches(setting.proofs, 1)?;
+    if !(term_below(setting.variables, term) && is_closed(term)) {
         return Err(StepFault::Flawed(Flaw::Bad(Reason::VariableNotInUse)));
     }
     let formula = with_term(alloc, terms, body, term)?;
-    Ok(appending(alloc, terms, variables, formula)?)
+    Ok(appending(alloc, terms, setting.variables, formula)?)
 }
 
 /// `(fresh h P)`: of `(exists x F)` one branch, with F where x is a new variable. Its number is the count of
@@ -136,21 +131,19 @@ pub(crate) fn instantiated(
 pub(crate) fn fresh(
     alloc: Global,
     terms: &mut Terms,
-    hypotheses: &[FormulaId],
-    variables: u32,
-    proofs: usize,
+    setting: Setting<'_>,
     hypothesis: i64,
 ) -> Result<Opened, StepFault>
-    requires numbers { AreFormulas terms.old hypotheses.now }
-    requires variables { variables + 1 < 2 ^ 32 }
+    requires numbers { IsSetting terms.old setting }
+    requires variables { setting.variables + 1 < 2 ^ 32 }
     ensures kept { Keeps terms.old terms.new }
-    ensures step { StepMeets terms.old terms.new variables hypotheses.now proofs (S.Fresh hypothesis) result }
+    ensures step { StepMeets terms.old terms.new setting.entry (S.Fresh hypothesis) result }
 {
-    let body = for_some(terms, find(terms, hypotheses, hypothesis)?)?;
-    count_branches(proofs, 1)?;
-    let witness = Term::Variable(variables);
+    let body = for_some(terms, find(terms, setting, hypothesis)?)?;
+    count_branches(setting.proofs, 1)?;
+    let witness = Term::Variable(setting.variables);
     let formula = with_term(alloc, terms, body, &witness)?;
-    Ok(appending(alloc, terms, variables + 1, formula)?)
+    Ok(appending(alloc, terms, setting.variables + 1, formula)?)
 }
 
 /// `(not F)` and `F`.
@@ -174,21 +167,19 @@ fn both_ways(
 pub(crate) fn cut(
     alloc: Global,
     terms: &mut Terms,
-    hypotheses: &[FormulaId],
-    variables: u32,
-    proofs: usize,
+    setting: Setting<'_>,
     formula: &Formula,
 ) -> Result<Opened, StepFault>
     ensures kept { Keeps terms.old terms.new }
-    ensures step { StepMeets terms.old terms.new variables hypotheses.now proofs (S.Cut (formula_of formula.now)) result }
+    ensures step { StepMeets terms.old terms.new setting.entry (S.Cut (formula_of formula.now)) result }
 {
-    count_branches(proofs, 2)?;
-    if !formula_below(variables, formula) {
+    count_branches(setting.proofs, 2)?;
+    if !formula_below(setting.variables, formula) {
         return Err(StepFault::Flawed(Flaw::Bad(Reason::VariableNotInUse)));
     }
     let both = both_ways(alloc, terms, formula)?;
     Ok(Opened {
-        variables,
+        variables: setting.variables,
         branches: Branches::Each(both),
     })
 }
@@ -277,27 +268,25 @@ fn affine_formula(
 pub(crate) fn written(
     alloc: Global,
     terms: &mut Terms,
-    hypotheses: &[FormulaId],
-    variables: u32,
-    proofs: usize,
+    setting: Setting<'_>,
     column: &ColExpr,
     index: &Term,
     value: &Term,
     other: &Term,
 ) -> Result<Opened, StepFault>
     ensures kept { Keeps terms.old terms.new }
-    ensures step { StepMeets terms.old terms.new variables hypotheses.now proofs (S.Written (column_of column.now) (term_of index.now) (term_of value.now) (term_of other.now)) result }
+    ensures step { StepMeets terms.old terms.new setting.entry (S.Written (column_of column.now) (term_of index.now) (term_of value.now) (term_of other.now)) result }
 {
-    count_branches(proofs, 1)?;
-    if !(column_below(variables, column)
-        && term_below(variables, index)
-        && term_below(variables, value)
-        && term_below(variables, other))
+    count_branches(setting.proofs, 1)?;
+    if !(column_below(setting.variables, column)
+        && term_below(setting.variables, index)
+        && term_below(setting.variables, value)
+        && term_below(setting.variables, other))
     {
         return Err(StepFault::Flawed(Flaw::Bad(Reason::VariableNotInUse)));
     }
     let formula = written_formula(alloc, terms, column, index, value, other)?;
-    Ok(appending(alloc, terms, variables, formula)?)
+    Ok(appending(alloc, terms, setting.variables, formula)?)
 }
 
 /// `(same C i j P)`: one branch, with the axiom of equal indexes.
@@ -305,25 +294,23 @@ pub(crate) fn written(
 pub(crate) fn same(
     alloc: Global,
     terms: &mut Terms,
-    hypotheses: &[FormulaId],
-    variables: u32,
-    proofs: usize,
+    setting: Setting<'_>,
     column: &ColExpr,
     index: &Term,
     other: &Term,
 ) -> Result<Opened, StepFault>
     ensures kept { Keeps terms.old terms.new }
-    ensures step { StepMeets terms.old terms.new variables hypotheses.now proofs (S.Same (column_of column.now) (term_of index.now) (term_of other.now)) result }
+    ensures step { StepMeets terms.old terms.new setting.entry (S.Same (column_of column.now) (term_of index.now) (term_of other.now)) result }
 {
-    count_branches(proofs, 1)?;
-    if !(column_below(variables, column)
-        && term_below(variables, index)
-        && term_below(variables, other))
+    count_branches(setting.proofs, 1)?;
+    if !(column_below(setting.variables, column)
+        && term_below(setting.variables, index)
+        && term_below(setting.variables, other))
     {
         return Err(StepFault::Flawed(Flaw::Bad(Reason::VariableNotInUse)));
     }
     let formula = same_formula(alloc, terms, column, index, other)?;
-    Ok(appending(alloc, terms, variables, formula)?)
+    Ok(appending(alloc, terms, setting.variables, formula)?)
 }
 
 /// `(affine a b i P)`: one branch, with the axiom of the column that has `a * i + b` at i.
@@ -331,22 +318,20 @@ pub(crate) fn same(
 pub(crate) fn affine(
     alloc: Global,
     terms: &mut Terms,
-    hypotheses: &[FormulaId],
-    variables: u32,
-    proofs: usize,
+    setting: Setting<'_>,
     slope: i64,
     start: i64,
     index: &Term,
 ) -> Result<Opened, StepFault>
     ensures kept { Keeps terms.old terms.new }
-    ensures step { StepMeets terms.old terms.new variables hypotheses.now proofs (S.Affine slope start (term_of index.now)) result }
+    ensures step { StepMeets terms.old terms.new setting.entry (S.Affine slope start (term_of index.now)) result }
 {
-    count_branches(proofs, 1)?;
-    if !term_below(variables, index) {
+    count_branches(setting.proofs, 1)?;
+    if !term_below(setting.variables, index) {
         return Err(StepFault::Flawed(Flaw::Bad(Reason::VariableNotInUse)));
     }
     let formula = affine_formula(terms, slope, start, index)?;
-    Ok(appending(alloc, terms, variables, formula)?)
+    Ok(appending(alloc, terms, setting.variables, formula)?)
 }
 
 /// Both orders of two terms: the first is less, the second is less.
@@ -373,20 +358,18 @@ fn both_orders(
 pub(crate) fn trichotomy(
     alloc: Global,
     terms: &mut Terms,
-    hypotheses: &[FormulaId],
-    variables: u32,
-    proofs: usize,
+    setting: Setting<'_>,
     hypothesis: i64,
 ) -> Result<Opened, StepFault>
-    requires { AreFormulas terms.old hypotheses.now }
+    requires { IsSetting terms.old setting }
     ensures kept { Keeps terms.old terms.new }
-    ensures step { StepMeets terms.old terms.new variables hypotheses.now proofs (S.Trichotomy hypothesis) result }
+    ensures step { StepMeets terms.old terms.new setting.entry (S.Trichotomy hypothesis) result }
 {
-    let (left, right) = apart(terms, find(terms, hypotheses, hypothesis)?)?;
-    count_branches(proofs, 2)?;
+    let (left, right) = apart(terms, find(terms, setting, hypothesis)?)?;
+    count_branches(setting.proofs, 2)?;
     let both = both_orders(alloc, terms, left, right)?;
     Ok(Opened {
-        variables,
+        variables: setting.variables,
         branches: Branches::Each(both),
     })
 }
@@ -394,25 +377,31 @@ pub(crate) fn trichotomy(
 /// `(opposite h g)`: no branch; g is the negation of h. Only after this are the branches counted.
 pub(crate) fn opposite(
     terms: &Terms,
-    hypotheses: &[FormulaId],
-    variables: u32,
-    proofs: usize,
+    setting: Setting<'_>,
     hypothesis: i64,
     negation: i64,
 ) -> Result<Opened, StepFault>
-    requires { AreFormulas terms.now hypotheses.now }
-    ensures { StepMeets terms.now terms.now variables hypotheses.now proofs (S.Opposite hypothesis negation) result }
+    requires { IsSetting terms.now setting }
+    ensures { StepMeets terms.now terms.now setting.entry (S.Opposite hypothesis negation) result }
 {
-    let formula = find(terms, hypotheses, hypothesis)?;
-    let negated = find(terms, hypotheses, negation)?;
+    let formula = find(terms, setting, hypothesis)?;
+    let negated = find(terms, setting, negation)?;
     if !is_negation(terms, negated, formula) {
         return Err(StepFault::Flawed(Flaw::Bad(Reason::NotOpposite)));
     }
-    count_branches(proofs, 0)?;
+    count_branches(setting.proofs, 0)?;
     Ok(Opened {
-        variables,
+        variables: setting.variables,
         branches: Branches::Nothing,
     })
+}
+
+/// `(open)`: never holds. Only where no proof stands below it is that what is wrong with it.
+pub(crate) fn left_open(setting: Setting<'_>) -> Result<Opened, StepFault>
+    ensures { (ts : Table) → StepMeets ts ts setting.entry S.Open result }
+{
+    count_branches(setting.proofs, 0)?;
+    Err(StepFault::Flawed(Flaw::Bad(Reason::IsOpen)))
 }
 
 fn is_negation(terms: &Terms, negation: FormulaId, formula: FormulaId) -> bool

@@ -12,6 +12,13 @@ use lc_base::OutOfMemory;
 use lc_table::{ColExprId, FormulaId, FormulaNode, TermId, TermNode, Terms};
 use std::alloc::Global;
 
+/// A table, and how many of its trees' free variables are in use: those with numbers below this.
+#[derive(Clone, Copy)]
+pub(crate) struct InUse<'a> {
+    pub(crate) terms: &'a Terms,
+    pub(crate) count: u32,
+}
+
 // What is known to have its variables below the count.
 pub(crate) struct KnownBelow {
     terms: IndexSet<TermId>,
@@ -41,20 +48,19 @@ pub(crate) fn nothing_known(alloc: Global) -> KnownBelow
 
 #[cycle(is_term_below)]
 fn is_term_below(
-    terms: &Terms,
-    count: u32,
+    in_use: InUse<'_>,
     term: TermId,
     known: &mut KnownBelow,
 ) -> Result<bool, OutOfMemory>
-    requires there { IsTerm terms.now term }
-    requires known { AreBelow count terms.now known.old }
-    ensures below { IfOk result (λ yes'. yes' ≡ term_below count (term_in terms.now term)) }
-    ensures known { OnOk result (AreBelow count terms.now known.new) }
+    requires there { IsTerm in_use.terms.now term }
+    requires known { AreBelow in_use.count in_use.terms.now known.old }
+    ensures below { IfOk result (λ yes'. yes' ≡ term_below in_use.entry.count (term_in in_use.entry.terms.now term)) }
+    ensures known { OnOk result (AreBelow in_use.entry.count in_use.entry.terms.now known.new) }
 {
     if known.terms.contains(&term) {
         return Ok(true);
     }
-    let is_below = is_term_node_below(terms, count, term, known)?;
+    let is_below = is_term_node_below(in_use, term, known)?;
     if is_below {
         known.terms.insert(term)?;
     }
@@ -63,28 +69,26 @@ fn is_term_below(
 
 #[cycle(is_term_below)]
 fn is_term_node_below(
-    terms: &Terms,
-    count: u32,
+    in_use: InUse<'_>,
     term: TermId,
     known: &mut KnownBelow,
 ) -> Result<bool, OutOfMemory>
-    requires there { IsTerm terms.now term }
-    requires known { AreBelow count terms.now known.old }
-    ensures below { IfOk result (λ yes'. yes' ≡ term_below count (term_in terms.now term)) }
-    ensures known { OnOk result (AreBelow count terms.now known.new) }
+    requires { IsTerm in_use.terms.now term × AreBelow in_use.count in_use.terms.now known.old }
+    ensures below { IfOk result (λ yes'. yes' ≡ term_below in_use.entry.count (term_in in_use.entry.terms.now term)) }
+    ensures known { OnOk result (AreBelow in_use.entry.count in_use.entry.terms.now known.new) }
 {
-    match terms.term_node(term) {
+    match in_use.terms.term_node(term) {
         TermNode::Number(_) | TermNode::Bound(_) => Ok(true),
-        TermNode::Variable(number) => Ok(number < count),
+        TermNode::Variable(number) => Ok(number < in_use.count),
         TermNode::Add(left, right) | TermNode::Subtract(left, right) => {
-            are_both_below(terms, count, left, right, known)
+            are_both_below(in_use, left, right, known)
         }
-        TermNode::Multiply(_, term) => is_term_below(terms, count, term, known),
+        TermNode::Multiply(_, term) => is_term_below(in_use, term, known),
         TermNode::Read(column, index) => {
-            if !is_column_below(terms, count, column, known)? {
+            if !is_column_below(in_use, column, known)? {
                 return Ok(false);
             }
-            is_term_below(terms, count, index, known)
+            is_term_below(in_use, index, known)
         }
         TermNode::Base(_) | TermNode::Store(_, _, _) | TermNode::Affine(_, _) => unreachable!(),
     }
@@ -92,39 +96,37 @@ fn is_term_node_below(
 
 #[cycle(is_term_below)]
 fn are_both_below(
-    terms: &Terms,
-    count: u32,
+    in_use: InUse<'_>,
     left: TermId,
     right: TermId,
     known: &mut KnownBelow,
 ) -> Result<bool, OutOfMemory>
-    requires left { IsTerm terms.now left }
-    requires right { IsTerm terms.now right }
-    requires known { AreBelow count terms.now known.old }
-    ensures below { IfOk result (λ yes'. yes' ≡ (term_below count (term_in terms.now left) && term_below count (term_in terms.now right))) }
-    ensures known { OnOk result (AreBelow count terms.now known.new) }
+    requires left { IsTerm in_use.terms.now left }
+    requires right { IsTerm in_use.terms.now right }
+    requires known { AreBelow in_use.count in_use.terms.now known.old }
+    ensures below { IfOk result (λ yes'. yes' ≡ (term_below in_use.entry.count (term_in in_use.entry.terms.now left) && term_below in_use.entry.count (term_in in_use.entry.terms.now right))) }
+    ensures known { OnOk result (AreBelow in_use.entry.count in_use.entry.terms.now known.new) }
 {
-    if !is_term_below(terms, count, left, known)? {
+    if !is_term_below(in_use, left, known)? {
         return Ok(false);
     }
-    is_term_below(terms, count, right, known)
+    is_term_below(in_use, right, known)
 }
 
 #[cycle(is_term_below)]
 fn is_column_below(
-    terms: &Terms,
-    count: u32,
+    in_use: InUse<'_>,
     column: ColExprId,
     known: &mut KnownBelow,
 ) -> Result<bool, OutOfMemory>
-    requires there { IsColumn terms.now column }
-    requires known { AreBelow count terms.now known.old }
-    ensures below { IfOk result (λ yes'. yes' ≡ column_below count (column_in terms.now column)) }
-    ensures known { OnOk result (AreBelow count terms.now known.new) }
+    requires there { IsColumn in_use.terms.now column }
+    requires known { AreBelow in_use.count in_use.terms.now known.old }
+    ensures below { IfOk result (λ yes'. yes' ≡ column_below in_use.entry.count (column_in in_use.entry.terms.now column)) }
+    ensures known { OnOk result (AreBelow in_use.entry.count in_use.entry.terms.now known.new) }
 {
-    let mut stores = stores_not_known(terms, column, known)?;
+    let mut stores = stores_not_known(in_use.terms, column, known)?;
     'stores: while let Some(store) = stores.pop() {
-        let is_below = is_store_below(terms, count, store, known)?;
+        let is_below = is_store_below(in_use, store, known)?;
         if !is_below {
             return Ok(false);
         }
@@ -165,21 +167,20 @@ fn stores_not_known(
 #[cycle(is_term_below)]
 #[tactic(auto, using(crate::proofs::Stores::store_below))]
 fn is_store_below(
-    terms: &Terms,
-    count: u32,
+    in_use: InUse<'_>,
     store: ColExprId,
     known: &mut KnownBelow,
 ) -> Result<bool, OutOfMemory>
-    requires there { IsColumn terms.now store }
-    requires store { is_store (column_in terms.now store) ≡ true }
-    requires below { column_below count (stored_to (column_in terms.now store)) ≡ true }
-    requires known { AreBelow count terms.now known.old }
-    ensures below { IfOk result (λ yes'. yes' ≡ column_below count (column_in terms.now store)) }
-    ensures known { OnOk result (AreBelow count terms.now known.new) }
+    requires there { IsColumn in_use.terms.now store }
+    requires store { is_store (column_in in_use.terms.now store) ≡ true }
+    requires below { column_below in_use.count (stored_to (column_in in_use.terms.now store)) ≡ true }
+    requires known { AreBelow in_use.count in_use.terms.now known.old }
+    ensures below { IfOk result (λ yes'. yes' ≡ column_below in_use.entry.count (column_in in_use.entry.terms.now store)) }
+    ensures known { OnOk result (AreBelow in_use.entry.count in_use.entry.terms.now known.new) }
 {
-    match terms.column_node(store) {
+    match in_use.terms.column_node(store) {
         TermNode::Store(_, index, value) => {
-            let is_below = are_both_below(terms, count, index, value, known)?;
+            let is_below = are_both_below(in_use, index, value, known)?;
             if is_below {
                 known.columns.insert(store)?;
             }
@@ -192,20 +193,19 @@ fn is_store_below(
 /// Whether each free variable of a formula has a number below the count.
 #[cycle(is_formula_below)]
 pub(crate) fn is_formula_below(
-    terms: &Terms,
-    count: u32,
+    in_use: InUse<'_>,
     formula: FormulaId,
     known: &mut KnownBelow,
 ) -> Result<bool, OutOfMemory>
-    requires there { IsFormula terms.now formula }
-    requires known { AreBelow count terms.now known.old }
-    ensures below { IfOk result (λ yes'. yes' ≡ formula_below count (formula_in terms.now formula)) }
-    ensures known { OnOk result (AreBelow count terms.now known.new) }
+    requires there { IsFormula in_use.terms.now formula }
+    requires known { AreBelow in_use.count in_use.terms.now known.old }
+    ensures below { IfOk result (λ yes'. yes' ≡ formula_below in_use.entry.count (formula_in in_use.entry.terms.now formula)) }
+    ensures known { OnOk result (AreBelow in_use.entry.count in_use.entry.terms.now known.new) }
 {
     if known.formulas.contains(&formula) {
         return Ok(true);
     }
-    let is_below = is_formula_node_below(terms, count, formula, known)?;
+    let is_below = is_formula_node_below(in_use, formula, known)?;
     if is_below {
         known.formulas.insert(formula)?;
     }
@@ -214,32 +214,30 @@ pub(crate) fn is_formula_below(
 
 #[cycle(is_formula_below)]
 fn is_formula_node_below(
-    terms: &Terms,
-    count: u32,
+    in_use: InUse<'_>,
     formula: FormulaId,
     known: &mut KnownBelow,
 ) -> Result<bool, OutOfMemory>
-    requires there { IsFormula terms.now formula }
-    requires known { AreBelow count terms.now known.old }
-    ensures below { IfOk result (λ yes'. yes' ≡ formula_below count (formula_in terms.now formula)) }
-    ensures known { OnOk result (AreBelow count terms.now known.new) }
+    requires { IsFormula in_use.terms.now formula × AreBelow in_use.count in_use.terms.now known.old }
+    ensures below { IfOk result (λ yes'. yes' ≡ formula_below in_use.entry.count (formula_in in_use.entry.terms.now formula)) }
+    ensures known { OnOk result (AreBelow in_use.entry.count in_use.entry.terms.now known.new) }
 {
-    match terms.formula_node(formula) {
+    match in_use.terms.formula_node(formula) {
         FormulaNode::Le(left, right) | FormulaNode::Eq(left, right) => {
-            are_both_below(terms, count, *left, *right, known)
+            are_both_below(in_use, *left, *right, known)
         }
-        FormulaNode::Not(formula) => is_formula_below(terms, count, *formula, known),
+        FormulaNode::Not(formula) => is_formula_below(in_use, *formula, known),
         FormulaNode::And(parts) | FormulaNode::Or(parts) => {
-            are_formulas_below(terms, count, parts, known)
+            are_formulas_below(in_use, parts, known)
         }
         FormulaNode::Implies(left, right) => {
-            if !is_formula_below(terms, count, *left, known)? {
+            if !is_formula_below(in_use, *left, known)? {
                 return Ok(false);
             }
-            is_formula_below(terms, count, *right, known)
+            is_formula_below(in_use, *right, known)
         }
         FormulaNode::Forall(body) | FormulaNode::Exists(body) => {
-            is_formula_below(terms, count, *body, known)
+            is_formula_below(in_use, *body, known)
         }
     }
 }
@@ -247,18 +245,17 @@ fn is_formula_node_below(
 /// Whether each free variable of each formula of a list has a number below the count.
 #[cycle(is_formula_below)]
 pub(crate) fn are_formulas_below(
-    terms: &Terms,
-    count: u32,
+    in_use: InUse<'_>,
     formulas: &[FormulaId],
     known: &mut KnownBelow,
 ) -> Result<bool, OutOfMemory>
-    requires there { AreFormulas terms.now formulas.now }
-    requires known { AreBelow count terms.now known.old }
-    ensures below { IfOk result (λ yes'. yes' ≡ all_below count (formulas_in terms.now formulas.now)) }
-    ensures known { OnOk result (AreBelow count terms.now known.new) }
+    requires there { AreFormulas in_use.terms.now formulas.now }
+    requires known { AreBelow in_use.count in_use.terms.now known.old }
+    ensures below { IfOk result (λ yes'. yes' ≡ all_below in_use.entry.count (formulas_in in_use.entry.terms.now formulas.now)) }
+    ensures known { OnOk result (AreBelow in_use.entry.count in_use.entry.terms.now known.new) }
 {
     for formula in formulas {
-        if !is_formula_below(terms, count, *formula, known)? {
+        if !is_formula_below(in_use, *formula, known)? {
             return Ok(false);
         }
     }

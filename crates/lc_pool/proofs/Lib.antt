@@ -1,0 +1,5 @@
+mod Frames
+mod Known
+mod Desks
+mod Verdicts
+mod Crossing

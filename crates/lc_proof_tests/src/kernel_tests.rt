@@ -54,7 +54,7 @@ fn laws_have_no_effect() {
 fn asks_for_equality(alloc: Global, file: &FormulaFile) -> Result<bool, OutOfMemory>
     requires { AreEntered file.now }
 {
-    let counts = (file.goal.vars == 2) & (file.goal.hypotheses.len() == 2);
+    let counts = (file.goal.vars == 2) & (file.goal.hypotheses.as_slice().len() == 2);
     let goal = file.terms.formula(alloc, file.goal.goal)?;
     Ok(counts & matches!(&goal, Formula::Eq(Term::Variable(0), Term::Variable(1))))
 }

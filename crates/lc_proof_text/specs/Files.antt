@@ -36,14 +36,14 @@ abbrev pub claim_in : FormulaFile → Claim
 claim_in file =
     record {
       variables = file.goal.vars;
-      hypotheses = formulas (formulas_in file.terms file.goal.hypotheses.items);
+      hypotheses = formulas (formulas_in file.terms file.goal.hypotheses);
       goal = formula_in file.terms file.goal.goal;
       proof = proof_of file.proof;
     }
 
 -- the table has a formula for each number in the goal
 abbrev pub AreEntered : FormulaFile → Type 0
-AreEntered file = AreFormulas file.terms file.goal.hypotheses.items × IsFormula file.terms file.goal.goal
+AreEntered file = AreFormulas file.terms file.goal.hypotheses × IsFormula file.terms file.goal.goal
 
 -- hypotheses and a goal, as they are seen
 abbrev pub seen_statement : Vec SeenFormula Global × SeenFormula → Formulas × Formula

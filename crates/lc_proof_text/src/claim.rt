@@ -3,7 +3,7 @@ ghost use Rattle.std.specs.Prelude.{◌≡◌, IfOk};
 ghost use Rattle.lc_proof_text.specs.Files.{seen_claim, claim_in, AreEntered};
 
 use lc_base::OutOfMemory;
-use lc_kernel::{Goal, Proof};
+use lc_kernel::{Goal, Hypotheses, Proof};
 use lc_table::Terms;
 use lc_term::Formula;
 use std::alloc::Global;
@@ -48,8 +48,9 @@ pub(crate) fn entered(alloc: Global, claim: ClaimTrees) -> Result<FormulaFile, O
         proof,
     } = claim;
     let mut terms = Terms::new(alloc);
-    let hypotheses = terms.enter_formulas(alloc, &hypotheses)?;
+    let formulas = terms.enter_formulas(alloc, &hypotheses)?;
     let goal = terms.enter_formula(alloc, &goal)?;
+    let hypotheses = Hypotheses::new(formulas)?;
     let goal = Goal {
         vars: variables,
         hypotheses,

@@ -158,7 +158,7 @@ pub fn formula_in(alloc: Global, forms: Forms) -> Result<FormulaFile, Fault>
     requires { (bytes : List ℕ) × ReadsAs bytes forms }
     ensures answer { (bytes : List ℕ) → ReadsAs bytes forms → IsAnswerTo claim_in file_reading bytes result }
     ensures numbers { IfOk result AreEntered }
-    ensures hypotheses { IfOk result (λ file. IsTrue (all_below file.goal.vars (formulas_in file.terms file.goal.hypotheses.items))) }
+    ensures hypotheses { IfOk result (λ file. IsTrue (all_below file.goal.vars (formulas_in file.terms file.goal.hypotheses))) }
     ensures goal { IfOk result (λ file. IsTrue (formula_below file.goal.vars (formula_in file.terms file.goal.goal))) }
     ensures steps { IfOk result (λ file. file.goal.vars + size (proof_of file.proof) < 2 ^ 32) }
 {
@@ -175,7 +175,7 @@ pub fn formula_in(alloc: Global, forms: Forms) -> Result<FormulaFile, Fault>
 pub fn formula_of(alloc: Global, bytes: &[u8]) -> Result<FormulaFile, Fault>
     ensures answer { IsAnswerTo claim_in file_reading bytes.now result }
     ensures numbers { IfOk result AreEntered }
-    ensures hypotheses { IfOk result (λ file. IsTrue (all_below file.goal.vars (formulas_in file.terms file.goal.hypotheses.items))) }
+    ensures hypotheses { IfOk result (λ file. IsTrue (all_below file.goal.vars (formulas_in file.terms file.goal.hypotheses))) }
     ensures goal { IfOk result (λ file. IsTrue (formula_below file.goal.vars (formula_in file.terms file.goal.goal))) }
     ensures steps { IfOk result (λ file. file.goal.vars + size (proof_of file.proof) < 2 ^ 32) }
 {

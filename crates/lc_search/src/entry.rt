@@ -50,7 +50,7 @@ pub fn search(
     cuts: &[Formula],
     budget: u64,
 ) -> Result<Searched, OutOfMemory>
-    requires hypotheses { AreFormulas terms.now goal.now.hypotheses.items }
+    requires hypotheses { AreFormulas terms.now goal.now.hypotheses }
     requires goal { IsFormula terms.now goal.now.goal }
 {
     let variables = goal.vars;
@@ -79,7 +79,7 @@ fn begun(
     uses: &[Term],
     cuts: &[Formula],
 ) -> Result<End, Stop>
-    requires hypotheses { AreFormulas terms.now goal.now.hypotheses.items }
+    requires hypotheses { AreFormulas terms.now goal.now.hypotheses }
     requires goal { IsFormula terms.now goal.now.goal }
 {
     search.known.tick()?;
@@ -93,7 +93,7 @@ fn begun(
     match found {
         Some(proof) => {
             let proof = search.known.wrap(mark.steps, proof)?;
-            let count = goal.hypotheses.len();
+            let count = goal.hypotheses.as_slice().len();
             Ok(End::Found(written(&search.known, proof, count, goal.vars)?))
         }
         None => Ok(End::NotFound(counter_model(search)?)),
@@ -114,12 +114,12 @@ fn entered_formula(
 
 /// The facts at the start, near ones first: the negated goal, whose number is behind those of the hypotheses, then these.
 fn entered(search: &mut Search, terms: &Terms, goal: &Goal) -> Result<Vec<FactId>, Stop>
-    requires hypotheses { AreFormulas terms.now goal.now.hypotheses.items }
+    requires hypotheses { AreFormulas terms.now goal.now.hypotheses }
     requires goal { IsFormula terms.now goal.now.goal }
 {
     let mut facts = Vec::new(search.known.alloc);
     let mut after = Vec::new(search.known.alloc);
-    for hypothesis in &goal.hypotheses {
+    for hypothesis in goal.hypotheses.as_slice() {
         let formula = entered_formula(search, terms, *hypothesis)?;
         let rank = rank_of(&search.known.nodes, formula)?;
         let fact = search.known.new_fact(formula, Place { rank, depth: 0 })?;
@@ -139,7 +139,7 @@ fn entered(search: &mut Search, terms: &Terms, goal: &Goal) -> Result<Vec<FactId
 
 /// The fact of the negated goal. Its variables are near ones, except the number of clients.
 fn entered_goal(search: &mut Search, terms: &Terms, goal: &Goal) -> Result<FactId, Stop>
-    requires hypotheses { AreFormulas terms.now goal.now.hypotheses.items }
+    requires hypotheses { AreFormulas terms.now goal.now.hypotheses }
     requires goal { IsFormula terms.now goal.now.goal }
 {
     let formula = entered_formula(search, terms, goal.goal)?;

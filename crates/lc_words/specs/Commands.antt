@@ -11,7 +11,7 @@ file_rule name = record (new_rule name) { action = Some Set; required = true }
 abbrev pub option_rule : Text → Rule
 option_rule name = record (new_rule name) { long = Some name; action = Some Set; value_names = 1 }
 
--- a required argument that names an object of the library
+-- a required argument that names an object
 abbrev pub object_rule : Text → Rule
 object_rule name = record (new_rule name) { action = Some Set; required = true }
 

@@ -136,7 +136,7 @@ fn carry_command<'a>(alloc: Global) -> Result<Command<'a>, AllocError>
         .arg(flag(alloc, "progress", PROGRESS))
 }
 
-/// An argument that names an object of the library.
+/// An argument that names an object.
 fn object<'a>(alloc: Global, name: &'a str, help: &'a str) -> Arg<'a>
     ensures rule { rule_of result ≡ object_rule name.entry.now }
     ensures local { result.global ≡ false }

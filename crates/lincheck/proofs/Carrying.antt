@@ -27,7 +27,7 @@ use Rattle.lc_outline_text.specs.Developments.{file_reading}
 use Rattle.lc_reading.proofs.Files.{says_not_refused, says_one}
 use Rattle.lc_reading.specs.Files.{Says}
 use Rattle.lincheck.specs.Answers.{ToldFault}
-use Rattle.lincheck.specs.Carry.{AnswersSought, AnswersWith, AnswersNew, AnswersProven, AnswersCarry, RefusesCertificate, OpensCertificate, OpensOld, IsCertified, hints_at, IsUnreadNew, IsUnreadCarry}
+use Rattle.lincheck.specs.Carry.{AnswersSought, AnswersWith, AnswersChanged, AnswersProven, AnswersCarry, RefusesCertificate, OpensCertificate, OpensOld, IsCertified, hints_at, IsUnreadNew, IsUnreadCarry}
 use Rattle.lincheck.specs.Check.{TellsRefusal}
 use Rattle.lc_words.specs.Tasks.{CheckCertificate, carrying}
 use Rattle.lincheck.specs.Execution.{AnswersTask, IsUnread}
@@ -116,13 +116,13 @@ same_hints before after (Some path) keeps = ap Some (keeps path)
 
 pub new_answered : (D : Development) (es : List Entry) (known : Option (List ℕ)) (hints hints' : Option (Option (List ℕ))) (E : Development) (result : Result Answer Failure) → IfSome known (λ file. Says file_reading file E)
     → hints' ≡ hints → IfOk result (λ answer. AnswersWith hints' E (carried D es E) answer.text.items answer.status)
-    → IfOk result (λ answer. IfSome known (λ file. AnswersNew (AnswersWith hints) D es file answer.text.items answer.status))
+    → IfOk result (λ answer. IfSome known (λ file. AnswersChanged (AnswersWith hints) D es file answer.text.items answer.status))
 new_answered D es None hints hints' E (Ok answer) says keeps h = tt
 new_answered D es (Some file) hints hints' E (Ok answer) says keeps h = inr (E, says, subst (λ x. AnswersWith x E (carried D es E) answer.text.items answer.status) keeps h)
 new_answered D es known hints hints' E (Err failure) says keeps h = tt
 
 pub new_refused : (D : Development) (es : List Entry) (known : Option (List ℕ)) (hints : Option (Option (List ℕ))) (answer : Answer) → IfSome known (λ file. TellsRefusal file answer.text.items answer.status)
-    → IfSome known (λ file. AnswersNew (AnswersWith hints) D es file answer.text.items answer.status)
+    → IfSome known (λ file. AnswersChanged (AnswersWith hints) D es file answer.text.items answer.status)
 new_refused D es None hints answer tells = tt
 new_refused D es (Some file) hints answer tells = inl tells
 
@@ -133,7 +133,7 @@ abbrev pub AnswersFiles : Option (Option (List ℕ)) → Option (List ℕ) → O
 AnswersFiles hints old certificate new text status = IfSome old (λ file. AnswersCarry (AnswersWith hints) file certificate new text status)
 
 carried_proven : (Answers : Development → List Entry → List ℕ → ℕ → Type 0) (certificate new new' : Option (List ℕ)) (D : Development) (old : Old) (text : List ℕ) (status : ℕ) → new' ≡ new
-    → IfSome certificate (λ file. OpensCertificate D file (Ok old)) → IfSome new' (λ file. AnswersNew Answers (development_in old.accepted) (entries_in old.certificate) file text status)
+    → IfSome certificate (λ file. OpensCertificate D file (Ok old)) → IfSome new' (λ file. AnswersChanged Answers (development_in old.accepted) (entries_in old.certificate) file text status)
     → IfSome certificate (λ file. AnswersProven Answers D file new text status)
 carried_proven Answers None new new' D old text status keeps opens h = tt
 carried_proven Answers (Some file) new new' D old text status keeps (same, certifies, proves) h =
@@ -141,11 +141,11 @@ carried_proven Answers (Some file) new new' D old text status keeps (same, certi
       entries_in old.certificate,
       certifies,
       proves,
-      subst (λ n. IfSome n (λ f. AnswersNew Answers D (entries_in old.certificate) f text status)) keeps (subst (λ d. IfSome new' (λ f. AnswersNew Answers d (entries_in old.certificate) f text status)) same h),
+      subst (λ n. IfSome n (λ f. AnswersChanged Answers D (entries_in old.certificate) f text status)) keeps (subst (λ d. IfSome new' (λ f. AnswersChanged Answers d (entries_in old.certificate) f text status)) same h),
     )
 
 old_answered : (hints : Option (Option (List ℕ))) (dev certificate new new' : Option (List ℕ)) (old : Old) (answer : Answer) → new' ≡ new → IfSome dev (λ file. OpensOld file certificate (Ok old))
-    → IfSome new' (λ file. AnswersNew (AnswersWith hints) (development_in old.accepted) (entries_in old.certificate) file answer.text.items answer.status) → AnswersFiles hints dev certificate new answer.text.items answer.status
+    → IfSome new' (λ file. AnswersChanged (AnswersWith hints) (development_in old.accepted) (entries_in old.certificate) file answer.text.items answer.status) → AnswersFiles hints dev certificate new answer.text.items answer.status
 old_answered hints None certificate new new' old answer keeps opens h = tt
 old_answered hints (Some file) certificate new new' old answer keeps (inl never) h = absurd never
 old_answered hints (Some file) certificate new new' old answer keeps (inr (D, says, opens)) h =
@@ -153,11 +153,11 @@ old_answered hints (Some file) certificate new new' old answer keeps (inr (D, sa
 
 pub all_answered : (hints hints' : Option (Option (List ℕ))) (dev certificate new new' : Option (List ℕ)) (old : Old) (result : Result Answer Failure) → new' ≡ new → hints' ≡ hints
     → IfSome dev (λ file. OpensOld file certificate (Ok old))
-    → IfOk result (λ answer. IfSome new' (λ file. AnswersNew (AnswersWith hints') (development_in old.accepted) (entries_in old.certificate) file answer.text.items answer.status))
+    → IfOk result (λ answer. IfSome new' (λ file. AnswersChanged (AnswersWith hints') (development_in old.accepted) (entries_in old.certificate) file answer.text.items answer.status))
     → IfOk result (λ answer. AnswersFiles hints dev certificate new answer.text.items answer.status)
 all_answered hints hints' dev certificate new new' old (Ok answer) keeps same opens h =
     old_answered hints dev certificate new new' old answer keeps opens
-    (subst (λ x. IfSome new' (λ file. AnswersNew (AnswersWith x) (development_in old.accepted) (entries_in old.certificate) file answer.text.items answer.status)) same h)
+    (subst (λ x. IfSome new' (λ file. AnswersChanged (AnswersWith x) (development_in old.accepted) (entries_in old.certificate) file answer.text.items answer.status)) same h)
 all_answered hints hints' dev certificate new new' old (Err failure) keeps same opens h = tt
 
 certificate_refused : (Answers : Development → List Entry → List ℕ → ℕ → Type 0) (certificate new : Option (List ℕ)) (D : Development) (answer : Answer) → IfSome certificate (λ file. OpensCertificate D file (Err answer))

@@ -1,5 +1,5 @@
 -- A development's file and a certificate's have one answer, and what is accepted is linearizable.
-use Rattle.std.proofs.Common.{◌≡◌, ℕ, ◌⊎◌, inl, inr, List, Some, refl, sym, ap, ◌∙◌}
+use Rattle.std.proofs.Common.{◌≡◌, ℕ, inl, inr, List, Some, sym, ap, ◌∙◌}
 use Rattle.lc_base.specs.Line.{refusal_line_of}
 use Rattle.lc_base.specs.declared.refusal.Refusal.{Refusal}
 use Rattle.lc_check.proofs.AcceptedObjects.{accepted_is_linearizable}

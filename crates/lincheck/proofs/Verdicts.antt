@@ -25,7 +25,7 @@ use Rattle.lincheck.proofs.Truncated.{said_of_whole, refusal_of_whole}
 
 -- what the kernel answers of a goal and a proof
 abbrev Answered : FormulaFile → Result (Unit {0}) ProofFault → Type 0
-Answered a result = Proves a.goal.vars (formulas_in a.terms a.goal.hypotheses.items) (formula_in a.terms a.goal.goal) (proof_of a.proof) result
+Answered a result = Proves a.goal.vars (formulas_in a.terms a.goal.hypotheses) (formula_in a.terms a.goal.goal) (proof_of a.proof) result
 
 listed : (P : List T.Formula → Type 0) (fs : List T.Formula) → P fs → P (T.parts (T.formulas fs))
 listed P fs h = subst P (sym (parts_formulas fs)) h
@@ -33,15 +33,15 @@ listed P fs h = subst P (sym (parts_formulas fs)) h
 -- a proof that derives its goal makes the verdict
 pub proved : (bytes : List ℕ) (a : FormulaFile) (u : Unit {0}) → Says file_reading bytes (claim_in a) → Answered a (Ok u) → IsVerdict bytes (Ok u)
 proved bytes a u says derives =
-    (claim_in a, says, listed (λ H. DerivesGoal a.goal.vars H (formula_in a.terms a.goal.goal) (proof_of a.proof)) (formulas_in a.terms a.goal.hypotheses.items) derives)
+    (claim_in a, says, listed (λ H. DerivesGoal a.goal.vars H (formula_in a.terms a.goal.goal) (proof_of a.proof)) (formulas_in a.terms a.goal.hypotheses) derives)
 
 -- a proof that was not found to hold makes the verdict a refusal
 pub not_proved : (bytes : List ℕ) (a : FormulaFile) (fault : ProofFault) → Says file_reading bytes (claim_in a) → Answered a (Err fault)
     → IsVerdict bytes (Err (fault_of fault))
 not_proved bytes a (Bad step reason) says fails =
-    inr (claim_in a, step, BadFlaw reason, says, listed (λ H. FailsGoal a.goal.vars H (formula_in a.terms a.goal.goal) (proof_of a.proof) step (BadFlaw reason)) (formulas_in a.terms a.goal.hypotheses.items) fails, refl)
+    inr (claim_in a, step, BadFlaw reason, says, listed (λ H. FailsGoal a.goal.vars H (formula_in a.terms a.goal.goal) (proof_of a.proof) step (BadFlaw reason)) (formulas_in a.terms a.goal.hypotheses) fails, refl)
 not_proved bytes a (TooLarge step) says fails =
-    inr (claim_in a, step, LargeFlaw, says, listed (λ H. FailsGoal a.goal.vars H (formula_in a.terms a.goal.goal) (proof_of a.proof) step LargeFlaw) (formulas_in a.terms a.goal.hypotheses.items) fails, refl)
+    inr (claim_in a, step, LargeFlaw, says, listed (λ H. FailsGoal a.goal.vars H (formula_in a.terms a.goal.goal) (proof_of a.proof) step LargeFlaw) (formulas_in a.terms a.goal.hypotheses) fails, refl)
 not_proved bytes a NoMore says fails = tt
 
 -- a fault of the file is its verdict

@@ -41,8 +41,8 @@ abbrev pub hints_at : (List ℕ → Option (List ℕ)) → Option (List ℕ) →
 hints_at bytes_at path = option_map bytes_at path
 
 -- the file of the new development is refused; or proofs are carried to it, those of D
-abbrev pub AnswersNew : (Development → List Entry → List ℕ → ℕ → Type 0) → Development → List Entry → List ℕ → List ℕ → ℕ → Type 0
-AnswersNew Answers D es file text status = TellsRefusal file text status ⊎ ((E : Development) × Says file_reading file E × Answers E (carried D es E) text status)
+abbrev pub AnswersChanged : (Development → List Entry → List ℕ → ℕ → Type 0) → Development → List Entry → List ℕ → List ℕ → ℕ → Type 0
+AnswersChanged Answers D es file text status = TellsRefusal file text status ⊎ ((E : Development) × Says file_reading file E × Answers E (carried D es E) text status)
 
 -- the file is no certificate that proves D, and its first refusal is told
 abbrev pub RefusesCertificate : Development → List ℕ → List ℕ → ℕ → Type 0
@@ -52,7 +52,7 @@ RefusesCertificate D file text status = (refusal : Refusal) × IsCertificateRefu
 abbrev pub AnswersProven : (Development → List Entry → List ℕ → ℕ → Type 0) → Development → List ℕ → Option (List ℕ) → List ℕ → ℕ → Type 0
 AnswersProven Answers D file new text status =
     RefusesCertificate D file text status
-    ⊎ ((es : List Entry) × Certifies D file es × ProvesAll es (conditions D) × IfSome new (λ other. AnswersNew Answers D es other text status))
+    ⊎ ((es : List Entry) × Certifies D file es × ProvesAll es (conditions D) × IfSome new (λ other. AnswersChanged Answers D es other text status))
 
 -- The answer to an old development's file, its certificate's and a new development's. The first that is refused decides
 abbrev pub AnswersCarry : (Development → List Entry → List ℕ → ℕ → Type 0) → List ℕ → Option (List ℕ) → Option (List ℕ) → List ℕ → ℕ → Type 0

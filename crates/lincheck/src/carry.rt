@@ -6,7 +6,7 @@ ghost use Rattle.lc_check.specs.VerdictView.{development_in};
 ghost use Rattle.lc_check.specs.Verdicts.{IsProvenBy};
 ghost use Rattle.lc_hints.specs.HintView.{proofs_in};
 ghost use Rattle.lc_outline.specs.DevelopmentView.{development_shown};
-ghost use Rattle.lincheck.specs.Carry.{AnswersNew, AnswersSought, OpensCertificate, OpensOld, AnswersWith, IsCertified, IsUnreadNew, hints_at};
+ghost use Rattle.lincheck.specs.Carry.{AnswersChanged, AnswersSought, OpensCertificate, OpensOld, AnswersWith, IsCertified, IsUnreadNew, hints_at};
 ghost use Rattle.lc_words.specs.Tasks.{CheckCertificate, carrying, path_in};
 ghost use Rattle.lincheck.specs.Execution.{AnswersTask, IsUnread};
 
@@ -173,7 +173,7 @@ fn answer_new<'a, F: Files, P: Progress>(
 ) -> Result<Answer, Failure<'a>>
     requires { IsCertified old.now }
     ensures unread { IsUnreadNew (F.CannotOpen files.old) (F.bytes_at files.old) new.now (path_in hints.entry) → IsErr result }
-    ensures answers { IfOk result (λ answer. IfSome (F.bytes_at files.old new.now) (λ file. AnswersNew (AnswersWith (hints_at (F.bytes_at files.old) (path_in hints.entry)))
+    ensures answers { IfOk result (λ answer. IfSome (F.bytes_at files.old new.now) (λ file. AnswersChanged (AnswersWith (hints_at (F.bytes_at files.old) (path_in hints.entry)))
         (development_in old.now.accepted) (entries_in old.now.certificate) file answer.text.items answer.status)) }
 {
     match open_development(alloc, files, new)? {

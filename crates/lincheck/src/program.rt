@@ -57,12 +57,9 @@ fn carry_out<'a, F: Files, O: Write, E: Write>(
         Request::Prove {
             development,
             hints,
-            progress,
+            progress: is_asked,
         } => {
-            let mut telling = Telling {
-                err,
-                is_asked: progress,
-            };
+            let mut telling = Telling { err, is_asked };
             let answer = answer_prove(alloc, files, development, hints, &mut telling)?;
             print_answer(out, &answer)
         }
@@ -71,12 +68,9 @@ fn carry_out<'a, F: Files, O: Write, E: Write>(
             certificate,
             new,
             hints,
-            progress,
+            progress: is_asked,
         } => {
-            let mut telling = Telling {
-                err,
-                is_asked: progress,
-            };
+            let mut telling = Telling { err, is_asked };
             let answer = answer_carry(alloc, files, old, certificate, new, hints, &mut telling)?;
             print_answer(out, &answer)
         }

@@ -1,7 +1,7 @@
 use Rattle.std.proofs.Common.{◌≡◌, ℕ, List, drop, map}
 use Rattle.std.specs.Option.{option_or}
 use Rattle.lc_carry.specs.Carried.{least_number}
-use Rattle.lc_carry.specs.Numbers.{number_of}
+use Rattle.lc_carry.specs.TextNumbers.{number_of}
 use Rattle.lc_cert.specs.CertificateView.{entries_in}
 use Rattle.lc_cond.specs.ConditionView.{condition_in}
 use Rattle.lc_cond_text.specs.ConditionText.{spelled}
@@ -15,9 +15,9 @@ abbrev pub invariant-loop-condition : goal.invariant-loop-condition
 invariant-loop-condition l = record {
   noted :
       (t : List ℕ) →
-      option_or (number_of l.numbers.entries t)
+      option_or (number_of l.numbers t)
       (least_number (development_shown l.old.development.now) (entries_in l.old.certificate.now) (column_for l.old.columns.now) t l.number (map (condition_in l.terms) (drop l.condition-index l.part)))
-      ≡ option_or (number_of l.fn.numbers.entries t)
+      ≡ option_or (number_of l.fn.numbers t)
       (least_number (development_shown l.old.development.now) (entries_in l.old.certificate.now) (column_for l.old.columns.now) t l.first (map (condition_in l.terms) l.part));
   recalls : Recalls (spelled (development_shown l.old.development.now)) l.terms l.texts;
 }

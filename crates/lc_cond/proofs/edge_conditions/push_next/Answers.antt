@@ -22,7 +22,7 @@ push_both_told-requires-clause-second c = subst (AreFormulas c.args.terms.now) (
 
 pub returns-clause-list : goal.returns-clause-list
 returns-clause-list c =
-    let s = c.args.scene.now in
+    let s = c.args.outcome.scene.now in
     let t0 = c.args.terms.now in
     let invariant = invariant_of (development_in s) in
     let next = asserts_to (development_in s) (code_in s).next in

@@ -19,7 +19,7 @@ put_in_formula-requires-clause-done c = c.nothing_replaced-done.ensures _ _
 
 pub returns-clause-list : goal.returns-clause-list
 returns-clause-list c =
-    let s = c.args.scene.now in
+    let s = c.args.outcome.scene.now in
     let t0 = c.args.terms.now in
     let t1 = c.put_in_formula.new.self in
     let goals = reply_goals (first_system (development_in s)) (code_in s) in
@@ -27,6 +27,6 @@ returns-clause-list c =
     let variables = terms_listed t0 s.variables.items c.deref.result.now _ c.requires.scene.variables c.deref.ensures.value in
     on_ok_weaker c.push_one.result
     (λ made hs has σ columns. subst (Adds c.args.conditions.now.items t1 c.push_one.new.conditions.items)
-    (reply_said s t0 c.args.number hs σ c.args.columns.now c.deref.result.now c.in-Some.reply goals columns variables reply)
-    (subst (λ h. MakesOne h Alone c.args.known.now c.in_ok-goal.goal c.args.conditions.now.items c.push_one.new.conditions.items) c.on_path-head.ensures made
-    t1 hs _ (formulas_later t0 t1 c.args.known.now hs has c.in_ok-goal.ensures.kept) c.in_ok-goal.ensures.id)) c.push_one.ensures
+    (reply_said s t0 c.args.outcome.number hs σ c.args.outcome.columns.now c.deref.result.now c.in-Some.reply goals columns variables reply)
+    (subst (λ h. MakesOne h Alone c.args.outcome.known.now c.in_ok-goal.goal c.args.conditions.now.items c.push_one.new.conditions.items) c.on_path-head.ensures made
+    t1 hs _ (formulas_later t0 t1 c.args.outcome.known.now hs has c.in_ok-goal.ensures.kept) c.in_ok-goal.ensures.id)) c.push_one.ensures

@@ -18,8 +18,8 @@ pub returns-clause-list : goal.returns-clause-list
 returns-clause-list c =
     let t0 = c.args.terms.now in
     let t1 = c.push_columns.new.terms in
-    let one = subst (λ h. MakesOne h Alone c.args.known.now c.args.acting.now.guard c.args.conditions.now.items c.push_one.new.conditions.items) c.on_path-head.ensures c.in_ok-push_one.ensures in
-    let count = c.column_count-count.ensures ∙ ap column_count c.requires.scene.system in
+    let one = subst (λ h. MakesOne h Alone c.args.outcome.known.now c.args.acting.now.guard c.args.conditions.now.items c.push_one.new.conditions.items) c.on_path-head.ensures c.in_ok-push_one.ensures in
+    let count = c.column_count-count.ensures ∙ ap column_count c.requires.outcome.scene.system in
     on_ok_weaker c.push_columns.result
     (λ list ts a guard action hs has σ columns. adds_on c.args.conditions.now.items c.push_one.new.conditions.items c.push_columns.new.conditions.items t0 t1 _ _
     (one t0 hs _ has guard) c.push_columns.ensures.kept

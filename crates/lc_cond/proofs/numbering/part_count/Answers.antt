@@ -1,4 +1,4 @@
-use Rattle.std.proofs.Common.{◌≡◌, ◌+◌, ◌*◌, ◌≤◌, length, Some, None, sym, ap, ◌∙◌, subst, arith}
+use Rattle.std.proofs.Common.{◌≡◌, ◌+◌, ◌*◌, ◌≤◌, length, None, sym, ap, ◌∙◌, subst, arith}
 use Rattle.lc_base.specs.Limits.{condition_limit}
 use Rattle.lc_term.specs.View.{formula_of}
 use Rattle.lc_object.specs.View.{operation_of, point_of}

@@ -13,31 +13,31 @@ use Rattle.lc_cond.proofs.Adding.{formulas_later, columns_later, columns_are, co
 use Rattle.lc_cond.proofs.Scening.{scene_later, columns_along, at_end-some, at_end-none}
 use Rattle.lc_cond.proofs.paths.push_outcome.Goals as goal
 
-pub push_reply-requires-clause-columns : goal.push_reply-requires-clause-columns
-push_reply-requires-clause-columns c = c.columns-columns.ensures.are c.args.terms.now c.requires.path
+pub push_reply-requires : goal.push_reply-requires
+push_reply-requires c = record { scene = c.requires.scene; columns = c.columns-columns.ensures.are c.args.terms.now c.requires.path }
 
-pub push_behind-requires-clause-scene : goal.push_behind-requires-clause-scene
-push_behind-requires-clause-scene c = scene_later c.args.terms.now c.push_reply.new.terms c.args.scene.now c.requires.scene c.in_ok-push_reply.ensures.kept
-
-pub push_behind-requires-clause-columns : goal.push_behind-requires-clause-columns
-push_behind-requires-clause-columns c =
-    are_columns_later c.args.terms.now c.push_reply.new.terms c.columns-columns.result.now (c.columns-columns.ensures.are c.args.terms.now c.requires.path) c.in_ok-push_reply.ensures.kept
+pub push_behind-requires : goal.push_behind-requires
+push_behind-requires c = record {
+  scene = scene_later c.args.terms.now c.push_reply.new.terms c.args.scene.now c.requires.scene c.in_ok-push_reply.ensures.kept;
+  columns = are_columns_later c.args.terms.now c.push_reply.new.terms c.columns-columns.result.now (c.columns-columns.ensures.are c.args.terms.now c.requires.path) c.in_ok-push_reply.ensures.kept;
+}
 
 pub at_return-requires : goal.at_return-requires
 at_return-requires c =
     are_columns_later c.args.terms.now c.push_reply.new.terms c.columns-columns.result.now (c.columns-columns.ensures.are c.args.terms.now c.requires.path) c.in_ok-push_reply.ensures.kept
 
-pub push_behind-requires-in-None-clause-scene : goal.push_behind-requires-in-None-clause-scene
-push_behind-requires-in-None-clause-scene c =
-    scene_later c.args.terms.now c.at_return.new.terms c.args.scene.now c.requires.scene (kept_on c.args.terms.now c.push_reply.new.terms c.at_return.new.terms c.in_ok-push_reply.ensures.kept c.in_ok-left-in-None.ensures.kept)
-
-pub push_behind-requires-in-None-clause-columns : goal.push_behind-requires-in-None-clause-columns
-push_behind-requires-in-None-clause-columns c =
+pub push_behind-requires-in-None : goal.push_behind-requires-in-None
+push_behind-requires-in-None c =
     let t0 = c.args.terms.now in
     let t1 = c.push_reply.new.terms in
+    let t2 = c.at_return.new.terms in
     let ps = c.columns-columns.result.now in
-    let are = are_columns_later t0 t1 ps (c.columns-columns.ensures.are t0 c.requires.path) c.in_ok-push_reply.ensures.kept in
-    subst (AreColumns c.at_return.new.terms) (sym c.deref.ensures.value) (c.in_ok-left-in-None.ensures.list (columns_at t1 ps) (columns_are t1 ps are)).are
+    let kept = c.in_ok-push_reply.ensures.kept in
+    let are = are_columns_later t0 t1 ps (c.columns-columns.ensures.are t0 c.requires.path) kept in
+    record {
+      scene = scene_later t0 t2 c.args.scene.now c.requires.scene (kept_on t0 t1 t2 kept c.in_ok-left-in-None.ensures.kept);
+      columns = subst (AreColumns t2) (sym c.deref.ensures.value) (c.in_ok-left-in-None.ensures.list (columns_at t1 ps) (columns_are t1 ps are)).are;
+    }
 
 pub returns-in-Some-clause-list : goal.returns-in-Some-clause-list
 returns-in-Some-clause-list c =

@@ -36,9 +36,9 @@ returns-clause-crossing c =
     let guard = subst (λ ps. HasFormula t2 c.in_ok-guard.guard (guard_for a (Variable n) ps)) there2 c.in_ok-guard.ensures.id in
     λ hs fs kh fh. record {
       variables = c.variables_with-variables.ensures;
-      hypotheses = formulas_listed t2 _ c.in_ok-hypotheses.hypotheses.items _
+      hypotheses = formulas_listed t2 _ c.in_ok-hypotheses.hypotheses _
           (formulas_joined t2 g.clients.now _ _ _ (formulas_later t0 t2 g.clients.now _ c.requires.given.clients kept02)
           (formulas_joined t2 g.known.now _ hs _ (formulas_later t0 t2 g.known.now hs kh kept02)
-          (formulas_joined t2 (c.in_ok-guard.guard ∷ []) c.deref-3.result.now _ _ (formula_alone t2 c.in_ok-guard.guard _ guard) behind))) c.in_ok-hypotheses.ensures;
+          (formulas_joined t2 (c.in_ok-guard.guard ∷ []) c.deref-3.result.now _ _ (formula_alone t2 c.in_ok-guard.guard _ guard) behind))) (c.in_ok-hypotheses.ensures ∙ c.in_ok-known.ensures);
       goals = formulas_later t1 t2 c.in_ok-behind.goals.items _ (subst (λ gs. HasFormulas t1 c.in_ok-behind.goals.items (map (λ f. stable_goal n f a) gs)) fh.trees goals1) kept12;
     }

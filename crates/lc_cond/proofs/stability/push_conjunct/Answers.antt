@@ -19,8 +19,7 @@ loop-place-preserved c =
     let new = c.push_one.new.conditions.items in
     let head : Head = record { kind = K.Stable; variables = crossing.variables; point = c.args.point; passage = P.Action c.loop-place.place; path = None } in
     stable_more c.args.point c.args.number c.args.crossings.now c.loop-place.place crossing c.index-goal.result.now c.args.conditions.now.items now new c.loop-place-test.true c.index-crossings-place.is c.loop-place.invariant
-    (subst (λ g. MakesOne head (W.Numbered c.args.number) crossing.hypotheses.items g now new) c.index-goal.ensures
-    (subst (λ ks. MakesOne head (W.Numbered c.args.number) ks c.index-goal.result.now now new) c.deref.ensures.value c.in_ok-push_one.ensures))
+    (subst (λ g. MakesOne head (W.Numbered c.args.number) crossing.hypotheses g now new) c.index-goal.ensures c.in_ok-push_one.ensures)
 
 pub returns : goal.returns
 returns c =

@@ -14,7 +14,7 @@ use Rattle.lc_cond.proofs.Adding.{formulas_later, formulas_listed}
 use Rattle.lc_cond.proofs.start.push_init.Goals as goal
 
 pub push_all_told-requires : goal.push_all_told-requires
-push_all_told-requires c = subst (AreFormulas c.entered_invariant.new.terms) (sym c.deref-2.ensures.value) c.in_ok-invariant.ensures.list.are
+push_all_told-requires c = subst (AreFormulas c.entered_invariant.new.terms) (sym c.deref.ensures.value) c.in_ok-invariant.ensures.list.are
 
 pub returns-clause-list : goal.returns-clause-list
 returns-clause-list c =
@@ -22,8 +22,8 @@ returns-clause-list c =
     let t2 = c.entered_invariant.new.terms in
     let now = c.push_all_told.new.terms in
     let r = replacing (column_by_number (map column_of c.args.columns.now)) Variable in
-    let known = formulas_listed t2 c.in_ok-known.known.items c.deref.result.now (Le (Number (pos 0)) (Variable 0) ∷ []) (formulas_later c.entered_count.new.terms t2 c.in_ok-known.known.items _ c.in_ok-known.ensures.list c.in_ok-invariant.ensures.kept) c.deref.ensures.value in
-    let goals = (formulas_listed t2 c.in_ok-invariant.invariant.items c.deref-2.result.now _ c.in_ok-invariant.ensures.list c.deref-2.ensures.value).trees ∙ ap (λ x. invariant_of x) c.parts.ensures.shown in
+    let known = formulas_listed t2 c.in_ok-count.count.items c.in_ok-known.known (Le (Number (pos 0)) (Variable 0) ∷ []) (formulas_later c.entered_count.new.terms t2 c.in_ok-count.count.items _ c.in_ok-count.ensures.list c.in_ok-invariant.ensures.kept) c.in_ok-known.ensures in
+    let goals = (formulas_listed t2 c.in_ok-invariant.invariant.items c.deref.result.now _ c.in_ok-invariant.ensures.list c.deref.ensures.value).trees ∙ ap (λ x. invariant_of x) c.parts.ensures.shown in
     on_ok_weaker c.push_all_told.result
     (λ list. subst (Adds c.args.conditions.now.items now c.push_all_told.new.conditions.items)
     (ap₂ (λ h gs. conditions_of (head_of h) (Le (Number (pos 0)) (Variable 0) ∷ []) (map (replace r) gs)) c.at_start-head.ensures goals)

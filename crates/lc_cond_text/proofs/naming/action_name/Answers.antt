@@ -1,4 +1,4 @@
-use Rattle.std.proofs.Common.{◌≡◌, ◌<◌, ◌++◌, ◌∷◌, [], map, length, ap, sym, ◌∙◌, rules}
+use Rattle.std.proofs.Common.{◌<◌, ◌++◌, ◌∷◌, [], map, length, ap, sym, ◌∙◌, rules}
 use Rattle.std.proofs.lemmas.List.{map-append}
 use Rattle.lc_action.specs.Action as A
 use Rattle.lc_action.specs.ActionView.{action_of}

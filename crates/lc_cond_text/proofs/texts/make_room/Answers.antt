@@ -1,4 +1,4 @@
-use Rattle.std.proofs.Common.{◌≡◌, ap, ◌∙◌, sym, Some, slice_get}
+use Rattle.std.proofs.Common.{ap, ◌∙◌, sym, slice_get}
 use Rattle.lc_cond_text.proofs.Recalled.{found_before}
 use Rattle.lc_cond_text.proofs.texts.make_room.Goals as goal
 

@@ -4,7 +4,6 @@ use Rattle.lc_table.specs.Tables.{formula_in, IsFormula}
 use Rattle.lc_text.specs.Spelled.{spelled_formula}
 use Rattle.lc_outline.specs.DevelopmentView.{development_shown}
 use Rattle.lc_cond_text.specs.ConditionText.{spelled}
-use Rattle.lc_cond_text.specs.declared.texts.Place.{Place}
 use Rattle.lc_cond_text.proofs.Recalled.{recalls_more, lies_behind}
 use Rattle.lc_cond_text.proofs.texts.spell.Goals as goal
 

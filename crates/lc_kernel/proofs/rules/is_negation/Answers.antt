@@ -1,4 +1,4 @@
-use Rattle.std.proofs.Common.{◌≡◌, ap, sym, ◌∙◌}
+use Rattle.std.proofs.Common.{ap, sym, ◌∙◌}
 use Rattle.lc_term.specs.Equal.{formula_eq}
 use Rattle.lc_term.specs.EqualLaws.{Decides-formula_eq}
 use Rattle.lc_table.specs.Nodes.{tree_of}

@@ -13,11 +13,11 @@ are_formulas_below-is_formula_below-requires t c =
     let ks = c.args.formulas.now in
     let i = c.loop-formula.formula-index in
     let least = get-beyond ks i (record { 0 = 0 }) c.loop-formula-test.true in
-    (omega arith, (are_formulas-get c.args.terms.now ks i (record { 0 = 0 }) c.requires.there c.loop-formula-test.true, c.loop-formula.invariant.0))
+    (omega arith, (are_formulas-get c.args.in_use.terms.now ks i (record { 0 = 0 }) c.requires.there c.loop-formula-test.true, c.loop-formula.invariant.0))
 
 pub is_formula_node_below-are_formulas_below-requires : goal.is_formula_node_below-are_formulas_below-requires
 is_formula_node_below-are_formulas_below-requires t c =
-    let ts = c.args.terms.now in
+    let ts = c.args.in_use.terms.now in
     let ks = c.in-And.parts.items in
     let same : c.deref.result.now ≡ ks = search rules in
     let small : AllBelow c.args.formula.0 ks =
@@ -25,12 +25,12 @@ is_formula_node_below-are_formulas_below-requires t c =
     let fits : AreFormulas ts ks =
     elim c.in-And.is [ inl v ↦ subst (TreeFits (parts ts) (formulas ts)) v c.formula_node.ensures.fits | inr v ↦ subst (TreeFits (parts ts) (formulas ts)) v c.formula_node.ensures.fits ] in
     let least = beyond-le c.args.formula.0 c.deref.result.now (subst (AllBelow c.args.formula.0) (sym same) small) in
-    (omega arith, (subst (AreFormulas ts) (sym same) fits, c.requires.known))
+    (omega arith, (subst (AreFormulas ts) (sym same) fits, c.requires.1))
 
 pub is_formula_node_below-returns-in-Forall-clause-below : goal.is_formula_node_below-returns-in-Forall-clause-below
 is_formula_node_below-returns-in-Forall-clause-below t c =
-    let ts = c.args.terms.now in
-    let count = c.args.count in
+    let ts = c.args.in_use.terms.now in
+    let count = c.args.in_use.count in
     let body = formula_in ts c.in-Forall.body in
     let there : formula_below count (formula_in ts c.args.formula) ≡ formula_below count (S.Forall body) =
     elim c.in-Forall.is [
@@ -41,8 +41,8 @@ is_formula_node_below-returns-in-Forall-clause-below t c =
 
 pub is_formula_node_below-returns-in-And-clause-below : goal.is_formula_node_below-returns-in-And-clause-below
 is_formula_node_below-returns-in-And-clause-below t c =
-    let ts = c.args.terms.now in
-    let count = c.args.count in
+    let ts = c.args.in_use.terms.now in
+    let count = c.args.in_use.count in
     let ks = c.in-And.parts.items in
     let same : c.deref.result.now ≡ ks = search rules in
     let there : formula_below count (formula_in ts c.args.formula) ≡ formula_below count (S.And (S.formulas (formulas_in ts ks))) =

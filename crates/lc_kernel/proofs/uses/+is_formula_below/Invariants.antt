@@ -17,4 +17,4 @@ decreases-are_formulas_below l = 3 * beyond l.formulas.now
 -- what is left passes exactly where all does
 abbrev pub invariant-are_formulas_below-loop-formula : goal.invariant-are_formulas_below-loop-formula
 invariant-are_formulas_below-loop-formula l =
-    AreBelow l.count l.terms l.known × (all_below l.count (formulas_in l.terms l.formulas) ≡ all_below l.count (formulas_in l.terms (drop l.formula-index l.formulas)))
+    AreBelow l.in_use.count l.in_use.terms.now l.known × (all_below l.in_use.count (formulas_in l.in_use.terms.now l.formulas) ≡ all_below l.in_use.count (formulas_in l.in_use.terms.now (drop l.formula-index l.formulas)))

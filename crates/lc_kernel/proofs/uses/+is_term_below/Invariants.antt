@@ -23,8 +23,8 @@ decreases-are_both_below l = 3 * max l.left.0 l.right.0 + 3
 -- what stands below the stores that are left has its variables below the count
 abbrev pub invariant-is_column_below-stores : goal.invariant-is_column_below-stores
 invariant-is_column_below-stores l =
-    AreBelow l.count l.terms l.known × AreStores l.terms l.fn.column.0 (column_in l.terms l.fn.column) l.stores.items ×
-    (column_below l.count (below_stores (column_in l.terms l.fn.column) l.stores.items) ≡ true)
+    AreBelow l.in_use.count l.in_use.terms.now l.known × AreStores l.in_use.terms.now l.fn.column.0 (column_in l.in_use.terms.now l.fn.column) l.stores.items ×
+    (column_below l.in_use.count (below_stores (column_in l.in_use.terms.now l.fn.column) l.stores.items) ≡ true)
 
 abbrev pub decreases-is_column_below-stores : goal.decreases-is_column_below-stores
 decreases-is_column_below-stores l = vec_len l.stores

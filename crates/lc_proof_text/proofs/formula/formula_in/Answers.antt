@@ -38,7 +38,7 @@ returns-clause-hypotheses c =
     let whole = c.cursor.result in
     let file = c.in_ok-entered.field-0 in
     let reads = entered_reads (owner_of whole) (number_of whole) (rest_of whole) c.args.forms c.in_ok-claim.claim file c.cursor.ensures.owner c.cursor.ensures.number c.cursor.ensures.rest c.in_ok-claim.ensures c.in_ok-entered.ensures.same in
-    each_in (below file.goal.vars) (formulas_in file.terms file.goal.hypotheses.items) (founded c.args.forms (claim_in file) reads).hypotheses
+    each_in (below file.goal.vars) (formulas_in file.terms file.goal.hypotheses) (founded c.args.forms (claim_in file) reads).hypotheses
 
 pub returns-clause-goal : goal.returns-clause-goal
 returns-clause-goal c =

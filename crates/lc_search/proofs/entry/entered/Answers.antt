@@ -6,7 +6,7 @@ use Rattle.lc_search.proofs.entry.entered.Goals as goal
 pub entered_formula-requires : goal.entered_formula-requires
 entered_formula-requires c =
     let ts = c.args.terms.now in
-    let ks = c.deref-hypothesis-items.result.now in
-    let same : ks ≡ c.args.goal.now.hypotheses.items = search rules in
+    let ks = c.as_slice-hypothesis-items.result.now in
+    let same : ks ≡ c.args.goal.now.hypotheses = search rules in
     let there = subst (AreFormulas ts) (sym same) c.requires.hypotheses in
     are_formulas-get ts ks c.loop-hypothesis.hypothesis-index (record { 0 = 0 }) there c.loop-hypothesis-test.true

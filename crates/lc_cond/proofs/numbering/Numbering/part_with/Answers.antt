@@ -1,4 +1,4 @@
-use Rattle.std.proofs.Common.{◌≡◌, ◌<◌, Some, None, [], map, option_map, slice_get, length, refl, sym, ap, ◌∙◌, subst, arith}
+use Rattle.std.proofs.Common.{◌≡◌, ◌<◌, Some, None, map, option_map, slice_get, length, refl, sym, ap, ◌∙◌, subst, arith}
 use Rattle.lc_object.specs.EdgeView.{edge_of}
 use Rattle.lc_outline.specs.DevelopmentView.{development_shown}
 use Rattle.lc_cond.specs.Adding.{Adds}

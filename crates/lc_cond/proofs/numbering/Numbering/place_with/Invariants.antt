@@ -1,4 +1,4 @@
-use Rattle.std.proofs.Common.{◌≡◌, ◌≤◌, ◌<◌, ◌-◌, length}
+use Rattle.std.proofs.Common.{◌≤◌, ◌<◌, ◌-◌, length}
 use Rattle.lc_outline.specs.Development.{Development}
 use Rattle.lc_cond.specs.Conditions.{conditions}
 use Rattle.lc_cond.specs.Numbering.{count_before, IsNumbering}

@@ -6,7 +6,7 @@ use Rattle.lc_cond_text.proofs.lines.ConditionLines.next_piece.Goals.{then-more,
 use Rattle.std.proofs.Common.{subst}
 
 pub fill-requires : goal.fill-requires
-fill-requires c = record { recalls = c.self.invariant c.in-Going.is }
+fill-requires c = c.self.invariant c.in-Going.is
 
 pub invariant_of-self-2 : goal.invariant_of-self-2
 invariant_of-self-2 c =
@@ -15,8 +15,8 @@ invariant_of-self-2 c =
     let new = c.fill.new.piece.items in
     elim c.if-more.branch [
       | then-more w ↦ λ going.
-          let goes : GoesOn d old c.self.inside.stream new c.fill.new.stream c.fill.new.terms c.fill.new.texts =
-          subst (λ (b : Bool). Passes d old c.self.inside.stream new c.fill.new.stream c.fill.new.terms c.fill.new.texts b) w.if-more.true c.in_ok-more.ensures in
-          goes.recalls
+          let goes : GoesOn d old c.self.inside.left new c.fill.new.left =
+          subst (λ (b : Bool). Passes d old c.self.inside.left new c.fill.new.left b) w.if-more.true c.in_ok-more.ensures in
+          goes.left
       | else-more w ↦ λ going. absurd (cc)
     ]

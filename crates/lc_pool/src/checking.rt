@@ -1,0 +1,176 @@
+//! The verdict on a development file and a certificate file, by many workers.
+ghost use Rattle.std.specs.Prelude.{◌≡◌, ℕ, IfOk, IfSome, IsTrue, length};
+ghost use Rattle.lc_reading.specs.Files.{Says};
+ghost use Rattle.lc_outline.specs.DevelopmentView.{development_shown};
+ghost use Rattle.lc_outline_text.specs.Developments.{file_reading};
+ghost use Rattle.lc_cert.specs.OneByOne.{IsFrame};
+ghost use Rattle.lc_cond.specs.Conditions.{conditions};
+ghost use Rattle.lc_cond.specs.Numbering.{IsNumbering};
+ghost use Rattle.lc_sound.specs.Linearizable.{IsLinearizableObject};
+ghost use Rattle.lc_check.specs.Verdicts.{IsProvenBy};
+ghost use Rattle.lc_check.specs.VerdictView.{IsVerdict, IsVerdictOn, IfAccepted, IsCountOn};
+ghost use Rattle.lc_pool.specs.Desks.{development_in, IsKnownIn};
+ghost use Rattle.lc_pool.specs.Known.{at_place};
+ghost use Rattle.lc_pool.specs.Marks.{AllHold};
+
+use crate::cutting::{Cuts, cut};
+use crate::desk::{Desk, Files};
+use crate::framing::is_framed;
+use crate::gate::Gate;
+use crate::gated::Gated;
+use crate::laws::known_entries_prove_the_development;
+use crate::pool::pooled;
+use crate::work::Work;
+use lc_base::{Fault, OutOfMemory};
+use lc_check::{Verdict, proven_count_by, verdict_by_count};
+use lc_cond::Numbering;
+use lc_outline::Development;
+use lc_outline_text::development_of;
+use std::alloc::Global;
+use std::marker::Brand;
+use std::sync::Wait;
+use std::thread::Threads;
+
+/// So many desks.
+fn desks<'a, W: Work>(
+    alloc: Global,
+    files: Files<'a>,
+    workers: u64,
+) -> Result<Vec<Desk<'a, W>>, OutOfMemory>
+    requires numbering { IsNumbering (development_in files) files.numbering.now }
+    requires known { (k : ℕ) → IsKnownIn files k → W.holds k }
+{
+    let mut desks = Vec::new(alloc);
+    for _worker in 0..workers {
+        desks.push(Desk::new(alloc, files)?)?;
+    }
+    Ok(desks)
+}
+
+/// Whether all conditions are proved by the entries of their numbers, as so many workers find.
+fn all_proved<W: Work + Send + Sync, R: Threads + Wait + Sync, G: Gate + Sync>(
+    rt: &R,
+    alloc: Global,
+    gate: &G,
+    files: Files<'_>,
+    workers: u64,
+) -> Result<bool, OutOfMemory>
+    requires numbering { IsNumbering (development_in files) files.numbering.now }
+    requires known { (k : ℕ) → IsKnownIn files k → W.holds k }
+    ensures { IfOk result (λ all. IsTrue all → AllHold W.holds (length (conditions (development_in files.entry)))) }
+{
+    let desks: Vec<Desk<'_, W>> = desks(alloc, files, workers)?;
+    let mut last: Desk<'_, W> = Desk::new(alloc, files)?;
+    pooled(rt, alloc, gate, desks, &mut last, files.numbering.count())
+}
+
+/// Whether the cuts fit a certificate of so many conditions, and what stands around them is that of one.
+fn are_framed(
+    alloc: Global,
+    development: &Development,
+    cert: &[u8],
+    cuts: &Cuts,
+    count: u64,
+) -> Result<bool, OutOfMemory>
+    ensures frame { IfOk result (λ b. IsTrue b → IsFrame (development_shown development.now) cert.now (at_place cuts.now.places.items 0) (at_place cuts.now.places.items count)) }
+    ensures first { IfOk result (λ b. IsTrue b → at_place cuts.now.items.items 0 ≡ 3) }
+{
+    let count = count as usize;
+    if cuts.places.len() <= count || cuts.items.is_empty() || cuts.items[0] != 3 {
+        return Ok(false);
+    }
+    is_framed(alloc, development, cert, cuts.places[0], cuts.places[count])
+}
+
+/// How many conditions the development has, if the file, cut before it is read, is found to prove them all.
+fn proven_in_pieces<R: Threads + Wait + Sync, G: Gate + Sync>(
+    rt: &R,
+    alloc: Global,
+    gate: &G,
+    development: &Development,
+    cert: &[u8],
+    workers: u64,
+) -> Result<Option<u64>, OutOfMemory>
+    ensures { let d = development_shown development.now in
+        IfOk result (λ count. IfSome count (λ n. (n ≡ length (conditions d)) × IsProvenBy d cert.now)) }
+{
+    let numbering = Numbering::new(alloc, development)?;
+    let count = numbering.count();
+    let Some(cuts) = cut(alloc, cert)? else {
+        return Ok(None);
+    };
+    if !are_framed(alloc, development, cert, &cuts, count)? {
+        return Ok(None);
+    }
+    let files = Files {
+        development,
+        numbering: &numbering,
+        file: cert,
+        places: &cuts.places,
+        items: &cuts.items,
+    };
+    if all_proved::<Brand, R, G>(rt, alloc, gate, files, workers)? {
+        known_entries_prove_the_development();
+        return Ok(Some(count));
+    }
+    Ok(None)
+}
+
+/// How many conditions the development has, where the file is a certificate of it that is accepted; else the first refusal.
+/// One worker reads the certificate as it stands, which needs no cuts.
+fn proven_count<R: Threads + Wait + Sync, G: Gate + Sync>(
+    rt: &R,
+    alloc: Global,
+    gate: &G,
+    development: &Development,
+    cert: &[u8],
+    workers: u64,
+) -> Result<u64, Fault>
+    ensures { IsCountOn (development_shown development.now) cert.now result }
+{
+    if workers > 1 {
+        if let Some(count) = proven_in_pieces(rt, alloc, gate, development, cert, workers)? {
+            return Ok(count);
+        }
+    }
+    proven_count_by(alloc, development, &mut Gated { rt, gate }, cert)
+}
+
+/// The verdict on a development and a certificate file, as `check_certificate` says it, by so many workers. The gate is called
+/// round the check of each condition, by whoever makes it.
+///
+/// Only acceptance is found by the workers: whatever else comes up, the certificate is read and checked whole.
+pub fn check_certificate_with<R: Threads + Wait + Sync, G: Gate + Sync>(
+    rt: &R,
+    alloc: Global,
+    development: Development,
+    cert: &[u8],
+    workers: u64,
+    gate: &G,
+) -> Result<Verdict, OutOfMemory>
+    ensures exactly { IfOk result (IsVerdictOn (development_shown development) cert.now) }
+    ensures linearizable { IfAccepted result (λ D. IsLinearizableObject D.specification D.object) }
+{
+    let count = proven_count(rt, alloc, gate, &development, cert, workers);
+    verdict_by_count(development, cert, count)
+}
+
+/// The verdict on a development file and a certificate file, as `check` says it, by so many workers. The gate is called round
+/// the check of each condition, by whoever makes it.
+pub fn check_with<R: Threads + Wait + Sync, G: Gate + Sync>(
+    rt: &R,
+    alloc: Global,
+    dev: &[u8],
+    cert: &[u8],
+    workers: u64,
+    gate: &G,
+) -> Result<Verdict, OutOfMemory>
+    ensures exactly { IfOk result (IsVerdict dev.now cert.now) }
+    ensures linearizable { IfAccepted result (λ D. Says file_reading dev.now D × IsLinearizableObject D.specification D.object) }
+{
+    match development_of(alloc, dev) {
+        Ok(development) => check_certificate_with(rt, alloc, development, cert, workers, gate),
+        Err(Fault::Refused(refusal)) => Ok(Verdict::Refused(refusal)),
+        Err(Fault::OutOfMemory) => Err(OutOfMemory),
+    }
+}

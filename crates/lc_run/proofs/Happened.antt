@@ -1,0 +1,151 @@
+-- What happens in a run, put together from the front, and counted from the end.
+use Rattle.std.proofs.Common.{ℤ, ◌-◌, ap₂, ◌≡◌, ◌≢◌, ℕ, zero, suc, ◌+◌, ◌<◌, ◌≤◌, ◌==◌, Bool, true, false, ◌&&◌, cond, nat_lt, eqb, List, [], ◌∷◌, ◌++◌, Some, None, map, drop, length, set, get_or, replicate, refl, sym, ap, subst, ◌∙◌, append_assoc, arith}
+use Rattle.std.specs.Prelude.{Vec, reverse, slice_index_or}
+use Rattle.std.specs.declared.alloc.Global.{Global}
+use Rattle.std.specs.List.{list_all}
+use Rattle.std.proofs.lemmas.Bool.{eqb-true}
+use Rattle.std.proofs.lemmas.Bool.Decides.{nat_tests}
+use Rattle.std.proofs.lemmas.Grind.{get_or-set_at}
+use Rattle.std.proofs.lemmas.List.{drop_more, get_or_past, get_or-set_other, map-append, reverse-append}
+use Rattle.std.proofs.lemmas.List.Folds.{list_all-append}
+use Rattle.lc_term.proofs.Tests.{left_true, right_true, both_true}
+use mathlib.Core.Path.{fun_ext}
+use Rattle.lc_seq.specs.Sequential.{Call}
+use Rattle.lc_seq.specs.SpecView.{text_call_of, choice_of}
+use Rattle.lc_seq.specs.declared.choice.Pick.{Pick}
+use Rattle.lc_seq.specs.declared.text_call.TextCall.{TextCall}
+use Rattle.lc_hist.specs.declared.event.Done.{Done}
+use Rattle.lc_hist.specs.View as H
+use Rattle.lc_hist.specs.History.{Entry}
+use Rattle.lc_machine.specs.Step.{Event, Invoked, Moved, Returned}
+use Rattle.lc_rider.specs.Rider.{Mark}
+use Rattle.lc_sound.specs.Happening as S
+use Rattle.lc_sound.specs.Happening.{Happens, Marked, counted, returns_next, client_of, is_reply, put}
+use Rattle.lc_sound.specs.Instrumented.{Label, event_of}
+use Rattle.lc_sound.specs.Order.{called_last, marked, happenings, no_call}
+use Rattle.lc_run.specs.LabelView.{labels_of}
+use Rattle.lc_run.specs.Ordering.{entries_shown, call_of, call_in, calls_in, happening_of, happenings_of, has_client, returns_in, is_within, counted_first, is_small}
+use Rattle.lc_run.specs.declared.label.Label as code
+use Rattle.lc_run.specs.declared.ordering.Begun.{Begun}
+use Rattle.lc_run.specs.declared.ordering.Happening.{Happening}
+
+-- ---- lists
+
+pub regroup : {A : Type 0} (a b c rest whole : List A) → a ++ (b ++ (c ++ rest)) ≡ whole → ((a ++ b) ++ c) ++ rest ≡ whole
+regroup a b c rest whole e = (append_assoc (a ++ b) c rest ∙ append_assoc a b (c ++ rest)) ∙ e
+
+-- ---- the calls that clients began last
+
+put-there : (calls : List (Rattle.std.specs.Prelude.Option Begun)) (c : ℕ) (b : Begun) (d : ℕ) (e : Bool) → c < length calls → (d == c) ≡ e →
+    calls_in (set calls c (Some b)) d ≡ cond e (call_of b) (calls_in calls d)
+put-there calls c b d true h e = ap call_in (get_or-set_at calls c d (Some b) None (eqb-true d c e) h)
+put-there calls c b d false h e = let apart : d ≢ c = grind (arith, nat_tests) in ap call_in (get_or-set_other calls c d (Some b) None apart)
+
+-- a call begins
+pub begun : (calls : List (Rattle.std.specs.Prelude.Option Begun)) (c : ℕ) (b : Begun) → c < length calls → calls_in (set calls c (Some b)) ≡ put (calls_in calls) c (call_of b)
+begun calls c b h = fun_ext (λ d. put-there calls c b d (d == c) h refl)
+
+-- ---- clients
+
+-- only clients begin calls and return
+pub within : (n : ℕ) (calls : ℕ → Call) (ls : List Label) → list_all (has_client n) ls ≡ true → list_all (is_within n) (happenings calls ls) ≡ true
+within n calls [] h = refl
+within n calls (l ∷ ls) h =
+    let rest = within n (called_last calls l.client l.what) ls (right_true (has_client n l) (list_all (has_client n) ls) h) in
+    joined (map (marked calls) l.marks) _ (marks-are l.marks) (joined (map Happens (event_of l.client l.what)) _ (event-is l.what (left_true (has_client n l) (list_all (has_client n) ls) h)) rest)
+  where
+    joined : (xs ys : List S.Happening) → list_all (is_within n) xs ≡ true → list_all (is_within n) ys ≡ true → list_all (is_within n) (xs ++ ys) ≡ true
+    joined xs ys a b = list_all-append (is_within n) xs ys ∙ both_true _ _ a b
+
+    marks-are : (ms : List Mark) → list_all (is_within n) (map (marked calls) ms) ≡ true
+    marks-are [] = refl
+    marks-are (m ∷ ms) = marks-are ms
+
+    event-is : (what : Event) → nat_lt l.client n ≡ true → list_all (is_within n) (map Happens (event_of l.client what)) ≡ true
+    event-is (Invoked o numbers) e = both_true _ _ e refl
+    event-is (Moved point edge) e = refl
+    event-is (Returned numbers) e = both_true _ _ e refl
+
+-- ---- from the end
+
+pub counted-is : (h : S.Happening) (hs : List S.Happening) → counted (h ∷ hs) ≡ counted_first (λ c. returns_next c hs) h ++ counted hs
+counted-is (Happens event) hs = refl
+counted-is (Marked false entry) hs = refl
+counted-is (Marked true entry) hs = by (returns_next entry.client hs)
+  where
+    by : (b : Bool) → cond b (entry ∷ counted hs) (counted hs) ≡ cond b (entry ∷ []) [] ++ counted hs
+    by true = refl
+    by false = refl
+
+-- what is counted does not depend on how it is known which clients have a return next
+pub counted-as : (f g : ℕ → Bool) (h : S.Happening) → ((c : ℕ) → f c ≡ g c) → counted_first f h ≡ counted_first g h
+counted-as f g (Happens event) e = refl
+counted-as f g (Marked false entry) e = refl
+counted-as f g (Marked true entry) e = ap (λ b. cond b (entry ∷ []) []) (e entry.client)
+
+-- one entry at most
+pub turned : (f : ℕ → Bool) (h : S.Happening) → reverse (counted_first f h) ≡ counted_first f h
+turned f (Happens event) = refl
+turned f (Marked false entry) = refl
+turned f (Marked true entry) = by (f entry.client)
+  where
+    by : (b : Bool) → reverse (cond b (entry ∷ []) []) ≡ cond b (entry ∷ []) []
+    by true = refl
+    by false = refl
+
+-- what is left behind a place that is taken from the end
+pub next-left : (hs : List Happening) (place : ℕ) (x : Happening) → 0 < place → place ≤ length hs → x ≡ get_or hs (place - 1) x → happenings_of (drop (place - 1) hs) ≡ happening_of x ∷ happenings_of (drop place hs)
+next-left hs place x some le is =
+    let n = place - 1 in
+    let next : n + 1 ≡ place = omega arith in
+    ap happenings_of (drop_more hs n x (omega arith) ∙ ap₂ (λ y k. y ∷ drop k hs) (sym is) next)
+
+pub behind-small : (p : ℕ) (hs : List Happening) → list_all is_small (counted (happenings_of hs)) ≡ true → list_all is_small (counted (happenings_of (drop p hs))) ≡ true
+behind-small zero hs e = e
+behind-small (suc p) [] e = e
+behind-small (suc p) (h ∷ hs) e =
+    let f = λ (c : ℕ). returns_next c (happenings_of hs) in
+    behind-small p hs (right_true (list_all is_small (counted_first f (happening_of h))) (list_all is_small (counted (happenings_of hs)))
+    (sym (ap (list_all is_small) (counted-is (happening_of h) (happenings_of hs)) ∙ list_all-append is_small (counted_first f (happening_of h)) (counted (happenings_of hs))) ∙ e))
+
+-- ---- label by label, from the front
+
+-- ---- one by one, from the end
+
+pub sees : (f g : ℕ → Bool) (h : S.Happening) (hs : List S.Happening) → ((c : ℕ) → g c ≡ cond (client_of h == c) (is_reply h) (f c)) → ((c : ℕ) → f c ≡ returns_next c hs) → (c : ℕ) → g c ≡ returns_next c (h ∷ hs)
+sees f g h hs e known c = e c ∙ ap (cond (client_of h == c) (is_reply h)) (known c)
+
+-- of the first of these
+pub first-small : (f : ℕ → Bool) (h : S.Happening) (hs : List S.Happening) → ((c : ℕ) → f c ≡ returns_next c hs) → list_all is_small (counted (h ∷ hs)) ≡ true → list_all is_small (counted_first f h) ≡ true
+first-small f h hs known e =
+    let g = λ (c : ℕ). returns_next c hs in
+    ap (list_all is_small) (counted-as f g h known)
+    ∙ left_true (list_all is_small (counted_first g h)) (list_all is_small (counted hs)) (sym (ap (list_all is_small) (counted-is h hs) ∙ list_all-append is_small (counted_first g h) (counted hs)) ∙ e)
+
+behind-within : (n p : ℕ) (hs : List Happening) → list_all (is_within n) (happenings_of hs) ≡ true → list_all (is_within n) (happenings_of (drop p hs)) ≡ true
+behind-within n zero hs e = e
+behind-within n (suc p) [] e = e
+behind-within n (suc p) (h ∷ hs) e = behind-within n p hs (right_true (is_within n (happening_of h)) (list_all (is_within n) (happenings_of hs)) e)
+
+pub first-within : (n p : ℕ) (h : S.Happening) (rest : List S.Happening) (hs : List Happening) → happenings_of (drop p hs) ≡ h ∷ rest → list_all (is_within n) (happenings_of hs) ≡ true → is_within n h ≡ true
+first-within n p h rest hs at e = left_true (is_within n h) (list_all (is_within n) rest) (sym (ap (list_all (is_within n)) at) ∙ behind-within n p hs e)
+
+map-reverse : {A B : Type 0} (f : A → B) (xs : List A) → map f (reverse xs) ≡ reverse (map f xs)
+map-reverse f [] = refl
+map-reverse f (x ∷ xs) =
+    ap (map f) (reverse-append (x ∷ []) xs) ∙ (map-append f (reverse xs) (reverse (x ∷ [])) ∙ (ap (λ ys. ys ++ f x ∷ []) (map-reverse f xs) ∙ sym (reverse-append (f x ∷ []) (map f xs))))
+
+-- entries from the last to the first
+pub shown-reverse : (es : List (Done TextCall Pick (Vec ℤ Global))) → entries_shown (reverse es) ≡ reverse (entries_shown es)
+shown-reverse es = map-reverse (H.entry_of text_call_of choice_of (λ (reply : Vec ℤ Global). reply.items)) es
+
+-- ---- the clients of labels
+
+told-below : (c n : ℕ) → nat_lt c n ≡ true → c < n
+told-below c n t = grind (arith, nat_tests)
+
+-- of a label that stands among those of so many clients
+pub client-at : (n i : ℕ) (ls : List code.Label) (x : code.Label) → list_all (has_client n) (labels_of ls) ≡ true → i < length ls → x ≡ get_or ls i x → x.client < n
+client-at n i [] x e m is = absurd (omega arith)
+client-at n zero (l ∷ ls) x e m is = told-below x.client n (ap (λ (y : code.Label). nat_lt y.client n) is ∙ left_true (nat_lt l.client n) (list_all (has_client n) (labels_of ls)) e)
+client-at n (suc i) (l ∷ ls) x e m is = client-at n i ls x (right_true (nat_lt l.client n) (list_all (has_client n) (labels_of ls)) e) (omega arith) is

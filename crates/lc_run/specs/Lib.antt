@@ -1,0 +1,9 @@
+pub mod LabelView
+pub mod Labels
+pub mod Held
+pub mod Locked
+pub mod Taken
+pub mod Running
+pub mod Seated
+pub mod Ordering
+pub mod Finished

@@ -1,0 +1,25 @@
+//! Runs of an accepted development by clients in threads: each step is taken under one lock, and what has run has a history and
+//! an order that linearizes it.
+#![tactic(auto)]
+
+mod fault;
+mod finishing;
+mod held;
+mod history;
+mod label;
+mod lawful;
+pub mod laws;
+mod ordering;
+mod runner;
+mod sameness;
+mod seating;
+mod starting;
+
+pub use fault::RunFault;
+pub use finishing::{RunLog, Unfinished, Why};
+pub use held::{SEAT_LIMIT, Seat, Shared};
+pub use label::Label;
+pub use lawful::LABEL_LIMIT;
+pub use lc_ride::Mark;
+pub use lc_steps::What;
+pub use runner::{Called, Progress, Runner};
