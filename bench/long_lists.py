@@ -80,11 +80,11 @@ def nested(begin, middle, end, depth):
     return begin * depth + middle + end * depth
 
 
-def balanced(term, leaves):
-    """The sum of so many copies of a term, as flat as it can be."""
+def balanced(term, leaves, operation="+"):
+    """The sum, or the difference, of so many copies of a term, as flat as it can be."""
     if leaves == 1:
         return term
-    return f"(+ {balanced(term, leaves // 2)} {balanced(term, leaves - leaves // 2)})"
+    return f"({operation} {balanced(term, leaves // 2, operation)} {balanced(term, leaves - leaves // 2, operation)})"
 
 
 def squared_sum():
@@ -94,6 +94,18 @@ def squared_sum():
         f"(forall q (<= {balanced('q', leaves)} 0)) (<= 1 x)",
         "(or)",
         f"(inst 0 {balanced('?0', leaves)} (sum (3 1) (1 {leaves * leaves})))",
+    )
+
+
+def heavy_sum():
+    """A sum whose numbers, multiplied out, leave 128 bits, put in for each variable of a difference that comes to 0."""
+    leaves, most = 4096, 2**63 - 1
+    products = "".join(f"(+ (* {most} (* {most} ?{k})) " for k in (1, 2, 3))
+    return formula(
+        f"(forall q (<= 1 {balanced('q', leaves, '-')}))",
+        "(or)",
+        f"(inst 0 {products}{balanced('?0', leaves)}))) (sum (2 1)))",
+        variables="x y z w",
     )
 
 
@@ -141,6 +153,7 @@ ABUSES = {
     "conjuncts_16000": lambda: conjuncts(16_000),
     "conjuncts_33000": lambda: conjuncts(33_000),
     "squared_sum": squared_sum,
+    "heavy_sum": heavy_sum,
     # The forms of a file, and what a specification and an object are made of.
     "forms": lambda: (DEVELOPMENT, {"DEV": many("()").encode(), "CERT": many("()").encode(), "HISTORY": HISTORY}),
     "abstract_columns": lambda: development(abstract=many("(a@ 0 0)")),

@@ -66,22 +66,33 @@ fn said_term(alloc: Global, term: &Term, before: Before<'_>) -> Result<Term, Out
         Term::Variable(number) => variable_told(alloc, before, *number),
         Term::Bound(number) => Ok(bound_told(before, *number)),
         Term::Add(left, right) => Ok(Term::Add(
-            Box::new(alloc, said_term(alloc, left, before)?)?,
-            Box::new(alloc, said_term(alloc, right, before)?)?,
+            boxed_term(alloc, left, before)?,
+            boxed_term(alloc, right, before)?,
         )),
         Term::Subtract(left, right) => Ok(Term::Subtract(
-            Box::new(alloc, said_term(alloc, left, before)?)?,
-            Box::new(alloc, said_term(alloc, right, before)?)?,
+            boxed_term(alloc, left, before)?,
+            boxed_term(alloc, right, before)?,
         )),
         Term::Multiply(factor, term) => Ok(Term::Multiply(
             *factor,
-            Box::new(alloc, said_term(alloc, term, before)?)?,
+            boxed_term(alloc, term, before)?,
         )),
         Term::Read(column, index) => Ok(Term::Read(
             said_column(alloc, column, before)?,
-            Box::new(alloc, said_term(alloc, index, before)?)?,
+            boxed_term(alloc, index, before)?,
         )),
     }
+}
+
+// The same in a box. It stands apart, so that each level of a term takes little of the stack.
+#[cycle(said_term)]
+#[inline(never)]
+fn boxed_term(alloc: Global, term: &Term, before: Before<'_>) -> Result<Box<Term>, OutOfMemory>
+    ensures { IfOk result (λ said.
+        (n : ℕ) → IsTrue (term_passes (tellable before.entry.columns.now before.entry.variables.now n) (term_of term.now)) →
+        term_of said.value ≡ replace_term (telling_under before.entry.columns.now before.entry.variables.now n) (term_of term.now)) }
+{
+    Ok(Box::new(alloc, said_term(alloc, term, before)?)?)
 }
 
 // A column expression that is no store, said of the state before.
@@ -99,6 +110,7 @@ fn said_base(alloc: Global, base: &ColExpr, before: Before<'_>) -> Result<ColExp
 }
 
 #[cycle(said_term)]
+#[inline(never)]
 fn said_column(alloc: Global, column: &ColExpr, before: Before<'_>) -> Result<ColExpr, OutOfMemory>
     ensures { IfOk result (λ said.
         (n : ℕ) → IsTrue (column_passes (tellable before.entry.columns.now before.entry.variables.now n) (column_of column.now)) →

@@ -47,3 +47,10 @@ HasForm (Add t u) = HasForm t × HasForm u × FormFits (Add t u)
 HasForm (Subtract t u) = HasForm t × HasForm u × FormFits (Subtract t u)
 HasForm (Multiply n t) = HasForm t × FormFits (Multiply n t)
 HasForm (Read c i) = FormFits (Read c i)
+
+-- a number or an atom: what is made of no other form
+abbrev pub IsLeaf : Term → Type 0
+IsLeaf (Add t u) = ⊥
+IsLeaf (Subtract t u) = ⊥
+IsLeaf (Multiply n t) = ⊥
+IsLeaf _ = Unit {0}

@@ -40,10 +40,10 @@ boxed_proof b = proof_of b.value
 abbrev pub begun_step : Box Proof Global → S.Step
 begun_step b = step_of (out-Proof b.value).step
 
--- the same where the step is that of a proof in a box
-abbrev pub IsBegun : Reading S.Step → ℕ → Cursor → Result (Result (Box Proof Global) ReadFault × Cursor) Misfit → Type 0
-IsBegun read k l (Ok r) = IsReading begun_step read r.0 × IsLeft k (number_of l) (rest_of l) r.1
-IsBegun read k l (Err misfit) = (misfit ≡ Misshapen (owner_of l)) × (read ≡ wrong Shape (owner_of l)) × IsShort k (rest_of l)
+-- the same where the step is that of a proof in a box, and the list is left at what stands behind
+abbrev pub IsBegun : Reading S.Step → ℕ → Cursor → Result (Result (Box Proof Global) ReadFault) Misfit → Cursor → Type 0
+IsBegun read k old (Ok begun) new = IsReading begun_step read begun × IsLeft k (number_of old) (rest_of old) new
+IsBegun read k old (Err misfit) new = (misfit ≡ Misshapen (owner_of old)) × (read ≡ wrong Shape (owner_of old)) × IsShort k (rest_of old)
 
 -- the proof out of its box
 abbrev pub unboxed : Result (Box Proof Global) ReadFault → Result Proof ReadFault

@@ -59,7 +59,9 @@ impl Due {
     }
 }
 
-/// What this word says. Those that stand most often in a long certificate come first.
+/// What this word says. Those that stand most often in a long certificate come first. It stands apart from the readers of proofs,
+/// which call one another.
+#[inline(never)]
 pub(crate) fn head_of(word: &str) -> Option<Head>
     ensures { result ≡ head_of word.now }
 {

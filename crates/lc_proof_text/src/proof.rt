@@ -81,19 +81,21 @@ fn boxed_step(alloc: Global, step: Result<Step, ReadFault>) -> Result<Box<Proof>
     Ok(Box::new(alloc, proof)?)
 }
 
-/// The step that begins so, of its own parts, as a proof whose branches are still to come. It stands apart from those who call
-/// one another, which keeps what each level of them takes of the stack small: so do `finished` and `pushed_out`.
+/// The step that begins so, of its own parts, as a proof whose branches are still to come; the list is left at what stands
+/// behind them. It stands apart from those who call one another, which keeps what each level of them takes of the stack small: so
+/// do `finished` and `pushed_out`.
 #[inline(never)]
 fn read_begun<'a, S: Scope>(
     alloc: Global,
     scope: &S,
     head: Head,
-    list: Cursor<'a>,
-) -> Result<(Result<Box<Proof>, ReadFault>, Cursor<'a>), Misfit>
-    ensures { IsBegun (step_reading (S.names scope.now) head (owner_of list.entry) (number_of list.entry) (rest_of list.entry)) (own_parts head) list.entry result }
+    list: &mut Cursor<'a>,
+) -> Result<Result<Box<Proof>, ReadFault>, Misfit>
+    ensures { IsBegun (step_reading (S.names scope.now) head (owner_of list.old) (number_of list.old) (rest_of list.old)) (own_parts head) list.old result list.new }
 {
-    let (step, rest) = read_own(alloc, scope, head, list)?;
-    Ok((boxed_step(alloc, step), rest))
+    let (step, rest) = read_own(alloc, scope, head, *list)?;
+    *list = rest;
+    Ok(boxed_step(alloc, step))
 }
 
 /// A proof that is begun, with its branches.
@@ -143,24 +145,24 @@ fn with_misshapen(proofs: Result<Vec<Proof>, ReadFault>, item: u64) -> Result<Ve
 pub fn read_proof<S: Scope>(alloc: Global, scope: &S, part: Part<'_>) -> Result<Proof, ReadFault>
     ensures { IsReading proof_of (proof_reading (S.names scope.now) (place_of part.entry) (tree_of part.entry)) result }
 {
-    out_of_box(read_boxed(alloc, scope, part))
+    out_of_box(read_boxed(alloc, scope, &part))
 }
 
 /// The same in a box.
 #[cycle(read_proof)]
-fn read_boxed<S: Scope>(alloc: Global, scope: &S, part: Part<'_>) -> Result<Box<Proof>, ReadFault>
-    ensures { IsReading boxed_proof (proof_reading (S.names scope.now) (place_of part.entry) (tree_of part.entry)) result }
+fn read_boxed<S: Scope>(alloc: Global, scope: &S, part: &Part<'_>) -> Result<Box<Proof>, ReadFault>
+    ensures { IsReading boxed_proof (proof_reading (S.names scope.now) (place_of part.now) (tree_of part.now)) result }
 {
     let list = match part.item() {
         Item::Atom(atom) => return Err(wrong(Pass::Shape, atom.number())),
         Item::List(list) => list,
     };
-    let (word, parts) = headed(list)?;
+    let (word, mut parts) = headed(list)?;
     if word == "sum" {
         return read_sum(alloc, parts);
     }
     match head_of(word) {
-        Some(head) => read_step(alloc, scope, head, parts),
+        Some(head) => read_step(alloc, scope, head, &mut parts),
         None => Err(wrong(Pass::Shape, list.owner())),
     }
 }
@@ -172,13 +174,16 @@ fn read_step<S: Scope>(
     alloc: Global,
     scope: &S,
     head: Head,
-    list: Cursor<'_>,
+    list: &mut Cursor<'_>,
 ) -> Result<Box<Proof>, ReadFault>
-    ensures { IsReading boxed_proof (with_proofs (S.names scope.now) head (owner_of list.entry) (number_of list.entry) (rest_of list.entry)) result }
+    ensures { IsReading boxed_proof (with_proofs (S.names scope.now) head (owner_of list.old) (number_of list.old) (rest_of list.old)) result }
 {
-    let (begun, rest) = read_begun(alloc, scope, head, list)?;
-    let branches = read_branches(alloc, scope, list.owner(), head.proofs_due(), rest);
-    finished(begun, branches)
+    let owner = list.owner();
+    let begun = read_begun(alloc, scope, head, list)?;
+    finished(
+        begun,
+        read_branches(alloc, scope, owner, head.proofs_due(), list),
+    )
 }
 
 /// The proofs that are due among the items that are left in a list.
@@ -188,16 +193,15 @@ fn read_branches<S: Scope>(
     scope: &S,
     owner: u64,
     due: Due,
-    list: Cursor<'_>,
+    list: &mut Cursor<'_>,
 ) -> Result<Vec<Proof>, ReadFault>
-    ensures { IsReading branches_of (proofs_reading (S.names scope.now) owner zero due (number_of list.entry) (rest_of list.entry)) result }
+    ensures { IsReading branches_of (proofs_reading (S.names scope.now) owner zero due (number_of list.old) (rest_of list.old)) result }
 {
-    let mut rest = list;
     let mut due = due;
     let mut proofs = Ok(Vec::with_capacity(alloc, list.len())?);
     'proofs: loop {
-        let number = rest.number();
-        let Ok(part) = next_part(&mut rest) else {
+        let number = list.number();
+        let Ok(part) = next_part(list) else {
             return if due.is_met() {
                 proofs
             } else {
@@ -207,8 +211,7 @@ fn read_branches<S: Scope>(
         if due.is_full() {
             return with_misshapen(proofs, number);
         }
-        let proof = read_boxed(alloc, scope, part);
-        proofs = pushed_out(proofs, proof);
+        proofs = pushed_out(proofs, read_boxed(alloc, scope, &part));
         due = due.later();
     }
 }

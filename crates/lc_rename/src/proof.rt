@@ -1,5 +1,6 @@
 //! Proofs with other columns in place of theirs.
-ghost use Rattle.std.specs.Prelude.{◌≡◌, map, IfOk};
+ghost use Rattle.std.specs.Prelude.{◌≡◌, ◌++◌, ◌∷◌, [], map, IfOk, OnOk};
+ghost use Rattle.lc_kernel.specs.Proofs as S;
 ghost use Rattle.lc_kernel.specs.Proofs.{proofs, size};
 ghost use Rattle.lc_kernel.specs.View.{step_of, proof_of, proofs_of};
 ghost use Rattle.lc_rename.specs.Renaming.{column_for};
@@ -155,7 +156,6 @@ fn renamed_step(alloc: Global, columns: &[Option<ColId>], step: &Step) -> Result
 }
 
 /// A proof with the columns in place of those that it names. A column in whose place there is none stays.
-#[cycle(renamed)]
 pub fn renamed(
     alloc: Global,
     columns: &[Option<ColId>],
@@ -166,6 +166,37 @@ pub fn renamed(
     let step = renamed_step(alloc, columns, &proof.step)?;
     let branches = all_renamed(alloc, columns, &proof.branches)?;
     Ok(Proof { step, branches })
+}
+
+/// Puts a step, with the columns in place of those that it names, and these branches behind proofs. It stands apart from those
+/// who call one another, so that each level of a proof takes little of the stack.
+#[inline(never)]
+fn push_with_step(
+    alloc: Global,
+    columns: &[Option<ColId>],
+    step: &Step,
+    branches: Vec<Proof>,
+    made: &mut Vec<Proof>,
+) -> Result<(), OutOfMemory>
+    ensures { OnOk result (proofs_of made.new.items ≡ proofs_of made.old.items ++ S.proof (renamed_step (column_for columns.now) (step_of step.now)) (S.proofs (proofs_of branches.items)) ∷ []) }
+{
+    let step = renamed_step(alloc, columns, step)?;
+    made.push(Proof { step, branches })?;
+    Ok(())
+}
+
+/// Puts a proof, with the columns in place of those that it names, behind others.
+#[cycle(renamed)]
+fn push_renamed(
+    alloc: Global,
+    columns: &[Option<ColId>],
+    proof: &Proof,
+    made: &mut Vec<Proof>,
+) -> Result<(), OutOfMemory>
+    ensures { OnOk result (proofs_of made.new.items ≡ proofs_of made.old.items ++ renamed (column_for columns.now) (proof_of proof.now) ∷ []) }
+{
+    let branches = all_renamed(alloc, columns, &proof.branches)?;
+    push_with_step(alloc, columns, &proof.step, branches, made)
 }
 
 /// Proofs with the columns in place of those that they name.
@@ -179,7 +210,7 @@ fn all_renamed(
 {
     let mut made = Vec::with_capacity(alloc, proofs.len())?;
     for proof in proofs {
-        made.push(renamed(alloc, columns, proof)?)?;
+        push_renamed(alloc, columns, proof, &mut made)?;
     }
     Ok(made)
 }

@@ -1,9 +1,9 @@
 //! Terms and formulas with other columns in place of theirs.
-ghost use Rattle.std.specs.Prelude.{◌≡◌, false, IfOk};
+ghost use Rattle.std.specs.Prelude.{◌≡◌, ◌++◌, ◌∷◌, [], false, IfOk, OnOk};
 ghost use Rattle.lc_rename.specs.Renaming.{column_for, renaming};
 ghost use Rattle.lc_term.specs.Chains.{is_store};
 ghost use Rattle.lc_term.specs.Replacement.{replace_term, replace_column, replace, replace_all};
-ghost use Rattle.lc_term.specs.Syntax.{formulas};
+ghost use Rattle.lc_term.specs.Syntax.{Le, Eq, formulas};
 ghost use Rattle.lc_term.specs.View.{term_of, column_of, formula_of, formulas_of};
 
 use crate::columns::column_or;
@@ -25,22 +25,35 @@ pub(crate) fn renamed_term(
         Term::Variable(number) => Ok(Term::Variable(*number)),
         Term::Bound(number) => Ok(Term::Bound(*number)),
         Term::Add(left, right) => Ok(Term::Add(
-            Box::new(alloc, renamed_term(alloc, columns, left)?)?,
-            Box::new(alloc, renamed_term(alloc, columns, right)?)?,
+            boxed_term(alloc, columns, left)?,
+            boxed_term(alloc, columns, right)?,
         )),
         Term::Subtract(left, right) => Ok(Term::Subtract(
-            Box::new(alloc, renamed_term(alloc, columns, left)?)?,
-            Box::new(alloc, renamed_term(alloc, columns, right)?)?,
+            boxed_term(alloc, columns, left)?,
+            boxed_term(alloc, columns, right)?,
         )),
         Term::Multiply(factor, term) => Ok(Term::Multiply(
             *factor,
-            Box::new(alloc, renamed_term(alloc, columns, term)?)?,
+            boxed_term(alloc, columns, term)?,
         )),
         Term::Read(column, index) => Ok(Term::Read(
             renamed_column(alloc, columns, column)?,
-            Box::new(alloc, renamed_term(alloc, columns, index)?)?,
+            boxed_term(alloc, columns, index)?,
         )),
     }
+}
+
+/// The same in a box. It stands apart, so that each level of a term takes little of the stack.
+#[cycle(renamed_term)]
+#[inline(never)]
+fn boxed_term(
+    alloc: Global,
+    columns: &[Option<ColId>],
+    term: &Term,
+) -> Result<Box<Term>, OutOfMemory>
+    ensures { IfOk result (λ renamed. term_of renamed.value ≡ replace_term (renaming (column_for columns.now)) (term_of term.now)) }
+{
+    Ok(Box::new(alloc, renamed_term(alloc, columns, term)?)?)
 }
 
 /// What is stored to, with the column in its place.
@@ -55,8 +68,9 @@ fn renamed_base(columns: &[Option<ColId>], base: &ColExpr) -> ColExpr
     }
 }
 
-/// A column expression with the columns in place of those that it names.
+/// A column expression with the columns in place of those that it names. It stands apart, likewise.
 #[cycle(renamed_term)]
+#[inline(never)]
 pub(crate) fn renamed_column(
     alloc: Global,
     columns: &[Option<ColId>],
@@ -84,33 +98,72 @@ pub(crate) fn renamed_formula(
     ensures { IfOk result (λ renamed. formula_of renamed ≡ replace (renaming (column_for columns.now)) (formula_of formula.now)) }
 {
     match formula {
-        Formula::Le(left, right) => Ok(Formula::Le(
-            renamed_term(alloc, columns, left)?,
-            renamed_term(alloc, columns, right)?,
-        )),
-        Formula::Eq(left, right) => Ok(Formula::Eq(
-            renamed_term(alloc, columns, left)?,
-            renamed_term(alloc, columns, right)?,
-        )),
-        Formula::Not(formula) => Ok(Formula::Not(Box::new(
-            alloc,
-            renamed_formula(alloc, columns, formula)?,
-        )?)),
+        Formula::Le(left, right) => renamed_le(alloc, columns, left, right),
+        Formula::Eq(left, right) => renamed_eq(alloc, columns, left, right),
+        Formula::Not(formula) => Ok(Formula::Not(boxed_formula(alloc, columns, formula)?)),
         Formula::And(parts) => Ok(Formula::And(renamed_parts(alloc, columns, parts)?)),
         Formula::Or(parts) => Ok(Formula::Or(renamed_parts(alloc, columns, parts)?)),
         Formula::Implies(left, right) => Ok(Formula::Implies(
-            Box::new(alloc, renamed_formula(alloc, columns, left)?)?,
-            Box::new(alloc, renamed_formula(alloc, columns, right)?)?,
+            boxed_formula(alloc, columns, left)?,
+            boxed_formula(alloc, columns, right)?,
         )),
-        Formula::Forall(body) => Ok(Formula::Forall(Box::new(
-            alloc,
-            renamed_formula(alloc, columns, body)?,
-        )?)),
-        Formula::Exists(body) => Ok(Formula::Exists(Box::new(
-            alloc,
-            renamed_formula(alloc, columns, body)?,
-        )?)),
+        Formula::Forall(body) => Ok(Formula::Forall(boxed_formula(alloc, columns, body)?)),
+        Formula::Exists(body) => Ok(Formula::Exists(boxed_formula(alloc, columns, body)?)),
     }
+}
+
+/// The first term at most the second, likewise. It stands apart from those who call one another, as what follows.
+#[inline(never)]
+fn renamed_le(
+    alloc: Global,
+    columns: &[Option<ColId>],
+    left: &Term,
+    right: &Term,
+) -> Result<Formula, OutOfMemory>
+    ensures { IfOk result (λ renamed. formula_of renamed ≡ replace (renaming (column_for columns.now)) (Le (term_of left.now) (term_of right.now))) }
+{
+    Ok(Formula::Le(
+        renamed_term(alloc, columns, left)?,
+        renamed_term(alloc, columns, right)?,
+    ))
+}
+
+/// The terms equal, likewise.
+#[inline(never)]
+fn renamed_eq(
+    alloc: Global,
+    columns: &[Option<ColId>],
+    left: &Term,
+    right: &Term,
+) -> Result<Formula, OutOfMemory>
+    ensures { IfOk result (λ renamed. formula_of renamed ≡ replace (renaming (column_for columns.now)) (Eq (term_of left.now) (term_of right.now))) }
+{
+    Ok(Formula::Eq(
+        renamed_term(alloc, columns, left)?,
+        renamed_term(alloc, columns, right)?,
+    ))
+}
+
+/// The formula in a box.
+#[cycle(renamed_formula)]
+#[inline(never)]
+fn boxed_formula(
+    alloc: Global,
+    columns: &[Option<ColId>],
+    formula: &Formula,
+) -> Result<Box<Formula>, OutOfMemory>
+    ensures { IfOk result (λ renamed. formula_of renamed.value ≡ replace (renaming (column_for columns.now)) (formula_of formula.now)) }
+{
+    Ok(Box::new(alloc, renamed_formula(alloc, columns, formula)?)?)
+}
+
+/// Takes a formula out of its box, and puts it behind others.
+#[inline(never)]
+fn push_out(renamed: &mut Vec<Formula>, formula: Box<Formula>) -> Result<(), OutOfMemory>
+    ensures { OnOk result (renamed.new.items ≡ renamed.old.items ++ (formula.value ∷ [])) }
+{
+    renamed.push(Box::into_inner(formula))?;
+    Ok(())
 }
 
 /// The parts of a conjunction or a disjunction, likewise.
@@ -124,7 +177,7 @@ fn renamed_parts(
 {
     let mut renamed = Vec::with_capacity(alloc, parts.len())?;
     for part in parts {
-        renamed.push(renamed_formula(alloc, columns, part)?)?;
+        push_out(&mut renamed, boxed_formula(alloc, columns, part)?)?;
     }
     Ok(renamed)
 }

@@ -17,9 +17,6 @@ mod starting;
 
 pub use fault::RunFault;
 pub use finishing::{RunLog, Unfinished, Why};
-pub use held::{SEAT_LIMIT, Seat, Shared};
+pub use held::{Seat, Shared};
 pub use label::Label;
-pub use lawful::LABEL_LIMIT;
-pub use lc_ride::Mark;
-pub use lc_steps::What;
 pub use runner::{Called, Progress, Runner};

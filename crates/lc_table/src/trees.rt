@@ -1,6 +1,7 @@
 //! The trees that numbers of a table stand for.
 ghost use Rattle.std.specs.Prelude.{◌≡◌, ◌++◌, ◌∷◌, [], true, false, IfOk, OnOk};
 ghost use Rattle.lc_term.specs.Chains.{is_store};
+ghost use Rattle.lc_term.specs.Syntax.{Le, Eq};
 ghost use Rattle.lc_table.specs.NodeChains.{stored_to};
 ghost use Rattle.lc_term.specs.View.{term_of, column_of, formula_of, formulas_of};
 ghost use Rattle.lc_table.specs.Tables.{term_in, column_in, formula_in, formulas_in, IsTerm, IsColumn, IsFormula, AreFormulas};
@@ -60,8 +61,9 @@ impl Terms {
         Ok(Box::new(alloc, self.term(alloc, term)?)?)
     }
 
-    /// The column expression of a number.
+    /// The column expression of a number. It stands apart, likewise.
     #[cycle(term)]
+    #[inline(never)]
     pub fn column(&self, alloc: Global, column: ColExprId) -> Result<ColExpr, OutOfMemory>
         requires { IsColumn self.now column }
         ensures { IfOk result (λ tree. column_of tree ≡ column_in self.now column) }
@@ -110,6 +112,26 @@ impl Terms {
         }
     }
 
+    // The first of two numbers' terms at most the second. It stands apart, likewise.
+    #[inline(never)]
+    fn le_tree(&self, alloc: Global, left: TermId, right: TermId) -> Result<Formula, OutOfMemory>
+        requires left { IsTerm self.now left }
+        requires right { IsTerm self.now right }
+        ensures { IfOk result (λ tree. formula_of tree ≡ Le (term_in self.now left) (term_in self.now right)) }
+    {
+        Ok(Formula::Le(self.term(alloc, left)?, self.term(alloc, right)?))
+    }
+
+    // Their terms equal, likewise.
+    #[inline(never)]
+    fn eq_tree(&self, alloc: Global, left: TermId, right: TermId) -> Result<Formula, OutOfMemory>
+        requires left { IsTerm self.now left }
+        requires right { IsTerm self.now right }
+        ensures { IfOk result (λ tree. formula_of tree ≡ Eq (term_in self.now left) (term_in self.now right)) }
+    {
+        Ok(Formula::Eq(self.term(alloc, left)?, self.term(alloc, right)?))
+    }
+
     /// The formula of a number.
     #[cycle(formula)]
     pub fn formula(&self, alloc: Global, formula: FormulaId) -> Result<Formula, OutOfMemory>
@@ -117,14 +139,8 @@ impl Terms {
         ensures { IfOk result (λ tree. formula_of tree ≡ formula_in self.now formula) }
     {
         match self.formula_node(formula) {
-            FormulaNode::Le(left, right) => Ok(Formula::Le(
-                self.term(alloc, *left)?,
-                self.term(alloc, *right)?,
-            )),
-            FormulaNode::Eq(left, right) => Ok(Formula::Eq(
-                self.term(alloc, *left)?,
-                self.term(alloc, *right)?,
-            )),
+            FormulaNode::Le(left, right) => self.le_tree(alloc, *left, *right),
+            FormulaNode::Eq(left, right) => self.eq_tree(alloc, *left, *right),
             FormulaNode::Not(formula) => Ok(Formula::Not(self.boxed_formula(alloc, *formula)?)),
             FormulaNode::And(parts) => Ok(Formula::And(self.formulas(alloc, parts)?)),
             FormulaNode::Or(parts) => Ok(Formula::Or(self.formulas(alloc, parts)?)),

@@ -1,7 +1,7 @@
 //! The type of formulas: copies, and whether two are the same.
 ghost use Rattle.std.specs.Prelude.{◌≡◌, ◌++◌, ◌∷◌, [], IfOk, OnOk, IsTrue, ◌↔◌};
-ghost use Rattle.lc_term.specs.Syntax.{formulas};
-ghost use Rattle.lc_term.specs.View.{formula_of, formulas_of};
+ghost use Rattle.lc_term.specs.Syntax.{Le, Eq, formulas};
+ghost use Rattle.lc_term.specs.View.{term_of, formula_of, formulas_of};
 ghost use Rattle.lc_term.specs.Equal.{formula_eq, formulas_eq};
 ghost use Rattle.lc_term.specs.EqualLaws.{formula_eq_equiv};
 ghost use Rattle.std.specs.Cmp.{on_equiv, partial_equiv_from_equiv};
@@ -49,14 +49,8 @@ impl Formula {
         ensures { IfOk result (λ copy. formula_of copy ≡ formula_of self.now) }
     {
         match self {
-            Formula::Le(left, right) => Ok(Formula::Le(
-                left.try_clone(alloc)?,
-                right.try_clone(alloc)?,
-            )),
-            Formula::Eq(left, right) => Ok(Formula::Eq(
-                left.try_clone(alloc)?,
-                right.try_clone(alloc)?,
-            )),
+            Formula::Le(left, right) => copied_le(alloc, left, right),
+            Formula::Eq(left, right) => copied_eq(alloc, left, right),
             Formula::Not(formula) => Ok(Formula::Not(boxed_copy(alloc, formula)?)),
             Formula::And(formulas) => Ok(Formula::And(copy_formulas(alloc, formulas)?)),
             Formula::Or(formulas) => Ok(Formula::Or(copy_formulas(alloc, formulas)?)),
@@ -70,7 +64,24 @@ impl Formula {
     }
 }
 
-// The same formula in a box. It stands apart, so that each level of a formula takes little of the stack.
+// The first term at most the second, in memory of its own. It stands apart, so that each level of a formula takes little of the
+// stack.
+#[inline(never)]
+fn copied_le(alloc: Global, left: &Term, right: &Term) -> Result<Formula, OutOfMemory>
+    ensures { IfOk result (λ copy. formula_of copy ≡ Le (term_of left.now) (term_of right.now)) }
+{
+    Ok(Formula::Le(left.try_clone(alloc)?, right.try_clone(alloc)?))
+}
+
+// The terms equal, likewise.
+#[inline(never)]
+fn copied_eq(alloc: Global, left: &Term, right: &Term) -> Result<Formula, OutOfMemory>
+    ensures { IfOk result (λ copy. formula_of copy ≡ Eq (term_of left.now) (term_of right.now)) }
+{
+    Ok(Formula::Eq(left.try_clone(alloc)?, right.try_clone(alloc)?))
+}
+
+// The same formula in a box, likewise.
 #[cycle(copy_formula)]
 #[inline(never)]
 fn boxed_copy(alloc: Global, formula: &Formula) -> Result<Box<Formula>, OutOfMemory>

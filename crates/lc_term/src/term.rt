@@ -76,29 +76,35 @@ impl Term {
             Term::Number(number) => Ok(Term::Number(*number)),
             Term::Variable(number) => Ok(Term::Variable(*number)),
             Term::Bound(number) => Ok(Term::Bound(*number)),
-            Term::Add(left, right) => Ok(Term::Add(
-                Box::new(alloc, left.try_clone(alloc)?)?,
-                Box::new(alloc, right.try_clone(alloc)?)?,
-            )),
+            Term::Add(left, right) => {
+                Ok(Term::Add(boxed_copy(alloc, left)?, boxed_copy(alloc, right)?))
+            }
             Term::Subtract(left, right) => Ok(Term::Subtract(
-                Box::new(alloc, left.try_clone(alloc)?)?,
-                Box::new(alloc, right.try_clone(alloc)?)?,
+                boxed_copy(alloc, left)?,
+                boxed_copy(alloc, right)?,
             )),
-            Term::Multiply(factor, term) => Ok(Term::Multiply(
-                *factor,
-                Box::new(alloc, term.try_clone(alloc)?)?,
-            )),
+            Term::Multiply(factor, term) => Ok(Term::Multiply(*factor, boxed_copy(alloc, term)?)),
             Term::Read(column, index) => Ok(Term::Read(
                 column.try_clone(alloc)?,
-                Box::new(alloc, index.try_clone(alloc)?)?,
+                boxed_copy(alloc, index)?,
             )),
         }
     }
 }
 
+// The same term in a box. It stands apart, so that each level of a term takes little of the stack.
+#[cycle(copy_term)]
+#[inline(never)]
+fn boxed_copy(alloc: Global, term: &Term) -> Result<Box<Term>, OutOfMemory>
+    ensures { IfOk result (λ copy. term_of copy.value ≡ term_of term.now) }
+{
+    Ok(Box::new(alloc, term.try_clone(alloc)?)?)
+}
+
 impl ColExpr {
-    /// The same column expression, in memory of its own.
+    /// The same column expression, in memory of its own. It stands apart, likewise.
     #[cycle(copy_term)]
+    #[inline(never)]
     pub fn try_clone(&self, alloc: Global) -> Result<ColExpr, OutOfMemory>
         ensures { IfOk result (λ copy. column_of copy ≡ column_of self.now) }
     {

@@ -1,9 +1,16 @@
 -- What parts that are read together stand for.
-use Rattle.std.specs.Prelude.{ℕ, ℤ, List, Vec, Box, Result, Ok, Err}
+use Rattle.std.specs.Prelude.{◌≡◌, ℕ, ℤ, List, Vec, Box, Result, Ok, Err}
 use Rattle.std.specs.declared.alloc.Global.{Global}
 use Rattle.lc_base.specs.Name.{bytes_of}
 use Rattle.lc_base.specs.declared.name.Name.{Name}
+use Rattle.lc_sexp.specs.Shown.{rest_of, owner_of}
+use Rattle.lc_sexp.specs.declared.cursor.Cursor.{Cursor}
+use Rattle.lc_reading.specs.Flaws.{at}
+use Rattle.lc_reading.specs.Parts.{IsThree, IsShortOfThree}
 use Rattle.lc_reading.specs.declared.flaw.ReadFault.{ReadFault}
+use Rattle.lc_reading.specs.declared.flaw.ReadFault.TheVariants.{Flawed, OutOfMemory}
+use Rattle.lc_reading.specs.declared.part.Part.{Part}
+use Rattle.lc_reading.specs.declared.pass.Pass.TheVariants.{Shape}
 use Rattle.lc_term.specs.Syntax as S
 use Rattle.lc_term.specs.View.{term_of, column_of, formula_of, formulas_of}
 use Rattle.lc_term.specs.declared.term.Term.{Term}
@@ -44,3 +51,9 @@ row_of fs = S.formulas (formulas_of fs.items)
 -- the name and the two numbers of a column that is declared
 abbrev pub column_parts : (Name × ℤ) × ℤ → (List ℕ × ℤ) × ℤ
 column_parts p = ((bytes_of p.0.0, p.0.1), p.1)
+
+-- the first three parts of a list and what stands behind them, in a box; or it has fewer
+abbrev pub AreBoxed : Cursor → Result (Box (Part × Part × Part × Cursor) Global) ReadFault → Type 0
+AreBoxed l (Ok b) = IsThree l (Ok b.value)
+AreBoxed l (Err (Flawed flaw)) = (flaw ≡ at Shape (owner_of l)) × IsShortOfThree (rest_of l)
+AreBoxed l (Err OutOfMemory) = Unit {0}

@@ -5,7 +5,7 @@ ghost use Rattle.lc_reading.specs.Parts.{tree_of, place_of};
 ghost use Rattle.lc_reading.specs.Results.{IsReading};
 ghost use Rattle.lc_reading.specs.Words.{names_in};
 ghost use Rattle.lc_term.specs.View.{column_of};
-ghost use Rattle.lc_text.specs.Seen.{numbers_of};
+ghost use Rattle.lc_text.specs.Seen.{numbers_of, AreBoxed};
 ghost use Rattle.lc_reading.specs.Readings.{mapped};
 ghost use Rattle.lc_text.specs.Terms.{base_reading, column_reading, numbers_reading, store_reading, built_with, store_of};
 
@@ -92,6 +92,17 @@ pub fn read_numbers(list: Cursor<'_>) -> Result<(i64, i64), ReadFault>
     ended(both(read_number(first), read_number(second)), rest)
 }
 
+/// Three parts, with what is left in the list behind them.
+type Parts<'a> = (Part<'a>, Part<'a>, Part<'a>, Cursor<'a>);
+
+/// The first three parts of a list, in a box: they are large, and stand on the stack at each level of a chain of stores.
+#[inline(never)]
+fn boxed_parts<'a>(alloc: Global, list: Cursor<'a>) -> Result<Box<Parts<'a>>, ReadFault>
+    ensures { AreBoxed list.entry result }
+{
+    Ok(Box::new(alloc, three(list)?)?)
+}
+
 /// A column with a value stored at an index: a column and two terms, which are all that is left in a list.
 #[cycle(read_term)]
 #[inline(never)]
@@ -103,9 +114,13 @@ fn read_store<S: Scope>(
 ) -> Result<ColExpr, ReadFault>
     ensures { IsReading column_of (mapped store_of (store_reading (S.names scope.now) (names_in bound.now) (owner_of list.entry) (number_of list.entry) (rest_of list.entry))) result }
 {
-    let (first, second, third, rest) = three(list)?;
-    let column = read_bound_column(alloc, scope, bound, list.owner(), &first);
-    let index = read_bound_term(alloc, scope, bound, &second);
-    let value = read_bound_term(alloc, scope, bound, &third);
-    whole_store(alloc, column, index, value, rest)
+    let parts = boxed_parts(alloc, list)?;
+    let (first, second, third, rest) = &*parts;
+    whole_store(
+        alloc,
+        read_bound_column(alloc, scope, bound, list.owner(), first),
+        read_bound_term(alloc, scope, bound, second),
+        read_bound_term(alloc, scope, bound, third),
+        rest,
+    )
 }

@@ -122,12 +122,12 @@ pub(crate) fn whole_store(
     column: Result<ColExpr, ReadFault>,
     index: Result<Term, ReadFault>,
     value: Result<Term, ReadFault>,
-    rest: Cursor<'_>,
+    rest: &Cursor<'_>,
 ) -> Result<ColExpr, ReadFault>
-    ensures { (r : Reading ((S.Column × S.Term) × S.Term)) → IsReading store_parts r (ended_result (number_of rest.entry) (rest_of rest.entry) (both_results (both_results column index) value)) →
+    ensures { (r : Reading ((S.Column × S.Term) × S.Term)) → IsReading store_parts r (ended_result (number_of rest.now) (rest_of rest.now) (both_results (both_results column index) value)) →
         IsReading column_of (mapped store_of r) result }
 {
-    made_store(alloc, ended(both(both(column, index), value), rest))
+    made_store(alloc, ended(both(both(column, index), value), *rest))
 }
 
 /// The comparison of two terms.

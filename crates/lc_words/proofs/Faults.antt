@@ -1,20 +1,19 @@
 -- What an error of clap at words says of them.
-use Rattle.std.proofs.Common.{◌≡◌, ℕ, ◌⊎◌, inl, inr, true, List, [], Some, None, sym, ◌∙◌, ap, subst}
+use Rattle.std.proofs.Common.{◌≡◌, ◌⊎◌, inl, inr, Bool, true, List, [], Some, None, sym, ◌∙◌, ap, subst}
 use Rattle.std.specs.Prelude.{Result, Ok, Err, IfErr, IsErrAnd}
 use Rattle.clap.specs.Words.{App, HasKind, HasMatchesOf, IsAmong, Text, fault_of, is_simple, is_simple_and_free, kind_of, subcommand_of, subcommand_rows_of, takes}
 use Rattle.clap.specs.declared.error.Error.{Error}
 use Rattle.clap.specs.declared.error.kind.ErrorKind.TheVariants.{OutOfMemory}
 use Rattle.clap.specs.declared.parser.matches.ArgMatches.{ArgMatches}
 use Rattle.lc_words.specs.Commands.{program_app}
-use Rattle.lc_words.specs.Reading.{AreWrong, AskForHelp, AsksForText, Reads, task_in}
-use Rattle.lc_words.specs.Tasks.{HasPlainPaths, Task, task_of, words_for}
+use Rattle.lc_words.specs.Reading.{AreWrong, AskFor, AskForHelp, AsksForText, Reads, is_explained, task_in}
+use Rattle.lc_words.specs.Tasks.{Task, task_of}
 use Rattle.lc_words.specs.declared.request.Request.{Request}
-use Rattle.lc_words.proofs.Plain.{program_is_free, program_is_simple, task_is_read, words_are_taken}
+use Rattle.lc_words.proofs.Plain.{program_is_free, program_is_simple}
 
 -- something is asked for
-pub plain_is_read : (words : List Text) (name : List ℕ) (task : Task) → words ≡ words_for name task → HasPlainPaths task → task_in (subcommand_of program_app words) ≡ None → ⊥
-plain_is_read words name task is plain nothing =
-    let e : Some task ≡ None = sym (task_is_read name task plain) ∙ sym (ap (λ w. task_in (subcommand_of program_app w)) is) ∙ nothing in cc
+something_is_asked : (words : List Text) (task : Task) → AskFor words task → task_in (subcommand_of program_app words) ≡ None → ⊥
+something_is_asked words task ask nothing = let e : Some task ≡ None = sym ask.1 ∙ nothing in cc
 
 -- an error has one of the kinds of the fault, so that of wrong words asks for no text
 pub no_text : (words : List Text) (e : Error) → AreWrong words → HasKind (fault_of program_app words) e → AsksForText (kind_of e) → ⊥
@@ -23,10 +22,9 @@ no_text words e wrong (inl memory) (inr version) = cc
 no_text words e (inl faulty) (inr among) asks = faulty.1 (kind_of e) among asks
 no_text words e (inr idle) (inr among) asks = subst (IsAmong (kind_of e)) idle.0 among
 
--- an error of clap at plain words is want of memory
-pub plain_fault : (a : App) (words : List Text) (e : Error) → a ≡ program_app → (takes a words ≡ true → kind_of e ≡ OutOfMemory)
-    → (name : List ℕ) (task : Task) → words ≡ words_for name task → HasPlainPaths task → kind_of e ≡ OutOfMemory
-plain_fault a words e is passes name task w plain = passes (ap (λ x. takes x words) is ∙ ap (takes program_app) w ∙ words_are_taken name task plain)
+-- an error of clap at words that ask for a task is want of memory
+pub taken_fault : (a : App) (words : List Text) (e : Error) → a ≡ program_app → (takes a words ≡ true → kind_of e ≡ OutOfMemory) → (task : Task) → AskFor words task → kind_of e ≡ OutOfMemory
+taken_fault a words e is passes task ask = passes (ap (λ x. takes x words) is ∙ ask.0)
 
 -- an error of clap at wrong words asks for no text
 pub wrong_fault : (a : App) (words : List Text) (e : Error) → a ≡ program_app → (is_simple_and_free a ≡ true → HasKind (fault_of a words) e)
@@ -53,12 +51,11 @@ not_wrong a words m task is kinds has reads (inr idle) =
     let same : subcommand_rows_of m ≡ subcommand_of program_app words = (has (ap is_simple is ∙ program_is_simple)).1 ∙ ap (λ x. subcommand_of x words) is in
     let e : Some task ≡ None = reads ∙ ap task_in same ∙ idle.1 in cc
 
--- at plain words something is asked for
-pub nothing_plain : (a : App) (words : List Text) (m : ArgMatches) → a ≡ program_app → HasMatchesOf a words m → None ≡ task_in (subcommand_rows_of m)
-    → (name : List ℕ) (task : Task) → words ≡ words_for name task → HasPlainPaths task → ⊥
-nothing_plain a words m is has nothing name task w plain =
+-- words in which no task is read ask for none
+pub nothing_asked : (a : App) (words : List Text) (m : ArgMatches) → a ≡ program_app → HasMatchesOf a words m → None ≡ task_in (subcommand_rows_of m) → (task : Task) → AskFor words task → ⊥
+nothing_asked a words m is has nothing task ask =
     let same : subcommand_rows_of m ≡ subcommand_of program_app words = (has (ap is_simple is ∙ program_is_simple)).1 ∙ ap (λ x. subcommand_of x words) is in
-    plain_is_read words name task w plain (sym (nothing ∙ ap task_in same))
+    something_is_asked words task ask (sym (nothing ∙ ap task_in same))
 
 -- what is read in matches is what clap reads in the words
 pub reads_request : (a : App) (words : List Text) (m : ArgMatches) (request : Request) → a ≡ program_app → HasMatchesOf a words m → Some (task_of request) ≡ task_in (subcommand_rows_of m)
@@ -67,22 +64,27 @@ reads_request a words m request is has reads =
     let same : subcommand_rows_of m ≡ subcommand_of program_app words = (has (ap is_simple is ∙ program_is_simple)).1 ∙ ap (λ x. subcommand_of x words) is in
     sym (reads ∙ ap task_in same)
 
+-- and so is whether a refusal is to be explained
+pub reads_explained : (a : App) (words : List Text) (m : ArgMatches) (explained : Bool) → a ≡ program_app → HasMatchesOf a words m → explained ≡ is_explained (subcommand_rows_of m)
+    → explained ≡ is_explained (subcommand_of program_app words)
+reads_explained a words m explained is has reads =
+    let same : subcommand_rows_of m ≡ subcommand_of program_app words = (has (ap is_simple is ∙ program_is_simple)).1 ∙ ap (λ x. subcommand_of x words) is in
+    reads ∙ ap is_explained same
+
 -- want of memory asks for no text
 memory_alone : (e : Error) → kind_of e ≡ OutOfMemory → AsksForText (kind_of e) → ⊥
 memory_alone e memory (inl help) = cc
 memory_alone e memory (inr version) = cc
 
-pub memory_told : (r : Result Request Error) → IsErrAnd r (λ e. kind_of e ≡ OutOfMemory) → IsErrAnd r (λ e. AsksForText (kind_of e) → ⊥)
+pub memory_told : {A : Type 0} (r : Result A Error) → IsErrAnd r (λ e. kind_of e ≡ OutOfMemory) → IsErrAnd r (λ e. AsksForText (kind_of e) → ⊥)
 memory_told (Ok x) memory = memory
 memory_told (Err e) memory = memory_alone e memory
 
--- where the words are not plain, an error may be any
-pub plain_err : (words : List Text) (r : Result Request Error) → ((name : List ℕ) (task : Task) → words ≡ words_for name task → HasPlainPaths task → ⊥)
-    → IfErr r (λ error. (name : List ℕ) (task : Task) → words ≡ words_for name task → HasPlainPaths task → kind_of error ≡ OutOfMemory)
-plain_err words (Ok x) never = tt
-plain_err words (Err e) never = λ name task w plain. absurd (never name task w plain)
+-- where the words ask for no task, an error may be any
+pub any_err : {A : Type 0} (words : List Text) (r : Result A Error) → ((task : Task) → AskFor words task → ⊥) → IfErr r (λ error. (task : Task) → AskFor words task → kind_of error ≡ OutOfMemory)
+any_err words (Ok x) never = tt
+any_err words (Err e) never = λ task ask. absurd (never task ask)
 
--- the request that is read in plain words is for their task
-pub request_is : (words : List Text) (request : Request) (name : List ℕ) (task : Task) → Reads words request → words ≡ words_for name task → HasPlainPaths task → task_of request ≡ task
-request_is words request name task reads w plain =
-    let e : Some (task_of request) ≡ Some task = sym reads ∙ ap (λ x. task_in (subcommand_of program_app x)) w ∙ task_is_read name task plain in cc
+-- the request that is read is for the task that the words ask for
+pub request_is : (words : List Text) (request : Request) (task : Task) → Reads words request → AskFor words task → task_of request ≡ task
+request_is words request task reads ask = let e : Some (task_of request) ≡ Some task = sym reads ∙ ask.1 in cc

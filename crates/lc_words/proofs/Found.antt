@@ -12,7 +12,7 @@ use Rattle.lc_base.specs.NameText.{is_name}
 use Rattle.lc_base.specs.declared.name.Name.{Name}
 use Rattle.lc_lib_texts.specs.Names.{lib_named}
 use Rattle.lc_lib_texts.specs.declared.library.Lib.{Lib}
-use Rattle.lc_words.specs.Reading.{beginning_task, begun, is_set, library_task, one_file_task, proving_task, showing_task, text_for, two_file_task, carrying_task}
+use Rattle.lc_words.specs.Reading.{beginning_task, begun, is_set, library_task, listed, listing_task, one_file_task, proving_task, showing_task, text_for, two_file_task, carrying_task}
 use Rattle.lc_words.specs.Tasks.{BeginDevelopment, PrintLibrary, Task, is_development_name, proving, showing, carrying}
 use Rattle.lc_words.specs.declared.request.LibraryText.{LibraryText}
 
@@ -106,3 +106,15 @@ beginning_unfound f is = ap (option_and_then begun) (is ∙ first_value-rows f (
 pub beginning_found : (f : Found) (text : Text) (name : Option Name) → Some text ≡ first_value f (codes "NAME") → IsSome name ↔ ((is_name text ≡ true) × (length text ≤ name_limit))
     → option_map (λ n. BeginDevelopment text) name ≡ beginning_task (rows_of f)
 beginning_found f text name is valid = named text name valid ∙ ap (option_and_then begun) (is ∙ first_value-rows f (codes "NAME"))
+
+-- conditions are listed, or one is shown, as the options say
+pub listing_found : (f : Found) (development : Text) (at point kind : Option Text) (task : Option Task) → Some development ≡ first_value f (codes "DEV")
+    → at ≡ first_value f (codes "at") → point ≡ first_value f (codes "only") → kind ≡ first_value f (codes "kind") → task ≡ listed development at point kind → task ≡ listing_task (rows_of f)
+listing_found f development at point kind task is is_at is_point is_kind asked =
+    asked ∙ ap₂ (λ x y. option_and_then (λ d. listed d y point kind) x) (is ∙ first_value-rows f (codes "DEV")) (is_at ∙ first_value-rows f (codes "at"))
+    ∙ ap₂ (λ x y. option_and_then (λ d. listed d (first_of (codes "at") (rows_of f)) x y) (first_of (codes "DEV") (rows_of f))) (is_point ∙ first_value-rows f (codes "only"))
+    (is_kind ∙ first_value-rows f (codes "kind"))
+
+pub listing_unfound : (f : Found) → None ≡ first_value f (codes "DEV") → None ≡ listing_task (rows_of f)
+listing_unfound f is =
+    ap (option_and_then (λ d. listed d (first_of (codes "at") (rows_of f)) (first_of (codes "only") (rows_of f)) (first_of (codes "kind") (rows_of f)))) (is ∙ first_value-rows f (codes "DEV"))

@@ -1,4 +1,5 @@
 mod Walks
-pub mod Plain
+mod Numbers
+mod Plain
 pub mod Faults
 mod Found

@@ -7,7 +7,7 @@ use Rattle.clap.specs.declared.builder.action.ArgAction.TheVariants.{Set, SetTru
 abbrev pub file_rule : Text → Rule
 file_rule name = record (new_rule name) { action = Some Set; required = true }
 
--- an option that names a file
+-- an option with a value, as one that names a file
 abbrev pub option_rule : Text → Rule
 option_rule name = record (new_rule name) { long = Some name; action = Some Set; value_names = 1 }
 
@@ -19,45 +19,61 @@ object_rule name = record (new_rule name) { action = Some Set; required = true }
 abbrev pub flag_rule : Text → Rule
 flag_rule name = record (new_rule name) { long = Some name; action = Some SetTrue }
 
--- `formula FILE`
+-- a command with the option by which a refusal is explained
+abbrev pub explained : App → App
+explained app = with_rule app (flag_rule (codes "explain"))
+
+-- `formula FILE [--explain]`
 abbrev pub formula_app : App
-formula_app = with_rule (new_app (codes "formula")) (file_rule (codes "FILE"))
+formula_app = explained (with_rule (new_app (codes "formula")) (file_rule (codes "FILE")))
 
--- `judge DEV HISTORY`
+-- `judge DEV HISTORY [--explain]`
 abbrev pub judge_app : App
-judge_app = with_rule (with_rule (new_app (codes "judge")) (file_rule (codes "DEV"))) (file_rule (codes "HISTORY"))
+judge_app = explained (with_rule (with_rule (new_app (codes "judge")) (file_rule (codes "DEV"))) (file_rule (codes "HISTORY")))
 
--- `show DEV [--lines]`
+-- `show DEV [--lines] [--explain]`
 abbrev pub show_app : App
-show_app = with_rule (with_rule (new_app (codes "show")) (file_rule (codes "DEV"))) (flag_rule (codes "lines"))
+show_app = explained (with_rule (with_rule (new_app (codes "show")) (file_rule (codes "DEV"))) (flag_rule (codes "lines")))
 
--- `conditions DEV`
+-- `conditions DEV [--at K]`
+abbrev pub listing_app : App
+listing_app = with_rule (with_rule (new_app (codes "conditions")) (file_rule (codes "DEV"))) (option_rule (codes "at"))
+
+-- `conditions DEV [--at K] [--only POINT] [--kind KIND] [--explain]`
 abbrev pub conditions_app : App
-conditions_app = with_rule (new_app (codes "conditions")) (file_rule (codes "DEV"))
+conditions_app = explained (with_rule (with_rule listing_app (option_rule (codes "only"))) (option_rule (codes "kind")))
 
 -- `check DEV CERT`
-abbrev pub check_app : App
-check_app = with_rule (with_rule (new_app (codes "check")) (file_rule (codes "DEV"))) (file_rule (codes "CERT"))
+abbrev pub check_files_app : App
+check_files_app = with_rule (with_rule (new_app (codes "check")) (file_rule (codes "DEV"))) (file_rule (codes "CERT"))
 
--- `prove DEV [--hints FILE] [--progress]`
+-- `check DEV CERT [--all] [--progress] [--explain]`
+abbrev pub check_app : App
+check_app = explained (with_rule (with_rule check_files_app (flag_rule (codes "all"))) (flag_rule (codes "progress")))
+
+-- `prove DEV [--hints FILE]`
+abbrev pub prove_files_app : App
+prove_files_app = with_rule (with_rule (new_app (codes "prove")) (file_rule (codes "DEV"))) (option_rule (codes "hints"))
+
+-- `prove DEV [--hints FILE] [--progress] [--explain]`
 abbrev pub prove_app : App
-prove_app = with_rule (with_rule (with_rule (new_app (codes "prove")) (file_rule (codes "DEV"))) (option_rule (codes "hints"))) (flag_rule (codes "progress"))
+prove_app = explained (with_rule prove_files_app (flag_rule (codes "progress")))
 
 -- `carry OLD CERT NEW`
 abbrev pub carry_files_app : App
 carry_files_app = with_rule (with_rule (with_rule (new_app (codes "carry")) (file_rule (codes "OLD"))) (file_rule (codes "CERT"))) (file_rule (codes "NEW"))
 
--- `carry OLD CERT NEW [--hints FILE] [--progress]`
+-- `carry OLD CERT NEW [--hints FILE] [--progress] [--explain]`
 abbrev pub carry_app : App
-carry_app = with_rule (with_rule carry_files_app (option_rule (codes "hints"))) (flag_rule (codes "progress"))
+carry_app = explained (with_rule (with_rule carry_files_app (option_rule (codes "hints"))) (flag_rule (codes "progress")))
 
 -- `library NAME [--certificate] [--hints]`
 abbrev pub library_app : App
 library_app = with_rule (with_rule (with_rule (new_app (codes "library")) (object_rule (codes "NAME"))) (flag_rule (codes "certificate"))) (flag_rule (codes "hints"))
 
--- `draw DEV HISTORY`
+-- `draw DEV HISTORY [--explain]`
 abbrev pub draw_app : App
-draw_app = with_rule (with_rule (new_app (codes "draw")) (file_rule (codes "DEV"))) (file_rule (codes "HISTORY"))
+draw_app = explained (with_rule (with_rule (new_app (codes "draw")) (file_rule (codes "DEV"))) (file_rule (codes "HISTORY")))
 
 -- `new NAME`
 abbrev pub begin_app : App

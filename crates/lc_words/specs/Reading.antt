@@ -2,12 +2,14 @@
 use Rattle.std.specs.Prelude.{◌≡◌, ◌⊎◌, ℕ, Bool, true, false, if◌then◌else◌, codes, List, [], Option, Some, None, option_and_then, option_map}
 use Rattle.std.specs.Option.{option_map_or}
 use Rattle.std.specs.Str.{bytes_eq}
-use Rattle.clap.specs.Words.{IsAmong, Row, Text, fault_of, first_of, subcommand_of}
+use Rattle.std.specs.Str.Parse.{digits_value, without_leading_plus}
+use Rattle.clap.specs.ValueTests.{is_unsigned_in}
+use Rattle.clap.specs.Words.{IsAmong, Row, Text, fault_of, first_of, subcommand_of, takes}
 use Rattle.clap.specs.declared.error.kind.ErrorKind.{ErrorKind}
 use Rattle.clap.specs.declared.error.kind.ErrorKind.TheVariants.{DisplayHelp, DisplayVersion}
 use Rattle.lc_lib_texts.specs.Names.{lib_named}
 use Rattle.lc_words.specs.Commands.{program_app}
-use Rattle.lc_words.specs.Tasks.{BeginDevelopment, CheckCertificate, CheckFormula, DrawHistory, JudgeHistory, ListConditions, PrintLibrary, Task, is_development_name, proving, showing, task_of, ShowDevelopment, carrying}
+use Rattle.lc_words.specs.Tasks.{BeginDevelopment, CheckCertificate, CheckFormula, DrawHistory, JudgeHistory, PrintLibrary, ShowCondition, Task, is_development_name, listing, proving, showing, task_of, ShowDevelopment, carrying}
 use Rattle.lc_words.specs.declared.request.LibraryText.{LibraryText}
 use Rattle.lc_words.specs.declared.request.LibraryText.TheVariants.{Development, Certificate, Hints}
 use Rattle.lc_words.specs.declared.request.Request.{Request}
@@ -30,9 +32,29 @@ carrying_task rows =
 abbrev pub is_set : Text → List Row → Bool
 is_set name rows = option_map_or (λ value. bytes_eq value (codes "true")) (first_of name rows) false
 
+-- a refusal is to be explained: the flag of the command is set
+abbrev pub is_explained : Option (Text × List Row) → Bool
+is_explained None = false
+is_explained (Some c) = is_set (codes "explain") c.1
+
 -- the task of showing the development, as the flag says
 abbrev pub showing_task : List Row → Option Task
 showing_task rows = option_map (λ development. showing development (is_set (codes "lines") rows)) (first_of (codes "DEV") rows)
+
+-- the number that a text says, within 64 bits
+unfoldable pub number_in : Text → Option ℕ
+number_in text = if is_unsigned_in 0 18446744073709551615 text then Some (digits_value 10 (without_leading_plus text)) else None
+
+-- the task of showing the condition of the number that is given, or of listing those of a point and of a kind, which exclude a number
+abbrev pub listed : List ℕ → (number point kind : Option Text) → Option Task
+listed development None point kind = Some (listing development point kind)
+listed development (Some text) None None = option_map (ShowCondition development) (number_in text)
+listed development (Some text) (Some point) kind = None
+listed development (Some text) None (Some kind) = None
+
+abbrev pub listing_task : List Row → Option Task
+listing_task rows =
+    option_and_then (λ development. listed development (first_of (codes "at") rows) (first_of (codes "only") rows) (first_of (codes "kind") rows)) (first_of (codes "DEV") rows)
 
 -- the task of beginning a development, if it may have the name
 abbrev pub begun : List ℕ → Option Task
@@ -68,7 +90,7 @@ task_in_command c =
     else (if bytes_eq c.0 (codes "show")
     then showing_task c.1
     else (if bytes_eq c.0 (codes "conditions")
-    then one_file_task ListConditions (codes "DEV") c.1
+    then listing_task c.1
     else (if bytes_eq c.0 (codes "check")
     then two_file_task CheckCertificate (codes "CERT") c.1
     else (if bytes_eq c.0 (codes "prove")
@@ -89,6 +111,14 @@ task_in command = option_and_then task_in_command command
 abbrev pub Reads : List Text → Request → Type 0
 Reads words request = task_in (subcommand_of program_app words) ≡ Some (task_of request)
 
+-- clap takes the words, and this is the task that it reads in them
+abbrev pub AskFor : List Text → Task → Type 0
+AskFor words task = (takes program_app words ≡ true) × (task_in (subcommand_of program_app words) ≡ Some task)
+
+-- they ask that a refusal is explained
+abbrev pub AskForReasons : List Text → Type 0
+AskForReasons words = is_explained (subcommand_of program_app words) ≡ true
+
 -- the error asks for a text to be shown, and tells no fault
 abbrev pub AsksForText : ErrorKind → Type 0
 AsksForText kind = (kind ≡ DisplayHelp) ⊎ (kind ≡ DisplayVersion)
@@ -97,7 +127,7 @@ AsksForText kind = (kind ≡ DisplayHelp) ⊎ (kind ≡ DisplayVersion)
 abbrev pub AreFaulty : List Text → Type 0
 AreFaulty words = (fault_of program_app words ≡ [] → ⊥) × ((kind : ErrorKind) → IsAmong kind (fault_of program_app words) → AsksForText kind → ⊥)
 
--- clap finds no fault in the words, and they are no task: the object is none of the library's, or the flags exclude each other, or a name is none
+-- clap finds no fault in the words, and they are no task: the object is none of the library's, or the options exclude each other, or a name or a number is none
 abbrev pub AreNoTask : List Text → Type 0
 AreNoTask words = (fault_of program_app words ≡ []) × (task_in (subcommand_of program_app words) ≡ None)
 

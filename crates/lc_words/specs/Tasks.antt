@@ -1,20 +1,29 @@
 -- What may be asked for, and the words that ask for it.
-use Rattle.std.specs.Prelude.{◌≡◌, ℕ, ◌==◌, ◌&&◌, nat_le, length, map, string_bytes, String, Bool, true, false, not, codes, List, [], ◌∷◌, Option, Some, None, option_map}
+use Rattle.std.specs.Prelude.{◌≡◌, ◌<◌, ◌^◌, ℕ, ◌==◌, ◌&&◌, nat_le, length, map, string_bytes, String, Bool, true, false, not, codes, List, [], ◌∷◌, Option, Some, None, option_map}
 use Rattle.std.specs.Borrow.{Bor}
+use Rattle.std.specs.Fmt.{decimal}
 use Rattle.std.specs.declared.alloc.Global.{Global}
 use Rattle.clap.specs.Words.{Text}
 use Rattle.lc_base.specs.Limits.{name_limit}
 use Rattle.lc_base.specs.NameText.{is_name}
 use Rattle.lc_lib_texts.specs.Names.{name_of}
 use Rattle.lc_lib_texts.specs.declared.library.Lib.{Lib}
+use Rattle.lc_words.specs.declared.request.Chosen.{Chosen}
+use Rattle.lc_words.specs.declared.request.Chosen.TheVariants.{Number, Those}
 use Rattle.lc_words.specs.declared.request.LibraryText.{LibraryText}
 use Rattle.lc_words.specs.declared.request.LibraryText.TheVariants.{Development, Certificate, Hints}
 use Rattle.lc_words.specs.declared.request.Request.{Request}
 use Rattle.lc_words.specs.declared.request.Request.TheVariants.{Formula, Judge, Show, Conditions, Check, Prove, Draw, New, Library, Carry}
 
+-- Which conditions are chosen: those of a point, of a kind, or of both, by their words
+pub data Filter : Type 0 where
+  OfPoint : (point : List ℕ) → Filter
+  OfKind : (kind : List ℕ) → Filter
+  OfBoth : (point kind : List ℕ) → Filter
+
 -- What may be asked for: that the proof in the file at a path is checked; that the history in one file is judged by the
--- specification in another; that the development in a file is shown, or laid out over lines, or its conditions are listed; that the certificate in
--- one file is checked against the development in another; that a certificate is found of the development in a file, without
+-- specification in another; that the development in a file is shown, or laid out over lines; that its conditions are listed, or those
+-- that are chosen, or one is shown by its number; that the certificate in one file is checked against the development in another; that a certificate is found of the development in a file, without
 -- hints or with those in another; that a certificate is found of a new development, with the proofs of an old one, by its
 -- certificate, without hints or with those in a further file; that the history in one file is drawn by the specification in another;
 -- that a development of a name is begun; or that a text of an object of the library is printed
@@ -24,6 +33,8 @@ pub data Task : Type 0 where
   ShowDevelopment : (development : List ℕ) → Task
   ShowLines : (development : List ℕ) → Task
   ListConditions : (development : List ℕ) → Task
+  ListChosen : (development : List ℕ) (filter : Filter) → Task
+  ShowCondition : (development : List ℕ) (number : ℕ) → Task
   CheckCertificate : (development certificate : List ℕ) → Task
   ProveDevelopment : (development : List ℕ) → Task
   ProveWithHints : (development hints : List ℕ) → Task
@@ -37,6 +48,13 @@ pub data Task : Type 0 where
 abbrev pub showing : List ℕ → (lines : Bool) → Task
 showing development false = ShowDevelopment development
 showing development true = ShowLines development
+
+-- the task of listing the conditions of a development, or those of a point and of a kind, if such are given
+abbrev pub listing : List ℕ → (point kind : Option (List ℕ)) → Task
+listing development None None = ListConditions development
+listing development (Some point) None = ListChosen development (OfPoint point)
+listing development None (Some kind) = ListChosen development (OfKind kind)
+listing development (Some point) (Some kind) = ListChosen development (OfBoth point kind)
 
 -- the task of proving a development, with hints if there is a path of such
 abbrev pub proving : List ℕ → Option (List ℕ) → Task
@@ -52,13 +70,18 @@ carrying old certificate new (Some hints) = CarryWithHints old certificate new h
 abbrev pub path_in : Option (Bor (List ℕ)) → Option (List ℕ)
 path_in path = option_map (λ p. p.now) path
 
+-- the task of the conditions of a development that are chosen
+abbrev pub chosen_task : List ℕ → Chosen → Task
+chosen_task development (Number number) = ShowCondition development number
+chosen_task development (Those point kind) = listing development (path_in point) (path_in kind)
+
 -- the task of a request
 abbrev pub task_of : Request → Task
 task_of (Formula path) = CheckFormula path.now
 task_of (Judge development history) = JudgeHistory development.now history.now
 task_of (Show development lines) = showing development.now lines
-task_of (Conditions development) = ListConditions development.now
-task_of (Check development certificate) = CheckCertificate development.now certificate.now
+task_of (Conditions development chosen) = chosen_task development.now chosen
+task_of (Check development certificate all progress) = CheckCertificate development.now certificate.now
 task_of (Prove development hints progress) = proving development.now (path_in hints)
 task_of (Carry old certificate new hints progress) = carrying old.now certificate.now new.now (path_in hints)
 task_of (Draw development history) = DrawHistory development.now history.now
@@ -84,6 +107,12 @@ library_words name object Development = name ∷ codes "library" ∷ object ∷ 
 library_words name object Certificate = name ∷ codes "library" ∷ object ∷ codes "--certificate" ∷ []
 library_words name object Hints = name ∷ codes "library" ∷ object ∷ codes "--hints" ∷ []
 
+-- the options by which conditions are chosen
+abbrev pub filter_words : Filter → List Text
+filter_words (OfPoint point) = codes "--only" ∷ point ∷ []
+filter_words (OfKind kind) = codes "--kind" ∷ kind ∷ []
+filter_words (OfBoth point kind) = codes "--only" ∷ point ∷ codes "--kind" ∷ kind ∷ []
+
 -- the words that ask for a task, behind the name of the program
 abbrev pub words_for : List ℕ → Task → List Text
 words_for name (CheckFormula path) = name ∷ codes "formula" ∷ path ∷ []
@@ -91,6 +120,8 @@ words_for name (JudgeHistory development history) = name ∷ codes "judge" ∷ d
 words_for name (ShowDevelopment development) = name ∷ codes "show" ∷ development ∷ []
 words_for name (ShowLines development) = name ∷ codes "show" ∷ development ∷ codes "--lines" ∷ []
 words_for name (ListConditions development) = name ∷ codes "conditions" ∷ development ∷ []
+words_for name (ListChosen development filter) = name ∷ codes "conditions" ∷ development ∷ filter_words filter
+words_for name (ShowCondition development number) = name ∷ codes "conditions" ∷ development ∷ codes "--at" ∷ decimal number ∷ []
 words_for name (CheckCertificate development certificate) = name ∷ codes "check" ∷ development ∷ certificate ∷ []
 words_for name (ProveDevelopment development) = name ∷ codes "prove" ∷ development ∷ []
 words_for name (ProveWithHints development hints) = name ∷ codes "prove" ∷ development ∷ codes "--hints" ∷ hints ∷ []
@@ -100,13 +131,21 @@ words_for name (DrawHistory development history) = name ∷ codes "draw" ∷ dev
 words_for name (BeginDevelopment own) = name ∷ codes "new" ∷ own ∷ []
 words_for name (PrintLibrary lib text) = library_words name (name_of lib) text
 
--- none of its paths begins with a hyphen, and what is to be a name is one
+-- no word of it begins with a hyphen
+abbrev pub HasPlainWords : Filter → Type 0
+HasPlainWords (OfPoint point) = is_plain point ≡ true
+HasPlainWords (OfKind kind) = is_plain kind ≡ true
+HasPlainWords (OfBoth point kind) = (is_plain point ≡ true) × (is_plain kind ≡ true)
+
+-- none of its paths begins with a hyphen, what is to be a name is one, and a number has 64 bits
 abbrev pub HasPlainPaths : Task → Type 0
 HasPlainPaths (CheckFormula path) = is_plain path ≡ true
 HasPlainPaths (JudgeHistory development history) = (is_plain development ≡ true) × (is_plain history ≡ true)
 HasPlainPaths (ShowDevelopment development) = is_plain development ≡ true
 HasPlainPaths (ShowLines development) = is_plain development ≡ true
 HasPlainPaths (ListConditions development) = is_plain development ≡ true
+HasPlainPaths (ListChosen development filter) = (is_plain development ≡ true) × HasPlainWords filter
+HasPlainPaths (ShowCondition development number) = (is_plain development ≡ true) × (number < 2 ^ 64)
 HasPlainPaths (CheckCertificate development certificate) = (is_plain development ≡ true) × (is_plain certificate ≡ true)
 HasPlainPaths (ProveDevelopment development) = is_plain development ≡ true
 HasPlainPaths (ProveWithHints development hints) = (is_plain development ≡ true) × (is_plain hints ≡ true)
@@ -115,3 +154,9 @@ HasPlainPaths (CarryWithHints old certificate new hints) = (is_plain old ≡ tru
 HasPlainPaths (DrawHistory development history) = (is_plain development ≡ true) × (is_plain history ≡ true)
 HasPlainPaths (BeginDevelopment name) = is_development_name name ≡ true
 HasPlainPaths (PrintLibrary lib text) = Unit {0}
+
+-- it reads files
+abbrev pub ReadsFiles : Task → Type 0
+ReadsFiles (BeginDevelopment name) = ⊥
+ReadsFiles (PrintLibrary lib text) = ⊥
+ReadsFiles _ = Unit {0}

@@ -2,15 +2,15 @@
 ghost use Rattle.std.specs.Prelude.{◌≡◌, false, IfOk};
 ghost use Rattle.clap.specs.Words.{app_of, rule_of};
 ghost use Rattle.clap.specs.declared.builder.command.Command.TheViews.{out-Command};
-ghost use Rattle.lc_words.specs.Commands.{begin_app, carry_app, carry_files_app, carrying_app, check_app, conditions_app, draw_app, file_rule, first_app, flag_rule, formula_app, further_app, judge_app, library_app, object_rule, option_rule, program_app, prove_app, proving_app, show_app};
+ghost use Rattle.lc_words.specs.Commands.{begin_app, carry_app, carry_files_app, carrying_app, check_app, check_files_app, conditions_app, draw_app, file_rule, first_app, flag_rule, formula_app, further_app, judge_app, library_app, listing_app, object_rule, option_rule, program_app, prove_app, prove_files_app, proving_app, show_app};
 
 use crate::texts::{
-    ABOUT, CARRY, CARRY_ANSWER, CERTIFICATE_FILE, CHECK, CHECK_ANSWER, CONDITIONS,
-    CONDITIONS_ANSWER, DEVELOPMENT, DRAW, DRAW_ANSWER, EXIT_STATUS, FORMULA, FORMULA_ANSWER,
-    FORMULA_FILE, HINTS, JUDGE, JUDGE_ANSWER, JUDGE_DEVELOPMENT, JUDGE_HISTORY, LIBRARY,
-    LIBRARY_ANSWER, LIBRARY_CERTIFICATE, LIBRARY_HINTS, NEW, NEW_ANSWER, NEW_DEVELOPMENT,
-    NEW_HINTS, NEW_NAME, OBJECT, OLD, OLD_CERTIFICATE, PROGRESS, PROVE, PROVE_ANSWER, SHOW,
-    SHOW_ANSWER, SHOW_LINES, VERSION,
+    ABOUT, CARRY, CARRY_ANSWER, CERTIFICATE_FILE, CHECK, CHECK_ALL, CHECK_ANSWER, CHECK_PROGRESS,
+    CONDITION_KIND, CONDITION_NUMBER, CONDITION_POINT, CONDITIONS, CONDITIONS_ANSWER, DEVELOPMENT,
+    DRAW, DRAW_ANSWER, EXIT_STATUS, EXPLAIN, FORMULA, FORMULA_ANSWER, FORMULA_FILE, HINTS, JUDGE,
+    JUDGE_ANSWER, JUDGE_DEVELOPMENT, JUDGE_HISTORY, LIBRARY, LIBRARY_ANSWER, LIBRARY_CERTIFICATE,
+    LIBRARY_HINTS, NEW, NEW_ANSWER, NEW_DEVELOPMENT, NEW_HINTS, NEW_NAME, OBJECT, OLD,
+    OLD_CERTIFICATE, PROGRESS, PROVE, PROVE_ANSWER, SHOW, SHOW_ANSWER, SHOW_LINES, VERSION,
 };
 use clap::{Arg, ArgAction, Command};
 use std::alloc::{AllocError, Global};
@@ -33,7 +33,8 @@ fn formula_command<'a>(alloc: Global) -> Result<Command<'a>, AllocError>
     Command::new(alloc, "formula")
         .about(FORMULA)
         .after_help(FORMULA_ANSWER)
-        .arg(file(alloc, "FILE", FORMULA_FILE))
+        .arg(file(alloc, "FILE", FORMULA_FILE))?
+        .arg(flag(alloc, "explain", EXPLAIN))
 }
 
 fn judge_command<'a>(alloc: Global) -> Result<Command<'a>, AllocError>
@@ -44,7 +45,8 @@ fn judge_command<'a>(alloc: Global) -> Result<Command<'a>, AllocError>
         .about(JUDGE)
         .after_help(JUDGE_ANSWER)
         .arg(file(alloc, "DEV", JUDGE_DEVELOPMENT))?
-        .arg(file(alloc, "HISTORY", JUDGE_HISTORY))
+        .arg(file(alloc, "HISTORY", JUDGE_HISTORY))?
+        .arg(flag(alloc, "explain", EXPLAIN))
 }
 
 fn draw_command<'a>(alloc: Global) -> Result<Command<'a>, AllocError>
@@ -55,7 +57,8 @@ fn draw_command<'a>(alloc: Global) -> Result<Command<'a>, AllocError>
         .about(DRAW)
         .after_help(DRAW_ANSWER)
         .arg(file(alloc, "DEV", JUDGE_DEVELOPMENT))?
-        .arg(file(alloc, "HISTORY", JUDGE_HISTORY))
+        .arg(file(alloc, "HISTORY", JUDGE_HISTORY))?
+        .arg(flag(alloc, "explain", EXPLAIN))
 }
 
 fn show_command<'a>(alloc: Global) -> Result<Command<'a>, AllocError>
@@ -66,21 +69,55 @@ fn show_command<'a>(alloc: Global) -> Result<Command<'a>, AllocError>
         .about(SHOW)
         .after_help(SHOW_ANSWER)
         .arg(file(alloc, "DEV", DEVELOPMENT))?
-        .arg(flag(alloc, "lines", SHOW_LINES))
+        .arg(flag(alloc, "lines", SHOW_LINES))?
+        .arg(flag(alloc, "explain", EXPLAIN))
+}
+
+/// An option with a value, which is called so in the help.
+fn value_option<'a>(alloc: Global, name: &'a str, value: &'a str, help: &'a str) -> Arg<'a>
+    ensures rule { rule_of result ≡ option_rule name.entry.now }
+    ensures local { result.global ≡ false }
+{
+    Arg::new(alloc, name)
+        .long(name)
+        .value_name(value)
+        .action(ArgAction::Set)
+        .help(help)
+}
+
+/// An option that names a file.
+fn file_option<'a>(alloc: Global, name: &'a str, help: &'a str) -> Arg<'a>
+    ensures rule { rule_of result ≡ option_rule name.entry.now }
+    ensures local { result.global ≡ false }
+{
+    value_option(alloc, name, "FILE", help)
+}
+
+/// The command `conditions` with its file and the number of a condition.
+fn listing_command<'a>(alloc: Global) -> Result<Command<'a>, AllocError>
+    ensures app { IfOk result (λ command. app_of command ≡ listing_app) }
+    ensures local { IfOk result (λ command. (out-Command command).has_globals ≡ false) }
+{
+    Command::new(alloc, "conditions")
+        .about(CONDITIONS)
+        .after_help(CONDITIONS_ANSWER)
+        .arg(file(alloc, "DEV", DEVELOPMENT))?
+        .arg(value_option(alloc, "at", "K", CONDITION_NUMBER))
 }
 
 fn conditions_command<'a>(alloc: Global) -> Result<Command<'a>, AllocError>
     ensures app { IfOk result (λ command. app_of command ≡ conditions_app) }
     ensures local { IfOk result (λ command. (out-Command command).has_globals ≡ false) }
 {
-    Command::new(alloc, "conditions")
-        .about(CONDITIONS)
-        .after_help(CONDITIONS_ANSWER)
-        .arg(file(alloc, "DEV", DEVELOPMENT))
+    listing_command(alloc)?
+        .arg(value_option(alloc, "only", "POINT", CONDITION_POINT))?
+        .arg(value_option(alloc, "kind", "KIND", CONDITION_KIND))?
+        .arg(flag(alloc, "explain", EXPLAIN))
 }
 
-fn check_command<'a>(alloc: Global) -> Result<Command<'a>, AllocError>
-    ensures app { IfOk result (λ command. app_of command ≡ check_app) }
+/// The command `check` with its files.
+fn check_files<'a>(alloc: Global) -> Result<Command<'a>, AllocError>
+    ensures app { IfOk result (λ command. app_of command ≡ check_files_app) }
     ensures local { IfOk result (λ command. (out-Command command).has_globals ≡ false) }
 {
     Command::new(alloc, "check")
@@ -90,28 +127,35 @@ fn check_command<'a>(alloc: Global) -> Result<Command<'a>, AllocError>
         .arg(file(alloc, "CERT", CERTIFICATE_FILE))
 }
 
-/// An option that names a file.
-fn file_option<'a>(alloc: Global, name: &'a str, help: &'a str) -> Arg<'a>
-    ensures rule { rule_of result ≡ option_rule name.entry.now }
-    ensures local { result.global ≡ false }
+fn check_command<'a>(alloc: Global) -> Result<Command<'a>, AllocError>
+    ensures app { IfOk result (λ command. app_of command ≡ check_app) }
+    ensures local { IfOk result (λ command. (out-Command command).has_globals ≡ false) }
 {
-    Arg::new(alloc, name)
-        .long(name)
-        .value_name("FILE")
-        .action(ArgAction::Set)
-        .help(help)
+    check_files(alloc)?
+        .arg(flag(alloc, "all", CHECK_ALL))?
+        .arg(flag(alloc, "progress", CHECK_PROGRESS))?
+        .arg(flag(alloc, "explain", EXPLAIN))
 }
 
-fn prove_command<'a>(alloc: Global) -> Result<Command<'a>, AllocError>
-    ensures app { IfOk result (λ command. app_of command ≡ prove_app) }
+/// The command `prove` with its files.
+fn prove_files<'a>(alloc: Global) -> Result<Command<'a>, AllocError>
+    ensures app { IfOk result (λ command. app_of command ≡ prove_files_app) }
     ensures local { IfOk result (λ command. (out-Command command).has_globals ≡ false) }
 {
     Command::new(alloc, "prove")
         .about(PROVE)
         .after_help(PROVE_ANSWER)
         .arg(file(alloc, "DEV", DEVELOPMENT))?
-        .arg(file_option(alloc, "hints", HINTS))?
-        .arg(flag(alloc, "progress", PROGRESS))
+        .arg(file_option(alloc, "hints", HINTS))
+}
+
+fn prove_command<'a>(alloc: Global) -> Result<Command<'a>, AllocError>
+    ensures app { IfOk result (λ command. app_of command ≡ prove_app) }
+    ensures local { IfOk result (λ command. (out-Command command).has_globals ≡ false) }
+{
+    prove_files(alloc)?
+        .arg(flag(alloc, "progress", PROGRESS))?
+        .arg(flag(alloc, "explain", EXPLAIN))
 }
 
 /// The command `carry` with its files.
@@ -133,7 +177,8 @@ fn carry_command<'a>(alloc: Global) -> Result<Command<'a>, AllocError>
 {
     carry_files(alloc)?
         .arg(file_option(alloc, "hints", NEW_HINTS))?
-        .arg(flag(alloc, "progress", PROGRESS))
+        .arg(flag(alloc, "progress", PROGRESS))?
+        .arg(flag(alloc, "explain", EXPLAIN))
 }
 
 /// An argument that names an object.

@@ -2,9 +2,10 @@
 #![tactic(auto)]
 
 mod commands;
+pub mod laws;
 mod reading;
 mod request;
 mod texts;
 
 pub use reading::read_words;
-pub use request::{LibraryText, Request};
+pub use request::{Asked, Chosen, LibraryText, Request};

@@ -1,12 +1,13 @@
 //! What the words of a command line ask for.
 ghost use Rattle.std.specs.Prelude.{◌≡◌, ◌⊎◌, ℕ, List, codes, IfOk, IfErr, IsErrAnd, option_map};
-ghost use Rattle.clap.specs.Words.{found_of, kind_of, rows_of, subcommand_rows_of};
+ghost use Rattle.clap.specs.Words.{found_of, kind_of, rows_of, subcommand_of, subcommand_rows_of};
 ghost use Rattle.clap.specs.declared.error.kind.ErrorKind.TheVariants.{OutOfMemory};
-ghost use Rattle.lc_words.specs.Tasks.{CheckCertificate, CheckFormula, DrawHistory, HasPlainPaths, JudgeHistory, ListConditions, Task, task_of, texts_of, words_for, ShowDevelopment};
-ghost use Rattle.lc_words.specs.Reading.{AreWrong, AskForHelp, AsksForText, Reads, beginning_task, is_set, library_task, one_file_task, proving_task, showing_task, task_in, text_for, two_file_task, carrying_task};
+ghost use Rattle.lc_words.specs.Commands.{program_app};
+ghost use Rattle.lc_words.specs.Tasks.{CheckCertificate, CheckFormula, DrawHistory, JudgeHistory, Task, chosen_task, path_in, task_of, texts_of};
+ghost use Rattle.lc_words.specs.Reading.{AreWrong, AskFor, AskForHelp, AsksForText, Reads, beginning_task, is_explained, is_set, library_task, listed, listing_task, number_in, one_file_task, proving_task, showing_task, task_in, text_for, two_file_task, carrying_task};
 
 use crate::commands::program;
-use crate::request::{LibraryText, Request};
+use crate::request::{Asked, Chosen, LibraryText, Request};
 use clap::error::ErrorKind;
 use clap::{ArgMatches, Error};
 use lc_base::Name;
@@ -58,11 +59,40 @@ fn new_request<'a>(command: &ArgMatches<'a>) -> Option<Request<'a>>
     Some(Request::New(text))
 }
 
+/// The number that a text says, if it has 64 bits.
+fn number_in(text: &str) -> Option<u64>
+    ensures { result ≡ number_in text.now }
+{
+    text.parse().ok()
+}
+
+/// Which conditions are chosen by a number, or else by a point and a kind.
+fn chosen_by<'a>(
+    at: Option<&'a str>,
+    point: Option<&'a str>,
+    kind: Option<&'a str>,
+) -> Option<Chosen<'a>>
+    ensures { (development : List ℕ) → option_map (chosen_task development) result ≡ listed development (path_in at.entry) (path_in point.entry) (path_in kind.entry) }
+{
+    match (at, point, kind) {
+        (None, point, kind) => Some(Chosen::Those { point, kind }),
+        (Some(text), None, None) => Some(Chosen::Number(number_in(text)?)),
+        _ => None,
+    }
+}
+
 fn conditions_request<'a>(command: &ArgMatches<'a>) -> Option<Request<'a>>
-    ensures { option_map task_of result ≡ one_file_task ListConditions (codes "DEV") (rows_of (found_of command.now)) }
+    ensures { option_map task_of result ≡ listing_task (rows_of (found_of command.now)) }
 {
     let development = command.get_str("DEV")?;
-    Some(Request::Conditions(development))
+    let at = command.get_str("at");
+    let point = command.get_str("only");
+    let kind = command.get_str("kind");
+    let chosen = chosen_by(at, point, kind)?;
+    Some(Request::Conditions {
+        development,
+        chosen,
+    })
 }
 
 fn check_request<'a>(command: &ArgMatches<'a>) -> Option<Request<'a>>
@@ -70,9 +100,13 @@ fn check_request<'a>(command: &ArgMatches<'a>) -> Option<Request<'a>>
 {
     let development = command.get_str("DEV")?;
     let certificate = command.get_str("CERT")?;
+    let all = command.get_flag("all");
+    let progress = command.get_flag("progress");
     Some(Request::Check {
         development,
         certificate,
+        all,
+        progress,
     })
 }
 
@@ -159,6 +193,33 @@ fn request_of<'a>(matches: &ArgMatches<'a>) -> Option<Request<'a>>
     }
 }
 
+/// Whether a refusal is to be explained.
+fn is_explained(matches: &ArgMatches<'_>) -> bool
+    ensures { result ≡ is_explained (subcommand_rows_of matches.now) }
+{
+    match matches.subcommand() {
+        Some((_, command)) => is_set(command, "explain"),
+        None => false,
+    }
+}
+
+/// Why the command `conditions` asks for nothing.
+fn conditions_fault(command: &ArgMatches<'_>) -> (ErrorKind, &'static str)
+    ensures { AsksForText result.0 → ⊥ }
+{
+    if command.get_str("only").is_some() || command.get_str("kind").is_some() {
+        (
+            ErrorKind::ArgumentConflict,
+            "`--at` excludes `--only` and `--kind`",
+        )
+    } else {
+        (
+            ErrorKind::ValueValidation,
+            "K is no number, or has more than 64 bits",
+        )
+    }
+}
+
 /// Why the command `library` asks for nothing.
 fn library_fault(command: &ArgMatches<'_>) -> (ErrorKind, &'static str)
     ensures { AsksForText result.0 → ⊥ }
@@ -181,6 +242,7 @@ fn fault_in(matches: &ArgMatches<'_>) -> (ErrorKind, &'static str)
     ensures { AsksForText result.0 → ⊥ }
 {
     match matches.subcommand() {
+        Some(("conditions", command)) => conditions_fault(command),
         Some(("library", command)) => library_fault(command),
         Some(("new", _)) => (
             ErrorKind::ValueValidation,
@@ -193,16 +255,19 @@ fn fault_in(matches: &ArgMatches<'_>) -> (ErrorKind, &'static str)
 /// Reads the words of the command line, of which the first is the name of the program.
 ///
 /// An error has the text to be shown, also where help was asked for.
-pub fn read_words<'a>(alloc: Global, words: &'a [String]) -> Result<Request<'a>, Error>
-    ensures reads { IfOk result (Reads (texts_of words.entry.now)) }
-    ensures plain { IfErr result (λ error. (name : List ℕ) (task : Task) → texts_of words.entry.now ≡ words_for name task → HasPlainPaths task
-        → kind_of error ≡ OutOfMemory) }
+pub fn read_words<'a>(alloc: Global, words: &'a [String]) -> Result<Asked<'a>, Error>
+    ensures reads { IfOk result (λ asked. Reads (texts_of words.entry.now) asked.request) }
+    ensures explained { IfOk result (λ asked. asked.is_explained ≡ is_explained (subcommand_of program_app (texts_of words.entry.now))) }
+    ensures taken { IfErr result (λ error. (task : Task) → AskFor (texts_of words.entry.now) task → kind_of error ≡ OutOfMemory) }
     ensures wrong { AreWrong (texts_of words.entry.now) → IsErrAnd result (λ error. AsksForText (kind_of error) → ⊥) }
     ensures help { AskForHelp (texts_of words.entry.now) → IsErrAnd result (λ error. (kind_of error ≡ OutOfMemory) ⊎ AsksForText (kind_of error)) }
 {
     let matches = program(alloc)?.try_get_matches_from(words)?;
     match request_of(&matches) {
-        Some(request) => Ok(request),
+        Some(request) => Ok(Asked {
+            request,
+            is_explained: is_explained(&matches),
+        }),
         None => {
             let (kind, text) = fault_in(&matches);
             let mut program = program(alloc)?;

@@ -9,6 +9,18 @@ pub enum LibraryText {
     Hints,
 }
 
+/// Which conditions of a development are asked for.
+#[derive(Clone, Copy)]
+pub enum Chosen<'a> {
+    /// The one of this number.
+    Number(u64),
+    /// Those of a point and of a kind, where these are named.
+    Those {
+        point: Option<&'a str>,
+        kind: Option<&'a str>,
+    },
+}
+
 /// What the command line asks for.
 #[derive(Clone, Copy)]
 pub enum Request<'a> {
@@ -24,12 +36,18 @@ pub enum Request<'a> {
         development: &'a str,
         lines: bool,
     },
-    /// List the conditions of the development in the file at this path.
-    Conditions(&'a str),
-    /// Check the certificate in a file against the development in another.
+    /// Print the conditions of the development in a file that are chosen.
+    Conditions {
+        development: &'a str,
+        chosen: Chosen<'a>,
+    },
+    /// Check the certificate in a file against the development in another; and say which conditions are not proved, and how far it
+    /// is.
     Check {
         development: &'a str,
         certificate: &'a str,
+        all: bool,
+        progress: bool,
     },
     /// Find a certificate of the development in a file, with the hints in another, if there is one; and say how far it is.
     Prove {
@@ -57,4 +75,11 @@ pub enum Request<'a> {
         lib: Lib,
         text: LibraryText,
     },
+}
+
+/// What the command line asks for, and whether a refusal is to be explained.
+#[derive(Clone, Copy)]
+pub struct Asked<'a> {
+    pub request: Request<'a>,
+    pub is_explained: bool,
 }

@@ -5,7 +5,8 @@ pub(crate) static VERSION: &str = "0.1.0";
 pub(crate) static ABOUT: &str = "Checks written proofs that concurrent objects are linearizable";
 
 pub(crate) static EXIT_STATUS: &str = "\
-A file that is not accepted is answered by one line on standard output: `refused`, a code, and numbers.
+A file that is not accepted is answered by one line on standard output: `refused`, a code, and numbers. With --explain each
+command that reads files also says where and why, on standard error.
 
 Exit status:
   0  accepted, or what was asked for is printed
@@ -25,6 +26,8 @@ Examples:
       reads what is claimed of a counter, and prints proofs of it
   lincheck library queue
       prints a queue, with all that is claimed of it";
+
+pub(crate) static EXPLAIN: &str = "Say on standard error where and why a file is refused";
 
 pub(crate) static FORMULA: &str = "Checks the proof of one formula";
 
@@ -131,9 +134,22 @@ Reads DEV and prints a line for each of its conditions, and then `total` with th
 Where the goal of each follows from its hypotheses, in every state and for all numbers of its variables, the object is
 linearizable. Lines are printed as they are made. A DEV that is no development is refused as by `check`.
 
-Example:
+With --at K it prints condition K alone, over lines; where there is none, `refused 10 K`. With --only or --kind it prints the
+lines that have this POINT and this KIND, and `total` with their number.
+
+Examples:
   lincheck conditions examples/counter.lc
-      prints 59 conditions, and `total 59`";
+      prints 59 conditions, and `total 59`
+  lincheck conditions examples/counter.lc --at 9
+      prints condition 9 over lines
+  lincheck conditions examples/counter.lc --only p1 --kind invariant
+      prints the conditions that the invariant holds behind the point p1";
+
+pub(crate) static CONDITION_NUMBER: &str = "Print the condition of this number alone, over lines";
+
+pub(crate) static CONDITION_POINT: &str = "Print those alone that stand at this point";
+
+pub(crate) static CONDITION_KIND: &str = "Print those alone that are of this kind, as `stable`";
 
 pub(crate) static CHECK: &str = "Checks that a certificate proves a development";
 
@@ -157,9 +173,18 @@ their steps come between each other, the history of their calls and returns is l
   refused 11 K STEP R   the step of the proof of condition K does not hold, for reason R
   refused 12 K STEP     the arithmetic of the step leaves 128 bits
 
+With --explain a refusal by the codes 9 to 12 is followed, on standard error, by what condition K asks, and by the hypotheses
+that stand at the step, numbered as proofs number them. So a proof is written by putting (open), and reading what stands there.
+
 Example:
   lincheck check examples/counter.lc examples/counter.cert
       prints `accepted counter 59`";
+
+pub(crate) static CHECK_ALL: &str =
+    "Say on standard error of each condition that has no proof, or one that does not hold";
+
+pub(crate) static CHECK_PROGRESS: &str =
+    "Say on standard error how many conditions are proved, a hundred times at most";
 
 pub(crate) static PROVE: &str = "Finds a certificate of a development";
 
@@ -202,6 +227,7 @@ certificate of NEW, which `check` accepts. Else it prints one line:
   not-found K      no proof of condition K of NEW was found
   budget K         1,000,000 steps were tried for condition K, or the certificate would be too large
   large K          a number of the search for condition K leaves 128 bits
+With --explain it also says on standard error how many proofs were carried and found, and how many conditions are left.
 
 Example:
   lincheck carry examples/counter.lc examples/counter.cert examples/faa_counter.lc

@@ -64,7 +64,7 @@ leaves_printed task IsAnswer before after text said (Err failure) is prints fail
 -- an answer was to be printed in pieces
 pub leaves_broken : (task : Task) (IsAnswer : List ℕ → ℕ → Type 0) (before after : Option (List ℕ)) (text : List ℕ) (said : ℕ) (failure : Failure) → IsInPieces task → IsAnswer text said
     → PrintsText before after text (Err failure) → Leaves task IsAnswer before after (Err failure)
-leaves_broken task IsAnswer before after text said (CannotRead path) pieces is prints = absurd prints
+leaves_broken task IsAnswer before after text said (CannotRead path reason) pieces is prints = absurd prints
 leaves_broken task IsAnswer before after text said CannotWrite pieces is prints = inr (text, said, is)
 leaves_broken task IsAnswer before after text said OutOfMemory pieces is prints = inr (pieces, (text, said, is, prints))
 
@@ -91,7 +91,7 @@ ends_ok bytes_at asked task before after status same leaves =
 -- with a failure
 failed_ends : (task : Task) (IsAnswer : List ℕ → ℕ → Type 0) (before after : Option (List ℕ)) (failure : Failure) (status : ℕ) → status ≡ status_of failure
     → Leaves task IsAnswer before after (Err failure) → Ends task IsAnswer before after status
-failed_ends task IsAnswer before after (CannotRead path) status is keeps = inl (inl is, keeps)
+failed_ends task IsAnswer before after (CannotRead path reason) status is keeps = inl (inl is, keeps)
 failed_ends task IsAnswer before after CannotWrite status is (inl keeps) = inl (inl is, keeps)
 failed_ends task IsAnswer before after CannotWrite status is (inr (text, said, answers)) = inr (text, said, answers, inl is)
 failed_ends task IsAnswer before after OutOfMemory status is (inl keeps) = inl (inr is, keeps)
@@ -104,6 +104,6 @@ ends_failed bytes_at asked task before after failure status same is leaves =
 
 -- a failure has status 3 or 4
 pub failed_status : (failure : Failure) (status : ℕ) → status ≡ status_of failure → (status ≡ 3) ⊎ (status ≡ 4)
-failed_status (CannotRead path) status is = inl is
+failed_status (CannotRead path reason) status is = inl is
 failed_status CannotWrite status is = inl is
 failed_status OutOfMemory status is = inr is

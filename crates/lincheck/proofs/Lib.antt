@@ -11,5 +11,6 @@ mod OneHistory
 mod OneCheck
 mod Fed
 mod LaidOut
+mod OneCondition
 mod Beginnings
 mod Carrying

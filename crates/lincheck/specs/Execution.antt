@@ -5,12 +5,14 @@ use Rattle.lc_reading.specs.Files.{Says}
 use Rattle.lc_spec_text.specs.Specifications.{first_reading}
 use Rattle.lc_seq.specs.Specification.{Specification}
 use Rattle.lc_cond_text.specs.ConditionText.{conditions_text}
+use Rattle.lc_listing.specs.Chosen.{chosen_text}
 use Rattle.lc_outline.specs.Development.{Development}
 use Rattle.lc_outline_print.specs.Developments.{development_printed}
 use Rattle.lc_outline_text.specs.Developments.{file_reading}
 use Rattle.lincheck.specs.Carry.{AnswersCarry, AnswersWith, IsUnreadCarry}
 use Rattle.lincheck.specs.Check.{AnswersDevelopment, AnswersCheck}
-use Rattle.lc_words.specs.Tasks.{Task, CheckFormula, JudgeHistory, ShowDevelopment, ShowLines, ListConditions, CheckCertificate, ProveDevelopment, ProveWithHints, DrawHistory, BeginDevelopment, PrintLibrary, CarryCertificate, CarryWithHints}
+use Rattle.lc_words.specs.Tasks.{Task, CheckFormula, JudgeHistory, ShowDevelopment, ShowLines, ListConditions, ListChosen, ShowCondition, CheckCertificate, ProveDevelopment, ProveWithHints, DrawHistory, BeginDevelopment, PrintLibrary, CarryCertificate, CarryWithHints}
+use Rattle.lincheck.specs.Condition.{AnswersCondition, kind_of, point_of}
 use Rattle.lincheck.specs.Draw.{AnswersDraw}
 use Rattle.lincheck.specs.Formula.{AnswersFormula}
 use Rattle.lincheck.specs.Judge.{AnswersJudge}
@@ -30,6 +32,10 @@ AnswersTask bytes_at (ShowDevelopment development) text status =
 AnswersTask bytes_at (ShowLines development) text status = IfSome (bytes_at development) (λ file. AnswersLines file text status)
 AnswersTask bytes_at (ListConditions development) text status =
     IfSome (bytes_at development) (λ file. AnswersDevelopment conditions_text file text status)
+AnswersTask bytes_at (ListChosen development filter) text status =
+    IfSome (bytes_at development) (λ file. AnswersDevelopment (chosen_text (point_of filter) (kind_of filter)) file text status)
+AnswersTask bytes_at (ShowCondition development number) text status =
+    IfSome (bytes_at development) (λ file. AnswersCondition number file text status)
 AnswersTask bytes_at (CheckCertificate development certificate) text status =
     IfSome (bytes_at development) (λ file. AnswersCheck file (bytes_at certificate) text status)
 AnswersTask bytes_at (ProveDevelopment development) text status =
@@ -54,6 +60,8 @@ IsUnread CannotOpen bytes_at (JudgeHistory development history) =
 IsUnread CannotOpen bytes_at (ShowDevelopment development) = CannotOpen development
 IsUnread CannotOpen bytes_at (ShowLines development) = CannotOpen development
 IsUnread CannotOpen bytes_at (ListConditions development) = CannotOpen development
+IsUnread CannotOpen bytes_at (ListChosen development filter) = CannotOpen development
+IsUnread CannotOpen bytes_at (ShowCondition development number) = CannotOpen development
 IsUnread CannotOpen bytes_at (CheckCertificate development certificate) =
     CannotOpen development
     ⊎ ((file : List ℕ) × (D : Development) × (bytes_at development ≡ Some file) × Says file_reading file D × CannotOpen certificate)

@@ -5,6 +5,7 @@ pub mod Formula
 pub mod Judge
 pub mod Draw
 pub mod Check
+pub mod Condition
 pub mod Lines
 pub mod New
 pub mod Carry

@@ -1,7 +1,7 @@
 -- What a task leaves on standard output.
 use Rattle.std.specs.Prelude.{◌≡◌, ℕ, ◌⊎◌, List, ◌++◌, Option, Result, Ok, Err}
 use Rattle.std.specs.Io.KnownBytes.{Keeps, Appends}
-use Rattle.lc_words.specs.Tasks.{Task, CheckFormula, JudgeHistory, ShowDevelopment, ShowLines, ListConditions, CheckCertificate, ProveDevelopment, ProveWithHints, DrawHistory, BeginDevelopment, PrintLibrary, CarryCertificate, CarryWithHints}
+use Rattle.lc_words.specs.Tasks.{Task, CheckFormula, JudgeHistory, ShowDevelopment, ShowLines, ListConditions, ListChosen, ShowCondition, CheckCertificate, ProveDevelopment, ProveWithHints, DrawHistory, BeginDevelopment, PrintLibrary, CarryCertificate, CarryWithHints}
 use Rattle.lincheck.specs.declared.answer.Failure.{Failure}
 use Rattle.lincheck.specs.declared.answer.Failure.TheVariants.{CannotRead, CannotWrite, OutOfMemory}
 
@@ -18,7 +18,7 @@ abbrev pub PrintsText : Option (List ℕ) → Option (List ℕ) → List ℕ →
 PrintsText before after text (Ok u) = Appends before after text
 PrintsText before after text (Err CannotWrite) = Unit {0}
 PrintsText before after text (Err OutOfMemory) = Begins before after text
-PrintsText before after text (Err (CannotRead path)) = ⊥
+PrintsText before after text (Err (CannotRead path reason)) = ⊥
 
 -- its answer is printed as it is made
 abbrev pub IsInPieces : Task → Type 0
@@ -27,6 +27,8 @@ IsInPieces (JudgeHistory development history) = ⊥
 IsInPieces (ShowDevelopment development) = ⊥
 IsInPieces (ShowLines development) = ⊥
 IsInPieces (ListConditions development) = Unit {0}
+IsInPieces (ListChosen development filter) = ⊥
+IsInPieces (ShowCondition development number) = ⊥
 IsInPieces (CheckCertificate development certificate) = ⊥
 IsInPieces (ProveDevelopment development) = ⊥
 IsInPieces (ProveWithHints development hints) = ⊥
@@ -40,7 +42,7 @@ IsInPieces (PrintLibrary lib text) = ⊥
 -- unless writing it failed
 abbrev pub Leaves : Task → (List ℕ → ℕ → Type 0) → Option (List ℕ) → Option (List ℕ) → Result ℕ Failure → Type 0
 Leaves task IsAnswer before after (Ok status) = (text : List ℕ) × IsAnswer text status × Appends before after text
-Leaves task IsAnswer before after (Err (CannotRead path)) = Keeps before after
+Leaves task IsAnswer before after (Err (CannotRead path reason)) = Keeps before after
 Leaves task IsAnswer before after (Err CannotWrite) = Keeps before after ⊎ ((text : List ℕ) × (said : ℕ) × IsAnswer text said)
 Leaves task IsAnswer before after (Err OutOfMemory) =
     Keeps before after ⊎ (IsInPieces task × ((text : List ℕ) × (said : ℕ) × IsAnswer text said × Begins before after text))

@@ -5,6 +5,6 @@ use Rattle.lincheck.specs.declared.answer.Failure.TheVariants.{CannotRead, Canno
 
 -- 3 for a fault of reading or writing, 4 for want of memory
 abbrev pub status_of : Failure → ℕ
-status_of (CannotRead path) = 3
+status_of (CannotRead path reason) = 3
 status_of CannotWrite = 3
 status_of OutOfMemory = 4

@@ -2,8 +2,9 @@
 ghost use Rattle.std.specs.Prelude.{◌≡◌, IfOk};
 ghost use Rattle.lincheck.specs.Answers.{Told, ToldFault};
 
-use lc_base::{Fault, OutOfMemory, refusal_line, write_line};
+use lc_base::{Fault, OutOfMemory, Refusal, refusal_line, write_line};
 use std::alloc::{AllocError, AllocFailed, Global};
+use std::io;
 use thiserror::Error;
 
 /// The command did what it is for.
@@ -21,19 +22,29 @@ pub const INPUT_OR_OUTPUT_FAULT: u8 = 3;
 /// An allocation was refused.
 pub const OUT_OF_MEMORY: u8 = 4;
 
-/// What a command answers: what it prints on standard output, and its exit status.
+/// Why a command did not do what it is for, for those who ask.
+#[derive(Clone, Copy)]
+pub enum Why {
+    /// A file is refused.
+    Refused(Refusal),
+    /// Of the condition of this number no proof was found.
+    Unfound(u64),
+}
+
+/// What a command answers: what it prints on standard output, its exit status, and why it is refused, if that can be explained.
 #[derive(Drop)]
 pub struct Answer {
     pub text: Vec<u8>,
     pub status: u8,
+    pub why: Option<Why>,
 }
 
 /// Why a command gave no answer, or why the answer did not come out. It is printed on standard error.
 #[derive(Clone, Copy, Debug, Error)]
 pub enum Failure<'a> {
-    /// The file at this path cannot be opened, or reading it fails.
+    /// The file at this path cannot be opened, or reading it fails, for the reason that the system gives.
     #[error("cannot read {0}")]
-    CannotRead(&'a str),
+    CannotRead(&'a str, Option<io::Error>),
     /// Standard output takes no more.
     #[error("cannot write")]
     CannotWrite,
@@ -61,8 +72,16 @@ impl Failure<'_> {
         ensures { result ≡ status_of self.now }
     {
         match self {
-            Failure::CannotRead(_) | Failure::CannotWrite => INPUT_OR_OUTPUT_FAULT,
+            Failure::CannotRead(_, _) | Failure::CannotWrite => INPUT_OR_OUTPUT_FAULT,
             Failure::OutOfMemory => OUT_OF_MEMORY,
+        }
+    }
+
+    /// The reason that the system gives, if it gives one.
+    pub fn reason(&self) -> Option<io::Error> {
+        match self {
+            Failure::CannotRead(_, reason) => *reason,
+            Failure::CannotWrite | Failure::OutOfMemory => None,
         }
     }
 }
@@ -76,6 +95,7 @@ pub fn told_fault(alloc: Global, fault: Fault) -> Result<Answer, OutOfMemory>
             Ok(Answer {
                 text: refusal_line(alloc, &refusal)?,
                 status: REFUSED,
+                why: Some(Why::Refused(refusal)),
             })
         }
         Fault::OutOfMemory => Err(OutOfMemory),
@@ -91,6 +111,7 @@ pub fn told(alloc: Global, word: &str, checked: Result<(), Fault>) -> Result<Ans
             Ok(Answer {
                 text: write_line(alloc, word, &[])?,
                 status: SUCCESS,
+                why: None,
             })
         }
         Err(fault) => told_fault(alloc, fault),

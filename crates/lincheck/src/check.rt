@@ -4,20 +4,23 @@ ghost use Rattle.lc_sexp.specs.Pieces.{WasFed};
 ghost use Rattle.lc_reading.specs.Files.{IsAnswerTo};
 ghost use Rattle.lc_outline.specs.DevelopmentView.{development_shown};
 ghost use Rattle.lc_outline_text.specs.Developments.{file_reading};
-ghost use Rattle.lc_check.specs.VerdictView.{development_in};
+ghost use Rattle.lc_check.specs.VerdictView.{IsVerdictOn, development_in};
 ghost use Rattle.lc_words.specs.Tasks.{CheckCertificate};
 ghost use Rattle.lincheck.specs.Check.{AnswersCertificate, AnswersCheck, OpensAs, TellsVerdict, accepted_line};
 ghost use Rattle.lincheck.specs.Execution.{IsUnread};
 
 use crate::answer::{Answer, Failure, SUCCESS, told_fault};
 use crate::files::Files;
-use crate::reading::{feed_file, feed_forms};
+use crate::reading::{feed_file, feed_forms, read_file};
+use crate::telling::{Counting, Telling};
 use lc_base::{Fault, OutOfMemory, write_line};
-use lc_check::{Accepted, CertificateSession, Verdict};
+use lc_check::{Accepted, CertificateSession, Verdict, proven_count_by, verdict_by_count};
+use lc_cond::Numbering;
 use lc_outline::Development;
 use lc_outline_text::development_in;
 use lc_sexp::FormsReader;
 use std::alloc::Global;
+use std::io::Write;
 
 /// The development in the file that a reader was fed; else its first refusal.
 fn development_fed(alloc: Global, reader: FormsReader) -> Result<Development, Fault>
@@ -63,6 +66,7 @@ fn tell_verdict(alloc: Global, verdict: &Verdict) -> Result<Answer, OutOfMemory>
         Verdict::Accepted(accepted) => Ok(Answer {
             text: accepted_line(alloc, accepted)?,
             status: SUCCESS,
+            why: None,
         }),
         Verdict::Refused(refusal) => told_fault(alloc, Fault::Refused(*refusal)),
     }
@@ -84,19 +88,69 @@ fn answer_certificate<'a, F: Files>(
     Ok(tell_verdict(alloc, &verdict)?)
 }
 
+/// The verdict on a development and a certificate file; and says how many conditions are proved.
+fn counted_verdict<E: Write>(
+    alloc: Global,
+    development: Development,
+    cert: &[u8],
+    err: &mut E,
+) -> Result<Verdict, OutOfMemory>
+    ensures { IfOk result (IsVerdictOn (development_shown development) cert.now) }
+{
+    let total = Numbering::new(alloc, &development)?.count();
+    let mut counting = Counting { err, total, due: 0 };
+    let count = proven_count_by(alloc, &development, &mut counting, cert);
+    verdict_by_count(development, cert, count)
+}
+
+/// The answer to the certificate at a path, of a development; and says how many conditions are proved. The file is held whole.
+fn answer_counted<'a, F: Files, E: Write>(
+    alloc: Global,
+    files: &mut F,
+    development: Development,
+    path: &'a str,
+    err: &mut E,
+) -> Result<Answer, Failure<'a>>
+    ensures unread { F.CannotOpen files.old path.now → IsErr result }
+    ensures answers { IfOk result (λ answer. IfSome (F.bytes_at files.old path.now) (λ file. AnswersCertificate (development_shown development) file answer.text.items answer.status)) }
+{
+    let cert = read_file(alloc, files, path)?;
+    let verdict = counted_verdict(alloc, development, &cert, err)?;
+    Ok(tell_verdict(alloc, &verdict)?)
+}
+
+/// The answer to the certificate at a path, of a development; and says how many conditions are proved, if that is asked for.
+fn answer_said<'a, F: Files, E: Write>(
+    alloc: Global,
+    files: &mut F,
+    development: Development,
+    path: &'a str,
+    telling: &mut Telling<'_, E>,
+) -> Result<Answer, Failure<'a>>
+    ensures unread { F.CannotOpen files.old path.now → IsErr result }
+    ensures answers { IfOk result (λ answer. IfSome (F.bytes_at files.old path.now) (λ file. AnswersCertificate (development_shown development) file answer.text.items answer.status)) }
+{
+    if telling.is_asked {
+        answer_counted(alloc, files, development, path, telling.err)
+    } else {
+        answer_certificate(alloc, files, development, path)
+    }
+}
+
 /// The answer of the command `check` to the development and the certificate at two paths. Where the development is refused,
 /// the certificate is not opened.
-pub fn answer_check<'a, F: Files>(
+pub fn answer_check<'a, F: Files, E: Write>(
     alloc: Global,
     files: &mut F,
     development: &'a str,
     certificate: &'a str,
+    telling: &mut Telling<'_, E>,
 ) -> Result<Answer, Failure<'a>>
     ensures unread { IsUnread (F.CannotOpen files.old) (F.bytes_at files.old) (CheckCertificate development.now certificate.now) → IsErr result }
     ensures answers { IfOk result (λ answer. IfSome (F.bytes_at files.old development.now) (λ file. AnswersCheck file (F.bytes_at files.old certificate.now) answer.text.items answer.status)) }
 {
     match open_development(alloc, files, development)? {
-        Ok(development) => answer_certificate(alloc, files, development, certificate),
+        Ok(development) => answer_said(alloc, files, development, certificate, telling),
         Err(answer) => Ok(answer),
     }
 }

@@ -24,6 +24,7 @@ fn picture_of(alloc: Global, spec: &TextSpec, bytes: &[u8]) -> Result<Answer, Ou
             Ok(Answer {
                 text: drawing(alloc, spec, &history, &order)?.into_bytes(),
                 status: SUCCESS,
+                why: None,
             })
         }
         Err(fault) => told_fault(alloc, fault),

@@ -59,6 +59,7 @@ fn tell_judgement(alloc: Global, judgement: Result<Judgement, Fault>) -> Result<
             Ok(Answer {
                 text: write_line(alloc, "overflow", &[])?,
                 status: REFUSED,
+                why: None,
             })
         }
         Err(fault) => told_fault(alloc, fault),

@@ -4,9 +4,11 @@
 mod answer;
 mod carry;
 mod check;
+mod condition;
 mod conditions;
 mod disk;
 mod draw;
+mod explain;
 mod files;
 mod formula;
 mod judge;

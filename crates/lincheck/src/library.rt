@@ -17,6 +17,7 @@ fn told_text(alloc: Global, text: &[u8]) -> Result<Answer, AllocError>
     Ok(Answer {
         text: text.to_vec(alloc)?,
         status: SUCCESS,
+        why: None,
     })
 }
 
@@ -28,6 +29,7 @@ fn answer_certificate(alloc: Global, lib: Lib) -> Result<Answer, OutOfMemory>
         Ok(text) => Ok(Answer {
             text,
             status: SUCCESS,
+            why: None,
         }),
         Err(FindFault::NotFound(number)) => told_unfound(alloc, "not-found", number),
         Err(FindFault::Budget(number)) => told_unfound(alloc, "budget", number),

@@ -36,6 +36,7 @@ pub fn answer_lines<'a, F: Files>(
         Ok(text) => Ok(Answer {
             text,
             status: SUCCESS,
+            why: None,
         }),
         Err(fault) => Ok(told_fault(alloc, fault)?),
     }

@@ -86,6 +86,7 @@ pub fn answer_new(alloc: Global, name: &str) -> Result<Answer, OutOfMemory>
         Ok(_) => Ok(Answer {
             text,
             status: SUCCESS,
+            why: None,
         }),
         Err(fault) => told_fault(alloc, fault),
     }

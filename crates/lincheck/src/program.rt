@@ -1,23 +1,24 @@
 //! What the program does with its command line.
-ghost use Rattle.std.specs.Prelude.{◌≡◌, ◌⊎◌, ℕ, List, true, IfSome, IsErr};
+ghost use Rattle.std.specs.Prelude.{◌≡◌, ◌⊎◌, true, IfSome, IsErr};
 ghost use Rattle.clap.specs.Words.{kind_of};
-ghost use Rattle.lc_words.specs.Reading.{AreWrong, AskForHelp, AsksForText};
-ghost use Rattle.lc_words.specs.Tasks.{HasPlainPaths, Task, task_of, texts_of, words_for};
+ghost use Rattle.lc_words.specs.Reading.{AreWrong, AskFor, AskForHelp, AsksForText};
+ghost use Rattle.lc_words.specs.Tasks.{Task, task_of, texts_of};
 ghost use Rattle.lincheck.specs.Execution.{AnswersTask, Ends, IsUnread};
 ghost use Rattle.lincheck.specs.Printing.{Leaves};
 ghost use Rattle.lincheck.specs.Status.{status_of};
 
-use crate::answer::{COMMAND_LINE_FAULT, Failure, SUCCESS};
+use crate::answer::{COMMAND_LINE_FAULT, Failure, SUCCESS, Why};
 use crate::carry::answer_carry;
 use crate::check::answer_check;
-use crate::conditions::list_conditions;
+use crate::conditions::answer_conditions;
 use crate::draw::answer_draw;
+use crate::explain::explain;
 use crate::files::Files;
 use crate::formula::answer_formula;
 use crate::judge::answer_judge;
 use crate::library::answer_library;
 use crate::new::answer_new;
-use crate::printing::print_answer;
+use crate::printing::print_told;
 use crate::prove::answer_prove;
 use crate::show::answer_show;
 use crate::telling::Telling;
@@ -26,34 +27,52 @@ use lc_words::{Request, read_words};
 use std::alloc::Global;
 use std::io;
 use std::io::Write;
+use std::sync::Wait;
+use std::thread::Threads;
 
-/// Does what is asked for, prints the answer, and answers its status. Files are opened, read and judged in the order of the
-/// command, so that none is opened behind a refusal.
+/// Does what is asked for, prints the answer, answers its status, and hands out why it is refused. Files are opened, read and judged
+/// in the order of the command, so that none is opened behind a refusal.
 fn carry_out<'a, F: Files, O: Write, E: Write>(
     alloc: Global,
     request: Request<'a>,
     files: &mut F,
     out: &mut O,
     err: &mut E,
+    why: &mut Option<Why>,
 ) -> Result<u8, Failure<'a>>
     ensures unread { IsUnread (F.CannotOpen files.old) (F.bytes_at files.old) (task_of request.entry) → IsErr result × (out.new ≡ out.old) }
     ensures leaves { Leaves (task_of request.entry) (AnswersTask (F.bytes_at files.old) (task_of request.entry)) (O.contents out.old) (O.contents out.new) result }
 {
     match request {
-        Request::Formula(path) => print_answer(out, &answer_formula(alloc, files, path)?),
+        Request::Formula(path) => print_told(out, why, &answer_formula(alloc, files, path)?),
         Request::Judge {
             development,
             history,
-        } => print_answer(out, &answer_judge(alloc, files, development, history)?),
+        } => {
+            let answer = answer_judge(alloc, files, development, history)?;
+            print_told(out, why, &answer)
+        }
         Request::Show { development, lines } => {
             let answer = answer_show(alloc, files, development, lines)?;
-            print_answer(out, &answer)
+            print_told(out, why, &answer)
         }
-        Request::Conditions(development) => list_conditions(alloc, files, development, out),
+        Request::Conditions {
+            development,
+            chosen,
+        } => answer_conditions(alloc, files, development, chosen, out, why),
         Request::Check {
             development,
             certificate,
-        } => print_answer(out, &answer_check(alloc, files, development, certificate)?),
+            progress,
+            ..
+        } => {
+            let mut telling = Telling {
+                err,
+                is_asked: progress,
+            };
+            let answer = answer_check(alloc, files, development, certificate, &mut telling)?;
+            print_told(out, why, &answer)
+        }
         Request::Prove {
             development,
             hints,
@@ -61,7 +80,7 @@ fn carry_out<'a, F: Files, O: Write, E: Write>(
         } => {
             let mut telling = Telling { err, is_asked };
             let answer = answer_prove(alloc, files, development, hints, &mut telling)?;
-            print_answer(out, &answer)
+            print_told(out, why, &answer)
         }
         Request::Carry {
             old,
@@ -72,22 +91,31 @@ fn carry_out<'a, F: Files, O: Write, E: Write>(
         } => {
             let mut telling = Telling { err, is_asked };
             let answer = answer_carry(alloc, files, old, certificate, new, hints, &mut telling)?;
-            print_answer(out, &answer)
+            print_told(out, why, &answer)
         }
         Request::Draw {
             development,
             history,
-        } => print_answer(out, &answer_draw(alloc, files, development, history)?),
-        Request::New(name) => print_answer(out, &answer_new(alloc, name)?),
-        Request::Library { lib, text } => print_answer(out, &answer_library(alloc, lib, text)?),
+        } => {
+            let answer = answer_draw(alloc, files, development, history)?;
+            print_told(out, why, &answer)
+        }
+        Request::New(name) => print_told(out, why, &answer_new(alloc, name)?),
+        Request::Library { lib, text } => {
+            print_told(out, why, &answer_library(alloc, lib, text)?)
+        }
     }
 }
 
-/// Says on standard error why there is no answer, and answers the status. A fault of standard error changes nothing.
+/// Says on standard error why there is no answer, with the reason of the system where it gives one, and answers the status. A fault
+/// of standard error changes nothing.
 fn complain<E: Write>(err: &mut E, failure: &Failure<'_>) -> u8
     ensures { result ≡ status_of failure.now }
 {
     let _ = writeln!(err, "lincheck: {failure}");
+    if let Some(reason) = failure.reason() {
+        let _ = writeln!(err, "  {reason}");
+    }
     failure.status()
 }
 
@@ -117,27 +145,32 @@ fn tell_usage<O: Write, E: Write>(error: &clap::Error, out: &mut O, err: &mut E)
 
 /// Runs the program on the words of its command line, and answers its exit status.
 ///
-/// Answers and help are written to `out`, all else to `err`. The lines of `conditions` are written as they are made: where
-/// memory is refused, a beginning of them may stand there.
-pub fn execute<F: Files, O: Write, E: Write>(
+/// Answers and help are written to `out`, all else to `err`: so what is written to `out` and what is answered depends on the task
+/// that the words ask for, and not on what they ask to be said beside it. The lines of `conditions` are written as they are made:
+/// where memory is refused, a beginning of them may stand there.
+pub fn execute<R: Threads + Wait + Sync, F: Files, O: Write, E: Write>(
+    _rt: &R,
     alloc: Global,
     words: &[String],
     files: &mut F,
     out: &mut O,
     err: &mut E,
 ) -> u8
-    ensures answers { (name : List ℕ) (task : Task) → texts_of words.now ≡ words_for name task → HasPlainPaths task
-        → Ends task (AnswersTask (F.bytes_at files.old) task) (O.contents out.old) (O.contents out.new) result }
-    ensures unread { (name : List ℕ) (task : Task) → texts_of words.now ≡ words_for name task → HasPlainPaths task → IsUnread (F.CannotOpen files.old) (F.bytes_at files.old) task
+    ensures answers { (task : Task) → AskFor (texts_of words.now) task → Ends task (AnswersTask (F.bytes_at files.old) task) (O.contents out.old) (O.contents out.new) result }
+    ensures unread { (task : Task) → AskFor (texts_of words.now) task → IsUnread (F.CannotOpen files.old) (F.bytes_at files.old) task
         → ((result ≡ 3) ⊎ (result ≡ 4)) × (out.new ≡ out.old) }
     ensures help { AskForHelp (texts_of words.now) → ((result ≡ 0) ⊎ ((result ≡ 3) ⊎ (result ≡ 4))) × (files.new ≡ files.old) }
     ensures wrong { AreWrong (texts_of words.now) → ((result ≡ 2) ⊎ (result ≡ 4)) × (out.new ≡ out.old) × (files.new ≡ files.old) }
 {
     match read_words(alloc, words) {
         Err(error) => tell_usage(&error, out, err),
-        Ok(request) => {
-            match carry_out(alloc, request, files, out, err) {
-                Ok(status) => status,
+        Ok(asked) => {
+            let mut why = None;
+            match carry_out(alloc, asked.request, files, out, err, &mut why) {
+                Ok(status) => {
+                    explain(alloc, &asked, why, files, err);
+                    status
+                }
                 Err(failure) => complain(err, &failure),
             }
         }

@@ -11,7 +11,7 @@ ghost use Rattle.lc_words.specs.Tasks.{ProveWithHints, path_in, proving};
 ghost use Rattle.lincheck.specs.Execution.{AnswersTask, IsUnread};
 ghost use Rattle.lincheck.specs.Prove.{AnswersFound, AnswersHinted, AnswersHints, AnswersProve, OpensHints, ToldFound};
 
-use crate::answer::{Answer, Failure, REFUSED, SUCCESS, told_fault};
+use crate::answer::{Answer, Failure, REFUSED, SUCCESS, Why, told_fault};
 use crate::check::open_development;
 use crate::files::Files;
 use crate::reading::feed_forms;
@@ -33,6 +33,7 @@ pub fn told_unfound(alloc: Global, word: &str, number: u64) -> Result<Answer, Ou
     Ok(Answer {
         text: write_line(alloc, word, &[number])?,
         status: REFUSED,
+        why: Some(Why::Unfound(number)),
     })
 }
 
@@ -48,6 +49,7 @@ pub fn told_found(
         Ok(certificate) => Ok(Answer {
             text: certificate_text(alloc, development, &certificate)?,
             status: SUCCESS,
+            why: None,
         }),
         Err(FindFault::NotFound(number)) => told_unfound(alloc, "not-found", number),
         Err(FindFault::Budget(number)) => told_unfound(alloc, "budget", number),

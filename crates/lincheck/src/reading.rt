@@ -9,6 +9,7 @@ use crate::sink::Sink;
 use lc_base::FILE_LIMIT;
 use lc_sexp::FormsReader;
 use std::alloc::Global;
+use std::io;
 use std::io::{ErrorKind, Read};
 
 /// The most bytes that are read of a file: one more than a file may have, so that a file that is too long is seen to be.
@@ -22,7 +23,8 @@ const PIECE: usize = 4096;
 /// Why a file was not read.
 #[derive(Clone, Copy)]
 pub enum ReadFault {
-    Unreadable,
+    /// For the reason that the system gives, if it gives one.
+    Unreadable(Option<io::Error>),
     OutOfMemory,
 }
 
@@ -50,12 +52,12 @@ pub fn feed_to_limit<R: Read, S: Sink>(reader: &mut R, sink: &mut S) -> Result<(
             }
             Err(error) => {
                 if error.kind() != ErrorKind::Interrupted {
-                    return Err(ReadFault::Unreadable);
+                    return Err(ReadFault::Unreadable(Some(error)));
                 }
             }
         }
     }
-    Err(ReadFault::Unreadable)
+    Err(ReadFault::Unreadable(None))
 }
 
 /// Feeds the bytes of the file at a path, or its first `MOST_BYTES` bytes where it has more, in pieces.
@@ -69,12 +71,13 @@ pub fn feed_file<'a, F: Files, S: Sink>(
     ensures unread { F.CannotOpen files.old path.now → IsErr result }
     ensures fed { OnOk result ((bytes : List ℕ) × IsFedOn S.WasFed sink.old sink.new bytes × IfSome (F.bytes_at files.old path.now) (λ file. bytes ≡ within_limit file)) }
 {
-    let Ok(mut reader) = files.open(path) else {
-        return Err(Failure::CannotRead(path));
+    let mut reader = match files.open(path) {
+        Ok(reader) => reader,
+        Err(error) => return Err(Failure::CannotRead(path, Some(error))),
     };
     match feed_to_limit(&mut reader, sink) {
         Ok(()) => Ok(()),
-        Err(ReadFault::Unreadable) => Err(Failure::CannotRead(path)),
+        Err(ReadFault::Unreadable(reason)) => Err(Failure::CannotRead(path, reason)),
         Err(ReadFault::OutOfMemory) => Err(Failure::OutOfMemory),
     }
 }

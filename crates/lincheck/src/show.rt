@@ -25,6 +25,7 @@ fn answer_printed<'a, F: Files>(
         Ok(development) => Ok(Answer {
             text: development_text(alloc, &development)?,
             status: SUCCESS,
+            why: None,
         }),
         Err(answer) => Ok(answer),
     }

@@ -7,23 +7,24 @@ use std::process::ExitCode;
 use std::{env, io};
 
 fn main(rt: HostRuntime) -> ExitCode {
-    ExitCode::from(match run(&rt) {
-        Ok(status) => status,
-        Err(error) => words_are_no_text(&rt, &error),
-    })
-}
-
-// The words of the command line are a `Vec`, since they are looked through more than once.
-fn run(rt: &HostRuntime) -> io::Result<u8> {
-    let words: Vec<String> = env::args(rt)?.collect(rt.alloc())?;
-    let mut files = Disk::new(rt);
-    Ok(execute(
+    let words = match words_of(&rt) {
+        Ok(words) => words,
+        Err(error) => return ExitCode::from(words_are_no_text(&rt, &error)),
+    };
+    let mut files = Disk::new(&rt);
+    ExitCode::from(execute(
+        &rt,
         rt.alloc(),
         words.as_slice(),
         &mut files,
         &mut rt.stdout(),
         &mut rt.stderr(),
     ))
+}
+
+// The words of the command line are a `Vec`, since they are looked through more than once.
+fn words_of(rt: &HostRuntime) -> io::Result<Vec<String>> {
+    Ok(env::args(rt)?.collect(rt.alloc())?)
 }
 
 // The words of the command line could not be had.

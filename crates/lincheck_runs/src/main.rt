@@ -28,6 +28,9 @@ use lc_check::{Session, Verdict};
 use lc_outline_text::development_of;
 use lincheck::{Disk, Files, execute};
 use std::alloc::{AllocError, Global};
+use std::rt::Files as System;
+use std::sync::Wait;
+use std::thread::Threads;
 use std::{fs, str};
 
 /// More bytes than a file has.
@@ -50,21 +53,32 @@ struct Ran {
 }
 
 /// Runs the program on the words of a line, over these files.
-fn run_over<F: Files>(alloc: Global, line: &str, files: &mut F) -> anyhow::Result<Ran> {
+fn run_over<R: Threads + Wait + Sync, F: Files>(
+    rt: &R,
+    alloc: Global,
+    line: &str,
+    files: &mut F,
+) -> anyhow::Result<Ran> {
     let words = words_of(alloc, line)?;
     let mut out = Vec::new(alloc);
     let mut err = Vec::new(alloc);
-    let status = execute(alloc, words.as_slice(), files, &mut out, &mut err);
+    let status = execute(rt, alloc, words.as_slice(), files, &mut out, &mut err);
     Ok(Ran { out, err, status })
 }
 
 /// Runs the program on the words of a line, over the files of the system.
-fn run_words(rt: &HostRuntime, line: &str) -> anyhow::Result<Ran> {
-    run_over(rt.alloc(), line, &mut Disk::new(rt))
+fn run_words<R: System + Print + AllocGlobal + Threads + Wait + Sync>(
+    rt: &R,
+    line: &str,
+) -> anyhow::Result<Ran> {
+    run_over(rt, rt.alloc(), line, &mut Disk::new(rt))
 }
 
 /// Runs the program on the words of a line, and prints what it did.
-fn run_line(rt: &HostRuntime, line: &str) -> anyhow::Result<()> {
+fn run_line<R: System + Print + AllocGlobal + Threads + Wait + Sync>(
+    rt: &R,
+    line: &str,
+) -> anyhow::Result<()> {
     let ran = run_words(rt, line)?;
     let out = str::from_utf8(&ran.out)?;
     let err = str::from_utf8(&ran.err)?;
@@ -73,7 +87,12 @@ fn run_line(rt: &HostRuntime, line: &str) -> anyhow::Result<()> {
 }
 
 /// Prints the verdict on a development file and a certificate file that comes in pieces of so many bytes.
-fn check_pieces(rt: &HostRuntime, dev: &[u8], cert: &[u8], size: usize) -> anyhow::Result<()>
+fn check_pieces<R: Print + AllocGlobal>(
+    rt: &R,
+    dev: &[u8],
+    cert: &[u8],
+    size: usize,
+) -> anyhow::Result<()>
     requires { 1 ≤ size }
 {
     let mut session = Session::new(rt.alloc(), dev)?;
@@ -90,7 +109,7 @@ fn check_pieces(rt: &HostRuntime, dev: &[u8], cert: &[u8], size: usize) -> anyho
 }
 
 /// Checks the two files of a line.
-fn check_line(rt: &HostRuntime, line: &str) -> anyhow::Result<()> {
+fn check_line<R: System + Print + AllocGlobal>(rt: &R, line: &str) -> anyhow::Result<()> {
     let (development, certificate) = line
         .split_once(' ')
         .context("a line has two files, with a space between them")?;
@@ -104,7 +123,10 @@ fn check_line(rt: &HostRuntime, line: &str) -> anyhow::Result<()> {
 }
 
 /// Checks what the two command lines of a line make.
-fn check_made(rt: &HostRuntime, line: &str) -> anyhow::Result<()> {
+fn check_made<R: System + Print + AllocGlobal + Threads + Wait + Sync>(
+    rt: &R,
+    line: &str,
+) -> anyhow::Result<()> {
     let (development, certificate) = line
         .split_once(" : ")
         .context("a line has two command lines, with a colon between them")?;
@@ -124,13 +146,20 @@ fn count_carried(alloc: Global, dev: &[u8], cert: &[u8], new: &[u8]) -> anyhow::
 }
 
 /// The certificate that `carry` makes of the files in a folder.
-fn carried_in(alloc: Global, folder: &mut Folder<'_>) -> anyhow::Result<Vec<u8>> {
+fn carried_in<R: Threads + Wait + Sync>(
+    rt: &R,
+    alloc: Global,
+    folder: &mut Folder<'_>,
+) -> anyhow::Result<Vec<u8>> {
     let words = "lincheck carry old certificate new --hints hints";
-    Ok(run_over(alloc, words, folder)?.out)
+    Ok(run_over(rt, alloc, words, folder)?.out)
 }
 
 /// Carries a certificate between what the command lines of a line make, and then on to the same development.
-fn carry_line(rt: &HostRuntime, line: &str) -> anyhow::Result<()> {
+fn carry_line<R: System + Print + AllocGlobal + Threads + Wait + Sync>(
+    rt: &R,
+    line: &str,
+) -> anyhow::Result<()> {
     let mut commands = line.split(" : ");
     let old = run_words(rt, commands.next().context("no old development")?)?;
     let certificate = run_words(rt, commands.next().context("no certificate")?)?;
@@ -144,7 +173,7 @@ fn carry_line(rt: &HostRuntime, line: &str) -> anyhow::Result<()> {
         new: &new.out,
         hints: &hints.out,
     };
-    let carried = carried_in(rt.alloc(), &mut folder)?;
+    let carried = carried_in(rt, rt.alloc(), &mut folder)?;
     check_pieces(rt, &new.out, &carried, WHOLE)?;
     let mut folder = Folder {
         old: &new.out,
@@ -152,14 +181,16 @@ fn carry_line(rt: &HostRuntime, line: &str) -> anyhow::Result<()> {
         new: &new.out,
         hints: b"(hints)",
     };
-    let again = carried_in(rt.alloc(), &mut folder)?;
+    let again = carried_in(rt, rt.alloc(), &mut folder)?;
     if again.as_slice() == carried.as_slice() {
         println!(rt; "carried on, it is the same certificate")?;
     }
     Ok(())
 }
 
-fn run_lines(rt: &HostRuntime) -> anyhow::Result<()> {
+fn run_lines<R: System + Print + AllocGlobal + Threads + Wait + Sync>(
+    rt: &R,
+) -> anyhow::Result<()> {
     let lines = fs::read_to_string(rt, "runs")?;
     for line in lines.as_str().split('\n') {
         if !line.is_empty() {
@@ -169,7 +200,7 @@ fn run_lines(rt: &HostRuntime) -> anyhow::Result<()> {
     Ok(())
 }
 
-fn check_lines(rt: &HostRuntime) -> anyhow::Result<()> {
+fn check_lines<R: System + Print + AllocGlobal>(rt: &R) -> anyhow::Result<()> {
     let lines = fs::read_to_string(rt, "pieces")?;
     for line in lines.as_str().split('\n') {
         if !line.is_empty() {
@@ -179,7 +210,9 @@ fn check_lines(rt: &HostRuntime) -> anyhow::Result<()> {
     Ok(())
 }
 
-fn check_made_lines(rt: &HostRuntime) -> anyhow::Result<()> {
+fn check_made_lines<R: System + Print + AllocGlobal + Threads + Wait + Sync>(
+    rt: &R,
+) -> anyhow::Result<()> {
     let lines = fs::read_to_string(rt, "made")?;
     for line in lines.as_str().split('\n') {
         if !line.is_empty() {
@@ -189,7 +222,9 @@ fn check_made_lines(rt: &HostRuntime) -> anyhow::Result<()> {
     Ok(())
 }
 
-fn carry_lines(rt: &HostRuntime) -> anyhow::Result<()> {
+fn carry_lines<R: System + Print + AllocGlobal + Threads + Wait + Sync>(
+    rt: &R,
+) -> anyhow::Result<()> {
     let lines = fs::read_to_string(rt, "carried")?;
     for line in lines.as_str().split('\n') {
         if !line.is_empty() {

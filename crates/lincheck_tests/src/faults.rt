@@ -2,7 +2,9 @@
 use crate::memory::{End, Ended, Everywhere, File, Folder, Full, run, words_of};
 use lincheck::execute;
 use std::alloc::{AllocError, Global};
+use std::sync::Wait;
 use std::test::Fail;
+use std::thread::Threads;
 
 const FIRST: &str =
     "(formula (vars x y) (cols) (hyps (<= x y) (<= y x)) (goal (= x y)) (proof (trich 2 (sum (1 1) (3 1)) (sum (0 1) (3 1)))))";
@@ -15,47 +17,58 @@ const FORMULA: [&str; 3] = ["lincheck", "formula", "a"];
 const JUDGE: [&str; 4] = ["lincheck", "judge", "a", "b"];
 
 /// What `formula` answers to so many spaces.
-fn check_spaces(alloc: Global, count: usize) -> Result<Ended, AllocError> {
+fn check_spaces<R: Threads + Wait + Sync>(
+    rt: &R,
+    alloc: Global,
+    count: usize,
+) -> Result<Ended, AllocError> {
     let spaces = vec![in alloc; b' '; count]?;
     let mut files = Everywhere {
         bytes: spaces.as_slice(),
     };
-    run(alloc, FORMULA.as_slice(), &mut files)
+    run(rt, alloc, FORMULA.as_slice(), &mut files)
 }
 
 /// A file of 16,777,216 bytes is read, and one byte more is one too many.
-fn limit_is_kept(alloc: Global) -> Result<bool, AllocError> {
-    let longest = check_spaces(alloc, 16_777_216)?;
-    let too_long = check_spaces(alloc, 16_777_217)?;
+fn limit_is_kept<R: Threads + Wait + Sync>(rt: &R, alloc: Global) -> Result<bool, AllocError> {
+    let longest = check_spaces(rt, alloc, 16_777_216)?;
+    let too_long = check_spaces(rt, alloc, 16_777_217)?;
     Ok(longest.is(1, "refused 2 0\n", "") & too_long.is(1, "refused 1 16777216\n", ""))
 }
 
 #[test]
 fn files_at_the_limit(rt: HostRuntime) -> Result<(), Fail> {
-    assert!(rt; limit_is_kept(rt.alloc())?);
+    assert!(rt; limit_is_kept(&rt, rt.alloc())?);
     Ok(())
 }
 
 /// What `formula` answers to a file.
-fn check_file(alloc: Global, file: File<'_>) -> Result<Ended, AllocError> {
-    run(alloc, FORMULA.as_slice(), &mut Folder::of(Some(file)))
+fn check_file<R: Threads + Wait + Sync>(
+    rt: &R,
+    alloc: Global,
+    file: File<'_>,
+) -> Result<Ended, AllocError> {
+    run(rt, alloc, FORMULA.as_slice(), &mut Folder::of(Some(file)))
 }
 
-fn is_unreadable(ended: &Ended) -> bool {
-    ended.is(3, "", "lincheck: cannot read a\n")
-}
-
-/// A read may fail in the middle of a text, or behind a text that has its answer already, or be interrupted for ever.
-fn failed_reads_are_told(alloc: Global) -> Result<bool, AllocError> {
-    let in_the_middle = check_file(alloc, File::new("(formula (", End::Fails))?;
-    let at_the_end = check_file(alloc, File::new(FIRST, End::Fails))?;
-    let for_ever = check_file(alloc, File::new(FIRST, End::IsInterrupted))?;
-    Ok(is_unreadable(&in_the_middle) & is_unreadable(&at_the_end) & is_unreadable(&for_ever))
+/// A read may fail in the middle of a text, or behind a text that has its answer already: the reason stands behind the line. Or it is
+/// interrupted for ever, for no reason.
+fn failed_reads_are_told<R: Threads + Wait + Sync>(
+    rt: &R,
+    alloc: Global,
+) -> Result<bool, AllocError> {
+    let failed = "lincheck: cannot read a\n  other error\n";
+    let in_the_middle = check_file(rt, alloc, File::new("(formula (", End::Fails))?;
+    let at_the_end = check_file(rt, alloc, File::new(FIRST, End::Fails))?;
+    let for_ever = check_file(rt, alloc, File::new(FIRST, End::IsInterrupted))?;
+    Ok(in_the_middle.is(3, "", failed)
+        & at_the_end.is(3, "", failed)
+        & for_ever.is(3, "", "lincheck: cannot read a\n"))
 }
 
 #[test]
 fn reads_that_fail(rt: HostRuntime) -> Result<(), Fail> {
-    assert!(rt; failed_reads_are_told(rt.alloc())?);
+    assert!(rt; failed_reads_are_told(&rt, rt.alloc())?);
     Ok(())
 }
 
@@ -64,43 +77,54 @@ fn reads_that_fail(rt: HostRuntime) -> Result<(), Fail> {
 fn reads_that_are_interrupted(rt: HostRuntime) -> Result<(), Fail> {
     let mut file = File::new(FIRST, End::Ends);
     file.interruptions = 1000;
-    let ended = check_file(rt.alloc(), file)?;
+    let ended = check_file(&rt, rt.alloc(), file)?;
     assert!(rt; ended.is(0, "proved\n", ""));
     Ok(())
 }
 
 /// Behind a development that is refused the history is not opened.
-fn history_stays_closed(alloc: Global) -> Result<bool, AllocError> {
+fn history_stays_closed<R: Threads + Wait + Sync>(
+    rt: &R,
+    alloc: Global,
+) -> Result<bool, AllocError> {
     let mut files = Folder::of(Some(File::new("(object)", End::Ends)));
-    let ended = run(alloc, JUDGE.as_slice(), &mut files)?;
+    let ended = run(rt, alloc, JUDGE.as_slice(), &mut files)?;
     Ok(ended.is(1, "refused 2 0\n", "") & (files.opened == 1))
 }
 
-fn missing_history_is_told(alloc: Global) -> Result<bool, AllocError> {
+fn missing_history_is_told<R: Threads + Wait + Sync>(
+    rt: &R,
+    alloc: Global,
+) -> Result<bool, AllocError> {
     let mut files = Folder::of(Some(File::new(COUNTER, End::Ends)));
-    let ended = run(alloc, JUDGE.as_slice(), &mut files)?;
-    Ok(ended.is(3, "", "lincheck: cannot read b\n") & (files.opened == 2))
+    let ended = run(rt, alloc, JUDGE.as_slice(), &mut files)?;
+    Ok(ended.is(3, "", "lincheck: cannot read b\n  entity not found\n") & (files.opened == 2))
 }
 
 #[test]
 fn files_that_are_opened(rt: HostRuntime) -> Result<(), Fail> {
-    assert!(rt; history_stays_closed(rt.alloc())? & missing_history_is_told(rt.alloc())?);
+    assert!(rt; history_stays_closed(&rt, rt.alloc())? & missing_history_is_told(&rt, rt.alloc())?);
     Ok(())
 }
 
 /// Where standard output takes nothing, the status is 3 for an answer, and for help too.
-fn full_output_is_told(alloc: Global, words: &[&str]) -> Result<bool, AllocError> {
+fn full_output_is_told<R: Threads + Wait + Sync>(
+    rt: &R,
+    alloc: Global,
+    words: &[&str],
+) -> Result<bool, AllocError> {
     let words = words_of(alloc, words)?;
     let mut files = Everywhere {
         bytes: FIRST.as_bytes(),
     };
     let mut err = Vec::new(alloc);
-    let status = execute(alloc, words.as_slice(), &mut files, &mut Full, &mut err);
+    let status = execute(rt, alloc, words.as_slice(), &mut files, &mut Full, &mut err);
     Ok((status == 3) & (err.as_slice() == b"lincheck: cannot write\n".as_slice()))
 }
 
 /// A fault of standard error changes no status.
-fn full_error_output_is_let_be(
+fn full_error_output_is_let_be<R: Threads + Wait + Sync>(
+    rt: &R,
     alloc: Global,
     words: &[&str],
     wanted: u8,
@@ -108,16 +132,16 @@ fn full_error_output_is_let_be(
     let words = words_of(alloc, words)?;
     let mut files = Folder::of(None);
     let mut out = Vec::new(alloc);
-    let status = execute(alloc, words.as_slice(), &mut files, &mut out, &mut Full);
+    let status = execute(rt, alloc, words.as_slice(), &mut files, &mut out, &mut Full);
     Ok((status == wanted) & out.is_empty())
 }
 
 #[test]
 fn streams_that_are_full(rt: HostRuntime) -> Result<(), Fail> {
-    let answer = full_output_is_told(rt.alloc(), FORMULA.as_slice())?;
-    let help = full_output_is_told(rt.alloc(), ["lincheck", "--help"].as_slice())?;
-    let missing = full_error_output_is_let_be(rt.alloc(), FORMULA.as_slice(), 3)?;
-    let no_command = full_error_output_is_let_be(rt.alloc(), ["lincheck"].as_slice(), 2)?;
+    let answer = full_output_is_told(&rt, rt.alloc(), FORMULA.as_slice())?;
+    let help = full_output_is_told(&rt, rt.alloc(), ["lincheck", "--help"].as_slice())?;
+    let missing = full_error_output_is_let_be(&rt, rt.alloc(), FORMULA.as_slice(), 3)?;
+    let no_command = full_error_output_is_let_be(&rt, rt.alloc(), ["lincheck"].as_slice(), 2)?;
     assert!(rt; answer & help & missing & no_command);
     Ok(())
 }
@@ -143,6 +167,7 @@ fn memory_refused(rt: HostRuntime) {
         bytes: FIRST.as_bytes(),
     };
     let status = execute(
+        &rt,
         rt.alloc(),
         words.as_slice(),
         &mut files,

@@ -3,6 +3,8 @@ use lincheck::{Files, execute};
 use std::alloc::{AllocError, Global};
 use std::io;
 use std::io::{ErrorKind, Read, Write};
+use std::sync::Wait;
+use std::thread::Threads;
 
 /// What a file does behind its bytes.
 #[derive(Clone, Copy)]
@@ -141,10 +143,15 @@ impl Ended {
     }
 }
 
-pub fn run<F: Files>(alloc: Global, words: &[&str], files: &mut F) -> Result<Ended, AllocError> {
+pub fn run<R: Threads + Wait + Sync, F: Files>(
+    rt: &R,
+    alloc: Global,
+    words: &[&str],
+    files: &mut F,
+) -> Result<Ended, AllocError> {
     let words = words_of(alloc, words)?;
     let mut out = Vec::new(alloc);
     let mut err = Vec::new(alloc);
-    let status = execute(alloc, words.as_slice(), files, &mut out, &mut err);
+    let status = execute(rt, alloc, words.as_slice(), files, &mut out, &mut err);
     Ok(Ended { status, out, err })
 }

@@ -1,2 +1,2 @@
 " The files that lincheck reads.
-autocmd BufRead,BufNewFile *.lc,*.spec,*.cert,*.hints,*.formula set filetype=lincheck
+autocmd BufRead,BufNewFile *.lc,*.spec,*.cert,*.hints,*.formula,*.plan set filetype=lincheck

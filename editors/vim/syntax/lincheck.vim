@@ -1,26 +1,27 @@
-" Vim syntax of what lincheck reads: developments, specifications, formula files, certificates and hints.
+" Vim syntax of what lincheck reads: developments, specifications, formula files, certificates, hints and plans.
 if exists("b:current_syntax")
   finish
 endif
 
 " A hyphen and a letter behind it are one word: `lin-other`, `write-a`.
-syntax iskeyword @,48-57,_,-
+syntax iskeyword @,48-57,_,-,.
 
+" Words of the grammar may be names too, so most of them count only as the first word of a list, and edges only behind `on`.
+syntax match lincheckForm "\v\(@1<=(spec|object|formula|certificate|hints|plan)>"
+syntax match lincheckPart "\v\(@1<=(abstract|op|branch|choice|array|aux|action|invariant|idle|body|point|assert|on)>"
+syntax match lincheckPart "\v\(@1<=(vars|cols|hyps|goal|proof|phase|call|upto|times)>"
+syntax match lincheckInstruction "\v\(@1<=(load|store|cas|faa|set|if|return)>"
+syntax match lincheckRider "\v\(@1<=(lin|lin-by|lin-other|lin-other-by|note|note-by|when)>"
+syntax match lincheckEdge "\v(\(on )@4<=(next|then|else)>"
+syntax match lincheckConnective "\v\(@1<=(not|and|or|forall|exists)>"
+syntax match lincheckRelation "\v\(@1<=(\<\=|\=\>|\=|\+|-|\*)[ )]@="
+syntax match lincheckTerm "\v\(@1<=(rd|affine)>"
+syntax match lincheckStep "\v\(@1<=(split|cases|push|fresh|trich|inst|cut|written|same|divide|sum|opposite|by|use)>"
+syntax match lincheckOpen "\v\(@1<=open>"
+syntax match lincheckNumber "\v(^|[( \t])@1<=-?\d+($|[) \t;])@="
+syntax match lincheckVariable "\v(^|[( \t])@1<=\?\d+>"
+syntax keyword lincheckSystem self N pend arg1 arg2 arg3 rep1 rep2 rep3 noted note1 note2 note3
 syntax match lincheckComment ";.*$" contains=@Spell
-syntax match lincheckNumber "\v[( ]@1<=-?\d+[) ]@="
-syntax match lincheckVariable "?\d\+"
-syntax match lincheckRelation "(\@1<=\(<=\|=>\|=\|+\|-\|\*\)[ )]\@="
-
-syntax keyword lincheckForm spec object formula certificate hints
-syntax keyword lincheckPart abstract op branch choice array aux action invariant idle body point assert on vars cols hyps goal proof
-syntax keyword lincheckInstruction load store cas faa set if return
-syntax keyword lincheckRider lin lin-by lin-other lin-other-by note note-by when
-syntax keyword lincheckEdge next then else
-syntax keyword lincheckConnective not and or forall exists
-syntax keyword lincheckTerm rd store affine self
-syntax keyword lincheckStep split cases push fresh trich inst cut written same divide sum opposite by use
-syntax keyword lincheckOpen open
-syntax keyword lincheckSystem pend op arg1 arg2 arg3 rep1 rep2 rep3 noted note1 note2 note3
 
 highlight default link lincheckComment Comment
 highlight default link lincheckNumber Number

@@ -1,7 +1,8 @@
-use Rattle.std.proofs.Common.{◌≡◌, ℕ, Some, refl, sym, subst, ◌⊎◌, inl, inr}
+use Rattle.std.proofs.Common.{◌≡◌, ℕ, Some, Ok, refl, sym, subst, ◌⊎◌, inl, inr}
 use Rattle.std.specs.Prelude.{ℤ}
 use Rattle.lc_term.specs.Syntax.{Term, Column}
 use Rattle.lc_reading.specs.Readings.{Reading, mapped}
+use Rattle.lc_reading.specs.Parts.{IsThree}
 use Rattle.lc_reading.specs.Results.{IsReading}
 use Rattle.lc_text.specs.declared.words.Operation.{Operation}
 use Rattle.lc_text.specs.declared.words.Operation.TheVariants.{Add, Subtract}
@@ -80,7 +81,9 @@ pub column::read_store-returns : goal.column::read_store-returns
 column::read_store-returns g t c =
     let names = g.S.Scope.names c.args.scope.now in
     let bound = names_in c.args.bound.now in
+    let parts = c.deref.result.now in
+    let three = subst (λ p. IsThree c.args.list (Ok p)) (sym c.deref.ensures) c.in_ok-parts.ensures in
     c.whole_store.ensures (store_reading names bound (owner_of c.args.list) (number_of c.args.list) (rest_of c.args.list))
     (three_parts column_of term_of term_of triple (column_reading names bound (owner_of c.args.list)) (term_reading names bound) (term_reading names bound)
-    (store_reading names bound (owner_of c.args.list)) c.args.list c.in_ok-first.rest c.in_ok-first.first c.in_ok-first.second c.in_ok-first.third _ _ _ _ _ _
-    c.in_ok-first.ensures (rw c.owner.ensures at c.read_bound_column-column.ensures) c.read_bound_term-index.ensures c.read_bound_term-value.ensures refl refl refl (λ m t u v ts. refl))
+    (store_reading names bound (owner_of c.args.list)) c.args.list parts.3 parts.0 parts.1 parts.2 _ _ _ _ _ _
+    three (rw c.owner.ensures at c.read_bound_column.ensures) c.read_bound_term.ensures c.read_bound_term-2.ensures refl refl refl (λ m t u v ts. refl))

@@ -1,4 +1,4 @@
-use Rattle.std.proofs.Common.{ℕ, IsTrue, vec_len}
+use Rattle.std.proofs.Common.{ℕ, ◌*◌, ◌+◌, IsTrue, vec_len}
 use Rattle.lc_term.specs.Chains.{AreInside}
 use Rattle.lc_term.specs.Places.{column_passes}
 use Rattle.lc_term.specs.View.{column_of}
@@ -17,7 +17,11 @@ abbrev pub decreases-said_column-stores : goal.decreases-said_column-stores
 decreases-said_column-stores l = vec_len l.chain.stores
 
 abbrev pub decreases-said_column : goal.decreases-said_column
-decreases-said_column l = goal.size-said_column l
+decreases-said_column l = 2 * goal.size-said_column l
 
 abbrev pub decreases-said_term : goal.decreases-said_term
-decreases-said_term l = goal.size-said_term l
+decreases-said_term l = 2 * goal.size-said_term l
+
+-- a box comes before what is in it
+abbrev pub decreases-boxed_term : goal.decreases-boxed_term
+decreases-boxed_term l = 2 * goal.size-boxed_term l + 1

@@ -37,13 +37,13 @@ pub read_branches-returns-then-is_met : goal.read_branches-returns-then-is_met
 read_branches-returns-then-is_met g t c =
     let names = g.S.Scope.names c.args.scope.now in
     let met = sym c.is_met.ensures ∙ c.if-is_met.true in
-    proofs_end _ _ c.proofs.proofs (ap (proofs_reading names c.args.owner zero c.proofs.due (number_of c.proofs.rest)) c.in_default.ensures.1 ∙ rw met refl) c.proofs.invariant.read
+    proofs_end _ _ c.proofs.proofs (ap (proofs_reading names c.args.owner zero c.proofs.due (number_of c.proofs.list)) c.in_default.ensures.1 ∙ rw met refl) c.proofs.invariant.read
 
 pub read_branches-returns-else-is_met : goal.read_branches-returns-else-is_met
 read_branches-returns-else-is_met g t c =
     let names = g.S.Scope.names c.args.scope.now in
     let met = sym c.is_met.ensures ∙ c.if-is_met.false in
-    proofs_wrong _ _ c.args.owner c.proofs.proofs _ (ap (proofs_reading names c.args.owner zero c.proofs.due (number_of c.proofs.rest)) c.in_default.ensures.1 ∙ rw met refl)
+    proofs_wrong _ _ c.args.owner c.proofs.proofs _ (ap (proofs_reading names c.args.owner zero c.proofs.due (number_of c.proofs.list)) c.in_default.ensures.1 ∙ rw met refl)
     c.with_misshapen.ensures c.proofs.invariant.read
 
 pub read_branches-returns-then-is_full : goal.read_branches-returns-then-is_full
@@ -51,7 +51,7 @@ read_branches-returns-then-is_full g t c =
     let names = g.S.Scope.names c.args.scope.now in
     let full = sym c.is_full.ensures ∙ c.if-is_full.true in
     let (at, next) = c.in-Ok.ensures in
-    proofs_wrong _ _ (number_of c.proofs.rest) c.proofs.proofs _ (ap (proofs_reading names c.args.owner zero c.proofs.due (number_of c.proofs.rest)) next.rest ∙ rw full refl)
+    proofs_wrong _ _ (number_of c.proofs.list) c.proofs.proofs _ (ap (proofs_reading names c.args.owner zero c.proofs.due (number_of c.proofs.list)) next.rest ∙ rw full refl)
     (rw c.number-number.ensures at c.with_misshapen-then-is_full.ensures) c.proofs.invariant.read
 
 -- behind one proof the others are left, from k on
@@ -69,11 +69,11 @@ read_branches-proofs-preserved g t c =
     let names = g.S.Scope.names c.args.scope.now in
     let full = sym c.is_full.ensures ∙ c.if-is_full.false in
     let (at, next) = c.in-Ok.ensures in
-    let left = one_more names c.args.owner c.proofs.due c.later-due.result c.proofs.rest c.next_part.new.list c.in-Ok.part full c.later-due.ensures at next in
+    let left = one_more names c.args.owner c.proofs.due c.later-due.result c.proofs.list c.next_part.new.list c.in-Ok.part full c.later-due.ensures at next in
     let size = ap item_count_of_all next.rest in
     record {
-      read = so_far_push proof_of more _ _ _ c.proofs.proofs (unboxed c.read_boxed-proof.result) c.pushed_out-proofs.result (rw left at c.proofs.invariant.read)
-          (unboxed_reads _ _ c.read_boxed-proof.ensures) c.pushed_out-proofs.ensures;
+      read = so_far_push proof_of more _ _ _ c.proofs.proofs (unboxed c.read_boxed.result) c.pushed_out-proofs.result (rw left at c.proofs.invariant.read)
+          (unboxed_reads _ _ c.read_boxed.ensures) c.pushed_out-proofs.ensures;
       shorter = omega (arith, size, c.proofs.invariant.shorter);
     }
 
@@ -93,11 +93,11 @@ short_step names h n m ts misfit result (is, own, short) told =
 
 pub read_step-returns-in_err-begun : goal.read_step-returns-in_err-begun
 read_step-returns-in_err-begun g t c =
-    short_step (g.S.Scope.names c.args.scope.now) c.args.head (owner_of c.args.list) (number_of c.args.list) (rest_of c.args.list) _ c.from_residual.result c.in_err-begun.ensures c.from_residual.ensures.1
+    short_step (g.S.Scope.names c.args.scope.now) c.args.head (owner_of c.args.list.now) (number_of c.args.list.now) (rest_of c.args.list.now) _ c.from_residual.result c.in_err-begun.ensures c.from_residual.ensures.1
 
 pub read_step-returns : goal.read_step-returns
 read_step-returns g t c =
     let names = g.S.Scope.names c.args.scope.now in
     let (own, left) = c.in_ok-begun.ensures in
-    let due = left_proofs names (owner_of c.args.list) (own_parts c.args.head) (proofs_due c.args.head) _ _ c.in_ok-begun.rest left in
-    rw due (c.finished.ensures _ _ own (rw (c.owner.ensures, c.proofs_due.ensures) at c.read_branches-branches.ensures))
+    let due = left_proofs names (owner_of c.args.list.now) (own_parts c.args.head) (proofs_due c.args.head) _ _ c.read_begun.new.list left in
+    rw due (c.finished.ensures _ _ own (rw (c.owner-owner.ensures, c.proofs_due.ensures) at c.read_branches.ensures))

@@ -1,4 +1,4 @@
-use Rattle.std.proofs.Common.{vec_len}
+use Rattle.std.proofs.Common.{◌*◌, ◌+◌, vec_len}
 use Rattle.lc_term.specs.Chains.{AreInside}
 use Rattle.lc_term.specs.View.{column_of}
 use Rattle.lc_rename.proofs.Chains.{IsReplacedIn}
@@ -14,7 +14,11 @@ abbrev pub decreases-renamed_column-stores : goal.decreases-renamed_column-store
 decreases-renamed_column-stores l = vec_len l.chain.stores
 
 abbrev pub decreases-renamed_column : goal.decreases-renamed_column
-decreases-renamed_column l = goal.size-renamed_column l
+decreases-renamed_column l = 2 * goal.size-renamed_column l
 
 abbrev pub decreases-renamed_term : goal.decreases-renamed_term
-decreases-renamed_term l = goal.size-renamed_term l
+decreases-renamed_term l = 2 * goal.size-renamed_term l
+
+-- a box comes before what is in it
+abbrev pub decreases-boxed_term : goal.decreases-boxed_term
+decreases-boxed_term l = 2 * goal.size-boxed_term l + 1

@@ -26,8 +26,8 @@ returns-in-Err-clause-leaves g c =
     let known = g.F.Files.bytes_at c.args.files.now c.args.path.now in
     let tells = subst (λ (o : Result Development Answer). IfSome known (λ file. OpensAs file o)) c.in-Err.is c.in_ok-development.ensures.opens in
     leaves_printed (ListConditions c.args.path.now) (AnswersTask (g.F.Files.bytes_at c.args.files.now) (ListConditions c.args.path.now)) (g.O.Write.contents c.args.out.now)
-    (g.O.Write.contents c.print_answer.new.out) c.in-Err.answer.text.items c.in-Err.answer.status c.print_answer.result
-    (told_refused conditions_text known c.in-Err.answer.text.items c.in-Err.answer.status tells) c.print_answer.ensures.prints c.print_answer.ensures.fails
+    (g.O.Write.contents c.print_told.new.out) c.in-Err.answer.text.items c.in-Err.answer.status c.print_told.result
+    (told_refused conditions_text known c.in-Err.answer.text.items c.in-Err.answer.status tells) c.print_told.ensures.prints c.print_told.ensures.fails
 
 pub returns-in_ok-print_conditions-in-Ok-clause-leaves : goal.returns-in_ok-print_conditions-in-Ok-clause-leaves
 returns-in_ok-print_conditions-in-Ok-clause-leaves g c =

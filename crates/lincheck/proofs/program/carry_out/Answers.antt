@@ -10,77 +10,77 @@ pub returns-in_ok-answer_formula-in-Formula-clause-leaves : goal.returns-in_ok-a
 returns-in_ok-answer_formula-in-Formula-clause-leaves g c =
     let answer = c.in_ok-answer_formula-in-Formula.field-0 in
     leaves_printed (task_of c.args.request) (AnswersTask (g.F.Files.bytes_at c.args.files.now) (task_of c.args.request)) (g.O.Write.contents c.args.out.now)
-    (g.O.Write.contents c.print_answer.new.out) answer.text.items answer.status c.print_answer.result
+    (g.O.Write.contents c.print_told.new.out) answer.text.items answer.status c.print_told.result
     (subst (λ (r : Request). AnswersTask (g.F.Files.bytes_at c.args.files.now) (task_of r) answer.text.items answer.status) (sym c.in-Formula.is) c.in_ok-answer_formula-in-Formula.ensures.answers)
-    c.print_answer.ensures.prints c.print_answer.ensures.fails
+    c.print_told.ensures.prints c.print_told.ensures.fails
 
-pub returns-in_ok-answer_judge-in-Judge-clause-leaves : goal.returns-in_ok-answer_judge-in-Judge-clause-leaves
-returns-in_ok-answer_judge-in-Judge-clause-leaves g c =
-    let answer = c.in_ok-answer_judge-in-Judge.field-0 in
+pub returns-in_ok-answer-in-Judge-clause-leaves : goal.returns-in_ok-answer-in-Judge-clause-leaves
+returns-in_ok-answer-in-Judge-clause-leaves g c =
+    let answer = c.in_ok-answer-in-Judge.answer in
     leaves_printed (task_of c.args.request) (AnswersTask (g.F.Files.bytes_at c.args.files.now) (task_of c.args.request)) (g.O.Write.contents c.args.out.now)
-    (g.O.Write.contents c.print_answer-in-Judge.new.out) answer.text.items answer.status c.print_answer-in-Judge.result
-    (subst (λ (r : Request). AnswersTask (g.F.Files.bytes_at c.args.files.now) (task_of r) answer.text.items answer.status) (sym c.in-Judge.is) c.in_ok-answer_judge-in-Judge.ensures.answers)
-    c.print_answer-in-Judge.ensures.prints c.print_answer-in-Judge.ensures.fails
+    (g.O.Write.contents c.print_told-in-Judge.new.out) answer.text.items answer.status c.print_told-in-Judge.result
+    (subst (λ (r : Request). AnswersTask (g.F.Files.bytes_at c.args.files.now) (task_of r) answer.text.items answer.status) (sym c.in-Judge.is) c.in_ok-answer-in-Judge.ensures.answers)
+    c.print_told-in-Judge.ensures.prints c.print_told-in-Judge.ensures.fails
 
 pub returns-in_ok-answer-in-Show-clause-leaves : goal.returns-in_ok-answer-in-Show-clause-leaves
 returns-in_ok-answer-in-Show-clause-leaves g c =
     let answer = c.in_ok-answer-in-Show.answer in
     leaves_printed (task_of c.args.request) (AnswersTask (g.F.Files.bytes_at c.args.files.now) (task_of c.args.request)) (g.O.Write.contents c.args.out.now)
-    (g.O.Write.contents c.print_answer-in-Show.new.out) answer.text.items answer.status c.print_answer-in-Show.result
+    (g.O.Write.contents c.print_told-in-Show.new.out) answer.text.items answer.status c.print_told-in-Show.result
     (subst (λ (r : Request). AnswersTask (g.F.Files.bytes_at c.args.files.now) (task_of r) answer.text.items answer.status) (sym c.in-Show.is) c.in_ok-answer-in-Show.ensures.answers)
-    c.print_answer-in-Show.ensures.prints c.print_answer-in-Show.ensures.fails
+    c.print_told-in-Show.ensures.prints c.print_told-in-Show.ensures.fails
 
-pub returns-in_ok-answer_check-in-Check-clause-leaves : goal.returns-in_ok-answer_check-in-Check-clause-leaves
-returns-in_ok-answer_check-in-Check-clause-leaves g c =
-    let answer = c.in_ok-answer_check-in-Check.field-0 in
+pub returns-in_ok-answer-in-Check-clause-leaves : goal.returns-in_ok-answer-in-Check-clause-leaves
+returns-in_ok-answer-in-Check-clause-leaves g c =
+    let answer = c.in_ok-answer-in-Check.answer in
     leaves_printed (task_of c.args.request) (AnswersTask (g.F.Files.bytes_at c.args.files.now) (task_of c.args.request)) (g.O.Write.contents c.args.out.now)
-    (g.O.Write.contents c.print_answer-in-Check.new.out) answer.text.items answer.status c.print_answer-in-Check.result
-    (subst (λ (r : Request). AnswersTask (g.F.Files.bytes_at c.args.files.now) (task_of r) answer.text.items answer.status) (sym c.in-Check.is) c.in_ok-answer_check-in-Check.ensures.answers)
-    c.print_answer-in-Check.ensures.prints c.print_answer-in-Check.ensures.fails
+    (g.O.Write.contents c.print_told-in-Check.new.out) answer.text.items answer.status c.print_told-in-Check.result
+    (subst (λ (r : Request). AnswersTask (g.F.Files.bytes_at c.args.files.now) (task_of r) answer.text.items answer.status) (sym c.in-Check.is) c.in_ok-answer-in-Check.ensures.answers)
+    c.print_told-in-Check.ensures.prints c.print_told-in-Check.ensures.fails
 
 pub returns-in_ok-answer-in-Prove-clause-leaves : goal.returns-in_ok-answer-in-Prove-clause-leaves
 returns-in_ok-answer-in-Prove-clause-leaves g c =
     let answer = c.in_ok-answer-in-Prove.answer in
     leaves_printed (task_of c.args.request) (AnswersTask (g.F.Files.bytes_at c.args.files.now) (task_of c.args.request)) (g.O.Write.contents c.args.out.now)
-    (g.O.Write.contents c.print_answer-in-Prove.new.out) answer.text.items answer.status c.print_answer-in-Prove.result
+    (g.O.Write.contents c.print_told-in-Prove.new.out) answer.text.items answer.status c.print_told-in-Prove.result
     (subst (λ (r : Request). AnswersTask (g.F.Files.bytes_at c.args.files.now) (task_of r) answer.text.items answer.status) (sym c.in-Prove.is) c.in_ok-answer-in-Prove.ensures.answers)
-    c.print_answer-in-Prove.ensures.prints c.print_answer-in-Prove.ensures.fails
+    c.print_told-in-Prove.ensures.prints c.print_told-in-Prove.ensures.fails
 
 pub returns-in_ok-answer-in-Carry-clause-leaves : goal.returns-in_ok-answer-in-Carry-clause-leaves
 returns-in_ok-answer-in-Carry-clause-leaves g c =
     let answer = c.in_ok-answer-in-Carry.answer in
     leaves_printed (task_of c.args.request) (AnswersTask (g.F.Files.bytes_at c.args.files.now) (task_of c.args.request)) (g.O.Write.contents c.args.out.now)
-    (g.O.Write.contents c.print_answer-in-Carry.new.out) answer.text.items answer.status c.print_answer-in-Carry.result
+    (g.O.Write.contents c.print_told-in-Carry.new.out) answer.text.items answer.status c.print_told-in-Carry.result
     (subst (λ (r : Request). AnswersTask (g.F.Files.bytes_at c.args.files.now) (task_of r) answer.text.items answer.status) (sym c.in-Carry.is) c.in_ok-answer-in-Carry.ensures.answers)
-    c.print_answer-in-Carry.ensures.prints c.print_answer-in-Carry.ensures.fails
+    c.print_told-in-Carry.ensures.prints c.print_told-in-Carry.ensures.fails
 
-pub returns-in_ok-answer_draw-in-Draw-clause-leaves : goal.returns-in_ok-answer_draw-in-Draw-clause-leaves
-returns-in_ok-answer_draw-in-Draw-clause-leaves g c =
-    let answer = c.in_ok-answer_draw-in-Draw.field-0 in
+pub returns-in_ok-answer-in-Draw-clause-leaves : goal.returns-in_ok-answer-in-Draw-clause-leaves
+returns-in_ok-answer-in-Draw-clause-leaves g c =
+    let answer = c.in_ok-answer-in-Draw.answer in
     leaves_printed (task_of c.args.request) (AnswersTask (g.F.Files.bytes_at c.args.files.now) (task_of c.args.request)) (g.O.Write.contents c.args.out.now)
-    (g.O.Write.contents c.print_answer-in-Draw.new.out) answer.text.items answer.status c.print_answer-in-Draw.result
-    (subst (λ (r : Request). AnswersTask (g.F.Files.bytes_at c.args.files.now) (task_of r) answer.text.items answer.status) (sym c.in-Draw.is) c.in_ok-answer_draw-in-Draw.ensures.answers)
-    c.print_answer-in-Draw.ensures.prints c.print_answer-in-Draw.ensures.fails
+    (g.O.Write.contents c.print_told-in-Draw.new.out) answer.text.items answer.status c.print_told-in-Draw.result
+    (subst (λ (r : Request). AnswersTask (g.F.Files.bytes_at c.args.files.now) (task_of r) answer.text.items answer.status) (sym c.in-Draw.is) c.in_ok-answer-in-Draw.ensures.answers)
+    c.print_told-in-Draw.ensures.prints c.print_told-in-Draw.ensures.fails
 
 pub returns-in_ok-answer_new-in-New-clause-leaves : goal.returns-in_ok-answer_new-in-New-clause-leaves
 returns-in_ok-answer_new-in-New-clause-leaves g c =
     let answer = c.in_ok-answer_new-in-New.field-0 in
     leaves_printed (task_of c.args.request) (AnswersTask (g.F.Files.bytes_at c.args.files.now) (task_of c.args.request)) (g.O.Write.contents c.args.out.now)
-    (g.O.Write.contents c.print_answer-in-New.new.out) answer.text.items answer.status c.print_answer-in-New.result
+    (g.O.Write.contents c.print_told-in-New.new.out) answer.text.items answer.status c.print_told-in-New.result
     (subst (λ (r : Request). AnswersTask (g.F.Files.bytes_at c.args.files.now) (task_of r) answer.text.items answer.status) (sym c.in-New.is) c.in_ok-answer_new-in-New.ensures)
-    c.print_answer-in-New.ensures.prints c.print_answer-in-New.ensures.fails
+    c.print_told-in-New.ensures.prints c.print_told-in-New.ensures.fails
 
 pub returns-in_ok-answer_library-in-Library-clause-leaves : goal.returns-in_ok-answer_library-in-Library-clause-leaves
 returns-in_ok-answer_library-in-Library-clause-leaves g c =
     let answer = c.in_ok-answer_library-in-Library.field-0 in
     leaves_printed (task_of c.args.request) (AnswersTask (g.F.Files.bytes_at c.args.files.now) (task_of c.args.request)) (g.O.Write.contents c.args.out.now)
-    (g.O.Write.contents c.print_answer-in-Library.new.out) answer.text.items answer.status c.print_answer-in-Library.result
+    (g.O.Write.contents c.print_told-in-Library.new.out) answer.text.items answer.status c.print_told-in-Library.result
     (subst (λ (r : Request). AnswersTask (g.F.Files.bytes_at c.args.files.now) (task_of r) answer.text.items answer.status) (sym c.in-Library.is) c.in_ok-answer_library-in-Library.ensures)
-    c.print_answer-in-Library.ensures.prints c.print_answer-in-Library.ensures.fails
+    c.print_told-in-Library.ensures.prints c.print_told-in-Library.ensures.fails
 
 pub returns-in-Conditions-clause-leaves : goal.returns-in-Conditions-clause-leaves
 returns-in-Conditions-clause-leaves g c =
     subst
-    (λ (r : Request). Leaves (task_of r) (AnswersTask (g.F.Files.bytes_at c.args.files.now) (task_of r)) (g.O.Write.contents c.args.out.now) (g.O.Write.contents c.list_conditions.new.out)
-    c.list_conditions.result)
-    (sym c.in-Conditions.is) c.list_conditions.ensures.leaves
+    (λ (r : Request). Leaves (task_of r) (AnswersTask (g.F.Files.bytes_at c.args.files.now) (task_of r)) (g.O.Write.contents c.args.out.now) (g.O.Write.contents c.answer_conditions.new.out)
+    c.answer_conditions.result)
+    (sym c.in-Conditions.is) c.answer_conditions.ensures.leaves

@@ -1,0 +1,18 @@
+//! Why a proof is refused, in words: what the condition asks and where, the step of the proof, what is wrong with it, and the hypotheses
+//! that stand there.
+#![tactic(auto)]
+
+mod certificate;
+mod condition;
+mod flawed;
+mod formula;
+mod names;
+mod naming;
+mod reason;
+mod sentence;
+mod state;
+mod unproved;
+
+pub use certificate::{certificate_explanation, unfound_explanation};
+pub use formula::proof_explanation;
+pub use unproved::unproved_conditions;

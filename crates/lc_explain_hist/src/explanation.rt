@@ -1,0 +1,67 @@
+//! What is said of a history that is refused.
+use crate::order::Judged;
+use crate::shape::say_shape;
+use crate::told::Told;
+use lc_base::{Fault, OutOfMemory, Refusal};
+use lc_hist::{Reason, history_from_json};
+use lc_seq::TextSpec;
+use std::alloc::Global;
+
+/// The reason of this number.
+fn reason_of(code: u8) -> Option<Reason> {
+    [
+        Reason::OtherCall,
+        Reason::OtherReply,
+        Reason::MissingCall,
+        Reason::NoStep,
+        Reason::Preceded,
+    ]
+    .iter()
+    .copied()
+    .find(|reason| reason.code() == code)
+}
+
+/// Says why an order is no linearization.
+fn say_order(
+    alloc: Global,
+    told: &mut Told<'_>,
+    spec: &TextSpec,
+    bytes: &[u8],
+    place: u64,
+    reason: Reason,
+) -> Result<(), OutOfMemory> {
+    match history_from_json(alloc, spec, bytes) {
+        Ok((history, order)) => {
+            let judged = Judged {
+                spec,
+                events: history.events(),
+                order: &order,
+            };
+            judged.say(alloc, told, place as usize, reason)
+        }
+        Err(Fault::Refused(_)) => Ok(()),
+        Err(Fault::OutOfMemory) => Err(OutOfMemory),
+    }
+}
+
+/// Where and why a history, or its order, is refused that is read for a specification: sentences of events and entries, each with
+/// its line. It is empty where the refusal tells nothing of a history.
+pub fn history_explanation(
+    alloc: Global,
+    path: &str,
+    spec: &TextSpec,
+    bytes: &[u8],
+    refusal: &Refusal,
+) -> Result<Vec<u8>, OutOfMemory> {
+    let mut told = Told::new(alloc, path, bytes);
+    match refusal {
+        Refusal::HistoryShape(item) => say_shape(&mut told, bytes, *item)?,
+        Refusal::Order(place, code) => {
+            if let Some(reason) = reason_of(*code) {
+                say_order(alloc, &mut told, spec, bytes, *place, reason)?;
+            }
+        }
+        _ => {}
+    }
+    Ok(told.into_text())
+}

@@ -1,0 +1,14 @@
+//! Why a history or its order is refused, in words: the event or the entry, where it stands in the JSON text, and what it does not
+//! agree with.
+#![tactic(auto)]
+
+mod calls;
+mod explanation;
+mod order;
+mod replies;
+mod sentence;
+mod shape;
+mod tally;
+mod told;
+
+pub use explanation::history_explanation;

@@ -1,0 +1,73 @@
+//! The sentences.
+use std::fmt;
+
+/// What is said of an event or an entry.
+#[derive(Clone, Copy)]
+pub(crate) enum Sentence<'a> {
+    OtherFile(&'a str),
+    NoHistory,
+    WrongEvent(usize),
+    WrongEntry(usize),
+    OtherCall { client: u32, number: usize },
+    NoCall { client: u32, calls: usize },
+    ThatCall { client: u32, number: usize },
+    OtherReply { entry: &'a str, returned: &'a str },
+    Returned,
+    NoSuchReply { entry: &'a str, specified: &'a str },
+    NoStep,
+    Preceded(usize),
+    Began,
+    HadReturned(usize),
+    Missing { client: u32, number: usize },
+}
+
+impl fmt::Display for Sentence<'_> {
+    fn fmt<W: fmt::Write>(&self, f: &mut fmt::Formatter<W>) -> fmt::Result {
+        match self {
+            Sentence::OtherFile(it) => write!(f, "a history is due here, and this looks like {it}"),
+            Sentence::NoHistory => f.write_str(
+                "this is no JSON object with the arrays `events` and `order`, and no other key",
+            ),
+            Sentence::WrongEvent(it) => write!(
+                f,
+                "event {it} is neither [CLIENT,\"call\",NAME,[NUMBER,..]] nor [CLIENT,\"return\",[NUMBER,..]], names no operation, has another count of numbers, or is out of turn"
+            ),
+            Sentence::WrongEntry(it) => write!(
+                f,
+                "entry {it} is no [CLIENT,NAME,[NUMBER,..],[NUMBER,..]], with [CHOICE,[NUMBER,..]] behind exactly where the operation has choices, or has another count of numbers"
+            ),
+            Sentence::OtherCall { client, number } => write!(
+                f,
+                "this entry is another call than call {number} of client {client}"
+            ),
+            Sentence::NoCall { client, calls } => write!(
+                f,
+                "the history has {calls} calls of client {client}, and this entry is one more"
+            ),
+            Sentence::ThatCall { client, number } => write!(
+                f,
+                "this is call {number} of client {client}"
+            ),
+            Sentence::OtherReply { entry, returned } => write!(
+                f,
+                "the entry replies {entry}, and the call returned {returned}"
+            ),
+            Sentence::Returned => f.write_str("the call returned here"),
+            Sentence::NoSuchReply { entry, specified } => write!(
+                f,
+                "the entry replies {entry}, and the specification replies {specified} here"
+            ),
+            Sentence::NoStep => f.write_str("the specification has no step for this call here"),
+            Sentence::Preceded(it) => write!(
+                f,
+                "the call of entry {it} returned before the call of this entry began"
+            ),
+            Sentence::Began => f.write_str("the call of this entry began here"),
+            Sentence::HadReturned(it) => write!(f, "the call of entry {it} had returned here"),
+            Sentence::Missing { client, number } => write!(
+                f,
+                "call {number} of client {client} returned here, and has no entry in the order"
+            ),
+        }
+    }
+}

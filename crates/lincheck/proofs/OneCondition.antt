@@ -1,0 +1,75 @@
+-- What is told of one condition, and of those that are chosen.
+use Rattle.std.proofs.Common.{◌≡◌, ℕ, suc, ◌+◌, List, [], ◌∷◌, ◌++◌, length, Option, Some, None, IfSome, IfOk, Result, Ok, Err, Vec, refl, ap, ap₂, ◌∙◌, inl, inr, arith}
+use Rattle.std.specs.declared.alloc.Global.{Global}
+use Rattle.lc_base.specs.declared.refusal.Fault.TheVariants.{Refused}
+use Rattle.lc_base.specs.declared.refusal.Refusal.TheVariants.{Extra}
+use Rattle.lc_cond.specs.Conditions.{Condition, conditions}
+use Rattle.lc_cond_text.specs.ConditionText.{condition_text, conditions_text, lines_from, total_line}
+use Rattle.lc_listing.specs.Chosen.{chosen_count, chosen_from, chosen_text}
+use Rattle.lc_listing.specs.Shown.{IsLaid}
+use Rattle.lc_outline.specs.Development.{Development}
+use Rattle.lc_outline_text.specs.Developments.{file_reading}
+use Rattle.lc_reading.specs.Files.{Says}
+use Rattle.lc_words.specs.Tasks.{listing}
+use Rattle.lincheck.specs.Answers.{ToldFault}
+use Rattle.lincheck.specs.Check.{AnswersDevelopment, TellsRefusal}
+use Rattle.lincheck.specs.Condition.{AnswersCondition, TellsCondition, TellsLine}
+use Rattle.lincheck.specs.Execution.{AnswersTask}
+use Rattle.lincheck.specs.declared.answer.Answer.{Answer}
+use Rattle.lc_base.specs.declared.memory.OutOfMemory.{OutOfMemory}
+
+pub laid_told : (k : ℕ) (line : Option (List ℕ)) (text : Vec ℕ Global) → IsLaid line (Some text) → TellsLine k line text.items 0
+laid_told k None text is = absurd is
+laid_told k (Some line) text is = (is, refl)
+
+unlaid_told : (k : ℕ) (line : Option (List ℕ)) (text : List ℕ) (status : ℕ) → IsLaid line None → ToldFault (Refused (Extra k)) text status → TellsLine k line text status
+unlaid_told k None text status is told = told
+unlaid_told k (Some line) text status is told = absurd is
+
+-- so it is where the answer may be wanting
+pub unlaid_answered : (k : ℕ) (line : Option (List ℕ)) (r : Result Answer OutOfMemory) → IsLaid line None → IfOk r (λ answer. ToldFault (Refused (Extra k)) answer.text.items answer.status)
+    → IfOk r (λ answer. TellsLine k line answer.text.items answer.status)
+unlaid_answered k line (Ok answer) is told = unlaid_told k line answer.text.items answer.status is told
+unlaid_answered k line (Err wanting) is told = tt
+
+pub condition_answered : (k : ℕ) (known : Option (List ℕ)) (D : Development) (text : List ℕ) (status : ℕ) → IfSome known (λ file. Says file_reading file D) → TellsCondition D k text status
+    → IfSome known (λ file. AnswersCondition k file text status)
+condition_answered k None D text status says tells = tt
+condition_answered k (Some file) D text status says tells = inr (D, says, tells)
+
+pub condition_refused : (k : ℕ) (known : Option (List ℕ)) (text : List ℕ) (status : ℕ) → IfSome known (λ file. TellsRefusal file text status)
+    → IfSome known (λ file. AnswersCondition k file text status)
+condition_refused k None text status tells = tt
+condition_refused k (Some file) text status tells = inl tells
+
+-- ---- where nothing is asked for all are chosen
+
+all_lines : (D : Development) (k : ℕ) (cs : List Condition) → chosen_from None None D k cs ≡ lines_from D k cs
+all_lines D k [] = refl
+all_lines D k (c ∷ cs) = ap (λ l. condition_text D k c ++ 10 ∷ l) (all_lines D (suc k) cs)
+
+all_counted : (D : Development) (cs : List Condition) → chosen_count None None D cs ≡ length cs
+all_counted D [] = refl
+all_counted D (c ∷ cs) = ap suc (all_counted D cs)
+
+behind_none : (n : ℕ) → n ≡ 0 + n
+behind_none n = omega arith
+
+all_chosen : (D : Development) → chosen_text None None D ≡ conditions_text D
+all_chosen D = ap₂ (λ l n. l ++ total_line n) (all_lines D 0 (conditions D)) (all_counted D (conditions D) ∙ behind_none (length (conditions D)))
+
+all_answered : (file text : List ℕ) (status : ℕ) → AnswersDevelopment (chosen_text None None) file text status → AnswersDevelopment conditions_text file text status
+all_answered file text status (inl tells) = inl tells
+all_answered file text status (inr (D, says, is, zero)) = inr (D, says, is ∙ all_chosen D, zero)
+
+all_known : (known : Option (List ℕ)) (text : List ℕ) (status : ℕ) → IfSome known (λ file. AnswersDevelopment (chosen_text None None) file text status)
+    → IfSome known (λ file. AnswersDevelopment conditions_text file text status)
+all_known None text status answers = tt
+all_known (Some file) text status answers = all_answered file text status answers
+
+pub chosen_answered : (bytes_at : List ℕ → Option (List ℕ)) (path : List ℕ) (point kind : Option (List ℕ)) (text : List ℕ) (status : ℕ)
+    → IfSome (bytes_at path) (λ file. AnswersDevelopment (chosen_text point kind) file text status) → AnswersTask bytes_at (listing path point kind) text status
+chosen_answered bytes_at path None None text status answers = all_known (bytes_at path) text status answers
+chosen_answered bytes_at path (Some point) None text status answers = answers
+chosen_answered bytes_at path None (Some kind) text status answers = answers
+chosen_answered bytes_at path (Some point) (Some kind) text status answers = answers
