@@ -53,6 +53,12 @@ impl Around<'_> {
     };
 }
 
+/// What stands between the brackets of a list.
+fn inside(list: &[u8]) -> Option<&[u8]> {
+    let end = list.len().checked_sub(1)?;
+    list.get(1..end)
+}
+
 /// How many items stand in these bytes, which end between items.
 fn parts_in(bytes: &[u8]) -> usize {
     let mut rest = bytes;
@@ -66,6 +72,19 @@ fn parts_in(bytes: &[u8]) -> usize {
             .unwrap_or(&[]);
     }
     bytes.len()
+}
+
+/// How many items stand in the list at a place.
+pub(crate) fn list_count(bytes: &[u8], place: Place) -> usize {
+    match bytes_at(bytes, place).and_then(inside) {
+        Some(parts) => parts_in(parts),
+        None => 0,
+    }
+}
+
+/// How many items stand before an offset that stands in no list.
+pub(crate) fn top_count(bytes: &[u8], offset: usize) -> usize {
+    parts_in(bytes.get(..offset).unwrap_or(&[]))
 }
 
 /// The innermost list that is open before an offset, at which an item begins.

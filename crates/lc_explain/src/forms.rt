@@ -5,9 +5,7 @@ fn part_of_object(word: &str) -> Option<&'static str> {
     match word {
         "spec" => Some("(spec NAME (abstract COL ..) (op ..) ..)"),
         "abstract" => Some("(abstract (NAME a b) ..)"),
-        "op" => Some(
-            "(op NAME (ARG ..) REPLIES (branch ..) ..), or with (choice ..) for each branch",
-        ),
+        "op" => Some("(op NAME (ARG ..) REPLIES (branch ..) ..)"),
         "branch" => Some("(branch F ((COLUMN T T) ..) (T ..))"),
         "choice" => Some("(choice NAME (PARAM ..) F ((COLUMN T T) ..) (T ..))"),
         "object" => {
@@ -45,13 +43,13 @@ fn instruction(word: &str) -> Option<&'static str> {
 fn rider(word: &str) -> Option<&'static str> {
     match word {
         "on" => Some("(on EDGE (ACTION T ..) RIDER ..)"),
-        "set" => Some("(set COLUMN T T), of an auxiliary column"),
-        "lin" => Some("(lin), of an operation with branches"),
-        "note" => Some("(note), of an operation with branches"),
-        "lin-other" => Some("(lin-other T OP), of an operation with branches"),
-        "lin-by" => Some("(lin-by CHOICE T ..), of an operation with choices"),
-        "note-by" => Some("(note-by CHOICE T ..), of an operation with choices"),
-        "lin-other-by" => Some("(lin-other-by T OP CHOICE T ..), of an operation with choices"),
+        "set" => Some("(set COLUMN T T)"),
+        "lin" => Some("(lin)"),
+        "note" => Some("(note)"),
+        "lin-other" => Some("(lin-other T OP)"),
+        "lin-by" => Some("(lin-by CHOICE T ..)"),
+        "note-by" => Some("(note-by CHOICE T ..)"),
+        "lin-other-by" => Some("(lin-other-by T OP CHOICE T ..)"),
         "when" => Some("(when F RIDER)"),
         _ => None,
     }
@@ -127,6 +125,21 @@ pub(crate) fn is_step(word: &str) -> bool {
     step(word).is_some()
 }
 
+/// Whether this is the word of a term or a formula.
+pub(crate) fn is_formula(word: &str) -> bool {
+    formula(word).is_some()
+}
+
+/// Whether this is the word of an instruction.
+pub(crate) fn is_instruction(word: &str) -> bool {
+    instruction(word).is_some()
+}
+
+/// Whether this is the word of a rider.
+pub(crate) fn is_rider(word: &str) -> bool {
+    word != "on" && rider(word).is_some()
+}
+
 /// Whether this is the word of a list in which columns stand that are no names.
 pub(crate) fn has_columns(word: &str) -> bool {
     matches!(word, "rd" | "store" | "written" | "same")
@@ -151,21 +164,28 @@ pub(crate) fn form_of(word: &str, outer: &str) -> Option<&'static str> {
     }
 }
 
-/// What may stand in the list that begins with this word, where its form does not say it.
-pub(crate) fn parts_of(word: &str) -> &'static str {
+/// What has to hold of the list that begins with this word, besides its form.
+pub(crate) fn needs_of(word: &str) -> &'static str {
     match word {
-        "on" => ", RIDER being set, when, lin, lin-other, note, lin-by, lin-other-by or note-by",
-        "point" => ", INSTRUCTION being load, store, cas, faa, set, if or return",
+        "op" => ", or with (choice ..) for each branch",
+        "body" => ", one for each operation, in their order",
+        "point" => ", with an `on` of a declared action at each edge that stores or has a rider",
+        "on" => ", one at most for each edge that the instruction has",
+        "return" => ", with as many T as the operation has replies",
+        "lin" | "note" | "lin-other" => ", where the operation has branches",
+        "lin-by" | "note-by" | "lin-other-by" => {
+            ", where the operation has choices, with as many T as the choice has parameters"
+        }
+        "rd" => {
+            ", of a column that may be read here; the code reads what is its own by load, cas and faa"
+        }
         _ => "",
     }
 }
 
-/// What the list that begins with this word needs besides its parts.
-pub(crate) fn needs_of(word: &str) -> &'static str {
-    match word {
-        "point" => ", with an `on` of a declared action at each edge that stores or has a rider",
-        _ => "",
-    }
+/// Whether a list that begins with this word has one at least of its last parts.
+pub(crate) fn has_one(word: &str) -> bool {
+    matches!(word, "spec" | "op" | "array" | "body" | "use")
 }
 
 /// What the item of a list names, by the word of the list and how many items stand before it, where that is known.

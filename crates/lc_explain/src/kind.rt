@@ -32,6 +32,14 @@ impl FileKind {
         self == seen || self == FileKind::Specification && seen == FileKind::Development
     }
 
+    /// How many forms the file has.
+    pub(crate) fn form_count(self) -> usize {
+        match self {
+            FileKind::Development => 2,
+            _ => 1,
+        }
+    }
+
     /// The forms of the file.
     pub(crate) fn forms(self) -> &'static str {
         match self {

@@ -11,6 +11,7 @@ mod limits;
 mod locating;
 mod place;
 mod sentence;
+mod spot;
 mod steps;
 mod wording;
 

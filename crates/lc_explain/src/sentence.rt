@@ -1,6 +1,71 @@
 //! The sentences.
 use crate::kind::FileKind;
+use crate::spot::legend_of;
 use std::fmt;
+
+/// An item, in words.
+#[derive(Clone, Copy)]
+pub(crate) enum What<'a> {
+    Atom(&'a str),
+    /// A list that begins with this word.
+    ListOf(&'a str),
+    /// One that begins with none.
+    List,
+}
+
+impl fmt::Display for What<'_> {
+    fn fmt<W: fmt::Write>(&self, f: &mut fmt::Formatter<W>) -> fmt::Result {
+        match self {
+            What::Atom(word) => write!(f, "`{word}`"),
+            What::ListOf(word) => write!(f, "a list that begins with `{word}`"),
+            What::List => f.write_str("this list"),
+        }
+    }
+}
+
+/// Where an item stands, by the form of the list round it, or of the file.
+#[derive(Clone, Copy)]
+pub(crate) enum Spot<'a> {
+    /// Where this part is due, of which that is said.
+    Due {
+        part: &'a str,
+        note: &'static str,
+        form: &'a str,
+    },
+    /// Where the list has ended.
+    Behind(&'a str),
+    In(&'a str),
+    File(FileKind),
+    BehindFile(FileKind),
+}
+
+impl fmt::Display for Spot<'_> {
+    fn fmt<W: fmt::Write>(&self, f: &mut fmt::Formatter<W>) -> fmt::Result {
+        match self {
+            Spot::Due { part, note, form } => write!(f, "in the place of {part}{note} in {form}"),
+            Spot::Behind(form) => write!(f, "behind the last part of {form}"),
+            Spot::In(form) => write!(f, "in {form}"),
+            Spot::File(kind) => {
+                let forms = kind.forms();
+                write!(f, "in a file that is written {forms}")
+            }
+            Spot::BehindFile(kind) => {
+                let forms = kind.forms();
+                write!(f, "behind the last form of a file that is written {forms}")
+            }
+        }
+    }
+}
+
+impl Spot<'_> {
+    /// How what is due there may be written.
+    fn legend(&self) -> &'static str {
+        match self {
+            Spot::Due { part, .. } => legend_of(part),
+            _ => "",
+        }
+    }
+}
 
 /// Why a file is refused, with the words of the file.
 #[derive(Clone, Copy)]
@@ -20,28 +85,30 @@ pub(crate) enum Sentence<'a> {
     OtherByte,
     /// The file lacks a form.
     EndsHere(FileKind),
-    /// A word, or a list that begins with it, does not fit into a list that is written so, and of which parts that is said.
+    /// An item does not fit.
     Unfit {
-        word: &'a str,
-        form: &'a str,
-        parts: &'static str,
+        what: What<'a>,
+        spot: Spot<'a>,
     },
-    /// Nor does a list that begins with no word.
-    UnfitList {
-        form: &'a str,
-        parts: &'static str,
-    },
-    /// Nor does a list that is itself written in some way.
-    UnfitForm {
+    /// A list lacks a part.
+    Lacks(&'static str),
+    /// A list that is itself written so, and of which that has to hold, does not fit.
+    Unmet {
         own: &'static str,
         needs: &'static str,
-        form: &'a str,
+    },
+    /// A list that is itself written so does not fit.
+    UnfitForm {
+        own: &'static str,
+        spot: Spot<'a>,
     },
     /// A name is not declared.
     Undeclared {
         noun: &'static str,
         name: &'a str,
     },
+    /// In a proof a name is not declared.
+    UndeclaredInProof(&'a str),
     /// A name is reserved.
     Reserved(&'a str),
     /// A name stands somewhere for the second time.
@@ -64,102 +131,63 @@ pub(crate) enum Sentence<'a> {
     NoNextCondition(&'a str),
 }
 
-impl<'a> Sentence<'a> {
-    /// The sentence in parts, but for its number.
-    fn parts(self) -> (&'a str, &'a str, &'a str, &'a str, &'a str) {
-        match self {
-            Sentence::OtherFile { seen, due } => {
-                (
-                    due.name(),
-                    " is due here, and this looks like ",
-                    seen.name(),
-                    "",
-                    "",
-                )
-            }
-            Sentence::NeverClosed => ("this bracket is never closed", "", "", "", ""),
-            Sentence::ClosesNothing => ("this bracket closes no list", "", "", "", ""),
-            Sentence::Misplaced(byte) => (
-                "the character `",
-                byte,
-                "` may stand in a comment alone",
-                "",
-                "",
-            ),
-            Sentence::OtherByte => ("this byte may stand in a comment alone", "", "", "", ""),
-            Sentence::EndsHere(kind) => (
-                "the file ends here, and lacks a form: it is written ",
-                kind.forms(),
-                "",
-                "",
-                "",
-            ),
-            Sentence::Unfit { word, form, parts } => (
-                "`",
-                word,
-                "` does not fit here, in ",
-                form,
-                parts,
-            ),
-            Sentence::UnfitList { form, parts } => (
-                "this list does not fit here, in ",
-                form,
-                parts,
-                "",
-                "",
-            ),
-            Sentence::UnfitForm { own, needs, form } => (
-                "this list lacks a part, or does not fit here: it is written ",
-                own,
-                needs,
-                ", and stands in ",
-                form,
-            ),
-            Sentence::Undeclared { noun, name } => (noun, name, " is not declared", "", ""),
-            Sentence::Reserved(name) => ("the name ", name, " is reserved", "", ""),
-            Sentence::Twice(name) => (
-                "the name ",
-                name,
-                " stands here for the second time",
-                "",
-                "",
-            ),
-            Sentence::NotItsOwn(column) => (
-                "the code reads a column that is not its own: ",
-                column,
-                "",
-                "",
-                "",
-            ),
-            Sentence::Beyond(number) => ("the number ", number, " is beyond its limit", "", ""),
-            Sentence::TooMany { owner, parts, .. } => (owner, " has at most ", " ", parts, ""),
-            Sentence::Limit => ("a number or a count is beyond a limit", "", "", "", ""),
-            Sentence::OtherObject(name) => ("the object is not named ", name, "", "", ""),
-            Sentence::NoNextCondition(number) => (
-                "`",
-                number,
-                "` is no number of a condition, or not above the one before",
-                "",
-                "",
-            ),
-        }
-    }
-
-    /// The number in it, if it has one: it stands before its third part.
-    fn number(self) -> Option<u64> {
-        match self {
-            Sentence::TooMany { limit, .. } => Some(limit),
-            _ => None,
-        }
-    }
-}
-
 impl fmt::Display for Sentence<'_> {
     fn fmt<W: fmt::Write>(&self, f: &mut fmt::Formatter<W>) -> fmt::Result {
-        let (first, second, third, fourth, fifth) = self.parts();
-        match self.number() {
-            Some(number) => write!(f, "{first}{second}{number}{third}{fourth}{fifth}"),
-            None => write!(f, "{first}{second}{third}{fourth}{fifth}"),
+        match self {
+            Sentence::OtherFile { seen, due } => {
+                let (due, seen) = (due.name(), seen.name());
+                write!(f, "{due} is due here, and this looks like {seen}")
+            }
+            Sentence::NeverClosed => f.write_str("this bracket is never closed"),
+            Sentence::ClosesNothing => f.write_str("this bracket closes no list"),
+            Sentence::Misplaced(byte) => write!(
+                f,
+                "the character `{byte}` may stand in a comment alone"
+            ),
+            Sentence::OtherByte => f.write_str("this byte may stand in a comment alone"),
+            Sentence::EndsHere(kind) => {
+                let forms = kind.forms();
+                write!(
+                    f,
+                    "the file ends here, and lacks a form: it is written {forms}"
+                )
+            }
+            Sentence::Unfit { what, spot } => {
+                let legend = spot.legend();
+                write!(f, "{what} does not fit here, {spot}{legend}")
+            }
+            Sentence::Lacks(own) => write!(f, "this list lacks a part: it is written {own}"),
+            Sentence::Unmet { own, needs } => write!(
+                f,
+                "this list does not fit here: it is written {own}{needs}"
+            ),
+            Sentence::UnfitForm { own, spot } => write!(
+                f,
+                "this list is written {own}, and does not fit here, {spot}"
+            ),
+            Sentence::Undeclared { noun, name } => write!(f, "{noun}{name} is not declared"),
+            Sentence::UndeclaredInProof(name) => write!(
+                f,
+                "the name {name} is not declared: proofs and hints write the variables ?0, ?1, .."
+            ),
+            Sentence::Reserved(name) => write!(f, "the name {name} is reserved"),
+            Sentence::Twice(name) => write!(f, "the name {name} stands here for the second time"),
+            Sentence::NotItsOwn(column) => write!(
+                f,
+                "the code reads a column that is not its own: {column}"
+            ),
+            Sentence::Beyond(number) => write!(f, "the number {number} is beyond its limit"),
+            Sentence::TooMany {
+                owner,
+                limit,
+                parts,
+            } => write!(f, "{owner} has at most {limit} {parts}"),
+            Sentence::Limit => f.write_str("a number or a count is beyond a limit"),
+            Sentence::OtherObject(name) => write!(f, "the object is not named {name}"),
+            Sentence::NoNextCondition(number) => write!(
+                f,
+                "`{number}` is no number of a condition, or not above the one before"
+            ),
         }
     }
 }

@@ -1,10 +1,12 @@
 //! Which sentence is said of a refusal.
-use crate::around::{Around, first_word, list_around, word_at};
-use crate::forms::{form_of, needs_of, noun_of, parts_of};
+use crate::around::{Around, first_word, list_around, list_count, top_count, word_at};
+use crate::forms::{form_of, has_one, needs_of, noun_of};
 use crate::kind::{FileKind, looks_like};
 use crate::limits::{too_many_lists, too_many_names};
-use crate::sentence::Sentence;
-use lc_base::{DEPTH_LIMIT, FILE_LIMIT, NAME_LIMIT, Refusal, is_name};
+use crate::sentence::{Sentence, Spot, What};
+use crate::spot::{Due, due_in, least_count, may_stand, note_of};
+use crate::steps::proof_place;
+use lc_base::{DEPTH_LIMIT, FILE_LIMIT, NAME_LIMIT, REPLY_LIMIT, Refusal, is_name};
 use lc_place::{Place, item_place};
 use lc_reading::is_reserved;
 
@@ -18,6 +20,30 @@ struct Refused<'a> {
     list: Around<'a>,
     /// The list round that.
     outer: Around<'a>,
+    /// And the list round that one.
+    third: Around<'a>,
+}
+
+/// Where an item stands in a list that is written so.
+fn spot_in<'a>(list: Around<'a>, form: &'static str) -> Spot<'a> {
+    match due_in(form, list.part) {
+        Due::Part(part) => Spot::Due {
+            part,
+            note: note_of(list.word, part),
+            form,
+        },
+        Due::Nothing => Spot::Behind(form),
+        Due::Unknown => Spot::In(form),
+    }
+}
+
+/// Whether a list that begins with a word may stand at a place.
+fn fits_in(word: &str, spot: Spot<'_>) -> bool {
+    match spot {
+        Spot::Due { part, .. } => may_stand(word, part),
+        Spot::Behind(_) | Spot::BehindFile(_) => false,
+        Spot::In(_) | Spot::File(_) => true,
+    }
 }
 
 impl<'a> Refused<'a> {
@@ -25,12 +51,14 @@ impl<'a> Refused<'a> {
     fn new(bytes: &'a [u8], number: u64, place: Place) -> Refused<'a> {
         let list = list_around(bytes, place.offset).unwrap_or(Around::NONE);
         let outer = list_around(bytes, list.offset).unwrap_or(Around::NONE);
+        let third = list_around(bytes, outer.offset).unwrap_or(Around::NONE);
         Refused {
             bytes,
             number,
             place,
             list,
             outer,
+            third,
         }
     }
 
@@ -44,47 +72,94 @@ impl<'a> Refused<'a> {
         self.word().unwrap_or("")
     }
 
-    /// How the list round it is written, or else how its file is.
-    fn form(&self, kind: FileKind) -> &'a str {
-        if let Some(form) = form_of(self.list.word, self.outer.word) {
-            return form;
+    /// Where it stands.
+    fn spot(&self, kind: FileKind) -> Spot<'a> {
+        for (list, outer) in [
+            (self.list, self.outer),
+            (self.outer, self.third),
+            (self.third, Around::NONE),
+        ] {
+            match form_of(list.word, outer.word) {
+                Some(form) if list.part > 0 => return spot_in(list, form),
+                _ => {}
+            }
         }
-        if self.list.word.is_empty() {
-            return kind.forms();
+        let forms_before = top_count(self.bytes, self.place.offset);
+        if self.list.word.is_empty() && forms_before >= kind.form_count() {
+            Spot::BehindFile(kind)
+        } else {
+            Spot::File(kind)
         }
-        self.list.word
+    }
+
+    /// A list of this word, which has a form of its own, does not fit.
+    fn unfit_list(&self, word: &'a str, own: &'static str, spot: Spot<'a>) -> Sentence<'a> {
+        if list_count(self.bytes, self.place) < least_count(own, has_one(word)) {
+            return Sentence::Lacks(own);
+        }
+        let needs = needs_of(word);
+        if needs.is_empty() {
+            Sentence::UnfitForm { own, spot }
+        } else {
+            Sentence::Unmet { own, needs }
+        }
+    }
+
+    /// Whether this part is due where it stands.
+    fn is_due(&self, due: &str) -> bool {
+        match self.spot(FileKind::Certificate) {
+            Spot::Due { part, .. } => part == due,
+            _ => false,
+        }
     }
 
     /// Its shape is wrong.
     fn unfit(&self, kind: FileKind) -> Sentence<'a> {
-        let form = self.form(kind);
-        let parts = parts_of(self.list.word);
+        let spot = self.spot(kind);
         if let Some(word) = self.word() {
-            return Sentence::Unfit { word, form, parts };
+            let what = What::Atom(word);
+            return Sentence::Unfit { what, spot };
         }
         let word = first_word(self.bytes, self.place);
-        if let Some(own) = form_of(word, self.list.word) {
-            let needs = needs_of(word);
-            return Sentence::UnfitForm { own, needs, form };
-        }
         if word.is_empty() {
-            return Sentence::UnfitList { form, parts };
+            let what = What::List;
+            return Sentence::Unfit { what, spot };
         }
-        Sentence::Unfit { word, form, parts }
+        match form_of(word, self.list.word) {
+            Some(own) if fits_in(word, spot) => self.unfit_list(word, own, spot),
+            _ => Sentence::Unfit {
+                what: What::ListOf(word),
+                spot,
+            },
+        }
+    }
+
+    /// Whether it stands in a proof or in hints, where variables have no names.
+    fn is_in_proof(&self, kind: FileKind) -> bool {
+        match kind {
+            FileKind::Certificate | FileKind::Hints => true,
+            FileKind::Formula => match proof_place(self.bytes, None) {
+                Some(proof) => proof.offset < self.place.offset,
+                None => false,
+            },
+            _ => false,
+        }
     }
 
     /// It is a name that is not declared.
-    fn undeclared(&self) -> Sentence<'a> {
+    fn undeclared(&self, kind: FileKind) -> Sentence<'a> {
+        let name = self.text();
         let noun = match (self.list.part, self.outer.word, self.outer.part) {
             (0, "on", 2) => "the action ",
             (0, "action", _) => "the column ",
+            (0, "", _) if matches!(self.third.word, "branch" | "choice") => "the column ",
             (0, _, _) => "the name ",
             (part, outer, _) => noun_of(self.list.word, outer, part),
         };
-        Sentence::Undeclared {
-            noun,
-            name: self.text(),
+        if noun == "the name " && self.is_in_proof(kind) {
+            return Sentence::UndeclaredInProof(name);
         }
+        Sentence::Undeclared { noun, name }
     }
 
     /// It is a name that may not be declared here.
@@ -110,6 +185,13 @@ impl<'a> Refused<'a> {
         let Some(word) = self.word() else {
             return too_many_lists(first_word(self.bytes, self.place), self.list.word);
         };
+        if self.list.word == "op" && self.list.part == 3 {
+            return Sentence::TooMany {
+                owner: "an operation",
+                limit: u64::from(REPLY_LIMIT),
+                parts: "replies",
+            };
+        }
         if !is_name(word.as_bytes()) {
             return Sentence::Beyond(word);
         }
@@ -132,11 +214,26 @@ impl<'a> Refused<'a> {
             ("certificate", 1) => Sentence::OtherObject(word),
             ("proof", 1) => Sentence::NoNextCondition(word),
             ("rd" | "written" | "same" | "store", 1) if is_name(word.as_bytes()) => {
-                self.undeclared()
+                self.undeclared(FileKind::Certificate)
             }
+            ("forall" | "exists", 1) if is_reserved(word) => Sentence::Reserved(word),
+            _ if is_long_number(word) => Sentence::Beyond(word),
+            _ if is_name(word.as_bytes()) && self.is_due("T") => Sentence::UndeclaredInProof(word),
             _ => self.unfit(FileKind::Certificate),
         }
     }
+}
+
+/// Whether an atom is a number, or that of a variable, with so many digits that it is beyond its limit.
+fn is_long_number(word: &str) -> bool {
+    let text = word.as_bytes();
+    let (begin, most) = match text.first() {
+        Some(b'?') => (1, 9),
+        Some(b'-') => (1, 18),
+        _ => (0, 18),
+    };
+    let digits = text.get(begin..).unwrap_or(&[]);
+    most < digits.len() && digits.iter().all(|digit| digit.is_ascii_digit())
 }
 
 /// What is wrong with a byte of the text.
@@ -187,7 +284,7 @@ pub(crate) fn sentence_of<'a>(
         Refusal::Text(offset) | Refusal::CertText(offset) => misplaced(bytes, *offset, place),
         _ if place.offset >= bytes.len() => Sentence::EndsHere(kind),
         Refusal::Shape(item) => Refused::new(bytes, *item, place).unfit(kind),
-        Refusal::Unknown(item) => Refused::new(bytes, *item, place).undeclared(),
+        Refusal::Unknown(item) => Refused::new(bytes, *item, place).undeclared(kind),
         Refusal::Repeated(item) => Refused::new(bytes, *item, place).repeated(),
         Refusal::Auxiliary(item) => Refused::new(bytes, *item, place).auxiliary(),
         Refusal::Bound(item) => Refused::new(bytes, *item, place).beyond(),

@@ -1,5 +1,5 @@
 //! What a condition asks, in words.
-use crate::naming::{action_name, conjunct_name, point_name};
+use crate::naming::{action_at_edge, action_name, conjunct_name, next_name, point_name};
 use lc_base::OutOfMemory;
 use lc_cond::{Condition, Kind, Passage, Place, Which};
 use lc_naming::{column_name, edge_word};
@@ -58,6 +58,8 @@ fn push_claim(
     place: &Place,
 ) -> Result<(), OutOfMemory> {
     let number = number_of(place.which);
+    let column = column_of(parts, place.which);
+    let action = action_at_edge(parts, place);
     match kind {
         Kind::Init => {
             push_conjunct(text, parts, place)?;
@@ -68,7 +70,11 @@ fn push_claim(
             push_conjunct(text, parts, place)?;
             text.push_str(", holds when a call has begun")?;
         }
-        Kind::First => write!(text, "conjunct {number} holds when a call has begun")?,
+        Kind::First => {
+            write!(text, "conjunct {number} of ")?;
+            push_owner(text, parts, place)?;
+            text.push_str(" holds when a call has begun")?;
+        }
         Kind::Owed(owing) => {
             let duty = duty(owing);
             write!(text, "of rider {number}: {duty}")?;
@@ -78,18 +84,15 @@ fn push_claim(
             push_conjunct(text, parts, place)?;
             text.push_str(", holds after the step")?;
         }
-        Kind::Next => write!(
-            text,
-            "conjunct {number} of the next point, or of idle, holds after the step"
-        )?,
-        Kind::Guard => text.push_str("the guard of the action holds")?,
-        Kind::Column => {
-            let column = column_of(parts, place.which);
-            write!(
-                text,
-                "the action leaves in the column {column} what the step does"
-            )?;
+        Kind::Next => {
+            let next = next_name(parts, place);
+            write!(text, "conjunct {number} of {next} holds after the step")?;
         }
+        Kind::Guard => write!(text, "the guard of the action {action} holds")?,
+        Kind::Column => write!(
+            text,
+            "the action {action} leaves in the column {column} what the step does"
+        )?,
         Kind::Stable => {
             write!(text, "conjunct {number} of ")?;
             push_owner(text, parts, place)?;

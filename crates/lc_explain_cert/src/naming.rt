@@ -1,6 +1,8 @@
 //! The names by which conditions are told.
 use lc_base::PointId;
-use lc_object::Point;
+use lc_cond::{Passage, Place};
+use lc_naming::edge_word;
+use lc_object::{EdgeKind, Instr, Point};
 use lc_outline::Parts;
 
 /// The point of a number.
@@ -33,4 +35,44 @@ pub(crate) fn conjunct_name(parts: &Parts, place: usize) -> &str {
         Some(conjunct) => conjunct.name.as_str(),
         None => "",
     }
+}
+
+/// The point to which an instruction goes by an edge; none where the call returns.
+fn target_of(instruction: &Instr, edge: EdgeKind) -> Option<PointId> {
+    match (instruction, edge) {
+        (Instr::Load { next, .. } | Instr::Store { next, .. }, _) => Some(*next),
+        (Instr::Set { next, .. } | Instr::Faa { next, .. }, _) => Some(*next),
+        (Instr::Cas { equal, .. }, EdgeKind::Then) => Some(*equal),
+        (Instr::Cas { different, .. }, _) => Some(*different),
+        (Instr::If { holds, .. }, EdgeKind::Then) => Some(*holds),
+        (Instr::If { fails, .. }, _) => Some(*fails),
+        (Instr::Return { .. }, _) => None,
+    }
+}
+
+/// The name of the point to which the edge leads where a condition stands; `idle` where the call returns.
+pub(crate) fn next_name<'a>(parts: &'a Parts, place: &Place) -> &'a str {
+    let (Some(point), Passage::Edge(edge)) = (place.point, place.passage) else {
+        return "idle";
+    };
+    match point_at(parts, point).and_then(|point| target_of(&point.instruction, edge)) {
+        Some(next) => point_name(parts, next),
+        None => "idle",
+    }
+}
+
+/// The name of the action that is written at an edge of a point.
+pub(crate) fn action_at_edge<'a>(parts: &'a Parts, place: &Place) -> &'a str {
+    let (Some(point), Passage::Edge(edge)) = (place.point, place.passage) else {
+        return "";
+    };
+    let Some(outline) = parts.outlines.get(point.0 as usize) else {
+        return "";
+    };
+    for on in &outline.ons {
+        if edge_word(on.edge) == edge_word(edge) {
+            return action_name(parts, on.action.0 as usize);
+        }
+    }
+    ""
 }

@@ -202,7 +202,7 @@ impl Saying<'_> {
         let count = self.standing.proof.branches.len();
         writeln!(
             self.text,
-            "  `{word}` opens {due} branches here, and {count} proofs stand below it"
+            "  branches that `{word}` opens here: {due}; proofs that stand below it: {count}"
         )?;
         Ok(())
     }
@@ -250,6 +250,25 @@ impl Saying<'_> {
         Ok(())
     }
 
+    /// What is said of a factor that its hypothesis does not take.
+    fn note_of(&self, multiple: Multiple) -> &'static str {
+        match self.hypothesis(multiple.hypothesis) {
+            Some(Formula::Le(_, _)) if multiple.multiplier < 0 => ", and a <= takes none below 0",
+            _ => "",
+        }
+    }
+
+    /// Says by what a hypothesis is divided, and which formula is given for the quotient.
+    fn say_quotient(&mut self, divisor: i64, quotient: &Formula) -> Result<(), OutOfMemory> {
+        write!(
+            self.text,
+            "  the divisor is {divisor}, and the formula that is given is "
+        )?;
+        write_formula(&mut self.text, self.names, 0, quotient)?;
+        self.text.push_str("\n")?;
+        Ok(())
+    }
+
     /// Says which hypotheses the step names.
     fn say_named(&mut self, step: &Step) -> Result<(), OutOfMemory> {
         match step {
@@ -257,7 +276,8 @@ impl Saying<'_> {
                 for multiple in multiples {
                     let factor = multiple.multiplier;
                     self.say_hypothesis(multiple.hypothesis)?;
-                    writeln!(self.text, ", with the factor {factor}")?;
+                    let note = self.note_of(*multiple);
+                    writeln!(self.text, ", with the factor {factor}{note}")?;
                 }
             }
             Step::Opposite {
@@ -267,7 +287,14 @@ impl Saying<'_> {
                 self.say_line(*hypothesis)?;
                 self.say_line(*negation)?;
             }
-            Step::Divide { hypothesis, .. } => self.say_line(*hypothesis)?,
+            Step::Divide {
+                hypothesis,
+                divisor,
+                quotient,
+            } => {
+                self.say_line(*hypothesis)?;
+                self.say_quotient(*divisor, quotient)?;
+            }
             _ => {}
         }
         Ok(())

@@ -55,7 +55,7 @@ pub fn history_explanation(
 ) -> Result<Vec<u8>, OutOfMemory> {
     let mut told = Told::new(alloc, path, bytes);
     match refusal {
-        Refusal::HistoryShape(item) => say_shape(&mut told, bytes, *item)?,
+        Refusal::HistoryShape(item) => say_shape(alloc, &mut told, spec, bytes, *item)?,
         Refusal::Order(place, code) => {
             if let Some(reason) = reason_of(*code) {
                 say_order(alloc, &mut told, spec, bytes, *place, reason)?;

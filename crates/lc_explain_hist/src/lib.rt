@@ -10,5 +10,6 @@ mod sentence;
 mod shape;
 mod tally;
 mod told;
+mod wrong;
 
 pub use explanation::history_explanation;

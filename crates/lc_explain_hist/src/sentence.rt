@@ -1,13 +1,15 @@
 //! The sentences.
+use crate::wrong::Wrong;
 use std::fmt;
 
 /// What is said of an event or an entry.
 #[derive(Clone, Copy)]
 pub(crate) enum Sentence<'a> {
     OtherFile(&'a str),
+    NoJson,
+    EndsEarly,
     NoHistory,
-    WrongEvent(usize),
-    WrongEntry(usize),
+    Wrong(Wrong<'a>),
     OtherCall { client: u32, number: usize },
     NoCall { client: u32, calls: usize },
     ThatCall { client: u32, number: usize },
@@ -25,17 +27,12 @@ impl fmt::Display for Sentence<'_> {
     fn fmt<W: fmt::Write>(&self, f: &mut fmt::Formatter<W>) -> fmt::Result {
         match self {
             Sentence::OtherFile(it) => write!(f, "a history is due here, and this looks like {it}"),
+            Sentence::NoJson => f.write_str("here the text is no JSON any more"),
+            Sentence::EndsEarly => f.write_str("the text ends here, and is no whole JSON"),
             Sentence::NoHistory => f.write_str(
                 "this is no JSON object with the arrays `events` and `order`, and no other key",
             ),
-            Sentence::WrongEvent(it) => write!(
-                f,
-                "event {it} is neither [CLIENT,\"call\",NAME,[NUMBER,..]] nor [CLIENT,\"return\",[NUMBER,..]], names no operation, has another count of numbers, or is out of turn"
-            ),
-            Sentence::WrongEntry(it) => write!(
-                f,
-                "entry {it} is no [CLIENT,NAME,[NUMBER,..],[NUMBER,..]], with [CHOICE,[NUMBER,..]] behind exactly where the operation has choices, or has another count of numbers"
-            ),
+            Sentence::Wrong(it) => write!(f, "{it}"),
             Sentence::OtherCall { client, number } => write!(
                 f,
                 "this entry is another call than call {number} of client {client}"

@@ -75,9 +75,13 @@ impl<'a> Told<'a> {
         Ok(())
     }
 
-    /// Says a sentence of the whole file.
-    pub(crate) fn say_of_all(&mut self, sentence: Sentence<'_>) -> Result<(), OutOfMemory> {
-        match byte_place(self.bytes, 0) {
+    /// Says a sentence of the byte at an offset, or of the end.
+    pub(crate) fn say_of_byte(
+        &mut self,
+        offset: usize,
+        sentence: Sentence<'_>,
+    ) -> Result<(), OutOfMemory> {
+        match byte_place(self.bytes, offset as u64) {
             Some(place) => self.say_at(place, Label::Error, sentence),
             None => Ok(()),
         }

@@ -25,3 +25,39 @@ impl<'a> Files for Folder<'a> {
         }
     }
 }
+
+/// A file that was read.
+pub struct Kept<'a> {
+    pub path: &'a str,
+    pub bytes: Vec<u8>,
+}
+
+impl Drop for Kept<'_> {
+    fn drop(self) {
+        let Kept { path: _, bytes: _ } = self;
+    }
+}
+
+/// Files that were read, and one that is edited.
+#[derive(Clone, Copy)]
+pub struct Edited<'a> {
+    pub path: &'a str,
+    pub text: &'a str,
+    pub others: &'a [Kept<'a>],
+}
+
+impl<'a> Files for Edited<'a> {
+    type Reader = &'a [u8];
+
+    fn open(&mut self, path: &str) -> io::Result<&'a [u8]> {
+        if path == self.path {
+            return Ok(self.text.as_bytes());
+        }
+        for file in self.others {
+            if path == file.path {
+                return Ok(&file.bytes);
+            }
+        }
+        Err(io::Error::from(ErrorKind::NotFound))
+    }
+}

@@ -4,6 +4,9 @@
 //! A line of the file `runs` has the words of a command line, with a space between two. What is printed of it is the
 //! line behind a `$`, what the program wrote on standard output, then what it wrote on standard error, and its status.
 //!
+//! A line of the file `edits` has a command line, a file that it reads, a text that stands once in it, and another text, with ` : `
+//! between them. What is printed of it is the same as of a line of `runs`, where the other text stands in that place.
+//!
 //! A line of the file `pieces` has a development and a certificate, with a space between them. What is printed of it is the
 //! line, then the verdict where the certificate comes in pieces of 1 byte, of 2, of 7, and whole.
 //!
@@ -19,8 +22,8 @@ mod folder;
 
 ghost use Rattle.std.specs.Prelude.{◌≤◌};
 
-use anyhow::Context;
-use folder::Folder;
+use anyhow::{Context, bail};
+use folder::{Edited, Folder, Kept};
 use lc_base::FILE_LIMIT;
 use lc_carry::carried_entries;
 use lc_cert::certificate_of;
@@ -74,16 +77,65 @@ fn run_words<R: System + Print + AllocGlobal + Threads + Wait + Sync>(
     run_over(rt, rt.alloc(), line, &mut Disk::new(rt))
 }
 
+/// Prints what the program did on a line.
+fn print_run<R: Print>(rt: &R, line: &str, ran: &Ran) -> anyhow::Result<()> {
+    let out = str::from_utf8(&ran.out)?;
+    let err = str::from_utf8(&ran.err)?;
+    println!(rt; "$ {line}\n{out}{err}status {}\n", ran.status)?;
+    Ok(())
+}
+
 /// Runs the program on the words of a line, and prints what it did.
 fn run_line<R: System + Print + AllocGlobal + Threads + Wait + Sync>(
     rt: &R,
     line: &str,
 ) -> anyhow::Result<()> {
     let ran = run_words(rt, line)?;
-    let out = str::from_utf8(&ran.out)?;
-    let err = str::from_utf8(&ran.err)?;
-    println!(rt; "$ {line}\n{out}{err}status {}\n", ran.status)?;
-    Ok(())
+    print_run(rt, line, &ran)
+}
+
+/// A text with another text in place of one that stands in it once.
+fn edited(alloc: Global, text: &str, old: &str, new: &str) -> anyhow::Result<String> {
+    let (before, behind) = text
+        .split_once(old)
+        .context("the text does not stand there")?;
+    if behind.contains(old) {
+        bail!("the text stands there twice");
+    }
+    Ok(format!(in alloc; "{before}{new}{behind}")?)
+}
+
+/// The files that these words name.
+fn files_of<'a, R: System + AllocGlobal>(rt: &R, words: &'a str) -> anyhow::Result<Vec<Kept<'a>>> {
+    let mut files = Vec::new(rt.alloc());
+    for path in words.split(' ') {
+        if let Ok(bytes) = fs::read(rt, path) {
+            files.push(Kept { path, bytes })?;
+        }
+    }
+    Ok(files)
+}
+
+/// Runs the program on the words of a line over its file with its edit, and prints what it did.
+fn edit_line<R: System + Print + AllocGlobal + Threads + Wait + Sync>(
+    rt: &R,
+    line: &str,
+) -> anyhow::Result<()> {
+    let mut parts = line.split(" : ");
+    let words = parts.next().context("no command line")?;
+    let path = parts.next().context("no file")?;
+    let old = parts.next().context("no text")?;
+    let new = parts.next().context("no other text")?;
+    let text = fs::read_to_string(rt, path)?;
+    let text = edited(rt.alloc(), text.as_str(), old, new)?;
+    let others = files_of(rt, words)?;
+    let mut files = Edited {
+        path,
+        text: &text,
+        others: &others,
+    };
+    let ran = run_over(rt, rt.alloc(), words, &mut files)?;
+    print_run(rt, line, &ran)
 }
 
 /// Prints the verdict on a development file and a certificate file that comes in pieces of so many bytes.
@@ -200,6 +252,18 @@ fn run_lines<R: System + Print + AllocGlobal + Threads + Wait + Sync>(
     Ok(())
 }
 
+fn edit_lines<R: System + Print + AllocGlobal + Threads + Wait + Sync>(
+    rt: &R,
+) -> anyhow::Result<()> {
+    let lines = fs::read_to_string(rt, "edits")?;
+    for line in lines.as_str().split('\n') {
+        if !line.is_empty() {
+            edit_line(rt, line)?;
+        }
+    }
+    Ok(())
+}
+
 fn check_lines<R: System + Print + AllocGlobal>(rt: &R) -> anyhow::Result<()> {
     let lines = fs::read_to_string(rt, "pieces")?;
     for line in lines.as_str().split('\n') {
@@ -236,6 +300,7 @@ fn carry_lines<R: System + Print + AllocGlobal + Threads + Wait + Sync>(
 
 fn main(rt: HostRuntime) -> anyhow::Result<()> {
     run_lines(&rt)?;
+    edit_lines(&rt)?;
     check_lines(&rt)?;
     check_made_lines(&rt)?;
     carry_lines(&rt)
