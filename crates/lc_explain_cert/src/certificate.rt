@@ -3,6 +3,7 @@ ghost use Rattle.std.specs.Prelude.{IfSome};
 ghost use Rattle.lc_cond.specs.ConditionView.{AreConditions, IsCondition};
 
 use crate::condition::condition_words;
+use crate::failing::failing_text;
 use crate::flawed::{Flawed, said, with_variables};
 use crate::names::Names;
 use crate::sentence::Sentence;
@@ -145,7 +146,7 @@ pub fn certificate_explanation(
     let Some(condition) = condition_at(&terms, &part, number) else {
         return said(alloc, path, bytes, place, Sentence::Extra(number), None);
     };
-    let words = condition_words(alloc, development.parts(), condition)?;
+    let words = condition_words(alloc, development, condition)?;
     let flawed = Flawed::of(refusal);
     let lines = state_of(alloc, development, bytes, &terms, number, condition, flawed)?;
     let sentence = sentence_of(number, refusal, &words);
@@ -164,12 +165,15 @@ pub fn unfound_explanation(
     let Some(condition) = condition_at(&terms, &part, number) else {
         return Ok(None);
     };
-    let words = condition_words(alloc, development.parts(), condition)?;
+    let words = condition_words(alloc, development, condition)?;
     let names = Names::of_condition(alloc, development.parts(), condition)?;
     let lines = goal_text(alloc, &names, &terms, &condition.goal)?;
     let mut text = String::new(alloc);
     write!(text, "no proof of condition {number} was found ({words})\n")?;
     text.push_str(&lines)?;
     names.push_variables(&mut text)?;
+    if let Some(state) = failing_text(alloc, &names, &terms, &condition.goal)? {
+        text.push_str(&state)?;
+    }
     Ok(Some(text))
 }
