@@ -37,7 +37,7 @@ pub(crate) fn library_with_room(alloc: Global, lib: Lib) -> Option<Arc<Accepted>
 /// The development of this text, of a counter, with a certificate that is found for it.
 pub(crate) fn found(alloc: Global, text: &[u8]) -> Result<Arc<Accepted>, Fail> {
     let development = development_of(alloc, text)?;
-    let hints = hints_of(alloc, &development, b"(hints counter)")?;
+    let hints = hints_of(alloc, &development, b"(hints)")?;
     let certificate = find(alloc, &development, &hints, BUDGET)?;
     let certificate = certificate_text(alloc, &development, &certificate)?;
     accepted_with(alloc, text, &certificate)

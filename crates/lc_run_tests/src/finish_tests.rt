@@ -1,33 +1,13 @@
 //! Runs that are not finished, since seats are missing, and then are.
 use crate::accepting::library;
-use crate::running::{Scenario, hand_in, plays};
+use crate::running::{Back, Scenario, given_back, hand_in, plays};
 use lc_lib::Lib;
-use lc_run::{RunFault, Runner, Seat, Unfinished, Why};
+use lc_run::{RunFault, Runner, Seat};
 use std::alloc::Global;
 use std::sync::Wait;
 use std::sync::ledger::Ledger;
 use std::test::Fail;
 use std::thread::Threads;
-
-/// What comes back, where a seat is missing.
-#[derive(Drop)]
-struct Back<J: Ledger> {
-    runner: Runner<J>,
-    seats: Vec<Seat<J>>,
-}
-
-/// Runner and seats, if they come back because the seat of this client is missing.
-fn given_back<J: Ledger>(runner: Runner<J>, seats: Vec<Seat<J>>, client: u32) -> Option<Back<J>> {
-    let Err(unfinished) = runner.finish(seats) else {
-        return None;
-    };
-    let Unfinished { runner, seats, why } = unfinished;
-    if why == Why::SeatMissing(client) {
-        Some(Back { runner, seats })
-    } else {
-        None
-    }
-}
 
 /// With the first seat of two the second is missing; with both the run is finished.
 #[derive(Clone, Copy)]

@@ -1,4 +1,4 @@
-//! What no contract says of runs: that they begin and end.
+//! What no contract says of runs: that they go on, that threads meet in them, and what the objects of the library answer there.
 #![tactic(auto)]
 
 #[cfg(test)]
@@ -8,4 +8,12 @@ mod fault_tests;
 #[cfg(test)]
 mod finish_tests;
 #[cfg(test)]
+mod library_tests;
+#[cfg(test)]
+mod memory_tests;
+#[cfg(test)]
 mod running;
+#[cfg(test)]
+mod stopped_tests;
+#[cfg(test)]
+mod thread_tests;

@@ -3,7 +3,7 @@ ghost use Rattle.std.specs.Prelude.{◌≡◌};
 
 use lc_base::OpId;
 use lc_check::Accepted;
-use lc_run::{Called, RunFault, RunLog, Runner, Seat};
+use lc_run::{Called, RunFault, RunLog, Runner, Seat, Unfinished, Why};
 use std::alloc::{AllocError, Global};
 use std::marker::Brand;
 use std::sync::ledger::{Blank, Ledger};
@@ -56,6 +56,30 @@ pub(crate) fn hand_in<J: Ledger>(seats: &mut Vec<Seat<J>>, seat: Seat<J>) -> Res
     match seats.push(seat) {
         Ok(()) => Ok(()),
         Err(failed) => Err(AllocError::from(failed).into()),
+    }
+}
+
+/// What comes back, where a seat is missing.
+#[derive(Drop)]
+pub(crate) struct Back<J: Ledger> {
+    pub(crate) runner: Runner<J>,
+    pub(crate) seats: Vec<Seat<J>>,
+}
+
+/// Runner and seats, if they come back because the seat of this client is missing.
+pub(crate) fn given_back<J: Ledger>(
+    runner: Runner<J>,
+    seats: Vec<Seat<J>>,
+    client: u32,
+) -> Option<Back<J>> {
+    let Err(unfinished) = runner.finish(seats) else {
+        return None;
+    };
+    let Unfinished { runner, seats, why } = unfinished;
+    if why == Why::SeatMissing(client) {
+        Some(Back { runner, seats })
+    } else {
+        None
     }
 }
 
