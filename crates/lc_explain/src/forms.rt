@@ -120,6 +120,18 @@ fn file_part(word: &str) -> Option<&'static str> {
     }
 }
 
+/// The lists of plans.
+fn plan(word: &str) -> Option<&'static str> {
+    match word {
+        "plan" => Some("(plan CLIENTS (phase (CLIENT STEP ..) ..) ..)"),
+        "phase" => Some("(phase (CLIENT STEP ..) ..)"),
+        "call" => Some("(call OP NUMBER ..)"),
+        "upto" => Some("(upto TURNS OP NUMBER ..)"),
+        "times" => Some("(times COUNT (call OP NUMBER ..))"),
+        _ => None,
+    }
+}
+
 /// Whether this is the word of a step.
 pub(crate) fn is_step(word: &str) -> bool {
     step(word).is_some()
@@ -160,7 +172,8 @@ pub(crate) fn form_of(word: &str, outer: &str) -> Option<&'static str> {
             .or(rider(word))
             .or(formula(word))
             .or(file_part(word))
-            .or(step(word)),
+            .or(step(word))
+            .or(plan(word)),
     }
 }
 

@@ -11,6 +11,7 @@ pub enum FileKind {
     Development,
     Certificate,
     Hints,
+    Plan,
     History,
 }
 
@@ -23,6 +24,7 @@ impl FileKind {
             FileKind::Development => "a development",
             FileKind::Certificate => "a certificate",
             FileKind::Hints => "a file of hints",
+            FileKind::Plan => "a plan",
             FileKind::History => "a history",
         }
     }
@@ -48,6 +50,7 @@ impl FileKind {
             FileKind::Development => "(spec ..) (object ..)",
             FileKind::Certificate => "(certificate ..)",
             FileKind::Hints => "(hints ..)",
+            FileKind::Plan => "(plan ..)",
             FileKind::History => "{\"events\":[..],\"order\":[..]}",
         }
     }
@@ -72,6 +75,7 @@ pub fn looks_like(bytes: &[u8]) -> Option<FileKind> {
         "spec" | "object" => Some(FileKind::Development),
         "certificate" => Some(FileKind::Certificate),
         "hints" => Some(FileKind::Hints),
+        "plan" => Some(FileKind::Plan),
         _ => None,
     }
 }

@@ -14,7 +14,7 @@ use Rattle.lc_lib_texts.specs.declared.library.Lib.{Lib}
 use Rattle.lc_lib_texts.specs.declared.library.Lib.TheVariants.{Counter, Stack, Lock, Snapshot, Combining, Rendezvous, Queue, PoolStack}
 use Rattle.lc_words.specs.Commands.{program_app}
 use Rattle.lc_words.specs.Reading.{AskFor, AskForReasons, is_explained, task_in}
-use Rattle.lc_words.specs.Tasks.{HasPlainPaths, Task, CheckFormula, JudgeHistory, ShowDevelopment, ShowLines, ListConditions, ListChosen, ShowCondition, OfPoint, OfKind, OfBoth, ReadsFiles, CheckCertificate, ProveDevelopment, ProveWithHints, DrawHistory, BeginDevelopment, PrintLibrary, is_development_name, is_plain, words_for, CarryCertificate, CarryWithHints}
+use Rattle.lc_words.specs.Tasks.{HasPlainPaths, Task, CheckFormula, JudgeHistory, ShowDevelopment, ShowLines, ListConditions, ListChosen, ShowCondition, OfPoint, OfKind, OfBoth, ReadsFiles, CheckCertificate, ProveDevelopment, ProveWithHints, DrawHistory, BeginDevelopment, PrintLibrary, RunPlan, is_development_name, is_plain, words_for, CarryCertificate, CarryWithHints}
 use Rattle.lc_words.specs.declared.request.LibraryText.TheVariants.{Development, Certificate, Hints}
 use Rattle.lc_words.proofs.Numbers.{number_back, numbers_are_plain}
 use Rattle.lc_words.proofs.Walks.{Piece, built_over, command_is_read, command_is_taken, command_over, known, plain, words_of}
@@ -89,6 +89,7 @@ task_is_read name (ProveWithHints development hints) is = is_read name (codes "p
 task_is_read name (CarryCertificate old certificate new) is = is_read name (codes "carry") (plain old is.0 ∷ plain certificate is.1 ∷ plain new is.2 ∷ []) refl
 task_is_read name (CarryWithHints old certificate new hints) is =
     is_read name (codes "carry") (plain old is.0 ∷ plain certificate is.1 ∷ plain new is.2 ∷ known (codes "--hints") ∷ plain hints is.3 ∷ []) refl
+task_is_read name (RunPlan development certificate plan) is = is_read name (codes "run") (plain development is.0 ∷ plain certificate is.1 ∷ plain plan is.2 ∷ []) refl
 task_is_read name (DrawHistory development history) is = is_read name (codes "draw") (plain development is.0 ∷ plain history is.1 ∷ []) refl
 task_is_read name (BeginDevelopment own) is =
     is_read name (codes "new") (plain own (named_is_plain own is) ∷ []) refl
@@ -125,6 +126,7 @@ words_are_taken name (ProveWithHints development hints) is = is_taken name (code
 words_are_taken name (CarryCertificate old certificate new) is = is_taken name (codes "carry") (plain old is.0 ∷ plain certificate is.1 ∷ plain new is.2 ∷ []) refl
 words_are_taken name (CarryWithHints old certificate new hints) is =
     is_taken name (codes "carry") (plain old is.0 ∷ plain certificate is.1 ∷ plain new is.2 ∷ known (codes "--hints") ∷ plain hints is.3 ∷ []) refl
+words_are_taken name (RunPlan development certificate plan) is = is_taken name (codes "run") (plain development is.0 ∷ plain certificate is.1 ∷ plain plan is.2 ∷ []) refl
 words_are_taken name (DrawHistory development history) is = is_taken name (codes "draw") (plain development is.0 ∷ plain history is.1 ∷ []) refl
 words_are_taken name (BeginDevelopment own) is = is_taken name (codes "new") (plain own (named_is_plain own is) ∷ []) refl
 words_are_taken name (PrintLibrary lib Development) is = is_taken name (codes "library") (plain (name_of lib) (names_are_plain lib) ∷ []) refl
@@ -166,6 +168,8 @@ task_is_read_too name (CarryCertificate old certificate new) is reads =
     is_read name (codes "carry") (plain old is.0 ∷ plain certificate is.1 ∷ plain new is.2 ∷ known (codes "--explain") ∷ []) refl
 task_is_read_too name (CarryWithHints old certificate new hints) is reads =
     is_read name (codes "carry") (plain old is.0 ∷ plain certificate is.1 ∷ plain new is.2 ∷ known (codes "--hints") ∷ plain hints is.3 ∷ known (codes "--explain") ∷ []) refl
+task_is_read_too name (RunPlan development certificate plan) is reads =
+    is_read name (codes "run") (plain development is.0 ∷ plain certificate is.1 ∷ plain plan is.2 ∷ known (codes "--explain") ∷ []) refl
 task_is_read_too name (DrawHistory development history) is reads =
     is_read name (codes "draw") (plain development is.0 ∷ plain history is.1 ∷ known (codes "--explain") ∷ []) refl
 task_is_read_too name (BeginDevelopment own) is reads = absurd reads
@@ -196,6 +200,8 @@ words_are_taken_too name (CarryCertificate old certificate new) is reads =
     is_taken name (codes "carry") (plain old is.0 ∷ plain certificate is.1 ∷ plain new is.2 ∷ known (codes "--explain") ∷ []) refl
 words_are_taken_too name (CarryWithHints old certificate new hints) is reads =
     is_taken name (codes "carry") (plain old is.0 ∷ plain certificate is.1 ∷ plain new is.2 ∷ known (codes "--hints") ∷ plain hints is.3 ∷ known (codes "--explain") ∷ []) refl
+words_are_taken_too name (RunPlan development certificate plan) is reads =
+    is_taken name (codes "run") (plain development is.0 ∷ plain certificate is.1 ∷ plain plan is.2 ∷ known (codes "--explain") ∷ []) refl
 words_are_taken_too name (DrawHistory development history) is reads =
     is_taken name (codes "draw") (plain development is.0 ∷ plain history is.1 ∷ known (codes "--explain") ∷ []) refl
 words_are_taken_too name (BeginDevelopment own) is reads = absurd reads
@@ -226,6 +232,8 @@ reasons_are_asked name (CarryCertificate old certificate new) is reads =
     is_told name (codes "carry") (plain old is.0 ∷ plain certificate is.1 ∷ plain new is.2 ∷ known (codes "--explain") ∷ []) refl
 reasons_are_asked name (CarryWithHints old certificate new hints) is reads =
     is_told name (codes "carry") (plain old is.0 ∷ plain certificate is.1 ∷ plain new is.2 ∷ known (codes "--hints") ∷ plain hints is.3 ∷ known (codes "--explain") ∷ []) refl
+reasons_are_asked name (RunPlan development certificate plan) is reads =
+    is_told name (codes "run") (plain development is.0 ∷ plain certificate is.1 ∷ plain plan is.2 ∷ known (codes "--explain") ∷ []) refl
 reasons_are_asked name (DrawHistory development history) is reads =
     is_told name (codes "draw") (plain development is.0 ∷ plain history is.1 ∷ known (codes "--explain") ∷ []) refl
 reasons_are_asked name (BeginDevelopment own) is reads = absurd reads

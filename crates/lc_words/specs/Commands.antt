@@ -67,6 +67,14 @@ carry_files_app = with_rule (with_rule (with_rule (new_app (codes "carry")) (fil
 abbrev pub carry_app : App
 carry_app = explained (with_rule (with_rule carry_files_app (option_rule (codes "hints"))) (flag_rule (codes "progress")))
 
+-- `run DEV CERT PLAN`
+abbrev pub run_files_app : App
+run_files_app = with_rule (with_rule (with_rule (new_app (codes "run")) (file_rule (codes "DEV"))) (file_rule (codes "CERT"))) (file_rule (codes "PLAN"))
+
+-- `run DEV CERT PLAN [--explain]`
+abbrev pub run_app : App
+run_app = explained run_files_app
+
 -- `library NAME [--certificate] [--hints]`
 abbrev pub library_app : App
 library_app = with_rule (with_rule (with_rule (new_app (codes "library")) (object_rule (codes "NAME"))) (flag_rule (codes "certificate"))) (flag_rule (codes "hints"))
@@ -99,6 +107,10 @@ proving_app = with_subcommand (with_subcommand further_app check_app.top) prove_
 abbrev pub carrying_app : App
 carrying_app = with_subcommand (with_subcommand proving_app carry_app.top) library_app.top
 
+-- the program with its first ten commands
+abbrev pub drawing_app : App
+drawing_app = with_subcommand (with_subcommand carrying_app draw_app.top) begin_app.top
+
 -- the program and its commands
 abbrev pub program_app : App
-program_app = with_subcommand (with_subcommand carrying_app draw_app.top) begin_app.top
+program_app = with_subcommand drawing_app run_app.top

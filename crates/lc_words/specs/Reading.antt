@@ -9,7 +9,7 @@ use Rattle.clap.specs.declared.error.kind.ErrorKind.{ErrorKind}
 use Rattle.clap.specs.declared.error.kind.ErrorKind.TheVariants.{DisplayHelp, DisplayVersion}
 use Rattle.lc_lib_texts.specs.Names.{lib_named}
 use Rattle.lc_words.specs.Commands.{program_app}
-use Rattle.lc_words.specs.Tasks.{BeginDevelopment, CheckCertificate, CheckFormula, DrawHistory, JudgeHistory, PrintLibrary, ShowCondition, Task, is_development_name, listing, proving, showing, task_of, ShowDevelopment, carrying}
+use Rattle.lc_words.specs.Tasks.{BeginDevelopment, CheckCertificate, CheckFormula, DrawHistory, JudgeHistory, PrintLibrary, RunPlan, ShowCondition, Task, is_development_name, listing, proving, showing, task_of, ShowDevelopment, carrying}
 use Rattle.lc_words.specs.declared.request.LibraryText.{LibraryText}
 use Rattle.lc_words.specs.declared.request.LibraryText.TheVariants.{Development, Certificate, Hints}
 use Rattle.lc_words.specs.declared.request.Request.{Request}
@@ -27,6 +27,12 @@ abbrev pub carrying_task : List Row → Option Task
 carrying_task rows =
     option_and_then (λ old. option_and_then (λ certificate. option_map (λ new. carrying old certificate new (first_of (codes "hints") rows)) (first_of (codes "NEW") rows)) (first_of (codes "CERT") rows))
     (first_of (codes "OLD") rows)
+
+-- the task of running the development that these arguments name, with the certificate and the plan that they name
+abbrev pub running_task : List Row → Option Task
+running_task rows =
+    option_and_then (λ development. option_and_then (λ certificate. option_map (RunPlan development certificate) (first_of (codes "PLAN") rows)) (first_of (codes "CERT") rows))
+    (first_of (codes "DEV") rows)
 
 -- the flag is set: its value is `true`
 abbrev pub is_set : Text → List Row → Bool
@@ -101,7 +107,9 @@ task_in_command c =
     then library_task c.1
     else (if bytes_eq c.0 (codes "draw")
     then two_file_task DrawHistory (codes "HISTORY") c.1
-    else (if bytes_eq c.0 (codes "new") then beginning_task c.1 else None)))))))))
+    else (if bytes_eq c.0 (codes "new")
+    then beginning_task c.1
+    else (if bytes_eq c.0 (codes "run") then running_task c.1 else None))))))))))
 
 -- the task of a command with its arguments, if there is one
 abbrev pub task_in : Option (Text × List Row) → Option Task

@@ -13,7 +13,7 @@ use Rattle.lc_words.specs.declared.request.Chosen.TheVariants.{Number, Those}
 use Rattle.lc_words.specs.declared.request.LibraryText.{LibraryText}
 use Rattle.lc_words.specs.declared.request.LibraryText.TheVariants.{Development, Certificate, Hints}
 use Rattle.lc_words.specs.declared.request.Request.{Request}
-use Rattle.lc_words.specs.declared.request.Request.TheVariants.{Formula, Judge, Show, Conditions, Check, Prove, Draw, New, Library, Carry}
+use Rattle.lc_words.specs.declared.request.Request.TheVariants.{Formula, Judge, Show, Conditions, Check, Prove, Draw, New, Library, Carry, Run}
 
 -- Which conditions are chosen: those of a point, of a kind, or of both, by their words
 pub data Filter : Type 0 where
@@ -25,8 +25,9 @@ pub data Filter : Type 0 where
 -- specification in another; that the development in a file is shown, or laid out over lines; that its conditions are listed, or those
 -- that are chosen, or one is shown by its number; that the certificate in one file is checked against the development in another; that a certificate is found of the development in a file, without
 -- hints or with those in another; that a certificate is found of a new development, with the proofs of an old one, by its
--- certificate, without hints or with those in a further file; that the history in one file is drawn by the specification in another;
--- that a development of a name is begun; or that a text of an object of the library is printed
+-- certificate, without hints or with those in a further file; that the development in a file is run, which the certificate in another
+-- proves, by the plan in a third; that the history in one file is drawn by the specification in another; that a development of a name
+-- is begun; or that a text of an object of the library is printed
 pub data Task : Type 0 where
   CheckFormula : (path : List ℕ) → Task
   JudgeHistory : (development history : List ℕ) → Task
@@ -40,6 +41,7 @@ pub data Task : Type 0 where
   ProveWithHints : (development hints : List ℕ) → Task
   CarryCertificate : (old certificate new : List ℕ) → Task
   CarryWithHints : (old certificate new hints : List ℕ) → Task
+  RunPlan : (development certificate plan : List ℕ) → Task
   DrawHistory : (development history : List ℕ) → Task
   BeginDevelopment : (name : List ℕ) → Task
   PrintLibrary : (lib : Lib) (text : LibraryText) → Task
@@ -84,6 +86,7 @@ task_of (Conditions development chosen) = chosen_task development.now chosen
 task_of (Check development certificate all progress) = CheckCertificate development.now certificate.now
 task_of (Prove development hints progress) = proving development.now (path_in hints)
 task_of (Carry old certificate new hints progress) = carrying old.now certificate.now new.now (path_in hints)
+task_of (Run development certificate plan) = RunPlan development.now certificate.now plan.now
 task_of (Draw development history) = DrawHistory development.now history.now
 task_of (New name) = BeginDevelopment name.now
 task_of (Library lib text) = PrintLibrary lib text
@@ -127,6 +130,7 @@ words_for name (ProveDevelopment development) = name ∷ codes "prove" ∷ devel
 words_for name (ProveWithHints development hints) = name ∷ codes "prove" ∷ development ∷ codes "--hints" ∷ hints ∷ []
 words_for name (CarryCertificate old certificate new) = name ∷ codes "carry" ∷ old ∷ certificate ∷ new ∷ []
 words_for name (CarryWithHints old certificate new hints) = name ∷ codes "carry" ∷ old ∷ certificate ∷ new ∷ codes "--hints" ∷ hints ∷ []
+words_for name (RunPlan development certificate plan) = name ∷ codes "run" ∷ development ∷ certificate ∷ plan ∷ []
 words_for name (DrawHistory development history) = name ∷ codes "draw" ∷ development ∷ history ∷ []
 words_for name (BeginDevelopment own) = name ∷ codes "new" ∷ own ∷ []
 words_for name (PrintLibrary lib text) = library_words name (name_of lib) text
@@ -151,6 +155,7 @@ HasPlainPaths (ProveDevelopment development) = is_plain development ≡ true
 HasPlainPaths (ProveWithHints development hints) = (is_plain development ≡ true) × (is_plain hints ≡ true)
 HasPlainPaths (CarryCertificate old certificate new) = (is_plain old ≡ true) × (is_plain certificate ≡ true) × (is_plain new ≡ true)
 HasPlainPaths (CarryWithHints old certificate new hints) = (is_plain old ≡ true) × (is_plain certificate ≡ true) × (is_plain new ≡ true) × (is_plain hints ≡ true)
+HasPlainPaths (RunPlan development certificate plan) = (is_plain development ≡ true) × (is_plain certificate ≡ true) × (is_plain plan ≡ true)
 HasPlainPaths (DrawHistory development history) = (is_plain development ≡ true) × (is_plain history ≡ true)
 HasPlainPaths (BeginDevelopment name) = is_development_name name ≡ true
 HasPlainPaths (PrintLibrary lib text) = Unit {0}

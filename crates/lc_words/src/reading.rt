@@ -4,7 +4,7 @@ ghost use Rattle.clap.specs.Words.{found_of, kind_of, rows_of, subcommand_of, su
 ghost use Rattle.clap.specs.declared.error.kind.ErrorKind.TheVariants.{OutOfMemory};
 ghost use Rattle.lc_words.specs.Commands.{program_app};
 ghost use Rattle.lc_words.specs.Tasks.{CheckCertificate, CheckFormula, DrawHistory, JudgeHistory, Task, chosen_task, path_in, task_of, texts_of};
-ghost use Rattle.lc_words.specs.Reading.{AreWrong, AskFor, AskForHelp, AsksForText, Reads, beginning_task, is_explained, is_set, library_task, listed, listing_task, number_in, one_file_task, proving_task, showing_task, task_in, text_for, two_file_task, carrying_task};
+ghost use Rattle.lc_words.specs.Reading.{AreWrong, AskFor, AskForHelp, AsksForText, Reads, beginning_task, is_explained, is_set, library_task, listed, listing_task, number_in, one_file_task, proving_task, running_task, showing_task, task_in, text_for, two_file_task, carrying_task};
 
 use crate::commands::program;
 use crate::request::{Asked, Chosen, LibraryText, Request};
@@ -140,6 +140,19 @@ fn carry_request<'a>(command: &ArgMatches<'a>) -> Option<Request<'a>>
     })
 }
 
+fn run_request<'a>(command: &ArgMatches<'a>) -> Option<Request<'a>>
+    ensures { option_map task_of result ≡ running_task (rows_of (found_of command.now)) }
+{
+    let development = command.get_str("DEV")?;
+    let certificate = command.get_str("CERT")?;
+    let plan = command.get_str("PLAN")?;
+    Some(Request::Run {
+        development,
+        certificate,
+        plan,
+    })
+}
+
 /// Whether a flag is set.
 fn is_set(command: &ArgMatches<'_>, name: &str) -> bool
     ensures { result ≡ is_set name.now (rows_of (found_of command.now)) }
@@ -189,6 +202,7 @@ fn request_of<'a>(matches: &ArgMatches<'a>) -> Option<Request<'a>>
         "library" => library_request(command),
         "draw" => draw_request(command),
         "new" => new_request(command),
+        "run" => run_request(command),
         _ => None,
     }
 }

@@ -63,6 +63,12 @@ pub enum Request<'a> {
         hints: Option<&'a str>,
         progress: bool,
     },
+    /// Run the development in a file, which the certificate in another proves, by the plan in a third.
+    Run {
+        development: &'a str,
+        certificate: &'a str,
+        plan: &'a str,
+    },
     /// Draw the history in a file, with its order, by the specification in another.
     Draw {
         development: &'a str,

@@ -14,3 +14,4 @@ mod LaidOut
 mod OneCondition
 mod Beginnings
 mod Carrying
+mod Running

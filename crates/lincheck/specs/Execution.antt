@@ -11,7 +11,7 @@ use Rattle.lc_outline_print.specs.Developments.{development_printed}
 use Rattle.lc_outline_text.specs.Developments.{file_reading}
 use Rattle.lincheck.specs.Carry.{AnswersCarry, AnswersWith, IsUnreadCarry}
 use Rattle.lincheck.specs.Check.{AnswersDevelopment, AnswersCheck}
-use Rattle.lc_words.specs.Tasks.{Task, CheckFormula, JudgeHistory, ShowDevelopment, ShowLines, ListConditions, ListChosen, ShowCondition, CheckCertificate, ProveDevelopment, ProveWithHints, DrawHistory, BeginDevelopment, PrintLibrary, CarryCertificate, CarryWithHints}
+use Rattle.lc_words.specs.Tasks.{Task, CheckFormula, JudgeHistory, ShowDevelopment, ShowLines, ListConditions, ListChosen, ShowCondition, CheckCertificate, ProveDevelopment, ProveWithHints, DrawHistory, BeginDevelopment, PrintLibrary, CarryCertificate, CarryWithHints, RunPlan}
 use Rattle.lincheck.specs.Condition.{AnswersCondition, kind_of, point_of}
 use Rattle.lincheck.specs.Draw.{AnswersDraw}
 use Rattle.lincheck.specs.Formula.{AnswersFormula}
@@ -21,6 +21,7 @@ use Rattle.lincheck.specs.Lines.{AnswersLines}
 use Rattle.lincheck.specs.New.{AnswersNew}
 use Rattle.lincheck.specs.Prove.{AnswersProve, AnswersHinted}
 use Rattle.lincheck.specs.Printing.{Begins, IsInPieces}
+use Rattle.lincheck.specs.Run.{AnswersRun, IsUnreadRun}
 
 -- the answer to a task, where the files that it names are known
 abbrev pub AnswersTask : (List ℕ → Option (List ℕ)) → Task → List ℕ → ℕ → Type 0
@@ -46,6 +47,8 @@ AnswersTask bytes_at (CarryCertificate old certificate new) text status =
     IfSome (bytes_at old) (λ file. AnswersCarry (AnswersWith None) file (bytes_at certificate) (bytes_at new) text status)
 AnswersTask bytes_at (CarryWithHints old certificate new hints) text status =
     IfSome (bytes_at old) (λ file. AnswersCarry (AnswersWith (Some (bytes_at hints))) file (bytes_at certificate) (bytes_at new) text status)
+AnswersTask bytes_at (RunPlan development certificate plan) text status =
+    IfSome (bytes_at development) (λ file. AnswersRun file (bytes_at certificate) (bytes_at plan) text status)
 AnswersTask bytes_at (DrawHistory development history) text status =
     IfSome (bytes_at development) (λ file. AnswersDraw file (bytes_at history) text status)
 AnswersTask bytes_at (BeginDevelopment name) text status = AnswersNew name text status
@@ -71,6 +74,7 @@ IsUnread CannotOpen bytes_at (ProveWithHints development hints) =
     ⊎ ((file : List ℕ) × (D : Development) × (bytes_at development ≡ Some file) × Says file_reading file D × CannotOpen hints)
 IsUnread CannotOpen bytes_at (CarryCertificate old certificate new) = IsUnreadCarry CannotOpen bytes_at old certificate new None
 IsUnread CannotOpen bytes_at (CarryWithHints old certificate new hints) = IsUnreadCarry CannotOpen bytes_at old certificate new (Some hints)
+IsUnread CannotOpen bytes_at (RunPlan development certificate plan) = IsUnreadRun CannotOpen bytes_at development certificate plan
 IsUnread CannotOpen bytes_at (DrawHistory development history) =
     CannotOpen development
     ⊎ ((file : List ℕ) × (spec : Specification) × (bytes_at development ≡ Some file) × Says first_reading file spec × CannotOpen history)

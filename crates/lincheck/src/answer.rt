@@ -22,6 +22,9 @@ pub const INPUT_OR_OUTPUT_FAULT: u8 = 3;
 /// An allocation was refused.
 pub const OUT_OF_MEMORY: u8 = 4;
 
+/// What has run is not handed in as it should be.
+pub const SEATS_DO_NOT_MATCH: u8 = 5;
+
 /// Why a command did not do what it is for, for those who ask.
 #[derive(Clone, Copy)]
 pub enum Why {

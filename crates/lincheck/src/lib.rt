@@ -20,6 +20,7 @@ mod printing;
 mod program;
 mod prove;
 mod reading;
+mod run;
 mod show;
 mod sink;
 mod telling;

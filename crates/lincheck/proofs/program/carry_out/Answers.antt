@@ -54,6 +54,14 @@ returns-in_ok-answer-in-Carry-clause-leaves g c =
     (subst (λ (r : Request). AnswersTask (g.F.Files.bytes_at c.args.files.now) (task_of r) answer.text.items answer.status) (sym c.in-Carry.is) c.in_ok-answer-in-Carry.ensures.answers)
     c.print_told-in-Carry.ensures.prints c.print_told-in-Carry.ensures.fails
 
+pub returns-in_ok-answer-in-Run-clause-leaves : goal.returns-in_ok-answer-in-Run-clause-leaves
+returns-in_ok-answer-in-Run-clause-leaves g c =
+    let answer = c.in_ok-answer-in-Run.answer in
+    leaves_printed (task_of c.args.request) (AnswersTask (g.F.Files.bytes_at c.args.files.now) (task_of c.args.request)) (g.O.Write.contents c.args.out.now)
+    (g.O.Write.contents c.print_told-in-Run.new.out) answer.text.items answer.status c.print_told-in-Run.result
+    (subst (λ (r : Request). AnswersTask (g.F.Files.bytes_at c.args.files.now) (task_of r) answer.text.items answer.status) (sym c.in-Run.is) c.in_ok-answer-in-Run.ensures.answers)
+    c.print_told-in-Run.ensures.prints c.print_told-in-Run.ensures.fails
+
 pub returns-in_ok-answer-in-Draw-clause-leaves : goal.returns-in_ok-answer-in-Draw-clause-leaves
 returns-in_ok-answer-in-Draw-clause-leaves g c =
     let answer = c.in_ok-answer-in-Draw.answer in

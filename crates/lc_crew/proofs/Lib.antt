@@ -1,0 +1,3 @@
+mod Unfinished
+mod Scripts
+mod Ends

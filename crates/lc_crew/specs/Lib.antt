@@ -1,0 +1,4 @@
+pub mod Halts
+pub mod Playing
+pub mod Members
+pub mod Ran

@@ -1,0 +1,38 @@
+-- What comes of a plan.
+use Rattle.std.specs.Prelude.{◌≡◌, ℕ, ◌<◌, ◌==◌, true, List, All}
+use Rattle.std.specs.List.{list_any}
+use Rattle.lc_hist.specs.History.{Linearizes}
+use Rattle.lc_hist.specs.Histories.{events_in}
+use Rattle.lc_machine.specs.World.{World}
+use Rattle.lc_outline.specs.Development.{Development}
+use Rattle.lc_run.specs.Labels.{is_unfinished, labels_by}
+use Rattle.lc_run.specs.LabelView.{labels_of}
+use Rattle.lc_run.specs.Ordering.{entries_shown}
+use Rattle.lc_seq.specs.TextStep.{text_step, start_of}
+use Rattle.lc_sound.specs.Instrumented.{Label, IsRun, history}
+use Rattle.lc_sound.specs.Order.{order}
+use Rattle.lc_crew.specs.Halts.{fits}
+use Rattle.lc_crew.specs.declared.ended.Ended.{Ended}
+use Rattle.lc_crew.specs.declared.plan.Ran.{Ran}
+
+-- a client came to its end as is said: it fits the last call that it made
+abbrev pub EndsSo : List Label → Ended → Type 0
+EndsSo labels e = fits e.halt (is_unfinished (labels_by e.client labels)) ≡ true
+
+-- for each of so many clients it is said how it came to its end
+abbrev pub AreAllEnded : ℕ → List Ended → Type 0
+AreAllEnded n ends = (c : ℕ) → c < n → list_any (λ e. e.client == c) ends ≡ true
+
+-- the labels are a run of the development by so many clients, the order of the run linearizes its history, and its clients came to
+-- these ends
+pub record IsOrdered (D : Development) (n : ℕ) (labels : List Label) (ends : List Ended) : Type 0 where
+  pub run : ∥ ((w : World) × IsRun D n labels w) ∥₁
+  pub linearizes : ∥ Linearizes (text_step D.specification.operations) (start_of D.specification.columns) (history labels) (order labels) ∥₁
+  pub each : All (EndsSo labels) ends
+  pub all : AreAllEnded n ends
+
+-- What has run of a development by so many clients: its history and its order are those of such a run
+pub record IsRunOf (D : Development) (n : ℕ) (ran : Ran) : Type 0 where
+  pub ordered : IsOrdered D n (labels_of ran.log.labels.items) ran.ends.items
+  pub events : events_in ran.log.history ≡ history (labels_of ran.log.labels.items)
+  pub entries : entries_shown ran.log.order.items ≡ order (labels_of ran.log.labels.items)

@@ -1,0 +1,117 @@
+//! A run by a plan, from its beginning to its history.
+ghost use Rattle.std.specs.Prelude.{◌≡◌, [], All, IfOk};
+ghost use Rattle.std.specs.Arc.{arc_value};
+ghost use Rattle.lc_check.specs.VerdictView.{development_in};
+ghost use Rattle.lc_run.specs.Locked.{labels_made};
+ghost use Rattle.lc_run.specs.Running.{clients_of, development_of};
+ghost use Rattle.lc_crew.specs.Members.{AreEndsOf};
+ghost use Rattle.lc_crew.specs.Ran.{IsRunOf};
+
+use crate::ended::Ended;
+use crate::member::Member;
+use crate::phase::play_phase;
+use crate::stop::Stop;
+use lc_check::Accepted;
+use lc_plan::Plan;
+use lc_run::{RunFault, RunLog, Runner, Seat};
+use std::alloc::Global;
+use std::marker::Brand;
+use std::sync::ledger::{Blank, Ledger};
+use std::sync::{Arc, Wait};
+use std::thread::Threads;
+
+/// What came of a plan: what has run, and how each client came to its end, by clients.
+#[derive(Drop)]
+pub struct Ran {
+    pub log: RunLog,
+    pub ends: Vec<Ended>,
+}
+
+// The clients of these seats.
+fn crew_of<J: Ledger>(alloc: Global, seats: Vec<Seat<J>>) -> Result<Vec<Option<Member<J>>>, Stop>
+    requires { All (λ seat. labels_made seat ≡ []) seats.items }
+{
+    let mut crew = Vec::new(alloc);
+    for seat in seats {
+        crew.push(Some(Member::new(seat)))?;
+    }
+    Ok(crew)
+}
+
+// The seats of a crew, and how its clients came to their ends.
+#[derive(Drop)]
+struct Parted<J: Ledger> {
+    seats: Vec<Seat<J>>,
+    ends: Vec<Ended>,
+}
+
+// Each client's seat, and its end.
+fn parts_of<J: Ledger>(alloc: Global, crew: Vec<Option<Member<J>>>) -> Result<Parted<J>, Stop>
+    ensures { IfOk result (λ parted. AreEndsOf parted.seats.items parted.ends.items) }
+{
+    let mut seats = Vec::new(alloc);
+    let mut ends = Vec::new(alloc);
+    for member in crew {
+        if let Some(member) = member {
+            let (seat, ended) = member.into_parts();
+            seats.push(seat)?;
+            ends.push(ended)?;
+        }
+    }
+    Ok(Parted { seats, ends })
+}
+
+// What came of a plan, where all clients are there again.
+fn finished<J: Ledger>(
+    alloc: Global,
+    runner: Runner<J>,
+    crew: Vec<Option<Member<J>>>,
+) -> Result<Ran, Stop>
+    ensures { IfOk result (IsRunOf (development_of runner) (clients_of runner)) }
+{
+    let parted = parts_of(alloc, crew)?;
+    let Parted { seats, ends } = parted;
+    match runner.finish(seats) {
+        Ok(log) => Ok(Ran { log, ends }),
+        Err(unfinished) => Err(Stop::from(unfinished.why)),
+    }
+}
+
+/// Runs an accepted development by a plan, with this ledger: the phases come one after another, and in each its clients make their
+/// calls side by side, in threads. What has run has an order that linearizes its history.
+pub fn run_with<J: Ledger + Sync, R: Threads + Wait + Sync>(
+    rt: &R,
+    alloc: Global,
+    blank: Blank,
+    accepted: Arc<Accepted>,
+    plan: &Plan,
+) -> Result<Ran, Stop>
+    requires name { blank.name ≡ J.name }
+    requires parts { (blank.parts ≡ J.parts) × (blank.parts ≡ 64) }
+    ensures { IfOk result (IsRunOf (development_in (arc_value accepted)) plan.now.clients) }
+{
+    let made: Result<(Runner<J>, Vec<Seat<J>>), RunFault> = Runner::new(
+        alloc,
+        blank,
+        accepted,
+        plan.clients,
+    );
+    let (runner, seats) = made?;
+    let mut crew = crew_of(alloc, seats)?;
+    for phase in &plan.phases {
+        play_phase(rt, alloc, &runner, &mut crew, phase)?;
+    }
+    finished(alloc, runner, crew)
+}
+
+/// Runs an accepted development by a plan, as `run_with` does with a ledger of its own.
+pub fn run<R: Threads + Wait + Sync>(
+    rt: &R,
+    alloc: Global,
+    accepted: Arc<Accepted>,
+    plan: &Plan,
+) -> Result<Ran, Stop>
+    ensures { IfOk result (IsRunOf (development_in (arc_value accepted)) plan.now.clients) }
+{
+    run_with::<Brand, R>(rt, alloc, Blank::new(64), accepted, plan)
+}
