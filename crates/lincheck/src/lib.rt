@@ -23,6 +23,7 @@ mod reading;
 mod show;
 mod sink;
 mod telling;
+mod workers;
 
 pub use answer::{COMMAND_LINE_FAULT, OUT_OF_MEMORY};
 pub use disk::Disk;
