@@ -179,9 +179,16 @@ their steps come between each other, the history of their calls and returns is l
 With --explain a refusal by the codes 9 to 12 is followed, on standard error, by what condition K asks, and by the hypotheses
 that stand at the step, numbered as proofs number them. So a proof is written by putting (open), and reading what stands there.
 
-Example:
+With more than one worker CERT is read whole before its proofs are checked. The answer is the same for every number.
+
+Examples:
   lincheck check examples/counter.lc examples/counter.cert
-      prints `accepted counter 59`";
+      prints `accepted counter 59`
+  lincheck check examples/counter.lc examples/counter.cert --workers 4
+      prints the same, sooner where there is much to check";
+
+pub(crate) static WORKERS: &str =
+    "How many workers check proofs side by side, from 1 to 64; excludes --progress";
 
 pub(crate) static CHECK_ALL: &str =
     "Say on standard error of each condition that has no proof, or one that does not hold";

@@ -6,6 +6,7 @@ mod OneAnswer
 mod Taken
 mod Endings
 mod Opened
+mod Sharing
 mod Proving
 mod OneHistory
 mod OneCheck

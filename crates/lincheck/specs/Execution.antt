@@ -11,7 +11,7 @@ use Rattle.lc_outline_print.specs.Developments.{development_printed}
 use Rattle.lc_outline_text.specs.Developments.{file_reading}
 use Rattle.lincheck.specs.Carry.{AnswersCarry, AnswersWith, IsUnreadCarry}
 use Rattle.lincheck.specs.Check.{AnswersDevelopment, AnswersCheck}
-use Rattle.lc_words.specs.Tasks.{Task, CheckFormula, JudgeHistory, ShowDevelopment, ShowLines, ListConditions, ListChosen, ShowCondition, CheckCertificate, ProveDevelopment, ProveWithHints, DrawHistory, BeginDevelopment, PrintLibrary, CarryCertificate, CarryWithHints, RunPlan}
+use Rattle.lc_words.specs.Tasks.{Task, CheckFormula, JudgeHistory, ShowDevelopment, ShowLines, ListConditions, ListChosen, ShowCondition, CheckByWorkers, CheckCertificate, ProveDevelopment, ProveWithHints, DrawHistory, BeginDevelopment, PrintLibrary, CarryCertificate, CarryWithHints, RunPlan}
 use Rattle.lincheck.specs.Condition.{AnswersCondition, kind_of, point_of}
 use Rattle.lincheck.specs.Draw.{AnswersDraw}
 use Rattle.lincheck.specs.Formula.{AnswersFormula}
@@ -38,6 +38,8 @@ AnswersTask bytes_at (ListChosen development filter) text status =
 AnswersTask bytes_at (ShowCondition development number) text status =
     IfSome (bytes_at development) (λ file. AnswersCondition number file text status)
 AnswersTask bytes_at (CheckCertificate development certificate) text status =
+    IfSome (bytes_at development) (λ file. AnswersCheck file (bytes_at certificate) text status)
+AnswersTask bytes_at (CheckByWorkers development certificate workers) text status =
     IfSome (bytes_at development) (λ file. AnswersCheck file (bytes_at certificate) text status)
 AnswersTask bytes_at (ProveDevelopment development) text status =
     IfSome (bytes_at development) (λ file. AnswersProve file text status)
@@ -66,6 +68,9 @@ IsUnread CannotOpen bytes_at (ListConditions development) = CannotOpen developme
 IsUnread CannotOpen bytes_at (ListChosen development filter) = CannotOpen development
 IsUnread CannotOpen bytes_at (ShowCondition development number) = CannotOpen development
 IsUnread CannotOpen bytes_at (CheckCertificate development certificate) =
+    CannotOpen development
+    ⊎ ((file : List ℕ) × (D : Development) × (bytes_at development ≡ Some file) × Says file_reading file D × CannotOpen certificate)
+IsUnread CannotOpen bytes_at (CheckByWorkers development certificate workers) =
     CannotOpen development
     ⊎ ((file : List ℕ) × (D : Development) × (bytes_at development ≡ Some file) × Says file_reading file D × CannotOpen certificate)
 IsUnread CannotOpen bytes_at (ProveDevelopment development) = CannotOpen development

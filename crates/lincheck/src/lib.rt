@@ -24,6 +24,7 @@ mod run;
 mod show;
 mod sink;
 mod telling;
+mod workers;
 
 pub use answer::{COMMAND_LINE_FAULT, OUT_OF_MEMORY};
 pub use disk::Disk;

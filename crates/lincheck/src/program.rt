@@ -65,14 +65,20 @@ fn carry_out<'a, R: Threads + Wait + Sync, F: Files, O: Write, E: Write>(
         Request::Check {
             development,
             certificate,
-            progress,
+            workers,
+            progress: is_asked,
             ..
         } => {
-            let mut telling = Telling {
-                err,
-                is_asked: progress,
-            };
-            let answer = answer_check(alloc, files, development, certificate, &mut telling)?;
+            let mut telling = Telling { err, is_asked };
+            let answer = answer_check(
+                rt,
+                alloc,
+                files,
+                development,
+                certificate,
+                workers,
+                &mut telling,
+            )?;
             print_told(out, why, &answer)
         }
         Request::Prove {
@@ -157,7 +163,8 @@ fn tell_usage<O: Write, E: Write>(error: &clap::Error, out: &mut O, err: &mut E)
 ///
 /// Answers and help are written to `out`, all else to `err`: so what is written to `out` and what is answered depends on the task
 /// that the words ask for, and not on what they ask to be said beside it. The lines of `conditions` are written as they are made:
-/// where memory is refused, a beginning of them may stand there.
+/// where memory is refused, a beginning of them may stand there. Threads are started, and waited for, by `check` with more than one
+/// worker alone.
 pub fn execute<R: Threads + Wait + Sync, F: Files, O: Write, E: Write>(
     rt: &R,
     alloc: Global,
