@@ -164,7 +164,7 @@ fn tell_usage<O: Write, E: Write>(error: &clap::Error, out: &mut O, err: &mut E)
 /// Answers and help are written to `out`, all else to `err`: so what is written to `out` and what is answered depends on the task
 /// that the words ask for, and not on what they ask to be said beside it. The lines of `conditions` are written as they are made:
 /// where memory is refused, a beginning of them may stand there. Threads are started, and waited for, by `check` with more than one
-/// worker alone.
+/// worker and by `run` alone.
 pub fn execute<R: Threads + Wait + Sync, F: Files, O: Write, E: Write>(
     rt: &R,
     alloc: Global,

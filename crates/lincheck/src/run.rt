@@ -1,15 +1,14 @@
 //! The command `run`.
-ghost use Rattle.std.specs.Prelude.{◌≡◌, ◌++◌, ℕ, List, IfOk, IfSome, IsErr, OnOk};
+ghost use Rattle.std.specs.Prelude.{◌≡◌, ◌++◌, ℕ, List, Some, flat_map, IfOk, IfSome, IsErr, OnOk};
 ghost use Rattle.lc_sexp.specs.Pieces.{WasFed};
 ghost use Rattle.lc_reading.specs.Files.{IsAnswerTo};
 ghost use Rattle.lc_check.specs.VerdictView.{development_in};
-ghost use Rattle.lc_crew.specs.Ran.{IsRunOf};
 ghost use Rattle.lc_outline.specs.DevelopmentView.{development_shown};
 ghost use Rattle.lc_plan.specs.Readings.{plan_reading};
 ghost use Rattle.lc_plan.specs.View.{plan_of};
 ghost use Rattle.lc_words.specs.Tasks.{RunPlan};
 ghost use Rattle.lincheck.specs.Execution.{AnswersTask, IsUnread};
-ghost use Rattle.lincheck.specs.Run.{AnswersPlan, AnswersProvenRun, IsUnreadPlan, OpensAccepted, OpensPlan, RunsSo, end_text, ran_text};
+ghost use Rattle.lincheck.specs.Run.{AnswersPlan, AnswersProvenRun, IsUnreadPlan, OpensAccepted, OpensPlan, RunsSo, end_text, halt_text, ran_text};
 
 use crate::answer::{Answer, Failure, SEATS_DO_NOT_MATCH, SUCCESS, told_fault};
 use crate::check::open_development;
@@ -17,7 +16,7 @@ use crate::files::Files;
 use crate::reading::{feed_file, feed_forms};
 use lc_base::{Fault, OutOfMemory, write_line};
 use lc_check::{Accepted, CertificateSession, Verdict};
-use lc_crew::{Ended, Ran, Stop, run};
+use lc_crew::{Ended, Halt, Ran, Stop, run};
 use lc_hist::history_to_json;
 use lc_outline::Development;
 use lc_plan::{Plan, plan_in};
@@ -74,14 +73,31 @@ fn open_plan<'a, F: Files>(
     }
 }
 
-/// The line for a client that did not come to its end, behind others.
+/// The line for a client that makes no further call, behind others.
+fn push_halt(alloc: Global, text: &mut Vec<u8>, client: u32, halt: Halt) -> Result<(), OutOfMemory>
+    ensures { OnOk result (text.new.items ≡ text.old.items ++ halt_text client (Some halt)) }
+{
+    let line = format!(in alloc; "client {client} {halt}\n")?;
+    text.extend_from_slice(line.as_bytes())?;
+    Ok(())
+}
+
+/// The line for a client, if it did not come to its end, behind others.
 fn push_end(alloc: Global, text: &mut Vec<u8>, ended: &Ended) -> Result<(), OutOfMemory>
     ensures { OnOk result (text.new.items ≡ text.old.items ++ end_text ended.now) }
 {
-    if let Some(halt) = ended.halt {
-        let client = ended.client;
-        let line = format!(in alloc; "client {client} {halt}\n")?;
-        text.extend_from_slice(line.as_bytes())?;
+    match ended.halt {
+        Some(halt) => push_halt(alloc, text, ended.client, halt),
+        None => Ok(()),
+    }
+}
+
+/// The lines for the clients that did not come to their ends, behind others.
+fn push_ends(alloc: Global, text: &mut Vec<u8>, ends: &[Ended]) -> Result<(), OutOfMemory>
+    ensures { OnOk result (text.new.items ≡ text.old.items ++ flat_map end_text ends.now) }
+{
+    for ended in ends {
+        push_end(alloc, text, ended)?;
     }
     Ok(())
 }
@@ -91,9 +107,7 @@ fn ran_text(alloc: Global, development: &Development, ran: &Ran) -> Result<Vec<u
     ensures { IfOk result (λ text. text.items ≡ ran_text (development_shown development.now) ran.now) }
 {
     let mut text = write_line(alloc, "linearizable", &[ran.log.order.len() as u64])?;
-    for ended in &ran.ends {
-        push_end(alloc, &mut text, ended)?;
-    }
+    push_ends(alloc, &mut text, &ran.ends)?;
     let specification = &development.parts().specification;
     let history = history_to_json(alloc, specification, &ran.log.history, &ran.log.order)?;
     text.extend_from_slice(&history)?;
