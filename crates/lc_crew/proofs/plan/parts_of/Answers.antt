@@ -11,8 +11,8 @@ loop-member-preserved g c =
     let parts = c.into_parts-seat.result in
     let seats' = sym c.in_ok-push.ensures.items in
     let ends' = sym c.in_ok-push-2.ensures.items in (
-      subst (λ ss. AreEndsOf ss c.push-in-Some-member.new.self.items) seats'
+      subst (λ ss. AreEndsOf ss c.push-in-loop-member.new.self.items) seats'
           (subst (λ es. AreEndsOf (seats ++ parts.0 ∷ []) es) ends' (end-more seats ends parts.0 parts.1 c.loop-member.invariant.0 c.into_parts-seat.ensures)),
       subst (λ es. AreNumberedFrom 0 es) ends'
-          (numbered-more 0 ends parts.1 c.loop-member.invariant.1 (omega (arith, c.if-client-len.false, c.len.ensures, c.loop-member.ends.ok.0))),
+          (numbered-more 0 ends parts.1 c.loop-member.invariant.1 (omega (arith, c.if-ended-len.false, c.len.ensures, c.loop-member.ends.ok.0))),
     )
