@@ -1,8 +1,7 @@
 -- How clients came to their ends, beside their seats.
-use Rattle.std.proofs.Common.{◌≡◌, ℕ, zero, suc, ◌+◌, ◌<◌, true, List, [], ◌∷◌, ◌++◌, length, ap, subst, ◌∙◌, arith}
+use Rattle.std.proofs.Common.{◌≡◌, ℕ, zero, suc, ◌+◌, ◌<◌, List, [], ◌∷◌, ◌++◌, length, ap, subst, ◌∙◌, arith}
 use Rattle.std.specs.Prelude.{All, IfSome, slice_get}
 use Rattle.lc_run.specs.Labels.{is_unfinished, labels_by}
-use Rattle.lc_run.specs.Locked.{client_in, labels_made}
 use Rattle.lc_run.specs.LabelView.{labels_of}
 use Rattle.lc_run.specs.Ordering.{entries_shown}
 use Rattle.lc_run.specs.Seated.{HasOwn}
@@ -43,7 +42,7 @@ module _ {J : Type 0} where
   end-more (t ∷ seats) [] s e are is = absurd are
 
   -- where seats have their clients' labels, ends fit these
-  pub ends-fit : (labels : List Label) (seats : List (Seat J)) (ends : List Ended) → AreEndsOf seats ends → All (HasOwn labels) seats → All (EndsSo labels) ends
+  ends-fit : (labels : List Label) (seats : List (Seat J)) (ends : List Ended) → AreEndsOf seats ends → All (HasOwn labels) seats → All (EndsSo labels) ends
   ends-fit labels [] [] are own = λ k d h. absurd (omega (arith, h))
   ends-fit labels (s ∷ seats) (e ∷ ends) are own = by (ends-fit labels seats ends are.1 (λ k d h. own (suc k) d (omega (arith, h))))
     where

@@ -1,4 +1,4 @@
-use Rattle.std.proofs.Common.{[], ◌∷◌, ◌++◌, length, sym, subst, arith}
+use Rattle.std.proofs.Common.{[], ◌∷◌, ◌++◌, sym, subst, arith}
 use Rattle.lc_crew.specs.Members.{AreEndsOf}
 use Rattle.lc_crew.specs.Ran.{AreNumberedFrom}
 use Rattle.lc_crew.proofs.Ends.{end-more, numbered-more}
