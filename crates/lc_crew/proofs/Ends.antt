@@ -1,12 +1,10 @@
 -- How clients came to their ends, beside their seats.
-use Rattle.std.proofs.Common.{◌≡◌, ℕ, zero, suc, ◌<◌, ◌==◌, Bool, true, false, ◌||◌, List, [], ◌∷◌, ◌++◌, length, refl, sym, ap, ap₂, subst, ◌∙◌, arith}
-use Rattle.std.specs.Prelude.{All, IfSome, slice_get, slice_index_or}
-use Rattle.std.specs.List.{list_any}
+use Rattle.std.proofs.Common.{◌≡◌, ℕ, zero, suc, ◌+◌, ◌<◌, List, [], ◌∷◌, ◌++◌, length, ap, subst, ◌∙◌, arith}
+use Rattle.std.specs.Prelude.{All, IfSome, slice_get}
 use Rattle.lc_run.specs.Labels.{is_unfinished, labels_by}
-use Rattle.lc_run.specs.Locked.{client_in, labels_made}
 use Rattle.lc_run.specs.LabelView.{labels_of}
 use Rattle.lc_run.specs.Ordering.{entries_shown}
-use Rattle.lc_run.specs.Seated.{has_seat, AreAllThere, HasOwn}
+use Rattle.lc_run.specs.Seated.{HasOwn}
 use Rattle.lc_run.specs.declared.held.Seat.{Seat}
 use Rattle.lc_hist.specs.Histories.{events_in}
 use Rattle.lc_hist.specs.History.{Linearizes}
@@ -17,7 +15,7 @@ use Rattle.lc_sound.specs.Instrumented.{Label, IsRun, history}
 use Rattle.lc_sound.specs.Order.{order}
 use Rattle.lc_crew.specs.Halts.{fits}
 use Rattle.lc_crew.specs.Members.{AreEndsOf, IsEndOf}
-use Rattle.lc_crew.specs.Ran.{EndsSo, IsRunOf}
+use Rattle.lc_crew.specs.Ran.{AreAllEnded, AreNumberedFrom, EndsSo, IsRunOf}
 use Rattle.lc_crew.specs.declared.ended.Ended.{Ended}
 use Rattle.lc_crew.specs.declared.plan.Ran.{Ran}
 
@@ -30,6 +28,11 @@ all-of P (x ∷ xs) f = by (f 0 (omega arith)) (all-of P xs (λ j below. f (suc 
     by first rest zero d h = first
     by first rest (suc k) d h = rest k d (omega (arith, h))
 
+-- one end more, of the next client
+pub numbered-more : (c : ℕ) (ends : List Ended) (e : Ended) → AreNumberedFrom c ends → e.client ≡ c + length ends → AreNumberedFrom c (ends ++ e ∷ [])
+numbered-more c [] e are next = (omega (arith, next), tt)
+numbered-more c (f ∷ ends) e are next = (are.0, numbered-more (suc c) ends e are.1 (omega (arith, next)))
+
 module _ {J : Type 0} where
   -- one seat more with its end
   pub end-more : (seats : List (Seat J)) (ends : List Ended) (s : Seat J) (e : Ended) → AreEndsOf seats ends → IsEndOf s e → AreEndsOf (seats ++ s ∷ []) (ends ++ e ∷ [])
@@ -38,15 +41,8 @@ module _ {J : Type 0} where
   end-more [] (f ∷ ends) s e are is = absurd are
   end-more (t ∷ seats) [] s e are is = absurd are
 
-  -- an end is there where its seat is
-  pub ends-there : (seats : List (Seat J)) (ends : List Ended) (c : ℕ) → AreEndsOf seats ends → list_any (λ (e : Ended). e.client == c) ends ≡ has_seat c seats
-  ends-there [] [] c are = refl
-  ends-there (s ∷ seats) (e ∷ ends) c are = ap₂ ◌||◌ (ap (λ n. n == c) are.0.client) (ends-there seats ends c are.1)
-  ends-there [] (f ∷ ends) c are = absurd are
-  ends-there (s ∷ seats) [] c are = absurd are
-
   -- where seats have their clients' labels, ends fit these
-  pub ends-fit : (labels : List Label) (seats : List (Seat J)) (ends : List Ended) → AreEndsOf seats ends → All (HasOwn labels) seats → All (EndsSo labels) ends
+  ends-fit : (labels : List Label) (seats : List (Seat J)) (ends : List Ended) → AreEndsOf seats ends → All (HasOwn labels) seats → All (EndsSo labels) ends
   ends-fit labels [] [] are own = λ k d h. absurd (omega (arith, h))
   ends-fit labels (s ∷ seats) (e ∷ ends) are own = by (ends-fit labels seats ends are.1 (λ k d h. own (suc k) d (omega (arith, h))))
     where
@@ -63,14 +59,14 @@ module _ {J : Type 0} where
   pub ended : (D : Development) (n : ℕ) (ran : Ran) (seats : List (Seat J)) → ∥ ((w : World) × IsRun D n (labels_of ran.log.labels.items) w) ∥₁
       → events_in ran.log.history ≡ history (labels_of ran.log.labels.items) → entries_shown ran.log.order.items ≡ order (labels_of ran.log.labels.items)
       → ∥ Linearizes (text_step D.specification.operations) (start_of D.specification.columns) (events_in ran.log.history) (entries_shown ran.log.order.items) ∥₁
-      → All (HasOwn (labels_of ran.log.labels.items)) seats → AreAllThere n seats → AreEndsOf seats ran.ends.items → IsRunOf D n ran
-  ended D n ran seats run its_history its_order linearizes own there ends = record {
+      → All (HasOwn (labels_of ran.log.labels.items)) seats → AreAllEnded n ran.ends.items → AreEndsOf seats ran.ends.items → IsRunOf D n ran
+  ended D n ran seats run its_history its_order linearizes own all ends = record {
     ordered = record {
       run = run;
       linearizes = subst (λ h. ∥ Linearizes (text_step D.specification.operations) (start_of D.specification.columns) h (order labels) ∥₁) its_history
           (subst (λ o. ∥ Linearizes (text_step D.specification.operations) (start_of D.specification.columns) (events_in ran.log.history) o ∥₁) its_order linearizes);
       each = ends-fit labels seats ran.ends.items ends own;
-      all = λ c below. ends-there seats ran.ends.items c ends ∙ there c below;
+      all = all;
     };
     events = its_history;
     entries = its_order;

@@ -1,3 +1,4 @@
 mod Unfinished
 mod Scripts
 mod Ends
+mod Crossing

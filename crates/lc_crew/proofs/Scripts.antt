@@ -1,6 +1,6 @@
 -- Calls of scripts, one step after another.
-use Rattle.std.proofs.Common.{◌≡◌, ℕ, ◌+◌, ◌<◌, List, ◌∷◌, Option, Some, None, drop, get_or, length, map, refl, sym, ap, subst, ◌∙◌, inl, inr}
-use Rattle.std.proofs.lemmas.List.{drop_more}
+use Rattle.std.proofs.Common.{◌≡◌, ℕ, ◌+◌, ◌<◌, ◌≤◌, List, ◌∷◌, Option, Some, None, drop, get_or, length, map, refl, sym, ap, subst, ◌∙◌, inl, inr}
+use Rattle.std.proofs.lemmas.List.{drop_all, drop_more}
 use Rattle.lc_plan.specs.Plans as S
 use Rattle.lc_plan.specs.View.{calls_of}
 use Rattle.lc_plan.specs.declared.plan.Calls.{Calls}
@@ -35,3 +35,8 @@ gone-on seen items i x halt c d before mid same below is never client made end a
     subst (λ its. HasPlayed end (map calls_of (drop i its)) c before after) same
     (subst (λ ks. HasPlayed end (map calls_of ks) c before after) (sym (drop_more seen i x below ∙ ap (λ y. y ∷ drop (i + 1) seen) (sym is)))
     (step-first end (calls_of x) (map calls_of (drop (i + 1) seen)) c before mid after all behind))
+
+-- behind the last step nothing is left
+pub all-played : (seen items : List Calls) (i : ℕ) (c : ℕ) (now : List Label) → seen ≡ items → length seen ≤ i → HasPlayed None (map calls_of (drop i items)) c now now
+all-played seen items i c now same past =
+    subst (λ its. HasPlayed None (map calls_of (drop i its)) c now now) same (subst (λ ks. HasPlayed None (map calls_of ks) c now now) (sym (drop_all i seen past)) refl)

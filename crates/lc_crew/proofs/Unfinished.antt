@@ -1,20 +1,18 @@
 -- Whether a call is unfinished behind what calls leave.
-use Rattle.std.proofs.Common.{◌≡◌, ℕ, suc, ◌+◌, ◌-◌, Bool, true, false, not, List, [], ◌∷◌, ◌++◌, ℤ, Some, None, length, refl, sym, ap, subst, ◌∙◌, arith, append_assoc}
+use Rattle.std.proofs.Common.{◌≡◌, ℕ, suc, ◌+◌, ◌-◌, Bool, true, false, not, List, [], ◌∷◌, ◌++◌, ℤ, Option, Some, None, length, refl, sym, ap, subst, ◌∙◌, arith, append_assoc}
 use Rattle.std.specs.Option.{option_map_or}
 use Rattle.std.proofs.lemmas.List.{append-nil, length-append}
 use Rattle.lc_hist.proofs.Tables.{slice_get-last}
 use Rattle.lc_term.specs.Lists.{Every}
 use Rattle.lc_machine.specs.Step.{Event, Invoked}
 use Rattle.lc_run.specs.Labels.{goes_on, is_unfinished, IsMoveBy}
-use Rattle.lc_run.specs.Running.{IsCalled, IsLeft}
-use Rattle.lc_run.specs.declared.fault.RunFault.{RunFault}
+use Rattle.lc_run.specs.Running.{IsCalled}
 use Rattle.lc_run.specs.declared.runner.Called.{Called}
 use Rattle.lc_run.specs.declared.runner.Called.TheVariants as called
 use Rattle.lc_sound.specs.Instrumented.{Label}
 use Rattle.lc_crew.specs.Halts.{fits}
-use Rattle.lc_crew.specs.Playing.{HasReturned, HaveReturned, HasMadeOne, IsHaltAt, halt_behind}
+use Rattle.lc_crew.specs.Playing.{HasReturned, HaveReturned, HasMadeOne, halt_behind}
 use Rattle.lc_crew.specs.declared.halt.Halt.{Halt}
-use Rattle.lc_crew.specs.declared.halt.Halt.TheVariants.{Spent, Overflow, Full}
 
 -- behind a label a call is unfinished as the label says
 last-goes : (before : List Label) (l : Label) → is_unfinished (before ++ l ∷ []) ≡ goes_on l.what
@@ -44,13 +42,6 @@ pub called-made : (done : Called) (turns op : ℕ) (ns : List ℤ) (c : ℕ) (be
     HasMadeOne (halt_behind done) turns (Invoked op ns) c before after × (fits (halt_behind done) (is_unfinished after) ≡ true)
 called-made (called.Returned numbers) turns op ns c before after is = ((numbers, is), ap not (returned-fits turns (Invoked op ns) c before after (numbers, is)))
 called-made called.TurnsSpent turns op ns c before after is = (is, spent-fits turns op ns c before after is)
-
--- a call that could not go on
-pub one-left : (fault : RunFault) (halt : Halt) (turns : ℕ) (call : Event) (c : ℕ) (before after : List Label) → IsHaltAt fault halt → IsLeft turns call c before after →
-    HasMadeOne (Some halt) turns call c before after × (fits (Some halt) (is_unfinished after) ≡ true)
-one-left fault Spent turns call c before after is left = absurd is
-one-left fault Overflow turns call c before after is left = (left, refl)
-one-left fault Full turns call c before after is left = (left, refl)
 
 -- a client that is not halted is in no call
 in-none : (unfinished : Bool) → fits None unfinished ≡ true → unfinished ≡ false

@@ -1,6 +1,5 @@
 -- What comes of a plan.
-use Rattle.std.specs.Prelude.{◌≡◌, ℕ, ◌<◌, ◌==◌, true, List, All}
-use Rattle.std.specs.List.{list_any}
+use Rattle.std.specs.Prelude.{◌≡◌, ℕ, suc, true, List, [], ◌∷◌, All, length}
 use Rattle.lc_hist.specs.History.{Linearizes}
 use Rattle.lc_hist.specs.Histories.{events_in}
 use Rattle.lc_machine.specs.World.{World}
@@ -19,9 +18,14 @@ use Rattle.lc_crew.specs.declared.plan.Ran.{Ran}
 abbrev pub EndsSo : List Label → Ended → Type 0
 EndsSo labels e = fits e.halt (is_unfinished (labels_by e.client labels)) ≡ true
 
--- for each of so many clients it is said how it came to its end
+-- their clients are numbered from this one on
+abbrev pub AreNumberedFrom : ℕ → List Ended → Type 0
+AreNumberedFrom c [] = Unit {0}
+AreNumberedFrom c (e ∷ es) = (e.client ≡ c) × AreNumberedFrom (suc c) es
+
+-- of each of so many clients it is said once how it came to its end, by their numbers
 abbrev pub AreAllEnded : ℕ → List Ended → Type 0
-AreAllEnded n ends = (c : ℕ) → c < n → list_any (λ e. e.client == c) ends ≡ true
+AreAllEnded n ends = (length ends ≡ n) × AreNumberedFrom 0 ends
 
 -- the labels are a run of the development by so many clients, the order of the run linearizes its history, and its clients came to
 -- these ends

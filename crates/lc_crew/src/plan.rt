@@ -5,7 +5,7 @@ ghost use Rattle.lc_check.specs.VerdictView.{development_in};
 ghost use Rattle.lc_run.specs.Locked.{labels_made};
 ghost use Rattle.lc_run.specs.Running.{clients_of, development_of};
 ghost use Rattle.lc_crew.specs.Members.{AreEndsOf};
-ghost use Rattle.lc_crew.specs.Ran.{IsRunOf};
+ghost use Rattle.lc_crew.specs.Ran.{AreAllEnded, IsRunOf};
 
 use crate::ended::Ended;
 use crate::member::Member;
@@ -45,18 +45,30 @@ struct Parted<J: Ledger> {
     ends: Vec<Ended>,
 }
 
-// Each client's seat, and its end.
-fn parts_of<J: Ledger>(alloc: Global, crew: Vec<Option<Member<J>>>) -> Result<Parted<J>, Stop>
-    ensures { IfOk result (λ parted. AreEndsOf parted.seats.items parted.ends.items) }
+// Each client's seat, and its end, where so many clients are there, each at its place.
+fn parts_of<J: Ledger>(
+    alloc: Global,
+    crew: Vec<Option<Member<J>>>,
+    clients: u32,
+) -> Result<Parted<J>, Stop>
+    ensures ends { IfOk result (λ parted. AreEndsOf parted.seats.items parted.ends.items) }
+    ensures all { IfOk result (λ parted. AreAllEnded clients parted.ends.items) }
 {
     let mut seats = Vec::new(alloc);
     let mut ends = Vec::new(alloc);
     for member in crew {
-        if let Some(member) = member {
-            let (seat, ended) = member.into_parts();
-            seats.push(seat)?;
-            ends.push(ended)?;
+        let Some(member) = member else {
+            return Err(Stop::Mismatch);
+        };
+        let (seat, ended) = member.into_parts();
+        if ended.client as usize != ends.len() {
+            return Err(Stop::Mismatch);
         }
+        seats.push(seat)?;
+        ends.push(ended)?;
+    }
+    if ends.len() != clients as usize {
+        return Err(Stop::Mismatch);
     }
     Ok(Parted { seats, ends })
 }
@@ -69,7 +81,7 @@ fn finished<J: Ledger>(
 ) -> Result<Ran, Stop>
     ensures { IfOk result (IsRunOf (development_of runner) (clients_of runner)) }
 {
-    let parted = parts_of(alloc, crew)?;
+    let parted = parts_of(alloc, crew, runner.clients())?;
     let Parted { seats, ends } = parted;
     match runner.finish(seats) {
         Ok(log) => Ok(Ran { log, ends }),

@@ -1,7 +1,7 @@
-use Rattle.std.proofs.Common.{Some, ◌∙◌}
+use Rattle.std.proofs.Common.{None, Some, ◌∙◌}
 use Rattle.lc_run.specs.Labels.{is_unfinished}
 use Rattle.lc_run.specs.Locked.{client_in, labels_made}
-use Rattle.lc_crew.proofs.Scripts.{gone-on, halted}
+use Rattle.lc_crew.proofs.Scripts.{all-played, gone-on, halted}
 use Rattle.lc_crew.proofs.Unfinished.{none-fit}
 use Rattle.lc_crew.proofs.member.play.Goals as goal
 
@@ -28,3 +28,9 @@ loop-calls-preserved g c =
           (gone-on c.deref-calls-items.result.now c.args.script.now.calls.items c.loop-calls.calls-index c.calls-item.result halt (client_in c.args.seat.now) (client_in c.loop-calls.seat) now next c.deref-calls-items.ensures.value
           c.loop-calls-test.true c.calls-item.is c.in_default.not-Some so.0 made.made end after rest),
     )
+
+pub returns-clause-played : goal.returns-clause-played
+returns-clause-played g c =
+    let so = c.loop-calls.invariant in
+    let now = labels_made c.loop-calls.seat in
+    so.2 None now (all-played c.deref-calls-items.result.now c.args.script.now.calls.items c.loop-calls.calls-index (client_in c.args.seat.now) now c.deref-calls-items.ensures.value c.loop-calls-test.false)
