@@ -1,9 +1,8 @@
 //! Whether a goal fails in a state.
-ghost use Rattle.std.specs.Prelude.{◌≡◌, IsTrue};
-ghost use Rattle.lc_term.specs.Meaning.{EachHolds, Holds, outside};
-ghost use Rattle.lc_term.specs.State.{state_of, env_of};
+ghost use Rattle.std.specs.Prelude.{◌≡◌, ◌↔◌, IsTrue};
+ghost use Rattle.lc_term.specs.Lists.{Every};
 ghost use Rattle.lc_term.specs.View.{formula_of, formulas_of};
-ghost use Rattle.lc_failing.specs.Failing.{Fails};
+ghost use Rattle.lc_failing.specs.Failing.{Fails, FailsButForQuantifiers, IsRefuted, IsSeen, IsSeenIfGround};
 
 use crate::known::can_be_evaluated;
 use lc_term::{Env, Formula, State, eval, is_ground_of_quantifiers};
@@ -15,12 +14,13 @@ pub enum Failing {
     Fails,
     /// So it is but for the hypotheses with quantifiers, which are not evaluated.
     FailsButForQuantifiers,
+    /// Something else was evaluated, or could not be.
     Unknown,
 }
 
 /// Whether a formula is evaluated, and holds.
-fn holds(formula: &Formula, state: &State, env: &Env) -> bool
-    ensures { IsTrue result → Holds (state_of state.now) (env_of env.now) outside (formula_of formula.now) }
+fn is_seen(formula: &Formula, state: &State, env: &Env) -> bool
+    ensures { IsTrue result ↔ IsSeen state.now env.now (formula_of formula.now) }
 {
     if !can_be_evaluated(formula, state, env) {
         return false;
@@ -32,8 +32,8 @@ fn holds(formula: &Formula, state: &State, env: &Env) -> bool
 }
 
 /// Whether a formula is evaluated, and does not hold.
-fn does_not_hold(formula: &Formula, state: &State, env: &Env) -> bool
-    ensures { IsTrue result → Holds (state_of state.now) (env_of env.now) outside (formula_of formula.now) → ⊥ }
+fn is_refuted(formula: &Formula, state: &State, env: &Env) -> bool
+    ensures { IsTrue result ↔ IsRefuted state.now env.now (formula_of formula.now) }
 {
     if !can_be_evaluated(formula, state, env) {
         return false;
@@ -45,21 +45,30 @@ fn does_not_hold(formula: &Formula, state: &State, env: &Env) -> bool
 }
 
 /// Whether each of these is evaluated, and holds.
-fn each_holds(formulas: &[Formula], state: &State, env: &Env) -> bool
-    ensures { IsTrue result → EachHolds (state_of state.now) (env_of env.now) (formulas_of formulas.now) }
+fn are_seen(formulas: &[Formula], state: &State, env: &Env) -> bool
+    ensures { IsTrue result ↔ Every (IsSeen state.now env.now) (formulas_of formulas.now) }
 {
     for formula in formulas {
-        if !holds(formula, state, env) {
+        if !is_seen(formula, state, env) {
             return false;
         }
     }
     true
 }
 
-/// Whether each of these that has no quantifier is evaluated, and holds.
-fn each_ground_holds(formulas: &[Formula], state: &State, env: &Env) -> bool {
+/// Whether a formula is evaluated and holds, if it has no quantifier.
+fn is_seen_if_ground(formula: &Formula, state: &State, env: &Env) -> bool
+    ensures { IsTrue result ↔ IsSeenIfGround state.now env.now (formula_of formula.now) }
+{
+    !is_ground_of_quantifiers(formula) || is_seen(formula, state, env)
+}
+
+/// Whether each of these is evaluated and holds that has no quantifier.
+fn are_seen_if_ground(formulas: &[Formula], state: &State, env: &Env) -> bool
+    ensures { IsTrue result ↔ Every (IsSeenIfGround state.now env.now) (formulas_of formulas.now) }
+{
     for formula in formulas {
-        if is_ground_of_quantifiers(formula) && !holds(formula, state, env) {
+        if !is_seen_if_ground(formula, state, env) {
             return false;
         }
     }
@@ -68,15 +77,17 @@ fn each_ground_holds(formulas: &[Formula], state: &State, env: &Env) -> bool {
 
 /// Whether a goal fails in a state: its hypotheses and the goal are evaluated there.
 pub fn failing_in(hypotheses: &[Formula], goal: &Formula, state: &State, env: &Env) -> Failing
-    ensures { result ≡ Failing.Fails → Fails (state_of state.now) (env_of env.now) (formulas_of hypotheses.now) (formula_of goal.now) }
+    ensures fails { result ≡ Failing.Fails ↔ Fails state.now env.now (formulas_of hypotheses.now) (formula_of goal.now) }
+    ensures but { result ≡ Failing.FailsButForQuantifiers → FailsButForQuantifiers state.now env.now (formulas_of hypotheses.now) (formula_of goal.now) }
+    ensures unknown { FailsButForQuantifiers state.now env.now (formulas_of hypotheses.now) (formula_of goal.now) → result ≡ Failing.Unknown → ⊥ }
 {
-    if !does_not_hold(goal, state, env) {
+    if !is_refuted(goal, state, env) {
         return Failing::Unknown;
     }
-    if each_holds(hypotheses, state, env) {
+    if are_seen(hypotheses, state, env) {
         return Failing::Fails;
     }
-    if each_ground_holds(hypotheses, state, env) {
+    if are_seen_if_ground(hypotheses, state, env) {
         return Failing::FailsButForQuantifiers;
     }
     Failing::Unknown

@@ -1,5 +1,5 @@
 //! Whether a formula can be evaluated in a state.
-ghost use Rattle.std.specs.Prelude.{◌≡◌, IsTrue, true};
+ghost use Rattle.std.specs.Prelude.{◌≡◌, ◌↔◌, IsTrue, true};
 ghost use Rattle.lc_term.specs.Places.{known, term_passes, column_passes, is_known, are_known};
 ghost use Rattle.lc_term.specs.State.{column_count, variable_count};
 ghost use Rattle.lc_term.specs.Syntax.{formulas};
@@ -83,7 +83,7 @@ fn are_known(parts: &[Formula], columns: usize, variables: usize) -> bool
 
 /// Whether a formula has no quantifier, and knows no other columns and variables than those of a state and an environment.
 pub(crate) fn can_be_evaluated(formula: &Formula, state: &State, env: &Env) -> bool
-    ensures { IsTrue result → IsTrue (is_ground (formula_of formula.now)) × IsTrue (is_known (column_count state.now) (variable_count env.now) (formula_of formula.now)) }
+    ensures { IsTrue result ↔ IsTrue (is_ground (formula_of formula.now)) × IsTrue (is_known (column_count state.now) (variable_count env.now) (formula_of formula.now)) }
 {
     is_ground_of_quantifiers(formula)
         && formula_is_known(formula, state.column_count(), env.values.len())

@@ -1,9 +1,7 @@
 //! Why a goal does not follow: a state in which its hypotheses hold and it does not.
 #![tactic(auto)]
 
-mod described;
 mod failing;
 mod known;
 
-pub use described::described;
 pub use failing::{Failing, failing_in};
