@@ -70,7 +70,7 @@ fn on_for(ons: &[On], kind: EdgeKind) -> Option<&On>
 }
 
 /// What stands at the edge of this kind of a point, if anything does.
-pub(crate) fn on_at(development: &Development, point: PointId, kind: EdgeKind) -> Option<&On>
+pub fn on_at(development: &Development, point: PointId, kind: EdgeKind) -> Option<&On>
     ensures { option_map (λ o. on_of o.now) result ≡ on_at (development_shown development.now) point.0 kind }
 {
     match development.parts().outlines.get(point.0 as usize) {

@@ -11,5 +11,5 @@ mod texts;
 
 pub use lines::ConditionLines;
 pub use statement::push_statement;
-pub use text::condition_text;
+pub use text::{condition_text, kind_word};
 pub use texts::{FormulaTexts, no_texts};

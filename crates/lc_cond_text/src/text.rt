@@ -33,7 +33,8 @@ fn duty_word(owing: Owing) -> &'static str
     }
 }
 
-fn kind_word(kind: Kind) -> &'static str
+/// The word of a kind.
+pub fn kind_word(kind: Kind) -> &'static str
     ensures { result.now ≡ kind_word (kind_of kind) }
 {
     match kind {

@@ -24,3 +24,4 @@ pub use hypotheses::Hypotheses;
 pub use proof::{Multiple, Proof, Step};
 pub use proving::prove;
 pub use reason::{Flaw, Reason};
+pub use rules::{entered_cell, entered_pair};

@@ -186,7 +186,7 @@ pub(crate) fn cut(
 
 /// A column expression and an index, entered.
 #[tactic(auto, using(lc_table::proofs::Later::column_later, lc_table::proofs::Later::kept_on, lc_table::proofs::Later::keeps_itself))]
-fn entered_cell(
+pub fn entered_cell(
     terms: &mut Terms,
     column: &ColExpr,
     index: &Term,
@@ -202,7 +202,7 @@ fn entered_cell(
 
 /// Two terms, entered.
 #[tactic(auto, using(lc_table::proofs::Later::term_later, lc_table::proofs::Later::kept_on, lc_table::proofs::Later::keeps_itself))]
-fn entered_pair(
+pub fn entered_pair(
     terms: &mut Terms,
     first: &Term,
     second: &Term,

@@ -5,10 +5,10 @@ ghost use Rattle.lc_cond_text.specs.ConditionText.{condition_text};
 ghost use Rattle.lc_outline.specs.DevelopmentView.{development_shown};
 ghost use Rattle.lc_listing.specs.Chosen.{chosen_count, chosen_from, chosen_text, is_asked, is_chosen};
 
-use crate::words::{kind_word, point_word};
+use crate::words::point_word;
 use lc_base::{OutOfMemory, write_line};
 use lc_cond::{Condition, ConditionStream};
-use lc_cond_text::condition_text;
+use lc_cond_text::{condition_text, kind_word};
 use lc_outline::Development;
 use lc_table::Terms;
 use std::alloc::Global;

@@ -9,41 +9,10 @@ use lc_array::{
     affine_axiom as affine_number, same_index_axiom as same_number, written_axiom as written_number,
 };
 use lc_base::OutOfMemory;
+use lc_kernel::{entered_cell, entered_pair};
 use lc_table::{ColExprId, FormulaId, TermId, Terms};
 use lc_term::{ColExpr, Formula, Term};
 use std::alloc::Global;
-
-/// A column expression and an index, entered.
-#[tactic(auto, using(lc_table::proofs::Later::column_later, lc_table::proofs::Later::kept_on, lc_table::proofs::Later::keeps_itself))]
-fn entered_cell(
-    terms: &mut Terms,
-    column: &ColExpr,
-    index: &Term,
-) -> Result<(ColExprId, TermId), OutOfMemory>
-    ensures column { IfOk result (λ p. HasColumn terms.new p.0 (column_of column.now)) }
-    ensures index { IfOk result (λ p. HasTerm terms.new p.1 (term_of index.now)) }
-    ensures kept { Keeps terms.old terms.new }
-{
-    let column = terms.enter_column(column)?;
-    let index = terms.enter_term(index)?;
-    Ok((column, index))
-}
-
-/// Two terms, entered.
-#[tactic(auto, using(lc_table::proofs::Later::term_later, lc_table::proofs::Later::kept_on, lc_table::proofs::Later::keeps_itself))]
-fn entered_pair(
-    terms: &mut Terms,
-    first: &Term,
-    second: &Term,
-) -> Result<(TermId, TermId), OutOfMemory>
-    ensures first { IfOk result (λ p. HasTerm terms.new p.0 (term_of first.now)) }
-    ensures second { IfOk result (λ p. HasTerm terms.new p.1 (term_of second.now)) }
-    ensures kept { Keeps terms.old terms.new }
-{
-    let first = terms.enter_term(first)?;
-    let second = terms.enter_term(second)?;
-    Ok((first, second))
-}
 
 #[tactic(auto, using(lc_table::proofs::Later::term_is, lc_table::proofs::Later::term_later, lc_table::proofs::Later::column_is, lc_table::proofs::Later::column_later, lc_table::proofs::Later::is_term_later, lc_table::proofs::Later::is_column_later, lc_table::proofs::Later::kept_on, lc_table::proofs::Later::keeps_itself))]
 fn entered_written(

@@ -8,11 +8,12 @@ ghost use Rattle.lc_object.specs.View.{operation_of};
 ghost use Rattle.lc_object.specs.WellFormed.{variable_count};
 ghost use Rattle.lc_machine.specs.MayRun.{variables_at};
 ghost use Rattle.lc_machine.specs.View.{client_of, clients_of};
-ghost use Rattle.lc_outline.specs.Development.{same_kind, on_for, on_at, riders_in, riders_at, first_system};
+ghost use Rattle.lc_outline.specs.Development.{riders_in, riders_at, first_system};
 ghost use Rattle.lc_outline.specs.DevelopmentView.{development_shown, on_of};
 
 use lc_action::SystemColumns;
 use lc_base::{ColId, OpId, OutOfMemory, PointId};
+use lc_cond::on_at;
 use lc_machine::Client;
 use lc_object::{EdgeKind, Operation};
 use lc_outline::{Development, On};
@@ -44,39 +45,6 @@ pub(crate) fn system_columns(development: &Development) -> SystemColumns
     match SystemColumns::new(ColId(declared_columns(development) as u32)) {
         Some(system) => system,
         None => unreachable!(),
-    }
-}
-
-// Whether the kinds are the same.
-fn is_same_kind(left: EdgeKind, right: EdgeKind) -> bool
-    ensures { result ≡ same_kind left right }
-{
-    match left {
-        EdgeKind::Next => matches!(right, EdgeKind::Next),
-        EdgeKind::Then => matches!(right, EdgeKind::Then),
-        EdgeKind::Else => matches!(right, EdgeKind::Else),
-    }
-}
-
-// What stands at an edge of this kind, if anything does.
-fn on_for(ons: &[On], kind: EdgeKind) -> Option<&On>
-    ensures { option_map (λ o. on_of o.now) result ≡ on_for (map on_of ons.now) kind }
-{
-    for on in ons {
-        if is_same_kind(on.edge, kind) {
-            return Some(on);
-        }
-    }
-    None
-}
-
-// What stands at the edge of this kind of a point, if anything does.
-fn on_at(development: &Development, point: PointId, kind: EdgeKind) -> Option<&On>
-    ensures { option_map (λ o. on_of o.now) result ≡ on_at (development_shown development.now) point.0 kind }
-{
-    match development.parts().outlines.get(point.0 as usize) {
-        None => None,
-        Some(outline) => on_for(&outline.ons, kind),
     }
 }
 

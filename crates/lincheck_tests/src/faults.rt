@@ -14,6 +14,8 @@ const COUNTER: &str =
 
 const FORMULA: [&str; 3] = ["lincheck", "formula", "a"];
 
+const PROVE: [&str; 3] = ["lincheck", "prove", "a"];
+
 const JUDGE: [&str; 4] = ["lincheck", "judge", "a", "b"];
 
 /// What `formula` answers to so many spaces.
@@ -61,9 +63,11 @@ fn failed_reads_are_told<R: Threads + Wait + Sync>(
     let in_the_middle = check_file(rt, alloc, File::new("(formula (", End::Fails))?;
     let at_the_end = check_file(rt, alloc, File::new(FIRST, End::Fails))?;
     let for_ever = check_file(rt, alloc, File::new(FIRST, End::IsInterrupted))?;
-    Ok(in_the_middle.is(3, "", failed)
-        & at_the_end.is(3, "", failed)
-        & for_ever.is(3, "", "lincheck: cannot read a\n"))
+    Ok(
+        in_the_middle.is(3, "", failed)
+            & at_the_end.is(3, "", failed)
+            & for_ever.is(3, "", "lincheck: cannot read a\n"),
+    )
 }
 
 #[test]
@@ -112,14 +116,23 @@ fn full_output_is_told<R: Threads + Wait + Sync>(
     rt: &R,
     alloc: Global,
     words: &[&str],
+    bytes: &[u8],
 ) -> Result<bool, AllocError> {
     let words = words_of(alloc, words)?;
-    let mut files = Everywhere {
-        bytes: FIRST.as_bytes(),
-    };
+    let mut files = Everywhere { bytes };
     let mut err = Vec::new(alloc);
     let status = execute(rt, alloc, words.as_slice(), &mut files, &mut Full, &mut err);
     Ok((status == 3) & (err.as_slice() == b"lincheck: cannot write\n".as_slice()))
+}
+
+/// A certificate that is found for an object of the library is not taken either.
+fn full_output_ends_prove<R: Threads + Wait + Sync>(
+    rt: &R,
+    alloc: Global,
+) -> Result<bool, AllocError> {
+    let words = ["lincheck", "library", "counter"];
+    let counter = run(rt, alloc, words.as_slice(), &mut Folder::of(None))?;
+    full_output_is_told(rt, alloc, PROVE.as_slice(), counter.out.as_slice())
 }
 
 /// A fault of standard error changes no status.
@@ -138,11 +151,12 @@ fn full_error_output_is_let_be<R: Threads + Wait + Sync>(
 
 #[test]
 fn streams_that_are_full(rt: HostRuntime) -> Result<(), Fail> {
-    let answer = full_output_is_told(&rt, rt.alloc(), FORMULA.as_slice())?;
-    let help = full_output_is_told(&rt, rt.alloc(), ["lincheck", "--help"].as_slice())?;
+    let answer = full_output_is_told(&rt, rt.alloc(), FORMULA.as_slice(), FIRST.as_bytes())?;
+    let help = full_output_is_told(&rt, rt.alloc(), ["lincheck", "--help"].as_slice(), b"")?;
+    let proof = full_output_ends_prove(&rt, rt.alloc())?;
     let missing = full_error_output_is_let_be(&rt, rt.alloc(), FORMULA.as_slice(), 3)?;
     let no_command = full_error_output_is_let_be(&rt, rt.alloc(), ["lincheck"].as_slice(), 2)?;
-    assert!(rt; answer & help & missing & no_command);
+    assert!(rt; answer & help & proof & missing & no_command);
     Ok(())
 }
 
