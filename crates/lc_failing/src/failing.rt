@@ -8,7 +8,7 @@ use crate::known::can_be_evaluated;
 use lc_term::{Env, Formula, State, eval, is_ground_of_quantifiers};
 
 /// What is known of a goal in a state.
-#[derive(Clone, Copy, PartialEq, Eq)]
+#[derive(Clone, Copy)]
 pub enum Failing {
     /// The hypotheses hold and the goal does not.
     Fails,
