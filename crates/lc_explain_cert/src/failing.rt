@@ -3,31 +3,35 @@ ghost use Rattle.lc_table.specs.Tables.{IsFormula, AreFormulas};
 
 use crate::names::Names;
 use lc_base::OutOfMemory;
-use lc_failing::{Failing, described, failing_in};
+use lc_failing::{Failing, Numbered, Situation, failing_in, situation_of, words_of};
 use lc_kernel::Goal;
 use lc_search::{Counted, CounterModel, End, search};
 use lc_table::Terms;
+use lc_term::{ColExpr, Term};
 use lc_text::write_term;
 use std::alloc::Global;
 
 /// How many steps are tried.
 const BUDGET: u64 = 1_000_000;
 
-/// What is said of the numbers.
-fn title_of(failing: Failing) -> &'static str {
-    match failing {
-        Failing::Fails => "  in this state the hypotheses hold and the goal does not:\n",
-        Failing::FailsButForQuantifiers => {
-            "  in this state the goal does not hold, and the hypotheses without quantifiers do; the others are not evaluated:\n"
-        }
-        Failing::Unknown => {
-            "  the search ended with these numbers, and what holds where they stand is not evaluated:\n"
+/// The numbers that are whole and fit 64 bits.
+fn whole_numbers(alloc: Global, numbers: &[Counted]) -> Result<Vec<Numbered>, OutOfMemory> {
+    let mut whole = Vec::new(alloc);
+    for counted in numbers {
+        if let (1, Ok(number)) = (counted.denominator, i64::try_from(counted.numerator)) {
+            let term = counted.term.try_clone(alloc)?;
+            whole.push(Numbered { term, number })?;
         }
     }
+    Ok(whole)
 }
 
-/// The number of a term, in a line.
-fn push_number(text: &mut String, names: &Names<'_>, counted: &Counted) -> Result<(), OutOfMemory> {
+/// A term and its number, as the search told it, in a line.
+fn push_counted(
+    text: &mut String,
+    names: &Names<'_>,
+    counted: &Counted,
+) -> Result<(), OutOfMemory> {
     let (numerator, denominator) = (counted.numerator, counted.denominator);
     text.push_str("    ")?;
     write_term(text, names, 0, &counted.term)?;
@@ -39,7 +43,42 @@ fn push_number(text: &mut String, names: &Names<'_>, counted: &Counted) -> Resul
     Ok(())
 }
 
-/// The numbers of a model of a goal, and whether the goal fails there.
+/// A term and its number, in a line.
+fn push_number(
+    text: &mut String,
+    names: &Names<'_>,
+    term: &Term,
+    number: i64,
+) -> Result<(), OutOfMemory> {
+    text.push_str("    ")?;
+    write_term(text, names, 0, term)?;
+    writeln!(text, " is {number}")?;
+    Ok(())
+}
+
+/// The numbers of the variables of a goal, so many, and of the cells that are not 0 or are read.
+fn push_situation(
+    alloc: Global,
+    text: &mut String,
+    names: &Names<'_>,
+    variables: u32,
+    situation: &Situation,
+) -> Result<(), OutOfMemory> {
+    for variable in 0..variables {
+        if let Some(number) = situation.env.values.get(variable as usize) {
+            push_number(text, names, &Term::Variable(variable), *number)?;
+        }
+    }
+    for cell in &situation.cells {
+        let index = Box::new(alloc, Term::Number(cell.index))?;
+        let read = Term::Read(ColExpr::Base(cell.column), index);
+        push_number(text, names, &read, cell.value)?;
+    }
+    text.push_str("    each other cell is 0\n")?;
+    Ok(())
+}
+
+/// The numbers of a model of a goal: as a state, where the goal fails there, and else as the search told them.
 fn model_text(
     alloc: Global,
     names: &Names<'_>,
@@ -52,13 +91,20 @@ fn model_text(
 {
     let hypotheses = terms.formulas(alloc, goal.hypotheses.as_slice())?;
     let claim = terms.formula(alloc, goal.goal)?;
-    let variables = goal.vars as usize;
-    let (state, env) = described(alloc, names.columns.len(), variables, &model.numbers)?;
-    let failing = failing_in(&hypotheses, &claim, &state, &env);
+    let numbers = whole_numbers(alloc, &model.numbers)?;
+    let situation = situation_of(alloc, names.columns.len(), goal.vars as usize, &numbers)?;
+    let failing = failing_in(&hypotheses, &claim, &situation.state, &situation.env);
     let mut text = String::new(alloc);
-    text.push_str(title_of(failing))?;
-    for counted in &model.numbers {
-        push_number(&mut text, names, counted)?;
+    writeln!(text, "  {}:", words_of(failing))?;
+    match failing {
+        Failing::Fails | Failing::FailsButForQuantifiers => {
+            push_situation(alloc, &mut text, names, goal.vars, &situation)?;
+        }
+        Failing::Unknown => {
+            for counted in &model.numbers {
+                push_counted(&mut text, names, counted)?;
+            }
+        }
     }
     Ok(text)
 }
