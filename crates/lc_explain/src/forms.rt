@@ -166,6 +166,7 @@ pub(crate) fn form_of(word: &str, outer: &str) -> Option<&'static str> {
         ("cut", "hints") => Some("(cut K F)"),
         ("proof", "formula") => Some("(proof P)"),
         ("proof", _) => Some("(proof K P)"),
+        (_, "phase") => Some("(CLIENT STEP ..)"),
         ("affine", _) if has_columns(outer) => column(word),
         _ => part_of_object(word)
             .or(instruction(word))
@@ -192,6 +193,7 @@ pub(crate) fn needs_of(word: &str) -> &'static str {
         "rd" => {
             ", of a column that may be read here; the code reads what is its own by load, cas and faa"
         }
+        "call" | "upto" => ", with as many NUMBER as the operation has arguments",
         _ => "",
     }
 }
@@ -209,7 +211,7 @@ pub(crate) fn noun_of(word: &str, outer: &str, part: usize) -> &'static str {
         ("load" | "cas" | "faa", 1) => "the array ",
         ("set", 1) if outer == "point" => "the name ",
         ("rd" | "set" | "store" | "written" | "same", 1) => "the column ",
-        ("body", 1) | ("lin-other" | "lin-other-by", 2) => "the operation ",
+        ("body" | "call", 1) | ("lin-other" | "lin-other-by" | "upto", 2) => "the operation ",
         ("lin-by" | "note-by", 1) | ("lin-other-by", 3) => "the choice ",
         ("load", 4) | ("cas", 5 | 6) | ("faa", 5) | ("set", 2) | ("if", 2 | 3) => "the point ",
         _ => "the name ",

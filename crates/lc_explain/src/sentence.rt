@@ -111,8 +111,11 @@ pub(crate) enum Sentence<'a> {
     UndeclaredInProof(&'a str),
     /// A name is reserved.
     Reserved(&'a str),
-    /// A name stands somewhere for the second time.
-    Twice(&'a str),
+    /// A name, or the number of a client, stands somewhere for the second time.
+    Twice {
+        noun: &'static str,
+        name: &'a str,
+    },
     /// The code reads this column.
     NotItsOwn(&'a str),
     /// A number is beyond its limit.
@@ -171,7 +174,9 @@ impl fmt::Display for Sentence<'_> {
                 "the name {name} is not declared: proofs and hints write the variables ?0, ?1, .."
             ),
             Sentence::Reserved(name) => write!(f, "the name {name} is reserved"),
-            Sentence::Twice(name) => write!(f, "the name {name} stands here for the second time"),
+            Sentence::Twice { noun, name } => {
+                write!(f, "the {noun} {name} stands here for the second time")
+            }
             Sentence::NotItsOwn(column) => write!(
                 f,
                 "the code reads a column that is not its own: {column}"

@@ -93,6 +93,7 @@ pub(crate) fn may_stand(word: &str, part: &str) -> bool {
         "RIDER" => is_rider(word),
         "INSTRUCTION" => is_instruction(word),
         "HINT" => matches!(word, "use" | "cut" | "by"),
+        "STEP" => matches!(word, "call" | "upto" | "times"),
         _ => head_of(part) == word,
     }
 }
@@ -110,6 +111,7 @@ pub(crate) fn note_of(word: &str, part: &str) -> &'static str {
         ("on", "(ACTION T ..)") => ", a declared action with as many T as it has parameters,",
         ("lin-by" | "note-by" | "lin-other-by", "T") => ", as many as the choice has parameters,",
         ("op", "REPLIES") => ", a number from 0 to 3,",
+        ("call" | "upto", "NUMBER") => ", as many as the operation has arguments,",
         ("op", "(branch ..)") => ", or of (choice ..) for all of them,",
         ("set", "COLUMN") => ", which is auxiliary,",
         ("when", "RIDER") => ", which is no `when`,",
@@ -138,6 +140,7 @@ pub(crate) fn legend_of(part: &str) -> &'static str {
         }
         "INSTRUCTION" => "; INSTRUCTION begins with load, store, cas, faa, set, if or return",
         "HINT" => "; HINT begins with use, cut or by",
+        "STEP" => "; STEP begins with call, upto or times",
         "EDGE" => "; EDGE is next, or of `cas` and `if` then or else",
         _ => "",
     }

@@ -166,10 +166,14 @@ impl<'a> Refused<'a> {
     fn repeated(&self) -> Sentence<'a> {
         let name = self.text();
         if is_reserved(name) {
-            Sentence::Reserved(name)
-        } else {
-            Sentence::Twice(name)
+            return Sentence::Reserved(name);
         }
+        let noun = if is_name(name.as_bytes()) {
+            "name"
+        } else {
+            "client"
+        };
+        Sentence::Twice { noun, name }
     }
 
     /// It reads a column that the code does not see.

@@ -146,7 +146,7 @@ pub fn certificate_explanation(
     let Some(condition) = condition_at(&terms, &part, number) else {
         return said(alloc, path, bytes, place, Sentence::Extra(number), None);
     };
-    let words = condition_words(alloc, development.parts(), condition)?;
+    let words = condition_words(alloc, development, condition)?;
     let flawed = Flawed::of(refusal);
     let lines = state_of(alloc, development, bytes, &terms, number, condition, flawed)?;
     let sentence = sentence_of(number, refusal, &words);
@@ -165,7 +165,7 @@ pub fn unfound_explanation(
     let Some(condition) = condition_at(&terms, &part, number) else {
         return Ok(None);
     };
-    let words = condition_words(alloc, development.parts(), condition)?;
+    let words = condition_words(alloc, development, condition)?;
     let names = Names::of_condition(alloc, development.parts(), condition)?;
     let lines = goal_text(alloc, &names, &terms, &condition.goal)?;
     let mut text = String::new(alloc);

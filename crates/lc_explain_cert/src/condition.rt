@@ -3,7 +3,7 @@ use crate::naming::{action_at_edge, action_name, conjunct_name, next_name, point
 use lc_base::OutOfMemory;
 use lc_cond::{Condition, Kind, Passage, Place, Which};
 use lc_naming::{column_name, edge_word};
-use lc_outline::Parts;
+use lc_outline::{Development, Parts};
 use lc_rider::Owing;
 use std::alloc::Global;
 
@@ -53,13 +53,14 @@ fn duty(owing: Owing) -> &'static str {
 /// What a condition asks.
 fn push_claim(
     text: &mut String,
-    parts: &Parts,
+    development: &Development,
     kind: Kind,
     place: &Place,
 ) -> Result<(), OutOfMemory> {
+    let parts = development.parts();
     let number = number_of(place.which);
     let column = column_of(parts, place.which);
-    let action = action_at_edge(parts, place);
+    let action = action_at_edge(development, place);
     match kind {
         Kind::Init => {
             push_conjunct(text, parts, place)?;
@@ -124,9 +125,10 @@ fn push_passage(text: &mut String, parts: &Parts, place: &Place) -> Result<(), O
 /// What a condition asks, and where.
 pub(crate) fn condition_words(
     alloc: Global,
-    parts: &Parts,
+    development: &Development,
     condition: &Condition,
 ) -> Result<String, OutOfMemory> {
+    let parts = development.parts();
     let place = &condition.place;
     let mut text = String::new(alloc);
     if let Some(point) = place.point {
@@ -137,6 +139,6 @@ pub(crate) fn condition_words(
     if !text.is_empty() {
         text.push_str(": ")?;
     }
-    push_claim(&mut text, parts, condition.kind, place)?;
+    push_claim(&mut text, development, condition.kind, place)?;
     Ok(text)
 }

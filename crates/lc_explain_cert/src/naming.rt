@@ -1,9 +1,8 @@
 //! The names by which conditions are told.
 use lc_base::PointId;
-use lc_cond::{Passage, Place};
-use lc_naming::edge_word;
+use lc_cond::{Passage, Place, on_at};
 use lc_object::{EdgeKind, Instr, Point};
-use lc_outline::Parts;
+use lc_outline::{Development, Parts};
 
 /// The point of a number.
 pub(crate) fn point_at(parts: &Parts, point: PointId) -> Option<&Point> {
@@ -61,18 +60,13 @@ pub(crate) fn next_name<'a>(parts: &'a Parts, place: &Place) -> &'a str {
     }
 }
 
-/// The name of the action that is written at an edge of a point.
-pub(crate) fn action_at_edge<'a>(parts: &'a Parts, place: &Place) -> &'a str {
+/// The name of the action that is written at the edge where a condition stands.
+pub(crate) fn action_at_edge<'a>(development: &'a Development, place: &Place) -> &'a str {
     let (Some(point), Passage::Edge(edge)) = (place.point, place.passage) else {
         return "";
     };
-    let Some(outline) = parts.outlines.get(point.0 as usize) else {
-        return "";
-    };
-    for on in &outline.ons {
-        if edge_word(on.edge) == edge_word(edge) {
-            return action_name(parts, on.action.0 as usize);
-        }
+    match on_at(development, point, edge) {
+        Some(on) => action_name(development.parts(), on.action.0 as usize),
+        None => "",
     }
-    ""
 }

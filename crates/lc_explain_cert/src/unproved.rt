@@ -63,7 +63,7 @@ fn push_unproved(
     condition: &Condition,
     refusal: &Refusal,
 ) -> Result<(), OutOfMemory> {
-    let words = condition_words(*text.allocator(), development.parts(), condition)?;
+    let words = condition_words(*text.allocator(), development, condition)?;
     push_sentence(text, sentence_of(number, refusal, &words))
 }
 
