@@ -3,7 +3,7 @@ ghost use Rattle.lc_table.specs.Tables.{IsFormula, AreFormulas};
 
 use crate::names::Names;
 use lc_base::OutOfMemory;
-use lc_failing::{Failing, Numbered, Situation, failing_in, situation_of, words_of};
+use lc_failing::{Failing, Numbered, Situation, content_words, tell, words_of};
 use lc_kernel::Goal;
 use lc_search::{Counted, CounterModel, End, search};
 use lc_table::Terms;
@@ -56,7 +56,7 @@ fn push_number(
     Ok(())
 }
 
-/// The numbers of the variables of a goal, so many, and of the cells that are not 0 or are read.
+/// The numbers of the variables of a goal, so many, and of the cells of a state.
 fn push_situation(
     alloc: Global,
     text: &mut String,
@@ -74,7 +74,7 @@ fn push_situation(
         let read = Term::Read(ColExpr::Base(cell.column), index);
         push_number(text, names, &read, cell.value)?;
     }
-    text.push_str("    each other cell is 0\n")?;
+    writeln!(text, "    {}", content_words(situation.content))?;
     Ok(())
 }
 
@@ -92,13 +92,13 @@ fn model_text(
     let hypotheses = terms.formulas(alloc, goal.hypotheses.as_slice())?;
     let claim = terms.formula(alloc, goal.goal)?;
     let numbers = whole_numbers(alloc, &model.numbers)?;
-    let situation = situation_of(alloc, names.columns.len(), goal.vars as usize, &numbers)?;
-    let failing = failing_in(&hypotheses, &claim, &situation.state, &situation.env);
+    let columns = u32::try_from(names.columns.len()).unwrap_or(0);
+    let told = tell(alloc, columns, goal.vars, &numbers, &hypotheses, &claim)?;
     let mut text = String::new(alloc);
-    writeln!(text, "  {}:", words_of(failing))?;
-    match failing {
+    writeln!(text, "  {}:", words_of(told.failing))?;
+    match told.failing {
         Failing::Fails | Failing::FailsButForQuantifiers => {
-            push_situation(alloc, &mut text, names, goal.vars, &situation)?;
+            push_situation(alloc, &mut text, names, goal.vars, &told.situation)?;
         }
         Failing::Unknown => {
             for counted in &model.numbers {

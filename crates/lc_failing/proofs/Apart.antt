@@ -1,15 +1,18 @@
 -- Cells that are written, no two of them the same.
-use Rattle.std.proofs.Common.{◌≡◌, ℕ, ◌<◌, List, [], ◌∷◌, ◌++◌, ℤ, suc, zero, replicate, refl, sym, ap, ◌∙◌, inl, inr}
+use Rattle.std.proofs.Common.{◌≡◌, ℕ, ◌+◌, ◌<◌, List, [], ◌∷◌, ◌++◌, ℤ, length, get_or, refl, sym, ap, ◌∙◌, inl, inr, below_more, length-append}
 use Rattle.std.specs.Prelude.{pos, Result, Ok, Err, IfOk}
 use Rattle.std.proofs.Math.IntN.{zero-*ℤ}
 use Rattle.std.proofs.lemmas.Bool.Decides.{eqb_tells}
+use Rattle.std.proofs.lemmas.List.{get_or-map, get_or_append_left, get_or_at}
 use Rattle.lc_term.specs.Lists.{Every}
-use Rattle.lc_term.specs.Meaning.{State}
+use Rattle.lc_term.specs.Meaning.{State, affine}
 use Rattle.lc_term.specs.State.{initial_state, state_of, with_cell}
 use Rattle.lc_term.specs.Updates.{Write, stored_all, AreWithin}
 use Rattle.lc_term.specs.declared.state.State as St
 use Rattle.lc_term.proofs.Stores.{Every-append, cell_away, cell_other, cell_same, stored_here}
-use Rattle.lc_failing.specs.Situation.{AreApart, AreCells, IsElsewhere, IsEmpty, IsOf, IsThere}
+use Rattle.lc_failing.specs.Situation.{AreApart, AreCells, AreNumbers, IsBlank, IsElsewhere, IsOf, IsThere, content_of, numbers_of}
+use Rattle.lc_failing.specs.declared.situation.Content.{Content}
+use Rattle.lc_failing.specs.declared.situation.Content.TheVariants.{Zero, Spread}
 
 -- ---- one more
 
@@ -45,22 +48,42 @@ there s (w ∷ ws) apart =
       there next ws apart.1,
     )
 
--- the cells that are written where there was 0 in each
-pub written-is : (first s : State) (ws : List Write) → IsEmpty first → AreApart ws → s ≡ stored_all first ws → IsOf s ws
-written-is first s ws empty apart is = record {
+-- the cells that are written where there was this content in each
+pub written-is : (content : Content) (n : ℕ) (first s : State) (ws : List Write) → IsBlank content n first → AreApart ws → s ≡ stored_all first ws → IsOf content n s ws
+written-is content n first s ws blank apart is = record {
   shown = rw is (there first ws apart);
-  others = λ c i h. ap (λ (t : State). t c i) is ∙ elsewhere first ws c i h ∙ empty c i;
+  others = λ c i below h. ap (λ (t : State). t c i) is ∙ elsewhere first ws c i h ∙ blank c i below;
 }
 
--- ---- the state that has 0 in each cell
+-- ---- the state in which nothing is written
 
-nought : (n c : ℕ) (i : ℤ) → initial_state (replicate n (pos 0, pos 0)) c i ≡ pos 0
-nought zero c i = refl
-nought (suc n) zero i = rw zero-*ℤ
-nought (suc n) (suc c) i = nought n c i
+cell-is : (content : Content) (c : ℕ) (i : ℤ) → affine (numbers_of content c).0 (numbers_of content c).1 i ≡ content_of content c i
+cell-is Zero c i = rw zero-*ℤ
+cell-is Spread c i = refl
 
--- a state of columns that have 0 in each cell
-pub all-empty : {E : Type 0} (n : ℕ) (numbers : List (ℤ × ℤ)) (r : Result St.State E) → numbers ≡ replicate n (pos 0, pos 0) →
-    IfOk r (λ s. state_of s ≡ initial_state numbers) → IfOk r (λ s. IsEmpty (state_of s))
-all-empty n numbers (Ok s) e is = λ c i. ap (λ (t : State). t c i) (is ∙ ap initial_state e) ∙ nought n c i
-all-empty n numbers (Err f) e is = tt
+-- the cells of columns with these numbers
+blank-is : (content : Content) (n : ℕ) (numbers : List (ℤ × ℤ)) → AreNumbers content n numbers → IsBlank content n (initial_state numbers)
+blank-is content n numbers are c i below =
+    let there : c < length numbers = rw are.count below in
+    ap (λ (f : ℤ → ℤ). f i) (get_or-map (λ (p : ℤ × ℤ). affine p.0 p.1) numbers c (pos 0, pos 0) (λ (j : ℤ). pos 0) there) ∙
+    ap (λ (p : ℤ × ℤ). affine p.0 p.1 i) (are.each c below) ∙
+    cell-is content c i
+
+-- one column more
+pub numbers-more : (content : Content) (n : ℕ) (before after : List (ℤ × ℤ)) (more : ℤ × ℤ) → AreNumbers content n before → more ≡ numbers_of content n →
+    after ≡ before ++ more ∷ [] → AreNumbers content (n + 1) after
+numbers-more content n before after more are is e = record {
+  count = ap length e ∙ length-append before (more ∷ []) ∙ ap (λ (k : ℕ). k + 1) are.count;
+  each = λ c below. rw e (each-more c below);
+}
+  where
+    each-more : (c : ℕ) → c < n + 1 → get_or (before ++ more ∷ []) c (pos 0, pos 0) ≡ numbers_of content c
+    each-more = below_more (λ (c : ℕ). get_or (before ++ more ∷ []) c (pos 0, pos 0) ≡ numbers_of content c) n
+        (λ c h. get_or_append_left before (more ∷ []) (pos 0, pos 0) c (rw are.count h) ∙ are.each c h)
+        (get_or_at before more [] (pos 0, pos 0) n are.count ∙ is)
+
+-- a state of columns with these numbers
+pub all-blank : {E : Type 0} (content : Content) (n : ℕ) (given numbers : List (ℤ × ℤ)) (r : Result St.State E) → numbers ≡ given → AreNumbers content n given →
+    IfOk r (λ s. state_of s ≡ initial_state numbers) → IfOk r (λ s. IsBlank content n (state_of s))
+all-blank content n given numbers (Ok s) e are is = λ c i below. ap (λ (t : State). t c i) (is ∙ ap initial_state e) ∙ blank-is content n given are c i below
+all-blank content n given numbers (Err f) e are is = tt

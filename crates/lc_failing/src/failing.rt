@@ -76,7 +76,12 @@ fn are_seen_if_ground(formulas: &[Formula], state: &State, env: &Env) -> bool
 }
 
 /// Whether a goal fails in a state: its hypotheses and the goal are evaluated there.
-pub fn failing_in(hypotheses: &[Formula], goal: &Formula, state: &State, env: &Env) -> Failing
+pub(crate) fn failing_in(
+    hypotheses: &[Formula],
+    goal: &Formula,
+    state: &State,
+    env: &Env,
+) -> Failing
     ensures fails { result ≡ Failing.Fails ↔ Fails state.now env.now (formulas_of hypotheses.now) (formula_of goal.now) }
     ensures but { result ≡ Failing.FailsButForQuantifiers → FailsButForQuantifiers state.now env.now (formulas_of hypotheses.now) (formula_of goal.now) }
     ensures unknown { FailsButForQuantifiers state.now env.now (formulas_of hypotheses.now) (formula_of goal.now) → result ≡ Failing.Unknown → ⊥ }

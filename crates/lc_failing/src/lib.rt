@@ -5,8 +5,10 @@ mod failing;
 mod known;
 pub mod laws;
 mod situation;
+mod telling;
 mod words;
 
-pub use failing::{Failing, failing_in};
-pub use situation::{Numbered, Situation, situation_of};
-pub use words::{FAILS, words_of};
+pub use failing::Failing;
+pub use situation::{Content, Numbered, Situation};
+pub use telling::{Told, tell};
+pub use words::{FAILS, content_words, words_of};

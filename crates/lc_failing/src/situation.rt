@@ -1,9 +1,9 @@
 //! The state that numbers of variables and of reads describe.
-ghost use Rattle.std.specs.Prelude.{◌≡◌, ◌<◌, pos, replicate, IfOk, IfSome, OnOk, IsFalse};
+ghost use Rattle.std.specs.Prelude.{◌≡◌, ◌<◌, IfOk, IfSome, OnOk, IsFalse};
 ghost use Rattle.lc_term.specs.Lists.{Every};
 ghost use Rattle.lc_term.specs.State.{column_count, state_of};
 ghost use Rattle.lc_term.specs.UpdateView.{writes_shown};
-ghost use Rattle.lc_failing.specs.Situation.{AreCells, IsElsewhere, IsEmpty, IsOf};
+ghost use Rattle.lc_failing.specs.Situation.{AreCells, AreNumbers, IsBlank, IsElsewhere, IsOf, numbers_of};
 
 use crate::known::term_is_known;
 use lc_base::{ColId, OutOfMemory};
@@ -20,12 +20,22 @@ pub struct Numbered {
     pub number: i64,
 }
 
-/// A state and numbers of variables. Each cell of the state has 0 that does not stand among these.
+/// What each cell has that does not stand among those of a state.
+#[derive(Clone, Copy)]
+pub enum Content {
+    /// 0.
+    Zero,
+    /// Numbers that differ from cell to cell, as those that a search takes: `101 * i + 10007 * k + 5003` in cell i of column k.
+    Spread,
+}
+
+/// A state and numbers of variables. Cells that do not stand among these have the content.
 #[derive(Drop)]
 pub struct Situation {
     pub state: State,
     pub env: Env,
     pub cells: Vec<Write>,
+    pub content: Content,
 }
 
 /// How many variables there are, where there are at least so many and each that has a number.
@@ -126,56 +136,81 @@ fn cells_in(
     Ok(cells)
 }
 
-/// The numbers of so many columns that have 0 in each cell.
-fn zeros(alloc: Global, columns: usize) -> Result<Vec<(i64, i64)>, OutOfMemory>
-    ensures { IfOk result (λ numbers. numbers.items ≡ replicate columns (pos 0, pos 0)) }
+/// The numbers a and b of a column that has `a * i + b` in cell i.
+fn numbers_of(column: u32, content: Content) -> (i64, i64)
+    ensures { result ≡ numbers_of content column }
+{
+    match content {
+        Content::Zero => (0, 0),
+        Content::Spread => (101, i64::from(column) * 10_007 + 5_003),
+    }
+}
+
+/// These numbers of so many columns.
+fn initial_numbers(
+    alloc: Global,
+    columns: u32,
+    content: Content,
+) -> Result<Vec<(i64, i64)>, OutOfMemory>
+    ensures { IfOk result (λ numbers. AreNumbers content columns numbers.items) }
 {
     let mut numbers = Vec::new(alloc);
-    for _column in 0..columns {
-        numbers.push((0, 0))?;
+    for column in 0..columns {
+        numbers.push(numbers_of(column, content))?;
     }
     Ok(numbers)
 }
 
-/// A state of so many columns that has 0 in each cell.
-fn empty_state(alloc: Global, columns: usize) -> Result<State, OutOfMemory>
+/// A state of so many columns in which nothing is written.
+fn blank_state(alloc: Global, columns: u32, content: Content) -> Result<State, OutOfMemory>
     ensures columns { IfOk result (λ state. column_count state ≡ columns) }
-    ensures cells { IfOk result (λ state. IsEmpty (state_of state)) }
+    ensures cells { IfOk result (λ state. IsBlank content columns (state_of state)) }
 {
-    let numbers = zeros(alloc, columns)?;
+    let numbers = initial_numbers(alloc, columns, content)?;
     State::new(alloc, &numbers)
 }
 
-/// A state of so many columns that has 0 in each cell but these.
-fn state_with(alloc: Global, columns: usize, cells: &[Write]) -> Result<State, OutOfMemory>
+/// A state of so many columns in which these cells are written.
+fn state_with(
+    alloc: Global,
+    columns: u32,
+    content: Content,
+    cells: &[Write],
+) -> Result<State, OutOfMemory>
     requires { AreCells columns (writes_shown cells.now) }
     ensures columns { IfOk result (λ state. column_count state ≡ columns) }
-    ensures cells { IfOk result (λ state. IsOf (state_of state) (writes_shown cells.now)) }
+    ensures cells { IfOk result (λ state. IsOf content columns (state_of state) (writes_shown cells.now)) }
 {
-    let mut state = empty_state(alloc, columns)?;
+    let mut state = blank_state(alloc, columns, content)?;
     state.write_all(alloc, cells)?;
     Ok(state)
 }
 
-/// The state and the environment that numbers of terms describe; 0 stands for what they do not tell. That the terms have these numbers
-/// there is not promised: it is to be evaluated what holds.
-pub fn situation_of(
+/// The state and the environment that numbers of terms describe; variables of which they do not tell have 0. That the terms have these
+/// numbers there is not promised: it is to be evaluated what holds.
+pub(crate) fn situation_of(
     alloc: Global,
-    columns: usize,
-    variables: usize,
+    columns: u32,
+    variables: u32,
     numbers: &[Numbered],
+    content: Content,
 ) -> Result<Situation, OutOfMemory>
-    ensures { IfOk result (λ made. IsOf (state_of made.state) (writes_shown made.cells.items)) }
+    ensures { IfOk result (λ made. IsOf made.content columns (state_of made.state) (writes_shown made.cells.items)) }
 {
-    let count = variable_count(variables, numbers);
+    let count = variable_count(variables as usize, numbers);
     let env = Env {
         values: variables_in(alloc, count, numbers)?,
     };
     let mut cells = Vec::new(alloc);
-    let mut state = state_with(alloc, columns, &cells)?;
+    let mut state = state_with(alloc, columns, content, &cells)?;
     for _round in 0..ROUNDS {
         cells = cells_in(alloc, &state, &env, numbers)?;
-        state = state_with(alloc, columns, &cells)?;
+        state = state_with(alloc, columns, content, &cells)?;
     }
-    Ok(Situation { state, env, cells })
+    Ok(Situation {
+        state,
+        env,
+        cells,
+        content,
+    })
 }

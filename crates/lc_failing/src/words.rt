@@ -2,6 +2,7 @@
 ghost use Rattle.std.specs.Prelude.{◌≡◌, ◌↔◌};
 
 use crate::failing::Failing;
+use crate::situation::Content;
 
 /// Said exactly where the hypotheses hold and the goal does not.
 pub const FAILS: &str = "in this state the hypotheses hold and the goal does not";
@@ -22,5 +23,14 @@ pub fn words_of(failing: Failing) -> &'static str
         Failing::Fails => FAILS,
         Failing::FailsButForQuantifiers => FAILS_BUT,
         Failing::Unknown => UNKNOWN,
+    }
+}
+
+/// What is said of the cells that do not stand among those of a state.
+pub fn content_words(content: Content) -> &'static str {
+    match content {
+        Content::Zero => "each other cell is 0",
+        Content::Spread =>
+            "each other cell is 101 * i + 10007 * k + 5003, where i is its index and k the place of its column",
     }
 }

@@ -7,5 +7,5 @@ use Rattle.lc_failing.proofs.situation.situation_of.Given as goal
 abbrev pub invariant-loop-round : goal.invariant-loop-round
 invariant-loop-round l = record {
   columns : column_count l.state ≡ l.columns;
-  cells : IsOf (state_of l.state) (writes_shown l.cells.items);
+  cells : IsOf l.content l.columns (state_of l.state) (writes_shown l.cells.items);
 }
