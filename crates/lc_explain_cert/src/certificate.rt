@@ -3,6 +3,7 @@ ghost use Rattle.std.specs.Prelude.{IfSome};
 ghost use Rattle.lc_cond.specs.ConditionView.{AreConditions, IsCondition};
 
 use crate::condition::condition_words;
+use crate::failing::failing_text;
 use crate::flawed::{Flawed, said, with_variables};
 use crate::names::Names;
 use crate::sentence::Sentence;
@@ -171,5 +172,8 @@ pub fn unfound_explanation(
     write!(text, "no proof of condition {number} was found ({words})\n")?;
     text.push_str(&lines)?;
     names.push_variables(&mut text)?;
+    if let Some(state) = failing_text(alloc, &names, &terms, &condition.goal)? {
+        text.push_str(&state)?;
+    }
     Ok(Some(text))
 }

@@ -4,6 +4,7 @@
 
 mod certificate;
 mod condition;
+mod failing;
 mod flawed;
 mod formula;
 mod names;

@@ -1,0 +1,126 @@
+//! The state in which the search for a proof of a goal ended.
+ghost use Rattle.lc_table.specs.Tables.{IsFormula, AreFormulas};
+
+use crate::names::Names;
+use lc_base::OutOfMemory;
+use lc_failing::{Failing, Numbered, Situation, content_words, tell, words_of};
+use lc_kernel::Goal;
+use lc_search::{Counted, CounterModel, End, search};
+use lc_table::Terms;
+use lc_term::{ColExpr, Term};
+use lc_text::write_term;
+use std::alloc::Global;
+
+/// How many steps are tried.
+const BUDGET: u64 = 1_000_000;
+
+/// The numbers that are whole and fit 64 bits.
+fn whole_numbers(alloc: Global, numbers: &[Counted]) -> Result<Vec<Numbered>, OutOfMemory> {
+    let mut whole = Vec::new(alloc);
+    for counted in numbers {
+        if let (1, Ok(number)) = (counted.denominator, i64::try_from(counted.numerator)) {
+            let term = counted.term.try_clone(alloc)?;
+            whole.push(Numbered { term, number })?;
+        }
+    }
+    Ok(whole)
+}
+
+/// A term and its number, as the search told it, in a line.
+fn push_counted(
+    text: &mut String,
+    names: &Names<'_>,
+    counted: &Counted,
+) -> Result<(), OutOfMemory> {
+    let (numerator, denominator) = (counted.numerator, counted.denominator);
+    text.push_str("    ")?;
+    write_term(text, names, 0, &counted.term)?;
+    if denominator == 1 {
+        writeln!(text, " is {numerator}")?;
+    } else {
+        writeln!(text, " is {numerator}/{denominator}")?;
+    }
+    Ok(())
+}
+
+/// A term and its number, in a line.
+fn push_number(
+    text: &mut String,
+    names: &Names<'_>,
+    term: &Term,
+    number: i64,
+) -> Result<(), OutOfMemory> {
+    text.push_str("    ")?;
+    write_term(text, names, 0, term)?;
+    writeln!(text, " is {number}")?;
+    Ok(())
+}
+
+/// The numbers of the variables of a goal, so many, and of the cells of a state.
+fn push_situation(
+    alloc: Global,
+    text: &mut String,
+    names: &Names<'_>,
+    variables: u32,
+    situation: &Situation,
+) -> Result<(), OutOfMemory> {
+    for variable in 0..variables {
+        if let Some(number) = situation.env.values.get(variable as usize) {
+            push_number(text, names, &Term::Variable(variable), *number)?;
+        }
+    }
+    for cell in &situation.cells {
+        let index = Box::new(alloc, Term::Number(cell.index))?;
+        let read = Term::Read(ColExpr::Base(cell.column), index);
+        push_number(text, names, &read, cell.value)?;
+    }
+    writeln!(text, "    {}", content_words(situation.content))?;
+    Ok(())
+}
+
+/// The numbers of a model of a goal: as a state, where the goal fails there, and else as the search told them.
+fn model_text(
+    alloc: Global,
+    names: &Names<'_>,
+    terms: &Terms,
+    goal: &Goal,
+    model: &CounterModel,
+) -> Result<String, OutOfMemory>
+    requires hypotheses { AreFormulas terms.now goal.now.hypotheses }
+    requires goal { IsFormula terms.now goal.now.goal }
+{
+    let hypotheses = terms.formulas(alloc, goal.hypotheses.as_slice())?;
+    let claim = terms.formula(alloc, goal.goal)?;
+    let numbers = whole_numbers(alloc, &model.numbers)?;
+    let columns = u32::try_from(names.columns.len()).unwrap_or(0);
+    let told = tell(alloc, columns, goal.vars, &numbers, &hypotheses, &claim)?;
+    let mut text = String::new(alloc);
+    writeln!(text, "  {}:", words_of(told.failing))?;
+    match told.failing {
+        Failing::Fails | Failing::FailsButForQuantifiers => {
+            push_situation(alloc, &mut text, names, goal.vars, &told.situation)?;
+        }
+        Failing::Unknown => {
+            for counted in &model.numbers {
+                push_counted(&mut text, names, counted)?;
+            }
+        }
+    }
+    Ok(text)
+}
+
+/// The state in which a search for a proof of a goal ends, if it comes to its end without one.
+pub(crate) fn failing_text(
+    alloc: Global,
+    names: &Names<'_>,
+    terms: &Terms,
+    goal: &Goal,
+) -> Result<Option<String>, OutOfMemory>
+    requires hypotheses { AreFormulas terms.now goal.now.hypotheses }
+    requires goal { IsFormula terms.now goal.now.goal }
+{
+    match search(alloc, terms, goal, &[], &[], BUDGET)?.end {
+        End::NotFound(model) => Ok(Some(model_text(alloc, names, terms, goal, &model)?)),
+        End::Found(_) | End::Spent | End::Large => Ok(None),
+    }
+}

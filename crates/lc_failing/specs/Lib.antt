@@ -1,0 +1,3 @@
+pub mod Failing
+pub mod Situation
+pub mod Told

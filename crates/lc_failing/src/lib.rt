@@ -1,0 +1,14 @@
+//! Why a goal does not follow: a state in which its hypotheses hold and it does not.
+#![tactic(auto)]
+
+mod failing;
+mod known;
+pub mod laws;
+mod situation;
+mod telling;
+mod words;
+
+pub use failing::Failing;
+pub use situation::{Content, Numbered, Situation};
+pub use telling::{Told, tell};
+pub use words::{FAILS, content_words, words_of};
