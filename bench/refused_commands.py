@@ -1,13 +1,15 @@
 #!/usr/bin/env python3
-"""Runs each command of a program that is built with each allocation refused in turn, one a run.
+"""Runs each command of a program that is built with each of its calls of the system refused, one a run.
 
-  bench/refused_commands.py PROGRAM [MOST [WORD ..]]   MOST of the allocations of each command, spread over all, are refused (0: all);
+  bench/refused_commands.py PROGRAM [MOST [WORD ..]]   MOST of the calls of each kind and command, spread over all, are refused (0: all);
                                                        with words, only this command runs
 
-PROGRAM is lincheck_program or lc_refused_runs, as `rt run` leaves it in out/. The answer is to be the one with ample memory; or, of
-lincheck_program, status 4 with a beginning of that answer on standard output and `lincheck: out of memory` on standard error; of
-lc_refused_runs, which makes a call again that wants memory, status 1 where it was refused outside of the call. Prints a line for each
-command, and what was answered otherwise; the status is 1 where anything was. Needs cc.
+PROGRAM is lincheck_program or lc_refused_runs, as `rt run` leaves it in out/. Refused are allocations, reads, writes to standard output and
+writes to standard error. The answer of lincheck_program is to be the one that nothing is refused for; or a beginning of it on standard
+output, with status 4 and `out of memory` on standard error; or status 3 and `cannot read` or `cannot write`. What standard error does not
+take changes neither status nor standard output. Of lc_refused_runs, which makes a call again that wants memory, only allocations are
+refused; it ends with status 1 where that was outside of the call. Prints a line for each command and kind, and what was answered otherwise;
+the status is 1 where anything was. Needs cc.
 """
 import concurrent.futures
 import os
@@ -44,33 +46,43 @@ FOLDERS = {"lc_refused_runs": os.path.join(ROOT, "crates", "lc_refused_runs", "d
 CALLS = [[it] for it in ("check", "pieces", "workers", "find", "judge", "history", "plan")]
 
 
-def answer(program, words, library, refused):
-    """What the program answers with this allocation refused (0: none), and how many there were."""
+def answer(program, words, library, kind, number):
+    """What the program answers with the call of this kind and number refused (0: none), and how many there were."""
     with tempfile.NamedTemporaryFile("r") as counted:
-        environment = {"LD_PRELOAD": library, "REFUSED": str(refused), "COUNTED": counted.name, "PATH": os.environ["PATH"]}
-        ran = subprocess.run([program, *words], cwd=FOLDERS.get(os.path.basename(program), ROOT), env=environment, stdin=subprocess.DEVNULL, capture_output=True, check=False)
+        environment = {"LD_PRELOAD": library, "REFUSED": kind, "NUMBER": str(number), "COUNTED": counted.name, "PATH": os.environ["PATH"]}
+        folder = FOLDERS.get(os.path.basename(program), ROOT)
+        ran = subprocess.run([program, *words], cwd=folder, env=environment, stdin=subprocess.DEVNULL, capture_output=True, check=False)
         return (ran.returncode, ran.stdout, ran.stderr), int(counted.read() or 0)
 
 
-def is_want(program, told, ample):
+def is_fault(program, kind, told, ample):
+    """Whether this is told of a call of this kind that was refused."""
     status, out, err = told
+    if not ample[1].startswith(out):
+        return False
     if os.path.basename(program) in FOLDERS:
-        return status == 1 and ample[1].startswith(out)
-    return status == 4 and ample[1].startswith(out) and err.endswith(b"lincheck: out of memory\n")
+        return status == 1
+    if kind == "tell":
+        return (status, out) == ample[:2]
+    told_as = {"memory": (4, b"lincheck: out of memory\n"), "read": (3, b"lincheck: cannot read "), "write": (3, b"lincheck: cannot write\n")}
+    return status == told_as[kind][0] and told_as[kind][1] in err
 
 
-def over(program, words, library, most):
-    ample, count = answer(program, words, library, 0)
+def over(program, words, library, kind, most):
+    ample, count = answer(program, words, library, kind, 0)
     step = max(1, count // most) if most else 1
-    wrong = want = 0
+    wrong = faults = 0
     with concurrent.futures.ThreadPoolExecutor() as pool:
         numbers = range(1, count + 1, step)
-        for number, (told, _) in zip(numbers, pool.map(lambda it: answer(program, words, library, it), numbers)):
-            want += is_want(program, told, ample)
-            if told != ample and not is_want(program, told, ample):
-                wrong += 1
-                print(f"  allocation {number}: status {told[0]}, {told[1][:80]!r}, {told[2][:200]!r}")
-    print(f"{'WRONG ' if wrong else ''}{' '.join(words)}: {len(numbers)} of {count} allocations refused, {want} answered as want of memory")
+        for number, (told, _) in zip(numbers, pool.map(lambda it: answer(program, words, library, kind, it), numbers)):
+            if told == ample:
+                continue
+            if is_fault(program, kind, told, ample):
+                faults += 1
+                continue
+            wrong += 1
+            print(f"  {kind} {number}: status {told[0]}, {told[1][:80]!r}, {told[2][:200]!r}")
+    print(f"{'WRONG ' if wrong else ''}{' '.join(words)}: {kind}: {len(numbers)} of {count} refused, {faults} told as faults", flush=True)
     return wrong
 
 
@@ -79,10 +91,11 @@ def main():
         sys.exit(__doc__)
     program, most = os.path.abspath(sys.argv[1]), int(sys.argv[2]) if len(sys.argv) > 2 else 0
     commands = [sys.argv[3:]] if len(sys.argv) > 3 else CALLS if os.path.basename(program) in FOLDERS else COMMANDS
+    kinds = ["memory"] if os.path.basename(program) in FOLDERS else ["memory", "read", "write", "tell"]
     with tempfile.TemporaryDirectory() as folder:
-        library = f"{folder}/refused_memory.so"
-        subprocess.run(["cc", "-O1", "-shared", "-fPIC", "-o", library, f"{ROOT}/bench/refused_memory.c"], check=True)
-        wrong = sum(over(program, words, library, most) for words in commands)
+        library = f"{folder}/refusing.so"
+        subprocess.run(["cc", "-O1", "-shared", "-fPIC", "-o", library, f"{ROOT}/bench/refusing.c"], check=True)
+        wrong = sum(over(program, words, library, kind, most) for words in commands for kind in kinds)
     sys.exit(1 if wrong else 0)
 
 
