@@ -1,6 +1,8 @@
 -- What a development's file, its certificate's and a plan's are answered, from the beginnings of them that are read.
-use Rattle.std.proofs.Common.{◌≡◌, ℕ, List, [], ◌∷◌, ◌++◌, Option, Some, None, IfSome, IfOk, Result, Ok, Err, refl, sym, ap, ap₂, subst, ◌∙◌, inl, inr}
-use Rattle.std.specs.Prelude.{IsErr}
+use Rattle.std.proofs.Common.{◌≡◌, ℕ, ℤ, List, [], ◌∷◌, ◌++◌, codes, flat_map, length, Option, Some, None, IfSome, IfOk, Result, Ok, Err, Vec, sym, ap, ap₂, subst, ◌∙◌, inl, inr}
+use Rattle.std.proofs.lemmas.List.{length-map}
+use Rattle.std.specs.declared.alloc.Global.{Global}
+use Rattle.lc_base.specs.Line.{line_of}
 use Rattle.lc_base.specs.declared.refusal.Fault.{Fault}
 use Rattle.lc_base.specs.declared.refusal.Fault.TheVariants.{Refused, OutOfMemory}
 use Rattle.lc_base.specs.declared.refusal.Refusal.{Refusal}
@@ -12,7 +14,12 @@ use Rattle.lc_check.specs.declared.verdict.Accepted.{Accepted}
 use Rattle.lc_check.specs.declared.verdict.Verdict.{Verdict}
 use Rattle.lc_check.specs.declared.verdict.Verdict.TheVariants.{Accepted as accepts, Refused as refuses}
 use Rattle.lc_crew.specs.Ran.{IsRunOf}
+use Rattle.lc_crew.specs.declared.ended.Ended.{Ended}
 use Rattle.lc_crew.specs.declared.plan.Ran.{Ran}
+use Rattle.lc_hist.specs.Histories.{events_in}
+use Rattle.lc_hist.specs.JsonHistories.{entries_seen, entry_seen}
+use Rattle.lc_hist.specs.JsonWritten.{history_text}
+use Rattle.lc_hist.specs.declared.event.Done.{Done}
 use Rattle.lc_outline.specs.Development.{Development}
 use Rattle.lc_outline_text.specs.Developments.{file_reading}
 use Rattle.lc_plan.specs.Readings.{plan_reading}
@@ -21,11 +28,13 @@ use Rattle.lc_plan.specs.declared.plan.Plan.{Plan}
 use Rattle.lc_reading.proofs.Files.{says_not_refused, says_one}
 use Rattle.lc_reading.specs.Files.{Says, IsFirstRefusal, IsAnswerTo}
 use Rattle.lc_run.specs.LabelView.{labels_of}
+use Rattle.lc_seq.specs.declared.choice.Pick.{Pick}
+use Rattle.lc_seq.specs.declared.text_call.TextCall.{TextCall}
 use Rattle.lincheck.specs.Answers.{ToldFault}
 use Rattle.lincheck.specs.Carry.{RefusesCertificate}
 use Rattle.lincheck.specs.Check.{TellsRefusal}
 use Rattle.lincheck.specs.Reading.{within_limit}
-use Rattle.lincheck.specs.Run.{AnswersPlan, AnswersProvenRun, AnswersRun, IsUnreadPlan, IsUnreadRun, OpensAccepted, OpensPlan, RefusesPlan, RunsSo, TellsRun, ran_text, run_text}
+use Rattle.lincheck.specs.Run.{AnswersPlan, AnswersProvenRun, AnswersRun, IsUnreadPlan, IsUnreadRun, OpensAccepted, OpensPlan, RefusesPlan, RunsSo, TellsRun, end_text, ran_text, run_text}
 use Rattle.lincheck.specs.declared.answer.Answer.{Answer}
 use Rattle.lincheck.specs.declared.answer.Failure.{Failure}
 use Rattle.lincheck.proofs.Opened.{refusal_of_certificate}
@@ -64,6 +73,19 @@ plan_refused D (Some file) bytes (Refused refusal) text status read is told =
 plan_refused D (Some file) bytes OutOfMemory text status read is told = absurd told
 
 -- ---- what has run
+
+-- its text is its first line, the lines of its clients, and its history
+pub ran_text_is : (D E : Development) (ran : Ran) (count : ℕ) (ends : List Ended) (order : List (Done TextCall Pick (Vec ℤ Global))) (first lines history whole text : List ℕ) → E ≡ D
+    → count ≡ length ran.log.order.items → ends ≡ ran.ends.items → order ≡ ran.log.order.items → first ≡ line_of (codes "linearizable") (count ∷ []) → lines ≡ first ++ flat_map end_text ends
+    → history ≡ history_text E.specification.operations (events_in ran.log.history) (entries_seen order) → whole ≡ lines ++ history → text ≡ whole ++ 10 ∷ [] → text ≡ ran_text D ran
+ran_text_is D E ran count ends order first lines history whole text same counted ended ordered is_first is_lines is_history is_whole is_text =
+    is_text
+    ∙ ap (λ x. x ++ 10 ∷ [])
+    (is_whole
+    ∙ ap₂ ◌++◌
+    (is_lines
+    ∙ ap₂ ◌++◌ (is_first ∙ ap (λ n. line_of (codes "linearizable") (n ∷ [])) (counted ∙ sym (length-map ran.log.order.items entry_seen))) (ap (flat_map end_text) ended))
+    (is_history ∙ ap₂ (λ (F : Development) o. history_text F.specification.operations (events_in ran.log.history) (entries_seen o)) same ordered))
 
 -- its text is told by its labels
 pub ran_told : (D : Development) (n : ℕ) (ran : Ran) (text : List ℕ) → IsRunOf D n ran → text ≡ ran_text D ran → TellsRun D n text

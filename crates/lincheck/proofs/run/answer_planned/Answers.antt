@@ -8,8 +8,8 @@ use Rattle.lincheck.specs.declared.answer.Answer.{Answer}
 use Rattle.lincheck.proofs.Running.{planned_answered, planned_refused}
 use Rattle.lincheck.proofs.run.answer_planned.Goals as goal
 
-pub returns-in_ok-answer_ran-in-Ok-clause-answers : goal.returns-in_ok-answer_ran-in-Ok-clause-answers
-returns-in_ok-answer_ran-in-Ok-clause-answers g c =
+pub returns-in-Ok-clause-answers : goal.returns-in-Ok-clause-answers
+returns-in-Ok-clause-answers g c =
     let D = development_in c.args.accepted in
     let known = g.F.Files.bytes_at c.args.files.now c.args.path.now in
     let answer = c.in_ok-answer_ran-in-Ok.field-0 in
@@ -17,8 +17,8 @@ returns-in_ok-answer_ran-in-Ok-clause-answers g c =
     planned_answered D known c.in-Ok.plan answer.text.items answer.status
     (subst (λ (E : S.Development). IfSome known (λ file. OpensPlan E file (Ok c.in-Ok.plan))) c.development.ensures.shown opens) c.in_ok-answer_ran-in-Ok.ensures
 
-pub returns-in-Err-clause-answers : goal.returns-in-Err-clause-answers
-returns-in-Err-clause-answers g c =
+pub returns-clause-answers : goal.returns-clause-answers
+returns-clause-answers g c =
     let D = development_in c.args.accepted in
     let known = g.F.Files.bytes_at c.args.files.now c.args.path.now in
     let tells = subst (λ (o : Result Plan Answer). IfSome known (λ file. OpensPlan (development_shown c.development.result.now) file o)) c.in-Err.is c.in_ok-plan.ensures.opens in

@@ -8,8 +8,8 @@ use Rattle.lincheck.specs.Run.{ran_text}
 use Rattle.lincheck.proofs.Running.{ran_told}
 use Rattle.lincheck.proofs.run.answer_ran.Goals as goal
 
-pub returns-in_ok-ran_text-in-Ok : goal.returns-in_ok-ran_text-in-Ok
-returns-in_ok-ran_text-in-Ok g c =
+pub returns-in-Ok : goal.returns-in-Ok
+returns-in-Ok g c =
     let D = development_in c.args.accepted in
     let held = c.in_ok-accepted.ensures.ok in
     let runs = subst (λ (a : Accepted). IsRunOf (development_in a) c.args.plan.now.clients c.in-Ok.ran) held c.in-Ok.ensures in
