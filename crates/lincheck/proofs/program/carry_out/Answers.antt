@@ -72,6 +72,13 @@ returns-in_ok-answer-in-Run-clause-leaves g c =
     (subst (λ (r : Request). AnswersTask (g.F.Files.bytes_at c.args.files.now) (task_of r) answer.text.items answer.status) (sym c.in-Run.is) c.in_ok-answer-in-Run.ensures.answers)
     c.print_told-in-Run.ensures.prints c.print_told-in-Run.ensures.fails
 
+pub returns-in_ok-answer-in-Run-clause-unread : goal.returns-in_ok-answer-in-Run-clause-unread
+returns-in_ok-answer-in-Run-clause-unread g c = λ unread.
+    let no : false ≡ true =
+    c.in_ok-answer-in-Run.ensures.unread
+    (subst (λ (r : Request). IsUnread (g.F.Files.CannotOpen c.args.files.now) (g.F.Files.bytes_at c.args.files.now) (task_of r)) c.in-Run.is unread) in
+    absurd (true≢false (sym no))
+
 pub returns-in_ok-answer-in-Draw-clause-leaves : goal.returns-in_ok-answer-in-Draw-clause-leaves
 returns-in_ok-answer-in-Draw-clause-leaves g c =
     let answer = c.in_ok-answer-in-Draw.answer in
