@@ -1,6 +1,6 @@
-"""The developments and certificates that bench/run gives to `lincheck check`: some 95,000 conditions each, all of them
-proved. A register is read by many loads, of which the last is marked; what is claimed at each point has to be kept by many
-actions.
+"""The developments and certificates that bench/run gives to `lincheck check`: some 95,000 conditions each, but for one with long
+proofs, all of them proved. A register is read by many loads, of which the last is marked; what is claimed at each point has to be
+kept by many actions.
 
 Each function of CERTIFICATES answers the bytes of the two files.
 """
@@ -116,4 +116,15 @@ def spread_claims():
     return [development, certificate.replace(b" (", b"\n" + b" " * 19 + b"(")]
 
 
-CERTIFICATES = {it.__name__: it for it in (claims, stored_claims, spread_claims)}
+def one_point():
+    """The same number of conditions, nearly all of them of one point."""
+    return files("one_point", 1, 60, 0, 1500)
+
+
+def long_proofs():
+    """Few conditions, with long proofs: sums of many hypotheses, most of them taken no times."""
+    development, certificate = files("long_proofs", 15, 45, 45, 2)
+    return [development, certificate.replace(b"(sum", b"(sum" + b" (0 0)" * 350)]
+
+
+CERTIFICATES = {it.__name__: it for it in (claims, stored_claims, spread_claims, one_point, long_proofs)}

@@ -12,8 +12,8 @@ use Rattle.lc_base.specs.NameText.{is_name}
 use Rattle.lc_base.specs.declared.name.Name.{Name}
 use Rattle.lc_lib_texts.specs.Names.{lib_named}
 use Rattle.lc_lib_texts.specs.declared.library.Lib.{Lib}
-use Rattle.lc_words.specs.Reading.{beginning_task, begun, is_set, library_task, listed, listing_task, one_file_task, proving_task, showing_task, text_for, two_file_task, carrying_task}
-use Rattle.lc_words.specs.Tasks.{BeginDevelopment, PrintLibrary, Task, is_development_name, proving, showing, carrying}
+use Rattle.lc_words.specs.Reading.{beginning_task, begun, is_set, library_task, listed, listing_task, one_file_task, proving_task, running_task, showing_task, text_for, two_file_task, carrying_task}
+use Rattle.lc_words.specs.Tasks.{BeginDevelopment, PrintLibrary, RunPlan, Task, is_development_name, proving, showing, carrying}
 use Rattle.lc_words.specs.declared.request.LibraryText.{LibraryText}
 
 -- the task of one path, and of two, where clap finds them
@@ -45,6 +45,14 @@ carrying_found f old certificate new hints is_old is_certificate is_new is_hints
     ap₂ (λ x y. option_and_then (λ o. option_and_then (λ c. option_map (λ n. carrying o c n hints) new) y) x) (is_old ∙ first_value-rows f (codes "OLD")) (is_certificate ∙ first_value-rows f (codes "CERT"))
     ∙ ap₂ (λ x y. option_and_then (λ o. option_and_then (λ c. option_map (λ n. carrying o c n y) x) (first_of (codes "CERT") (rows_of f))) (first_of (codes "OLD") (rows_of f)))
     (is_new ∙ first_value-rows f (codes "NEW")) (is_hints ∙ first_value-rows f (codes "hints"))
+
+-- the task of running a development, where clap finds its paths
+pub running_found : (f : Found) (development certificate plan : Option Text) → development ≡ first_value f (codes "DEV") → certificate ≡ first_value f (codes "CERT")
+    → plan ≡ first_value f (codes "PLAN") → option_and_then (λ d. option_and_then (λ c. option_map (RunPlan d c) plan) certificate) development ≡ running_task (rows_of f)
+running_found f development certificate plan is_development is_certificate is_plan =
+    ap₂ (λ x y. option_and_then (λ d. option_and_then (λ c. option_map (RunPlan d c) plan) y) x) (is_development ∙ first_value-rows f (codes "DEV")) (is_certificate ∙ first_value-rows f (codes "CERT"))
+    ∙ ap (λ x. option_and_then (λ d. option_and_then (λ c. option_map (RunPlan d c) x) (first_of (codes "CERT") (rows_of f))) (first_of (codes "DEV") (rows_of f)))
+    (is_plan ∙ first_value-rows f (codes "PLAN"))
 
 -- a flag is set where its value is `true`
 pub flag_found : (f : Found) (name : Text) (value : Option Text) → value ≡ first_value f name → option_map_or (λ v. bytes_eq v (codes "true")) value false ≡ is_set name (rows_of f)

@@ -1,5 +1,6 @@
 mod Walks
 mod Numbers
+mod Workers
 mod Plain
 pub mod Faults
 mod Found

@@ -35,7 +35,7 @@ numbers_are_plain n small = numeral_is_plain (decimal n) (decimal_is_IsNumeral n
 said : (n : ℕ) → n < 2 ^ 64 → digits_value 10 (without_leading_plus (decimal n)) ≡ n
 said n small = let num = decimal_is_IsNumeral n small in ap (digits_value 10) (without_plus (decimal n) num.0) ∙ num.1
 
-unsigned_in : (low high n : ℕ) → n < 2 ^ 64 → low ≤ n → n ≤ high → IsUnsignedIn low high (decimal n)
+pub unsigned_in : (low high n : ℕ) → n < 2 ^ 64 → low ≤ n → n ≤ high → IsUnsignedIn low high (decimal n)
 unsigned_in low high n small least most =
     let num = decimal_is_IsNumeral n small in
     let value = said n small in (

@@ -1,5 +1,5 @@
 -- The words of each task are read as that task, and nothing is wrong in them.
-use Rattle.std.proofs.Common.{◌≡◌, ℕ, ◌==◌, Bool, true, false, not, true≢false, codes, List, [], ◌∷◌, Some, None, eqb-true, refl, sym, ◌∙◌, ap, subst}
+use Rattle.std.proofs.Common.{◌≡◌, ℕ, ◌==◌, ◌&&◌, Bool, true, false, not, true≢false, codes, List, [], ◌∷◌, Some, None, eqb-true, refl, sym, ◌∙◌, ap, subst}
 use Rattle.std.specs.Fmt.{decimal}
 use Rattle.std.specs.Prelude.{◌++◌, if◌then◌else◌, option_and_then, option_map}
 use Rattle.clap.specs.Words.{Text, built, is_simple, is_simple_and_free, subcommand_of, takes}
@@ -13,10 +13,11 @@ use Rattle.lc_lib_texts.specs.Names.{name_of}
 use Rattle.lc_lib_texts.specs.declared.library.Lib.{Lib}
 use Rattle.lc_lib_texts.specs.declared.library.Lib.TheVariants.{Counter, Stack, Lock, Snapshot, Combining, Rendezvous, Queue, PoolStack}
 use Rattle.lc_words.specs.Commands.{program_app}
-use Rattle.lc_words.specs.Reading.{AskFor, AskForReasons, is_explained, task_in}
-use Rattle.lc_words.specs.Tasks.{HasPlainPaths, Task, CheckFormula, JudgeHistory, ShowDevelopment, ShowLines, ListConditions, ListChosen, ShowCondition, OfPoint, OfKind, OfBoth, ReadsFiles, CheckCertificate, ProveDevelopment, ProveWithHints, DrawHistory, BeginDevelopment, PrintLibrary, is_development_name, is_plain, words_for, CarryCertificate, CarryWithHints}
+use Rattle.lc_words.specs.Reading.{AskFor, AskForReasons, checked, is_explained, task_in}
+use Rattle.lc_words.specs.Tasks.{HasPlainPaths, Task, CheckFormula, JudgeHistory, ShowDevelopment, ShowLines, ListConditions, ListChosen, ShowCondition, OfPoint, OfKind, OfBoth, ReadsFiles, CheckByWorkers, CheckCertificate, ProveDevelopment, ProveWithHints, DrawHistory, BeginDevelopment, PrintLibrary, RunPlan, is_development_name, is_plain, words_for, CarryCertificate, CarryWithHints}
 use Rattle.lc_words.specs.declared.request.LibraryText.TheVariants.{Development, Certificate, Hints}
 use Rattle.lc_words.proofs.Numbers.{number_back, numbers_are_plain}
+use Rattle.lc_words.proofs.Workers.{workers_are_few, workers_pass}
 use Rattle.lc_words.proofs.Walks.{Piece, built_over, command_is_read, command_is_taken, command_over, known, plain, words_of}
 
 pub program_is_simple : is_simple program_app ≡ true
@@ -64,6 +65,18 @@ is_taken : (name word : Text) (ps : List Piece) → subcommand_met (names_of (bu
     → takes program_app (name ∷ word ∷ words_of ps) ≡ built_over (built program_app) word ps
 is_taken name word ps is = command_is_taken program_app name word word ps program_is_simple refl is
 
+-- the words of workers, plain and known
+abbrev worker_pieces : (development certificate : List ℕ) (workers : ℕ) → HasPlainPaths (CheckByWorkers development certificate workers) → List Piece
+worker_pieces development certificate workers is =
+    plain development is.0 ∷ plain certificate is.1 ∷ known (codes "--workers") ∷ plain (decimal workers) (numbers_are_plain workers (workers_are_few workers is.3)) ∷ []
+
+-- the test that they pass, alone and with a flag behind them, where this is what the number passes
+abbrev passed : Bool → Bool
+passed t = ((t && true) && true) && true
+
+abbrev passed_too : Bool → Bool
+passed_too t = (((((t && true) && true) && true) && true) && true) && true
+
 -- ---- the words of a task
 
 -- the paths are those that are given
@@ -84,11 +97,15 @@ task_is_read name (ShowCondition development number) is =
     is_read name (codes "conditions") (plain development is.0 ∷ known (codes "--at") ∷ plain (decimal number) (numbers_are_plain number is.1) ∷ []) refl
     ∙ ap (option_map (ShowCondition development)) (number_back number is.1)
 task_is_read name (CheckCertificate development certificate) is = is_read name (codes "check") (plain development is.0 ∷ plain certificate is.1 ∷ []) refl
+task_is_read name (CheckByWorkers development certificate workers) is =
+    is_read name (codes "check") (worker_pieces development certificate workers is) refl
+    ∙ ap (λ n. checked development certificate n false) (number_back workers (workers_are_few workers is.3))
 task_is_read name (ProveDevelopment development) is = is_read name (codes "prove") (plain development is ∷ []) refl
 task_is_read name (ProveWithHints development hints) is = is_read name (codes "prove") (plain development is.0 ∷ known (codes "--hints") ∷ plain hints is.1 ∷ []) refl
 task_is_read name (CarryCertificate old certificate new) is = is_read name (codes "carry") (plain old is.0 ∷ plain certificate is.1 ∷ plain new is.2 ∷ []) refl
 task_is_read name (CarryWithHints old certificate new hints) is =
     is_read name (codes "carry") (plain old is.0 ∷ plain certificate is.1 ∷ plain new is.2 ∷ known (codes "--hints") ∷ plain hints is.3 ∷ []) refl
+task_is_read name (RunPlan development certificate plan) is = is_read name (codes "run") (plain development is.0 ∷ plain certificate is.1 ∷ plain plan is.2 ∷ []) refl
 task_is_read name (DrawHistory development history) is = is_read name (codes "draw") (plain development is.0 ∷ plain history is.1 ∷ []) refl
 task_is_read name (BeginDevelopment own) is =
     is_read name (codes "new") (plain own (named_is_plain own is) ∷ []) refl
@@ -120,11 +137,15 @@ words_are_taken name (ListChosen development (OfBoth point kind)) is =
 words_are_taken name (ShowCondition development number) is =
     is_taken name (codes "conditions") (plain development is.0 ∷ known (codes "--at") ∷ plain (decimal number) (numbers_are_plain number is.1) ∷ []) refl
 words_are_taken name (CheckCertificate development certificate) is = is_taken name (codes "check") (plain development is.0 ∷ plain certificate is.1 ∷ []) refl
+words_are_taken name (CheckByWorkers development certificate workers) is =
+    is_taken name (codes "check") (worker_pieces development certificate workers is) refl
+    ∙ ap passed (workers_pass workers is.2 is.3)
 words_are_taken name (ProveDevelopment development) is = is_taken name (codes "prove") (plain development is ∷ []) refl
 words_are_taken name (ProveWithHints development hints) is = is_taken name (codes "prove") (plain development is.0 ∷ known (codes "--hints") ∷ plain hints is.1 ∷ []) refl
 words_are_taken name (CarryCertificate old certificate new) is = is_taken name (codes "carry") (plain old is.0 ∷ plain certificate is.1 ∷ plain new is.2 ∷ []) refl
 words_are_taken name (CarryWithHints old certificate new hints) is =
     is_taken name (codes "carry") (plain old is.0 ∷ plain certificate is.1 ∷ plain new is.2 ∷ known (codes "--hints") ∷ plain hints is.3 ∷ []) refl
+words_are_taken name (RunPlan development certificate plan) is = is_taken name (codes "run") (plain development is.0 ∷ plain certificate is.1 ∷ plain plan is.2 ∷ []) refl
 words_are_taken name (DrawHistory development history) is = is_taken name (codes "draw") (plain development is.0 ∷ plain history is.1 ∷ []) refl
 words_are_taken name (BeginDevelopment own) is = is_taken name (codes "new") (plain own (named_is_plain own is) ∷ []) refl
 words_are_taken name (PrintLibrary lib Development) is = is_taken name (codes "library") (plain (name_of lib) (names_are_plain lib) ∷ []) refl
@@ -159,6 +180,9 @@ task_is_read_too name (ShowCondition development number) is reads =
     ∙ ap (option_map (ShowCondition development)) (number_back number is.1)
 task_is_read_too name (CheckCertificate development certificate) is reads =
     is_read name (codes "check") (plain development is.0 ∷ plain certificate is.1 ∷ known (codes "--explain") ∷ []) refl
+task_is_read_too name (CheckByWorkers development certificate workers) is reads =
+    is_read name (codes "check") (worker_pieces development certificate workers is ++ known (codes "--explain") ∷ []) refl
+    ∙ ap (λ n. checked development certificate n false) (number_back workers (workers_are_few workers is.3))
 task_is_read_too name (ProveDevelopment development) is reads = is_read name (codes "prove") (plain development is ∷ known (codes "--explain") ∷ []) refl
 task_is_read_too name (ProveWithHints development hints) is reads =
     is_read name (codes "prove") (plain development is.0 ∷ known (codes "--hints") ∷ plain hints is.1 ∷ known (codes "--explain") ∷ []) refl
@@ -166,6 +190,8 @@ task_is_read_too name (CarryCertificate old certificate new) is reads =
     is_read name (codes "carry") (plain old is.0 ∷ plain certificate is.1 ∷ plain new is.2 ∷ known (codes "--explain") ∷ []) refl
 task_is_read_too name (CarryWithHints old certificate new hints) is reads =
     is_read name (codes "carry") (plain old is.0 ∷ plain certificate is.1 ∷ plain new is.2 ∷ known (codes "--hints") ∷ plain hints is.3 ∷ known (codes "--explain") ∷ []) refl
+task_is_read_too name (RunPlan development certificate plan) is reads =
+    is_read name (codes "run") (plain development is.0 ∷ plain certificate is.1 ∷ plain plan is.2 ∷ known (codes "--explain") ∷ []) refl
 task_is_read_too name (DrawHistory development history) is reads =
     is_read name (codes "draw") (plain development is.0 ∷ plain history is.1 ∷ known (codes "--explain") ∷ []) refl
 task_is_read_too name (BeginDevelopment own) is reads = absurd reads
@@ -189,6 +215,9 @@ words_are_taken_too name (ShowCondition development number) is reads =
     is_taken name (codes "conditions") (plain development is.0 ∷ known (codes "--at") ∷ plain (decimal number) (numbers_are_plain number is.1) ∷ known (codes "--explain") ∷ []) refl
 words_are_taken_too name (CheckCertificate development certificate) is reads =
     is_taken name (codes "check") (plain development is.0 ∷ plain certificate is.1 ∷ known (codes "--explain") ∷ []) refl
+words_are_taken_too name (CheckByWorkers development certificate workers) is reads =
+    is_taken name (codes "check") (worker_pieces development certificate workers is ++ known (codes "--explain") ∷ []) refl
+    ∙ ap passed_too (workers_pass workers is.2 is.3)
 words_are_taken_too name (ProveDevelopment development) is reads = is_taken name (codes "prove") (plain development is ∷ known (codes "--explain") ∷ []) refl
 words_are_taken_too name (ProveWithHints development hints) is reads =
     is_taken name (codes "prove") (plain development is.0 ∷ known (codes "--hints") ∷ plain hints is.1 ∷ known (codes "--explain") ∷ []) refl
@@ -196,6 +225,8 @@ words_are_taken_too name (CarryCertificate old certificate new) is reads =
     is_taken name (codes "carry") (plain old is.0 ∷ plain certificate is.1 ∷ plain new is.2 ∷ known (codes "--explain") ∷ []) refl
 words_are_taken_too name (CarryWithHints old certificate new hints) is reads =
     is_taken name (codes "carry") (plain old is.0 ∷ plain certificate is.1 ∷ plain new is.2 ∷ known (codes "--hints") ∷ plain hints is.3 ∷ known (codes "--explain") ∷ []) refl
+words_are_taken_too name (RunPlan development certificate plan) is reads =
+    is_taken name (codes "run") (plain development is.0 ∷ plain certificate is.1 ∷ plain plan is.2 ∷ known (codes "--explain") ∷ []) refl
 words_are_taken_too name (DrawHistory development history) is reads =
     is_taken name (codes "draw") (plain development is.0 ∷ plain history is.1 ∷ known (codes "--explain") ∷ []) refl
 words_are_taken_too name (BeginDevelopment own) is reads = absurd reads
@@ -219,6 +250,8 @@ reasons_are_asked name (ShowCondition development number) is reads =
     is_told name (codes "conditions") (plain development is.0 ∷ known (codes "--at") ∷ plain (decimal number) (numbers_are_plain number is.1) ∷ known (codes "--explain") ∷ []) refl
 reasons_are_asked name (CheckCertificate development certificate) is reads =
     is_told name (codes "check") (plain development is.0 ∷ plain certificate is.1 ∷ known (codes "--explain") ∷ []) refl
+reasons_are_asked name (CheckByWorkers development certificate workers) is reads =
+    is_told name (codes "check") (worker_pieces development certificate workers is ++ known (codes "--explain") ∷ []) refl
 reasons_are_asked name (ProveDevelopment development) is reads = is_told name (codes "prove") (plain development is ∷ known (codes "--explain") ∷ []) refl
 reasons_are_asked name (ProveWithHints development hints) is reads =
     is_told name (codes "prove") (plain development is.0 ∷ known (codes "--hints") ∷ plain hints is.1 ∷ known (codes "--explain") ∷ []) refl
@@ -226,6 +259,8 @@ reasons_are_asked name (CarryCertificate old certificate new) is reads =
     is_told name (codes "carry") (plain old is.0 ∷ plain certificate is.1 ∷ plain new is.2 ∷ known (codes "--explain") ∷ []) refl
 reasons_are_asked name (CarryWithHints old certificate new hints) is reads =
     is_told name (codes "carry") (plain old is.0 ∷ plain certificate is.1 ∷ plain new is.2 ∷ known (codes "--hints") ∷ plain hints is.3 ∷ known (codes "--explain") ∷ []) refl
+reasons_are_asked name (RunPlan development certificate plan) is reads =
+    is_told name (codes "run") (plain development is.0 ∷ plain certificate is.1 ∷ plain plan is.2 ∷ known (codes "--explain") ∷ []) refl
 reasons_are_asked name (DrawHistory development history) is reads =
     is_told name (codes "draw") (plain development is.0 ∷ plain history is.1 ∷ known (codes "--explain") ∷ []) refl
 reasons_are_asked name (BeginDevelopment own) is reads = absurd reads

@@ -2,6 +2,7 @@
 use Rattle.std.specs.Prelude.{true, codes, [], Some}
 use Rattle.clap.specs.Words.{App, Rule, Text, new_app, new_rule, with_rule, with_subcommand}
 use Rattle.clap.specs.declared.builder.action.ArgAction.TheVariants.{Set, SetTrue}
+use Rattle.clap.specs.declared.builder.value_parser.ValueParser.TheVariants.{Unsigned}
 
 -- a required argument that names a file
 abbrev pub file_rule : Text → Rule
@@ -14,6 +15,10 @@ option_rule name = record (new_rule name) { long = Some name; action = Some Set;
 -- a required argument that names an object
 abbrev pub object_rule : Text → Rule
 object_rule name = record (new_rule name) { action = Some Set; required = true }
+
+-- an option with a number of workers, from 1 to 64
+abbrev pub workers_rule : Rule
+workers_rule = record (option_rule (codes "workers")) { parser = Some (Unsigned 1 64) }
 
 -- an option without a value
 abbrev pub flag_rule : Text → Rule
@@ -47,9 +52,13 @@ conditions_app = explained (with_rule (with_rule listing_app (option_rule (codes
 abbrev pub check_files_app : App
 check_files_app = with_rule (with_rule (new_app (codes "check")) (file_rule (codes "DEV"))) (file_rule (codes "CERT"))
 
--- `check DEV CERT [--all] [--progress] [--explain]`
+-- `check DEV CERT [--workers N]`
+abbrev pub check_workers_app : App
+check_workers_app = with_rule check_files_app workers_rule
+
+-- `check DEV CERT [--workers N] [--all] [--progress] [--explain]`
 abbrev pub check_app : App
-check_app = explained (with_rule (with_rule check_files_app (flag_rule (codes "all"))) (flag_rule (codes "progress")))
+check_app = explained (with_rule (with_rule check_workers_app (flag_rule (codes "all"))) (flag_rule (codes "progress")))
 
 -- `prove DEV [--hints FILE]`
 abbrev pub prove_files_app : App
@@ -66,6 +75,14 @@ carry_files_app = with_rule (with_rule (with_rule (new_app (codes "carry")) (fil
 -- `carry OLD CERT NEW [--hints FILE] [--progress] [--explain]`
 abbrev pub carry_app : App
 carry_app = explained (with_rule (with_rule carry_files_app (option_rule (codes "hints"))) (flag_rule (codes "progress")))
+
+-- `run DEV CERT PLAN`
+abbrev pub run_files_app : App
+run_files_app = with_rule (with_rule (with_rule (new_app (codes "run")) (file_rule (codes "DEV"))) (file_rule (codes "CERT"))) (file_rule (codes "PLAN"))
+
+-- `run DEV CERT PLAN [--explain]`
+abbrev pub run_app : App
+run_app = explained run_files_app
 
 -- `library NAME [--certificate] [--hints]`
 abbrev pub library_app : App
@@ -99,6 +116,10 @@ proving_app = with_subcommand (with_subcommand further_app check_app.top) prove_
 abbrev pub carrying_app : App
 carrying_app = with_subcommand (with_subcommand proving_app carry_app.top) library_app.top
 
+-- the program with its first ten commands
+abbrev pub drawing_app : App
+drawing_app = with_subcommand (with_subcommand carrying_app draw_app.top) begin_app.top
+
 -- the program and its commands
 abbrev pub program_app : App
-program_app = with_subcommand (with_subcommand carrying_app draw_app.top) begin_app.top
+program_app = with_subcommand drawing_app run_app.top

@@ -9,7 +9,7 @@ use Rattle.clap.specs.declared.error.kind.ErrorKind.{ErrorKind}
 use Rattle.clap.specs.declared.error.kind.ErrorKind.TheVariants.{DisplayHelp, DisplayVersion}
 use Rattle.lc_lib_texts.specs.Names.{lib_named}
 use Rattle.lc_words.specs.Commands.{program_app}
-use Rattle.lc_words.specs.Tasks.{BeginDevelopment, CheckCertificate, CheckFormula, DrawHistory, JudgeHistory, PrintLibrary, ShowCondition, Task, is_development_name, listing, proving, showing, task_of, ShowDevelopment, carrying}
+use Rattle.lc_words.specs.Tasks.{BeginDevelopment, CheckByWorkers, CheckCertificate, CheckFormula, DrawHistory, JudgeHistory, PrintLibrary, RunPlan, ShowCondition, Task, is_development_name, listing, proving, showing, task_of, ShowDevelopment, carrying}
 use Rattle.lc_words.specs.declared.request.LibraryText.{LibraryText}
 use Rattle.lc_words.specs.declared.request.LibraryText.TheVariants.{Development, Certificate, Hints}
 use Rattle.lc_words.specs.declared.request.Request.{Request}
@@ -28,6 +28,12 @@ carrying_task rows =
     option_and_then (λ old. option_and_then (λ certificate. option_map (λ new. carrying old certificate new (first_of (codes "hints") rows)) (first_of (codes "NEW") rows)) (first_of (codes "CERT") rows))
     (first_of (codes "OLD") rows)
 
+-- the task of running the development that these arguments name, with the certificate and the plan that they name
+abbrev pub running_task : List Row → Option Task
+running_task rows =
+    option_and_then (λ development. option_and_then (λ certificate. option_map (RunPlan development certificate) (first_of (codes "PLAN") rows)) (first_of (codes "CERT") rows))
+    (first_of (codes "DEV") rows)
+
 -- the flag is set: its value is `true`
 abbrev pub is_set : Text → List Row → Bool
 is_set name rows = option_map_or (λ value. bytes_eq value (codes "true")) (first_of name rows) false
@@ -44,6 +50,20 @@ showing_task rows = option_map (λ development. showing development (is_set (cod
 -- the number that a text says, within 64 bits
 unfoldable pub number_in : Text → Option ℕ
 number_in text = if is_unsigned_in 0 18446744073709551615 text then Some (digits_value 10 (without_leading_plus text)) else None
+
+-- the number of workers that is given, if one is
+abbrev pub workers_given : List Row → Option ℕ
+workers_given rows = option_and_then number_in (first_of (codes "workers") rows)
+
+-- the task of checking a certificate, by workers or with a word of how far it is, which exclude each other
+abbrev pub checked : List ℕ → List ℕ → (workers : Option ℕ) (progress : Bool) → Option Task
+checked development certificate None progress = Some (CheckCertificate development certificate)
+checked development certificate (Some workers) false = Some (CheckByWorkers development certificate workers)
+checked development certificate (Some workers) true = None
+
+abbrev pub checking_task : List Row → Option Task
+checking_task rows =
+    option_and_then (λ development. option_and_then (λ certificate. checked development certificate (workers_given rows) (is_set (codes "progress") rows)) (first_of (codes "CERT") rows)) (first_of (codes "DEV") rows)
 
 -- the task of showing the condition of the number that is given, or of listing those of a point and of a kind, which exclude a number
 abbrev pub listed : List ℕ → (number point kind : Option Text) → Option Task
@@ -92,7 +112,7 @@ task_in_command c =
     else (if bytes_eq c.0 (codes "conditions")
     then listing_task c.1
     else (if bytes_eq c.0 (codes "check")
-    then two_file_task CheckCertificate (codes "CERT") c.1
+    then checking_task c.1
     else (if bytes_eq c.0 (codes "prove")
     then proving_task c.1
     else (if bytes_eq c.0 (codes "carry")
@@ -101,7 +121,9 @@ task_in_command c =
     then library_task c.1
     else (if bytes_eq c.0 (codes "draw")
     then two_file_task DrawHistory (codes "HISTORY") c.1
-    else (if bytes_eq c.0 (codes "new") then beginning_task c.1 else None)))))))))
+    else (if bytes_eq c.0 (codes "new")
+    then beginning_task c.1
+    else (if bytes_eq c.0 (codes "run") then running_task c.1 else None))))))))))
 
 -- the task of a command with its arguments, if there is one
 abbrev pub task_in : Option (Text × List Row) → Option Task

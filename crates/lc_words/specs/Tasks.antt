@@ -1,5 +1,5 @@
 -- What may be asked for, and the words that ask for it.
-use Rattle.std.specs.Prelude.{◌≡◌, ◌<◌, ◌^◌, ℕ, ◌==◌, ◌&&◌, nat_le, length, map, string_bytes, String, Bool, true, false, not, codes, List, [], ◌∷◌, Option, Some, None, option_map}
+use Rattle.std.specs.Prelude.{◌≡◌, ◌≤◌, ◌<◌, ◌^◌, ℕ, ◌==◌, ◌&&◌, nat_le, length, map, string_bytes, String, Bool, true, false, not, codes, List, [], ◌∷◌, Option, Some, None, option_map}
 use Rattle.std.specs.Borrow.{Bor}
 use Rattle.std.specs.Fmt.{decimal}
 use Rattle.std.specs.declared.alloc.Global.{Global}
@@ -13,7 +13,7 @@ use Rattle.lc_words.specs.declared.request.Chosen.TheVariants.{Number, Those}
 use Rattle.lc_words.specs.declared.request.LibraryText.{LibraryText}
 use Rattle.lc_words.specs.declared.request.LibraryText.TheVariants.{Development, Certificate, Hints}
 use Rattle.lc_words.specs.declared.request.Request.{Request}
-use Rattle.lc_words.specs.declared.request.Request.TheVariants.{Formula, Judge, Show, Conditions, Check, Prove, Draw, New, Library, Carry}
+use Rattle.lc_words.specs.declared.request.Request.TheVariants.{Formula, Judge, Show, Conditions, Check, Prove, Draw, New, Library, Carry, Run}
 
 -- Which conditions are chosen: those of a point, of a kind, or of both, by their words
 pub data Filter : Type 0 where
@@ -23,10 +23,12 @@ pub data Filter : Type 0 where
 
 -- What may be asked for: that the proof in the file at a path is checked; that the history in one file is judged by the
 -- specification in another; that the development in a file is shown, or laid out over lines; that its conditions are listed, or those
--- that are chosen, or one is shown by its number; that the certificate in one file is checked against the development in another; that a certificate is found of the development in a file, without
+-- that are chosen, or one is shown by its number; that the certificate in one file is checked against the development in another, by itself
+-- or by so many workers; that a certificate is found of the development in a file, without
 -- hints or with those in another; that a certificate is found of a new development, with the proofs of an old one, by its
--- certificate, without hints or with those in a further file; that the history in one file is drawn by the specification in another;
--- that a development of a name is begun; or that a text of an object of the library is printed
+-- certificate, without hints or with those in a further file; that the development in a file is run, which the certificate in another
+-- proves, by the plan in a third; that the history in one file is drawn by the specification in another; that a development of a name
+-- is begun; or that a text of an object of the library is printed
 pub data Task : Type 0 where
   CheckFormula : (path : List ℕ) → Task
   JudgeHistory : (development history : List ℕ) → Task
@@ -36,10 +38,12 @@ pub data Task : Type 0 where
   ListChosen : (development : List ℕ) (filter : Filter) → Task
   ShowCondition : (development : List ℕ) (number : ℕ) → Task
   CheckCertificate : (development certificate : List ℕ) → Task
+  CheckByWorkers : (development certificate : List ℕ) (workers : ℕ) → Task
   ProveDevelopment : (development : List ℕ) → Task
   ProveWithHints : (development hints : List ℕ) → Task
   CarryCertificate : (old certificate new : List ℕ) → Task
   CarryWithHints : (old certificate new hints : List ℕ) → Task
+  RunPlan : (development certificate plan : List ℕ) → Task
   DrawHistory : (development history : List ℕ) → Task
   BeginDevelopment : (name : List ℕ) → Task
   PrintLibrary : (lib : Lib) (text : LibraryText) → Task
@@ -55,6 +59,11 @@ listing development None None = ListConditions development
 listing development (Some point) None = ListChosen development (OfPoint point)
 listing development None (Some kind) = ListChosen development (OfKind kind)
 listing development (Some point) (Some kind) = ListChosen development (OfBoth point kind)
+
+-- the task of checking a certificate, by so many workers if a number is given
+abbrev pub checking : List ℕ → List ℕ → Option ℕ → Task
+checking development certificate None = CheckCertificate development certificate
+checking development certificate (Some workers) = CheckByWorkers development certificate workers
 
 -- the task of proving a development, with hints if there is a path of such
 abbrev pub proving : List ℕ → Option (List ℕ) → Task
@@ -81,9 +90,10 @@ task_of (Formula path) = CheckFormula path.now
 task_of (Judge development history) = JudgeHistory development.now history.now
 task_of (Show development lines) = showing development.now lines
 task_of (Conditions development chosen) = chosen_task development.now chosen
-task_of (Check development certificate all progress) = CheckCertificate development.now certificate.now
+task_of (Check development certificate workers all progress) = checking development.now certificate.now workers
 task_of (Prove development hints progress) = proving development.now (path_in hints)
 task_of (Carry old certificate new hints progress) = carrying old.now certificate.now new.now (path_in hints)
+task_of (Run development certificate plan) = RunPlan development.now certificate.now plan.now
 task_of (Draw development history) = DrawHistory development.now history.now
 task_of (New name) = BeginDevelopment name.now
 task_of (Library lib text) = PrintLibrary lib text
@@ -123,10 +133,12 @@ words_for name (ListConditions development) = name ∷ codes "conditions" ∷ de
 words_for name (ListChosen development filter) = name ∷ codes "conditions" ∷ development ∷ filter_words filter
 words_for name (ShowCondition development number) = name ∷ codes "conditions" ∷ development ∷ codes "--at" ∷ decimal number ∷ []
 words_for name (CheckCertificate development certificate) = name ∷ codes "check" ∷ development ∷ certificate ∷ []
+words_for name (CheckByWorkers development certificate workers) = name ∷ codes "check" ∷ development ∷ certificate ∷ codes "--workers" ∷ decimal workers ∷ []
 words_for name (ProveDevelopment development) = name ∷ codes "prove" ∷ development ∷ []
 words_for name (ProveWithHints development hints) = name ∷ codes "prove" ∷ development ∷ codes "--hints" ∷ hints ∷ []
 words_for name (CarryCertificate old certificate new) = name ∷ codes "carry" ∷ old ∷ certificate ∷ new ∷ []
 words_for name (CarryWithHints old certificate new hints) = name ∷ codes "carry" ∷ old ∷ certificate ∷ new ∷ codes "--hints" ∷ hints ∷ []
+words_for name (RunPlan development certificate plan) = name ∷ codes "run" ∷ development ∷ certificate ∷ plan ∷ []
 words_for name (DrawHistory development history) = name ∷ codes "draw" ∷ development ∷ history ∷ []
 words_for name (BeginDevelopment own) = name ∷ codes "new" ∷ own ∷ []
 words_for name (PrintLibrary lib text) = library_words name (name_of lib) text
@@ -137,7 +149,7 @@ HasPlainWords (OfPoint point) = is_plain point ≡ true
 HasPlainWords (OfKind kind) = is_plain kind ≡ true
 HasPlainWords (OfBoth point kind) = (is_plain point ≡ true) × (is_plain kind ≡ true)
 
--- none of its paths begins with a hyphen, what is to be a name is one, and a number has 64 bits
+-- none of its paths begins with a hyphen, what is to be a name is one, a number has 64 bits, and there are 1 to 64 workers
 abbrev pub HasPlainPaths : Task → Type 0
 HasPlainPaths (CheckFormula path) = is_plain path ≡ true
 HasPlainPaths (JudgeHistory development history) = (is_plain development ≡ true) × (is_plain history ≡ true)
@@ -147,10 +159,12 @@ HasPlainPaths (ListConditions development) = is_plain development ≡ true
 HasPlainPaths (ListChosen development filter) = (is_plain development ≡ true) × HasPlainWords filter
 HasPlainPaths (ShowCondition development number) = (is_plain development ≡ true) × (number < 2 ^ 64)
 HasPlainPaths (CheckCertificate development certificate) = (is_plain development ≡ true) × (is_plain certificate ≡ true)
+HasPlainPaths (CheckByWorkers development certificate workers) = (is_plain development ≡ true) × (is_plain certificate ≡ true) × (1 ≤ workers) × (workers ≤ 64)
 HasPlainPaths (ProveDevelopment development) = is_plain development ≡ true
 HasPlainPaths (ProveWithHints development hints) = (is_plain development ≡ true) × (is_plain hints ≡ true)
 HasPlainPaths (CarryCertificate old certificate new) = (is_plain old ≡ true) × (is_plain certificate ≡ true) × (is_plain new ≡ true)
 HasPlainPaths (CarryWithHints old certificate new hints) = (is_plain old ≡ true) × (is_plain certificate ≡ true) × (is_plain new ≡ true) × (is_plain hints ≡ true)
+HasPlainPaths (RunPlan development certificate plan) = (is_plain development ≡ true) × (is_plain certificate ≡ true) × (is_plain plan ≡ true)
 HasPlainPaths (DrawHistory development history) = (is_plain development ≡ true) × (is_plain history ≡ true)
 HasPlainPaths (BeginDevelopment name) = is_development_name name ≡ true
 HasPlainPaths (PrintLibrary lib text) = Unit {0}

@@ -2,7 +2,7 @@
 ghost use Rattle.std.specs.Prelude.{◌≡◌, false, IfOk};
 ghost use Rattle.clap.specs.Words.{app_of, rule_of};
 ghost use Rattle.clap.specs.declared.builder.command.Command.TheViews.{out-Command};
-ghost use Rattle.lc_words.specs.Commands.{begin_app, carry_app, carry_files_app, carrying_app, check_app, check_files_app, conditions_app, draw_app, file_rule, first_app, flag_rule, formula_app, further_app, judge_app, library_app, listing_app, object_rule, option_rule, program_app, prove_app, prove_files_app, proving_app, show_app};
+ghost use Rattle.lc_words.specs.Commands.{begin_app, carry_app, carry_files_app, carrying_app, check_app, check_files_app, check_workers_app, conditions_app, draw_app, drawing_app, file_rule, first_app, flag_rule, formula_app, further_app, judge_app, library_app, listing_app, object_rule, option_rule, program_app, prove_app, prove_files_app, proving_app, run_app, run_files_app, show_app, workers_rule};
 
 use crate::texts::{
     ABOUT, CARRY, CARRY_ANSWER, CERTIFICATE_FILE, CHECK, CHECK_ALL, CHECK_ANSWER, CHECK_PROGRESS,
@@ -10,10 +10,15 @@ use crate::texts::{
     DRAW, DRAW_ANSWER, EXIT_STATUS, EXPLAIN, FORMULA, FORMULA_ANSWER, FORMULA_FILE, HINTS, JUDGE,
     JUDGE_ANSWER, JUDGE_DEVELOPMENT, JUDGE_HISTORY, LIBRARY, LIBRARY_ANSWER, LIBRARY_CERTIFICATE,
     LIBRARY_HINTS, NEW, NEW_ANSWER, NEW_DEVELOPMENT, NEW_HINTS, NEW_NAME, OBJECT, OLD,
-    OLD_CERTIFICATE, PROGRESS, PROVE, PROVE_ANSWER, SHOW, SHOW_ANSWER, SHOW_LINES, VERSION,
+    OLD_CERTIFICATE, PLAN_FILE, PROGRESS, PROVE, PROVE_ANSWER, RUN, RUN_ANSWER, SHOW, SHOW_ANSWER,
+    SHOW_LINES, VERSION, WORKERS,
 };
+use clap::builder::ValueParser;
 use clap::{Arg, ArgAction, Command};
 use std::alloc::{AllocError, Global};
+
+/// The most workers that a certificate is checked by.
+const MOST_WORKERS: u64 = 64;
 
 /// An argument that names a file.
 fn file<'a>(alloc: Global, name: &'a str, help: &'a str) -> Arg<'a>
@@ -127,11 +132,30 @@ fn check_files<'a>(alloc: Global) -> Result<Command<'a>, AllocError>
         .arg(file(alloc, "CERT", CERTIFICATE_FILE))
 }
 
+/// An option with a number of workers.
+fn workers<'a>(alloc: Global) -> Arg<'a>
+    ensures rule { rule_of result ≡ workers_rule }
+    ensures local { result.global ≡ false }
+{
+    value_option(alloc, "workers", "N", WORKERS).value_parser(ValueParser::Unsigned(
+        1,
+        MOST_WORKERS,
+    ))
+}
+
+/// The command `check` with its files and the number of workers.
+fn check_workers<'a>(alloc: Global) -> Result<Command<'a>, AllocError>
+    ensures app { IfOk result (λ command. app_of command ≡ check_workers_app) }
+    ensures local { IfOk result (λ command. (out-Command command).has_globals ≡ false) }
+{
+    check_files(alloc)?.arg(workers(alloc))
+}
+
 fn check_command<'a>(alloc: Global) -> Result<Command<'a>, AllocError>
     ensures app { IfOk result (λ command. app_of command ≡ check_app) }
     ensures local { IfOk result (λ command. (out-Command command).has_globals ≡ false) }
 {
-    check_files(alloc)?
+    check_workers(alloc)?
         .arg(flag(alloc, "all", CHECK_ALL))?
         .arg(flag(alloc, "progress", CHECK_PROGRESS))?
         .arg(flag(alloc, "explain", EXPLAIN))
@@ -179,6 +203,26 @@ fn carry_command<'a>(alloc: Global) -> Result<Command<'a>, AllocError>
         .arg(file_option(alloc, "hints", NEW_HINTS))?
         .arg(flag(alloc, "progress", PROGRESS))?
         .arg(flag(alloc, "explain", EXPLAIN))
+}
+
+/// The command `run` with its files.
+fn run_files<'a>(alloc: Global) -> Result<Command<'a>, AllocError>
+    ensures app { IfOk result (λ command. app_of command ≡ run_files_app) }
+    ensures local { IfOk result (λ command. (out-Command command).has_globals ≡ false) }
+{
+    Command::new(alloc, "run")
+        .about(RUN)
+        .after_help(RUN_ANSWER)
+        .arg(file(alloc, "DEV", DEVELOPMENT))?
+        .arg(file(alloc, "CERT", CERTIFICATE_FILE))?
+        .arg(file(alloc, "PLAN", PLAN_FILE))
+}
+
+fn run_command<'a>(alloc: Global) -> Result<Command<'a>, AllocError>
+    ensures app { IfOk result (λ command. app_of command ≡ run_app) }
+    ensures local { IfOk result (λ command. (out-Command command).has_globals ≡ false) }
+{
+    run_files(alloc)?.arg(flag(alloc, "explain", EXPLAIN))
 }
 
 /// An argument that names an object.
@@ -265,10 +309,17 @@ fn carrying_commands<'a>(alloc: Global) -> Result<Command<'a>, AllocError>
         .subcommand(library_command(alloc)?)
 }
 
-pub(crate) fn program<'a>(alloc: Global) -> Result<Command<'a>, AllocError>
-    ensures { IfOk result (λ command. app_of command ≡ program_app) }
+/// The program with its first ten commands.
+fn drawing_commands<'a>(alloc: Global) -> Result<Command<'a>, AllocError>
+    ensures { IfOk result (λ command. app_of command ≡ drawing_app) }
 {
     carrying_commands(alloc)?
         .subcommand(draw_command(alloc)?)?
         .subcommand(new_command(alloc)?)
+}
+
+pub(crate) fn program<'a>(alloc: Global) -> Result<Command<'a>, AllocError>
+    ensures { IfOk result (λ command. app_of command ≡ program_app) }
+{
+    drawing_commands(alloc)?.subcommand(run_command(alloc)?)
 }

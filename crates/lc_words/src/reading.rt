@@ -4,7 +4,7 @@ ghost use Rattle.clap.specs.Words.{found_of, kind_of, rows_of, subcommand_of, su
 ghost use Rattle.clap.specs.declared.error.kind.ErrorKind.TheVariants.{OutOfMemory};
 ghost use Rattle.lc_words.specs.Commands.{program_app};
 ghost use Rattle.lc_words.specs.Tasks.{CheckCertificate, CheckFormula, DrawHistory, JudgeHistory, Task, chosen_task, path_in, task_of, texts_of};
-ghost use Rattle.lc_words.specs.Reading.{AreWrong, AskFor, AskForHelp, AsksForText, Reads, beginning_task, is_explained, is_set, library_task, listed, listing_task, number_in, one_file_task, proving_task, showing_task, task_in, text_for, two_file_task, carrying_task};
+ghost use Rattle.lc_words.specs.Reading.{AreWrong, AskFor, AskForHelp, AsksForText, Reads, beginning_task, checking_task, is_explained, is_set, library_task, listed, listing_task, number_in, one_file_task, proving_task, running_task, showing_task, task_in, text_for, two_file_task, carrying_task, checked, workers_given};
 
 use crate::commands::program;
 use crate::request::{Asked, Chosen, LibraryText, Request};
@@ -95,19 +95,44 @@ fn conditions_request<'a>(command: &ArgMatches<'a>) -> Option<Request<'a>>
     })
 }
 
+/// The number of workers, if one is given.
+fn workers_given(command: &ArgMatches<'_>) -> Option<u64>
+    ensures { result ≡ workers_given (rows_of (found_of command.now)) }
+{
+    number_in(command.get_str("workers")?)
+}
+
+/// The check that is asked for, by workers or with a word of how far it is, which exclude each other.
+fn checked<'a>(
+    development: &'a str,
+    certificate: &'a str,
+    workers: Option<u64>,
+    all: bool,
+    progress: bool,
+) -> Option<Request<'a>>
+    ensures { option_map task_of result ≡ checked development.entry.now certificate.entry.now workers progress }
+{
+    match (workers, progress) {
+        (Some(_), true) => None,
+        _ => Some(Request::Check {
+            development,
+            certificate,
+            workers,
+            all,
+            progress,
+        }),
+    }
+}
+
 fn check_request<'a>(command: &ArgMatches<'a>) -> Option<Request<'a>>
-    ensures { option_map task_of result ≡ two_file_task CheckCertificate (codes "CERT") (rows_of (found_of command.now)) }
+    ensures { option_map task_of result ≡ checking_task (rows_of (found_of command.now)) }
 {
     let development = command.get_str("DEV")?;
     let certificate = command.get_str("CERT")?;
+    let workers = workers_given(command);
     let all = command.get_flag("all");
-    let progress = command.get_flag("progress");
-    Some(Request::Check {
-        development,
-        certificate,
-        all,
-        progress,
-    })
+    let progress = is_set(command, "progress");
+    checked(development, certificate, workers, all, progress)
 }
 
 fn prove_request<'a>(command: &ArgMatches<'a>) -> Option<Request<'a>>
@@ -137,6 +162,19 @@ fn carry_request<'a>(command: &ArgMatches<'a>) -> Option<Request<'a>>
         new,
         hints,
         progress,
+    })
+}
+
+fn run_request<'a>(command: &ArgMatches<'a>) -> Option<Request<'a>>
+    ensures { option_map task_of result ≡ running_task (rows_of (found_of command.now)) }
+{
+    let development = command.get_str("DEV")?;
+    let certificate = command.get_str("CERT")?;
+    let plan = command.get_str("PLAN")?;
+    Some(Request::Run {
+        development,
+        certificate,
+        plan,
     })
 }
 
@@ -189,6 +227,7 @@ fn request_of<'a>(matches: &ArgMatches<'a>) -> Option<Request<'a>>
         "library" => library_request(command),
         "draw" => draw_request(command),
         "new" => new_request(command),
+        "run" => run_request(command),
         _ => None,
     }
 }
@@ -243,6 +282,10 @@ fn fault_in(matches: &ArgMatches<'_>) -> (ErrorKind, &'static str)
 {
     match matches.subcommand() {
         Some(("conditions", command)) => conditions_fault(command),
+        Some(("check", _)) => (
+            ErrorKind::ArgumentConflict,
+            "`--workers` and `--progress` exclude each other",
+        ),
         Some(("library", command)) => library_fault(command),
         Some(("new", _)) => (
             ErrorKind::ValueValidation,

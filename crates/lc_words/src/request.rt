@@ -41,11 +41,12 @@ pub enum Request<'a> {
         development: &'a str,
         chosen: Chosen<'a>,
     },
-    /// Check the certificate in a file against the development in another; and say which conditions are not proved, and how far it
-    /// is.
+    /// Check the certificate in a file against the development in another, by so many workers, if a number is given; and say which
+    /// conditions are not proved, and how far it is, which is not said of workers.
     Check {
         development: &'a str,
         certificate: &'a str,
+        workers: Option<u64>,
         all: bool,
         progress: bool,
     },
@@ -62,6 +63,12 @@ pub enum Request<'a> {
         new: &'a str,
         hints: Option<&'a str>,
         progress: bool,
+    },
+    /// Run the development in a file, which the certificate in another proves, by the plan in a third.
+    Run {
+        development: &'a str,
+        certificate: &'a str,
+        plan: &'a str,
     },
     /// Draw the history in a file, with its order, by the specification in another.
     Draw {

@@ -13,7 +13,8 @@ Exit status:
   1  refused
   2  the command line is wrong, and nothing was read
   3  a file cannot be read, or the answer cannot be written
-  4  out of memory
+  4  out of memory, or a thread cannot be started
+  5  what has run is not handed in as it should be
 
 Examples:
   lincheck formula examples/first.formula
@@ -24,6 +25,8 @@ Examples:
       reads what is claimed of a counter, with the proofs, and prints `accepted counter 59`
   lincheck prove examples/counter.lc
       reads what is claimed of a counter, and prints proofs of it
+  lincheck run examples/counter.lc examples/counter.cert examples/counter.plan
+      runs the counter in threads, and prints what happened with an order that linearizes it
   lincheck library queue
       prints a queue, with all that is claimed of it";
 
@@ -176,9 +179,16 @@ their steps come between each other, the history of their calls and returns is l
 With --explain a refusal by the codes 9 to 12 is followed, on standard error, by what condition K asks, and by the hypotheses
 that stand at the step, numbered as proofs number them. So a proof is written by putting (open), and reading what stands there.
 
-Example:
+With more than one worker CERT is read whole before its proofs are checked. The answer is the same for every number.
+
+Examples:
   lincheck check examples/counter.lc examples/counter.cert
-      prints `accepted counter 59`";
+      prints `accepted counter 59`
+  lincheck check examples/counter.lc examples/counter.cert --workers 4
+      prints the same, sooner where there is much to check";
+
+pub(crate) static WORKERS: &str =
+    "How many workers check proofs side by side, from 1 to 64; excludes --progress";
 
 pub(crate) static CHECK_ALL: &str =
     "Say on standard error of each condition that has no proof, or one that does not hold";
@@ -232,6 +242,26 @@ With --explain it also says on standard error how many proofs were carried and f
 Example:
   lincheck carry examples/counter.lc examples/counter.cert examples/faa_counter.lc
       prints a certificate of a counter that adds in one step, with 51 proofs";
+
+pub(crate) static RUN: &str = "Runs a development by clients in threads";
+
+pub(crate) static PLAN_FILE: &str =
+    "A plan: how many clients there are, and which calls they make in phases";
+
+pub(crate) static RUN_ANSWER: &str = "\
+Reads DEV and CERT as `check` does, and then PLAN. Runs the object by the clients of the plan, each in a thread of its own: the phases
+come one after another, and in each its clients make their calls side by side. Prints `linearizable COUNT`, with the number of calls
+that took effect, then a line for each client that did not come to its end, and then the history with an order of these calls that
+linearizes it, as `judge` reads them. A client did not come to its end for one of these reasons, and makes no further call:
+  client C spent     a call used all its turns
+  client C overflow  a number leaves 64 bits
+  client C full      1,000,000 steps were taken
+Which steps come first may be another at each run. Else it prints one line:
+  refused CODE ..  DEV or CERT is refused as by `check`, or PLAN by the codes 1 to 4 and 6
+
+Example:
+  lincheck run examples/counter.lc examples/counter.cert examples/counter.plan
+      prints `linearizable 201`, and how two clients counted to 200";
 
 pub(crate) static LIBRARY: &str = "Prints an object of the library";
 

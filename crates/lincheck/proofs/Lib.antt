@@ -6,6 +6,7 @@ mod OneAnswer
 mod Taken
 mod Endings
 mod Opened
+mod Sharing
 mod Proving
 mod OneHistory
 mod OneCheck
@@ -14,3 +15,4 @@ mod LaidOut
 mod OneCondition
 mod Beginnings
 mod Carrying
+mod Running

@@ -11,7 +11,7 @@ use Rattle.lc_outline_print.specs.Developments.{development_printed}
 use Rattle.lc_outline_text.specs.Developments.{file_reading}
 use Rattle.lincheck.specs.Carry.{AnswersCarry, AnswersWith, IsUnreadCarry}
 use Rattle.lincheck.specs.Check.{AnswersDevelopment, AnswersCheck}
-use Rattle.lc_words.specs.Tasks.{Task, CheckFormula, JudgeHistory, ShowDevelopment, ShowLines, ListConditions, ListChosen, ShowCondition, CheckCertificate, ProveDevelopment, ProveWithHints, DrawHistory, BeginDevelopment, PrintLibrary, CarryCertificate, CarryWithHints}
+use Rattle.lc_words.specs.Tasks.{Task, CheckFormula, JudgeHistory, ShowDevelopment, ShowLines, ListConditions, ListChosen, ShowCondition, CheckByWorkers, CheckCertificate, ProveDevelopment, ProveWithHints, DrawHistory, BeginDevelopment, PrintLibrary, CarryCertificate, CarryWithHints, RunPlan}
 use Rattle.lincheck.specs.Condition.{AnswersCondition, kind_of, point_of}
 use Rattle.lincheck.specs.Draw.{AnswersDraw}
 use Rattle.lincheck.specs.Formula.{AnswersFormula}
@@ -21,6 +21,7 @@ use Rattle.lincheck.specs.Lines.{AnswersLines}
 use Rattle.lincheck.specs.New.{AnswersNew}
 use Rattle.lincheck.specs.Prove.{AnswersProve, AnswersHinted}
 use Rattle.lincheck.specs.Printing.{Begins, IsInPieces}
+use Rattle.lincheck.specs.Run.{AnswersRun, IsUnreadRun}
 
 -- the answer to a task, where the files that it names are known
 abbrev pub AnswersTask : (List ℕ → Option (List ℕ)) → Task → List ℕ → ℕ → Type 0
@@ -38,6 +39,8 @@ AnswersTask bytes_at (ShowCondition development number) text status =
     IfSome (bytes_at development) (λ file. AnswersCondition number file text status)
 AnswersTask bytes_at (CheckCertificate development certificate) text status =
     IfSome (bytes_at development) (λ file. AnswersCheck file (bytes_at certificate) text status)
+AnswersTask bytes_at (CheckByWorkers development certificate workers) text status =
+    IfSome (bytes_at development) (λ file. AnswersCheck file (bytes_at certificate) text status)
 AnswersTask bytes_at (ProveDevelopment development) text status =
     IfSome (bytes_at development) (λ file. AnswersProve file text status)
 AnswersTask bytes_at (ProveWithHints development hints) text status =
@@ -46,6 +49,8 @@ AnswersTask bytes_at (CarryCertificate old certificate new) text status =
     IfSome (bytes_at old) (λ file. AnswersCarry (AnswersWith None) file (bytes_at certificate) (bytes_at new) text status)
 AnswersTask bytes_at (CarryWithHints old certificate new hints) text status =
     IfSome (bytes_at old) (λ file. AnswersCarry (AnswersWith (Some (bytes_at hints))) file (bytes_at certificate) (bytes_at new) text status)
+AnswersTask bytes_at (RunPlan development certificate plan) text status =
+    IfSome (bytes_at development) (λ file. AnswersRun file (bytes_at certificate) (bytes_at plan) text status)
 AnswersTask bytes_at (DrawHistory development history) text status =
     IfSome (bytes_at development) (λ file. AnswersDraw file (bytes_at history) text status)
 AnswersTask bytes_at (BeginDevelopment name) text status = AnswersNew name text status
@@ -65,12 +70,16 @@ IsUnread CannotOpen bytes_at (ShowCondition development number) = CannotOpen dev
 IsUnread CannotOpen bytes_at (CheckCertificate development certificate) =
     CannotOpen development
     ⊎ ((file : List ℕ) × (D : Development) × (bytes_at development ≡ Some file) × Says file_reading file D × CannotOpen certificate)
+IsUnread CannotOpen bytes_at (CheckByWorkers development certificate workers) =
+    CannotOpen development
+    ⊎ ((file : List ℕ) × (D : Development) × (bytes_at development ≡ Some file) × Says file_reading file D × CannotOpen certificate)
 IsUnread CannotOpen bytes_at (ProveDevelopment development) = CannotOpen development
 IsUnread CannotOpen bytes_at (ProveWithHints development hints) =
     CannotOpen development
     ⊎ ((file : List ℕ) × (D : Development) × (bytes_at development ≡ Some file) × Says file_reading file D × CannotOpen hints)
 IsUnread CannotOpen bytes_at (CarryCertificate old certificate new) = IsUnreadCarry CannotOpen bytes_at old certificate new None
 IsUnread CannotOpen bytes_at (CarryWithHints old certificate new hints) = IsUnreadCarry CannotOpen bytes_at old certificate new (Some hints)
+IsUnread CannotOpen bytes_at (RunPlan development certificate plan) = IsUnreadRun CannotOpen bytes_at development certificate plan
 IsUnread CannotOpen bytes_at (DrawHistory development history) =
     CannotOpen development
     ⊎ ((file : List ℕ) × (spec : Specification) × (bytes_at development ≡ Some file) × Says first_reading file spec × CannotOpen history)

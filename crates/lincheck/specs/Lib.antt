@@ -11,5 +11,6 @@ pub mod New
 pub mod Carry
 pub mod Prove
 pub mod Library
+pub mod Run
 pub mod Printing
 pub mod Execution

@@ -1,7 +1,7 @@
 -- What a task leaves on standard output.
 use Rattle.std.specs.Prelude.{◌≡◌, ℕ, ◌⊎◌, List, ◌++◌, Option, Result, Ok, Err}
 use Rattle.std.specs.Io.KnownBytes.{Keeps, Appends}
-use Rattle.lc_words.specs.Tasks.{Task, CheckFormula, JudgeHistory, ShowDevelopment, ShowLines, ListConditions, ListChosen, ShowCondition, CheckCertificate, ProveDevelopment, ProveWithHints, DrawHistory, BeginDevelopment, PrintLibrary, CarryCertificate, CarryWithHints}
+use Rattle.lc_words.specs.Tasks.{Task, CheckFormula, JudgeHistory, ShowDevelopment, ShowLines, ListConditions, ListChosen, ShowCondition, CheckByWorkers, CheckCertificate, ProveDevelopment, ProveWithHints, DrawHistory, BeginDevelopment, PrintLibrary, CarryCertificate, CarryWithHints, RunPlan}
 use Rattle.lincheck.specs.declared.answer.Failure.{Failure}
 use Rattle.lincheck.specs.declared.answer.Failure.TheVariants.{CannotRead, CannotWrite, OutOfMemory}
 
@@ -30,10 +30,12 @@ IsInPieces (ListConditions development) = Unit {0}
 IsInPieces (ListChosen development filter) = ⊥
 IsInPieces (ShowCondition development number) = ⊥
 IsInPieces (CheckCertificate development certificate) = ⊥
+IsInPieces (CheckByWorkers development certificate workers) = ⊥
 IsInPieces (ProveDevelopment development) = ⊥
 IsInPieces (ProveWithHints development hints) = ⊥
 IsInPieces (CarryCertificate old certificate new) = ⊥
 IsInPieces (CarryWithHints old certificate new hints) = ⊥
+IsInPieces (RunPlan development certificate plan) = ⊥
 IsInPieces (DrawHistory development history) = ⊥
 IsInPieces (BeginDevelopment name) = ⊥
 IsInPieces (PrintLibrary lib text) = ⊥

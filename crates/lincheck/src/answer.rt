@@ -19,8 +19,11 @@ pub const COMMAND_LINE_FAULT: u8 = 2;
 /// A file cannot be read, or the answer cannot be written.
 pub const INPUT_OR_OUTPUT_FAULT: u8 = 3;
 
-/// An allocation was refused.
+/// An allocation was refused, or a thread cannot be started.
 pub const OUT_OF_MEMORY: u8 = 4;
+
+/// What has run is not handed in as it should be.
+pub const SEATS_DO_NOT_MATCH: u8 = 5;
 
 /// Why a command did not do what it is for, for those who ask.
 #[derive(Clone, Copy)]

@@ -13,6 +13,7 @@ use crate::answer::{Answer, Failure, SUCCESS, told_fault};
 use crate::files::Files;
 use crate::reading::{feed_file, feed_forms, read_file};
 use crate::telling::{Counting, Telling};
+use crate::workers::answer_by_workers;
 use lc_base::{Fault, OutOfMemory, write_line};
 use lc_check::{Accepted, CertificateSession, Verdict, proven_count_by, verdict_by_count};
 use lc_cond::Numbering;
@@ -21,6 +22,8 @@ use lc_outline_text::development_in;
 use lc_sexp::FormsReader;
 use std::alloc::Global;
 use std::io::Write;
+use std::sync::Wait;
+use std::thread::Threads;
 
 /// The development in the file that a reader was fed; else its first refusal.
 fn development_fed(alloc: Global, reader: FormsReader) -> Result<Development, Fault>
@@ -59,7 +62,7 @@ fn accepted_line(alloc: Global, accepted: &Accepted) -> Result<Vec<u8>, OutOfMem
 }
 
 /// A verdict, told by its line and status.
-fn tell_verdict(alloc: Global, verdict: &Verdict) -> Result<Answer, OutOfMemory>
+pub(crate) fn tell_verdict(alloc: Global, verdict: &Verdict) -> Result<Answer, OutOfMemory>
     ensures { IfOk result (λ answer. TellsVerdict verdict.now answer.text.items answer.status) }
 {
     match verdict {
@@ -119,38 +122,47 @@ fn answer_counted<'a, F: Files, E: Write>(
     Ok(tell_verdict(alloc, &verdict)?)
 }
 
-/// The answer to the certificate at a path, of a development; and says how many conditions are proved, if that is asked for.
-fn answer_said<'a, F: Files, E: Write>(
+/// The answer to the certificate at a path, of a development, by so many workers, if a number is given; and says how many
+/// conditions are proved, if that is asked for.
+fn answer_said<'a, R: Threads + Wait + Sync, F: Files, E: Write>(
+    rt: &R,
     alloc: Global,
     files: &mut F,
     development: Development,
     path: &'a str,
+    workers: Option<u64>,
     telling: &mut Telling<'_, E>,
 ) -> Result<Answer, Failure<'a>>
     ensures unread { F.CannotOpen files.old path.now → IsErr result }
     ensures answers { IfOk result (λ answer. IfSome (F.bytes_at files.old path.now) (λ file. AnswersCertificate (development_shown development) file answer.text.items answer.status)) }
 {
     if telling.is_asked {
-        answer_counted(alloc, files, development, path, telling.err)
-    } else {
-        answer_certificate(alloc, files, development, path)
+        return answer_counted(alloc, files, development, path, telling.err);
+    }
+    match workers {
+        None | Some(1) => answer_certificate(alloc, files, development, path),
+        Some(workers) => answer_by_workers(rt, alloc, files, development, path, workers),
     }
 }
 
-/// The answer of the command `check` to the development and the certificate at two paths. Where the development is refused,
-/// the certificate is not opened.
-pub fn answer_check<'a, F: Files, E: Write>(
+/// The answer of the command `check` to the development and the certificate at two paths: it is the same for every number of
+/// workers. Where the development is refused, the certificate is not opened.
+pub fn answer_check<'a, R: Threads + Wait + Sync, F: Files, E: Write>(
+    rt: &R,
     alloc: Global,
     files: &mut F,
     development: &'a str,
     certificate: &'a str,
+    workers: Option<u64>,
     telling: &mut Telling<'_, E>,
 ) -> Result<Answer, Failure<'a>>
     ensures unread { IsUnread (F.CannotOpen files.old) (F.bytes_at files.old) (CheckCertificate development.now certificate.now) → IsErr result }
     ensures answers { IfOk result (λ answer. IfSome (F.bytes_at files.old development.now) (λ file. AnswersCheck file (F.bytes_at files.old certificate.now) answer.text.items answer.status)) }
 {
     match open_development(alloc, files, development)? {
-        Ok(development) => answer_said(alloc, files, development, certificate, telling),
+        Ok(development) => {
+            answer_said(rt, alloc, files, development, certificate, workers, telling)
+        }
         Err(answer) => Ok(answer),
     }
 }

@@ -180,6 +180,41 @@ fn carry_told<'a, F: Files>(
     }
 }
 
+/// The files of `run`.
+#[derive(Clone, Copy)]
+struct Planned<'a> {
+    development: &'a str,
+    certificate: &'a str,
+    plan: &'a str,
+}
+
+/// What is said of the file of `run` that is refused.
+fn run_told<'a, F: Files>(
+    alloc: Global,
+    files: &mut F,
+    paths: Planned<'a>,
+    refusal: &Refusal,
+) -> Said<'a> {
+    match refusal {
+        Refusal::Text(_)
+        | Refusal::Shape(_)
+        | Refusal::Unknown(_)
+        | Refusal::Repeated(_)
+        | Refusal::Auxiliary(_)
+        | Refusal::Bound(_) => match development_at(alloc, files, paths.development)? {
+            Some(_) => file_told(alloc, files, paths.plan, FileKind::Plan, refusal),
+            None => file_told(
+                alloc,
+                files,
+                paths.development,
+                FileKind::Development,
+                refusal,
+            ),
+        },
+        _ => certificate_told(alloc, files, paths.development, paths.certificate, refusal),
+    }
+}
+
 /// What is said of a request of which a file is refused.
 fn refused_told<'a, F: Files>(
     alloc: Global,
@@ -224,6 +259,18 @@ fn refused_told<'a, F: Files>(
                 hints,
             };
             carry_told(alloc, files, paths, refusal)
+        }
+        Request::Run {
+            development,
+            certificate,
+            plan,
+        } => {
+            let paths = Planned {
+                development,
+                certificate,
+                plan,
+            };
+            run_told(alloc, files, paths, refusal)
         }
         Request::New(_) | Request::Library { .. } => Ok(None),
     }

@@ -20,9 +20,11 @@ mod printing;
 mod program;
 mod prove;
 mod reading;
+mod run;
 mod show;
 mod sink;
 mod telling;
+mod workers;
 
 pub use answer::{COMMAND_LINE_FAULT, OUT_OF_MEMORY};
 pub use disk::Disk;

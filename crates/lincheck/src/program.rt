@@ -20,6 +20,7 @@ use crate::library::answer_library;
 use crate::new::answer_new;
 use crate::printing::print_told;
 use crate::prove::answer_prove;
+use crate::run::answer_run;
 use crate::show::answer_show;
 use crate::telling::Telling;
 use clap::error::ErrorKind;
@@ -32,7 +33,8 @@ use std::thread::Threads;
 
 /// Does what is asked for, prints the answer, answers its status, and hands out why it is refused. Files are opened, read and judged
 /// in the order of the command, so that none is opened behind a refusal.
-fn carry_out<'a, F: Files, O: Write, E: Write>(
+fn carry_out<'a, R: Threads + Wait + Sync, F: Files, O: Write, E: Write>(
+    rt: &R,
     alloc: Global,
     request: Request<'a>,
     files: &mut F,
@@ -63,14 +65,20 @@ fn carry_out<'a, F: Files, O: Write, E: Write>(
         Request::Check {
             development,
             certificate,
-            progress,
+            workers,
+            progress: is_asked,
             ..
         } => {
-            let mut telling = Telling {
-                err,
-                is_asked: progress,
-            };
-            let answer = answer_check(alloc, files, development, certificate, &mut telling)?;
+            let mut telling = Telling { err, is_asked };
+            let answer = answer_check(
+                rt,
+                alloc,
+                files,
+                development,
+                certificate,
+                workers,
+                &mut telling,
+            )?;
             print_told(out, why, &answer)
         }
         Request::Prove {
@@ -91,6 +99,14 @@ fn carry_out<'a, F: Files, O: Write, E: Write>(
         } => {
             let mut telling = Telling { err, is_asked };
             let answer = answer_carry(alloc, files, old, certificate, new, hints, &mut telling)?;
+            print_told(out, why, &answer)
+        }
+        Request::Run {
+            development,
+            certificate,
+            plan,
+        } => {
+            let answer = answer_run(rt, alloc, files, development, certificate, plan, err)?;
             print_told(out, why, &answer)
         }
         Request::Draw {
@@ -147,9 +163,10 @@ fn tell_usage<O: Write, E: Write>(error: &clap::Error, out: &mut O, err: &mut E)
 ///
 /// Answers and help are written to `out`, all else to `err`: so what is written to `out` and what is answered depends on the task
 /// that the words ask for, and not on what they ask to be said beside it. The lines of `conditions` are written as they are made:
-/// where memory is refused, a beginning of them may stand there.
+/// where memory is refused, a beginning of them may stand there. Threads are started, and waited for, by `check` with more than one
+/// worker and by `run` alone.
 pub fn execute<R: Threads + Wait + Sync, F: Files, O: Write, E: Write>(
-    _rt: &R,
+    rt: &R,
     alloc: Global,
     words: &[String],
     files: &mut F,
@@ -166,7 +183,7 @@ pub fn execute<R: Threads + Wait + Sync, F: Files, O: Write, E: Write>(
         Err(error) => tell_usage(&error, out, err),
         Ok(asked) => {
             let mut why = None;
-            match carry_out(alloc, asked.request, files, out, err, &mut why) {
+            match carry_out(rt, alloc, asked.request, files, out, err, &mut why) {
                 Ok(status) => {
                     explain(alloc, &asked, why, files, err);
                     status

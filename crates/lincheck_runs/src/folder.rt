@@ -61,3 +61,26 @@ impl<'a> Files for Edited<'a> {
         Err(io::Error::from(ErrorKind::NotFound))
     }
 }
+
+/// A folder with the files that `run` reads, and `judge` behind it.
+#[derive(Clone, Copy)]
+pub struct Planned<'a> {
+    pub development: &'a [u8],
+    pub certificate: &'a [u8],
+    pub plan: &'a [u8],
+    pub history: &'a [u8],
+}
+
+impl<'a> Files for Planned<'a> {
+    type Reader = &'a [u8];
+
+    fn open(&mut self, path: &str) -> io::Result<&'a [u8]> {
+        match path {
+            "development" => Ok(self.development),
+            "certificate" => Ok(self.certificate),
+            "plan" => Ok(self.plan),
+            "history" => Ok(self.history),
+            _ => Err(io::Error::from(ErrorKind::NotFound)),
+        }
+    }
+}

@@ -16,6 +16,13 @@
 //! A line of the file `carried` has four command lines, with ` : ` between them: an old development, its certificate, a new
 //! development, and hints for it. What is printed of it is the line, how many proofs are carried, the verdict on the certificate that
 //! `carry` makes of what they write on standard output, and whether that is carried to the same development as it is.
+//!
+//! A line of the file `planned` has two command lines and a file, with ` : ` between them: a development, its certificate, and a plan.
+//! What is printed of it is the line, and what `run` writes on standard output. Its clients come one after the other, so that it is
+//! the same each time.
+//!
+//! A line of the file `raced` has the same, with clients side by side. What is printed of it is the line, then the first line that `run`
+//! writes and each that names a client, and what `judge` says of the history.
 #![tactic(auto)]
 
 mod folder;
@@ -23,7 +30,7 @@ mod folder;
 ghost use Rattle.std.specs.Prelude.{◌≤◌};
 
 use anyhow::{Context, bail};
-use folder::{Edited, Folder, Kept};
+use folder::{Edited, Folder, Kept, Planned};
 use lc_base::FILE_LIMIT;
 use lc_carry::carried_entries;
 use lc_cert::certificate_of;
@@ -240,6 +247,89 @@ fn carry_line<R: System + Print + AllocGlobal + Threads + Wait + Sync>(
     Ok(())
 }
 
+/// The files that a line names for a run: what two command lines write, and a plan.
+#[derive(Drop)]
+struct Plans {
+    development: Vec<u8>,
+    certificate: Vec<u8>,
+    plan: Vec<u8>,
+}
+
+fn plans_of<R: System + Print + AllocGlobal + Threads + Wait + Sync>(
+    rt: &R,
+    line: &str,
+) -> anyhow::Result<Plans> {
+    let mut parts = line.split(" : ");
+    let development = run_words(rt, parts.next().context("no development")?)?;
+    let certificate = run_words(rt, parts.next().context("no certificate")?)?;
+    let plan = fs::read(rt, parts.next().context("no plan")?)?;
+    Ok(Plans {
+        development: development.out,
+        certificate: certificate.out,
+        plan,
+    })
+}
+
+/// What `run` writes on standard output.
+fn ran_by<R: AllocGlobal + Threads + Wait + Sync>(
+    rt: &R,
+    plans: &Plans,
+) -> anyhow::Result<Vec<u8>> {
+    let mut folder = Planned {
+        development: &plans.development,
+        certificate: &plans.certificate,
+        plan: &plans.plan,
+        history: &[],
+    };
+    let words = "lincheck run development certificate plan";
+    Ok(run_over(rt, rt.alloc(), words, &mut folder)?.out)
+}
+
+/// Runs what a line names by its plan, and prints what is written.
+fn run_planned<R: System + Print + AllocGlobal + Threads + Wait + Sync>(
+    rt: &R,
+    line: &str,
+) -> anyhow::Result<()> {
+    let plans = plans_of(rt, line)?;
+    let out = ran_by(rt, &plans)?;
+    let out = str::from_utf8(&out)?;
+    println!(rt; "planned {line}\n{out}")?;
+    Ok(())
+}
+
+/// Runs what a line names by its plan, and prints what is the same each time, with what `judge` says of the history.
+fn run_raced<R: System + Print + AllocGlobal + Threads + Wait + Sync>(
+    rt: &R,
+    line: &str,
+) -> anyhow::Result<()> {
+    let plans = plans_of(rt, line)?;
+    let out = ran_by(rt, &plans)?;
+    let out = str::from_utf8(&out)?;
+    println!(rt; "raced {line}")?;
+    for told in out.split('\n') {
+        if told.starts_with("linearizable") || told.starts_with("client") {
+            println!(rt; "{told}")?;
+        }
+        if told.starts_with("{") {
+            let mut folder = Planned {
+                development: &plans.development,
+                certificate: &[],
+                plan: &[],
+                history: told.as_bytes(),
+            };
+            let judged = run_over(
+                rt,
+                rt.alloc(),
+                "lincheck judge development history",
+                &mut folder,
+            )?;
+            let verdict = str::from_utf8(&judged.out)?;
+            println!(rt; "judged {verdict}")?;
+        }
+    }
+    Ok(())
+}
+
 fn run_lines<R: System + Print + AllocGlobal + Threads + Wait + Sync>(
     rt: &R,
 ) -> anyhow::Result<()> {
@@ -298,10 +388,36 @@ fn carry_lines<R: System + Print + AllocGlobal + Threads + Wait + Sync>(
     Ok(())
 }
 
+fn run_planned_lines<R: System + Print + AllocGlobal + Threads + Wait + Sync>(
+    rt: &R,
+) -> anyhow::Result<()> {
+    let lines = fs::read_to_string(rt, "planned")?;
+    for line in lines.as_str().split('\n') {
+        if !line.is_empty() {
+            run_planned(rt, line)?;
+        }
+    }
+    Ok(())
+}
+
+fn run_raced_lines<R: System + Print + AllocGlobal + Threads + Wait + Sync>(
+    rt: &R,
+) -> anyhow::Result<()> {
+    let lines = fs::read_to_string(rt, "raced")?;
+    for line in lines.as_str().split('\n') {
+        if !line.is_empty() {
+            run_raced(rt, line)?;
+        }
+    }
+    Ok(())
+}
+
 fn main(rt: HostRuntime) -> anyhow::Result<()> {
     run_lines(&rt)?;
     edit_lines(&rt)?;
     check_lines(&rt)?;
     check_made_lines(&rt)?;
-    carry_lines(&rt)
+    carry_lines(&rt)?;
+    run_planned_lines(&rt)?;
+    run_raced_lines(&rt)
 }

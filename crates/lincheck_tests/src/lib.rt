@@ -5,3 +5,5 @@
 mod faults;
 #[cfg(test)]
 mod memory;
+#[cfg(test)]
+mod workers;

@@ -1,9 +1,10 @@
-use Rattle.std.proofs.Common.{sym, subst}
+use Rattle.std.proofs.Common.{◌≡◌, true, false, true≢false, sym, subst}
 use Rattle.lc_words.specs.Tasks.{task_of}
-use Rattle.lincheck.specs.Execution.{AnswersTask}
+use Rattle.lincheck.specs.Execution.{AnswersTask, IsUnread}
 use Rattle.lc_words.specs.declared.request.Request.{Request}
 use Rattle.lincheck.specs.Printing.{Leaves}
 use Rattle.lincheck.proofs.Endings.{leaves_printed}
+use Rattle.lincheck.proofs.Sharing.{answers_by, unread_by}
 use Rattle.lincheck.proofs.program.carry_out.Goals as goal
 
 pub returns-in_ok-answer_formula-in-Formula-clause-leaves : goal.returns-in_ok-answer_formula-in-Formula-clause-leaves
@@ -35,8 +36,17 @@ returns-in_ok-answer-in-Check-clause-leaves g c =
     let answer = c.in_ok-answer-in-Check.answer in
     leaves_printed (task_of c.args.request) (AnswersTask (g.F.Files.bytes_at c.args.files.now) (task_of c.args.request)) (g.O.Write.contents c.args.out.now)
     (g.O.Write.contents c.print_told-in-Check.new.out) answer.text.items answer.status c.print_told-in-Check.result
-    (subst (λ (r : Request). AnswersTask (g.F.Files.bytes_at c.args.files.now) (task_of r) answer.text.items answer.status) (sym c.in-Check.is) c.in_ok-answer-in-Check.ensures.answers)
+    (subst (λ (r : Request). AnswersTask (g.F.Files.bytes_at c.args.files.now) (task_of r) answer.text.items answer.status) (sym c.in-Check.is)
+    (answers_by (g.F.Files.bytes_at c.args.files.now) c.in-Check.development.now c.in-Check.certificate.now c.in-Check.workers answer.text.items answer.status c.in_ok-answer-in-Check.ensures.answers))
     c.print_told-in-Check.ensures.prints c.print_told-in-Check.ensures.fails
+
+pub returns-in_ok-answer-in-Check-clause-unread : goal.returns-in_ok-answer-in-Check-clause-unread
+returns-in_ok-answer-in-Check-clause-unread g c = λ unread.
+    let no : false ≡ true =
+    c.in_ok-answer-in-Check.ensures.unread
+    (unread_by (g.F.Files.CannotOpen c.args.files.now) (g.F.Files.bytes_at c.args.files.now) c.in-Check.development.now c.in-Check.certificate.now c.in-Check.workers
+    (subst (λ (r : Request). IsUnread (g.F.Files.CannotOpen c.args.files.now) (g.F.Files.bytes_at c.args.files.now) (task_of r)) c.in-Check.is unread)) in
+    absurd (true≢false (sym no))
 
 pub returns-in_ok-answer-in-Prove-clause-leaves : goal.returns-in_ok-answer-in-Prove-clause-leaves
 returns-in_ok-answer-in-Prove-clause-leaves g c =
@@ -53,6 +63,21 @@ returns-in_ok-answer-in-Carry-clause-leaves g c =
     (g.O.Write.contents c.print_told-in-Carry.new.out) answer.text.items answer.status c.print_told-in-Carry.result
     (subst (λ (r : Request). AnswersTask (g.F.Files.bytes_at c.args.files.now) (task_of r) answer.text.items answer.status) (sym c.in-Carry.is) c.in_ok-answer-in-Carry.ensures.answers)
     c.print_told-in-Carry.ensures.prints c.print_told-in-Carry.ensures.fails
+
+pub returns-in_ok-answer-in-Run-clause-leaves : goal.returns-in_ok-answer-in-Run-clause-leaves
+returns-in_ok-answer-in-Run-clause-leaves g c =
+    let answer = c.in_ok-answer-in-Run.answer in
+    leaves_printed (task_of c.args.request) (AnswersTask (g.F.Files.bytes_at c.args.files.now) (task_of c.args.request)) (g.O.Write.contents c.args.out.now)
+    (g.O.Write.contents c.print_told-in-Run.new.out) answer.text.items answer.status c.print_told-in-Run.result
+    (subst (λ (r : Request). AnswersTask (g.F.Files.bytes_at c.args.files.now) (task_of r) answer.text.items answer.status) (sym c.in-Run.is) c.in_ok-answer-in-Run.ensures.answers)
+    c.print_told-in-Run.ensures.prints c.print_told-in-Run.ensures.fails
+
+pub returns-in_ok-answer-in-Run-clause-unread : goal.returns-in_ok-answer-in-Run-clause-unread
+returns-in_ok-answer-in-Run-clause-unread g c = λ unread.
+    let no : false ≡ true =
+    c.in_ok-answer-in-Run.ensures.unread
+    (subst (λ (r : Request). IsUnread (g.F.Files.CannotOpen c.args.files.now) (g.F.Files.bytes_at c.args.files.now) (task_of r)) c.in-Run.is unread) in
+    absurd (true≢false (sym no))
 
 pub returns-in_ok-answer-in-Draw-clause-leaves : goal.returns-in_ok-answer-in-Draw-clause-leaves
 returns-in_ok-answer-in-Draw-clause-leaves g c =

@@ -1,0 +1,174 @@
+-- What a development's file, its certificate's and a plan's are answered, from the beginnings of them that are read.
+use Rattle.std.proofs.Common.{◌≡◌, ℕ, ℤ, List, [], ◌∷◌, ◌++◌, codes, flat_map, length, Option, Some, None, IfSome, IfOk, Result, Ok, Err, Vec, sym, ap, ap₂, subst, ◌∙◌, inl, inr}
+use Rattle.std.proofs.lemmas.List.{length-map}
+use Rattle.std.specs.declared.alloc.Global.{Global}
+use Rattle.lc_base.specs.Line.{line_of}
+use Rattle.lc_base.specs.declared.refusal.Fault.{Fault}
+use Rattle.lc_base.specs.declared.refusal.Fault.TheVariants.{Refused, OutOfMemory}
+use Rattle.lc_base.specs.declared.refusal.Refusal.{Refusal}
+use Rattle.lc_cert.specs.Readings.{certificate_reading}
+use Rattle.lc_check.proofs.OneVerdict.{not_certified_and_refused}
+use Rattle.lc_check.specs.VerdictView.{IsVerdictOn, development_in}
+use Rattle.lc_check.specs.Verdicts.{IsCertificateRefusal, IsProvenBy}
+use Rattle.lc_check.specs.declared.verdict.Accepted.{Accepted}
+use Rattle.lc_check.specs.declared.verdict.Verdict.{Verdict}
+use Rattle.lc_check.specs.declared.verdict.Verdict.TheVariants.{Accepted as accepts, Refused as refuses}
+use Rattle.lc_crew.specs.Ran.{IsRunOf}
+use Rattle.lc_crew.specs.declared.ended.Ended.{Ended}
+use Rattle.lc_crew.specs.declared.plan.Ran.{Ran}
+use Rattle.lc_hist.specs.Histories.{events_in}
+use Rattle.lc_hist.specs.JsonHistories.{entries_seen, entry_seen}
+use Rattle.lc_hist.specs.JsonWritten.{history_text}
+use Rattle.lc_hist.specs.declared.event.Done.{Done}
+use Rattle.lc_outline.specs.Development.{Development}
+use Rattle.lc_outline_text.specs.Developments.{file_reading}
+use Rattle.lc_plan.specs.Readings.{plan_reading}
+use Rattle.lc_plan.specs.View.{plan_of}
+use Rattle.lc_plan.specs.declared.plan.Plan.{Plan}
+use Rattle.lc_reading.proofs.Files.{says_not_refused, says_one}
+use Rattle.lc_reading.specs.Files.{Says, IsFirstRefusal, IsAnswerTo}
+use Rattle.lc_run.specs.LabelView.{labels_of}
+use Rattle.lc_seq.specs.declared.choice.Pick.{Pick}
+use Rattle.lc_seq.specs.declared.text_call.TextCall.{TextCall}
+use Rattle.lincheck.specs.Answers.{ToldFault}
+use Rattle.lincheck.specs.Carry.{RefusesCertificate}
+use Rattle.lincheck.specs.Check.{TellsRefusal}
+use Rattle.lincheck.specs.Reading.{within_limit}
+use Rattle.lincheck.specs.Run.{AnswersPlan, AnswersProvenRun, AnswersRun, IsUnreadPlan, IsUnreadRun, OpensAccepted, OpensPlan, RefusesPlan, RunsSo, TellsRun, end_text, ran_text, run_text}
+use Rattle.lincheck.specs.declared.answer.Answer.{Answer}
+use Rattle.lincheck.specs.declared.answer.Failure.{Failure}
+use Rattle.lincheck.proofs.Opened.{refusal_of_certificate}
+use Rattle.lincheck.proofs.Truncated.{said_of_whole, refusal_of_whole}
+
+-- ---- the certificate
+
+accepted_of_whole : (D : Development) (file : List ℕ) (accepted : Accepted) → IsVerdictOn D (within_limit file) (accepts accepted) → OpensAccepted D file (Ok accepted)
+accepted_of_whole D file accepted (same, (es, certifies, proves)) = (same, (es, said_of_whole (certificate_reading D) file es certifies, proves))
+
+-- what is accepted by the beginning of a file is accepted by the file
+pub accepted_opened : (D : Development) (known : Option (List ℕ)) (bytes : List ℕ) (accepted : Accepted) → IfSome known (λ file. bytes ≡ within_limit file) → IsVerdictOn D bytes (accepts accepted)
+    → IfSome known (λ file. OpensAccepted D file (Ok accepted))
+accepted_opened D None bytes accepted read is = tt
+accepted_opened D (Some file) bytes accepted read is = accepted_of_whole D file accepted (subst (λ b. IsVerdictOn D b (accepts accepted)) read is)
+
+-- and what is refused is refused
+pub certificate_told : (D : Development) (known : Option (List ℕ)) (bytes : List ℕ) (refusal : Refusal) (text : List ℕ) (status : ℕ) → IfSome known (λ file. bytes ≡ within_limit file)
+    → IsVerdictOn D bytes (refuses refusal) → ToldFault (Refused refusal) text status → IfSome known (λ file. RefusesCertificate D file text status)
+certificate_told D None bytes refusal text status read is told = tt
+certificate_told D (Some file) bytes refusal text status read is told =
+    (refusal, refusal_of_certificate D file refusal (subst (λ b. IsVerdictOn D b (refuses refusal)) read is), told)
+
+-- ---- the plan
+
+pub plan_opened : (D : Development) (known : Option (List ℕ)) (bytes : List ℕ) (plan : Plan) → IfSome known (λ file. bytes ≡ within_limit file) → IsAnswerTo plan_of (plan_reading D) bytes (Ok plan)
+    → IfSome known (λ file. OpensPlan D file (Ok plan))
+plan_opened D None bytes plan read is = tt
+plan_opened D (Some file) bytes plan read is = said_of_whole (plan_reading D) file (plan_of plan) (subst (λ b. Says (plan_reading D) b (plan_of plan)) read is)
+
+pub plan_refused : (D : Development) (known : Option (List ℕ)) (bytes : List ℕ) (fault : Fault) (text : List ℕ) (status : ℕ) → IfSome known (λ file. bytes ≡ within_limit file)
+    → IsAnswerTo plan_of (plan_reading D) bytes (Err fault) → ToldFault fault text status → IfSome known (λ file. RefusesPlan D file text status)
+plan_refused D None bytes fault text status read is told = tt
+plan_refused D (Some file) bytes (Refused refusal) text status read is told =
+    (refusal, refusal_of_whole (plan_reading D) file refusal (subst (λ b. IsFirstRefusal (plan_reading D) b refusal) read is), told)
+plan_refused D (Some file) bytes OutOfMemory text status read is told = absurd told
+
+-- ---- what has run
+
+-- its text is its first line, the lines of its clients, and its history
+pub ran_text_is : (D E : Development) (ran : Ran) (count : ℕ) (ends : List Ended) (order : List (Done TextCall Pick (Vec ℤ Global))) (first lines history whole text : List ℕ) → E ≡ D
+    → count ≡ length ran.log.order.items → ends ≡ ran.ends.items → order ≡ ran.log.order.items → first ≡ line_of (codes "linearizable") (count ∷ []) → lines ≡ first ++ flat_map end_text ends
+    → history ≡ history_text E.specification.operations (events_in ran.log.history) (entries_seen order) → whole ≡ lines ++ history → text ≡ whole ++ 10 ∷ [] → text ≡ ran_text D ran
+ran_text_is D E ran count ends order first lines history whole text same counted ended ordered is_first is_lines is_history is_whole is_text =
+    is_text
+    ∙ ap (λ x. x ++ 10 ∷ [])
+    (is_whole
+    ∙ ap₂ ◌++◌
+    (is_lines
+    ∙ ap₂ ◌++◌ (is_first ∙ ap (λ n. line_of (codes "linearizable") (n ∷ [])) (counted ∙ sym (length-map ran.log.order.items entry_seen))) (ap (flat_map end_text) ended))
+    (is_history ∙ ap₂ (λ (F : Development) o. history_text F.specification.operations (events_in ran.log.history) (entries_seen o)) same ordered))
+
+-- its text is told by its labels
+pub ran_told : (D : Development) (n : ℕ) (ran : Ran) (text : List ℕ) → IsRunOf D n ran → text ≡ ran_text D ran → TellsRun D n text
+ran_told D n ran text is same = (
+  labels_of ran.log.labels.items,
+  ran.ends.items,
+  is.ordered,
+  same ∙ ap₂ (λ events entries. run_text D events entries ran.ends.items) is.events is.entries,
+)
+
+-- ---- the answers
+
+pub planned_answered : (D : Development) (known : Option (List ℕ)) (plan : Plan) (text : List ℕ) (status : ℕ) → IfSome known (λ file. OpensPlan D file (Ok plan)) → RunsSo D plan.clients text status
+    → IfSome known (λ file. AnswersPlan D file text status)
+planned_answered D None plan text status opens runs = tt
+planned_answered D (Some file) plan text status opens runs = inr (plan_of plan, opens, runs)
+
+pub planned_refused : (D : Development) (known : Option (List ℕ)) (answer : Answer) → IfSome known (λ file. OpensPlan D file (Err answer))
+    → IfSome known (λ file. AnswersPlan D file answer.text.items answer.status)
+planned_refused D None answer tells = tt
+planned_refused D (Some file) answer tells = inl tells
+
+pub proven_answered : (D : Development) (known plan plan' : Option (List ℕ)) (accepted : Accepted) (result : Result Answer Failure) → IfSome known (λ file. OpensAccepted D file (Ok accepted)) → plan' ≡ plan
+    → IfOk result (λ answer. IfSome plan' (λ file. AnswersPlan (development_in accepted) file answer.text.items answer.status))
+    → IfOk result (λ answer. IfSome known (λ file. AnswersProvenRun D file plan answer.text.items answer.status))
+proven_answered D None plan plan' accepted (Ok answer) opens keeps h = tt
+proven_answered D (Some file) plan plan' accepted (Ok answer) (same, proven) keeps h =
+    inr (proven, subst (λ p. IfSome p (λ f. AnswersPlan D f answer.text.items answer.status)) keeps (subst (λ d. IfSome plan' (λ f. AnswersPlan d f answer.text.items answer.status)) same h))
+proven_answered D known plan plan' accepted (Err failure) opens keeps h = tt
+
+pub proven_refused : (D : Development) (known plan : Option (List ℕ)) (answer : Answer) → IfSome known (λ file. OpensAccepted D file (Err answer))
+    → IfSome known (λ file. AnswersProvenRun D file plan answer.text.items answer.status)
+proven_refused D None plan answer tells = tt
+proven_refused D (Some file) plan answer tells = inl tells
+
+pub run_answered : (known certificate certificate' plan plan' : Option (List ℕ)) (D : Development) (result : Result Answer Failure) → IfSome known (λ file. Says file_reading file D) → certificate' ≡ certificate → plan' ≡ plan
+    → IfOk result (λ answer. IfSome certificate' (λ file. AnswersProvenRun D file plan' answer.text.items answer.status))
+    → IfOk result (λ answer. IfSome known (λ file. AnswersRun file certificate plan answer.text.items answer.status))
+run_answered None certificate certificate' plan plan' D (Ok answer) says keeps keeps' h = tt
+run_answered (Some file) certificate certificate' plan plan' D (Ok answer) says keeps keeps' h =
+    inr (
+      D,
+      says,
+      subst (λ c. IfSome c (λ f. AnswersProvenRun D f plan answer.text.items answer.status)) keeps
+          (subst (λ p. IfSome certificate' (λ f. AnswersProvenRun D f p answer.text.items answer.status)) keeps' h),
+    )
+run_answered known certificate certificate' plan plan' D (Err failure) says keeps keeps' h = tt
+
+pub run_refused : (known certificate plan : Option (List ℕ)) (answer : Answer) → IfSome known (λ file. TellsRefusal file answer.text.items answer.status)
+    → IfSome known (λ file. AnswersRun file certificate plan answer.text.items answer.status)
+run_refused None certificate plan answer tells = tt
+run_refused (Some file) certificate plan answer tells = inl tells
+
+-- ---- files that cannot be opened
+
+-- none behind a development that is refused
+pub none_behind_refused : (CannotOpen : List ℕ → Type 0) (bytes_at : List ℕ → Option (List ℕ)) (development certificate plan : List ℕ) (answer : Answer) → (CannotOpen development → ⊥)
+    → IfSome (bytes_at development) (λ file. TellsRefusal file answer.text.items answer.status) → IsUnreadRun CannotOpen bytes_at development certificate plan → ⊥
+none_behind_refused CannotOpen bytes_at development certificate plan answer opens tells (inl closed) = opens closed
+none_behind_refused CannotOpen bytes_at development certificate plan answer opens tells (inr (file, D, known, says, closed)) =
+    let told : TellsRefusal file answer.text.items answer.status = subst (λ o. IfSome o (λ f. TellsRefusal f answer.text.items answer.status)) known tells in
+    says_not_refused file_reading file D told.0 says told.1
+
+-- one behind a development that is read, which is the one that was read
+pub unread_behind_read : (CannotOpen CannotOpen' : List ℕ → Type 0) (bytes_at bytes_at' : List ℕ → Option (List ℕ)) (development certificate plan : List ℕ) (D : Development) → (CannotOpen development → ⊥)
+    → IfSome (bytes_at development) (λ file. Says file_reading file D) → ((other : List ℕ) → bytes_at' other ≡ bytes_at other) → ((other : List ℕ) → CannotOpen other → CannotOpen' other)
+    → IsUnreadRun CannotOpen bytes_at development certificate plan → IsUnreadPlan CannotOpen' bytes_at' D certificate plan
+unread_behind_read CannotOpen CannotOpen' bytes_at bytes_at' development certificate plan D opens read keeps closed (inl never) = absurd (opens never)
+unread_behind_read CannotOpen CannotOpen' bytes_at bytes_at' development certificate plan D opens read keeps closed (inr (file, E, known, says, inl unread)) = inl (closed certificate unread)
+unread_behind_read CannotOpen CannotOpen' bytes_at bytes_at' development certificate plan D opens read keeps closed (inr (file, E, known, says, inr (proofs, there, proven, unread))) =
+    let here : Says file_reading file D = subst (λ o. IfSome o (λ f. Says file_reading f D)) known read in
+    inr (proofs, keeps certificate ∙ there, subst (λ x. IsProvenBy x proofs) (says_one file_reading file E D says here) proven, closed plan unread)
+
+-- none behind a certificate that is refused
+pub none_behind_unproven : (CannotOpen : List ℕ → Type 0) (bytes_at : List ℕ → Option (List ℕ)) (D : Development) (certificate plan : List ℕ) (answer : Answer) → (CannotOpen certificate → ⊥)
+    → IfSome (bytes_at certificate) (λ file. OpensAccepted D file (Err answer)) → IsUnreadPlan CannotOpen bytes_at D certificate plan → ⊥
+none_behind_unproven CannotOpen bytes_at D certificate plan answer opens tells (inl closed) = opens closed
+none_behind_unproven CannotOpen bytes_at D certificate plan answer opens tells (inr (proofs, known, proven, closed)) =
+    let told : RefusesCertificate D proofs answer.text.items answer.status = subst (λ o. IfSome o (λ f. OpensAccepted D f (Err answer))) known tells in
+    not_certified_and_refused D proofs told.0 proven told.1
+
+-- the plan, behind a certificate that is accepted
+pub unread_plan : (CannotOpen CannotOpen' : List ℕ → Type 0) (bytes_at : List ℕ → Option (List ℕ)) (D : Development) (certificate plan : List ℕ) → (CannotOpen certificate → ⊥)
+    → ((other : List ℕ) → CannotOpen other → CannotOpen' other) → IsUnreadPlan CannotOpen bytes_at D certificate plan → CannotOpen' plan
+unread_plan CannotOpen CannotOpen' bytes_at D certificate plan opens closed (inl never) = absurd (opens never)
+unread_plan CannotOpen CannotOpen' bytes_at D certificate plan opens closed (inr (proofs, known, proven, unread)) = closed plan unread

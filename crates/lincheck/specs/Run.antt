@@ -1,0 +1,100 @@
+-- The answers to a development's file, its certificate's and a plan's.
+use Rattle.std.specs.Prelude.{◌≡◌, ℕ, ◌⊎◌, List, [], ◌∷◌, ◌++◌, codes, flat_map, length, Option, Some, None, IfSome, Result, Ok, Err}
+use Rattle.std.specs.Fmt.{decimal}
+use Rattle.lc_base.specs.Line.{line_of}
+use Rattle.lc_base.specs.declared.refusal.Fault.TheVariants.{Refused}
+use Rattle.lc_base.specs.declared.refusal.Refusal.{Refusal}
+use Rattle.lc_check.specs.VerdictView.{development_in}
+use Rattle.lc_check.specs.Verdicts.{IsProvenBy}
+use Rattle.lc_check.specs.declared.verdict.Accepted.{Accepted}
+use Rattle.lc_crew.specs.Halts.{word_of}
+use Rattle.lc_crew.specs.Ran.{IsOrdered}
+use Rattle.lc_crew.specs.declared.ended.Ended.{Ended}
+use Rattle.lc_crew.specs.declared.halt.Halt.{Halt}
+use Rattle.lc_crew.specs.declared.plan.Ran.{Ran}
+use Rattle.lc_hist.specs.Histories.{events_in}
+use Rattle.lc_hist.specs.History.{Event, Entry}
+use Rattle.lc_hist.specs.JsonHistories.{entries_seen}
+use Rattle.lc_hist.specs.JsonWritten.{history_text}
+use Rattle.lc_outline.specs.Development.{Development}
+use Rattle.lc_outline_text.specs.Developments.{file_reading}
+use Rattle.lc_plan.specs.Plans as S
+use Rattle.lc_plan.specs.Readings.{plan_reading}
+use Rattle.lc_plan.specs.View.{plan_of}
+use Rattle.lc_plan.specs.declared.plan.Plan.{Plan}
+use Rattle.lc_reading.specs.Files.{Says, IsFirstRefusal}
+use Rattle.lc_sound.specs.Instrumented.{Label, history}
+use Rattle.lc_sound.specs.Order.{order}
+use Rattle.lincheck.specs.Answers.{ToldFault}
+use Rattle.lincheck.specs.Carry.{RefusesCertificate}
+use Rattle.lincheck.specs.Check.{TellsRefusal}
+use Rattle.lincheck.specs.declared.answer.Answer.{Answer}
+
+-- ---- what is printed
+
+-- the line for a client that did not come to its end
+abbrev pub halt_text : ℕ → Option Halt → List ℕ
+halt_text client None = []
+halt_text client (Some halt) = codes "client " ++ decimal client ++ codes " " ++ word_of halt ++ (10 ∷ [])
+
+abbrev pub end_text : Ended → List ℕ
+end_text e = halt_text e.client e.halt
+
+-- the line `linearizable` with the number of entries, a line for each client that did not come to its end, and the history with its
+-- order
+abbrev pub run_text : Development → List Event → List Entry → List Ended → List ℕ
+run_text D events entries ends =
+    line_of (codes "linearizable") (length entries ∷ []) ++ flat_map end_text ends ++ history_text D.specification.operations events entries ++ (10 ∷ [])
+
+abbrev pub ran_text : Development → Ran → List ℕ
+ran_text D ran = run_text D (events_in ran.log.history) (entries_seen ran.log.order.items) ran.ends.items
+
+-- what is printed of a run by so many clients: its history and its order, which linearizes it, and how its clients came to their ends
+abbrev pub TellsRun : Development → ℕ → List ℕ → Type 0
+TellsRun D n text = (labels : List Label) × (ends : List Ended) × IsOrdered D n labels ends × (text ≡ run_text D (history labels) (order labels) ends)
+
+-- a run is told, with status 0; or seats did not match, and nothing is printed
+abbrev pub RunsSo : Development → ℕ → List ℕ → ℕ → Type 0
+RunsSo D n text status = (TellsRun D n text × (status ≡ 0)) ⊎ ((text ≡ []) × (status ≡ 5))
+
+-- the file is no plan for the development, and its first refusal is told
+abbrev pub RefusesPlan : Development → List ℕ → List ℕ → ℕ → Type 0
+RefusesPlan D file text status = (refusal : Refusal) × IsFirstRefusal (plan_reading D) file refusal × ToldFault (Refused refusal) text status
+
+-- the file of the plan is refused; or the development runs by it
+abbrev pub AnswersPlan : Development → List ℕ → List ℕ → ℕ → Type 0
+AnswersPlan D file text status = RefusesPlan D file text status ⊎ ((P : S.Plan) × Says (plan_reading D) file P × RunsSo D P.clients text status)
+
+-- the file of the certificate is refused; or it proves the development, and the plan's is answered
+abbrev pub AnswersProvenRun : Development → List ℕ → Option (List ℕ) → List ℕ → ℕ → Type 0
+AnswersProvenRun D file plan text status =
+    RefusesCertificate D file text status ⊎ (IsProvenBy D file × IfSome plan (λ other. AnswersPlan D other text status))
+
+-- The answer to a development's file, its certificate's and a plan's. The first that is refused decides
+abbrev pub AnswersRun : List ℕ → Option (List ℕ) → Option (List ℕ) → List ℕ → ℕ → Type 0
+AnswersRun development certificate plan text status =
+    TellsRefusal development text status
+    ⊎ ((D : Development) × Says file_reading development D × IfSome certificate (λ file. AnswersProvenRun D file plan text status))
+
+-- ---- files that are opened
+
+-- the file of a certificate is opened: it proves the development; or its refusal is told
+abbrev pub OpensAccepted : Development → List ℕ → Result Accepted Answer → Type 0
+OpensAccepted D file (Ok accepted) = (development_in accepted ≡ D) × IsProvenBy D file
+OpensAccepted D file (Err answer) = RefusesCertificate D file answer.text.items answer.status
+
+-- the file of a plan is opened: it says this plan; or its refusal is told
+abbrev pub OpensPlan : Development → List ℕ → Result Plan Answer → Type 0
+OpensPlan D file (Ok plan) = Says (plan_reading D) file (plan_of plan)
+OpensPlan D file (Err answer) = RefusesPlan D file answer.text.items answer.status
+
+-- the certificate's file of a development cannot be opened; or it proves the development, and the plan's cannot
+abbrev pub IsUnreadPlan : (List ℕ → Type 0) → (List ℕ → Option (List ℕ)) → Development → List ℕ → List ℕ → Type 0
+IsUnreadPlan CannotOpen bytes_at D certificate plan =
+    CannotOpen certificate ⊎ ((proofs : List ℕ) × (bytes_at certificate ≡ Some proofs) × IsProvenBy D proofs × CannotOpen plan)
+
+-- the development's file cannot be opened; or it is read, and another that is needed cannot
+abbrev pub IsUnreadRun : (List ℕ → Type 0) → (List ℕ → Option (List ℕ)) → List ℕ → List ℕ → List ℕ → Type 0
+IsUnreadRun CannotOpen bytes_at development certificate plan =
+    CannotOpen development
+    ⊎ ((file : List ℕ) × (D : Development) × (bytes_at development ≡ Some file) × Says file_reading file D × IsUnreadPlan CannotOpen bytes_at D certificate plan)

@@ -1,0 +1,204 @@
+//! The command `run`.
+ghost use Rattle.std.specs.Prelude.{◌≡◌, ◌++◌, ℕ, List, Some, flat_map, IfOk, IfSome, IsErr, OnOk};
+ghost use Rattle.lc_sexp.specs.Pieces.{WasFed};
+ghost use Rattle.lc_reading.specs.Files.{IsAnswerTo};
+ghost use Rattle.lc_check.specs.VerdictView.{development_in};
+ghost use Rattle.lc_outline.specs.DevelopmentView.{development_shown};
+ghost use Rattle.lc_plan.specs.Readings.{plan_reading};
+ghost use Rattle.lc_plan.specs.View.{plan_of};
+ghost use Rattle.lc_words.specs.Tasks.{RunPlan};
+ghost use Rattle.lincheck.specs.Execution.{AnswersTask, IsUnread};
+ghost use Rattle.lincheck.specs.Run.{AnswersPlan, AnswersProvenRun, IsUnreadPlan, OpensAccepted, OpensPlan, RunsSo, end_text, halt_text, ran_text};
+
+use crate::answer::{Answer, Failure, SEATS_DO_NOT_MATCH, SUCCESS, told_fault};
+use crate::check::open_development;
+use crate::files::Files;
+use crate::reading::{feed_file, feed_forms};
+use lc_base::{Fault, OutOfMemory, write_line};
+use lc_check::{Accepted, CertificateSession, Verdict};
+use lc_crew::{Ended, Halt, Ran, Stop, run};
+use lc_hist::history_to_json;
+use lc_outline::Development;
+use lc_plan::{Plan, plan_in};
+use lc_sexp::FormsReader;
+use std::alloc::Global;
+use std::io::Write;
+use std::sync::{Arc, Wait};
+use std::thread::Threads;
+
+/// The development, if the certificate at a path proves it; else the answer that tells its refusal.
+fn accept_at<'a, F: Files>(
+    alloc: Global,
+    files: &mut F,
+    development: Development,
+    path: &'a str,
+) -> Result<Result<Accepted, Answer>, Failure<'a>>
+    ensures keeps { (other : List ℕ) → F.bytes_at files.new other ≡ F.bytes_at files.old other }
+    ensures closed { (other : List ℕ) → F.CannotOpen files.old other → F.CannotOpen files.new other }
+    ensures unread { F.CannotOpen files.old path.now → IsErr result }
+    ensures opens { IfOk result (λ opened. IfSome (F.bytes_at files.old path.now) (λ file. OpensAccepted (development_shown development) file opened)) }
+{
+    let mut session = CertificateSession::new(alloc, development)?;
+    feed_file(files, path, &mut session)?;
+    let verdict = session.finish()?;
+    match verdict {
+        Verdict::Accepted(accepted) => Ok(Ok(accepted)),
+        Verdict::Refused(refusal) => Ok(Err(told_fault(alloc, Fault::Refused(refusal))?)),
+    }
+}
+
+/// The plan for a development in the file that a reader was fed; else its first refusal.
+fn plan_fed(alloc: Global, development: &Development, reader: FormsReader) -> Result<Plan, Fault>
+    requires { (bytes : List ℕ) × WasFed reader bytes }
+    ensures { (bytes : List ℕ) → WasFed reader bytes → IsAnswerTo plan_of (plan_reading (development_shown development.now)) bytes result }
+{
+    let forms = reader.finish()?;
+    plan_in(alloc, development, forms)
+}
+
+/// The plan for a development in the file at a path; else the answer that tells its first refusal.
+fn open_plan<'a, F: Files>(
+    alloc: Global,
+    files: &mut F,
+    development: &Development,
+    path: &'a str,
+) -> Result<Result<Plan, Answer>, Failure<'a>>
+    ensures unread { F.CannotOpen files.old path.now → IsErr result }
+    ensures opens { IfOk result (λ opened. IfSome (F.bytes_at files.old path.now) (λ file. OpensPlan (development_shown development.now) file opened)) }
+{
+    let reader = feed_forms(alloc, files, path)?;
+    match plan_fed(alloc, development, reader) {
+        Ok(plan) => Ok(Ok(plan)),
+        Err(fault) => Ok(Err(told_fault(alloc, fault)?)),
+    }
+}
+
+/// The line for a client that makes no further call, behind others.
+fn push_halt(alloc: Global, text: &mut Vec<u8>, client: u32, halt: Halt) -> Result<(), OutOfMemory>
+    ensures { OnOk result (text.new.items ≡ text.old.items ++ halt_text client (Some halt)) }
+{
+    let line = format!(in alloc; "client {client} {halt}\n")?;
+    text.extend_from_slice(line.as_bytes())?;
+    Ok(())
+}
+
+/// The line for a client, if it did not come to its end, behind others.
+fn push_end(alloc: Global, text: &mut Vec<u8>, ended: &Ended) -> Result<(), OutOfMemory>
+    ensures { OnOk result (text.new.items ≡ text.old.items ++ end_text ended.now) }
+{
+    match ended.halt {
+        Some(halt) => push_halt(alloc, text, ended.client, halt),
+        None => Ok(()),
+    }
+}
+
+/// The lines for the clients that did not come to their ends, behind others.
+fn push_ends(alloc: Global, text: &mut Vec<u8>, ends: &[Ended]) -> Result<(), OutOfMemory>
+    ensures { OnOk result (text.new.items ≡ text.old.items ++ flat_map end_text ends.now) }
+{
+    for ended in ends {
+        push_end(alloc, text, ended)?;
+    }
+    Ok(())
+}
+
+/// What is printed of a run.
+fn ran_text(alloc: Global, development: &Development, ran: &Ran) -> Result<Vec<u8>, OutOfMemory>
+    ensures { IfOk result (λ text. text.items ≡ ran_text (development_shown development.now) ran.now) }
+{
+    let mut text = write_line(alloc, "linearizable", &[ran.log.order.len() as u64])?;
+    push_ends(alloc, &mut text, &ran.ends)?;
+    let specification = &development.parts().specification;
+    let history = history_to_json(alloc, specification, &ran.log.history, &ran.log.order)?;
+    text.extend_from_slice(&history)?;
+    text.push(b'\n')?;
+    Ok(text)
+}
+
+/// The answer of a run by a plan. Where seats do not match, nothing is printed but a line on standard error.
+fn answer_ran<R: Threads + Wait + Sync, E: Write>(
+    rt: &R,
+    alloc: Global,
+    accepted: Accepted,
+    plan: &Plan,
+    err: &mut E,
+) -> Result<Answer, OutOfMemory>
+    ensures { IfOk result (λ answer. RunsSo (development_in accepted) plan.now.clients answer.text.items answer.status) }
+{
+    let accepted = Arc::new(alloc, accepted)?;
+    let ours = Arc::try_clone(&accepted)?;
+    match run(rt, alloc, accepted, plan) {
+        Ok(ran) => Ok(Answer {
+            text: ran_text(alloc, ours.development(), &ran)?,
+            status: SUCCESS,
+            why: None,
+        }),
+        Err(Stop::OutOfMemory | Stop::NoThread) => Err(OutOfMemory),
+        Err(Stop::Mismatch) => {
+            let _ = writeln!(err, "lincheck: seats do not match");
+            Ok(Answer {
+                text: Vec::new(alloc),
+                status: SEATS_DO_NOT_MATCH,
+                why: None,
+            })
+        }
+    }
+}
+
+/// The answer to the plan at a path, of an accepted development.
+fn answer_planned<'a, R: Threads + Wait + Sync, F: Files, E: Write>(
+    rt: &R,
+    alloc: Global,
+    files: &mut F,
+    accepted: Accepted,
+    path: &'a str,
+    err: &mut E,
+) -> Result<Answer, Failure<'a>>
+    ensures unread { F.CannotOpen files.old path.now → IsErr result }
+    ensures answers { IfOk result (λ answer. IfSome (F.bytes_at files.old path.now) (λ file. AnswersPlan (development_in accepted) file answer.text.items answer.status)) }
+{
+    match open_plan(alloc, files, accepted.development(), path)? {
+        Ok(plan) => Ok(answer_ran(rt, alloc, accepted, &plan, err)?),
+        Err(answer) => Ok(answer),
+    }
+}
+
+/// The answer to the certificate and the plan at two paths, of a development. Where the certificate is refused, the plan is not
+/// opened.
+fn answer_proven<'a, R: Threads + Wait + Sync, F: Files, E: Write>(
+    rt: &R,
+    alloc: Global,
+    files: &mut F,
+    development: Development,
+    certificate: &'a str,
+    plan: &'a str,
+    err: &mut E,
+) -> Result<Answer, Failure<'a>>
+    ensures unread { IsUnreadPlan (F.CannotOpen files.old) (F.bytes_at files.old) (development_shown development) certificate.now plan.now → IsErr result }
+    ensures answers { IfOk result (λ answer. IfSome (F.bytes_at files.old certificate.now) (λ file. AnswersProvenRun (development_shown development) file (F.bytes_at files.old plan.now) answer.text.items answer.status)) }
+{
+    match accept_at(alloc, files, development, certificate)? {
+        Ok(accepted) => answer_planned(rt, alloc, files, accepted, plan, err),
+        Err(answer) => Ok(answer),
+    }
+}
+
+/// The answer of the command `run` to a development, its certificate and a plan at three paths: what has run, with the order that
+/// linearizes it. Files are opened in this order, and none behind a refusal.
+pub fn answer_run<'a, R: Threads + Wait + Sync, F: Files, E: Write>(
+    rt: &R,
+    alloc: Global,
+    files: &mut F,
+    development: &'a str,
+    certificate: &'a str,
+    plan: &'a str,
+    err: &mut E,
+) -> Result<Answer, Failure<'a>>
+    ensures unread { IsUnread (F.CannotOpen files.old) (F.bytes_at files.old) (RunPlan development.now certificate.now plan.now) → IsErr result }
+    ensures answers { IfOk result (λ answer. AnswersTask (F.bytes_at files.old) (RunPlan development.now certificate.now plan.now) answer.text.items answer.status) }
+{
+    match open_development(alloc, files, development)? {
+        Ok(development) => { answer_proven(rt, alloc, files, development, certificate, plan, err) }
+        Err(answer) => Ok(answer),
+    }
+}
