@@ -1,10 +1,10 @@
 -- What is seen of each kind of formula.
 use Rattle.std.proofs.Common.{◌≡◌, rules}
-use Rattle.std.specs.Prelude.{Vec, Box}
+use Rattle.std.specs.Prelude.{Box}
 use Rattle.std.specs.declared.alloc.Global.{Global}
 use Rattle.lc_term.specs.Syntax as S
-use Rattle.lc_term.specs.declared.formula.Formula.{Formula, Not, And, Or, Implies, Forall, Exists, the_lemmas}
-use Rattle.lc_term.specs.View.{formula_of, formulas_of}
+use Rattle.lc_term.specs.declared.formula.Formula.{Formula, Implies, Forall, Exists, the_lemmas}
+use Rattle.lc_term.specs.View.{formula_of}
 
 pub formula_of-Implies : (f g : Box Formula Global) → formula_of (Implies f g) ≡ S.Implies (formula_of f.value) (formula_of g.value)
 formula_of-Implies f g = search (rules, the_lemmas)
