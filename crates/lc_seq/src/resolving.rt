@@ -2,89 +2,14 @@
 ghost use Rattle.std.specs.Prelude.{◌≡◌, ◌+◌, ◌&&◌, ◌==◌, bytes_eq, not, true, length, map};
 ghost use Rattle.std.specs.List.{list_all, list_any};
 ghost use Rattle.lc_base.specs.Name.{bytes_of};
-ghost use Rattle.lc_term.specs.Places.{known, term_passes, column_passes, is_known, are_known};
-ghost use Rattle.lc_term.specs.Syntax.{formulas};
-ghost use Rattle.lc_term.specs.Truth.{is_ground, are_ground};
-ghost use Rattle.lc_term.specs.View.{term_of, column_of, formula_of, formulas_of};
+ghost use Rattle.lc_term.specs.Places.{known, term_passes};
+ghost use Rattle.lc_term.specs.View.{term_of};
 ghost use Rattle.lc_seq.specs.Specification.{update_is_resolved, branch_is_resolved, variables_of, operation_is_resolved, names_differ, are_resolved};
 ghost use Rattle.lc_seq.specs.SpecView.{update_of, updates_of, branch_of, branches_of, operation_of, operations_of};
 
 use crate::specification::{Branch, Operation};
 use lc_base::Name;
-use lc_term::{ColExpr, Formula, Term, Update, is_ground_of_quantifiers};
-
-// Whether columns and variables of a term are below these counts, and no bound variable stands in it.
-#[cycle(term_is_known)]
-fn term_is_known(term: &Term, columns: usize, variables: usize) -> bool
-    ensures { result ≡ term_passes (known columns variables) (term_of term.now) }
-{
-    match term {
-        Term::Number(_) => true,
-        Term::Variable(number) => (*number as usize) < variables,
-        Term::Bound(_) => false,
-        Term::Add(left, right) | Term::Subtract(left, right) => {
-            term_is_known(left, columns, variables) && term_is_known(right, columns, variables)
-        }
-        Term::Multiply(_, term) => term_is_known(term, columns, variables),
-        Term::Read(column, index) => {
-            column_is_known(column, columns, variables) && term_is_known(index, columns, variables)
-        }
-    }
-}
-
-#[cycle(term_is_known)]
-fn column_is_known(column: &ColExpr, columns: usize, variables: usize) -> bool
-    ensures { result ≡ column_passes (known columns variables) (column_of column.now) }
-{
-    let mut rest = column;
-    'stores: loop {
-        match rest {
-            ColExpr::Base(column) => return (column.0 as usize) < columns,
-            ColExpr::Affine(..) => return true,
-            ColExpr::Store(below, index, value) => {
-                if !term_is_known(index, columns, variables)
-                    || !term_is_known(value, columns, variables)
-                {
-                    return false;
-                }
-                rest = below;
-            }
-        }
-    }
-}
-
-// The same of a formula without quantifiers.
-#[cycle(formula_is_known)]
-fn formula_is_known(formula: &Formula, columns: usize, variables: usize) -> bool
-    requires { is_ground (formula_of formula.now) ≡ true }
-    ensures { result ≡ is_known columns variables (formula_of formula.now) }
-{
-    match formula {
-        Formula::Le(left, right) | Formula::Eq(left, right) => {
-            term_is_known(left, columns, variables) && term_is_known(right, columns, variables)
-        }
-        Formula::Not(formula) => formula_is_known(formula, columns, variables),
-        Formula::And(parts) | Formula::Or(parts) => are_known(parts, columns, variables),
-        Formula::Implies(left, right) => {
-            formula_is_known(left, columns, variables)
-                && formula_is_known(right, columns, variables)
-        }
-        Formula::Forall(_) | Formula::Exists(_) => unreachable!(),
-    }
-}
-
-#[cycle(formula_is_known)]
-fn are_known(parts: &[Formula], columns: usize, variables: usize) -> bool
-    requires { are_ground (formulas (formulas_of parts.now)) ≡ true }
-    ensures { result ≡ are_known columns variables (formulas (formulas_of parts.now)) }
-{
-    for part in parts {
-        if !formula_is_known(part, columns, variables) {
-            return false;
-        }
-    }
-    true
-}
+use lc_term::{Term, Update, formula_is_known, is_ground_of_quantifiers, term_is_known};
 
 fn terms_are_known(terms: &[Term], columns: usize, variables: usize) -> bool
     ensures { result ≡ list_all (term_passes (known columns variables)) (map term_of terms.now) }

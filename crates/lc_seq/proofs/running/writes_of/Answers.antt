@@ -1,4 +1,4 @@
-use Rattle.std.proofs.Common.{◌≡◌, ◌++◌, [], arith, map, drop, ap, sym, subst, ◌∙◌, append-nil}
+use Rattle.std.proofs.Common.{◌≡◌, ◌++◌, [], arith, drop, ap, sym, subst, ◌∙◌, append-nil}
 use Rattle.lc_term.specs.State.{state_of, env_of, column_count, variable_count}
 use Rattle.lc_term.specs.Updates.{writes_of, UpdatesFit, AreWithin}
 use Rattle.lc_term.specs.UpdateView.{updates_of, writes_shown}

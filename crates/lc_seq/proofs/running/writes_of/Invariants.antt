@@ -1,8 +1,7 @@
-use Rattle.std.proofs.Common.{◌≡◌, ◌<◌, ◌++◌, true, map, drop}
+use Rattle.std.proofs.Common.{◌≡◌, ◌++◌, true, drop}
 use Rattle.std.specs.List.{list_all}
 use Rattle.lc_term.specs.State.{state_of, env_of, column_count, variable_count}
 use Rattle.lc_seq.specs.Specification.{update_is_resolved}
-use Rattle.lc_term.specs.Updates.{AreWithin}
 use Rattle.lc_term.specs.UpdateView.{updates_of, writes_shown}
 use Rattle.lc_seq.specs.TextStep.{UpdatesFit, writes_of}
 use Rattle.lc_seq.proofs.running.writes_of.Given as goal
