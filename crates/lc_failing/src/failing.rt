@@ -1,11 +1,13 @@
 //! Whether a goal fails in a state.
 ghost use Rattle.std.specs.Prelude.{◌≡◌, ◌↔◌, IsTrue};
 ghost use Rattle.lc_term.specs.Lists.{Every};
+ghost use Rattle.lc_term.specs.Places.{is_known};
+ghost use Rattle.lc_term.specs.State.{column_count, variable_count};
+ghost use Rattle.lc_term.specs.Truth.{is_ground};
 ghost use Rattle.lc_term.specs.View.{formula_of, formulas_of};
 ghost use Rattle.lc_failing.specs.Failing.{Fails, FailsButForQuantifiers, IsRefuted, IsSeen, IsSeenIfGround};
 
-use crate::known::can_be_evaluated;
-use lc_term::{Env, Formula, State, eval, is_ground_of_quantifiers};
+use lc_term::{Env, Formula, State, eval, formula_is_known, is_ground_of_quantifiers};
 
 /// What is known of a goal in a state.
 #[derive(Clone, Copy)]
@@ -16,6 +18,14 @@ pub enum Failing {
     FailsButForQuantifiers,
     /// Something else was evaluated, or could not be.
     Unknown,
+}
+
+/// Whether a formula has no quantifier, and knows no other columns and variables than those of a state and an environment.
+fn can_be_evaluated(formula: &Formula, state: &State, env: &Env) -> bool
+    ensures { IsTrue result ↔ IsTrue (is_ground (formula_of formula.now)) × IsTrue (is_known (column_count state.now) (variable_count env.now) (formula_of formula.now)) }
+{
+    is_ground_of_quantifiers(formula)
+        && formula_is_known(formula, state.column_count(), env.values.len())
 }
 
 /// Whether a formula is evaluated, and holds.

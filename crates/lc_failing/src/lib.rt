@@ -2,7 +2,6 @@
 #![tactic(auto)]
 
 mod failing;
-mod known;
 pub mod laws;
 mod situation;
 mod telling;

@@ -5,9 +5,8 @@ ghost use Rattle.lc_term.specs.State.{column_count, state_of};
 ghost use Rattle.lc_term.specs.UpdateView.{writes_shown};
 ghost use Rattle.lc_failing.specs.Situation.{AreCells, AreNumbers, IsBlank, IsElsewhere, IsOf, numbers_of};
 
-use crate::known::term_is_known;
 use lc_base::{ColId, OutOfMemory};
-use lc_term::{ColExpr, Env, State, Term, Write, eval_term};
+use lc_term::{ColExpr, Env, State, Term, Write, eval_term, term_is_known};
 use std::alloc::Global;
 
 /// How often the cells are looked for: the index of a read may be what another cell has.
