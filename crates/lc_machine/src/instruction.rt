@@ -235,12 +235,12 @@ fn effect_of(
             index,
             old,
             new,
-            equal,
-            different,
+            equal: then,
+            different: otherwise,
         } => {
             let labels = Labels {
-                then: *equal,
-                otherwise: *different,
+                then: *then,
+                otherwise: *otherwise,
             };
             cas_effect(
                 alloc, object, state, variables, *array, index, old, new, labels,
