@@ -5,37 +5,29 @@ ghost use Rattle.lc_term.specs.View.{column_of};
 
 use super::Nodes;
 use lc_farkas::Stop;
-use lc_table::{ColExprId, FormulaId, TermId};
+use lc_table::{ColExprId, FormulaId, FormulaNode, TermId, TermNode};
 use lc_term::{ColExpr, Formula, Term, chain_of};
 
 impl Nodes {
     /// The number of a term.
     #[cycle(enter_term)]
     pub fn enter_term(&mut self, term: &Term) -> Result<TermId, Stop> {
-        match term {
-            Term::Number(number) => self.number(*number),
-            Term::Variable(number) => self.variable(*number),
-            Term::Bound(number) => self.bound(*number),
+        let node = match term {
+            Term::Number(number) => TermNode::Number(*number),
+            Term::Variable(number) => TermNode::Variable(*number),
+            Term::Bound(number) => TermNode::Bound(*number),
             Term::Add(left, right) => {
-                let left = self.enter_term(left)?;
-                let right = self.enter_term(right)?;
-                self.add(left, right)
+                TermNode::Add(self.enter_term(left)?, self.enter_term(right)?)
             }
             Term::Subtract(left, right) => {
-                let left = self.enter_term(left)?;
-                let right = self.enter_term(right)?;
-                self.subtract(left, right)
+                TermNode::Subtract(self.enter_term(left)?, self.enter_term(right)?)
             }
-            Term::Multiply(factor, term) => {
-                let term = self.enter_term(term)?;
-                self.multiply(*factor, term)
-            }
+            Term::Multiply(factor, term) => TermNode::Multiply(*factor, self.enter_term(term)?),
             Term::Read(column, index) => {
-                let column = self.enter_column(column)?;
-                let index = self.enter_term(index)?;
-                self.read(column, index)
+                TermNode::Read(self.enter_column(column)?, self.enter_term(index)?)
             }
-        }
+        };
+        Ok(TermId(self.enter_part(node)?))
     }
 
     /// The number of a column expression.
@@ -65,43 +57,23 @@ impl Nodes {
     /// The number of a formula.
     #[cycle(enter_formula)]
     pub fn enter_formula(&mut self, formula: &Formula) -> Result<FormulaId, Stop> {
-        match formula {
+        let node = match formula {
             Formula::Le(left, right) => {
-                let left = self.enter_term(left)?;
-                let right = self.enter_term(right)?;
-                self.le(left, right)
+                FormulaNode::Le(self.enter_term(left)?, self.enter_term(right)?)
             }
             Formula::Eq(left, right) => {
-                let left = self.enter_term(left)?;
-                let right = self.enter_term(right)?;
-                self.eq(left, right)
+                FormulaNode::Eq(self.enter_term(left)?, self.enter_term(right)?)
             }
-            Formula::Not(formula) => {
-                let formula = self.enter_formula(formula)?;
-                self.not(formula)
-            }
-            Formula::And(parts) => {
-                let parts = self.enter_formulas(parts)?;
-                self.and(parts)
-            }
-            Formula::Or(parts) => {
-                let parts = self.enter_formulas(parts)?;
-                self.or(parts)
-            }
+            Formula::Not(formula) => FormulaNode::Not(self.enter_formula(formula)?),
+            Formula::And(parts) => FormulaNode::And(self.enter_formulas(parts)?),
+            Formula::Or(parts) => FormulaNode::Or(self.enter_formulas(parts)?),
             Formula::Implies(left, right) => {
-                let left = self.enter_formula(left)?;
-                let right = self.enter_formula(right)?;
-                self.implies(left, right)
+                FormulaNode::Implies(self.enter_formula(left)?, self.enter_formula(right)?)
             }
-            Formula::Forall(body) => {
-                let body = self.enter_formula(body)?;
-                self.forall(body)
-            }
-            Formula::Exists(body) => {
-                let body = self.enter_formula(body)?;
-                self.exists(body)
-            }
-        }
+            Formula::Forall(body) => FormulaNode::Forall(self.enter_formula(body)?),
+            Formula::Exists(body) => FormulaNode::Exists(self.enter_formula(body)?),
+        };
+        self.enter_node(node)
     }
 
     /// The numbers of formulas.
