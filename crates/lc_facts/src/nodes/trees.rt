@@ -14,6 +14,13 @@ fn name_of(names: &[u32], variable: u32) -> u32 {
     }
 }
 
+/// Takes a formula out of its box, and puts it behind others.
+#[inline(never)]
+fn push_out(trees: &mut Vec<Formula>, tree: Box<Formula>) -> Result<(), Stop> {
+    trees.push(Box::into_inner(tree))?;
+    Ok(())
+}
+
 impl Nodes {
     /// The tree of a term.
     pub fn term_tree(&self, names: &[u32], term: TermId) -> Result<Term, Stop> {
@@ -91,7 +98,9 @@ impl Nodes {
         }
     }
 
+    /// The tree of a formula, in a box. It stands apart, so that each level of a formula takes little of the stack.
     #[cycle(formula_trees)]
+    #[inline(never)]
     fn boxed_formula(
         &self,
         names: &[u32],
@@ -155,7 +164,7 @@ impl Nodes {
     ) -> Result<Vec<Formula>, Stop> {
         let mut trees = Vec::with_capacity(self.alloc, formulas.len())?;
         for formula in formulas {
-            trees.push(self.formula_within(names, *formula, fuel)?)?;
+            push_out(&mut trees, self.boxed_formula(names, *formula, fuel)?)?;
         }
         Ok(trees)
     }
