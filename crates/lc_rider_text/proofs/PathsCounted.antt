@@ -1,5 +1,5 @@
 -- The paths of riders are as many as their texts say.
-use Rattle.std.proofs.Common.{◌≡◌, ℕ, suc, ◌+◌, ◌*◌, Bool, true, false, cond, List, [], ◌∷◌, ◌++◌, map, Option, Some, None, length, length-append, refl, sym, ap, ap₂, ◌∙◌, subst, arith}
+use Rattle.std.proofs.Common.{◌≡◌, ℕ, ◌+◌, ◌*◌, Bool, true, false, cond, List, [], Option, Some, None, refl, sym, ap, ap₂, ◌∙◌, subst}
 use Rattle.std.specs.Prelude.{codes, slice_get}
 use Rattle.lc_sexp.specs.Trees.{Tree, Trees, atom, list, none, ◌▸◌, item_count}
 use Rattle.lc_reading.proofs.Holding.{Holds, held, anything, mapped_holds, both_holds, ended_holds, limited_holds}
@@ -8,7 +8,7 @@ use Rattle.lc_reading.specs.Words.{is}
 use Rattle.lc_outline.proofs.PathTotal.{paths_total}
 use Rattle.lc_outline.specs.Limits as D
 use Rattle.lc_outline.specs.Limits.{path_total}
-use Rattle.lc_rider.specs.Rider.{Deed, Assign, Marks, Rider, Own, Note}
+use Rattle.lc_rider.specs.Rider.{Deed, Assign, Marks, Own, Note}
 use Rattle.lc_seq.specs.Branches.{op_branches}
 use Rattle.lc_seq.specs.Specification.{Operation}
 use Rattle.lc_term.specs.Syntax.{Term, Formula}

@@ -1,14 +1,12 @@
 //! How an update is read.
-ghost use Rattle.std.specs.Prelude.{◌≡◌, ℕ};
+ghost use Rattle.std.specs.Prelude.{◌≡◌};
 ghost use Rattle.lc_sexp.specs.Shown.{rest_of, number_of, owner_of};
 ghost use Rattle.lc_reading.specs.Parts.{tree_of, place_of};
-ghost use Rattle.lc_reading.specs.Readings.{Reading, mapped};
 ghost use Rattle.lc_reading.specs.Results.{IsReading};
-ghost use Rattle.lc_term.specs.Syntax as T;
 ghost use Rattle.lc_term.specs.UpdateView.{update_of};
 ghost use Rattle.lc_rider_text.specs.KnownView.{known_seen};
 ghost use Rattle.lc_rider_text.specs.Seen.{update_parts};
-ghost use Rattle.lc_rider_text.specs.Updates.{is_open, stored_reading, update_parts_reading, the_update, update_reading, listed_update_reading};
+ghost use Rattle.lc_rider_text.specs.Updates.{is_open, stored_reading, update_parts_reading, update_reading, listed_update_reading};
 
 use crate::known::Known;
 use lc_base::ColId;
@@ -67,18 +65,6 @@ fn read_update_parts<S: Scope>(
     ended(both(both(column, index), value), rest)
 }
 
-/// The update of a column, an index and a value.
-fn made_update(parts: Result<((ColId, Term), Term), ReadFault>) -> Result<Update, ReadFault>
-    ensures { (r : Reading ((ℕ × T.Term) × T.Term)) → IsReading update_parts r parts → IsReading update_of (mapped the_update r) result }
-{
-    let ((column, index), value) = parts?;
-    Ok(Update {
-        column,
-        index,
-        value,
-    })
-}
-
 /// The update of the parts that are left in a list.
 pub(crate) fn read_update<S: Scope>(
     alloc: Global,
@@ -89,7 +75,12 @@ pub(crate) fn read_update<S: Scope>(
 ) -> Result<Update, ReadFault>
     ensures { IsReading update_of (update_reading stores (known_seen known.entry) (S.names scope.now) (owner_of list.entry) (number_of list.entry) (rest_of list.entry)) result }
 {
-    made_update(read_update_parts(alloc, stores, known, scope, list))
+    let ((column, index), value) = read_update_parts(alloc, stores, known, scope, list)?;
+    Ok(Update {
+        column,
+        index,
+        value,
+    })
 }
 
 /// `(COLUMN T T)`, in any column.
