@@ -100,11 +100,14 @@ impl Model {
         self.cells = IndexMap::new(self.alloc);
     }
 
-    /// The number of a term, if it was told of the state at hand.
-    fn told_value(&self, term: TermId) -> Option<Rational> {
+    /// Puts the number of a term where it is wanted, if it was told of the state at hand; whether it was.
+    fn put_told(&self, term: TermId, number: &mut Rational) -> bool {
         match self.values.get(term.0 as usize) {
-            Some(value) if value.stamp == self.stamp => Some(value.number),
-            _ => None,
+            Some(value) if value.stamp == self.stamp => {
+                *number = value.number;
+                true
+            }
+            _ => false,
         }
     }
 
@@ -246,7 +249,6 @@ fn bound_value(bound: &[Rational], number: u32) -> Rational {
 }
 
 /// The number of a term in the state, where these are the numbers of its bound variables.
-#[cycle(value)]
 pub(crate) fn value(
     known: &Known,
     model: &mut Model,
@@ -254,75 +256,157 @@ pub(crate) fn value(
     bound: &[Rational],
     deep: u32,
 ) -> Result<Rational, Stop> {
-    if let Some(number) = model.told_value(term) {
-        return Ok(number);
-    }
-    if deep == 0 {
-        return Err(Stop::Spent);
-    }
-    let number = node_value(known, model, term, bound, deep - 1)?;
-    if known.nodes.term_loose(term) == 0 {
-        model.tell_value(term, number)?;
-    }
+    let mut number = Rational::ZERO;
+    put_value(known, model, term, bound, deep, &mut number)?;
     Ok(number)
 }
 
+/// Puts the number of a term where it is wanted. So each level of a term takes little of the stack: a number has 32 bytes, and
+/// what is done to numbers stands apart.
 #[cycle(value)]
-fn node_value(
+fn put_value(
     known: &Known,
     model: &mut Model,
     term: TermId,
     bound: &[Rational],
     deep: u32,
-) -> Result<Rational, Stop> {
+    number: &mut Rational,
+) -> Result<(), Stop> {
+    if model.put_told(term, number) {
+        return Ok(());
+    }
+    if deep == 0 {
+        return Err(Stop::Spent);
+    }
+    put_node_value(known, model, term, bound, deep - 1, number)?;
+    tell_closed(known, model, term, number)
+}
+
+/// Tells the number of a term, if it is closed.
+#[inline(never)]
+fn tell_closed(
+    known: &Known,
+    model: &mut Model,
+    term: TermId,
+    number: &Rational,
+) -> Result<(), Stop> {
+    if known.nodes.term_loose(term) == 0 {
+        model.tell_value(term, *number)?;
+    }
+    Ok(())
+}
+
+#[inline(never)]
+fn add_to(number: &mut Rational, other: &Rational) -> Result<(), Stop> {
+    *number = number.plus(*other)?;
+    Ok(())
+}
+
+#[inline(never)]
+fn subtract_from(number: &mut Rational, other: &Rational) -> Result<(), Stop> {
+    *number = number.minus(*other)?;
+    Ok(())
+}
+
+#[inline(never)]
+fn multiply_by(number: &mut Rational, factor: i64) -> Result<(), Stop> {
+    *number = Rational::whole(i128::from(factor)).times(*number)?;
+    Ok(())
+}
+
+#[cycle(value)]
+fn put_node_value(
+    known: &Known,
+    model: &mut Model,
+    term: TermId,
+    bound: &[Rational],
+    deep: u32,
+    number: &mut Rational,
+) -> Result<(), Stop> {
     match known.nodes.term_node(term) {
-        Some(TermNode::Number(number)) => Ok(Rational::whole(i128::from(number))),
-        Some(TermNode::Variable(_)) => Ok(known.tableau.value_of(term)),
-        Some(TermNode::Bound(number)) => Ok(bound_value(bound, number)),
         Some(TermNode::Add(left, right)) => {
-            let left = value(known, model, left, bound, deep)?;
-            left.plus(value(known, model, right, bound, deep)?)
+            let mut other = Rational::ZERO;
+            put_value(known, model, left, bound, deep, number)?;
+            put_value(known, model, right, bound, deep, &mut other)?;
+            add_to(number, &other)
         }
         Some(TermNode::Subtract(left, right)) => {
-            let left = value(known, model, left, bound, deep)?;
-            left.minus(value(known, model, right, bound, deep)?)
+            let mut other = Rational::ZERO;
+            put_value(known, model, left, bound, deep, number)?;
+            put_value(known, model, right, bound, deep, &mut other)?;
+            subtract_from(number, &other)
         }
         Some(TermNode::Multiply(factor, term)) => {
-            let number = value(known, model, term, bound, deep)?;
-            Rational::whole(i128::from(factor)).times(number)
+            put_value(known, model, term, bound, deep, number)?;
+            multiply_by(number, factor)
         }
         Some(TermNode::Read(column, index)) => {
-            let index = value(known, model, index, bound, deep)?;
-            content_of(known, model, column, index, bound, deep)
+            put_value(known, model, index, bound, deep, number)?;
+            put_content(known, model, column, bound, deep, number)
         }
-        _ => Ok(Rational::ZERO),
+        node => {
+            put_leaf(known, node, term, bound, number);
+            Ok(())
+        }
     }
 }
 
-/// What a column has at an index: what its outermost store at that index stores there.
+/// Puts the number of a term without parts.
+#[inline(never)]
+fn put_leaf(
+    known: &Known,
+    node: Option<TermNode>,
+    term: TermId,
+    bound: &[Rational],
+    number: &mut Rational,
+) {
+    *number = match node {
+        Some(TermNode::Number(number)) => Rational::whole(i128::from(number)),
+        Some(TermNode::Variable(_)) => known.tableau.value_of(term),
+        Some(TermNode::Bound(place)) => bound_value(bound, place),
+        _ => Rational::ZERO,
+    };
+}
+
+/// Puts what a column has at an index, which is the number at first: what its outermost store at that index stores there.
 #[cycle(value)]
-fn content_of(
+#[inline(never)]
+fn put_content(
     known: &Known,
     model: &mut Model,
     column: ColExprId,
-    index: Rational,
     bound: &[Rational],
     deep: u32,
-) -> Result<Rational, Stop> {
+    number: &mut Rational,
+) -> Result<(), Stop> {
     if deep == 0 {
         return Err(Stop::Spent);
     }
     let mut base = column;
+    let mut at = Rational::ZERO;
     for _ in 0..known.nodes.term_count() {
         let Some(TermNode::Store(below, place, stored)) = known.nodes.column_node(base) else {
             break;
         };
-        if value(known, model, place, bound, deep - 1)? == index {
-            return value(known, model, stored, bound, deep - 1);
+        put_value(known, model, place, bound, deep - 1, &mut at)?;
+        if at == *number {
+            return put_value(known, model, stored, bound, deep - 1, number);
         }
         base = below;
     }
-    content_of_base(known, model, base, index)
+    put_content_of_base(known, model, base, number)
+}
+
+/// Puts what a column that is no store has at an index, likewise.
+#[inline(never)]
+fn put_content_of_base(
+    known: &Known,
+    model: &Model,
+    base: ColExprId,
+    number: &mut Rational,
+) -> Result<(), Stop> {
+    *number = content_of_base(known, model, base, *number)?;
+    Ok(())
 }
 
 /// What a column that is no store has at an index.

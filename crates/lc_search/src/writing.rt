@@ -89,17 +89,24 @@ pub(crate) fn written(
     variables: u32,
 ) -> Result<Proof, Stop> {
     let mut numbering = Numbering::new(known, count, variables)?;
-    write(known, &mut numbering, proof, DEEPEST)
+    let mut proofs = Vec::with_capacity(known.alloc, 1)?;
+    write(known, &mut numbering, proof, DEEPEST, &mut proofs)?;
+    match proofs.pop() {
+        Some(proof) => Ok(proof),
+        None => Err(Stop::Large),
+    }
 }
 
-/// A proof: a list of steps of one branch each, and what stands below them.
+/// Puts a proof behind others: a list of steps of one branch each, and what stands below them. Steps and proofs are large, and
+/// are made in functions that stand apart, so that each level of a proof takes little of the stack.
 #[cycle(write)]
 fn write(
     known: &Known,
     numbering: &mut Numbering,
     proof: ProofId,
     deep: u32,
-) -> Result<Proof, Stop> {
+    proofs: &mut Vec<Proof>,
+) -> Result<(), Stop> {
     if deep == 0 {
         return Err(Stop::Spent);
     }
@@ -108,12 +115,25 @@ fn write(
     let Some(made) = known.proofs.get(last) else {
         return Err(Stop::Large);
     };
-    let step = step_of(known, numbering, made)?;
+    push_step(known, numbering, made, &mut steps)?;
     let branches = write_each(known, numbering, made, deep - 1)?;
-    behind(known, steps, Proof { step, branches })
+    push_steps(known, steps, branches, proofs)
+}
+
+/// Puts the step of a proof behind others.
+#[inline(never)]
+fn push_step(
+    known: &Known,
+    numbering: &Numbering,
+    made: &Made,
+    steps: &mut Vec<Step>,
+) -> Result<(), Stop> {
+    steps.push(step_of(known, numbering, made)?)?;
+    Ok(())
 }
 
 /// Writes the steps of one branch that a proof begins with; the proof below them is answered.
+#[inline(never)]
 fn chain(
     known: &Known,
     numbering: &mut Numbering,
@@ -129,7 +149,7 @@ fn chain(
             Some(below) if made.below.len() == 1 => *below,
             _ => return Ok(proof),
         };
-        steps.push(step_of(known, numbering, made)?)?;
+        push_step(known, numbering, made, steps)?;
         numbering.name(made.rule);
         numbering.append_all(made.made.first());
         proof = below;
@@ -137,18 +157,27 @@ fn chain(
     Ok(proof)
 }
 
-/// A proof behind steps of one branch, of which the last is nearest to it.
-fn behind(known: &Known, steps: Vec<Step>, proof: Proof) -> Result<Proof, Stop> {
+/// Puts a proof behind others: steps, of which the last has these branches, and each other one has the next one below it.
+#[inline(never)]
+fn push_steps(
+    known: &Known,
+    steps: Vec<Step>,
+    branches: Vec<Proof>,
+    proofs: &mut Vec<Proof>,
+) -> Result<(), Stop> {
     let mut steps = steps;
-    let mut proof = proof;
+    let mut branches = branches;
     for _ in 0..steps.len() {
         if let Some(step) = steps.pop() {
-            let mut branches = Vec::with_capacity(known.alloc, 1)?;
-            branches.push(proof)?;
-            proof = Proof { step, branches };
+            let mut below = Vec::with_capacity(known.alloc, 1)?;
+            below.push(Proof { step, branches })?;
+            branches = below;
         }
     }
-    Ok(proof)
+    for proof in branches {
+        proofs.push(proof)?;
+    }
+    Ok(())
 }
 
 /// The proofs of the branches of a step, each of which begins with the same numbers.
@@ -167,7 +196,7 @@ fn write_each(
         let hypothesis = numbering.next_hypothesis;
         let variable = numbering.next_variable;
         numbering.append_all(made.made.get(place));
-        proofs.push(write(known, numbering, *below, deep - 1)?)?;
+        write(known, numbering, *below, deep - 1, &mut proofs)?;
         numbering.next_hypothesis = hypothesis;
         numbering.next_variable = variable;
     }
