@@ -10,7 +10,3 @@ line_joined c k w p q r s cv v ch f cg g ce o o1 o2 o3 first second third =
 -- four parts, behind what is there
 pub joined_four : (o a b c d p q r s : List ℕ) → p ≡ o ++ a → q ≡ p ++ b → r ≡ q ++ c → s ≡ r ++ d → s ≡ o ++ (a ++ b ++ c ++ d)
 joined_four o a b c d p q r s e f g h = h ∙ ap (λ l. l ++ d) (g ∙ ap (λ l. l ++ c) (f ∙ ap (λ l. l ++ b) e)) ∙ simp append_assoc
-
--- five parts, behind what is there
-pub joined_five : (o a b c d x p q r s u : List ℕ) → p ≡ o ++ a → q ≡ p ++ b → r ≡ q ++ c → s ≡ r ++ d → u ≡ s ++ x → u ≡ o ++ (a ++ b ++ (c ++ d) ++ x)
-joined_five o a b c d x p q r s u e f g h i = i ∙ ap (λ l. l ++ x) (joined_four o a b c d p q r s e f g h) ∙ simp append_assoc

@@ -3,4 +3,4 @@ mod LeftOver
 mod LinesFrom
 mod Printed
 mod Recalled
-mod Stores
+mod Waiting

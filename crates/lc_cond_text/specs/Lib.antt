@@ -2,4 +2,4 @@ pub mod ConditionText
 pub mod CounterLines
 pub mod Recalled
 pub mod LinesView
-pub mod Stores
+pub mod Waiting

@@ -6,6 +6,7 @@ mod lines;
 mod naming;
 mod nodes;
 mod statement;
+mod term_text;
 mod text;
 mod texts;
 

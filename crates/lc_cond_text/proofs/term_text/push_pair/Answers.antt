@@ -1,0 +1,33 @@
+use Rattle.std.proofs.Common.{rules, ◌≡◌, ◌++◌, [], sym, subst, codes}
+use Rattle.lc_table.specs.Tables.{term_in}
+use Rattle.lc_text.specs.Spelled.{spaced, spelled_term}
+use Rattle.lc_outline.specs.DevelopmentView.{development_shown}
+use Rattle.lc_cond_text.specs.ConditionText.{spelled}
+use Rattle.lc_cond_text.specs.Waiting.{AreWaiting, GoesOn}
+use Rattle.lc_cond_text.proofs.Waiting.{last_waits, one_more, all_written}
+use Rattle.lc_cond_text.proofs.term_text.push_pair.Goals as goal
+
+pub loop-init : goal.loop-init
+loop-init c =
+    let ts = c.args.terms.now in
+    let by = spelled (development_shown c.args.development.now) in
+    let d = c.args.depth in
+    let none : c.new-waiting.result.items ≡ [] = search rules in
+    subst (λ ws. GoesOn by d ts c.args.out.now.items ws (c.args.word.now ++ spelled_term by d (term_in ts c.args.left) ++ spaced (spelled_term by d (term_in ts c.args.right)) ++ codes ")") c.begin_pair.new.out.items c.begin_pair.new.waiting.items)
+    none (c.in_ok-begin_pair.ensures by d ts c.requires.left c.requires.right (subst (AreWaiting ts) (sym none) tt))
+
+pub returns-in_default : goal.returns-in_default
+returns-in_default c =
+    let none : c.loop.waiting.items ≡ [] = search rules in
+    all_written (spelled (development_shown c.args.development.now)) c.args.depth c.args.terms.now c.args.out.now.items _ c.loop.out.items c.loop.waiting.items c.loop.invariant none
+
+pub go_on-requires-clause-next : goal.go_on-requires-clause-next
+go_on-requires-clause-next c = (last_waits c.args.terms.now c.loop.waiting.items c.pop.new.self.items c.in-Some.next c.in-Some.ensures.items c.loop.invariant.waits).1
+
+pub go_on-requires-clause-waiting : goal.go_on-requires-clause-waiting
+go_on-requires-clause-waiting c = (last_waits c.args.terms.now c.loop.waiting.items c.pop.new.self.items c.in-Some.next c.in-Some.ensures.items c.loop.invariant.waits).0
+
+pub loop-preserved : goal.loop-preserved
+loop-preserved c =
+    one_more (spelled (development_shown c.args.development.now)) c.args.depth c.args.terms.now c.args.out.now.items [] c.loop.waiting.items c.pop.new.self.items c.go_on.new.waiting.items c.in-Some.next _
+    c.loop.out.items c.go_on.new.out.items c.loop.invariant c.in-Some.ensures.items c.in_ok-go_on.ensures
