@@ -1,11 +1,10 @@
 -- A node has no bound variable where none of its parts has one, and what has none is the same below quantifiers.
-use Rattle.std.proofs.Common.{◌≡◌, ℕ, true, slice_get, Some, refl, subst, sym, ap, ◌∙◌}
-use Rattle.std.proofs.lemmas.Bool.{and_from}
+use Rattle.std.proofs.Common.{◌≡◌, ℕ, true, Some, subst, sym, ap, ◌∙◌}
 use Rattle.lc_table.specs.declared.node.TermId.{TermId}
 use Rattle.lc_table.specs.declared.node.ColExprId.{ColExprId}
 use Rattle.lc_table.specs.declared.node.TermNode.{TermNode}
 use Rattle.lc_table.specs.declared.node.TermNode.TheVariants.{Number, Variable, Bound, Add, Subtract, Multiply, Read, Base, Store, Affine}
-use Rattle.lc_table.specs.Nodes.{part_of, PartFits, term, column}
+use Rattle.lc_table.specs.Nodes.{term, column}
 use Rattle.lc_table.specs.NodeTables.{Table}
 use Rattle.lc_table.specs.NodeClosed.{is_closed_part}
 use Rattle.lc_table.specs.NodeReplacement.{as_part, part_in}

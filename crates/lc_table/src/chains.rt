@@ -1,9 +1,7 @@
 //! The stores of a column expression of a table, by number, so that a walk over a long chain of them is a loop.
-ghost use Rattle.std.specs.Prelude.{◌≡◌, ◌≤◌, IfOk, IfSome, None, Some, false, nat_eq};
-ghost use Rattle.std.specs.Map.{lookup};
+ghost use Rattle.std.specs.Prelude.{◌≡◌, ◌≤◌, IfOk, IfSome, None, false};
 ghost use Rattle.lc_term.specs.Chains.{is_store};
 ghost use Rattle.lc_table.specs.NodeChains.{below_stores, AreStores};
-ghost use Rattle.lc_table.specs.Put.{occurrence_eq};
 ghost use Rattle.lc_table.specs.Tables.{column_in, IsColumn};
 
 use crate::node::{ColExprId, TermNode};
@@ -41,6 +39,50 @@ impl Waiting {
     }
 }
 
+/// Of column expressions of a table, what is known already to become of them.
+pub(crate) trait KnownColumns {
+    ghost use Rattle.std.specs.Prelude.{ℕ, IfSome};
+
+    ghost Becomes: { Self → ℕ → ℕ → Type 0 };
+
+    // The number of what becomes of a column expression, if it is known.
+    fn known(&self, column: ColExprId) -> Option<u32>
+        ensures { IfSome result (Becomes self.now column.0) };
+}
+
+impl KnownColumns for IndexMap<u32, u32> {
+    ghost use Rattle.std.specs.Prelude.{◌≡◌, Some, nat_eq};
+    ghost use Rattle.std.specs.Map.{lookup};
+
+    ghost Becomes = { λ done column number. lookup (nat_eq column) done.entries ≡ Some number };
+
+    fn known(&self, column: ColExprId) -> Option<u32> {
+        self.get(&column.0).copied()
+    }
+}
+
+/// What is replaced already below so many quantifiers.
+#[derive(Clone, Copy)]
+pub(crate) struct ReplacedBelow<'a> {
+    pub(crate) done: &'a ReplacedNodes,
+    pub(crate) depth: u32,
+}
+
+impl KnownColumns for ReplacedBelow<'_> {
+    ghost use Rattle.std.specs.Prelude.{◌≡◌, Some};
+    ghost use Rattle.std.specs.Map.{lookup};
+    ghost use Rattle.lc_table.specs.Put.{occurrence_eq};
+
+    ghost Becomes = { λ below column number. lookup (occurrence_eq (record { number = column; depth = below.depth })) below.done.now.parts.entries ≡ Some number };
+
+    fn known(&self, column: ColExprId) -> Option<u32> {
+        self.done.part(Occurrence {
+            number: column.0,
+            depth: self.depth,
+        })
+    }
+}
+
 impl Terms {
     /// A column expression in parts.
     pub fn chain(&self, alloc: Global, column: ColExprId) -> Result<NodeChain, OutOfMemory>
@@ -67,73 +109,25 @@ impl Terms {
         }
     }
 
-    // A column expression in parts, down to what is done.
-    pub(crate) fn chain_to_done(
+    // A column expression in parts, down to where it is known already what becomes of it.
+    pub(crate) fn chain_to_done<K: KnownColumns>(
         &self,
         alloc: Global,
         column: ColExprId,
-        done: &IndexMap<u32, u32>,
+        done: &K,
     ) -> Result<Waiting, OutOfMemory>
         requires { IsColumn self.now column }
         ensures stores { IfOk result (λ chain. AreStores self.now column.0 (column_in self.now column) chain.stores.items) }
         ensures below { IfOk result (λ chain. below_stores (column_in self.now column) chain.stores.items ≡ column_in self.now chain.base) }
         ensures is { IfOk result (λ chain. IsColumn self.now chain.base) }
         ensures within { IfOk result (λ chain. chain.base.0 ≤ column.0) }
-        ensures known { IfOk result (λ chain. IfSome chain.known (λ number. lookup (nat_eq chain.base.0) done.now.entries ≡ Some number)) }
+        ensures known { IfOk result (λ chain. IfSome chain.known (K.Becomes done.now chain.base.0)) }
         ensures base { IfOk result (λ chain. chain.known ≡ None → is_store (column_in self.now chain.base) ≡ false) }
     {
         let mut stores = Vec::new(alloc);
         let mut base = column;
         'stores: loop {
-            if let Some(number) = done.get(&base.0) {
-                let known = Some(*number);
-                return Ok(Waiting {
-                    base,
-                    known,
-                    stores,
-                });
-            }
-            match self.column_node(base) {
-                TermNode::Store(below, _, _) => {
-                    stores.push(base)?;
-                    base = below;
-                }
-                TermNode::Base(_) | TermNode::Affine(_, _) => {
-                    let known = None;
-                    return Ok(Waiting {
-                        base,
-                        known,
-                        stores,
-                    });
-                }
-                _ => unreachable!(),
-            }
-        }
-    }
-
-    // The same, below as many quantifiers as `depth` counts.
-    pub(crate) fn chain_to_replaced(
-        &self,
-        alloc: Global,
-        column: ColExprId,
-        done: &ReplacedNodes,
-        depth: u32,
-    ) -> Result<Waiting, OutOfMemory>
-        requires { IsColumn self.now column }
-        ensures stores { IfOk result (λ chain. AreStores self.now column.0 (column_in self.now column) chain.stores.items) }
-        ensures below { IfOk result (λ chain. below_stores (column_in self.now column) chain.stores.items ≡ column_in self.now chain.base) }
-        ensures is { IfOk result (λ chain. IsColumn self.now chain.base) }
-        ensures within { IfOk result (λ chain. chain.base.0 ≤ column.0) }
-        ensures known { IfOk result (λ chain. IfSome chain.known (λ number. lookup (occurrence_eq (record { number = chain.base.0; depth = depth })) done.now.parts.entries ≡ Some number)) }
-        ensures base { IfOk result (λ chain. chain.known ≡ None → is_store (column_in self.now chain.base) ≡ false) }
-    {
-        let mut stores = Vec::new(alloc);
-        let mut base = column;
-        'stores: loop {
-            let known = done.part(Occurrence {
-                number: base.0,
-                depth,
-            });
+            let known = done.known(base);
             if known.is_some() {
                 return Ok(Waiting {
                     base,

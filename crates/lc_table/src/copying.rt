@@ -3,8 +3,8 @@ ghost use Rattle.std.specs.Prelude.{◌≡◌, IfOk, IfSome, OnOk, [], slice_get
 ghost use Rattle.std.specs.Map.{lookup};
 ghost use Rattle.lc_term.specs.Chains.{is_store};
 ghost use Rattle.lc_table.specs.NodeChains.{stored_to};
-ghost use Rattle.lc_table.specs.Nodes.{is_term};
-ghost use Rattle.lc_table.specs.Tables.{parts, term_in, column_in, formula_in, formulas_in, IsTerm, IsColumn, IsFormula, AreFormulas, HasTerm, HasColumn, HasFormula, Keeps};
+ghost use Rattle.lc_table.specs.Nodes.{is_term, tree_of, TreeFits};
+ghost use Rattle.lc_table.specs.Tables.{parts, formulas, term_in, column_in, formula_in, formulas_in, IsTerm, IsColumn, IsFormula, AreFormulas, HasTerm, HasColumn, HasFormula, Keeps};
 ghost use Rattle.lc_table.specs.Copies.{Copies};
 
 use crate::chains::Waiting;
@@ -229,24 +229,26 @@ impl Terms {
         if let Some(number) = copied.formulas.get(&formula.0) {
             return Ok(FormulaId(*number));
         }
-        let number = self.copied_formula_node(alloc, other, formula, copied)?;
-        copied.formulas.insert(formula.0, number.0)?;
-        Ok(number)
+        let node = self.copied_node(alloc, other, formula, copied)?;
+        let number = self.enter_node(node)?;
+        copied.formulas.insert(formula.0, number)?;
+        Ok(FormulaId(number))
     }
 
-    // The number here of a formula that is not copied yet.
+    // The node here of a formula that is not copied yet.
     #[cycle(copied_formula)]
     #[tactic(auto, using(crate::proofs::Later::term_later, crate::proofs::Later::term_is, crate::proofs::Later::is_term_later, crate::proofs::Later::formula_later, crate::proofs::Later::formula_is, crate::proofs::Later::is_formula_later, crate::proofs::Later::kept_on))]
-    fn copied_formula_node(
+    fn copied_node(
         &mut self,
         alloc: Global,
         other: &Terms,
         formula: FormulaId,
         copied: &mut Copied,
-    ) -> Result<FormulaId, OutOfMemory>
+    ) -> Result<FormulaNode, OutOfMemory>
         requires there { IsFormula other.now formula }
         requires copies { Copies other.now self.old copied.old }
-        ensures id { IfOk result (λ k. HasFormula self.new k (formula_in other.now formula)) }
+        ensures fits { IfOk result (λ node. TreeFits (parts self.new) (formulas self.new) node) }
+        ensures tree { IfOk result (λ node. tree_of (parts self.new) (formulas self.new) node ≡ formula_in other.now formula) }
         ensures kept { Keeps self.old self.new }
         ensures copies { OnOk result (Copies other.now self.new copied.new) }
     {
@@ -254,37 +256,37 @@ impl Terms {
             FormulaNode::Le(left, right) => {
                 let left = self.copied_term(other, *left, copied)?;
                 let right = self.copied_term(other, *right, copied)?;
-                self.le(left, right)
+                Ok(FormulaNode::Le(left, right))
             }
             FormulaNode::Eq(left, right) => {
                 let left = self.copied_term(other, *left, copied)?;
                 let right = self.copied_term(other, *right, copied)?;
-                self.eq(left, right)
+                Ok(FormulaNode::Eq(left, right))
             }
             FormulaNode::Not(formula) => {
                 let formula = self.copied_formula(alloc, other, *formula, copied)?;
-                self.not(formula)
+                Ok(FormulaNode::Not(formula))
             }
             FormulaNode::And(parts) => {
                 let parts = self.copied_formulas(alloc, other, parts, copied)?;
-                self.and(parts)
+                Ok(FormulaNode::And(parts))
             }
             FormulaNode::Or(parts) => {
                 let parts = self.copied_formulas(alloc, other, parts, copied)?;
-                self.or(parts)
+                Ok(FormulaNode::Or(parts))
             }
             FormulaNode::Implies(left, right) => {
                 let left = self.copied_formula(alloc, other, *left, copied)?;
                 let right = self.copied_formula(alloc, other, *right, copied)?;
-                self.implies(left, right)
+                Ok(FormulaNode::Implies(left, right))
             }
             FormulaNode::Forall(body) => {
                 let body = self.copied_formula(alloc, other, *body, copied)?;
-                self.forall(body)
+                Ok(FormulaNode::Forall(body))
             }
             FormulaNode::Exists(body) => {
                 let body = self.copied_formula(alloc, other, *body, copied)?;
-                self.exists(body)
+                Ok(FormulaNode::Exists(body))
             }
         }
     }

@@ -28,7 +28,7 @@ impl Terms {
         ensures kept { Keeps self.old self.new }
     {
         let mut done = nothing_replaced(alloc);
-        self.replaced_formula_node::<R>(alloc, put, &mut done, formula, 0)
+        self.replaced_formula::<R>(alloc, put, &mut done, formula, 0)
     }
 
     /// The formula with a term for a free variable. Below quantifiers the term's bound variables are shifted, so none

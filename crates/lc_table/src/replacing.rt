@@ -11,7 +11,7 @@ ghost use Rattle.lc_term.specs.Replacement.{replace, replace_term, replace_colum
 ghost use Rattle.lc_term.specs.Syntax as S;
 ghost use Rattle.lc_table.specs.Tables.{parts, formulas, term_in, column_in, formula_in, formulas_in, IsTerm, IsColumn, IsFormula, AreFormulas, HasTerm, HasColumn, HasFormula, Keeps};
 
-use crate::chains::Waiting;
+use crate::chains::{ReplacedBelow, Waiting};
 use crate::filling::{Filled, Filling};
 use crate::node::{ColExprId, FormulaId, FormulaNode, TermId, TermNode};
 use crate::put::{Occurrence, Put, PutColumns, PutVariables, ReplacedNodes};
@@ -291,7 +291,7 @@ impl Terms {
         ensures kept { Keeps self.old self.new }
         ensures done { OnOk result (Stands R.replacement self.new put.now done.new) }
     {
-        let mut chain = self.chain_to_replaced(alloc, column, done, depth)?;
+        let mut chain = self.chain_to_done(alloc, column, &ReplacedBelow { done, depth })?;
         let mut replaced = self.replaced_below::<R>(alloc, put, done, &chain, depth)?;
         'stores: while let Some(store) = chain.stores.pop() {
             replaced = self.replaced_store::<R>(alloc, put, done, store, replaced, depth)?;
@@ -477,6 +477,7 @@ impl Terms {
     }
 
     #[cycle(replaced_formula)]
+    #[tactic(auto, using(crate::proofs::Later::kept_on, crate::proofs::Later::is_formula_still))]
     pub(crate) fn replaced_formula<R: Filled>(
         &mut self,
         alloc: Global,
@@ -498,7 +499,8 @@ impl Terms {
         if let Some(number) = done.formula(occurrence) {
             return Ok(FormulaId(number));
         }
-        let number = self.replaced_formula_node::<R>(alloc, put, done, formula, depth)?;
+        let node = self.replaced_node::<R>(alloc, put, done, formula, depth)?;
+        let number = self.enter_changed_formula(formula, node)?;
         done.note_formula(occurrence, number.0)?;
         Ok(number)
     }
@@ -521,66 +523,61 @@ impl Terms {
         Ok(FormulaId(self.enter_node(node)?))
     }
 
-    // A formula, replaced, which is not replaced yet.
+    // The node of a formula that is not replaced yet, its parts replaced.
     #[cycle(replaced_formula)]
     #[tactic(auto, using(crate::proofs::Later::kept_on, crate::proofs::Later::keeps_itself, crate::proofs::Later::is_term_later, crate::proofs::Later::is_term_still, crate::proofs::Later::is_formula_later, crate::proofs::Later::is_formula_still))]
-    pub(crate) fn replaced_formula_node<R: Filled>(
+    fn replaced_node<R: Filled>(
         &mut self,
         alloc: Global,
         put: &Filling<'_>,
         done: &mut ReplacedNodes,
         formula: FormulaId,
         depth: u32,
-    ) -> Result<FormulaId, OutOfMemory>
+    ) -> Result<FormulaNode, OutOfMemory>
         requires there { IsFormula self.old formula }
         requires done { Stands R.replacement self.old put.now done.old }
-        ensures id { IfOk result (λ k. HasFormula self.new k (replace (under_many depth R.replacement) (formula_in self.old formula))) }
+        ensures fits { IfOk result (λ node. TreeFits (parts self.new) (formulas self.new) node) }
+        ensures tree { IfOk result (λ node. tree_of (parts self.new) (formulas self.new) node ≡ replace (under_many depth R.replacement) (formula_in self.old formula)) }
         ensures kept { Keeps self.old self.new }
         ensures done { OnOk result (Stands R.replacement self.new put.now done.new) }
     {
-        match self.formula_node(formula) {
+        match *self.formula_node(formula) {
             FormulaNode::Le(left, right) => {
-                let (left, right) = (*left, *right);
                 let left = self.replaced_term::<R>(alloc, put, done, left, depth)?;
                 let right = self.replaced_term::<R>(alloc, put, done, right, depth)?;
-                self.enter_changed_formula(formula, FormulaNode::Le(left, right))
+                Ok(FormulaNode::Le(left, right))
             }
             FormulaNode::Eq(left, right) => {
-                let (left, right) = (*left, *right);
                 let left = self.replaced_term::<R>(alloc, put, done, left, depth)?;
                 let right = self.replaced_term::<R>(alloc, put, done, right, depth)?;
-                self.enter_changed_formula(formula, FormulaNode::Eq(left, right))
+                Ok(FormulaNode::Eq(left, right))
             }
             FormulaNode::Not(formula) => {
-                let formula = *formula;
                 let formula = self.replaced_formula::<R>(alloc, put, done, formula, depth)?;
-                self.not(formula)
+                Ok(FormulaNode::Not(formula))
             }
-            FormulaNode::And(parts) => {
+            FormulaNode::And(ref parts) => {
                 let parts = Vec::from_slice(alloc, parts)?;
                 let parts = self.replaced_formulas::<R>(alloc, put, done, &parts, depth)?;
-                self.and(parts)
+                Ok(FormulaNode::And(parts))
             }
-            FormulaNode::Or(parts) => {
+            FormulaNode::Or(ref parts) => {
                 let parts = Vec::from_slice(alloc, parts)?;
                 let parts = self.replaced_formulas::<R>(alloc, put, done, &parts, depth)?;
-                self.or(parts)
+                Ok(FormulaNode::Or(parts))
             }
             FormulaNode::Implies(left, right) => {
-                let (left, right) = (*left, *right);
                 let left = self.replaced_formula::<R>(alloc, put, done, left, depth)?;
                 let right = self.replaced_formula::<R>(alloc, put, done, right, depth)?;
-                self.implies(left, right)
+                Ok(FormulaNode::Implies(left, right))
             }
             FormulaNode::Forall(body) => {
-                let body = *body;
                 let body = self.replaced_formula::<R>(alloc, put, done, body, below(depth)?)?;
-                self.forall(body)
+                Ok(FormulaNode::Forall(body))
             }
             FormulaNode::Exists(body) => {
-                let body = *body;
                 let body = self.replaced_formula::<R>(alloc, put, done, body, below(depth)?)?;
-                self.exists(body)
+                Ok(FormulaNode::Exists(body))
             }
         }
     }

@@ -1,21 +1,20 @@
-use Rattle.std.proofs.Common.{rules, arith, ◌≡◌, ◌<◌, ◌++◌, ◌∷◌, [], length, subst, sym, ap, ◌∙◌, get_or}
-use Rattle.std.proofs.lemmas.Result.{IfOk-weaker}
+use Rattle.std.proofs.Common.{rules, arith, ◌≡◌, ◌<◌, ◌++◌, ◌∷◌, [], length, subst, sym, refl, ap, ◌∙◌, get_or, Some}
 use Rattle.lc_table.specs.Nodes.{AllBelow}
 use Rattle.lc_table.specs.Tables.{formula_in, formulas_in, AreFormulas}
-use Rattle.lc_table.proofs.Copied.{copies_kept}
+use Rattle.lc_table.proofs.Copied.{copies_kept, formula_noted}
 use Rattle.lc_table.proofs.Later.{kept_on, are_formulas_pushed, formulas_pushed}
 use Rattle.lc_table.proofs.Listed.{beyond-le, get-beyond, are_formulas-get, formulas_in-more}
 use Rattle.lc_table.proofs.table.Terms.+copied_formula.Goals as goal
 
-pub copied_formula_node-copied_formulas-requires : goal.copied_formula_node-copied_formulas-requires
-copied_formula_node-copied_formulas-requires t c =
+pub copied_node-copied_formulas-requires : goal.copied_node-copied_formulas-requires
+copied_node-copied_formulas-requires t c =
     let below : AllBelow c.args.formula.0 c.deref.result.now = search rules in
     let fits : AreFormulas c.args.other.now c.deref.result.now = search rules in
     let least = beyond-le c.args.formula.0 c.deref.result.now below in
     (omega arith, (fits, c.requires.copies))
 
-pub copied_formula_node-copied_formulas-requires-in-Or : goal.copied_formula_node-copied_formulas-requires-in-Or
-copied_formula_node-copied_formulas-requires-in-Or t c =
+pub copied_node-copied_formulas-requires-in-Or : goal.copied_node-copied_formulas-requires-in-Or
+copied_node-copied_formulas-requires-in-Or t c =
     let below : AllBelow c.args.formula.0 c.deref-in-Or.result.now = search rules in
     let fits : AreFormulas c.args.other.now c.deref-in-Or.result.now = search rules in
     let least = beyond-le c.args.formula.0 c.deref-in-Or.result.now below in
@@ -44,26 +43,8 @@ copied_formulas-loop-formula-preserved t c =
       ap (formulas_in now) items ∙ formulas_pushed c.loop-formula.self now ks k _ i.2 kept at ∙ ap (λ l. l ++ formula_in c.args.other.now (get_or c.args.formulas.now c.loop-formula.formula-index (record { 0 = 0 })) ∷ []) i.3 ∙ sym more,
     )
 
-pub copied_formula_node-returns-in_ok-right-in-Le-clause-copies : goal.copied_formula_node-returns-in_ok-right-in-Le-clause-copies
-copied_formula_node-returns-in_ok-right-in-Le-clause-copies t c = IfOk-weaker c.le.result _ _ (λ k h. copies_kept c.args.other.now _ _ _ c.in_ok-right-in-Le.ensures.copies c.le.ensures.kept) c.le.ensures.id
-
-pub copied_formula_node-returns-in_ok-right-in-Eq-clause-copies : goal.copied_formula_node-returns-in_ok-right-in-Eq-clause-copies
-copied_formula_node-returns-in_ok-right-in-Eq-clause-copies t c = IfOk-weaker c.eq.result _ _ (λ k h. copies_kept c.args.other.now _ _ _ c.in_ok-right-in-Eq.ensures.copies c.eq.ensures.kept) c.eq.ensures.id
-
-pub copied_formula_node-returns-in_ok-formula-in-Not-clause-copies : goal.copied_formula_node-returns-in_ok-formula-in-Not-clause-copies
-copied_formula_node-returns-in_ok-formula-in-Not-clause-copies t c = IfOk-weaker c.not.result _ _ (λ k h. copies_kept c.args.other.now _ _ _ c.in_ok-formula-in-Not.ensures.copies c.not.ensures.kept) c.not.ensures.id
-
-pub copied_formula_node-returns-in_ok-parts-in-And-clause-copies : goal.copied_formula_node-returns-in_ok-parts-in-And-clause-copies
-copied_formula_node-returns-in_ok-parts-in-And-clause-copies t c = IfOk-weaker c.and.result _ _ (λ k h. copies_kept c.args.other.now _ _ _ c.in_ok-parts-in-And.ensures.copies c.and.ensures.kept) c.and.ensures.id
-
-pub copied_formula_node-returns-in_ok-parts-in-Or-clause-copies : goal.copied_formula_node-returns-in_ok-parts-in-Or-clause-copies
-copied_formula_node-returns-in_ok-parts-in-Or-clause-copies t c = IfOk-weaker c.or.result _ _ (λ k h. copies_kept c.args.other.now _ _ _ c.in_ok-parts-in-Or.ensures.copies c.or.ensures.kept) c.or.ensures.id
-
-pub copied_formula_node-returns-in_ok-right-in-Implies-clause-copies : goal.copied_formula_node-returns-in_ok-right-in-Implies-clause-copies
-copied_formula_node-returns-in_ok-right-in-Implies-clause-copies t c = IfOk-weaker c.implies.result _ _ (λ k h. copies_kept c.args.other.now _ _ _ c.in_ok-right-in-Implies.ensures.copies c.implies.ensures.kept) c.implies.ensures.id
-
-pub copied_formula_node-returns-in_ok-body-in-Forall-clause-copies : goal.copied_formula_node-returns-in_ok-body-in-Forall-clause-copies
-copied_formula_node-returns-in_ok-body-in-Forall-clause-copies t c = IfOk-weaker c.forall.result _ _ (λ k h. copies_kept c.args.other.now _ _ _ c.in_ok-body-in-Forall.ensures.copies c.forall.ensures.kept) c.forall.ensures.id
-
-pub copied_formula_node-returns-in_ok-body-in-Exists-clause-copies : goal.copied_formula_node-returns-in_ok-body-in-Exists-clause-copies
-copied_formula_node-returns-in_ok-body-in-Exists-clause-copies t c = IfOk-weaker c.exists.result _ _ (λ k h. copies_kept c.args.other.now _ _ _ c.in_ok-body-in-Exists.ensures.copies c.exists.ensures.kept) c.exists.ensures.id
+pub copied_formula-returns-clause-copies : goal.copied_formula-returns-clause-copies
+copied_formula-returns-clause-copies t c =
+    formula_noted c.args.other.now c.enter_node.new.self c.copied_node.new.copied _ c.args.formula (record { 0 = c.in_ok-number.number })
+    (copies_kept c.args.other.now _ _ _ c.in_ok-node.ensures.copies c.in_ok-number.ensures.kept) c.requires.there (c.in_ok-number.ensures.formula ∙ ap Some c.in_ok-node.ensures.tree)
+    c.in_ok-insert.ensures.updates.0 refl

@@ -7,8 +7,8 @@ use Rattle.lc_table.proofs.table.Terms.+copied_formula.Given as goal
 abbrev pub decreases-copied_formula : goal.decreases-copied_formula
 decreases-copied_formula l = 3 * l.formula.0 + 2
 
-abbrev pub decreases-copied_formula_node : goal.decreases-copied_formula_node
-decreases-copied_formula_node l = 3 * l.formula.0 + 1
+abbrev pub decreases-copied_node : goal.decreases-copied_node
+decreases-copied_node l = 3 * l.formula.0 + 1
 
 abbrev pub decreases-copied_formulas : goal.decreases-copied_formulas
 decreases-copied_formulas l = 3 * beyond l.formulas.now

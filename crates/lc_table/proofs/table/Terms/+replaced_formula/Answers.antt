@@ -1,5 +1,4 @@
 use Rattle.std.proofs.Common.{rules, arith, ◌≡◌, ◌<◌, ◌++◌, ◌∷◌, [], length, subst, sym, refl, ap, ap₂, ◌∙◌, get_or, Some}
-use Rattle.std.proofs.lemmas.Result.{IfOk-weaker}
 use Rattle.lc_term.specs.Syntax as S
 use Rattle.lc_table.specs.Nodes.{AllBelow}
 use Rattle.lc_term.specs.Replacement.{under_many, replace, replace_all}
@@ -14,29 +13,39 @@ pub replaced_formula-returns-in-Some-clause-id : goal.replaced_formula-returns-i
 replaced_formula-returns-in-Some-clause-id g t c =
     formula_remembered g.R.Filled.replacement c.args.self.now c.args.done.now c.args.formula c.args.depth _ c.requires.done.remembers c.requires.there c.in-Some.ensures
 
+pub replaced_formula-enter_changed_formula-requires-clause-there : goal.replaced_formula-enter_changed_formula-requires-clause-there
+replaced_formula-enter_changed_formula-requires-clause-there g t c = is_formula_still _ _ c.args.formula c.requires.there c.in_ok-node.ensures.kept
+
+pub replaced_formula-enter_changed_formula-requires-clause-fits : goal.replaced_formula-enter_changed_formula-requires-clause-fits
+replaced_formula-enter_changed_formula-requires-clause-fits g t c = c.in_ok-node.ensures.fits
+
+pub replaced_formula-returns-clause-id : goal.replaced_formula-returns-clause-id
+replaced_formula-returns-clause-id g t c = c.in_ok-number.ensures.id ∙ ap Some c.in_ok-node.ensures.tree
+
 pub replaced_formula-returns-clause-done : goal.replaced_formula-returns-clause-done
 replaced_formula-returns-clause-done g t c =
-    formula_noted g.R.Filled.replacement c.args.self.now c.replaced_formula_node.new.self c.args.put.now c.replaced_formula_node.new.done c.note_formula.new.self c.args.formula c.in_ok-number.number c.args.depth c.requires.there c.in_ok-number.ensures.kept c.in_ok-number.ensures.done
-    c.in_ok-number.ensures.id c.in_ok-note_formula.ensures.formulas c.in_ok-note_formula.ensures.parts
+    formula_noted g.R.Filled.replacement c.args.self.now c.enter_changed_formula.new.self c.args.put.now c.replaced_node.new.done c.note_formula.new.self c.args.formula c.in_ok-number.number c.args.depth c.requires.there
+    (kept_on _ _ _ c.in_ok-node.ensures.kept c.in_ok-number.ensures.kept) (stands_later g.R.Filled.replacement c.args.put.now _ _ _ c.in_ok-node.ensures.done c.in_ok-number.ensures.kept)
+    (c.in_ok-number.ensures.id ∙ ap Some c.in_ok-node.ensures.tree) c.in_ok-note_formula.ensures.formulas c.in_ok-note_formula.ensures.parts
 
-pub replaced_formula_node-replaced_formulas-requires : goal.replaced_formula_node-replaced_formulas-requires
-replaced_formula_node-replaced_formulas-requires g t c =
+pub replaced_node-replaced_formulas-requires : goal.replaced_node-replaced_formulas-requires
+replaced_node-replaced_formulas-requires g t c =
     let same : c.deref-in-And.result.now ≡ c.in-And.parts.items = search rules in
     let parts_below : AllBelow c.args.formula.0 c.in-And.parts.items = search rules in
     let parts_fit : AreFormulas c.args.self.now c.in-And.parts.items = search rules in
     let least = beyond-le c.args.formula.0 c.deref-in-And.result.now (subst (AllBelow c.args.formula.0) (sym same) parts_below) in
     λ κs lives. (omega arith, (lives, (subst (AreFormulas c.args.self.now) (sym same) parts_fit, c.requires.done)))
 
-pub replaced_formula_node-replaced_formulas-requires-in-Or : goal.replaced_formula_node-replaced_formulas-requires-in-Or
-replaced_formula_node-replaced_formulas-requires-in-Or g t c =
+pub replaced_node-replaced_formulas-requires-in-Or : goal.replaced_node-replaced_formulas-requires-in-Or
+replaced_node-replaced_formulas-requires-in-Or g t c =
     let same : c.deref-in-Or-2.result.now ≡ c.in-Or.parts.items = search rules in
     let parts_below : AllBelow c.args.formula.0 c.in-Or.parts.items = search rules in
     let parts_fit : AreFormulas c.args.self.now c.in-Or.parts.items = search rules in
     let least = beyond-le c.args.formula.0 c.deref-in-Or-2.result.now (subst (AllBelow c.args.formula.0) (sym same) parts_below) in
     λ κs lives. (omega arith, (lives, (subst (AreFormulas c.args.self.now) (sym same) parts_fit, c.requires.done)))
 
-pub replaced_formula_node-returns-in_ok-right-in-Le-clause-id : goal.replaced_formula_node-returns-in_ok-right-in-Le-clause-id
-replaced_formula_node-returns-in_ok-right-in-Le-clause-id g t c =
+pub replaced_node-returns-in_ok-right-in-Le-clause-tree : goal.replaced_node-returns-in_ok-right-in-Le-clause-tree
+replaced_node-returns-in_ok-right-in-Le-clause-tree g t c =
     let t0 = c.args.self.now in
     let r = under_many c.args.depth g.R.Filled.replacement in
     let t1 = c.replaced_term.new.self in
@@ -45,10 +54,10 @@ replaced_formula_node-returns-in_ok-right-in-Le-clause-id g t c =
     let is : IsTerm t0 c.in-Le.right = search rules in
     let left = first_term r t0 t1 t2 c.in-Le.left c.in_ok-left-in-Le.left c.in_ok-right-in-Le.ensures.kept c.in_ok-left-in-Le.ensures.id in
     let right = second_term r r t0 t1 t2 c.in-Le.right c.in_ok-right-in-Le.right refl is c.in_ok-left-in-Le.ensures.kept c.in_ok-right-in-Le.ensures.id in
-    IfOk-weaker c.enter_changed_formula.result _ _ (λ k h. h ∙ ap Some (ap₂ S.Le left right) ∙ ap (λ f. Some (replace r f)) (sym there)) c.enter_changed_formula.ensures.id
+    ap₂ S.Le left right ∙ ap (replace r) (sym there)
 
-pub replaced_formula_node-returns-in_ok-right-in-Eq-clause-id : goal.replaced_formula_node-returns-in_ok-right-in-Eq-clause-id
-replaced_formula_node-returns-in_ok-right-in-Eq-clause-id g t c =
+pub replaced_node-returns-in_ok-right-in-Eq-clause-tree : goal.replaced_node-returns-in_ok-right-in-Eq-clause-tree
+replaced_node-returns-in_ok-right-in-Eq-clause-tree g t c =
     let t0 = c.args.self.now in
     let r = under_many c.args.depth g.R.Filled.replacement in
     let t1 = c.replaced_term-in-Eq.new.self in
@@ -57,10 +66,10 @@ replaced_formula_node-returns-in_ok-right-in-Eq-clause-id g t c =
     let is : IsTerm t0 c.in-Eq.right = search rules in
     let left = first_term r t0 t1 t2 c.in-Eq.left c.in_ok-left-in-Eq.left c.in_ok-right-in-Eq.ensures.kept c.in_ok-left-in-Eq.ensures.id in
     let right = second_term r r t0 t1 t2 c.in-Eq.right c.in_ok-right-in-Eq.right refl is c.in_ok-left-in-Eq.ensures.kept c.in_ok-right-in-Eq.ensures.id in
-    IfOk-weaker c.enter_changed_formula-in-Eq.result _ _ (λ k h. h ∙ ap Some (ap₂ S.Eq left right) ∙ ap (λ f. Some (replace r f)) (sym there)) c.enter_changed_formula-in-Eq.ensures.id
+    ap₂ S.Eq left right ∙ ap (replace r) (sym there)
 
-pub replaced_formula_node-returns-in_ok-right-in-Implies-clause-id : goal.replaced_formula_node-returns-in_ok-right-in-Implies-clause-id
-replaced_formula_node-returns-in_ok-right-in-Implies-clause-id g t c =
+pub replaced_node-returns-in_ok-right-in-Implies-clause-tree : goal.replaced_node-returns-in_ok-right-in-Implies-clause-tree
+replaced_node-returns-in_ok-right-in-Implies-clause-tree g t c =
     let t0 = c.args.self.now in
     let r = under_many c.args.depth g.R.Filled.replacement in
     let t1 = c.replaced_formula-in-Implies.new.self in
@@ -69,49 +78,25 @@ replaced_formula_node-returns-in_ok-right-in-Implies-clause-id g t c =
     let is : IsFormula t0 c.in-Implies.right = search rules in
     let left = first_formula r t0 t1 t2 c.in-Implies.left c.in_ok-left-in-Implies.left c.in_ok-right-in-Implies.ensures.kept c.in_ok-left-in-Implies.ensures.id in
     let right = second_formula r t0 t1 t2 c.in-Implies.right c.in_ok-right-in-Implies.right is c.in_ok-left-in-Implies.ensures.kept c.in_ok-right-in-Implies.ensures.id in
-    IfOk-weaker c.implies.result _ _ (λ k h. h ∙ ap Some (ap₂ S.Implies left right) ∙ ap (λ f. Some (replace r f)) (sym there)) c.implies.ensures.id
+    ap₂ S.Implies left right ∙ ap (replace r) (sym there)
 
-pub replaced_formula_node-returns-in_ok-right-in-Le-clause-done : goal.replaced_formula_node-returns-in_ok-right-in-Le-clause-done
-replaced_formula_node-returns-in_ok-right-in-Le-clause-done g t c = IfOk-weaker c.enter_changed_formula.result _ _ (λ k h. stands_later g.R.Filled.replacement c.args.put.now _ _ _ c.in_ok-right-in-Le.ensures.done c.enter_changed_formula.ensures.kept) c.enter_changed_formula.ensures.id
-
-pub replaced_formula_node-returns-in_ok-right-in-Eq-clause-done : goal.replaced_formula_node-returns-in_ok-right-in-Eq-clause-done
-replaced_formula_node-returns-in_ok-right-in-Eq-clause-done g t c = IfOk-weaker c.enter_changed_formula-in-Eq.result _ _ (λ k h. stands_later g.R.Filled.replacement c.args.put.now _ _ _ c.in_ok-right-in-Eq.ensures.done c.enter_changed_formula-in-Eq.ensures.kept) c.enter_changed_formula-in-Eq.ensures.id
-
-pub replaced_formula_node-returns-in_ok-right-in-Implies-clause-done : goal.replaced_formula_node-returns-in_ok-right-in-Implies-clause-done
-replaced_formula_node-returns-in_ok-right-in-Implies-clause-done g t c = IfOk-weaker c.implies.result _ _ (λ k h. stands_later g.R.Filled.replacement c.args.put.now _ _ _ c.in_ok-right-in-Implies.ensures.done c.implies.ensures.kept) c.implies.ensures.id
-
-pub replaced_formula_node-returns-in_ok-formula-in-Not-clause-done : goal.replaced_formula_node-returns-in_ok-formula-in-Not-clause-done
-replaced_formula_node-returns-in_ok-formula-in-Not-clause-done g t c = IfOk-weaker c.not.result _ _ (λ k h. stands_later g.R.Filled.replacement c.args.put.now _ _ _ c.in_ok-formula-in-Not.ensures.done c.not.ensures.kept) c.not.ensures.id
-
-pub replaced_formula_node-returns-in_ok-parts-in-And-2-clause-done : goal.replaced_formula_node-returns-in_ok-parts-in-And-2-clause-done
-replaced_formula_node-returns-in_ok-parts-in-And-2-clause-done g t c = IfOk-weaker c.and.result _ _ (λ k h. stands_later g.R.Filled.replacement c.args.put.now _ _ _ c.in_ok-parts-in-And-2.ensures.done c.and.ensures.kept) c.and.ensures.id
-
-pub replaced_formula_node-returns-in_ok-parts-in-Or-2-clause-done : goal.replaced_formula_node-returns-in_ok-parts-in-Or-2-clause-done
-replaced_formula_node-returns-in_ok-parts-in-Or-2-clause-done g t c = IfOk-weaker c.or.result _ _ (λ k h. stands_later g.R.Filled.replacement c.args.put.now _ _ _ c.in_ok-parts-in-Or-2.ensures.done c.or.ensures.kept) c.or.ensures.id
-
-pub replaced_formula_node-returns-in_ok-body-in-Forall-clause-done : goal.replaced_formula_node-returns-in_ok-body-in-Forall-clause-done
-replaced_formula_node-returns-in_ok-body-in-Forall-clause-done g t c = IfOk-weaker c.forall.result _ _ (λ k h. stands_later g.R.Filled.replacement c.args.put.now _ _ _ c.in_ok-body-in-Forall.ensures.done c.forall.ensures.kept) c.forall.ensures.id
-
-pub replaced_formula_node-returns-in_ok-body-in-Exists-clause-done : goal.replaced_formula_node-returns-in_ok-body-in-Exists-clause-done
-replaced_formula_node-returns-in_ok-body-in-Exists-clause-done g t c = IfOk-weaker c.exists.result _ _ (λ k h. stands_later g.R.Filled.replacement c.args.put.now _ _ _ c.in_ok-body-in-Exists.ensures.done c.exists.ensures.kept) c.exists.ensures.id
-
-pub replaced_formula_node-returns-in_ok-parts-in-And-2-clause-id : goal.replaced_formula_node-returns-in_ok-parts-in-And-2-clause-id
-replaced_formula_node-returns-in_ok-parts-in-And-2-clause-id g t c =
+pub replaced_node-returns-in_ok-parts-in-And-2-clause-tree : goal.replaced_node-returns-in_ok-parts-in-And-2-clause-tree
+replaced_node-returns-in_ok-parts-in-And-2-clause-tree g t c =
     let t0 = c.args.self.now in
     let r = under_many c.args.depth g.R.Filled.replacement in
     let same : c.deref-in-And.result.now ≡ c.in-And.parts.items = search rules in
     let there : formula_in t0 c.args.formula ≡ S.And (S.formulas (formulas_in t0 c.in-And.parts.items)) = search rules in
     let each = ap S.formulas c.in_ok-parts-in-And-2.ensures.trees ∙ replaced_parts r (formulas_in t0 c.deref-in-And.result.now) ∙ ap (λ ks. replace_all r (S.formulas (formulas_in t0 ks))) same in
-    IfOk-weaker c.and.result _ _ (λ k h. h ∙ ap (λ fs. Some (S.And fs)) each ∙ ap (λ f. Some (replace r f)) (sym there)) c.and.ensures.id
+    ap S.And each ∙ ap (replace r) (sym there)
 
-pub replaced_formula_node-returns-in_ok-parts-in-Or-2-clause-id : goal.replaced_formula_node-returns-in_ok-parts-in-Or-2-clause-id
-replaced_formula_node-returns-in_ok-parts-in-Or-2-clause-id g t c =
+pub replaced_node-returns-in_ok-parts-in-Or-2-clause-tree : goal.replaced_node-returns-in_ok-parts-in-Or-2-clause-tree
+replaced_node-returns-in_ok-parts-in-Or-2-clause-tree g t c =
     let t0 = c.args.self.now in
     let r = under_many c.args.depth g.R.Filled.replacement in
     let same : c.deref-in-Or-2.result.now ≡ c.in-Or.parts.items = search rules in
     let there : formula_in t0 c.args.formula ≡ S.Or (S.formulas (formulas_in t0 c.in-Or.parts.items)) = search rules in
     let each = ap S.formulas c.in_ok-parts-in-Or-2.ensures.trees ∙ replaced_parts r (formulas_in t0 c.deref-in-Or-2.result.now) ∙ ap (λ ks. replace_all r (S.formulas (formulas_in t0 ks))) same in
-    IfOk-weaker c.or.result _ _ (λ k h. h ∙ ap (λ fs. Some (S.Or fs)) each ∙ ap (λ f. Some (replace r f)) (sym there)) c.or.ensures.id
+    ap S.Or each ∙ ap (replace r) (sym there)
 
 pub replaced_formulas-replaced_formula-requires : goal.replaced_formulas-replaced_formula-requires
 replaced_formulas-replaced_formula-requires g t c =

@@ -8,8 +8,8 @@ use Rattle.lc_table.proofs.table.Terms.+replaced_formula.Given as goal
 abbrev pub decreases-replaced_formula : goal.decreases-replaced_formula
 decreases-replaced_formula g l = 3 * l.formula.0 + 2
 
-abbrev pub decreases-replaced_formula_node : goal.decreases-replaced_formula_node
-decreases-replaced_formula_node g l = 3 * l.formula.0 + 1
+abbrev pub decreases-replaced_node : goal.decreases-replaced_node
+decreases-replaced_node g l = 3 * l.formula.0 + 1
 
 abbrev pub decreases-replaced_formulas : goal.decreases-replaced_formulas
 decreases-replaced_formulas g l = 3 * beyond l.formulas.now

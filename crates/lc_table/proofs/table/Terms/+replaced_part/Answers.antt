@@ -4,10 +4,10 @@ use Rattle.lc_table.specs.Nodes.{part_of, is_term, term as term_part, column as 
 use Rattle.lc_table.specs.Tables.{parts, term_in, column_in, IsTerm, HasColumn}
 use Rattle.lc_table.specs.NodeReplacement.{as_part, part_in, replaced_part}
 use Rattle.lc_table.proofs.Later.{kept_on, column_is, is_column_later, is_term_later}
-use Rattle.lc_table.proofs.NodeReplacement.{one_term, first_term, second_term, later_term, first_column, node_later}
+use Rattle.lc_table.proofs.NodeReplacement.{one_term, first_term, second_term, first_column, node_later}
 use Rattle.lc_term.specs.Replacement.{under_many, replace_column}
 use Rattle.lc_table.proofs.Chained.{next_store, replaced_store, column_part_at}
-use Rattle.lc_table.proofs.Remembered.{stands_later, term_remembered, column_remembered, term_noted, column_noted}
+use Rattle.lc_table.proofs.Remembered.{stands_later, term_remembered, term_noted, column_noted}
 use Rattle.std.proofs.lemmas.Result.{IfOk-weaker}
 use Rattle.std.specs.Prelude.{IfOk}
 use Rattle.lc_table.proofs.table.Terms.+replaced_part.Goals as goal

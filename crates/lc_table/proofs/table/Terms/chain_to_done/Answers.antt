@@ -5,7 +5,7 @@ use Rattle.lc_table.proofs.Chained.{one_down}
 use Rattle.lc_table.proofs.table.Terms.chain_to_done.Goals as goal
 
 pub stores-preserved : goal.stores-preserved
-stores-preserved c =
+stores-preserved g c =
     let ts = c.args.self.now in
     let items : c.push.new.self.items ≡ c.stores.stores.items ++ c.stores.base ∷ [] = search rules in
     let tree : column_in ts c.stores.base ≡ S.Store (column_in ts c.in-Store.below) (term_in ts c.in-Store.field-1) (term_in ts c.in-Store.field-2) = search rules in

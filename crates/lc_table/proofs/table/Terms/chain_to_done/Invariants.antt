@@ -3,7 +3,7 @@ use Rattle.lc_table.proofs.table.Terms.chain_to_done.Given as goal
 
 -- the stores so far stand round the base
 abbrev pub invariant-stores : goal.invariant-stores
-invariant-stores l = GoneDown l.self l.fn.column l.stores.items l.base
+invariant-stores g l = GoneDown l.self l.fn.column l.stores.items l.base
 
 abbrev pub decreases-stores : goal.decreases-stores
-decreases-stores l = l.base.0
+decreases-stores g l = l.base.0
