@@ -7,11 +7,10 @@ ghost use Rattle.lc_linear.specs.LinForm.{IsFormIn, AddsIn, GivesFormIn};
 ghost use Rattle.lc_linear.specs.Owed.{Appends, AreTogether};
 ghost use Rattle.lc_linear.specs.Weight.{weight};
 
-use crate::exact::exact_difference;
 use crate::number::{negated, wide};
 use crate::quick::{add_difference, difference_weight, is_light};
 use crate::shared::shared_form;
-use crate::{LinFault, LinForm};
+use crate::{LinFault, LinForm, form_of_difference};
 use lc_base::OutOfMemory;
 use lc_table::{FormulaId, FormulaNode, TermId, Terms};
 use std::alloc::Global;
@@ -189,7 +188,7 @@ fn gap_form(terms: &Terms, alloc: Global, formula: FormulaId) -> Result<LinForm,
     ensures { let t = gap (formula_in terms.now formula) in GivesFormIn terms.now result (HasForm t) (form_of t) }
 {
     match terms.formula_node(formula) {
-        FormulaNode::Le(left, right) | FormulaNode::Eq(left, right) => exact_difference(
+        FormulaNode::Le(left, right) | FormulaNode::Eq(left, right) => form_of_difference(
             terms, alloc, *left, *right,
         ),
         _ => Ok(LinForm::zero(alloc)),

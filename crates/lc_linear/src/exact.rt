@@ -4,7 +4,6 @@
 //! A form is large, so that a level of a term has those of its parts in boxes, and what is done to them stands apart: so each
 //! level takes little of the stack.
 ghost use Rattle.std.specs.Prelude.{pos};
-ghost use Rattle.lc_term.specs.Syntax as S;
 ghost use Rattle.lc_table.specs.Tables.{term_in, IsTerm};
 ghost use Rattle.lc_linear.specs.Arithmetic.{added, CanAdd, added_scaled, CanAddScaled, subtracted, CanSubtract};
 ghost use Rattle.lc_linear.specs.LinForm.{numbers, unboxed, GivesForm, GivesFormIn};
@@ -114,17 +113,4 @@ fn product_form(alloc: Global, factor: i64, form: Box<LinForm>) -> Result<Box<Li
 {
     let form = LinForm::zero(alloc).add_scaled(i128::from(factor), &form)?;
     Ok(Box::new(alloc, form)?)
-}
-
-pub(crate) fn exact_difference(
-    terms: &Terms,
-    alloc: Global,
-    left: TermId,
-    right: TermId,
-) -> Result<LinForm, LinFault>
-    requires left { IsTerm terms.now left }
-    requires right { IsTerm terms.now right }
-    ensures { let t = S.Subtract (term_in terms.now left) (term_in terms.now right) in GivesFormIn terms.now result (HasForm t) (form_of t) }
-{
-    exact_form(terms, alloc, left)?.subtract(&exact_form(terms, alloc, right)?)
 }

@@ -1,13 +1,15 @@
 //! The forms of terms and of differences.
+ghost use Rattle.std.specs.Prelude.{IfSome, IfOk};
 ghost use Rattle.lc_term.specs.Syntax as S;
 ghost use Rattle.lc_table.specs.Tables.{term_in, IsTerm};
-ghost use Rattle.lc_linear.specs.LinForm.{GivesFormIn};
+ghost use Rattle.lc_linear.specs.LinForm.{IsFormIn, GivesFormIn};
 ghost use Rattle.lc_linear.specs.Form.{form_of, HasForm};
 
-use crate::exact::{exact_difference, exact_form};
+use crate::exact::exact_form;
 use crate::quick::{difference_weight, is_light, quick_difference, quick_form, weight};
 use crate::shared::shared_form;
 use crate::{LinFault, LinForm};
+use lc_base::OutOfMemory;
 use lc_table::{TermId, Terms};
 use std::alloc::Global;
 
@@ -20,13 +22,9 @@ pub fn form_of(terms: &Terms, alloc: Global, term: TermId) -> Result<LinForm, Li
     requires { IsTerm terms.now term }
     ensures { let t = term_in terms.now term in GivesFormIn terms.now result (HasForm t) (form_of t) }
 {
-    if !is_light(weight(terms, term)) {
-        return large_form(terms, alloc, term);
-    }
-    match quick_form(terms, alloc, term) {
-        Ok(form) => Ok(form),
-        Err(LinFault::Large) => exact_form(terms, alloc, term),
-        Err(LinFault::OutOfMemory) => Err(LinFault::OutOfMemory),
+    match bounded_form(terms, alloc, term)? {
+        Some(form) => Ok(form),
+        None => exact_form(terms, alloc, term),
     }
 }
 
@@ -42,40 +40,44 @@ pub fn form_of_difference(
     requires right { IsTerm terms.now right }
     ensures { let t = S.Subtract (term_in terms.now left) (term_in terms.now right) in GivesFormIn terms.now result (HasForm t) (form_of t) }
 {
-    if !is_light(difference_weight(terms, left, right)) {
-        return large_difference(terms, alloc, left, right);
-    }
-    match quick_difference(terms, alloc, left, right) {
-        Ok(form) => Ok(form),
-        Err(LinFault::Large) => exact_difference(terms, alloc, left, right),
-        Err(LinFault::OutOfMemory) => Err(LinFault::OutOfMemory),
-    }
-}
-
-// The form of a term that has many nodes, or large numbers.
-fn large_form(terms: &Terms, alloc: Global, term: TermId) -> Result<LinForm, LinFault>
-    requires { IsTerm terms.now term }
-    ensures { let t = term_in terms.now term in GivesFormIn terms.now result (HasForm t) (form_of t) }
-{
-    match shared_form(terms, alloc, &[(term, 1)])? {
+    match bounded_difference(terms, alloc, left, right)? {
         Some(form) => Ok(form),
-        None => exact_form(terms, alloc, term),
+        None => exact_form(terms, alloc, left)?.subtract(&exact_form(terms, alloc, right)?),
     }
 }
 
-// The form of such a difference.
-fn large_difference(
+// The form of a term, where a bound shows that no number on the way leaves 128 bits.
+fn bounded_form(terms: &Terms, alloc: Global, term: TermId) -> Result<Option<LinForm>, OutOfMemory>
+    requires { IsTerm terms.now term }
+    ensures { let t = term_in terms.now term in IfOk result (λ found. IfSome found (λ form. HasForm t × IsFormIn terms.now form (form_of t))) }
+{
+    if !is_light(weight(terms, term)) {
+        return shared_form(terms, alloc, &[(term, 1)]);
+    }
+    match quick_form(terms, alloc, term) {
+        Ok(form) => Ok(Some(form)),
+        Err(LinFault::Large) => Ok(None),
+        Err(LinFault::OutOfMemory) => Err(OutOfMemory),
+    }
+}
+
+// The form of a difference, where a bound shows likewise that no number leaves 128 bits.
+fn bounded_difference(
     terms: &Terms,
     alloc: Global,
     left: TermId,
     right: TermId,
-) -> Result<LinForm, LinFault>
+) -> Result<Option<LinForm>, OutOfMemory>
     requires left { IsTerm terms.now left }
     requires right { IsTerm terms.now right }
-    ensures { let t = S.Subtract (term_in terms.now left) (term_in terms.now right) in GivesFormIn terms.now result (HasForm t) (form_of t) }
+    ensures { let t = S.Subtract (term_in terms.now left) (term_in terms.now right) in IfOk result (λ found. IfSome found (λ form. HasForm t × IsFormIn terms.now form (form_of t))) }
 {
-    match shared_form(terms, alloc, &[(left, 1), (right, -1)])? {
-        Some(form) => Ok(form),
-        None => exact_difference(terms, alloc, left, right),
+    if !is_light(difference_weight(terms, left, right)) {
+        return shared_form(terms, alloc, &[(left, 1), (right, -1)]);
+    }
+    match quick_difference(terms, alloc, left, right) {
+        Ok(form) => Ok(Some(form)),
+        Err(LinFault::Large) => Ok(None),
+        Err(LinFault::OutOfMemory) => Err(OutOfMemory),
     }
 }
