@@ -117,47 +117,47 @@ crossings_last ts D n hs fs (b ∷ actions) (d ∷ cs) c h =
     let r = crossings_last ts D n hs fs actions cs c h.1 in (b ∷ r.0, r.1, ap (λ l. b ∷ l) r.2, (h.0, r.3), r.4, ap suc r.5)
 
 -- one action more
-pub stable_more : (point : Option PointId) (k : ℕ) (cs : List Crossing) (i : ℕ) (c : Crossing) (d : FormulaId) (old now new : List Condition) → i < length cs → c ≡ get_or cs i c →
-    MakesStable point k (take i cs) old now →
-    MakesOne (record { kind = K.Stable; variables = c.variables; point = point; passage = P.Action i; path = None }) (W.Numbered k) c.hypotheses (get_or c.goals.items k d) now new →
-    MakesStable point k (take (i + 1) cs) old new
-stable_more point k cs i c d old now new below is so_far one ts D n hs fs actions f h at =
+pub stable_more : (point : Option PointId) (k j : ℕ) (cs : List Crossing) (i : ℕ) (c : Crossing) (d : FormulaId) (old now new : List Condition) → i < length cs → c ≡ get_or cs i c →
+    MakesStable point k j (take i cs) old now →
+    MakesOne (record { kind = K.Stable; variables = c.variables; point = point; passage = P.Action i; path = None }) (W.Numbered k) c.hypotheses (get_or c.goals.items j d) now new →
+    MakesStable point k j (take (i + 1) cs) old new
+stable_more point k j cs i c d old now new below is so_far one ts D n hs fs actions f h at =
     let split : take (i + 1) cs ≡ take i cs ++ c ∷ [] = take_more cs i c below ∙ ap (λ x. take i cs ++ x ∷ []) (sym is) in
     let r = crossings_last ts D n hs fs actions (take i cs) c (subst (AreCrossings ts D n hs fs actions) split h) in
     let st : ℕ → Action → S.Condition = stable_under D (option_map (λ (p : PointId). p.0) point) n hs k f in
     let place : length r.0 ≡ i = r.5 ∙ length-take-le i cs (omega arith) in
-    let last = one ts _ _ r.4.hypotheses (goal_there ts D n hs fs r.1 c k d f r.4 at) in
+    let last = one ts _ _ r.4.hypotheses (goal_there ts D n hs fs r.1 c j d f r.4 at) in
     let reads : record (st i r.1) { variables = c.variables } ≡ st i r.1 = ap (λ v. record (st i r.1) { variables = v }) r.4.variables in
     let says : numbered st 0 r.0 ++ st i r.1 ∷ [] ≡ numbered st 0 actions =
     ap (λ m. numbered st 0 r.0 ++ st m r.1 ∷ []) (sym place) ∙ ap (λ m. numbered st 0 r.0 ++ st m r.1 ∷ []) (sym (zero-add (length r.0))) ∙ sym (numbered-snoc st 0 r.0 r.1) ∙ ap (numbered st 0) (sym r.2) in
     subst (Adds old ts new) says (adds_both old now new ts _ _ (so_far ts D n hs fs r.0 f r.3 at) (subst (λ x. Adds now ts new (x ∷ [])) reads last))
 
 -- no action yet
-pub stable_none : (point : Option PointId) (k : ℕ) (old : List Condition) → MakesStable point k [] old old
-stable_none point k old ts D n hs fs [] f h at = adds_nothing old ts
-stable_none point k old ts D n hs fs (a ∷ actions) f h at = absurd h
+pub stable_none : (point : Option PointId) (k j : ℕ) (old : List Condition) → MakesStable point k j [] old old
+stable_none point k j old ts D n hs fs [] f h at = adds_nothing old ts
+stable_none point k j old ts D n hs fs (a ∷ actions) f h at = absurd h
 
 -- the conjuncts so far
-abbrev pub StableBelow : Option PointId → ℕ → ℕ → List Crossing → List Condition → List Condition → Type 0
-StableBelow point count i crossings old now =
+abbrev pub StableBelow : Option PointId → ℕ → ℕ → ℕ → List Crossing → List Condition → List Condition → Type 0
+StableBelow point k count i crossings old now =
     (ts : Table) (D : Development) (n : ℕ) (hs asserts : List Formula) (actions : List Action) → AreCrossings ts D n hs asserts actions crossings → length asserts ≡ count →
-    Adds old ts now (concat_places (λ k f. numbered (stable_under D (option_map (λ (p : PointId). p.0) point) n hs k f) 0 actions) 0 (take i asserts))
+    Adds old ts now (concat_places (λ j f. numbered (stable_under D (option_map (λ (p : PointId). p.0) point) n hs j f) 0 actions) k (take i asserts))
 
-pub conjunct_more : (point : Option PointId) (count i : ℕ) (crossings : List Crossing) (old now new : List Condition) → i < count → StableBelow point count i crossings old now → MakesStable point i crossings now new →
-    StableBelow point count (i + 1) crossings old new
-conjunct_more point count i crossings old now new below so_far one ts D n hs asserts actions h count_is =
+pub conjunct_more : (point : Option PointId) (k count i : ℕ) (crossings : List Crossing) (old now new : List Condition) → i < count → StableBelow point k count i crossings old now → MakesStable point (k + i) i crossings now new →
+    StableBelow point k count (i + 1) crossings old new
+conjunct_more point k count i crossings old now new below so_far one ts D n hs asserts actions h count_is =
     let f = get_or asserts i (T.And T.none) in
     let lt : i < length asserts = omega arith in
-    let st : ℕ → Formula → List S.Condition = λ k g. numbered (stable_under D (option_map (λ (p : PointId). p.0) point) n hs k g) 0 actions in
-    let place : 0 + length (take i asserts) ≡ i = zero-add (length (take i asserts)) ∙ length-take-le i asserts (omega arith) in
-    let says : concat_places st 0 (take i asserts) ++ st i f ≡ concat_places st 0 (take (i + 1) asserts) =
-    ap (λ m. concat_places st 0 (take i asserts) ++ st m f) (sym place) ∙ sym (concat_places-snoc st 0 (take i asserts) f) ∙ ap (concat_places st 0) (sym (take_more asserts i (T.And T.none) lt)) in
+    let st : ℕ → Formula → List S.Condition = λ j g. numbered (stable_under D (option_map (λ (p : PointId). p.0) point) n hs j g) 0 actions in
+    let place : k + length (take i asserts) ≡ k + i = ap (λ m. k + m) (length-take-le i asserts (omega arith)) in
+    let says : concat_places st k (take i asserts) ++ st (k + i) f ≡ concat_places st k (take (i + 1) asserts) =
+    ap (λ m. concat_places st k (take i asserts) ++ st m f) (sym place) ∙ sym (concat_places-snoc st k (take i asserts) f) ∙ ap (concat_places st k) (sym (take_more asserts i (T.And T.none) lt)) in
     subst (Adds old ts new) says (adds_both old now new ts _ _ (so_far ts D n hs asserts actions h count_is) (one ts D n hs asserts actions f h (slice_get-get_or asserts i (T.And T.none) lt)))
 
-pub conjuncts_all : (point : Option PointId) (count i : ℕ) (crossings : List Crossing) (old now : List Condition) → i ≡ count → StableBelow point count i crossings old now → MakesAllStable point count crossings old now
-conjuncts_all point count i crossings old now end so_far ts D n hs asserts actions h count_is =
-    (let st : ℕ → Formula → List S.Condition = λ k g. numbered (stable_under D (option_map (λ (p : PointId). p.0) point) n hs k g) 0 actions in
-    subst (λ l. Adds old ts now (concat_places st 0 l)) (take_all i asserts (omega arith)) (so_far ts D n hs asserts actions h count_is))
+pub conjuncts_all : (point : Option PointId) (k count i : ℕ) (crossings : List Crossing) (old now : List Condition) → i ≡ count → StableBelow point k count i crossings old now → MakesAllStable point k count crossings old now
+conjuncts_all point k count i crossings old now end so_far ts D n hs asserts actions h count_is =
+    (let st : ℕ → Formula → List S.Condition = λ j g. numbered (stable_under D (option_map (λ (p : PointId). p.0) point) n hs j g) 0 actions in
+    subst (λ l. Adds old ts now (concat_places st k l)) (take_all i asserts (omega arith)) (so_far ts D n hs asserts actions h count_is))
 
 -- one more of some that are seen
 pub seen_more : {A B : Type 0} (view : A → B) (xs : List A) (i : ℕ) (x : A) → i < length xs → x ≡ get_or xs i x → map view (take (i + 1) xs) ≡ map view (take i xs) ++ view x ∷ []

@@ -11,6 +11,7 @@ mod Entered
 mod Crossed
 mod Parted
 mod Streamed
+mod Stretched
 mod Numbered
 mod Stored
 mod Counts

@@ -11,13 +11,13 @@ use Rattle.lc_outline.specs.Resolved.{IsResolved}
 use Rattle.lc_cond.specs.Conditions as S
 use Rattle.lc_cond.specs.Conditions.{parts, conditions_in, conditions, body_frame, stable_conditions, point_stability}
 use Rattle.lc_cond.specs.ConditionView.{condition_in, AreConditions}
-use Rattle.lc_cond.specs.Adding.{Adds}
-use Rattle.lc_cond.specs.Numbering.{count_before, AreFirsts, IsPartWith}
+use Rattle.lc_cond.specs.Numbering.{count_before, AreFirsts, AddsWith, IsPartWith}
 use Rattle.lc_cond.specs.declared.condition.Condition.{Condition}
 use Rattle.lc_cond.specs.declared.numbering.NumberedPart.{NumberedPart}
 use Rattle.lc_cond.proofs.Adding.{adds_to_none}
 use Rattle.lc_cond.proofs.PartsList.{in_parts}
 use Rattle.lc_cond.proofs.Sized.{stable_length}
+use Rattle.lc_cond.proofs.Stretched.{stands_ahead, stands_behind}
 
 -- ---- lists that are joined
 
@@ -59,26 +59,17 @@ module _ {A B : Type 0} (f : A → List B) where
       let b = length-append (f q) (concat_map f ps) in
       omega (arith, a, b, rest)
 
-  within : (xs ys : List B) (j : ℕ) (x : B) → slice_get xs j ≡ Some x → slice_get (xs ++ ys) j ≡ Some x
-  within [] ys j x h = cc
-  within (y ∷ xs) ys zero x h = h
-  within (y ∷ xs) ys (suc j) x h = within xs ys j x h
-
-  behind : (xs ys : List B) (j : ℕ) (x : B) → slice_get ys j ≡ Some x → slice_get (xs ++ ys) (length xs + j) ≡ Some x
-  behind [] ys j x h = (let e : 0 + j ≡ j = omega arith in ap (slice_get ys) e ∙ h)
-  behind (y ∷ xs) ys j x h = (let e : suc (length xs) + j ≡ suc (length xs + j) = omega arith in ap (slice_get (y ∷ (xs ++ ys))) e ∙ behind xs ys j x h)
-
   -- what comes of one stands behind what comes of those before it
   pub stands : (ps : List A) (k : ℕ) (p : A) (j : ℕ) (x : B) → slice_get ps k ≡ Some p → slice_get (f p) j ≡ Some x → slice_get (concat_map f ps) (ahead ps k + j) ≡ Some x
   stands [] k p j x h g = cc
   stands (q ∷ ps) zero p j x h g =
       let e : p ≡ q = sym (same_Some q p h) in
       let none : 0 + j ≡ j = omega arith in
-      ap (slice_get (f q ++ concat_map f ps)) none ∙ within (f q) (concat_map f ps) j x (ap (λ y. slice_get (f y) j) (sym e) ∙ g)
+      ap (slice_get (f q ++ concat_map f ps)) none ∙ stands_ahead (f q) (concat_map f ps) j x (ap (λ y. slice_get (f y) j) (sym e) ∙ g)
   stands (q ∷ ps) (suc k) p j x h g =
       let a = length-append (f q) (concat_map f (take k ps)) in
       let at : ahead (q ∷ ps) (suc k) + j ≡ length (f q) + (ahead ps k + j) = omega (arith, a) in
-      ap (slice_get (f q ++ concat_map f ps)) at ∙ behind (f q) (concat_map f ps) (ahead ps k + j) x (stands ps k p j x h g)
+      ap (slice_get (f q ++ concat_map f ps)) at ∙ stands_behind (f q) (concat_map f ps) (ahead ps k + j) x (stands ps k p j x h g)
 
 -- where something stands in a list
 pub stands_within : {A : Type 0} (xs : List A) (k : ℕ) (x : A) → slice_get xs k ≡ Some x → k < length xs
@@ -148,22 +139,28 @@ module _ (D : Development) where
 
   -- ---- the conditions of a part
 
-  pub part_stands : (ts : Table) (number place first : ℕ) (p : S.Part) (now : List Condition) (part : NumberedPart) → part.first ≡ first → part.conditions.items ≡ now
-      → slice_get (parts D) place ≡ Some p → first ≡ count_before D place → Adds [] ts now (conditions_in D p)
+  pub part_stands : (ts : Table) (number place before within first : ℕ) (p : S.Part) (now : List Condition) (part : NumberedPart) → part.first ≡ before + first → part.conditions.items ≡ now
+      → slice_get (parts D) place ≡ Some p → before ≡ count_before D place → within ≡ number - before → AddsWith [] ts now (conditions_in D p) within first
       → (number < length (conditions D) → (count_before D place ≤ number) × (number < count_before D (suc place))) → IsPartWith D ts number part
-  part_stands ts number place first p now part is items at here adds among =
-      let all = adds_to_none ts now (conditions_in D p) adds in
+  part_stands ts number place before within first p now part is items at here place_is adds among =
+      let all = adds_to_none ts now adds.some adds.adds in
       let cs = part.conditions.items in
-      let said : map (condition_in ts) cs ≡ conditions_in D p = ap (map (condition_in ts)) items ∙ all.1 in
-      let place_is : part.first ≡ count_before D place = is ∙ here in
+      let said : map (condition_in ts) cs ≡ adds.some = ap (map (condition_in ts)) items ∙ all.1 in
       let next = one_ahead (conditions_in D) (parts D) place p at in
-      let size : length (conditions_in D p) ≡ length cs = ap length (sym said) ∙ length-map cs (condition_in ts) in
+      let size : length adds.some ≡ length cs = ap length (sym said) ∙ length-map cs (condition_in ts) in
       record {
         are = subst (AreConditions ts) (sym items) all.0;
-        stand = λ j x e.
-            ap (λ l. slice_get l (part.first + j)) (sym (in_parts D)) ∙ ap (λ n. slice_get (concat_map (conditions_in D) (parts D)) (n + j)) place_is
-            ∙ stands (conditions_in D) (parts D) place p j x at (ap (λ l. slice_get l j) (sym said) ∙ e);
-        has = λ lt. (let both = among lt in let low = both.0 in let high = both.1 in (omega (arith, low, place_is), omega (arith, high, next, size, place_is)));
+        stand = λ j x e. (let there : part.first + j ≡ count_before D place + (first + j) = omega (arith, is, here) in
+            ap (λ l. slice_get l (part.first + j)) (sym (in_parts D)) ∙ ap (slice_get (concat_map (conditions_in D) (parts D))) there
+            ∙ stands (conditions_in D) (parts D) place p (first + j) x at (adds.stand j x (ap (λ l. slice_get l j) (sym said) ∙ e)));
+        has = λ lt. (let both = among lt in
+            let low = both.0 in
+            let high = both.1 in
+            let within_it : within < length (conditions_in D p) = omega (arith, low, high, next, here, place_is) in
+            let found = adds.has within_it in
+            let least = found.0 in
+            let most = found.1 in
+            (omega (arith, low, least, is, here, place_is), omega (arith, low, most, size, is, here, place_is)));
       }
 
   -- where no part stands there is no such condition

@@ -30,6 +30,7 @@ use Rattle.lc_rider.specs.Paths.{Path, with_fact, edge_variables, path_start, ob
 use Rattle.lc_outline.specs.Development.{Development, On, first_system, invariant_of, on_at, asserts_at, riders_in, all_actions, asserts_to, in_operation, in_body}
 use Rattle.lc_outline.specs.Resolved.{IsDeedResolved, IsRiderResolved, IsOnResolved, IsResolved, is_resolved}
 use Rattle.lc_outline.proofs.Resolving.{resolved}
+use Rattle.lc_cond.specs.Stretches.{stable_from}
 use Rattle.lc_cond.specs.Conditions.{Init, InitIdle, Entry, First, Reply, Invariant, NextKind, Head, conditions_of, at_start, at_entry, on_path, alone_on_path, range, idle_frame, body_frame, justified, start_formula, start_conditions, entry_variables, entered, entry_conditions, at_end, reply_goals, is_base, column_condition, action_conditions, on_conditions, duty_condition, path_conditions, body_hypotheses, edge_conditions_in, edge_conditions, stable_under, stable_conditions, point_stability, idle_stability}
 use Rattle.lc_outline.specs.Sizes.{columns_of, stands, Way, asked_of, mark_way, deed_ways, no_way, ways_where, rider_ways, instance_count, way_count, edge_count, returned, ended_columns, columns_acted, edge_size, edge_sizes, assert_sizes}
 use Rattle.lc_cond.specs.Counted.{AreCounted}
@@ -446,10 +447,14 @@ module _ (D : Development) (R : IsResolved D) where
   pub actions_length : length (all_actions D) ≡ length D.actions + 2
   actions_length = length-append D.actions (enter (first_system D) ∷ leave (first_system D) ∷ [])
 
+  -- some conjuncts, under all actions
+  pub stable_from_length : (point : Option ℕ) (n : ℕ) (hs : List Formula) (k : ℕ) (fs : List Formula) → length (stable_from D point n hs k fs) ≡ length fs * (length D.actions + 2)
+  stable_from_length point n hs k fs =
+      alike (length D.actions + 2) (λ j f. numbered (stable_under D point n hs j f) 0 (all_actions D))
+      (λ j f. numbered_length (stable_under D point n hs j f) 0 (all_actions D) ∙ actions_length) k fs
+
   pub stable_length : (point : Option ℕ) (n : ℕ) (frame asserts : List Formula) → length (stable_conditions D point n frame asserts) ≡ length asserts * (length D.actions + 2)
-  stable_length point n frame asserts =
-      alike (length D.actions + 2) (λ k f. numbered (stable_under D point n (frame ++ (invariant_of D ++ asserts)) k f) 0 (all_actions D))
-      (λ k f. numbered_length (stable_under D point n (frame ++ (invariant_of D ++ asserts)) k f) 0 (all_actions D) ∙ actions_length) 0 asserts
+  stable_length point n frame asserts = stable_from_length point n (frame ++ (invariant_of D ++ asserts)) 0 asserts
 
   abbrev by_actions : ℕ → ℕ
   by_actions n = n * (length D.actions + 2)

@@ -59,17 +59,17 @@ abbrev pub CrossesToo : Table → Table → Development → ℕ → List Formula
 CrossesToo old new D n known asserts a before now =
     (hs fs : List Formula) (actions : List Action) → HasFormulas old known hs → HasFormulas old asserts fs → AreCrossings old D n hs fs actions before → AreCrossings new D n hs fs (actions ++ a ∷ []) now
 
--- each action in turn gives a condition of the k-th conjunct
-abbrev pub MakesStable : Option PointId → ℕ → List Crossing → List Condition → List Condition → Type 0
-MakesStable point k crossings old new =
-    (ts : Table) (D : Development) (n : ℕ) (hs asserts : List Formula) (actions : List Action) (f : Formula) → AreCrossings ts D n hs asserts actions crossings → slice_get asserts k ≡ Some f →
+-- each action in turn gives a condition of the k-th conjunct, whose goals are the j-th
+abbrev pub MakesStable : Option PointId → ℕ → ℕ → List Crossing → List Condition → List Condition → Type 0
+MakesStable point k j crossings old new =
+    (ts : Table) (D : Development) (n : ℕ) (hs asserts : List Formula) (actions : List Action) (f : Formula) → AreCrossings ts D n hs asserts actions crossings → slice_get asserts j ≡ Some f →
     Adds old ts new (numbered (stable_under D (option_map (λ p. p.0) point) n hs k f) 0 actions)
 
--- each conjunct of those that so many goals are for does
-abbrev pub MakesAllStable : Option PointId → ℕ → List Crossing → List Condition → List Condition → Type 0
-MakesAllStable point count crossings old new =
+-- each of so many conjuncts does, for which the goals are, the first of them being the k-th
+abbrev pub MakesAllStable : Option PointId → ℕ → ℕ → List Crossing → List Condition → List Condition → Type 0
+MakesAllStable point k count crossings old new =
     (ts : Table) (D : Development) (n : ℕ) (hs asserts : List Formula) (actions : List Action) → AreCrossings ts D n hs asserts actions crossings → length asserts ≡ count →
-    Adds old ts new (concat_places (λ k f. numbered (stable_under D (option_map (λ p. p.0) point) n hs k f) 0 actions) 0 asserts)
+    Adds old ts new (concat_places (λ j f. numbered (stable_under D (option_map (λ p. p.0) point) n hs j f) 0 actions) k asserts)
 
 -- each crossing has so many goals
 abbrev pub HaveGoals : ℕ → List Crossing → Type 0

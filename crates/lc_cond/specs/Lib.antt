@@ -9,6 +9,7 @@ pub mod Scenes
 pub mod Crossings
 pub mod PartView
 pub mod PartLimits
+pub mod Stretches
 pub mod Stream
 pub mod Counted
 pub mod Numbering

@@ -19,6 +19,7 @@ mod scene;
 mod stability;
 mod start;
 mod stream;
+mod stretch;
 mod telling;
 mod variables;
 

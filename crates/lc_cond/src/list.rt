@@ -9,8 +9,9 @@ ghost use Rattle.lc_object.specs.WellFormed.{has_limits, variable_count};
 ghost use Rattle.lc_outline.specs.Development.{asserts_at, first_system};
 ghost use Rattle.lc_outline.specs.DevelopmentView.{development_shown};
 ghost use Rattle.lc_cond.specs.Adding.{Adds};
-ghost use Rattle.lc_cond.specs.Conditions.{body_frame, stable_conditions, entry_conditions, edge_conditions, point_stability, idle_stability, conditions};
+ghost use Rattle.lc_cond.specs.Conditions.{body_frame, entry_conditions, edge_conditions, point_stability, idle_stability, conditions};
 ghost use Rattle.lc_cond.specs.ConditionView.{condition_in, AreConditions};
+ghost use Rattle.lc_cond.specs.Stretches.{IsWithin, stable_stretch, point_stretch, idle_stretch};
 
 use crate::condition::Condition;
 use crate::entries::push_entry;
@@ -19,8 +20,9 @@ use crate::lookup::{
     argument_count, asserts_at, idle_of, operation_at, system_columns, variable_count,
 };
 use crate::paths::push_edge;
-use crate::stability::push_stable;
+use crate::stability::{Asserted, push_stable};
 use crate::start::push_start;
+use crate::stretch::{Stretch, all_of};
 use lc_base::{OpId, OutOfMemory, PointId};
 use lc_object::{Edge, Operation, Point, edges};
 use lc_outline::Development;
@@ -97,7 +99,7 @@ fn push_edges(
     push_each_edge(alloc, terms, development, &edges, conditions)
 }
 
-// The assertions at a point of this operation's body stay.
+// The conjuncts at a point of this operation's body stay which are asked about.
 #[tactic(auto, using(lc_table::proofs::Later::kept_on))]
 fn push_stay(
     alloc: Global,
@@ -106,18 +108,24 @@ fn push_stay(
     number: PointId,
     operation: OpId,
     body: &Operation,
+    asked: Stretch,
     conditions: &mut Vec<Condition>,
 ) -> Result<(), OutOfMemory>
-    requires { has_limits (operation_of body.now) ≡ true }
+    requires limits { has_limits (operation_of body.now) ≡ true }
+    requires asked { IsWithin (length (asserts_at (development_shown development.now) number.0)) asked }
     ensures list { let d = development_shown development.now in
         let o = operation_of body.now in
         OnOk result (Adds conditions.old.items terms.new conditions.new.items
-        (stable_conditions d (Some number.0) (variable_count o) (body_frame (first_system d) operation.0 (length o.arguments)) (asserts_at d number.0))) }
+        (stable_stretch d (Some number.0) (variable_count o) (body_frame (first_system d) operation.0 (length o.arguments)) (asserts_at d number.0) asked)) }
     ensures kept { Keeps terms.old terms.new }
 {
     let system = system_columns(development);
     let count = variable_count(body);
     let frame = body_frame(alloc, terms, system, operation, argument_count(body))?;
+    let asserted = Asserted {
+        conjuncts: asserts_at(development, number),
+        asked,
+    };
     push_stable(
         alloc,
         terms,
@@ -125,7 +133,36 @@ fn push_stay(
         Some(number),
         count,
         &frame,
-        asserts_at(development, number),
+        asserted,
+        conditions,
+    )
+}
+
+/// The conjuncts at a point stay which are asked about.
+pub(crate) fn push_point_stretch(
+    alloc: Global,
+    terms: &mut Terms,
+    development: &Development,
+    number: PointId,
+    point: &Point,
+    asked: Stretch,
+    conditions: &mut Vec<Condition>,
+) -> Result<(), OutOfMemory>
+    requires { IsWithin (length (asserts_at (development_shown development.now) number.0)) asked }
+    ensures list { OnOk result (Adds conditions.old.items terms.new conditions.new.items (point_stretch (development_shown development.now) number.0 (point_of point.now) asked)) }
+    ensures kept { Keeps terms.old terms.new }
+{
+    let Some(body) = operation_at(development, point.operation) else {
+        return Ok(());
+    };
+    push_stay(
+        alloc,
+        terms,
+        development,
+        number,
+        point.operation,
+        body,
+        asked,
         conditions,
     )
 }
@@ -142,18 +179,8 @@ pub(crate) fn push_point(
     ensures list { OnOk result (Adds conditions.old.items terms.new conditions.new.items (point_stability (development_shown development.now) number.0 (point_of point.now))) }
     ensures kept { Keeps terms.old terms.new }
 {
-    let Some(body) = operation_at(development, point.operation) else {
-        return Ok(());
-    };
-    push_stay(
-        alloc,
-        terms,
-        development,
-        number,
-        point.operation,
-        body,
-        conditions,
-    )
+    let all = all_of(asserts_at(development, number).len());
+    push_point_stretch(alloc, terms, development, number, point, all, conditions)
 }
 
 // The assertions at the points stay, point by point.
@@ -174,8 +201,38 @@ fn push_points(
     Ok(())
 }
 
-/// What holds of idle clients stays.
+/// The conjuncts that hold of idle clients stay which are asked about.
 #[tactic(auto, using(lc_table::proofs::Later::kept_on))]
+pub(crate) fn push_idle_stretch(
+    alloc: Global,
+    terms: &mut Terms,
+    development: &Development,
+    asked: Stretch,
+    conditions: &mut Vec<Condition>,
+) -> Result<(), OutOfMemory>
+    requires { IsWithin (length (development_shown development.now).idle) asked }
+    ensures list { OnOk result (Adds conditions.old.items terms.new conditions.new.items (idle_stretch (development_shown development.now) asked)) }
+    ensures kept { Keeps terms.old terms.new }
+{
+    let system = system_columns(development);
+    let frame = idle_frame(alloc, terms, system)?;
+    let asserted = Asserted {
+        conjuncts: idle_of(development),
+        asked,
+    };
+    push_stable(
+        alloc,
+        terms,
+        development,
+        None,
+        2,
+        &frame,
+        asserted,
+        conditions,
+    )
+}
+
+/// What holds of idle clients stays.
 pub(crate) fn push_idle(
     alloc: Global,
     terms: &mut Terms,
@@ -185,18 +242,8 @@ pub(crate) fn push_idle(
     ensures list { OnOk result (Adds conditions.old.items terms.new conditions.new.items (idle_stability (development_shown development.now))) }
     ensures kept { Keeps terms.old terms.new }
 {
-    let system = system_columns(development);
-    let frame = idle_frame(alloc, terms, system)?;
-    push_stable(
-        alloc,
-        terms,
-        development,
-        None,
-        2,
-        &frame,
-        idle_of(development),
-        conditions,
-    )
+    let all = all_of(idle_of(development).len());
+    push_idle_stretch(alloc, terms, development, all, conditions)
 }
 
 // The conditions of the edges, and that what is asserted stays.

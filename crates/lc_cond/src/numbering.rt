@@ -10,7 +10,7 @@ ghost use Rattle.lc_cond.specs.PartView.{part_of};
 use crate::condition::Condition;
 use crate::list::edges_of;
 use crate::lookup::{asserts_at, idle_of, operation_at};
-use crate::part::{Part, part_at, push_part};
+use crate::part::{Part, Wanted, action_count, part_at, push_with};
 use crate::paths::push_edge;
 use lc_base::OutOfMemory;
 use lc_object::Edge;
@@ -28,7 +28,7 @@ pub struct Numbering {
     firsts: Vec<u64>,
 }
 
-/// The conditions of a part.
+/// Conditions of a part that stand one behind another.
 #[derive(Drop)]
 pub struct NumberedPart {
     /// The number of the first.
@@ -49,8 +49,7 @@ fn stable_count(development: &Development, conjuncts: &[Formula]) -> u64
     requires { length conjuncts.now * (length (development_shown development.now).actions + 2) ≤ condition_limit }
     ensures { result ≡ length conjuncts.now * (length (development_shown development.now).actions + 2) }
 {
-    let actions = development.parts().actions.len() + 2;
-    (conjuncts.len() * actions) as u64
+    (conjuncts.len() * action_count(development)) as u64
 }
 
 // How many conditions an edge has: they are made, and let go.
@@ -134,7 +133,8 @@ impl Numbering {
         low
     }
 
-    /// The conditions of the part that has the one of this number, entered in the table.
+    /// Conditions that stand one behind another, with the one of this number, if there is one; entered in the table. They are those of
+    /// the part that has it, but of a point with many conjuncts only those of a stretch.
     pub fn part_with(
         &self,
         alloc: Global,
@@ -154,8 +154,15 @@ impl Numbering {
                 conditions,
             });
         };
-        push_part(alloc, terms, development, part, &mut conditions)?;
-        let first = self.firsts[place];
-        Ok(NumberedPart { first, conditions })
+        let before = self.firsts[place];
+        let wanted = Wanted {
+            place: number.saturating_sub(before),
+            all: self.count(),
+        };
+        let first = push_with(alloc, terms, development, part, wanted, &mut conditions)?;
+        Ok(NumberedPart {
+            first: before + first,
+            conditions,
+        })
     }
 }

@@ -1,19 +1,25 @@
 //! The parts of the list, each of which can be made by itself: the start, a call that begins, an edge, a point, and idle.
-ghost use Rattle.std.specs.Prelude.{◌≡◌, ◌++◌, ◌∷◌, [], map, option_map, slice_get, OnOk};
+ghost use Rattle.std.specs.Prelude.{◌≡◌, ◌+◌, ◌++◌, ◌∷◌, [], length, map, option_map, slice_get, IfOk, OnOk};
 ghost use Rattle.lc_term.specs.Lists.{numbered};
 ghost use Rattle.lc_table.specs.Tables.{Keeps};
 ghost use Rattle.lc_object.specs.EdgeView.{edge_of};
+ghost use Rattle.lc_object.specs.View.{point_of};
 ghost use Rattle.lc_outline.specs.DevelopmentView.{development_shown};
 ghost use Rattle.lc_cond.specs.Adding.{Adds};
 ghost use Rattle.lc_cond.specs.Conditions as S;
-ghost use Rattle.lc_cond.specs.Conditions.{conditions_in};
+ghost use Rattle.lc_cond.specs.Conditions.{conditions_in, point_stability, idle_stability};
+ghost use Rattle.lc_cond.specs.Numbering.{AddsWith};
 ghost use Rattle.lc_cond.specs.PartView.{part_of, parts_along, HasLimits};
 
 use crate::condition::Condition;
 use crate::entries::push_entry;
-use crate::list::{operations_of, points_of, push_idle, push_point};
+use crate::list::{
+    operations_of, points_of, push_idle, push_idle_stretch, push_point, push_point_stretch,
+};
+use crate::lookup::{asserts_at, idle_of};
 use crate::paths::push_edge;
 use crate::start::push_start;
+use crate::stretch::stretch_with;
 use lc_base::{OpId, OutOfMemory, PointId};
 use lc_object::{Edge, Operation, Point};
 use lc_outline::Development;
@@ -105,5 +111,85 @@ pub(crate) fn push_part(
             push_point(alloc, terms, development, number, point, conditions)
         }
         Part::StayIdle => push_idle(alloc, terms, development, conditions),
+    }
+}
+
+/// Under how many actions of another client it is asked that a conjunct stays: those that are declared, and that a call begins or
+/// ends.
+pub(crate) fn action_count(development: &Development) -> usize
+    ensures { result ≡ length (development_shown development.now).actions + 2 }
+{
+    development.parts().actions.len() + 2
+}
+
+/// Which condition of a part is wanted: the one at this place of the part, where there are so many conditions in all.
+#[derive(Clone, Copy)]
+pub(crate) struct Wanted {
+    pub place: u64,
+    pub all: u64,
+}
+
+// The stretch of the conjuncts at a point that has the condition that is wanted; answers the place of the first.
+fn push_point_with(
+    alloc: Global,
+    terms: &mut Terms,
+    development: &Development,
+    number: PointId,
+    point: &Point,
+    wanted: Wanted,
+    conditions: &mut Vec<Condition>,
+) -> Result<u64, OutOfMemory>
+    ensures with { IfOk result (λ first. AddsWith conditions.old.items terms.new conditions.new.items (point_stability (development_shown development.now) number.0 (point_of point.now)) wanted.place first) }
+    ensures kept { Keeps terms.old terms.new }
+{
+    let each = action_count(development);
+    let count = asserts_at(development, number).len();
+    let asked = stretch_with(count, each, wanted.all, wanted.place);
+    push_point_stretch(alloc, terms, development, number, point, asked, conditions)?;
+    Ok((asked.from * each) as u64)
+}
+
+// The same of the conjuncts that hold of idle clients.
+fn push_idle_with(
+    alloc: Global,
+    terms: &mut Terms,
+    development: &Development,
+    wanted: Wanted,
+    conditions: &mut Vec<Condition>,
+) -> Result<u64, OutOfMemory>
+    ensures with { IfOk result (λ first. AddsWith conditions.old.items terms.new conditions.new.items (idle_stability (development_shown development.now)) wanted.place first) }
+    ensures kept { Keeps terms.old terms.new }
+{
+    let each = action_count(development);
+    let count = idle_of(development).len();
+    let asked = stretch_with(count, each, wanted.all, wanted.place);
+    push_idle_stretch(alloc, terms, development, asked, conditions)?;
+    Ok((asked.from * each) as u64)
+}
+
+/// Conditions of a part that stand one behind another, with the one that is wanted, if there is one; answers the place of the
+/// first. Of a point with many conjuncts they are those of a stretch, so that workers can divide what is made; of another part
+/// they are all.
+pub(crate) fn push_with(
+    alloc: Global,
+    terms: &mut Terms,
+    development: &Development,
+    part: Part<'_>,
+    wanted: Wanted,
+    conditions: &mut Vec<Condition>,
+) -> Result<u64, OutOfMemory>
+    requires { HasLimits part }
+    ensures with { IfOk result (λ first. AddsWith conditions.old.items terms.new conditions.new.items (conditions_in (development_shown development.now) (part_of part.entry)) wanted.place first) }
+    ensures kept { Keeps terms.old terms.new }
+{
+    match part {
+        Part::Stay(number, point) => {
+            push_point_with(alloc, terms, development, number, point, wanted, conditions)
+        }
+        Part::StayIdle => push_idle_with(alloc, terms, development, wanted, conditions),
+        _ => {
+            push_part(alloc, terms, development, part, conditions)?;
+            Ok(0)
+        }
     }
 }

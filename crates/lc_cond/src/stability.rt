@@ -11,7 +11,8 @@ ghost use Rattle.lc_action.specs.ActionView.{action_of, first_of};
 ghost use Rattle.lc_outline.specs.Development.{invariant_of, all_actions, first_system};
 ghost use Rattle.lc_outline.specs.DevelopmentView.{development_shown};
 ghost use Rattle.lc_cond.specs.Adding.{HasFormulas, Adds, Under};
-ghost use Rattle.lc_cond.specs.Conditions.{stable_variables, stable_conditions};
+ghost use Rattle.lc_cond.specs.Conditions.{stable_variables};
+ghost use Rattle.lc_cond.specs.Stretches.{IsWithin, stretch_of, stable_stretch};
 ghost use Rattle.lc_cond.specs.Crossings.{code_variable_limit, two_clients, TakesFew, IsGiven, AreCrossings, Crosses, AllCross, CrossesToo, MakesStable, MakesAllStable, HaveGoals};
 
 use crate::condition::{Condition, Kind, Passage, Which};
@@ -20,6 +21,7 @@ use crate::frames;
 use crate::lookup::system_columns;
 use crate::making::{Head, push_one};
 use crate::matching::entered_guard;
+use crate::stretch::Stretch;
 use crate::variables::variables_from;
 use lc_action::{Action, SystemColumns, enter, leave, post_columns};
 use lc_base::{OutOfMemory, PointId};
@@ -34,7 +36,7 @@ pub(crate) struct Crossing {
     /// How many variables there are: those of the client's code, the other client and its action's parameters.
     pub variables: u32,
     pub hypotheses: Hypotheses,
-    /// A goal for each of the assertions.
+    /// A goal for each conjunct of which it is asked that it stays.
     pub goals: Vec<FormulaId>,
 }
 
@@ -48,6 +50,13 @@ impl Drop for Crossing {
     }
 }
 
+/// What is asserted of a client, and of which conjuncts it is asked that they stay.
+#[derive(Clone, Copy)]
+pub(crate) struct Asserted<'a> {
+    pub conjuncts: &'a [Formula],
+    pub asked: Stretch,
+}
+
 /// What is entered once where another client acts, whichever action it does.
 #[derive(Clone, Copy)]
 struct Given<'a> {
@@ -58,6 +67,7 @@ struct Given<'a> {
     /// What is known of the first client.
     known: &'a [FormulaId],
     invariant: &'a [FormulaId],
+    /// The conjuncts of which it is asked that they stay.
     asserts: &'a [FormulaId],
 }
 
@@ -279,7 +289,15 @@ fn known_of(
     joined(alloc, frame, &shared)
 }
 
-// All actions of the client that is this variable, where the other one has this frame and these are asserted of it.
+// Those conjuncts that are asked about.
+fn asked_about(conjuncts: &[FormulaId], asked: Stretch) -> &[FormulaId]
+    requires { IsWithin (length conjuncts.now) asked }
+    ensures { result.now ≡ stretch_of asked conjuncts.now }
+{
+    &conjuncts[asked.from..asked.to]
+}
+
+// All actions of the client that is this variable, where the other one has this frame and this is asserted of it.
 #[tactic(auto, using(lc_table::proofs::Later::kept_on))]
 fn entered_crossings(
     alloc: Global,
@@ -287,74 +305,78 @@ fn entered_crossings(
     development: &Development,
     client: u32,
     frame: &[FormulaId],
-    asserts: &[Formula],
+    asserted: Asserted<'_>,
 ) -> Result<Vec<Crossing>, OutOfMemory>
     requires client { client ≤ code_variable_limit }
     requires frame { AreFormulas terms.old frame.now }
+    requires asked { IsWithin (length asserted.conjuncts.now) asserted.asked }
     ensures crossings { let d = development_shown development.now in
-        let fs = formulas_of asserts.now in
-        IfOk result (λ cs. Under terms.old frame.now (λ hs. AreCrossings terms.new d client (hs ++ (invariant_of d ++ fs)) fs (all_actions d) cs.items)) }
+        let fs = formulas_of asserted.entry.conjuncts.now in
+        IfOk result (λ cs. Under terms.old frame.now (λ hs. AreCrossings terms.new d client (hs ++ (invariant_of d ++ fs)) (stretch_of asserted.entry.asked fs) (all_actions d) cs.items)) }
     ensures kept { Keeps terms.old terms.new }
 {
     let system = system_columns(development);
     let clients = entered_clients(alloc, terms, client)?;
     let invariant = entered_invariant(alloc, terms, &development.parts().tie)?;
-    let asserted = entered(alloc, terms, asserts)?;
-    let known = known_of(alloc, frame, &invariant, &asserted)?;
+    let asserts = entered(alloc, terms, asserted.conjuncts)?;
+    let known = known_of(alloc, frame, &invariant, &asserts)?;
     let given = Given {
         client,
         clients: &clients,
         known: &known,
         invariant: &invariant,
-        asserts: &asserted,
+        asserts: asked_about(&asserts, asserted.asked),
     };
     all_crossings(alloc, terms, development, system, &given)
 }
 
-// A condition for each of these actions, of the conjunct at this place.
+// A condition for each of these actions, of the conjunct of this number, whose goals stand at this place.
 fn push_conjunct(
     point: Option<PointId>,
     number: usize,
+    place: usize,
     crossings: &[Crossing],
     conditions: &mut Vec<Condition>,
 ) -> Result<(), OutOfMemory>
-    requires { Every (λ c. number < length c.goals.items) crossings.now }
-    ensures { OnOk result (MakesStable point number crossings.now conditions.old.items conditions.new.items) }
+    requires { Every (λ c. place < length c.goals.items) crossings.now }
+    ensures { OnOk result (MakesStable point number place crossings.now conditions.old.items conditions.new.items) }
 {
-    for (place, crossing) in crossings.iter().enumerate() {
+    for (action, crossing) in crossings.iter().enumerate() {
         let head = Head {
             kind: Kind::Stable,
             variables: crossing.variables,
             point,
-            passage: Passage::Action(place),
+            passage: Passage::Action(action),
             path: None,
         };
-        let goal = crossing.goals[number];
+        let goal = crossing.goals[place];
         let which = Which::Numbered(number);
         push_one(head, which, &crossing.hypotheses, goal, conditions)?;
     }
     Ok(())
 }
 
-// The same of each conjunct, so many.
+// The same of each conjunct from the one of this number on, so many.
 fn push_conjuncts(
     point: Option<PointId>,
+    first: usize,
     count: usize,
     crossings: &[Crossing],
     conditions: &mut Vec<Condition>,
 ) -> Result<(), OutOfMemory>
     requires goals { HaveGoals count crossings.now }
     requires few { count * length crossings.now ≤ condition_limit }
-    ensures { OnOk result (MakesAllStable point count crossings.now conditions.old.items conditions.new.items) }
+    requires numbers { first + count ≤ condition_limit }
+    ensures { OnOk result (MakesAllStable point first count crossings.now conditions.old.items conditions.new.items) }
 {
     conditions.reserve(count * crossings.len())?;
-    for number in 0..count {
-        push_conjunct(point, number, crossings, conditions)?;
+    for place in 0..count {
+        push_conjunct(point, first + place, place, crossings, conditions)?;
     }
     Ok(())
 }
 
-/// The conditions that these assertions stay, where a client has so many variables and this frame.
+/// The conditions that the conjuncts stay which are asked about, where a client has so many variables and this frame.
 #[tactic(auto, using(lc_table::proofs::Later::kept_on))]
 pub(crate) fn push_stable(
     alloc: Global,
@@ -363,16 +385,18 @@ pub(crate) fn push_stable(
     point: Option<PointId>,
     variables: u32,
     frame: &[FormulaId],
-    asserts: &[Formula],
+    asserted: Asserted<'_>,
     conditions: &mut Vec<Condition>,
 ) -> Result<(), OutOfMemory>
     requires variables { variables ≤ code_variable_limit }
     requires frame { AreFormulas terms.old frame.now }
-    requires few { length asserts.now * (length (development_shown development.now).actions + 2) ≤ condition_limit }
+    requires asked { IsWithin (length asserted.conjuncts.now) asserted.asked }
+    requires few { length asserted.conjuncts.now * (length (development_shown development.now).actions + 2) ≤ condition_limit }
     ensures list { OnOk result (Under terms.old frame.now (λ hs. Adds conditions.old.items terms.new conditions.new.items
-        (stable_conditions (development_shown development.now) (option_map (λ p. p.0) point) variables hs (formulas_of asserts.now)))) }
+        (stable_stretch (development_shown development.now) (option_map (λ p. p.0) point) variables hs (formulas_of asserted.entry.conjuncts.now) asserted.entry.asked))) }
     ensures kept { Keeps terms.old terms.new }
 {
-    let crossings = entered_crossings(alloc, terms, development, variables, frame, asserts)?;
-    push_conjuncts(point, asserts.len(), &crossings, conditions)
+    let Stretch { from, to } = asserted.asked;
+    let crossings = entered_crossings(alloc, terms, development, variables, frame, asserted)?;
+    push_conjuncts(point, from, to - from, &crossings, conditions)
 }

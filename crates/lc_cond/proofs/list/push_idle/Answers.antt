@@ -1,27 +1,20 @@
-use Rattle.std.proofs.Common.{◌+◌, ◌*◌, ◌≤◌, length, None, sym, subst}
+use Rattle.std.proofs.Common.{length, ap, subst, ◌∙◌}
 use Rattle.std.proofs.lemmas.Result.{on_ok_weaker}
-use Rattle.lc_base.specs.Limits.{condition_limit}
 use Rattle.lc_term.specs.View.{formula_of}
-use Rattle.lc_table.specs.Tables.{AreFormulas}
 use Rattle.lc_outline.specs.DevelopmentView.{development_shown}
 use Rattle.lc_cond.specs.Adding.{Adds}
-use Rattle.lc_cond.specs.Conditions.{idle_frame, stable_conditions}
-use Rattle.lc_cond.proofs.Adding.{formulas_listed}
-use Rattle.lc_cond.proofs.Few.{seen_length, idle_stays_few}
+use Rattle.lc_cond.proofs.Few.{seen_length}
+use Rattle.lc_cond.proofs.Stretched.{whole, whole_within, whole_idle}
 use Rattle.lc_cond.proofs.list.push_idle.Goals as goal
 
-pub push_stable-requires-clause-few : goal.push_stable-requires-clause-few
-push_stable-requires-clause-few c =
-    let D = development_shown c.args.development.now in
-    subst (λ m. m * (length D.actions + 2) ≤ condition_limit) (sym (seen_length formula_of c.idle_of.result.now D.idle c.idle_of.ensures))
-    (idle_stays_few D c.args.development.now.resolved c.args.development.now.limited)
-
-pub push_stable-requires-clause-frame : goal.push_stable-requires-clause-frame
-push_stable-requires-clause-frame c = subst (AreFormulas c.idle_frame.new.terms) (sym c.deref.ensures.value) c.in_ok-frame.ensures.list.are
+pub push_idle_stretch-requires : goal.push_idle_stretch-requires
+push_idle_stretch-requires c =
+    let idle = (development_shown c.args.development.now).idle in
+    whole_within (length idle) c.all_of-all.result (c.all_of-all.ensures ∙ ap whole (seen_length formula_of c.idle_of.result.now idle c.idle_of.ensures))
 
 pub returns-clause-list : goal.returns-clause-list
 returns-clause-list c =
-    on_ok_weaker c.push_stable.result
-    (λ list. subst (Adds c.args.conditions.now.items c.push_stable.new.terms c.push_stable.new.conditions.items)
-    (λ i. stable_conditions (development_shown c.args.development.now) None 2 (idle_frame (c.system_columns-system.ensures i)) (c.idle_of.ensures i))
-    (list _ (formulas_listed c.idle_frame.new.terms c.in_ok-frame.frame.items c.deref.result.now _ c.in_ok-frame.ensures.list c.deref.ensures.value))) c.push_stable.ensures.list
+    let D = development_shown c.args.development.now in
+    let is = c.all_of-all.ensures ∙ ap whole (seen_length formula_of c.idle_of.result.now D.idle c.idle_of.ensures) in
+    on_ok_weaker c.push_idle_stretch.result
+    (λ list. subst (Adds c.args.conditions.now.items c.push_idle_stretch.new.terms c.push_idle_stretch.new.conditions.items) (whole_idle D c.all_of-all.result is) list) c.push_idle_stretch.ensures.list

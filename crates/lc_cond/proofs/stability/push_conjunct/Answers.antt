@@ -9,18 +9,18 @@ use Rattle.lc_cond.specs.declared.making.Head.{Head}
 use Rattle.lc_cond.proofs.Crossed.{stable_none, stable_more}
 use Rattle.lc_cond.proofs.stability.push_conjunct.Goals as goal
 
-pub loop-place-init : goal.loop-place-init
-loop-place-init c = stable_none c.args.point c.args.number c.args.conditions.now.items
+pub loop-action-init : goal.loop-action-init
+loop-action-init c = stable_none c.args.point c.args.number c.args.place c.args.conditions.now.items
 
-pub loop-place-preserved : goal.loop-place-preserved
-loop-place-preserved c =
-    let crossing = c.index-crossings-place.result in
-    let now = c.loop-place.conditions.items in
+pub loop-action-preserved : goal.loop-action-preserved
+loop-action-preserved c =
+    let crossing = c.index-crossings-action.result in
+    let now = c.loop-action.conditions.items in
     let new = c.push_one.new.conditions.items in
-    let head : Head = record { kind = K.Stable; variables = crossing.variables; point = c.args.point; passage = P.Action c.loop-place.place; path = None } in
-    stable_more c.args.point c.args.number c.args.crossings.now c.loop-place.place crossing c.index-goal.result.now c.args.conditions.now.items now new c.loop-place-test.true c.index-crossings-place.is c.loop-place.invariant
+    let head : Head = record { kind = K.Stable; variables = crossing.variables; point = c.args.point; passage = P.Action c.loop-action.action; path = None } in
+    stable_more c.args.point c.args.number c.args.place c.args.crossings.now c.loop-action.action crossing c.index-goal.result.now c.args.conditions.now.items now new c.loop-action-test.true c.index-crossings-action.is c.loop-action.invariant
     (subst (λ g. MakesOne head (W.Numbered c.args.number) crossing.hypotheses g now new) c.index-goal.ensures c.in_ok-push_one.ensures)
 
 pub returns : goal.returns
 returns c =
-    subst (λ l. MakesStable c.args.point c.args.number l c.args.conditions.now.items c.loop-place.conditions.items) (take_all c.loop-place.place c.args.crossings.now c.loop-place-test.false) c.loop-place.invariant
+    subst (λ l. MakesStable c.args.point c.args.number c.args.place l c.args.conditions.now.items c.loop-action.conditions.items) (take_all c.loop-action.action c.args.crossings.now c.loop-action-test.false) c.loop-action.invariant
