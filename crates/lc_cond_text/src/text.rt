@@ -11,8 +11,8 @@ ghost use Rattle.lc_naming.specs.ColumnNames.{name_at};
 ghost use Rattle.lc_cond_text.specs.ConditionText.{duty_word, kind_word, or_hyphen, point_names, passage_text, which_text, spelled, formulas_text, condition_text};
 
 use crate::naming::{action_name, column_name, point_name};
-use crate::nodes::{push_number, push_text};
-use crate::texts::{FormulaTexts, no_texts, push_once, push_repeated};
+use crate::nodes::{push_formula, push_number, push_text};
+use crate::texts::{FormulaTexts, is_met, no_texts, push_repeated};
 use lc_base::{OutOfMemory, PointId};
 use lc_cond::{Condition, Kind, Passage, Place, Which};
 use lc_kernel::Goal;
@@ -187,7 +187,7 @@ pub(crate) fn push_known(
     push_hypotheses(out, texts, terms, development, goal.hypotheses.as_slice())
 }
 
-/// What is to be proved, and the end of the line.
+/// What is to be proved, and the end of the line. The formula may stand in this line alone: its text is kept once it is met again.
 pub(crate) fn push_claim(
     out: &mut Vec<u8>,
     texts: &mut FormulaTexts,
@@ -201,7 +201,11 @@ pub(crate) fn push_claim(
     ensures recalls { OnOk result (Recalls (spelled (development_shown development.now)) terms.now texts.new) }
 {
     push_text(out, ") (goal ")?;
-    push_once(out, texts, terms, development, claim)?;
+    if is_met(texts, claim)? {
+        push_repeated(out, texts, terms, development, claim)?;
+    } else {
+        push_formula(out, terms, development, 0, claim)?;
+    }
     push_text(out, "))")
 }
 

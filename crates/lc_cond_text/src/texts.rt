@@ -1,5 +1,5 @@
 //! The texts of formulas that stand in many lines: each is made once, and then copied.
-ghost use Rattle.std.specs.Prelude.{◌≡◌, ◌++◌, ◌<◌, ℕ, length, Some, slice_get, IfOk, IfSome, OnOk};
+ghost use Rattle.std.specs.Prelude.{◌≡◌, ◌++◌, ◌<◌, ◌≤◌, ℕ, length, Some, slice_get, slice_range, IfOk, IfSome, OnOk};
 ghost use Rattle.lc_table.specs.NodeTables.{Table};
 ghost use Rattle.lc_table.specs.Tables.{formula_in, IsFormula};
 ghost use Rattle.lc_text.specs.Spelling.{Spelled};
@@ -91,22 +91,14 @@ fn spell(
     Ok(place)
 }
 
-// Where the text of a formula lies.
-fn spelled_place(
-    texts: &mut FormulaTexts,
-    terms: &Terms,
-    development: &Development,
-    formula: FormulaId,
-) -> Result<Place, OutOfMemory>
-    requires formula { IsFormula terms.now formula }
-    requires recalls { Recalls (spelled (development_shown development.now)) terms.now texts.old }
-    ensures place { IfOk result (LiesAt (spelled_formula (spelled (development_shown development.now)) 0 (formula_in terms.now formula)) texts.new.bytes.items) }
-    ensures recalls { OnOk result (Recalls (spelled (development_shown development.now)) terms.now texts.new) }
+// The text that lies at a place, behind what is there.
+fn push_at(out: &mut Vec<u8>, texts: &FormulaTexts, place: Place) -> Result<(), OutOfMemory>
+    requires ordered { place.start ≤ place.end }
+    requires within { place.end ≤ length texts.now.bytes.items }
+    ensures { OnOk result (out.new.items ≡ out.old.items ++ slice_range texts.now.bytes.items place.start place.end) }
 {
-    match place_of(texts, formula) {
-        Some(place) => Ok(place),
-        None => spell(texts, terms, development, formula),
-    }
+    out.extend_from_slice(&texts.bytes[place.start..place.end])?;
+    Ok(())
 }
 
 /// A formula that stands in many lines, behind what is there.
@@ -122,9 +114,11 @@ pub(crate) fn push_repeated(
     ensures text { OnOk result (out.new.items ≡ out.old.items ++ spelled_formula (spelled (development_shown development.now)) 0 (formula_in terms.now formula)) }
     ensures recalls { OnOk result (Recalls (spelled (development_shown development.now)) terms.now texts.new) }
 {
-    let place = spelled_place(texts, terms, development, formula)?;
-    out.extend_from_slice(&texts.bytes[place.start..place.end])?;
-    Ok(())
+    if let Some(place) = place_of(texts, formula) {
+        return push_at(out, texts, place);
+    }
+    let place = spell(texts, terms, development, formula)?;
+    push_at(out, texts, place)
 }
 
 // Whether the formula of this number was met before. From now on it was.
@@ -137,22 +131,9 @@ fn meet(met: &mut Vec<bool>, number: usize) -> Result<bool, OutOfMemory> {
     Ok(before)
 }
 
-/// A formula that may stand in one line alone, behind what is there: its text is kept once it is met again.
-pub(crate) fn push_once(
-    out: &mut Vec<u8>,
-    texts: &mut FormulaTexts,
-    terms: &Terms,
-    development: &Development,
-    formula: FormulaId,
-) -> Result<(), OutOfMemory>
-    requires formula { IsFormula terms.now formula }
-    requires recalls { Recalls (spelled (development_shown development.now)) terms.now texts.old }
-    ensures text { OnOk result (out.new.items ≡ out.old.items ++ spelled_formula (spelled (development_shown development.now)) 0 (formula_in terms.now formula)) }
-    ensures recalls { OnOk result (Recalls (spelled (development_shown development.now)) terms.now texts.new) }
+/// Whether a formula was met before. From now on it was.
+pub(crate) fn is_met(texts: &mut FormulaTexts, formula: FormulaId) -> Result<bool, OutOfMemory>
+    ensures { texts.new ≡ record texts.old { met = texts.new.met } }
 {
-    if meet(&mut texts.met, formula.0 as usize)? {
-        push_repeated(out, texts, terms, development, formula)
-    } else {
-        push_formula(out, terms, development, 0, formula)
-    }
+    meet(&mut texts.met, formula.0 as usize)
 }

@@ -3,7 +3,7 @@ ghost use Rattle.lc_table.specs.Tables.{IsFormula, AreFormulas};
 
 use crate::names::Names;
 use lc_base::OutOfMemory;
-use lc_failing::{Failing, Numbered, Situation, content_words, tell, words_of};
+use lc_failing::{Failing, Numbered, Told, content_words, tell, words_of};
 use lc_kernel::Goal;
 use lc_search::{Counted, CounterModel, End, search};
 use lc_table::Terms;
@@ -56,18 +56,22 @@ fn push_number(
     Ok(())
 }
 
-/// The numbers of the variables of a goal, so many, and of the cells of a state.
-fn push_situation(
+/// The numbers of the variables of a goal, so many, of those of its `forall`s and of the cells of a state.
+fn push_told(
     alloc: Global,
     text: &mut String,
     names: &Names<'_>,
     variables: u32,
-    situation: &Situation,
+    told: &Told,
 ) -> Result<(), OutOfMemory> {
+    let situation = &told.situation;
     for variable in 0..variables {
         if let Some(number) = situation.env.values.get(variable as usize) {
             push_number(text, names, &Term::Variable(variable), *number)?;
         }
+    }
+    for (place, number) in told.numbers.iter().enumerate() {
+        writeln!(text, "    in the goal b{place} is {number}")?;
     }
     for cell in &situation.cells {
         let index = Box::new(alloc, Term::Number(cell.index))?;
@@ -93,12 +97,13 @@ fn model_text(
     let claim = terms.formula(alloc, goal.goal)?;
     let numbers = whole_numbers(alloc, &model.numbers)?;
     let columns = u32::try_from(names.columns.len()).unwrap_or(0);
-    let told = tell(alloc, columns, goal.vars, &numbers, &hypotheses, &claim)?;
+    let witnesses = &model.witnesses;
+    let told = tell(alloc, columns, goal.vars, &numbers, witnesses, &hypotheses, &claim)?;
     let mut text = String::new(alloc);
     writeln!(text, "  {}:", words_of(told.failing))?;
     match told.failing {
         Failing::Fails | Failing::FailsButForQuantifiers => {
-            push_situation(alloc, &mut text, names, goal.vars, &told.situation)?;
+            push_told(alloc, &mut text, names, goal.vars, &told)?;
         }
         Failing::Unknown => {
             for counted in &model.numbers {

@@ -87,14 +87,16 @@ fn variable_names<'a>(
 }
 
 impl<'a> Names<'a> {
-    /// The names by which a condition of a development is shown.
+    /// The names by which a condition of a development is shown: where it speaks of no client, it has no variable for one.
     pub(crate) fn of_condition(
         alloc: Global,
         parts: &'a Parts,
         condition: &Condition,
     ) -> Result<Names<'a>, OutOfMemory> {
+        let mut variables = variable_names(alloc, parts, condition)?;
+        variables.truncate(condition.goal.vars as usize);
         Ok(Names {
-            variables: variable_names(alloc, parts, condition)?,
+            variables,
             columns: column_names(alloc, parts)?,
         })
     }

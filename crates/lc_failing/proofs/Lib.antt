@@ -1,2 +1,3 @@
 mod Apart
+mod Instances
 mod Refuted

@@ -1,5 +1,5 @@
 -- What it is that a goal fails in a state.
-use Rattle.std.specs.Prelude.{List, IsTrue}
+use Rattle.std.specs.Prelude.{ℤ, List, IsTrue}
 use Rattle.lc_term.specs.Lists.{Every}
 use Rattle.lc_term.specs.Meaning.{Holds, Valid, outside}
 use Rattle.lc_term.specs.Places.{is_known}
@@ -9,6 +9,7 @@ use Rattle.lc_term.specs.Syntax.{Formula}
 use Rattle.lc_term.specs.Truth.{is_ground}
 use Rattle.lc_term.specs.declared.state.State.{State}
 use Rattle.lc_term.specs.declared.state.Env.{Env}
+use Rattle.lc_failing.specs.Instance.{instance_at}
 
 -- the formula is evaluated there: it has no quantifier, its columns and variables are there, and each number that is reached fits 64 bits
 pub record IsEvaluated (state : State) (env : Env) (f : Formula) : Type 0 where
@@ -40,7 +41,8 @@ pub record FailsButForQuantifiers (state : State) (env : Env) (hypotheses : List
   pub given : Every (IsSeenIfGround state env) hypotheses
   pub refuted : IsRefuted state env goal
 
--- what fails in a state does not follow
+-- what fails in a state, at some numbers for the variables of its `forall`s, does not follow
 abbrev pub FailingIsNotValid : Type 0
 FailingIsNotValid =
-    (state : State) (env : Env) (hypotheses : List Formula) (goal : Formula) → Fails state env hypotheses goal → Valid hypotheses goal → ⊥
+    (state : State) (env : Env) (hypotheses : List Formula) (goal : Formula) (numbers : List ℤ) →
+    Fails state env hypotheses (instance_at numbers goal) → Valid hypotheses goal → ⊥

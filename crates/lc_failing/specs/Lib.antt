@@ -1,3 +1,4 @@
 pub mod Failing
+pub mod Instance
 pub mod Situation
 pub mod Told

@@ -6,11 +6,13 @@ use Rattle.lc_term.specs.UpdateView.{writes_shown}
 use Rattle.lc_failing.specs.declared.failing.Failing.TheVariants as F
 use Rattle.lc_failing.specs.declared.telling.Told.{Told}
 use Rattle.lc_failing.specs.Failing.{Fails, FailsButForQuantifiers}
+use Rattle.lc_failing.specs.Instance.{instance_at}
 use Rattle.lc_failing.specs.Situation.{IsOf}
 
--- it is told that the goal fails exactly where it fails in the state that is told, and that it fails but for quantifiers only where it
--- does; the state has the cells that are told
+-- it is told that the goal fails exactly where it fails in the state and at the numbers that are told, and that it fails but for
+-- quantifiers only where it does; the state has the cells that are told
 pub record IsTold (columns : ℕ) (hypotheses : List Formula) (goal : Formula) (told : Told) : Type 0 where
-  pub fails : told.failing ≡ F.Fails ↔ Fails told.situation.state told.situation.env hypotheses goal
-  pub but : told.failing ≡ F.FailsButForQuantifiers → FailsButForQuantifiers told.situation.state told.situation.env hypotheses goal
+  pub fails : told.failing ≡ F.Fails ↔ Fails told.situation.state told.situation.env hypotheses (instance_at told.numbers.items goal)
+  pub but : told.failing ≡ F.FailsButForQuantifiers →
+      FailsButForQuantifiers told.situation.state told.situation.env hypotheses (instance_at told.numbers.items goal)
   pub state : IsOf told.situation.content columns (state_of told.situation.state) (writes_shown told.situation.cells.items)

@@ -2,6 +2,7 @@
 #![tactic(auto)]
 
 mod failing;
+mod instance;
 pub mod laws;
 mod situation;
 mod telling;

@@ -1,7 +1,9 @@
 //! What is told of a search that found nothing.
 
 use crate::model::{active_read, live_places, live_variable};
+use crate::ranks::GOAL;
 use crate::solving::Search;
+use lc_facts::Rule;
 use lc_farkas::Stop;
 use lc_table::TermId;
 use lc_term::Term;
@@ -14,10 +16,12 @@ pub struct Counted {
     pub denominator: i128,
 }
 
-/// What the search could not break: a number for each variable and for each read that was looked at.
+/// What the search could not break: a number for each variable and for each read that was looked at. The witnesses are the variables
+/// that it took for those of quantifiers of the negated goal, in turn.
 #[derive(Drop)]
 pub struct CounterModel {
     pub numbers: Vec<Counted>,
+    pub witnesses: Vec<u32>,
 }
 
 /// The numbers of the tableau as they are.
@@ -34,7 +38,21 @@ pub(crate) fn counter_model(search: &mut Search) -> Result<CounterModel, Stop> {
             numbers.push(number_in(search, read)?)?;
         }
     }
-    Ok(CounterModel { numbers })
+    let witnesses = goal_witnesses(search)?;
+    Ok(CounterModel { numbers, witnesses })
+}
+
+/// The variables by which what is of the goal was opened.
+fn goal_witnesses(search: &Search) -> Result<Vec<u32>, Stop> {
+    let mut witnesses = Vec::new(search.known.alloc);
+    for step in &search.known.steps {
+        if let Rule::Fresh(fact, variable) = step.rule
+            && search.known.fact(fact).place.rank == GOAL
+        {
+            witnesses.push(variable)?;
+        }
+    }
+    Ok(witnesses)
 }
 
 fn number_in(search: &Search, term: TermId) -> Result<Counted, Stop> {

@@ -150,6 +150,19 @@ fn hints_told<'a, F: Files>(
     }
 }
 
+/// Whether a refusal is of the text of another file than a certificate.
+fn is_of_a_text(refusal: &Refusal) -> bool {
+    matches!(
+        refusal,
+        Refusal::Text(_)
+            | Refusal::Shape(_)
+            | Refusal::Unknown(_)
+            | Refusal::Repeated(_)
+            | Refusal::Auxiliary(_)
+            | Refusal::Bound(_)
+    )
+}
+
 /// The files of `carry`.
 #[derive(Clone, Copy)]
 struct Carried<'a> {
@@ -166,17 +179,12 @@ fn carry_told<'a, F: Files>(
     paths: Carried<'a>,
     refusal: &Refusal,
 ) -> Said<'a> {
-    match refusal {
-        Refusal::Text(_)
-        | Refusal::Shape(_)
-        | Refusal::Unknown(_)
-        | Refusal::Repeated(_)
-        | Refusal::Auxiliary(_)
-        | Refusal::Bound(_) => match development_at(alloc, files, paths.old)? {
-            Some(_) => hints_told(alloc, files, paths.new, paths.hints, refusal),
-            None => file_told(alloc, files, paths.old, FileKind::Development, refusal),
-        },
-        _ => certificate_told(alloc, files, paths.old, paths.certificate, refusal),
+    if !is_of_a_text(refusal) {
+        return certificate_told(alloc, files, paths.old, paths.certificate, refusal);
+    }
+    match development_at(alloc, files, paths.old)? {
+        Some(_) => hints_told(alloc, files, paths.new, paths.hints, refusal),
+        None => file_told(alloc, files, paths.old, FileKind::Development, refusal),
     }
 }
 
@@ -195,23 +203,13 @@ fn run_told<'a, F: Files>(
     paths: Planned<'a>,
     refusal: &Refusal,
 ) -> Said<'a> {
-    match refusal {
-        Refusal::Text(_)
-        | Refusal::Shape(_)
-        | Refusal::Unknown(_)
-        | Refusal::Repeated(_)
-        | Refusal::Auxiliary(_)
-        | Refusal::Bound(_) => match development_at(alloc, files, paths.development)? {
-            Some(_) => file_told(alloc, files, paths.plan, FileKind::Plan, refusal),
-            None => file_told(
-                alloc,
-                files,
-                paths.development,
-                FileKind::Development,
-                refusal,
-            ),
-        },
-        _ => certificate_told(alloc, files, paths.development, paths.certificate, refusal),
+    let development = paths.development;
+    if !is_of_a_text(refusal) {
+        return certificate_told(alloc, files, development, paths.certificate, refusal);
+    }
+    match development_at(alloc, files, development)? {
+        Some(_) => file_told(alloc, files, paths.plan, FileKind::Plan, refusal),
+        None => file_told(alloc, files, development, FileKind::Development, refusal),
     }
 }
 
