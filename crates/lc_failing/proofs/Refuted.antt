@@ -1,6 +1,5 @@
 -- What fails in a state does not follow.
 use Rattle.std.proofs.Common.{ℤ, List, [], ◌∷◌}
-use Rattle.std.specs.Prelude.{pos}
 use Rattle.lc_term.specs.Lists.{Every}
 use Rattle.lc_term.specs.Meaning as M
 use Rattle.lc_term.specs.Meaning.{EachHolds, Holds}
@@ -18,7 +17,7 @@ each-holds state env (f ∷ fs) seen = (seen.0.holds, each-holds state env fs se
 
 -- what holds, holds at each number
 at_number-holds : (s : M.State) (e b : M.Env) (x : ℤ) (f : Formula) → Holds s e b f → Holds s e b (at_number x f)
-at_number-holds s e b x (Forall f) h = rw (Holds-instantiated s e b (Number x) f) at (h x)
+at_number-holds s e b x (Forall f) h = rw (← Holds-instantiated s e b (Number x) f) at (h x)
 at_number-holds s e b x (Implies f g) h = λ given. at_number-holds s e b x g (h given)
 at_number-holds s e b x (Le t u) h = h
 at_number-holds s e b x (Eq t u) h = h

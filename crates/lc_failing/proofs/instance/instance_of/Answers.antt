@@ -11,4 +11,4 @@ loop-witness-preserved c =
     let same : to_z w64 (of_z w64 n) ≡ n = search rules in
     let put : formula_of c.in-Some.goal ≡ at_number n (formula_of c.loop-witness.instance.goal) = rw same at (rw c.in-Some.is at c.in_ok-goal.ensures) in
     put ∙ ap (at_number n) c.loop-witness.invariant ∙ sym (instance_at-more c.loop-witness.instance.numbers.items n f) ∙
-    sym (ap (λ xs. instance_at xs f) c.in_ok-push.ensures.items)
+    sym (ap (λ xs. instance_at xs f) (rw same at c.in_ok-push.ensures.items))
