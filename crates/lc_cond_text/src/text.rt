@@ -203,9 +203,9 @@ pub(crate) fn push_claim(
     push_text(out, ") (goal ")?;
     if is_met(texts, claim)? {
         push_repeated(out, texts, terms, development, claim)?;
-    } else {
-        push_formula(out, terms, development, 0, claim)?;
+        return push_text(out, "))");
     }
+    push_formula(out, terms, development, 0, claim)?;
     push_text(out, "))")
 }
 

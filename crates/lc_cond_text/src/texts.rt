@@ -133,7 +133,7 @@ fn meet(met: &mut Vec<bool>, number: usize) -> Result<bool, OutOfMemory> {
 
 /// Whether a formula was met before. From now on it was.
 pub(crate) fn is_met(texts: &mut FormulaTexts, formula: FormulaId) -> Result<bool, OutOfMemory>
-    ensures { texts.new ≡ record texts.old { met = texts.new.met } }
+    ensures { (by : Spelled) (ts : Table) → Recalls by ts texts.old → Recalls by ts texts.new }
 {
     meet(&mut texts.met, formula.0 as usize)
 }
