@@ -1,8 +1,8 @@
 #!/usr/bin/env python3
 """Runs each command of the program while it is refused something, and prints what it answers otherwise than docs/FORMATS.md says.
 
-  bench/refused_commands.py [--program PROGRAM] [--most N] [--jobs N] [--all] [WORD ..]
-  bench/refused_commands.py --calls [--program PROGRAM] [--most N] [--jobs N] [WORD ..]
+  bench/refused_commands.py [--program PROGRAM] [--most N] [--jobs N] [--all] [--stored] [WORD ..]
+  bench/refused_commands.py --calls [--program PROGRAM] [--most N] [--jobs N] [--all] [WORD ..]
 
 PROGRAM is lincheck_program as `rt run` leaves it in out/, where none is named; with words, only the commands that begin with one of
 them run. Each line printed is of a command, and of what it was refused:
@@ -17,7 +17,8 @@ them run. Each line printed is of a command, and of what it was refused:
 Of calls (and of cuts) all are refused in turn, one a run; where they are more than N (default 400; 0: no bound) the first half of N, and
 then others at even distances. The answer is to be the one that nothing is refused for; or, where memory was refused, status 4 and `out of
 memory`; and so on. In no run a thread may be left. `--all` prints each run that is told otherwise, and not the first three alone. The status
-is 1 where any is. A quick look, of some minutes: --most 40. It needs cc.
+is 1 where any is. A quick look, of some minutes: --most 20. With --stored the commands are those of crates/lincheck_runs/data/runs, no file
+is cut, and no read is interrupted for ever, which takes seconds. It needs cc.
 
 With --calls the program is lc_refused_runs, which makes a call again that wants memory: with any one allocation of a call refused it prints
 the same. With words, only the calls that these name are made.
@@ -83,8 +84,8 @@ FAULTS = [Fault(kind, "fails", for_ever) for kind in ("memory", "thread", "open"
 FAULTS += [Fault(kind, "fails", for_ever) for kind in ("read", "write", "tell") for for_ever in (False, True)]
 FAULTS += [Fault(kind, "interrupted", False) for kind in ("read", "write", "tell")]
 # A write that is interrupted for ever is not tried: the library of the kit tries it anew 2 ^ 64 - 1 times.
-FAULTS += [Fault("read", "interrupted", True)]
 FAULTS += [Fault(kind, "halved", True) for kind in ("read", "write", "tell")]
+INTERRUPTED_FOR_EVER = Fault("read", "interrupted", True)
 
 # The status, and the last lines on standard error, where the command comes to no answer.
 TOLD = {
@@ -133,7 +134,7 @@ def chosen(count, most):
 
 def bound(fault, most):
     """How many calls are refused: few where each is tried for long."""
-    return min(most or 4, 4) if fault.how == "interrupted" and fault.for_ever else most
+    return min(most or 4, 4) if fault == INTERRUPTED_FOR_EVER else most
 
 
 def is_begun(told, ample):
@@ -154,7 +155,7 @@ def is_sequence(told, ample):
 
 def shown(words, out):
     """What of the output is the same at each run: of clients side by side the first line."""
-    return out.partition(b"\n")[0] if words[-1].endswith("/counter.plan") else out
+    return out.partition(b"\n")[0] if words and os.path.basename(words[-1]) == "counter.plan" else out
 
 
 def says_more(words):
@@ -168,10 +169,10 @@ def is_answered(words, told, ample):
 
 
 def is_fault(kind, words, told, ample):
-    """Whether it is told why there is no answer."""
+    """Whether it is told why there is no answer, with nothing on standard output; or a beginning, where it is printed as it is made."""
     status, line = TOLD[kind]
     found = re.fullmatch(rb"((?:.*\n)*?)" + line, told.err)
-    is_printed_as_made = words[0] == "conditions" and len(words) == 2 and kind in ("memory", "write")
+    is_printed_as_made = words[:1] == ["conditions"] and kind in ("memory", "write") and not {"--at", "--only", "--kind"} & set(words)
     is_out = not told.out or is_printed_as_made and ample.out.startswith(told.out)
     return told.status == status and found is not None and is_begun(found.group(1), ample.err) and is_out
 
@@ -201,10 +202,10 @@ class Report:
         print(f"{'WRONG ' if wrong else ''}{' '.join(words)}: {refused}: {count} of {of}, {told_as_faults} told, {len(wrong)} wrong", flush=True)
 
 
-def each_fault(runs, pool, report, words, most):
+def each_fault(runs, pool, report, words, most, faults):
     """Each call refused in turn, by each kind and way."""
     counted = {}
-    for fault in FAULTS:
+    for fault in faults:
         ample = counted.get(fault.kind)
         if ample is None:
             ample = counted[fault.kind] = runs.answer(words, fault)
@@ -213,9 +214,9 @@ def each_fault(runs, pool, report, words, most):
             continue
         told = list(zip(numbers, pool.map(lambda number, fault=fault: runs.answer(words, fault, number), numbers)))
         wrong = [it for it in told if it[1].left or not is_due(fault, words, it[1], ample)]
-        faults = sum(1 for _, it in told if it.status != ample.status)
+        count = sum(1 for _, it in told if it.status != ample.status)
         name = f"{fault.kind} {fault.how}{' from there on' if fault.for_ever else ''}"
-        report.line(words, name, len(numbers), ample.calls, faults, wrong)
+        report.line(words, name, len(numbers), ample.calls, count, wrong)
 
 
 def closed_streams(runs, report, words):
@@ -235,7 +236,7 @@ def closed_streams(runs, report, words):
 
 def files_of(words):
     """The places of words that name files which are read."""
-    return [place for place, word in enumerate(words) if "." in word and os.path.exists(os.path.join(ROOT, word))]
+    return [place for place, word in enumerate(words) if os.path.isfile(os.path.join(ROOT, word))]
 
 
 def depth_of(text):
@@ -319,8 +320,26 @@ def words_given():
     words.add_argument("--most", type=int, default=400)
     words.add_argument("--jobs", type=int, default=os.cpu_count())
     words.add_argument("--all", action="store_true")
+    words.add_argument("--stored", action="store_true")
     words.add_argument("words", nargs="*")
     return words.parse_args()
+
+
+def stored_commands():
+    with open(f"{ROOT}/{DATA}/runs", encoding="utf-8") as file:
+        return [line.removeprefix("lincheck").strip() for line in file if line.strip()]
+
+
+def run_commands(given, program, library, folder, pool, report):
+    runs = Runs(program, library, f"{ROOT}/{DATA}" if given.stored else ROOT)
+    for words in [it.split() for it in (stored_commands() if given.stored else COMMANDS)]:
+        if given.words and (not words or words[0] not in given.words):
+            continue
+        each_fault(runs, pool, report, words, given.most, FAULTS if given.stored else [*FAULTS, INTERRUPTED_FOR_EVER])
+        closed_streams(runs, report, words)
+        if not given.stored:
+            half_files(runs, pool, report, words, given.most, folder)
+            endless_files(runs, report, words, folder)
 
 
 def main():
@@ -338,12 +357,7 @@ def main():
             for word in given.words or CALLS:
                 each_call(runs, pool, report, word, given.most)
         else:
-            runs = Runs(program, library, ROOT)
-            for words in [it.split() for it in COMMANDS if not given.words or it.split()[0] in given.words]:
-                each_fault(runs, pool, report, words, given.most)
-                closed_streams(runs, report, words)
-                half_files(runs, pool, report, words, given.most, folder)
-                endless_files(runs, report, words, folder)
+            run_commands(given, program, library, folder, pool, report)
     print(f"{report.wrong} answered otherwise")
     sys.exit(1 if report.wrong else 0)
 

@@ -13,7 +13,7 @@ use lc_base::{Fault, OutOfMemory};
 use lc_cert::certificate_text;
 use lc_check::{Accepted, Session, Verdict, check};
 use lc_find::{FindFault, find};
-use lc_hints::hints_of;
+use lc_hints::Hints;
 use lc_hist::{JudgeFault, history_from_json, history_to_json, judge};
 use lc_outline::Development;
 use lc_outline_text::development_of;
@@ -103,25 +103,27 @@ fn print_verdict<R: Print + AllocGlobal + Threads + Wait + Sync>(
     Ok(())
 }
 
-/// The text of a certificate that is found without hints.
-fn found_text(alloc: Global, development: &Development) -> Result<Vec<u8>, FindFault> {
-    let Ok(hints) = hints_of(alloc, development, b"(hints counter)") else {
-        return Err(FindFault::OutOfMemory);
-    };
-    let certificate = find(alloc, development, &hints, BUDGET)?;
+/// The text of a certificate that is found.
+fn found_text(
+    alloc: Global,
+    development: &Development,
+    hints: &Hints,
+) -> Result<Vec<u8>, FindFault> {
+    let certificate = find(alloc, development, hints, BUDGET)?;
     Ok(certificate_text(alloc, development, &certificate)?)
 }
 
-/// Prints how long the certificate is that is found.
+/// Prints how long the certificate is that is found without hints.
 fn print_found<R: Print + AllocGlobal>(rt: &R, texts: &Texts) -> anyhow::Result<()> {
     let alloc = rt.alloc();
     let development = development_of(alloc, &texts.development)?;
+    let hints = Hints::new(alloc);
     print!(rt; "find: ")?;
-    let text = match found_text(alloc, &development) {
-        Err(FindFault::OutOfMemory) => found_text(alloc, &development)?,
+    let text = match found_text(alloc, &development, &hints) {
+        Err(FindFault::OutOfMemory) => found_text(alloc, &development, &hints)?,
         told => told?,
     };
-    println!(rt; "a certificate of {} bytes is found", text.len())?;
+    println!(rt; "a certificate of {} bytes", text.len())?;
     Ok(())
 }
 
@@ -165,7 +167,7 @@ fn print_history<R: Print + AllocGlobal>(rt: &R, texts: &Texts) -> anyhow::Resul
         Err(Fault::OutOfMemory) => history_again(alloc, &spec, &texts.history)?,
         told => told?,
     };
-    println!(rt; "the history has {} bytes", text.len())?;
+    println!(rt; "a text of {} bytes", text.len())?;
     Ok(())
 }
 

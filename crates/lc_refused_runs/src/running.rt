@@ -104,7 +104,7 @@ fn print_finish_by<J: Ledger, R: Print + AllocGlobal + Wait>(
     let Ok(log) = finished(runner, seats) else {
         bail!("the run is not finished");
     };
-    println!(rt; "an order of {} calls", log.order.len())?;
+    println!(rt; "calls in the order: {}", log.order.len())?;
     Ok(())
 }
 
