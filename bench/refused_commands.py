@@ -12,7 +12,7 @@ them run. Each line printed is of a command, and of what it was refused:
                          interrupted, and all reads from one on; or each moves one byte
   streams                standard output is full, is closed, or has no reader
   half                   one of the files is cut
-  endless                one of the files is spaces without end
+  longest, endless       one of the files is spaces, as many as a file may have, or without an end
 
 Of calls (and of cuts) all are refused in turn, one a run; where they are more than N (default 400; 0: no bound) the first half of N, and
 then others at even distances. The answer is to be the one that nothing is refused for; or, where memory was refused, status 4 and `out of
@@ -76,6 +76,7 @@ CALLS = ["check", "pieces", "workers", "find", "judge", "history", "plan", "step
 
 FOR_EVER = 2**62
 LIMIT = 16777216
+SPACES = b" " * 65536
 
 Answer = collections.namedtuple("Answer", "status out err calls left")
 # A kind of call, how it is refused, and whether all calls behind it are refused too.
@@ -278,29 +279,36 @@ def half_files(runs, pool, report, words, most, folder):
         report.line(words, f"half of {os.path.basename(words[place])}", len(told), len(whole), sum(1 for _, it in told if it.status == 1), wrong)
 
 
-def feed_spaces(path):
-    """Writes spaces to a pipe until nobody reads any more."""
+def feed_spaces(path, count):
+    """Writes so many spaces to a pipe, or as many as are read."""
     with contextlib.suppress(OSError), open(path, "wb", buffering=0) as pipe:
-        while True:
-            pipe.write(b" " * 65536)
+        for _ in range(count // len(SPACES)):
+            pipe.write(SPACES)
+
+
+def of_spaces(runs, words, place, path, count):
+    """What is answered where the file at this place has so many spaces, and whether no more of it is read than is due."""
+    os.mkfifo(path)
+    feeder = threading.Thread(target=feed_spaces, args=(path, count), daemon=True)
+    feeder.start()
+    told = runs.answer([*words[:place], path, *words[place + 1 :]])
+    feeder.join(10)
+    os.remove(path)
+    return told, not feeder.is_alive()
 
 
 def endless_files(runs, report, words, folder):
-    """Each file without an end."""
+    """Each file of as many spaces as a file may have, and without an end."""
     if says_more(words):
-        return # its files are read twice
+        return  # its files are read twice
     for place in files_of(words):
         ending = os.path.splitext(words[place])[1]
-        path = os.path.join(folder, f"endless{ending}")
-        os.mkfifo(path)
-        feeder = threading.Thread(target=feed_spaces, args=(path,), daemon=True)
-        feeder.start()
-        told = runs.answer([*words[:place], path, *words[place + 1 :]])
-        feeder.join(10)
-        os.remove(path)
-        due = {".cert": f"refused 7 {LIMIT}\n", ".json": "refused 13 0\n"}.get(ending, f"refused 1 {LIMIT}\n").encode()
-        is_right = told[:2] == (1, due) and not told.left and not feeder.is_alive()
-        report.line(words, f"endless {os.path.basename(words[place])}", 1, 1, 1, [] if is_right else [(1, told)])
+        longest = {".cert": "refused 8 0\n", ".json": "refused 13 0\n"}.get(ending, "refused 2 0\n")
+        endless = {".cert": f"refused 7 {LIMIT}\n", ".json": "refused 13 0\n"}.get(ending, f"refused 1 {LIMIT}\n")
+        for name, count, due in (("longest", LIMIT, longest), ("endless", FOR_EVER, endless)):
+            told, is_closed = of_spaces(runs, words, place, os.path.join(folder, f"spaces{ending}"), count)
+            is_right = told[:2] == (1, due.encode()) and not told.left and is_closed
+            report.line(words, f"{name} {os.path.basename(words[place])}", 1, 1, 1, [] if is_right else [(1, told)])
 
 
 def each_call(runs, pool, report, word, most):
