@@ -33,6 +33,13 @@ all_in-next says (z ∷ xs) zero x ys y all at is =
 all_in-next says (z ∷ xs) (suc i) x ys y all at is =
     one_more (all_in says (take i xs)) (all_in says (take (suc i) xs)) (says z) ys y (λ zs e. all_in-next says xs i x zs y e at is) all
 
+-- one element more, at the end
+pub all_in-push : {A B : Type 0} (says : A → Option B) (xs : List A) (x : A) (ys : List B) (y : B) → all_in says xs ≡ Some ys → says x ≡ Some y → all_in says (xs ++ x ∷ []) ≡ Some (ys ++ y ∷ [])
+all_in-push says [] x ys y all is =
+    let none : [] ≡ ys = cc in
+    rw (is, ← none) refl
+all_in-push says (z ∷ xs) x ys y all is = one_more (all_in says xs) (all_in says (xs ++ x ∷ [])) (says z) ys y (λ zs e. all_in-push says xs x zs y e is) all
+
 nothing_behind : {B : Type 0} (n : Option B) → option_and_then (λ y. option_map (λ ys. y ∷ ys) None) n ≡ None
 nothing_behind None = refl
 nothing_behind (Some y) = refl

@@ -10,6 +10,10 @@ mod Replays
 pub mod Tables
 mod Turns
 mod JsonLists
+mod JsonNumerals
+mod JsonRows
+mod JsonTokens
+mod JsonWhole
 mod JsonEvents
 mod NamesApart
 mod JsonWriting

@@ -6,6 +6,7 @@ pub mod InCall
 pub mod JsonHistories
 pub mod JsonKept
 pub mod JsonSeen
+pub mod JsonTokens
 pub mod JsonValues
 pub mod JsonWritten
 pub mod Judged

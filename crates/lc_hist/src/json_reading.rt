@@ -1,9 +1,9 @@
 //! How the text of a history and its order is read: its bytes, and its two lists.
-ghost use Rattle.std.specs.Prelude.{◌≡◌, ◌+◌, ◌<◌, ◌^◌, length, map, option_map, MatchOption, IfOk, MatchResult};
+ghost use Rattle.std.specs.Prelude.{◌≡◌, ◌+◌, ◌<◌, ◌^◌, length, map, option_map, MatchOption, IfOk, IfSome, MatchResult};
 ghost use Rattle.serde_json.specs.View.{view};
 ghost use Rattle.lc_seq.specs.TextView.{specification_of};
 ghost use Rattle.lc_hist.specs.Histories.{events_in};
-ghost use Rattle.lc_hist.specs.JsonHistories.{parts_in, IsRefusedAt, IsHistoryOf, AreEvents, AreEntries, entries_seen};
+ghost use Rattle.lc_hist.specs.JsonHistories.{parts_in, IsRefusedAt, IsHistoryOf, SaysHistory, AreEvents, AreEntries, entries_seen};
 ghost use Rattle.lc_hist.specs.JsonSeen.{all_of, parts_seen, may_follow, number_of, HasValue, IsNoJson, IsWrongEventItem, IsWrongEntryItem};
 ghost use Rattle.lc_hist.specs.View.{event_of};
 
@@ -12,6 +12,7 @@ use crate::history::History;
 use crate::json_values::{read_entry, read_event};
 use crate::open_calls::{OpenCalls, opened};
 use crate::operations::Operations;
+use crate::token_rows::read_right;
 use lc_base::{FILE_LIMIT, Fault, OpId, OutOfMemory, Refusal};
 use lc_seq::{Pick, TextCall, TextSpec};
 use serde_json::Value;
@@ -59,7 +60,7 @@ fn parse(alloc: Global, bytes: &[u8]) -> Result<Option<Value>, OutOfMemory>
 
 /// Whether an event is in turn where its client is in a call of this operation, or in none, and is a return with as
 /// many numbers as the operation replies.
-fn may_follow(operations: &Operations<'_>, current: Option<OpId>, event: &Event) -> bool
+pub(crate) fn may_follow(operations: &Operations<'_>, current: Option<OpId>, event: &Event) -> bool
     ensures { result ≡ may_follow (all_of operations.now) (number_of current) (event_of event.now) }
 {
     match (current, event) {
@@ -118,6 +119,43 @@ fn read_order(
     Ok(order)
 }
 
+/// The history and the order that these bytes say, where all of it is right and stands in the usual order. `None` says nothing
+/// of the bytes.
+fn read_at_once(
+    alloc: Global,
+    operations: &Operations<'_>,
+    bytes: &[u8],
+) -> Result<Option<(History, Vec<Done<TextCall, Pick, Vec<i64>>>)>, OutOfMemory>
+    ensures { IfOk result (λ found. IfSome found (λ answer. SaysHistory (all_of operations.now) bytes.now (events_in answer.0) (entries_seen answer.1.items))) }
+{
+    if bytes.len() as u64 > FILE_LIMIT {
+        return Ok(None);
+    }
+    match simdutf8::basic::from_utf8(bytes) {
+        Ok(text) => read_right(alloc, operations, text),
+        Err(_) => Ok(None),
+    }
+}
+
+/// The history and the order that these bytes say, by all their values; else the first item that is wrong.
+fn read_values(
+    alloc: Global,
+    operations: &Operations<'_>,
+    bytes: &[u8],
+) -> Result<(History, Vec<Done<TextCall, Pick, Vec<i64>>>), Fault>
+    ensures { IsHistoryOf (all_of operations.now) bytes.now result }
+{
+    let Some(value) = parse(alloc, bytes)? else {
+        return Err(wrong(0));
+    };
+    let Some(parts) = parts_of(&value) else {
+        return Err(wrong(0));
+    };
+    let history = read_events(alloc, operations, parts.events)?;
+    let order = read_order(alloc, operations, parts.order, 1 + parts.events.len())?;
+    Ok((history, order))
+}
+
 /// The history and the order that a JSON text says, of calls of a specification:
 /// `{"events":[E,..],"order":[D,..]}` without another key, where each E is `[CLIENT,"call",NAME,[NUMBER,..]]` or
 /// `[CLIENT,"return",[NUMBER,..]]`, and each D is `[CLIENT,NAME,[NUMBER,..],[NUMBER,..]]`, with a fifth item
@@ -133,14 +171,9 @@ pub fn history_from_json(
 ) -> Result<(History, Vec<Done<TextCall, Pick, Vec<i64>>>), Fault>
     ensures { IsHistoryOf (specification_of spec.now).operations bytes.now result }
 {
-    let Some(value) = parse(alloc, bytes)? else {
-        return Err(wrong(0));
-    };
-    let Some(parts) = parts_of(&value) else {
-        return Err(wrong(0));
-    };
     let operations = Operations::new(alloc, spec.operations())?;
-    let history = read_events(alloc, &operations, parts.events)?;
-    let order = read_order(alloc, &operations, parts.order, 1 + parts.events.len())?;
-    Ok((history, order))
+    if let Some(answer) = read_at_once(alloc, &operations, bytes)? {
+        return Ok(answer);
+    }
+    read_values(alloc, &operations, bytes)
 }

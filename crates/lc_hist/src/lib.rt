@@ -12,6 +12,8 @@ mod open_calls;
 mod operations;
 mod reason;
 mod spans;
+mod token_rows;
+mod tokens;
 
 pub use event::{Done, Event};
 pub use history::{History, HistoryFault};

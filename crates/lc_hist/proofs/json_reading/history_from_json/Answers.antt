@@ -1,46 +1,15 @@
-use Rattle.std.proofs.Common.{◌≡◌, ◌+◌, MatchOption, ap, sym, subst, ◌∙◌, length}
-use Rattle.std.proofs.lemmas.List.{length-map}
-use Rattle.std.proofs.lemmas.Result.{err_from_is_err_and}
-use Rattle.serde_json.specs.View.{view}
+use Rattle.std.proofs.Common.{subst, ◌∙◌}
 use Rattle.lc_hist.specs.Histories.{events_in}
-use Rattle.lc_hist.specs.JsonHistories.{HasParts, IsWrongItem, SaysHistory, entries_seen}
-use Rattle.lc_hist.specs.JsonSeen.{all_of, parts_seen, HasValue, IsNoJson, IsWrongEventItem, IsWrongEntryItem}
-use Rattle.lc_hist.proofs.JsonAnswers.{refused_weaker, has_parts, wrong_in_events, wrong_in_order, says_history}
+use Rattle.lc_hist.specs.JsonHistories.{IsHistoryOf, SaysHistory, entries_seen}
 use Rattle.lc_hist.proofs.json_reading.history_from_json.Goals as goal
 
-pub returns-in_err-history : goal.returns-in_err-history
-returns-in_err-history c =
-    let bytes = c.args.bytes.now in
-    let parts = parts_seen c.in-Some-parts_of.parts in
-    let value : HasValue bytes (view c.in-Some.value) = subst (λ found. MatchOption found (IsNoJson bytes) (λ v. HasValue bytes (view v))) c.in-Some.is c.in_ok-value.ensures in
-    let has : HasParts bytes parts = has_parts bytes (view c.in-Some.value) parts value c.in-Some-parts_of.ensures in
+pub returns-in-Some : goal.returns-in-Some
+returns-in-Some c =
     let same = c.in_ok-operations.ensures ∙ c.operations.ensures in
-    let p = err_from_is_err_and c.from_residual-in_err-history.result c.from_residual-in_err-history.ensures.1 in
-    rw (p.1, p.2) (refused_weaker (IsWrongEventItem (all_of c.in_ok-operations.operations) parts.events) _ c.in_err-history.field-0.0
-    (λ item wrong. subst (λ operations. IsWrongItem operations bytes item) same (wrong_in_events (all_of c.in_ok-operations.operations) bytes parts has item wrong))
-    c.in_err-history.ensures)
-
-pub returns-in_err-order : goal.returns-in_err-order
-returns-in_err-order c =
-    let bytes = c.args.bytes.now in
-    let parts = parts_seen c.in-Some-parts_of.parts in
-    let before = 1 + length c.in-Some-parts_of.parts.events.now in
-    let value : HasValue bytes (view c.in-Some.value) = subst (λ found. MatchOption found (IsNoJson bytes) (λ v. HasValue bytes (view v))) c.in-Some.is c.in_ok-value.ensures in
-    let has : HasParts bytes parts = has_parts bytes (view c.in-Some.value) parts value c.in-Some-parts_of.ensures in
-    let same = c.in_ok-operations.ensures ∙ c.operations.ensures in
-    let count : before ≡ 1 + length parts.events = ap (λ n. 1 + n) (sym (length-map c.in-Some-parts_of.parts.events.now view)) in
-    let p = err_from_is_err_and c.from_residual-in_err-order.result c.from_residual-in_err-order.ensures.1 in
-    rw (p.1, p.2) (refused_weaker (IsWrongEntryItem (all_of c.in_ok-operations.operations) parts.order before) _ c.in_err-order.field-0.0
-    (λ item wrong. subst (λ operations. IsWrongItem operations bytes item) same
-    (wrong_in_order (all_of c.in_ok-operations.operations) bytes parts (events_in c.in_ok-history.history) before has c.in_ok-history.ensures count item wrong))
-    c.in_err-order.ensures)
+    let said = rw c.in-Some.is at c.in_ok-read_at_once.ensures in
+    subst (λ operations. SaysHistory operations c.args.bytes.now (events_in c.in-Some.answer.0) (entries_seen c.in-Some.answer.1.items)) same said
 
 pub returns : goal.returns
 returns c =
-    let bytes = c.args.bytes.now in
-    let parts = parts_seen c.in-Some-parts_of.parts in
-    let value : HasValue bytes (view c.in-Some.value) = subst (λ found. MatchOption found (IsNoJson bytes) (λ v. HasValue bytes (view v))) c.in-Some.is c.in_ok-value.ensures in
-    let has : HasParts bytes parts = has_parts bytes (view c.in-Some.value) parts value c.in-Some-parts_of.ensures in
     let same = c.in_ok-operations.ensures ∙ c.operations.ensures in
-    subst (λ operations. SaysHistory operations bytes (events_in c.in_ok-history.history) (entries_seen c.in_ok-order.order.items)) same
-    (says_history (all_of c.in_ok-operations.operations) bytes parts (events_in c.in_ok-history.history) (entries_seen c.in_ok-order.order.items) has c.in_ok-history.ensures c.in_ok-order.ensures)
+    subst (λ operations. IsHistoryOf operations c.args.bytes.now c.read_values.result) same c.read_values.ensures

@@ -1,0 +1,19 @@
+use Rattle.std.proofs.Common.{◌≡◌, ◌∷◌, sym, ◌∙◌, arith}
+use Rattle.json.specs.Lex.{tokens}
+use Rattle.json.specs.Token.{Token}
+use Rattle.lc_hist.specs.Histories.{events_in}
+use Rattle.lc_hist.specs.JsonHistories.{entries_seen}
+use Rattle.lc_hist.specs.JsonSeen.{all_of}
+use Rattle.lc_hist.specs.JsonTokens.{AreMembers, AreSaid}
+use Rattle.lc_hist.proofs.JsonWhole.{text_read, each_found}
+use Rattle.lc_hist.proofs.token_rows.read_right.Goals as goal
+
+pub returns : goal.returns
+returns c =
+    let operations = all_of c.args.operations.now in
+    let text = c.args.text.now in
+    let inner = c.begins_object.new.reader in
+    let first : c.in_ok-reader.reader ≡ Token.begin_object ∷ inner = grind arith in
+    let opens : tokens text ≡ Token.begin_object ∷ inner = sym c.in_ok-reader.ensures.ok ∙ first in
+    each_found (λ answer. AreMembers operations inner (events_in answer.0) (entries_seen answer.1.items)) (λ answer. AreSaid operations text (events_in answer.0) (entries_seen answer.1.items))
+    (λ answer members. text_read operations text inner (events_in answer.0) (entries_seen answer.1.items) opens members) c.next_parts.result c.next_parts.ensures

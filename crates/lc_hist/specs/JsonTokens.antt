@@ -1,0 +1,61 @@
+-- What values say that are read from the tokens of a JSON text.
+use Rattle.std.specs.Prelude.{◌≡◌, ◌≤◌, ℕ, List, [], ◌∷◌, Option, Some, None, option_and_then, codes}
+use Rattle.json.specs.Token.{Token}
+use Rattle.json.specs.Json.{value, after_end_array, read_key}
+use Rattle.serde_json.specs.Data.{Data, array}
+use Rattle.serde_json.specs.Read.{of_json, converted, read}
+use Rattle.serde_json.specs.View.{items_of}
+use Rattle.lc_seq.specs.Sequential.{Call, Choice}
+use Rattle.lc_seq.specs.Specification.{Operation}
+use Rattle.lc_hist.specs.History.{Event, Entry}
+use Rattle.lc_hist.specs.JsonHistories.{Parts, parts_in, AreEvents, AreEntries}
+use Rattle.lc_hist.specs.JsonValues.{client_in, call_in, event_from, pick_in}
+
+-- the tokens begin with this value, in which at most so many lists nest, and these stand behind it
+pub record Begins (levels : ℕ) (tokens : List Token) (d : Data) (rest : List Token) : Type 0 where
+  pub reads : (depth : ℕ) → levels ≤ depth → converted of_json (value depth tokens) ≡ Some (d, rest)
+
+-- they begin with these values
+abbrev pub BeginAll : ℕ → List Token → List Data → List Token → Type 0
+BeginAll levels tokens [] rest = tokens ≡ rest
+BeginAll levels tokens (d ∷ ds) rest = (between : List Token) × Begins levels tokens d between × BeginAll levels between ds rest
+
+-- they begin with a value that says this
+abbrev pub Says : {A : Type 0} → ℕ → (Data → Option A) → List Token → A → List Token → Type 0
+Says levels says tokens x rest = (d : Data) × (says d ≡ Some x) × Begins levels tokens d rest
+
+-- they begin with a name and numbers that say a call
+abbrev pub SayCall : List Operation → List Token → Call → List Token → Type 0
+SayCall operations tokens call rest = (name : Data) × (numbers : Data) × (call_in operations name numbers ≡ Some call) × BeginAll 1 tokens (name ∷ numbers ∷ []) rest
+
+-- they begin with what is said of an event behind its client
+abbrev pub SayDeed : List Operation → ℕ → List Token → Event → List Token → Type 0
+SayDeed operations client tokens event rest = (ds : List Data) × ((d : Data) → client_in d ≡ Some client → event_from operations (d ∷ ds) ≡ Some event) × BeginAll 1 tokens ds rest
+
+-- the value that is said, if one is
+abbrev pub said_alone : Option Data → List Data
+said_alone None = []
+said_alone (Some d) = d ∷ []
+
+-- they begin with the choice of a call of this operation, if one is said, and with the end of its entry
+abbrev pub SayPick : List Operation → ℕ → List Token → Choice → List Token → Type 0
+SayPick operations op tokens choice rest =
+    (said : Option Data) × (between : List Token) × (pick_in operations op said ≡ Some choice) × BeginAll 2 tokens (said_alone said) between × (after_end_array between ≡ Some rest)
+
+-- they begin with an array of these events
+abbrev pub SayEvents : List Operation → List Token → List Event → List Token → Type 0
+SayEvents operations tokens events rest = (ds : List Data) × AreEvents operations ds events × Begins 4 tokens (array (items_of ds)) rest
+
+-- they begin with an array of these entries
+abbrev pub SayEntries : List Operation → List Token → List Entry → List Token → Type 0
+SayEntries operations tokens entries rest = (ds : List Data) × AreEntries operations ds entries × Begins 4 tokens (array (items_of ds)) rest
+
+-- they are the members `events` and `order` of an object, with these events and these entries, and the end of the text
+abbrev pub AreMembers : List Operation → List Token → List Event → List Entry → Type 0
+AreMembers operations tokens events entries =
+    (first : List Token) × (second : List Token) × (third : List Token) × (read_key tokens ≡ Some (Some (codes "events"), first)) × SayEvents operations first events second
+    × (read_key second ≡ Some (Some (codes "order"), third)) × SayEntries operations third entries (Token.end_object ∷ [])
+
+-- a text is JSON of an object with arrays of these events and these entries
+abbrev pub AreSaid : List Operation → List ℕ → List Event → List Entry → Type 0
+AreSaid operations text events entries = (parts : Parts) × (option_and_then parts_in (read text) ≡ Some parts) × AreEvents operations parts.events events × AreEntries operations parts.order entries

@@ -1,0 +1,268 @@
+//! How a history that is right is read from the tokens of its text, a row at a time.
+ghost use Rattle.std.specs.Prelude.{◌≡◌, [], ◌∷◌, Some, IsTrue, IfOk, IfSome};
+ghost use Rattle.json.specs.Json.{read_key};
+ghost use Rattle.json.specs.Token.{begin_object, end_object};
+ghost use Rattle.lc_seq.specs.SpecView.{choice_of};
+ghost use Rattle.lc_hist.specs.Histories.{events_in};
+ghost use Rattle.lc_hist.specs.JsonHistories.{entry_seen, entries_seen};
+ghost use Rattle.lc_hist.specs.JsonSeen.{all_of};
+ghost use Rattle.lc_hist.specs.JsonTokens.{Says, SayDeed, SayPick, SayEvents, SayEntries, AreMembers, AreSaid};
+ghost use Rattle.lc_hist.specs.JsonValues.{event_in, entry_in, pick_in};
+ghost use Rattle.lc_hist.specs.View.{event_of};
+
+use crate::event::{Done, Event};
+use crate::history::History;
+use crate::json_reading::may_follow;
+use crate::open_calls::{OpenCalls, opened};
+use crate::operations::Operations;
+use crate::tokens::{begins_array, next_call, next_client, next_numbers, next_text};
+use json::{Reader, Scratch, Token};
+use lc_base::{OpId, OutOfMemory};
+use lc_seq::{Pick, TextCall};
+use std::alloc::Global;
+
+/// What is said of a client's event behind the client.
+fn next_deed(
+    alloc: Global,
+    operations: &Operations<'_>,
+    client: u32,
+    reader: &mut Reader<'_>,
+) -> Result<Option<Event>, OutOfMemory>
+    ensures { IfOk result (λ found. IfSome found (λ event. SayDeed (all_of operations.now) client reader.old (event_of event) reader.new)) }
+{
+    match next_text(reader) {
+        Some(word) if word == "call" => match next_call(alloc, operations, reader)? {
+            Some(call) => Ok(Some(Event::Invoke {
+                client,
+                op: call.op,
+                numbers: call.numbers,
+            })),
+            None => Ok(None),
+        },
+        Some(word) if word == "return" => match next_numbers(alloc, reader)? {
+            Some(numbers) => Ok(Some(Event::Respond { client, numbers })),
+            None => Ok(None),
+        },
+        _ => Ok(None),
+    }
+}
+
+/// The next event.
+fn next_event(
+    alloc: Global,
+    operations: &Operations<'_>,
+    reader: &mut Reader<'_>,
+) -> Result<Option<Event>, OutOfMemory>
+    ensures { IfOk result (λ found. IfSome found (λ event. Says 3 (event_in (all_of operations.now)) reader.old (event_of event) reader.new)) }
+{
+    if !begins_array(reader) {
+        return Ok(None);
+    }
+    let Some(client) = next_client(reader) else {
+        return Ok(None);
+    };
+    let Some(event) = next_deed(alloc, operations, client, reader)? else {
+        return Ok(None);
+    };
+    if !reader.take_end_array() {
+        return Ok(None);
+    }
+    Ok(Some(event))
+}
+
+/// The choice that an array names.
+fn next_named_pick(
+    alloc: Global,
+    operations: &Operations<'_>,
+    op: OpId,
+    reader: &mut Reader<'_>,
+) -> Result<Option<Pick>, OutOfMemory>
+    ensures { IfOk result (λ found. IfSome found (λ pick. Says 2 (λ d. pick_in (all_of operations.now) op.0 (Some d)) reader.old (choice_of pick) reader.new)) }
+{
+    if !begins_array(reader) {
+        return Ok(None);
+    }
+    let Some(text) = next_text(reader) else {
+        return Ok(None);
+    };
+    let Some(numbers) = next_numbers(alloc, reader)? else {
+        return Ok(None);
+    };
+    let Some(name) = operations.choice(op, text, numbers.len()) else {
+        return Ok(None);
+    };
+    if !reader.take_end_array() {
+        return Ok(None);
+    }
+    Ok(Some(Pick::Named { name, numbers }))
+}
+
+/// The choice of a call, if one is said, and the end of its entry.
+fn next_pick(
+    alloc: Global,
+    operations: &Operations<'_>,
+    op: OpId,
+    reader: &mut Reader<'_>,
+) -> Result<Option<Pick>, OutOfMemory>
+    ensures { IfOk result (λ found. IfSome found (λ pick. SayPick (all_of operations.now) op.0 reader.old (choice_of pick) reader.new)) }
+{
+    if reader.take_end_array() {
+        return Ok(operations.is_ordered(op).then_some(Pick::First));
+    }
+    let Some(pick) = next_named_pick(alloc, operations, op, reader)? else {
+        return Ok(None);
+    };
+    if !reader.take_end_array() {
+        return Ok(None);
+    }
+    Ok(Some(pick))
+}
+
+/// The next entry.
+fn next_entry(
+    alloc: Global,
+    operations: &Operations<'_>,
+    reader: &mut Reader<'_>,
+) -> Result<Option<Done<TextCall, Pick, Vec<i64>>>, OutOfMemory>
+    ensures { IfOk result (λ found. IfSome found (λ entry. Says 3 (entry_in (all_of operations.now)) reader.old (entry_seen entry) reader.new)) }
+{
+    if !begins_array(reader) {
+        return Ok(None);
+    }
+    let Some(client) = next_client(reader) else {
+        return Ok(None);
+    };
+    let Some(call) = next_call(alloc, operations, reader)? else {
+        return Ok(None);
+    };
+    let Some(reply) = next_numbers(alloc, reader)? else {
+        return Ok(None);
+    };
+    if !operations.has_replies(call.op, reply.len()) {
+        return Ok(None);
+    }
+    let Some(choice) = next_pick(alloc, operations, call.op, reader)? else {
+        return Ok(None);
+    };
+    Ok(Some(Done {
+        client,
+        call,
+        choice,
+        reply,
+    }))
+}
+
+/// The history of the next events, if they are right.
+fn next_history(
+    alloc: Global,
+    operations: &Operations<'_>,
+    reader: &mut Reader<'_>,
+) -> Result<Option<History>, OutOfMemory>
+    ensures { IfOk result (λ found. IfSome found (λ history. SayEvents (all_of operations.now) reader.old (events_in history) reader.new)) }
+{
+    if !begins_array(reader) {
+        return Ok(None);
+    }
+    let mut events = Vec::new(alloc);
+    let mut calls = OpenCalls::new(alloc);
+    'events: while !reader.take_end_array() {
+        let Some(event) = next_event(alloc, operations, reader)? else {
+            return Ok(None);
+        };
+        let client = event.client();
+        if !may_follow(operations, calls.of(client), &event) {
+            return Ok(None);
+        }
+        calls.set(client, opened(&event))?;
+        events.push(event)?;
+    }
+    Ok(Some(History::of_well_formed(events)))
+}
+
+/// The next entries, if they are right.
+fn next_order(
+    alloc: Global,
+    operations: &Operations<'_>,
+    reader: &mut Reader<'_>,
+) -> Result<Option<Vec<Done<TextCall, Pick, Vec<i64>>>>, OutOfMemory>
+    ensures { IfOk result (λ found. IfSome found (λ order. SayEntries (all_of operations.now) reader.old (entries_seen order.items) reader.new)) }
+{
+    if !begins_array(reader) {
+        return Ok(None);
+    }
+    let mut order = Vec::new(alloc);
+    'entries: while !reader.take_end_array() {
+        let Some(done) = next_entry(alloc, operations, reader)? else {
+            return Ok(None);
+        };
+        order.push(done)?;
+    }
+    Ok(Some(order))
+}
+
+/// Whether this is the next key; if so, it is taken.
+fn takes_key(reader: &mut Reader<'_>, key: &str) -> bool
+    ensures { IsTrue result → read_key reader.old ≡ Some (Some key.now, reader.new) }
+{
+    match reader.next_key() {
+        Ok(Some(found)) => found == key,
+        _ => false,
+    }
+}
+
+/// Whether an object begins next; if so, its brace is taken.
+fn begins_object(reader: &mut Reader<'_>) -> bool
+    ensures { IsTrue result → reader.old ≡ begin_object ∷ reader.new }
+{
+    matches!(reader.next(), Some(Token::BeginObject))
+}
+
+/// Whether the text ends here with the end of an object.
+fn is_over(reader: &mut Reader<'_>) -> bool
+    ensures { IsTrue result → reader.old ≡ end_object ∷ [] }
+{
+    matches!(reader.next(), Some(Token::EndObject)) && reader.next().is_none()
+}
+
+/// The history under the key `events` and the order under the key `order`, which is all that is left of the text.
+fn next_parts(
+    alloc: Global,
+    operations: &Operations<'_>,
+    reader: &mut Reader<'_>,
+) -> Result<Option<(History, Vec<Done<TextCall, Pick, Vec<i64>>>)>, OutOfMemory>
+    ensures { IfOk result (λ found. IfSome found (λ answer. AreMembers (all_of operations.now) reader.old (events_in answer.0) (entries_seen answer.1.items))) }
+{
+    if !takes_key(reader, "events") {
+        return Ok(None);
+    }
+    let Some(history) = next_history(alloc, operations, reader)? else {
+        return Ok(None);
+    };
+    if !takes_key(reader, "order") {
+        return Ok(None);
+    }
+    let Some(order) = next_order(alloc, operations, reader)? else {
+        return Ok(None);
+    };
+    if !is_over(reader) {
+        return Ok(None);
+    }
+    Ok(Some((history, order)))
+}
+
+/// The history and the order that a text says, where it lists first the events and then the order, and all of them are
+/// right. `None` says nothing of the text.
+pub(crate) fn read_right(
+    alloc: Global,
+    operations: &Operations<'_>,
+    text: &str,
+) -> Result<Option<(History, Vec<Done<TextCall, Pick, Vec<i64>>>)>, OutOfMemory>
+    ensures { IfOk result (λ found. IfSome found (λ answer. AreSaid (all_of operations.now) text.now (events_in answer.0) (entries_seen answer.1.items))) }
+{
+    let mut scratch = Scratch::new(alloc);
+    let mut reader = Reader::new(text, &mut scratch)?;
+    if !begins_object(&mut reader) {
+        return Ok(None);
+    }
+    next_parts(alloc, operations, &mut reader)
+}
