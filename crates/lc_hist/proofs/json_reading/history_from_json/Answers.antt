@@ -6,7 +6,7 @@ use Rattle.lc_hist.proofs.json_reading.history_from_json.Goals as goal
 pub returns-in-Some : goal.returns-in-Some
 returns-in-Some c =
     let same = c.in_ok-operations.ensures ∙ c.operations.ensures in
-    let said = rw c.in-Some.is at c.in_ok-read_at_once.ensures in
+    let said = rw c.in-Some.is at c.in_ok-answer.ensures in
     subst (λ operations. SaysHistory operations c.args.bytes.now (events_in c.in-Some.answer.0) (entries_seen c.in-Some.answer.1.items)) same said
 
 pub returns : goal.returns
