@@ -1,13 +1,12 @@
 -- Faults that are passed on.
 use Rattle.std.proofs.Common.{◌≡◌, sym, ◌∙◌}
-use Rattle.std.specs.Prelude.{ℤ, FitsSigned, Box, Result, Ok, Err, IsErrAnd}
-use Rattle.std.specs.declared.alloc.Global.{Global}
+use Rattle.std.specs.Prelude.{ℤ, FitsSigned, Result, Ok, Err, IsErrAnd}
 use Rattle.std.specs.Int.{w128}
 use Rattle.lc_linear.specs.Arithmetic.{GivesNumber}
 use Rattle.lc_linear.specs.Numbered.{Place, Form}
 use Rattle.lc_linear.specs.declared.fault.LinFault.{LinFault}
 use Rattle.lc_linear.specs.declared.fault.LinFault.TheVariants.{Large, OutOfMemory}
-use Rattle.lc_linear.specs.LinForm.{Gives, GivesForm, unboxed}
+use Rattle.lc_linear.specs.LinForm.{Gives, GivesForm}
 use Rattle.lc_linear.specs.declared.form.LinForm.{LinForm}
 
 -- arithmetic that answers Large has no number that fits
@@ -24,11 +23,6 @@ pub passed_on : (P : Type 0) (Q : LinForm → Type 0) (r : Result LinForm LinFau
 passed_on P Q (Ok form) met h large = elim h [ ]
 passed_on P Q (Err Large) met h large = large (sym h)
 passed_on P Q (Err OutOfMemory) met h large = tt
-
--- a fault in place of a box
-pub unboxed_fault : (r : Result (Box LinForm Global) LinFault) (met : LinFault) → IsErrAnd r (λ e. e ≡ met) → IsErrAnd (unboxed r) (λ e. e ≡ met)
-unboxed_fault (Ok b) met h = h
-unboxed_fault (Err e) met h = h
 
 -- the same answer, said of another fact and of numbers that are the same
 pub GivesForm-map : (P Q : Type 0) (f g : Form) (r : Result LinForm LinFault) → (P → Q) → (Q → P) → ((p : Place) → f p ≡ g p) → GivesForm r P f → GivesForm r Q g

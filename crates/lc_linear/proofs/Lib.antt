@@ -17,5 +17,6 @@ pub mod Refutes
 mod Sameness
 pub mod InTables
 mod Made
+mod PartForms
 mod Owing
 mod Loads

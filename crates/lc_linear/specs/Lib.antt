@@ -1,6 +1,7 @@
 pub mod Form
 pub mod Listed
 pub mod Numbered
+pub mod PartForms
 pub mod Owed
 pub mod LinForm
 pub mod Arithmetic

@@ -1,7 +1,6 @@
 -- What clauses see of a form that is kept: the number at each place, and the form that it is of trees.
-use Rattle.std.specs.Prelude.{◌≡◌, ℕ, Some, None, pos, ◌+ℤ◌, Box, Result, Ok, Err, List, slice_get}
+use Rattle.std.specs.Prelude.{◌≡◌, ℕ, Some, None, pos, ◌+ℤ◌, Result, Ok, Err, List, slice_get}
 use Rattle.std.specs.Map.{keys_of}
-use Rattle.std.specs.declared.alloc.Global.{Global}
 use Rattle.lc_table.specs.NodeTables.{Table}
 use Rattle.lc_term.specs.Syntax.{Term}
 use Rattle.lc_table.specs.Tables.{term_in, IsTerm}
@@ -47,11 +46,6 @@ IsFormIn ts form f = Reads ts (numbers form) f
 -- from the one to the other the form g of trees is added
 abbrev pub AddsIn : Table → LinForm → LinForm → T.Form → Type 0
 AddsIn ts old new g = (f : T.Form) → IsFormIn ts old f → IsFormIn ts new (λ p. f p +ℤ g p)
-
--- the form in its box
-abbrev pub unboxed : Result (Box LinForm Global) LinFault → Result LinForm LinFault
-unboxed (Ok b) = Ok b.value
-unboxed (Err fault) = Err fault
 
 -- a form with Q where P holds, and Large where it does not; for want of memory neither
 abbrev pub Gives : Result LinForm LinFault → Type 0 → (LinForm → Type 0) → Type 0

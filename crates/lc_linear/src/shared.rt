@@ -74,7 +74,11 @@ fn note(
 }
 
 // The terms in the list and those that stand in their sums, differences and products, by their numbers.
-fn summands_of(terms: &Terms, alloc: Global, roots: Vec<TermId>) -> Result<Vec<TermId>, OutOfMemory>
+pub(crate) fn summands_of(
+    terms: &Terms,
+    alloc: Global,
+    roots: Vec<TermId>,
+) -> Result<Vec<TermId>, OutOfMemory>
     requires { All (IsTerm terms.now) roots.items }
     ensures { IfOk result (λ nodes. All (IsTerm terms.now) nodes.items) }
 {

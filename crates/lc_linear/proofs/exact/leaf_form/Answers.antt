@@ -5,8 +5,8 @@ use Rattle.lc_table.specs.Nodes.{term_of_node}
 use Rattle.lc_term.specs.Syntax as S
 use Rattle.lc_table.specs.Tables.{parts, term_in, column_in}
 use Rattle.lc_linear.specs.Form.{form_of, HasForm}
-use Rattle.lc_linear.specs.LinForm.{numbers, unboxed, IsFormIn}
-use Rattle.lc_linear.proofs.Faults.{passed_on, unboxed_fault}
+use Rattle.lc_linear.specs.LinForm.{numbers}
+use Rattle.lc_linear.proofs.Faults.{passed_on}
 use Rattle.lc_linear.proofs.Made.{number_given, atom_given}
 use Rattle.lc_linear.proofs.Numbers.{widened}
 use Rattle.lc_linear.proofs.Parts.{IsAtom, IsAtom-Variable, IsAtom-Bound, IsAtom-Read}
@@ -15,14 +15,14 @@ use Rattle.lc_linear.proofs.exact.leaf_form.Goals as goal
 use Rattle.lc_linear.proofs.exact.leaf_form.Goals.{In-Variable}
 
 pub returns-in_err-add_number-in-Number : goal.returns-in_err-add_number-in-Number
-returns-in_err-add_number-in-Number c = passed_on _ _ (unboxed c.from_residual.result) _ (unboxed_fault _ _ c.from_residual.ensures.1) (λ met fits.
+returns-in_err-add_number-in-Number c = passed_on _ _ c.from_residual.result _ c.from_residual.ensures.1 (λ met fits.
     let f : FitsSigned w64 c.in-Number.number = search rules in
     let zero : c.zero-form.result.constant ≡ pos 0 = c.zero-form.ensures None in
     let number = widened c.in-Number.number c.from.result f c.from.ensures in
     c.in_err-add_number-in-Number.ensures.large (ap Err met) (omega (arith, ints)))
 
-pub returns-in_ok-new-in-Number : goal.returns-in_ok-new-in-Number
-returns-in_ok-new-in-Number c =
+pub returns-in_ok-add_number-in-Number : goal.returns-in_ok-add_number-in-Number
+returns-in_ok-add_number-in-Number c =
     let ts = c.args.terms.now in
     let t = term_in ts c.args.leaf in
     let f : FitsSigned w64 c.in-Number.number = search rules in
@@ -30,8 +30,7 @@ returns-in_ok-new-in-Number c =
     let light : unsigned_abs c.in-Number.number < 2 ^ 127 = omega (arith, ints) in
     let is = c.in-Number.ensures.tree in (
       subst HasForm (sym is) (HasForm-weight (S.Number c.in-Number.number) light),
-      subst (λ form. IsFormIn ts form (form_of t)) (sym c.in_ok-new-in-Number.ensures.ok)
-          (number_given ts c.in-Number.number _ t c.add_number.new.self (numbers c.zero-form.result) is number c.zero-form.ensures c.in_ok-add_number-in-Number.ensures.ok),
+      (number_given ts c.in-Number.number _ t c.add_number.new.self (numbers c.zero-form.result) is number c.zero-form.ensures c.in_ok-add_number-in-Number.ensures.ok),
     )
 
 -- the leaf is an atom
@@ -44,15 +43,14 @@ atom c = elim c.in-Variable.is [
 ]
 
 pub returns-in_err-add_atom-in-Variable : goal.returns-in_err-add_atom-in-Variable
-returns-in_err-add_atom-in-Variable c = passed_on _ _ (unboxed c.from_residual-in_err-add_atom-in-Variable.result) _ (unboxed_fault _ _ c.from_residual-in_err-add_atom-in-Variable.ensures.1) (λ met fits.
+returns-in_err-add_atom-in-Variable c = passed_on _ _ c.from_residual-in_err-add_atom-in-Variable.result _ c.from_residual-in_err-add_atom-in-Variable.ensures.1 (λ met fits.
     let zero = c.zero-form.ensures (Some c.args.leaf) in
     c.in_err-add_atom-in-Variable.ensures.large (ap Err met) (omega (arith, ints)))
 
-pub returns-in_ok-new-in-Variable : goal.returns-in_ok-new-in-Variable
-returns-in_ok-new-in-Variable c =
+pub returns-in_ok-add_atom-in-Variable : goal.returns-in_ok-add_atom-in-Variable
+returns-in_ok-add_atom-in-Variable c =
     let ts = c.args.terms.now in
-    let at = atom (goal.at.returns-in_ok-new-in-Variable c).In-Variable in (
+    let at = atom (goal.at.returns-in_ok-add_atom-in-Variable c).In-Variable in (
       at.fits,
-      subst (λ form. IsFormIn ts form (form_of (term_in ts c.args.leaf))) (sym c.in_ok-new-in-Variable.ensures.ok)
-          (atom_given ts c.numbers_are_exact.ensures.terms c.args.leaf c.requires.term at c.add_atom.new.self (numbers c.zero-form.result) c.zero-form.ensures c.in_ok-add_atom-in-Variable.ensures.ok),
+      (atom_given ts c.numbers_are_exact.ensures.terms c.args.leaf c.requires.term at c.add_atom.new.self (numbers c.zero-form.result) c.zero-form.ensures c.in_ok-add_atom-in-Variable.ensures.ok),
     )
