@@ -1,4 +1,6 @@
 //! Where the entries of a certificate begin and end, and which items they are, found without reading them.
+ghost use Rattle.std.specs.Prelude.{◌≤◌};
+
 use lc_base::{DEPTH_LIMIT, OutOfMemory};
 use std::alloc::Global;
 
@@ -10,117 +12,119 @@ pub(crate) struct Cuts {
     pub items: Vec<u64>,
 }
 
-/// Goes over the text, byte by byte.
-#[derive(Clone, Copy)]
-struct Scan {
-    depth: usize,
-    in_comment: bool,
-    in_word: bool,
-    items: u64,
-}
-
-/// What the byte is for the cuts.
+/// What a byte outside of comments is for the cuts.
 #[derive(Clone, Copy)]
 enum Seen {
-    Nothing,
-    Opens,
-    Closes,
-    Misplaced,
+    White,
+    /// Whatever may stand in a word, or stands nowhere.
+    Letter,
+    Open,
+    Close,
+    Semicolon,
 }
 
-impl Scan {
-    fn new() -> Scan {
-        Scan {
-            depth: 0,
-            in_comment: false,
-            in_word: false,
-            items: 0,
-        }
-    }
+const W: Seen = Seen::White;
 
-    /// The number of the next item, once one has begun.
-    fn count(&mut self) {
-        self.items = u64::saturating_add(self.items, 1);
-    }
+const L: Seen = Seen::Letter;
 
-    fn open(&mut self) -> Seen {
-        if self.depth >= DEPTH_LIMIT {
-            return Seen::Misplaced;
-        }
-        self.depth += 1;
-        self.in_word = false;
-        if self.depth == 2 {
-            Seen::Opens
-        } else {
-            self.count();
-            Seen::Nothing
-        }
-    }
+const O: Seen = Seen::Open;
 
-    fn close(&mut self) -> Seen {
-        if self.depth == 0 {
-            return Seen::Misplaced;
-        }
-        self.depth -= 1;
-        self.in_word = false;
-        if self.depth == 1 {
-            Seen::Closes
-        } else {
-            Seen::Nothing
-        }
-    }
+const C: Seen = Seen::Close;
 
-    fn letter(&mut self) -> Seen {
-        if !self.in_word {
-            self.in_word = true;
-            self.count();
-        }
-        Seen::Nothing
-    }
+const S: Seen = Seen::Semicolon;
 
-    fn step(&mut self, byte: u8) -> Seen {
-        if self.in_comment {
-            self.in_comment = byte != b'\n';
-            return Seen::Nothing;
-        }
-        match byte {
-            b'(' => self.open(),
-            b')' => self.close(),
-            b' ' | b'\t' | b'\n' | b'\r' => {
-                self.in_word = false;
-                Seen::Nothing
-            }
-            b';' => {
-                self.in_comment = true;
-                self.in_word = false;
-                Seen::Nothing
-            }
-            _ => self.letter(),
-        }
+/// What each byte is.
+#[rattlefmt::skip]
+static SEEN: [Seen; 256] = [
+    L, L, L, L, L, L, L, L, L, W, W, L, L, W, L, L, L, L, L, L, L, L, L, L, L, L, L, L, L, L, L, L,
+    W, L, L, L, L, L, L, L, O, C, L, L, L, L, L, L, L, L, L, L, L, L, L, L, L, L, L, S, L, L, L, L,
+    L, L, L, L, L, L, L, L, L, L, L, L, L, L, L, L, L, L, L, L, L, L, L, L, L, L, L, L, L, L, L, L,
+    L, L, L, L, L, L, L, L, L, L, L, L, L, L, L, L, L, L, L, L, L, L, L, L, L, L, L, L, L, L, L, L,
+    L, L, L, L, L, L, L, L, L, L, L, L, L, L, L, L, L, L, L, L, L, L, L, L, L, L, L, L, L, L, L, L,
+    L, L, L, L, L, L, L, L, L, L, L, L, L, L, L, L, L, L, L, L, L, L, L, L, L, L, L, L, L, L, L, L,
+    L, L, L, L, L, L, L, L, L, L, L, L, L, L, L, L, L, L, L, L, L, L, L, L, L, L, L, L, L, L, L, L,
+    L, L, L, L, L, L, L, L, L, L, L, L, L, L, L, L, L, L, L, L, L, L, L, L, L, L, L, L, L, L, L, L,
+];
+
+/// Where a run of white bytes ends.
+fn white_end(file: &[u8], from: usize) -> usize
+    ensures { from ≤ result }
+{
+    let mut at = from;
+    while at < file.len() && matches!(SEEN[file[at] as usize], Seen::White) {
+        at += 1;
+    }
+    at
+}
+
+/// Where a word ends.
+fn word_end(file: &[u8], from: usize) -> usize
+    ensures { from ≤ result }
+{
+    let mut at = from;
+    while at < file.len() && matches!(SEEN[file[at] as usize], Seen::Letter) {
+        at += 1;
+    }
+    at
+}
+
+/// Where a line ends.
+fn line_end(file: &[u8], from: usize) -> usize
+    ensures { from ≤ result }
+{
+    let mut at = from;
+    while at < file.len() && file[at] != b'\n' {
+        at += 1;
+    }
+    at
+}
+
+impl Cuts {
+    /// Cuts the file at this place, where so many items have begun.
+    fn push(&mut self, place: usize, item: u64) -> Result<(), OutOfMemory> {
+        self.places.push(place)?;
+        self.items.push(item)?;
+        Ok(())
     }
 }
 
 /// The cuts of a file; nothing where it is no certificate for a reason that shows here.
 pub(crate) fn cut(alloc: Global, file: &[u8]) -> Result<Option<Cuts>, OutOfMemory> {
-    let mut places = Vec::new(alloc);
-    let mut items = Vec::new(alloc);
-    let mut scan = Scan::new();
-    for (at, byte) in file.iter().enumerate() {
-        match scan.step(*byte) {
-            Seen::Nothing => {}
-            Seen::Opens => {
-                if places.is_empty() {
-                    places.push(at)?;
-                    items.push(scan.items)?;
+    let mut cuts = Cuts {
+        places: Vec::new(alloc),
+        items: Vec::new(alloc),
+    };
+    let (mut at, mut depth, mut items) = (0, 0, 0);
+    while at < file.len() {
+        match SEEN[file[at] as usize] {
+            Seen::White => at = white_end(file, at + 1),
+            Seen::Letter => {
+                items = u64::wrapping_add(items, 1);
+                at = word_end(file, at + 1);
+            }
+            Seen::Open => {
+                if depth >= DEPTH_LIMIT {
+                    return Ok(None);
                 }
-                scan.count();
+                if depth == 1 && cuts.places.is_empty() {
+                    cuts.push(at, items)?;
+                }
+                depth += 1;
+                items = u64::wrapping_add(items, 1);
+                at += 1;
             }
-            Seen::Closes => {
-                places.push(at + 1)?;
-                items.push(scan.items)?;
+            Seen::Close => {
+                if depth == 0 {
+                    return Ok(None);
+                }
+                depth -= 1;
+                at += 1;
+                if depth == 1 {
+                    cuts.push(at, items)?;
+                }
             }
-            Seen::Misplaced => return Ok(None),
+            Seen::Semicolon => at = line_end(file, at + 1),
         }
     }
-    Ok(Some(Cuts { places, items }))
+    Ok(Some(cuts))
 }
