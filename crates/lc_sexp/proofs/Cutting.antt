@@ -10,7 +10,7 @@ use Rattle.lc_sexp.proofs.Rows.{tokens_joined}
 use Rattle.lc_sexp.specs.CutFiles.{ends_in_comment, IsPieceOf, AreJoined, IsHead, IsTail, BeginsOpen, PiecesReadAsTheWhole}
 
 -- comments of a text, and of one behind it
-uncommented_behind : (c : Bool) (s t : List ℕ) → uncommented c (s ++ t) ≡ uncommented c s ++ uncommented (ends_in_comment c s) t
+pub uncommented_behind : (c : Bool) (s t : List ℕ) → uncommented c (s ++ t) ≡ uncommented c s ++ uncommented (ends_in_comment c s) t
 uncommented_behind c [] t = refl
 uncommented_behind c (b ∷ s) t = elim (b == 10) as (λ x. (if x then 10 ∷ uncommented false (s ++ t) else (if c || b == 59 then 32 ∷ uncommented true (s ++ t) else b ∷ uncommented false (s ++ t)))
     ≡ (if x then 10 ∷ uncommented false s else (if c || b == 59 then 32 ∷ uncommented true s else b ∷ uncommented false s)) ++ uncommented (ends_in_comment (if x then false else (c || b == 59)) s) t) [

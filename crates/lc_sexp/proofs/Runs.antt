@@ -1,5 +1,5 @@
 -- What runs of bytes make.
-use Rattle.std.proofs.Common.{◌≡◌, ◌≢◌, ℕ, ◌+◌, ◌-◌, ◌≤◌, ◌<◌, Bool, true, false, ◌||◌, cond, not, List, [], ◌∷◌, ◌++◌, length, get_or, take, drop, Some, refl, sym, ap, ◌∙◌, subst, arith, append_assoc, append-nil, length-append, length-take, length-drop, map}
+use Rattle.std.proofs.Common.{◌≡◌, ◌≢◌, ℕ, ◌+◌, ◌-◌, ◌≤◌, ◌<◌, Bool, true, false, ◌||◌, if◌then◌else◌, cond, not, List, [], ◌∷◌, ◌++◌, length, get_or, take, drop, Some, refl, sym, ap, ◌∙◌, subst, arith, append_assoc, append-nil, length-append, length-take, length-drop, map}
 use Rattle.std.specs.Prelude.{◌==◌}
 use Rattle.std.specs.List.{list_all}
 use Rattle.std.proofs.Math.Seq.{take-add}
@@ -10,12 +10,14 @@ use Rattle.lc_sexp.proofs.Tokens.{and_parts, Letter-from}
 use Rattle.lc_sexp.specs.Text.{class_of, is_Letter, are_letters, begins_word, lexed, before, uncommented, is_misplaced}
 use Rattle.lc_sexp.specs.Progress.{told, told_tokens, fault_from, depth_behind}
 use Rattle.lc_sexp.specs.Runs.{AreOf, IsCount, AreSeen, IsRun}
+use Rattle.lc_sexp.specs.CutFiles.{ends_in_comment}
 use Rattle.lc_sexp.specs.declared.node.Node.{Node}
 use Rattle.lc_sexp.specs.declared.run.Run.{Run}
 use Rattle.lc_sexp.specs.declared.class.Class.{Class}
 use Rattle.lc_sexp.specs.declared.class.Class.TheVariants.{White, Open, Close, Letter, Other}
 use Rattle.lc_sexp.proofs.Nodes.{both}
 use Rattle.lc_sexp.proofs.Cuts.{told_ended_at}
+use Rattle.lc_sexp.proofs.Cutting.{uncommented_behind}
 
 -- letters are letters
 pub letters_of : (seen : List ℕ) → AreOf Letter seen → are_letters seen ≡ true
@@ -336,3 +338,49 @@ cut_short bytes within last e cut =
 
 pub differ : (m n : ℕ) → (m == n) ≡ false → m ≢ n
 differ m n h = grind (arith, nat_tests)
+
+pub same_last : (xs ys : List ℕ) (x y : ℕ) → xs ++ (x ∷ []) ≡ ys ++ (y ∷ []) → x ≡ y
+same_last [] [] x y e = cc
+same_last [] (b ∷ []) x y e = cc
+same_last [] (b ∷ (d ∷ ys)) x y e = cc
+same_last (a ∷ []) [] x y e = cc
+same_last (a ∷ (d ∷ xs)) [] x y e = cc
+same_last (a ∷ xs) (b ∷ ys) x y e = let tails : xs ++ (x ∷ []) ≡ ys ++ (y ∷ []) = cc in same_last xs ys x y tails
+
+-- a letter in a comment or outside
+shown : Bool → ℕ
+shown true = 32
+shown false = 97
+
+shows : (c : Bool) → uncommented c (97 ∷ []) ≡ shown c ∷ []
+unfolding shown
+shows true = refl
+shows false = refl
+
+told_apart : (c : Bool) → (shown c == 32) ≡ c
+unfolding shown
+told_apart true = refl
+told_apart false = refl
+
+same_shown : (c d : Bool) → shown c ≡ shown d → c ≡ d
+same_shown c d e = sym (told_apart c) ∙ ap (λ x. x == 32) e ∙ told_apart d
+
+-- whether a comment goes on behind a run
+pub run_comment : (c : Bool) (bytes : List ℕ) (run : Run) → IsRun c bytes run → run.in_comment ≡ ends_in_comment c (take run.length bytes)
+run_comment c bytes run h =
+    let w : List ℕ = take run.length bytes in
+    same_shown run.in_comment (ends_in_comment c w)
+    (same_last h.seen (uncommented c w) (shown run.in_comment) (shown (ends_in_comment c w))
+    (ap (λ x. h.seen ++ x) (sym (shows run.in_comment)) ∙ sym (h.uncomments (97 ∷ [])) ∙ uncommented_behind c w (97 ∷ [])
+    ∙ ap (λ x. uncommented c w ++ x) (shows (ends_in_comment c w))))
+
+-- a comment over a text and one behind it
+ends_behind : (s : List ℕ) (c : Bool) (t : List ℕ) → ends_in_comment (ends_in_comment c s) t ≡ ends_in_comment c (s ++ t)
+ends_behind [] c t = refl
+ends_behind (b ∷ s) c t = ends_behind s (if b == 10 then false else (c || b == 59)) t
+
+pub comment_on : (c : Bool) (i n : ℕ) (bytes : List ℕ) → ends_in_comment (ends_in_comment c (take i bytes)) (take n (take (length bytes - i) (drop i bytes))) ≡ ends_in_comment c (take (i + n) bytes)
+comment_on c i n bytes =
+    ends_behind (take i bytes) c (take n (take (length bytes - i) (drop i bytes)))
+    ∙ ap (λ x. ends_in_comment c (take i bytes ++ take n x)) (tail_of i bytes)
+    ∙ ap (ends_in_comment c) (sym (take-add i n bytes))

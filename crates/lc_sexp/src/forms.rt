@@ -35,7 +35,7 @@ impl Model for Forms {
 impl Forms {
     ghost use Rattle.std.specs.Prelude.{◌≡◌, ◌≤◌, length, IfOk};
     ghost use Rattle.lc_sexp.specs.Answers.{IsAnswerTo};
-    ghost use Rattle.lc_sexp.specs.Trees.{row, item_count_of_all};
+    ghost use Rattle.lc_sexp.specs.Trees.{Tree, list, none, ◌▸◌, row, item_count_of_all};
     ghost use Rattle.lc_sexp.specs.Flat.{trees_of, IsFlat};
     ghost use Rattle.lc_sexp.specs.Shown.{rest_of, number_of, owner_of};
 
@@ -62,6 +62,16 @@ impl Forms {
             return Err(Fault::Refused(Refusal::Text(machine.offset())));
         }
         machine.finish()
+    }
+
+    /// What stands alone in the list that stands alone here.
+    pub(crate) fn into_part(self) -> Sexp
+        requires { (t : Tree) × (self ≡ list (t ▸ none) ▸ none) }
+        ensures { self ≡ list (result ▸ none) ▸ none }
+    {
+        let Forms { mut nodes, text } = self;
+        let _ = nodes.remove(0);
+        Sexp::new(nodes, text)
     }
 
     /// Copies of these s-expressions in one row.

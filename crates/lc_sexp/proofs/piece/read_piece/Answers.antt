@@ -1,20 +1,15 @@
 use Rattle.std.proofs.Common.{◌≡◌, false, subst}
-use Rattle.std.specs.Prelude.{MatchBool}
-use Rattle.std.proofs.lemmas.Result.{IfOk-weaker}
-use Rattle.lc_sexp.specs.CutFiles.{ends_in_comment, bracketed, IsClosed}
-use Rattle.lc_sexp.specs.Answers.{IsTextFault}
-use Rattle.lc_sexp.specs.Reads.{IsFirstFault}
-use Rattle.lc_sexp.proofs.Pieced.{piece_read, no_piece}
+use Rattle.std.specs.Prelude.{MatchBool, MatchOption}
+use Rattle.lc_sexp.specs.CutFiles.{ends_in_comment, bracketed, IsClosed, IsPieceOf}
+use Rattle.lc_sexp.specs.Reads.{ReadsAs}
+use Rattle.lc_sexp.specs.Trees.{Tree}
+use Rattle.lc_sexp.proofs.Pieced.{piece_read}
 use Rattle.lc_sexp.proofs.piece.read_piece.Goals as goal
 
-pub returns-in-Ok : goal.returns-in-Ok
-returns-in-Ok c =
+pub returns-in-Some : goal.returns-in-Some
+returns-in-Some c =
     let text = c.args.text.now in
     let closed : IsClosed text = subst (λ b. MatchBool b (IsClosed text) (IsClosed text → ⊥)) c.if-not-is_closed.false c.is_closed.ensures in
-    let outside : ends_in_comment false text ≡ false = (let e = c.ends_in_comment.ensures in let f = c.if-ends_in_comment.false in cc) in
-    IfOk-weaker c.only_part.result _ _ (λ part h. piece_read text c.in-Ok.forms part closed outside c.in-Ok.ensures h) c.only_part.ensures
-
-pub returns-in-Err-Refused : goal.returns-in-Err-Refused
-returns-in-Err-Refused c =
-    let text = c.args.text.now in
-    no_piece text c.in-Err-Refused.field-0-0 (subst (λ f. IsTextFault f (IsFirstFault (bracketed text))) c.in-Err-Refused.field-0-is c.in-Err-Refused.ensures)
+    let known : (ends_in_comment false text ≡ false) × ReadsAs (bracketed text) c.in-Some.forms =
+    subst (λ f. MatchOption f ((t : Tree) → IsPieceOf t text → ⊥) (λ ts. (ends_in_comment false text ≡ false) × ReadsAs (bracketed text) ts)) c.in-Some.is c.in_ok-forms.ensures in
+    piece_read text c.in-Some.forms c.only_part.result closed known.0 known.1 c.only_part.ensures

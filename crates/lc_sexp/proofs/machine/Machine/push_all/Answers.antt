@@ -1,7 +1,8 @@
 use Rattle.std.proofs.Common.{ℕ, ◌-◌, ◌<◌, List, ◌++◌, length, take, drop, vec_len, sym, ap, ◌∙◌, arith, length-drop}
 use Rattle.lc_sexp.specs.Text.{uncommented}
+use Rattle.lc_sexp.specs.CutFiles.{ends_in_comment}
 use Rattle.lc_sexp.specs.Progress.{told, fault_from}
-use Rattle.lc_sexp.proofs.Runs.{parted, parted_last, taken_on, tail_of, all_taken, cut_short, differ, fault_full}
+use Rattle.lc_sexp.proofs.Runs.{parted, parted_last, taken_on, comment_on, tail_of, all_taken, cut_short, differ, fault_full}
 use Rattle.lc_sexp.proofs.machine.Machine.push_all.Goals as goal
 
 pub returns-then-count-eq0-clause-wrong : goal.returns-then-count-eq0-clause-wrong
@@ -26,6 +27,8 @@ loop-at-preserved c =
     record {
       within = omega (arith, pushed.within, ap length (tail_of at within), length-drop at within, c.loop-at.invariant.within);
       offset = omega (arith, pushed.offset, c.loop-at.invariant.offset);
+      comment =
+          pushed.comment some ∙ ap (λ b. ends_in_comment b (take count tail)) c.loop-at.invariant.comment ∙ comment_on m.in_comment at count within;
       told = λ rest.
           pushed.told some rest ∙ c.loop-at.invariant.told (take count tail ++ rest)
           ∙ ap (λ x. told m.text.items m.start m.nodes.items (uncommented m.in_comment x)) (taken_on at count within rest);
