@@ -98,7 +98,15 @@ fn model_text(
     let numbers = whole_numbers(alloc, &model.numbers)?;
     let columns = u32::try_from(names.columns.len()).unwrap_or(0);
     let witnesses = &model.witnesses;
-    let told = tell(alloc, columns, goal.vars, &numbers, witnesses, &hypotheses, &claim)?;
+    let told = tell(
+        alloc,
+        columns,
+        goal.vars,
+        &numbers,
+        witnesses,
+        &hypotheses,
+        &claim,
+    )?;
     let mut text = String::new(alloc);
     writeln!(text, "  {}:", words_of(told.failing))?;
     match told.failing {
