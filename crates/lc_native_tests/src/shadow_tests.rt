@@ -2,7 +2,7 @@
 use crate::behind::{Made, shadow_behind};
 use lc_lib_texts::{Lib, development};
 use lc_native::{NatCounter, NatLock, NatPoolStack, NatQueue, NatSnapshot, NatStack};
-use lc_seq::{Pick, SeqObject, Shadows, TextSpec};
+use lc_seq::{Pick, SeqFault, SeqObject, Shadows, TextSpec};
 use lc_spec_text::spec_of;
 use std::alloc::Global;
 use std::test::Fail;
@@ -84,4 +84,35 @@ fn a_stack_of_five(rt: HostRuntime) -> Result<(), Fail> {
     let own = shadow_behind(alloc, &NatStack, &spec, &calls)?.ok_or("an answer")?;
     assert_eq!(rt; own.as_slice(), [5].as_slice());
     Ok(())
+}
+
+/// The numbers of the native stack that stands for a stack in text behind a push of 5; none where not even that is read.
+fn numbers_behind(alloc: Global) -> Result<Option<Vec<i64>>, SeqFault> {
+    let Ok(spec) = spec_of(alloc, STACK.as_bytes()) else {
+        return Ok(None);
+    };
+    let Some(call) = spec.call_of(alloc, 0, &[5])? else {
+        return Ok(None);
+    };
+    if !NatStack.fits(alloc, &spec)? {
+        return Ok(None);
+    }
+    let push = Made {
+        client: 0,
+        call,
+        choice: Pick::First,
+    };
+    let calls = Vec::from_array(alloc, [push])?;
+    shadow_behind(alloc, &NatStack, &spec, &calls)
+}
+
+/// With any one allocation refused: want of memory, or the state with ample memory.
+#[test]
+fn memory_refused(rt: HostRuntime) {
+    let is_right = match numbers_behind(rt.alloc()) {
+        Ok(Some(numbers)) => numbers.as_slice() == [5].as_slice(),
+        Ok(None) => true,
+        Err(fault) => fault == SeqFault::OutOfMemory,
+    };
+    assert!(rt; is_right);
 }
