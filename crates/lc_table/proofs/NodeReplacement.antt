@@ -117,6 +117,3 @@ first_term r t0 t1 t2 a l kept h = term_is t2 l _ (term_later t1 t2 l _ h kept)
 
 pub first_column : (r : Replacement) (t0 t1 t2 : Table) (a l : ColExprId) → Keeps t1 t2 → HasColumn t1 l (replace_column r (column_in t0 a)) → column_in t2 l ≡ replace_column r (column_in t0 a)
 first_column r t0 t1 t2 a l kept h = column_is t2 l _ (column_later t1 t2 l _ h kept)
-
-pub later_term : (r s : Replacement) (t0 t1 t2 t3 : Table) (b m : TermId) → s ≡ r → IsTerm t0 b → Keeps t0 t1 → Keeps t2 t3 → HasTerm t2 m (replace_term s (term_in t1 b)) → term_in t3 m ≡ replace_term r (term_in t0 b)
-later_term r s t0 t1 t2 t3 b m same is kept later h = term_is t3 m _ (term_later t2 t3 m _ h later) ∙ ap₂ replace_term same (term_still t0 t1 b is kept)
