@@ -64,9 +64,6 @@ pick_read operations op tokens inner text behind numbers between rest opens name
     let numbered = given.1 in
     (array (items_of ds), rw (says, numbered, has) refl, list_read 1 tokens inner ds between rest opens all ends)
 
-pub first_pick : (operations : List Operation) (op : ℕ) (tokens rest : List Token) → has_choice (slice_get operations op) InOrder ≡ true → after_end_array tokens ≡ Some rest → SayPick operations op tokens InOrder rest
-first_pick operations op tokens rest has ends = (None, tokens, rw has refl, refl, ends)
-
 pub named_pick : (operations : List Operation) (op : ℕ) (tokens : List Token) (choice : Choice) (between rest : List Token) → Says 2 (λ d. pick_in operations op (Some d)) tokens choice between → after_end_array between ≡ Some rest
     → SayPick operations op tokens choice rest
 named_pick operations op tokens choice between rest said ends = (Some said.0, between, said.1, (between, said.2, refl), ends)

@@ -164,7 +164,3 @@ pub says_numbers : (tokens inner : List Token) (ds : List Data) (zs : List ℤ) 
     → after_end_array between ≡ Some rest → Says 1 numbers_in tokens zs rest
 says_numbers tokens inner ds zs between rest opens row say ends =
     (array (items_of ds), ap (all_in number_in) (values_in-items_of ds) ∙ say, row_ends 0 tokens inner ds between rest opens row ends)
-
-pub said_call : (operations : List Operation) (name numbers : Data) (s : List ℕ) (op : ℕ) (zs : List ℤ) → as_str name ≡ Some s → operation_of operations s ≡ Some op → numbers_in numbers ≡ Some zs
-    → call_with operations op zs ≡ Some (record { op = op; numbers = zs }) → call_in operations name numbers ≡ Some (record { op = op; numbers = zs })
-said_call operations name numbers s op zs is named say takes = rw (is, named, say) takes

@@ -78,15 +78,6 @@ product_given ts z f n k l t res is is_k zero second fits_l h =
     (scaled_read ts z f zt (form_of l) k first second))
     h
 
--- so many times a form, added to one that is 0
-pub scaled_alone : (z f g : N.Form) (n k : ℤ) (form : LinForm) → k ≡ n → f ≡ g → ((p : N.Place) → z p ≡ N.number_form (pos 0) p) → CanAddScaled z k f × HasNumbers form (added_scaled z k f) →
-    CanAddScaled (N.number_form (pos 0)) n g × HasNumbers form (added_scaled (N.number_form (pos 0)) n g)
-scaled_alone z f g n k form is_k same zero h =
-    rw (sym is_k, sym same) (
-      (λ p. ((h.0 p).0, subst (λ x. FitsSigned w128 (x +ℤ k *ℤ f p)) (zero p) (h.0 p).1)),
-      (λ p. h.1 p ∙ ap (λ x. x +ℤ k *ℤ f p) (zero p)),
-    )
-
 -- one turn of a loop over entries
 module _ (ts : Table) (s h : N.Form) (whole so_far g : Term) (k k' : ℤ) (is : whole ≡ Add so_far (Multiply k g)) (is_k : k' ≡ k) (first : Reads ts s (form_of so_far)) (second : Reads ts h (form_of g)) where
   pub turn_kept : HasForm whole → CanAddScaled s k' h

@@ -42,9 +42,3 @@ pub proofs_at : (ps : List Proof) (i : ℕ) (p : Proof) → i < length ps → p 
 proofs_at ps i p lt is =
     let next : suc i ≡ i + 1 = omega arith in
     proofs_drop ps i p lt ∙ ap (λ q. more (proof_of q) (proofs (proofs_of (drop (suc i) ps)))) (sym is) ∙ ap (λ n. more (proof_of p) (proofs (proofs_of (drop n ps)))) next
-
-pub proofs_past : (ps : List Proof) (i : ℕ) → length ps ≤ i → proofs (proofs_of (drop i ps)) ≡ none
-proofs_past [] zero le = refl
-proofs_past [] (suc i) le = refl
-proofs_past (p ∷ ps) zero le = absurd (omega (arith, le))
-proofs_past (p ∷ ps) (suc i) le = proofs_past ps i (omega (arith, le))

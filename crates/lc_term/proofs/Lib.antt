@@ -17,4 +17,4 @@ mod Written
 pub mod Stores
 pub mod Tests
 pub mod Symbolic
-pub mod Depths
+mod Depths
