@@ -23,10 +23,3 @@ made_noted ts es fs k made h is now q found at = by (nat_eq k.0 q.0) refl
         let same : made ≡ found = some_same made found (sym (ap (λ b. cond b (Some made) (lookup (nat_eq q.0) es)) e) ∙ sym (now q.0) ∙ at) in
         subst (IsMade ts q) same (subst (λ n. IsMade ts (record { 0 = n }) made) (eqb-true k.0 q.0 e) is)
     by false e = h q found (sym (ap (λ b. cond b (Some made) (lookup (nat_eq q.0) es)) e) ∙ sym (now q.0) ∙ at)
-
-pub made_removed : (ts : Table) (es fs : List (ℕ × Option LinForm)) (k : ℕ) → AreMade ts es → ((q : ℕ) → lookup (nat_eq q) fs ≡ cond (nat_eq k q) None (lookup (nat_eq q) es)) → AreMade ts fs
-made_removed ts es fs k h now q found at = by (nat_eq k q.0) refl
-  where
-    by : (b : Bool) → nat_eq k q.0 ≡ b → IsMade ts q found
-    by true e = elim (none_some found (sym (ap (λ b. cond b None (lookup (nat_eq q.0) es)) e) ∙ sym (now q.0) ∙ at)) [ ]
-    by false e = h q found (sym (ap (λ b. cond b None (lookup (nat_eq q.0) es)) e) ∙ sym (now q.0) ∙ at)

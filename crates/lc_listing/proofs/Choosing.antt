@@ -77,12 +77,6 @@ pub record IsSoFar (point kind : Option (List ℕ)) (D : Development) (s : Condi
   pub lines : chosen_from point kind D 0 (conditions D) ≡ text ++ chosen_from point kind D (next_number s) (conditions_left D s)
   pub counted : chosen_count point kind D (conditions D) ≡ count + chosen_count point kind D (conditions_left D s)
 
-pub so_far_none : (point kind : Option (List ℕ)) (D : Development) (s : ConditionStream) → conditions_left D s ≡ conditions D → next_number s ≡ 0 → IsSoFar point kind D s [] 0
-so_far_none point kind D s left number = record {
-  lines = ap₂ (λ (i : ℕ) (cs : List S.Condition). chosen_from point kind D i cs) (sym number) (sym left);
-  counted = (let same = ap (chosen_count point kind D) left in omega (arith, same));
-}
-
 pub so_far_more : (point kind : Option (List ℕ)) (D : Development) (ts : Table) (before after : ConditionStream) (cs : List Condition) (text more : List ℕ) (count all : ℕ)
     → IsPart D ts before after cs → IsSoFar point kind D before text count
     → more ≡ text ++ chosen_from point kind D (next_number before) (map (condition_in ts) cs) → all ≡ count + chosen_count point kind D (map (condition_in ts) cs)
@@ -102,8 +96,3 @@ so_far_more point kind D ts before after cs text more count all part so is count
           ∙ sym (append_assoc text here behind) ∙ ap (λ l. l ++ behind) (sym is);
       counted = omega (arith, so', left, split', counted);
     }
-
-pub so_far_all : (point kind : Option (List ℕ)) (D : Development) (before after : ConditionStream) (text : List ℕ) (count : ℕ) → IsEnd D before after → IsSoFar point kind D before text count
-    → (chosen_from point kind D 0 (conditions D) ≡ text ++ []) × (chosen_count point kind D (conditions D) ≡ count + 0)
-so_far_all point kind D before after text count end so =
-    (so.lines ∙ ap (λ l. text ++ chosen_from point kind D (next_number before) l) end.nothing, so.counted ∙ ap (λ l. count + chosen_count point kind D l) end.nothing)
