@@ -40,8 +40,8 @@ events-preserved c =
       ds ++ d ∷ [],
       rw pushed (next_event operations [] ds events d e l.invariant.1 next),
       rw pushed (open_next events table (λ k. number_of (open_of c.set.new.self k)) e l.invariant.2 (follows operations (table (client_of e)) e may)
-      (λ k. ap number_of (c.in_ok-set.ensures k) ∙ number_cond (k == c.client-client.result) c.opened.result (open_of l.calls k)
-      ∙ ap (λ z. cond (k == z) (number_of c.opened.result) (table k)) c.client-client.ensures ∙ ap (λ z. cond (k == client_of e) z (table k)) c.opened.ensures)),
+          (λ k. ap number_of (c.in_ok-set.ensures k) ∙ number_cond (k == c.client-client.result) c.opened.result (open_of l.calls k)
+          ∙ ap (λ z. cond (k == z) (number_of c.opened.result) (table k)) c.client-client.ensures ∙ ap (λ z. cond (k == client_of e) z (table k)) c.opened.ensures)),
       row_next 3 c.begins_array.new.reader ds l.reader d rest l.invariant.3 begins,
     )
 
