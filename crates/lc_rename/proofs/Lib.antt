@@ -1,3 +1,3 @@
-mod Chains
-mod Under
+pub mod Chains
+pub mod Under
 pub mod Branches
