@@ -13,6 +13,7 @@ use Rattle.lc_term.specs.Said.{term_at}
 use Rattle.lc_term.specs.View.{term_of}
 use Rattle.lc_term.specs.declared.term.Term as T
 use Rattle.lc_term.specs.declared.term.ColExpr.{ColExpr}
+use Rattle.lc_term.proofs.Closed.{Passes, every_term_passes, every_formula_passes}
 use Rattle.lc_term.proofs.Under.{under_many-bounds}
 use Rattle.lc_action.specs.Telling.{columns_in, telling, tellable, telling_under}
 
@@ -59,49 +60,12 @@ module _ (cs : List (ColId × ColExpr)) (ts : List T.Term) where
   unfolding telling_under
   bound_put n k = under_many-bounds n (telling cs ts) (λ j. refl) k
 
--- ---- a test that everything passes
-
-record PassesAll (p : Test) : Type 0 where
-  columns : (c : ℕ) → IsTrue (p.columns c)
-  variables : (k : ℕ) → IsTrue (p.variables k)
-  bounds : (k : ℕ) → IsTrue (p.bounds k)
-
-mutual
-  each_term : (p : Test) → PassesAll p → (t : Term) → IsTrue (term_passes p t)
-  each_term p h (Number n) = refl
-  each_term p h (Variable k) = h.variables k
-  each_term p h (Bound k) = h.bounds k
-  each_term p h (Add t u) = and_from _ _ (each_term p h t) (each_term p h u)
-  each_term p h (Subtract t u) = and_from _ _ (each_term p h t) (each_term p h u)
-  each_term p h (Multiply n t) = each_term p h t
-  each_term p h (Read c t) = and_from _ _ (each_column p h c) (each_term p h t)
-
-  each_column : (p : Test) → PassesAll p → (c : Column) → IsTrue (column_passes p c)
-  each_column p h (Base k) = h.columns k
-  each_column p h (Store c t v) = and_from _ _ (and_from _ _ (each_column p h c) (each_term p h t)) (each_term p h v)
-  each_column p h (Affine m n) = refl
-
-mutual
-  each_formula : (p : ℕ → Test) → ((n : ℕ) → PassesAll (p n)) → (n : ℕ) (f : Formula) → IsTrue (passes p n f)
-  each_formula p h n (Le t u) = and_from _ _ (each_term (p n) (h n) t) (each_term (p n) (h n) u)
-  each_formula p h n (Eq t u) = and_from _ _ (each_term (p n) (h n) t) (each_term (p n) (h n) u)
-  each_formula p h n (Not f) = each_formula p h n f
-  each_formula p h n (And fs) = each_part p h n fs
-  each_formula p h n (Or fs) = each_part p h n fs
-  each_formula p h n (Implies f g) = and_from _ _ (each_formula p h n f) (each_formula p h n g)
-  each_formula p h n (Forall f) = each_formula p h (suc n) f
-  each_formula p h n (Exists f) = each_formula p h (suc n) f
-
-  each_part : (p : ℕ → Test) → ((n : ℕ) → PassesAll (p n)) → (n : ℕ) (fs : Formulas) → IsTrue (all_pass p n fs)
-  each_part p h n none = refl
-  each_part p h n (more f fs) = and_from _ _ (each_formula p h n f) (each_part p h n fs)
-
 -- ---- a formula without quantifiers is tested outside them alone
 
 mutual
-  ground_passes : (p : ℕ → Test) → PassesAll (p 0) → (f : Formula) → IsTrue (is_ground f) → IsTrue (passes p 0 f)
-  ground_passes p h (Le t u) g = and_from _ _ (each_term (p 0) h t) (each_term (p 0) h u)
-  ground_passes p h (Eq t u) g = and_from _ _ (each_term (p 0) h t) (each_term (p 0) h u)
+  ground_passes : (p : ℕ → Test) → Passes (p 0) → (f : Formula) → IsTrue (is_ground f) → IsTrue (passes p 0 f)
+  ground_passes p h (Le t u) g = and_from _ _ (every_term_passes (p 0) h t) (every_term_passes (p 0) h u)
+  ground_passes p h (Eq t u) g = and_from _ _ (every_term_passes (p 0) h t) (every_term_passes (p 0) h u)
   ground_passes p h (Not f) g = ground_passes p h f g
   ground_passes p h (And fs) g = ground_parts p h fs g
   ground_passes p h (Or fs) g = ground_parts p h fs g
@@ -109,16 +73,16 @@ mutual
   ground_passes p h (Forall f) g = absurd (false≢true g)
   ground_passes p h (Exists f) g = absurd (false≢true g)
 
-  ground_parts : (p : ℕ → Test) → PassesAll (p 0) → (fs : Formulas) → IsTrue (are_ground fs) → IsTrue (all_pass p 0 fs)
+  ground_parts : (p : ℕ → Test) → Passes (p 0) → (fs : Formulas) → IsTrue (are_ground fs) → IsTrue (all_pass p 0 fs)
   ground_parts p h none g = refl
   ground_parts p h (more f fs) g = let x = and_parts (is_ground f) (are_ground fs) g in and_from _ _ (ground_passes p h f x.0) (ground_parts p h fs x.1)
 
-all_outside : (cs : List (ColId × ColExpr)) (ts : List T.Term) → PassesAll (tellable cs ts 0)
+all_outside : (cs : List (ColId × ColExpr)) (ts : List T.Term) → Passes (tellable cs ts 0)
 unfolding tellable
 all_outside cs ts = record { columns = λ c. refl; variables = λ k. refl; bounds = λ k. refl }
 
 pub term_tellable : (cs : List (ColId × ColExpr)) (ts : List T.Term) (t : Term) → IsTrue (term_passes (tellable cs ts 0) t)
-term_tellable cs ts t = each_term (tellable cs ts 0) (all_outside cs ts) t
+term_tellable cs ts t = every_term_passes (tellable cs ts 0) (all_outside cs ts) t
 
 -- ---- closed terms can be put in anywhere
 
@@ -126,13 +90,13 @@ term_tellable cs ts t = each_term (tellable cs ts 0) (all_outside cs ts) t
 abbrev pub AreClosed : List Term → Type 0
 AreClosed ts = (k : ℕ) → IsTrue (is_closed (term_at ts k))
 
-all_closed : (ts : List T.Term) → AreClosed (map term_of ts) → (n : ℕ) → PassesAll (tellable [] ts n)
+all_closed : (ts : List T.Term) → AreClosed (map term_of ts) → (n : ℕ) → Passes (tellable [] ts n)
 unfolding tellable
 all_closed ts h zero = all_outside [] ts
 all_closed ts h (suc n) = record { columns = λ c. refl; variables = h; bounds = λ k. refl }
 
 pub closed_tellable : (ts : List T.Term) (f : Formula) → AreClosed (map term_of ts) → IsTrue (passes (tellable [] ts) 0 f)
-closed_tellable ts f h = each_formula (tellable [] ts) (all_closed ts h) 0 f
+closed_tellable ts f h = every_formula_passes (tellable [] ts) (all_closed ts h) 0 f
 
 listed_closed : (ts : List T.Term) → Every (λ (t : T.Term). IsTrue (is_closed (term_of t))) ts → AreClosed (map term_of ts)
 listed_closed [] h k = refl

@@ -18,13 +18,13 @@ use Rattle.lc_outline.specs.Resolved.{AreArgumentsBelow, IsResolved}
 use Rattle.lc_outline.proofs.Chosen.{chosen}
 use Rattle.lc_rider.specs.Paths.{edge_variables, Duty, Path, paths, path_start}
 use Rattle.lc_kernel.specs.Below.{column_below, term_below, formula_below, all_below}
-use Rattle.lc_kernel.proofs.InUse.{formula_below-more}
+use Rattle.lc_kernel.proofs.InUse.{column_below-raised, formula_below-more}
 use Rattle.lc_cond.specs.Conditions.{Init, InitIdle, Entry, First, Reply, Invariant, NextKind, Head, Condition, conditions_from, conditions_of, at_start, at_entry, on_path, alone_on_path}
 use Rattle.lc_cond.specs.Conditions.{is_cell, range, idle_frame, hold_variables, body_frame, start_formula, start_conditions, padded, enter_variables, entry_variables, entered, entry_conditions}
 use Rattle.lc_cond.specs.Conditions.{at_end, reply_goals, is_base, same_column, column_condition, column_conditions, action_conditions, on_conditions, duty_condition, path_conditions, body_hypotheses}
 use Rattle.lc_cond.specs.Conditions.{edge_conditions_in, edge_conditions, stable_variables, stable_under, stable_conditions, point_stability, idle_stability, conditions}
 use Rattle.lc_cond.specs.Uses.{UsesItsVariables, AllUseTheirVariables}
-use Rattle.lc_cond.proofs.Below.{ColumnsBelow, TermsBelow, FormulasBelow, raised-below, told-below, replaced-below}
+use Rattle.lc_cond.proofs.Below.{ColumnsBelow, TermsBelow, FormulasBelow, told-below, replaced-below}
 use Rattle.lc_cond.proofs.Elements.{Every-mapped, Every-replicate, Every-each, Every-numbered, Every-places, Every-placed}
 use Rattle.lc_cond.proofs.BelowStores.{put-below, puts-below, after-below, base-below, variable-below, variables_from-below, assigned-below}
 use Rattle.lc_cond.proofs.BelowPaths.{DutyBelow, PathBelow, facts-append, paths-below}
@@ -139,7 +139,7 @@ guard_for-below : (n : ℕ) (a : Action) (actor : Term) (ts : List Term) → 1 �
 guard_for-below n a actor ts le h g = told-below n Base (acting_variables actor ts) (base-below n) (acting-below n actor ts le h g) a.guard
 
 same_column-below : (n : ℕ) (x y : Column) → IsTrue (column_below n x) → IsTrue (column_below n y) → IsTrue (formula_below n (same_column x y))
-same_column-below n x y h g = and_from _ _ (and_from _ _ (raised-below n x h) refl) (and_from _ _ (raised-below n y g) refl)
+same_column-below n x y h g = and_from _ _ (and_from _ _ (column_below-raised n x h) refl) (and_from _ _ (column_below-raised n y g) refl)
 
 none_or_one : (b : Bool) (c : Condition) → Uses c → Every Uses (if b then [] else c ∷ [])
 none_or_one true c h = tt

@@ -1,5 +1,6 @@
 //! Variables, as terms.
 ghost use Rattle.std.specs.Prelude.{◌≡◌, ◌++◌, length, map, replicate, pos, true, ◌+◌, ◌^◌, ◌<◌, if◌then◌else◌, nat_lt, IfOk};
+ghost use Rattle.lc_base.specs.Limits.{argument_limit};
 ghost use Rattle.lc_term.specs.Said.{variables_from};
 ghost use Rattle.lc_term.specs.Syntax.{Number, Variable};
 ghost use Rattle.lc_term.specs.View.{term_of};
@@ -61,7 +62,7 @@ pub(crate) fn entry_variables(alloc: Global, body: &Operation) -> Result<Vec<Ter
 
 // The argument at this place, which is 0 where there are not so many.
 fn argument_or_zero(count: usize, place: u32) -> Term
-    requires { place < 3 }
+    requires { place < argument_limit }
     ensures { term_of result ≡ (if nat_lt place count then Variable (2 + place) else Number (pos 0)) }
 {
     if (place as usize) < count {

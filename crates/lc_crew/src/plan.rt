@@ -1,6 +1,7 @@
 //! A run by a plan, from its beginning to its history.
 ghost use Rattle.std.specs.Prelude.{◌≡◌, [], All, IfOk};
 ghost use Rattle.std.specs.Arc.{arc_value};
+ghost use Rattle.lc_base.specs.Limits.{seat_limit};
 ghost use Rattle.lc_check.specs.VerdictView.{development_in};
 ghost use Rattle.lc_run.specs.Locked.{labels_made};
 ghost use Rattle.lc_run.specs.Running.{clients_of, development_of};
@@ -11,6 +12,7 @@ use crate::ended::Ended;
 use crate::member::Member;
 use crate::phase::play_phase;
 use crate::stop::Stop;
+use lc_base::SEAT_LIMIT;
 use lc_check::Accepted;
 use lc_plan::Plan;
 use lc_run::{RunFault, RunLog, Runner, Seat};
@@ -99,7 +101,7 @@ pub fn run_with<J: Ledger + Sync, R: Threads + Wait + Sync>(
     plan: &Plan,
 ) -> Result<Ran, Stop>
     requires name { blank.name ≡ J.name }
-    requires parts { (blank.parts ≡ J.parts) × (blank.parts ≡ 64) }
+    requires parts { (blank.parts ≡ J.parts) × (blank.parts ≡ seat_limit) }
     ensures { IfOk result (IsRunOf (development_in (arc_value accepted)) plan.now.clients) }
 {
     let made: Result<(Runner<J>, Vec<Seat<J>>), RunFault> = Runner::new(
@@ -125,5 +127,5 @@ pub fn run<R: Threads + Wait + Sync>(
 ) -> Result<Ran, Stop>
     ensures { IfOk result (IsRunOf (development_in (arc_value accepted)) plan.now.clients) }
 {
-    run_with::<Brand, R>(rt, alloc, Blank::new(64), accepted, plan)
+    run_with::<Brand, R>(rt, alloc, Blank::new(u64::from(SEAT_LIMIT)), accepted, plan)
 }

@@ -39,9 +39,6 @@ got P [] i x all is = cc
 got P (y ∷ xs) zero x all is = let same : y ≡ x = cc in subst P same all.0
 got P (y ∷ xs) (suc i) x all is = got P xs i x all.1 is
 
-pub known_at : (ts : Table) (cs : List Condition) (i : ℕ) (c : Condition) → AreConditions ts cs → slice_get cs i ≡ Some c → IsCondition ts c
-known_at ts cs i c are is = got (IsCondition ts) cs i c are is
-
 -- ---- those of a part
 
 from_place : (n : ℕ) (xs all : List S.Condition) → Every IsBounded all → StandFrom n xs all → Every IsBounded xs

@@ -3,6 +3,7 @@ ghost use Rattle.std.specs.Prelude.{IfSome};
 ghost use Rattle.lc_cond.specs.ConditionView.{AreConditions, IsCondition};
 
 use crate::condition::condition_words;
+use crate::depth::has_deep_terms;
 use crate::failing::failing_text;
 use crate::flawed::{Flawed, said, with_variables};
 use crate::names::Names;
@@ -98,6 +99,9 @@ fn state_at(
     step_text(alloc, names, terms, &condition.goal, proof, step, reason)
 }
 
+/// What is said in place of hypotheses whose terms are too deep.
+const DEEP: &str = "  its terms are nested too deep to be shown\n";
+
 /// What stands where the proof of a condition is refused, or before it begins where there is none.
 fn state_of(
     alloc: Global,
@@ -110,6 +114,9 @@ fn state_of(
 ) -> Result<Option<String>, OutOfMemory>
     requires { IsCondition terms.now condition.now }
 {
+    if has_deep_terms(alloc, terms, &condition.goal)? {
+        return Ok(Some(String::from_str(alloc, DEEP)?));
+    }
     let names = Names::of_condition(alloc, development.parts(), condition)?;
     let lines = match flawed {
         Some(flawed) => state_at(
@@ -153,6 +160,24 @@ pub fn certificate_explanation(
     said(alloc, path, bytes, place, sentence, lines)
 }
 
+/// The hypotheses of a condition of which no proof was found, and a state in which it fails, if a search ends in one.
+fn unfound_lines(
+    alloc: Global,
+    development: &Development,
+    terms: &Terms,
+    condition: &Condition,
+) -> Result<String, OutOfMemory>
+    requires { IsCondition terms.now condition.now }
+{
+    let names = Names::of_condition(alloc, development.parts(), condition)?;
+    let mut text = goal_text(alloc, &names, terms, &condition.goal)?;
+    names.push_variables(&mut text)?;
+    if let Some(state) = failing_text(alloc, &names, terms, &condition.goal)? {
+        text.push_str(&state)?;
+    }
+    Ok(text)
+}
+
 /// What the condition of a number asks of which no proof was found, and its hypotheses.
 pub fn unfound_explanation(
     alloc: Global,
@@ -166,14 +191,12 @@ pub fn unfound_explanation(
         return Ok(None);
     };
     let words = condition_words(alloc, development, condition)?;
-    let names = Names::of_condition(alloc, development.parts(), condition)?;
-    let lines = goal_text(alloc, &names, &terms, &condition.goal)?;
     let mut text = String::new(alloc);
     write!(text, "no proof of condition {number} was found ({words})\n")?;
-    text.push_str(&lines)?;
-    names.push_variables(&mut text)?;
-    if let Some(state) = failing_text(alloc, &names, &terms, &condition.goal)? {
-        text.push_str(&state)?;
+    if has_deep_terms(alloc, &terms, &condition.goal)? {
+        text.push_str(DEEP)?;
+    } else {
+        text.push_str(&unfound_lines(alloc, development, &terms, condition)?)?;
     }
     Ok(Some(text))
 }

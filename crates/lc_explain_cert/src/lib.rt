@@ -4,6 +4,7 @@
 
 mod certificate;
 mod condition;
+mod depth;
 mod failing;
 mod flawed;
 mod formula;

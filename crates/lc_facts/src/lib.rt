@@ -10,4 +10,4 @@ mod nodes;
 pub use fact::{Fact, FactId, Made, Multiplier, Place, ProofId, Rule, Step};
 pub use form::Form;
 pub use known::{Done, Indexed, Known, Mark, Probed, Trial, Weighed};
-pub use nodes::Nodes;
+pub use nodes::{Nodes, Taken};

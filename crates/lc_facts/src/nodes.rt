@@ -8,6 +8,7 @@ mod learning;
 mod opening;
 mod parts;
 mod summing;
+mod taking;
 mod trees;
 
 use crate::form::Form;
@@ -17,9 +18,10 @@ use lc_farkas::Stop;
 use lc_table::{ColExprId, FormulaId, FormulaNode, TermId, TermNode};
 use std::alloc::Global;
 pub(crate) use summing::narrow;
+pub use taking::Taken;
 
-/// How deep nodes are followed. Conditions nest far less deep.
-pub(crate) const NESTING: u32 = 4000;
+/// How many stores of a column expression are followed for its indexes.
+pub(crate) const STORES: u32 = 4000;
 
 /// How large a node is, and how many quantifiers round it its bound variables ask for.
 #[derive(Clone, Copy)]
@@ -194,7 +196,7 @@ impl Nodes {
     /// The column that a column expression stores in; none of an affine one, and none below more stores than are followed.
     pub fn base_of(&self, column: ColExprId) -> Option<ColId> {
         let mut column = column;
-        for _ in 0..NESTING {
+        for _ in 0..STORES {
             match self.column_node(column) {
                 Some(TermNode::Base(base)) => return Some(base),
                 Some(TermNode::Store(before, _, _)) => column = before,

@@ -1,5 +1,5 @@
 -- What is read at the places of a call.
-use Rattle.std.proofs.Common.{◌≡◌, ℕ, ◌<◌, List, ℤ, Option, Some, None, IfSome, length, get_or, Bool, true, ◌↔◌, ap, sym, subst, ◌∙◌}
+use Rattle.std.proofs.Common.{◌≡◌, ℕ, ◌<◌, List, ℤ, Option, Some, IfSome, length, get_or, Bool, true, ◌↔◌, ap, sym, subst, ◌∙◌}
 use Rattle.lc_seq.specs.Sequential.{Call}
 use Rattle.lc_hist.specs.Checked.{called_in, replied_in, call_at, reply_there, reply_at, IsWithin, IsNamed, IsReplied}
 use Rattle.lc_hist.specs.History.{Event, Called, Replied}

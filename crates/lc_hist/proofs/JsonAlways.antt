@@ -1,5 +1,5 @@
 -- Each text says a history and an order, or has a first wrong item.
-use Rattle.std.proofs.Common.{◌≡◌, ℕ, zero, suc, ◌+◌, ◌≤◌, Bool, true, false, List, [], ◌∷◌, ◌++◌, Option, Some, None, option_and_then, option_map, take, slice_get, length, refl, ap, sym, subst, ◌∙◌, arith, ◌⊎◌, inl, inr}
+use Rattle.std.proofs.Common.{◌≡◌, ℕ, zero, suc, ◌+◌, ◌≤◌, Bool, true, false, List, [], ◌∷◌, ◌++◌, Option, Some, None, option_and_then, option_map, take, slice_get, length, refl, sym, subst, arith, ◌⊎◌, inl, inr}
 use Rattle.std.specs.Prelude.{is_some, IsUtf8, nat_le}
 use Rattle.std.specs.Str.{is_utf8}
 use Rattle.std.proofs.lemmas.Bool.{leb-true, leb-false}

@@ -17,7 +17,8 @@ pub lookup_last : {K X : Type 0} (test : K → Bool) (es : List (K × X)) (k : K
 lookup_last test [] k x = refl
 lookup_last test (e ∷ es) k x = ap (cond (test e.0) (Some e.1)) (lookup_last test es k x) ∙ first_of_two (test e.0) (test k) e.1 x (lookup test es)
 
-counted_on : (n : ℕ) (p : Option ℕ) → option_map (λ k. n + 1 + k) p ≡ option_map (λ k. n + k) (option_map suc p)
+-- a place behind one more operation
+pub counted_on : (n : ℕ) (p : Option ℕ) → option_map (λ k. n + 1 + k) p ≡ option_map (λ k. n + k) (option_map suc p)
 counted_on n None = refl
 counted_on n (Some k) = ap Some (omega arith)
 

@@ -1,6 +1,5 @@
 -- What rows of a text say, by the tokens of their parts.
-use Rattle.std.proofs.Common.{◌≡◌, ℕ, zero, suc, ◌≤◌, Bool, true, List, [], ◌∷◌, ◌++◌, ℤ, length, Option, Some, None, option_and_then, refl, sym, ap, subst, ◌∙◌, arith, codes, slice_get}
-use Rattle.std.specs.Prelude.{bytes_eq}
+use Rattle.std.proofs.Common.{◌≡◌, ℕ, suc, ◌≤◌, true, List, [], ◌∷◌, ◌++◌, ℤ, length, Option, Some, None, refl, sym, ap, subst, ◌∙◌, arith, codes, slice_get}
 use Rattle.json.specs.Token.{Token}
 use Rattle.json.specs.Json.{after_end_array}
 use Rattle.serde_json.specs.Data.{Data, array}
@@ -8,11 +7,11 @@ use Rattle.serde_json.specs.Find.{as_str}
 use Rattle.serde_json.specs.View.{items_of}
 use Rattle.lc_seq.specs.Sequential.{Call, Choice, InOrder, ByName}
 use Rattle.lc_seq.specs.Specification.{Operation}
-use Rattle.lc_hist.specs.History.{Event, Called, Replied, Entry}
+use Rattle.lc_hist.specs.History.{Event, Called, Replied}
 use Rattle.lc_hist.specs.JsonTokens.{Begins, BeginAll, Says, SayCall, SayDeed, SayPick, said_alone}
 use Rattle.lc_hist.specs.JsonValues.{numbers_in, client_in, event_from, event_in, has_replies, has_choice, pick_in, done_from, entry_from, entry_in}
 use Rattle.lc_hist.proofs.JsonLists.{values_in-items_of}
-use Rattle.lc_hist.proofs.JsonTokens.{wider, BeginsRow, row_begins, row_all, row_ends}
+use Rattle.lc_hist.proofs.JsonTokens.{wider, row_begins, row_all, row_ends}
 
 wider_all : (levels more : ℕ) (tokens : List Token) (ds : List Data) (rest : List Token) → levels ≤ more → BeginAll levels tokens ds rest → BeginAll more tokens ds rest
 wider_all levels more tokens [] rest le all = all
@@ -30,18 +29,18 @@ list_read levels tokens inner ds between rest opens all ends = row_ends levels t
 -- ---- events
 
 pub deed_call : (operations : List Operation) (client : ℕ) (tokens : List Token) (text : List ℕ) (between : List Token) (call : Call) (rest : List Token)
-    → Says 0 as_str tokens text between → bytes_eq text (codes "call") ≡ true → SayCall operations between call rest → SayDeed operations client tokens (Called client call) rest
+    → Says 0 as_str tokens text between → text ≡ codes "call" → SayCall operations between call rest → SayDeed operations client tokens (Called client call) rest
 deed_call operations client tokens text between call rest word is said = (
   word.0 ∷ said.0 ∷ said.1 ∷ [],
-  λ d of. let says = word.1 in let calls = said.2 in rw (says, is, of, calls) refl,
+  λ d of. let says = word.1 ∙ ap Some is in let calls = said.2 in rw (says, of, calls) refl,
   (between, wider 0 1 tokens word.0 between (omega arith) word.2, said.3),
 )
 
 pub deed_return : (operations : List Operation) (client : ℕ) (tokens : List Token) (text : List ℕ) (between : List Token) (numbers : List ℤ) (rest : List Token)
-    → Says 0 as_str tokens text between → bytes_eq text (codes "return") ≡ true → Says 1 numbers_in between numbers rest → SayDeed operations client tokens (Replied client numbers) rest
+    → Says 0 as_str tokens text between → text ≡ codes "return" → Says 1 numbers_in between numbers rest → SayDeed operations client tokens (Replied client numbers) rest
 deed_return operations client tokens text between numbers rest word is said = (
   word.0 ∷ said.0 ∷ [],
-  λ d of. let says = word.1 in let reply = said.1 in rw (says, is, of, reply) refl,
+  λ d of. let says = word.1 ∙ ap Some is in let reply = said.1 in rw (says, of, reply) refl,
   (between, wider 0 1 tokens word.0 between (omega arith) word.2, (rest, said.2, refl)),
 )
 

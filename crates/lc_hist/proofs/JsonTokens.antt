@@ -1,21 +1,18 @@
 -- How values stand in the tokens of a text.
-use Rattle.std.proofs.Common.{◌≡◌, ℕ, zero, suc, ◌-◌, ◌<◌, ◌≤◌, List, [], ◌∷◌, ◌++◌, length, Option, Some, None, option_map, option_and_then, refl, sym, ap, subst, ◌∙◌, arith, codes, ℤ}
+use Rattle.std.proofs.Common.{◌≡◌, ℕ, suc, ◌-◌, ◌<◌, ◌≤◌, List, [], ◌∷◌, ◌++◌, length, Option, Some, None, option_map, option_and_then, refl, sym, ap, subst, ◌∙◌, arith, ℤ, IfSome}
 use Rattle.std.proofs.lemmas.List.{append-nil, append_assoc}
 use Rattle.json.specs.Token.{Token}
 use Rattle.json.specs.Lex.{tokens}
 use Rattle.json.specs.Json as json
 use Rattle.json.specs.Json.{parse_map, after_end_array, read_key, items, members, value, if_last}
-use Rattle.json.proofs.Grammar.{value_is, value-begin_array, value-begin_object, items_end, items_more, members_more, members_end, skip_value-shorter}
-use Rattle.serde_json.specs.Data.{Num, Data, number, string, array, object, Items, no_items, item}
+use Rattle.json.proofs.Grammar.{value_is, value-begin_array, items_end, items_more, skip_value-shorter}
+use Rattle.serde_json.specs.Data.{Num, negative, Data, number, string, array, Items, no_items, item}
 use Rattle.serde_json.specs.Find.{as_str, as_i64, as_u64}
-use Rattle.serde_json.specs.Read.{number_of, of_json, of_items, converted, read}
+use Rattle.serde_json.specs.Read.{number_of, of_json, of_items, converted}
 use Rattle.serde_json.specs.View.{items_of}
-use Rattle.lc_seq.specs.Sequential.{Call, Choice}
 use Rattle.lc_seq.specs.Specification.{Operation, takes}
-use Rattle.lc_hist.specs.History.{Event, Entry}
-use Rattle.lc_hist.specs.JsonHistories.{Parts, parts_in}
 use Rattle.lc_hist.specs.JsonTokens.{Begins, BeginAll, Says}
-use Rattle.lc_hist.specs.JsonValues.{values_in, all_in, number_in, numbers_in, client_in, client_within, operation_of, call_with, call_in}
+use Rattle.lc_hist.specs.JsonValues.{all_in, number_in, numbers_in, client_in, client_within, operation_of, call_with, call_in}
 use Rattle.lc_hist.proofs.JsonLists.{values_in-items_of}
 
 -- ---- one value
@@ -40,22 +37,21 @@ begins_number tokens s n rest is of = record {
   reads = λ depth le. ap (converted of_json) (ap (value depth) is ∙ value_is depth (Token.number s ∷ rest)) ∙ ap (λ o. option_map (λ (b : Data). (b, rest)) (option_map number o)) of;
 }
 
-number_found : (tokens : List Token) (s : List ℕ) (rest : List Token) (z : ℤ) (n : Option Num) → tokens ≡ Token.number s ∷ rest → number_of s ≡ n → option_and_then as_i64 n ≡ Some z → Says 0 number_in tokens z rest
-number_found tokens s rest z None is of says = absurd cc
-number_found tokens s rest z (Some n) is of says = (number n, says, begins_number tokens s n rest is of)
-
 -- a numeral that is a number
-pub says_number : (tokens : List Token) (s : List ℕ) (rest : List Token) (z : ℤ) → tokens ≡ Token.number s ∷ rest → option_and_then as_i64 (number_of s) ≡ Some z → Says 0 number_in tokens z rest
-says_number tokens s rest z is says = number_found tokens s rest z (number_of s) is refl says
+pub says_number : (tokens : List Token) (s : List ℕ) (n : Num) (rest : List Token) (found : Option ℤ) → tokens ≡ Token.number s ∷ rest → number_of s ≡ Some n → IfSome found (λ z. as_i64 n ≡ Some z)
+    → IfSome found (λ z. Says 0 number_in tokens z rest)
+says_number tokens s n rest None is of said = tt
+says_number tokens s n rest (Some z) is of said = (number n, said, begins_number tokens s n rest is of)
 
-client_found : (tokens : List Token) (s : List ℕ) (rest : List Token) (c : ℕ) (n : Option Num) → tokens ≡ Token.number s ∷ rest → number_of s ≡ n → option_and_then client_within (option_and_then as_u64 n) ≡ Some c
-    → Says 0 client_in tokens c rest
-client_found tokens s rest c None is of says = absurd cc
-client_found tokens s rest c (Some n) is of says = (number n, says, begins_number tokens s n rest is of)
+pub says_negative : (tokens rest : List Token) (found : Option ℤ) → IfSome found (λ z. (s : List ℕ) × (tokens ≡ Token.number s ∷ rest) × (number_of s ≡ Some (negative z))) → IfSome found (λ z. Says 0 number_in tokens z rest)
+says_negative tokens rest None said = tt
+says_negative tokens rest (Some z) said = (number (negative z), refl, begins_number tokens said.0 (negative z) rest said.1 said.2)
 
 -- a numeral that is a client
-pub says_client : (tokens : List Token) (s : List ℕ) (rest : List Token) (c : ℕ) → tokens ≡ Token.number s ∷ rest → option_and_then client_within (option_and_then as_u64 (number_of s)) ≡ Some c → Says 0 client_in tokens c rest
-says_client tokens s rest c is says = client_found tokens s rest c (number_of s) is refl says
+pub says_client : (tokens : List Token) (s : List ℕ) (n : Num) (rest : List Token) (found : Option ℕ) → tokens ≡ Token.number s ∷ rest → number_of s ≡ Some n
+    → IfSome found (λ c. option_and_then client_within (as_u64 n) ≡ Some c) → IfSome found (λ c. Says 0 client_in tokens c rest)
+says_client tokens s n rest None is of said = tt
+says_client tokens s n rest (Some c) is of said = (number n, said, begins_number tokens s n rest is of)
 
 -- more lists may nest
 pub wider : (levels more : ℕ) (tokens : List Token) (d : Data) (rest : List Token) → levels ≤ more → Begins levels tokens d rest → Begins more tokens d rest

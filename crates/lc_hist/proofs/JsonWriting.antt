@@ -12,7 +12,7 @@ use Rattle.lc_seq.specs.Specification.{Operation, takes}
 use Rattle.lc_hist.specs.History.{Event, Called, Replied, Entry}
 use Rattle.lc_hist.specs.JsonHistories.{parts_in, AreNext, AreEntries}
 use Rattle.lc_hist.specs.JsonKept.{AreKept, IsKeptEvent, IsKeptEntry, Each}
-use Rattle.lc_hist.specs.JsonValues.{all_in, numbers_in, client_in, place_of, number_within, operation_of, call_with, call_in, has_replies, has_choice, choice_with, pick_in, entry_with, done_from, event_in, entry_in}
+use Rattle.lc_hist.specs.JsonValues.{all_in, numbers_in, client_in, place_of, number_within, operation_of, call_with, call_in, has_replies, has_choice, pick_in, entry_with, done_from, event_in, entry_in}
 use Rattle.lc_hist.proofs.JsonLists.{both_parts, values_in-items_of}
 use Rattle.lc_hist.specs.JsonWritten.{list_data, number_data, numbers_data, name_of, name_data, event_data, entry_data, choice_data, history_data, history_text, SaysOnly}
 use Rattle.lc_hist.proofs.NamesApart.{NamesDiffer}

@@ -1,5 +1,5 @@
 mod Clients
-mod Places
+pub mod Places
 mod Picked
 mod Calls
 mod Order
@@ -9,8 +9,8 @@ mod Preceded
 mod Replays
 pub mod Tables
 mod Turns
+mod JsonLexed
 mod JsonLists
-mod JsonNumerals
 mod JsonRows
 mod JsonTokens
 mod JsonWhole

@@ -1,12 +1,12 @@
 -- An order has one judgement, but for want of memory.
-use Rattle.std.proofs.Common.{◌≡◌, ℕ, suc, ◌<◌, List, ℤ, Some, Ok, Err, Result, take, slice_get, length, refl, sym, ap, ap₂, subst, ◌∙◌, inl, inr, arith}
+use Rattle.std.proofs.Common.{◌≡◌, ℕ, suc, ◌<◌, List, Ok, Err, Result, take, length, refl, sym, ap, ap₂, subst, ◌∙◌, inl, inr, arith}
 use Rattle.std.specs.Prelude.{◌==◌, if◌then◌else◌}
 use Rattle.std.proofs.lemmas.Bool.{cases_order}
 use Rattle.std.proofs.lemmas.Option.{slice_get_within}
 use Rattle.lc_seq.specs.Sequential.{Call, Sequential, Choice}
 use Rattle.lc_hist.specs.History.{Event, Entry}
 use Rattle.lc_hist.specs.Judged.{IsFirstFailure, FitsAlong, applied, IsOverflow, IsJudged, IsTold}
-use Rattle.lc_hist.specs.Tests.{IsTested, Passes, rank}
+use Rattle.lc_hist.specs.Tests.{rank}
 use Rattle.lc_hist.specs.declared.judging.JudgeFault.{JudgeFault}
 use Rattle.lc_hist.specs.declared.judging.JudgeFault.TheVariants.{Order, Overflow, OutOfMemory}
 use Rattle.lc_hist.specs.declared.reason.Reason.{Reason}

@@ -2,7 +2,7 @@
 use Rattle.std.proofs.Common.{◌≡◌, ℕ, zero, suc, ◌<◌, true, ◌==◌, cond, List, [], ◌∷◌, ℤ, Some, None, take, slice_get, length, refl, ap, sym, subst, ◌∙◌, inl, inr, arith}
 use Rattle.std.proofs.lemmas.Bool.{cases_order}
 use Rattle.std.proofs.Math.Seq.{take-length}
-use Rattle.lc_seq.specs.Sequential.{Call, Sequential, Step}
+use Rattle.lc_seq.specs.Sequential.{Call, Sequential}
 use Rattle.lc_hist.specs.History.{Event, Called, Replied, Entry, IsLegal, is_call, is_return, is_of, count, IsPlace, Precedes, entries_of, AreCalls, Linearizes}
 use Rattle.lc_hist.specs.WellFormed.{IsWellFormed}
 use Rattle.lc_hist.specs.Tests.{IsCallOf, IsReplyOf, named, NamesItsCall, HasItsReply, IsUnpreceded, IsComplete, PassesEach}

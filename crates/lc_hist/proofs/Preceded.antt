@@ -1,5 +1,5 @@
 -- Which places of an order are preceded by later ones.
-use Rattle.std.proofs.Common.{◌≡◌, ℕ, zero, suc, ◌+◌, ◌<◌, ◌≤◌, Bool, true, false, List, [], ◌∷◌, Option, Some, None, drop, slice_get, length, set, refl, ap, sym, ◌∙◌, add-one, min, inl, inr, arith}
+use Rattle.std.proofs.Common.{◌≡◌, ℕ, zero, suc, ◌+◌, ◌<◌, ◌≤◌, Bool, true, List, [], ◌∷◌, Option, Some, None, drop, slice_get, length, set, refl, ap, sym, ◌∙◌, add-one, min, inl, inr, arith}
 use Rattle.std.proofs.lemmas.Bool.{cases_order, ltb-true, lt-ltb}
 use Rattle.std.proofs.lemmas.Bool.Decides.{leb_tells}
 use Rattle.lc_hist.proofs.Tables.{slice_get-set, slice_get-set_other}

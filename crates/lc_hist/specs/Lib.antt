@@ -3,6 +3,7 @@ pub mod Faults
 pub mod Histories
 pub mod History
 pub mod InCall
+pub mod JsonCursor
 pub mod JsonHistories
 pub mod JsonKept
 pub mod JsonSeen

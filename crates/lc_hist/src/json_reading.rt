@@ -128,13 +128,10 @@ fn read_at_once(
 ) -> Result<Option<(History, Vec<Done<TextCall, Pick, Vec<i64>>>)>, OutOfMemory>
     ensures { IfOk result (λ found. IfSome found (λ answer. SaysHistory (all_of operations.now) bytes.now (events_in answer.0) (entries_seen answer.1.items))) }
 {
-    if bytes.len() as u64 > FILE_LIMIT {
+    if bytes.len() as u64 > FILE_LIMIT || !simdutf8::is_utf8(bytes) {
         return Ok(None);
     }
-    match simdutf8::basic::from_utf8(bytes) {
-        Ok(text) => read_right(alloc, operations, text),
-        Err(_) => Ok(None),
-    }
+    read_right(alloc, operations, bytes)
 }
 
 /// The history and the order that these bytes say, by all their values; else the first item that is wrong.

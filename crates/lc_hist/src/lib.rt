@@ -1,6 +1,7 @@
 //! Histories of calls and returns, and the judge of orders that are to linearize them.
 #![tactic(auto)]
 
+mod cursor;
 mod event;
 mod history;
 mod json_reading;

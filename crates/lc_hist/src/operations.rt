@@ -1,5 +1,5 @@
 //! The operations of a specification, found by their names.
-ghost use Rattle.std.specs.Prelude.{◌≡◌, ℕ, List, true, false, Some, None, OnOk, MatchOption, if◌then◌else◌, bytes_eq};
+ghost use Rattle.std.specs.Prelude.{◌≡◌, ℕ, List, true, false, Some, None, OnOk, IfSome, MatchOption, if◌then◌else◌, bytes_eq};
 ghost use Rattle.std.specs.List.{list_any};
 ghost use Rattle.lc_base.specs.Name.{bytes_of};
 ghost use Rattle.lc_seq.specs.Specification.{names, is_in_order};
@@ -8,10 +8,15 @@ ghost use Rattle.std.specs.Option.{option_or};
 ghost use Rattle.lc_seq.specs.SpecView.{operations_of, branches_of};
 ghost use Rattle.lc_hist.specs.JsonValues.{place_of};
 
+use crate::tokens::are_same;
 use indexmap::IndexMap;
 use lc_base::{Name, OpId, OutOfMemory};
 use lc_seq::{Branch, Label, Operation};
 use std::alloc::Global;
+use std::str;
+
+/// How many operations are looked through before their table is asked.
+const EARLY: usize = 4;
 
 /// The operations of a specification, which are found by their names.
 pub(crate) struct Operations<'a> {
@@ -42,6 +47,29 @@ fn note_place<'a>(
     Ok(())
 }
 
+/// Whether this is the name of an operation.
+fn is_named(operation: &Operation, name: &[u8]) -> bool
+    ensures { result ≡ bytes_eq name.now (bytes_of operation.now.name) }
+{
+    are_same(name, operation.name.as_str().as_bytes())
+}
+
+/// The place at which a name stands first, if it is one of the first few: there it is found sooner than in a table.
+#[tactic(auto, using(crate::proofs::JsonNames::counted_on))]
+fn early_place(all: &[Operation], name: &[u8]) -> Option<usize>
+    ensures { IfSome result (λ place. place_of (operations_of all.now) name.now ≡ Some place) }
+{
+    for (place, operation) in all.iter().enumerate() {
+        if place == EARLY {
+            return None;
+        }
+        if is_named(operation, name) {
+            return Some(place);
+        }
+    }
+    None
+}
+
 /// The name of a branch that has this name, and so many parameters.
 fn named_branch(branches: &[Branch], text: &str, count: usize) -> Option<Name>
     ensures { MatchOption result (list_any (λ b. names b.label text.now count) (branches_of branches.now) ≡ false)
@@ -69,7 +97,7 @@ fn has_ordered(branches: &[Branch]) -> bool
 }
 
 impl<'a> Operations<'a> {
-    ghost use Rattle.std.specs.Prelude.{◌≡◌, ℤ, List, true, false, length, IfOk, MatchOption, slice_get, option_map};
+    ghost use Rattle.std.specs.Prelude.{◌≡◌, ℤ, List, true, false, length, Some, IfOk, IfSome, MatchOption, slice_get, option_map};
     ghost use Rattle.lc_seq.specs.Specification.{takes};
     ghost use Rattle.lc_seq.specs.SpecView.{operations_of};
     ghost use Rattle.lc_hist.specs.JsonSeen.{all_of, number_of};
@@ -94,6 +122,19 @@ impl<'a> Operations<'a> {
     {
         let place = self.places.get(name).copied()?;
         Some(OpId(u32::try_from(place).ok()?))
+    }
+
+    /// The operation whose name has these bytes. `None` says nothing of the name.
+    pub(crate) fn spelled(&self, name: &[u8]) -> Option<OpId>
+        ensures { IfSome result (λ op. operation_of (all_of self.now) name.now ≡ Some op.0) }
+    {
+        if let Some(place) = early_place(self.all, name) {
+            return Some(OpId(u32::try_from(place).ok()?));
+        }
+        match str::from_utf8(name) {
+            Ok(name) => self.named(name),
+            Err(_) => None,
+        }
     }
 
     /// Whether an operation takes so many numbers.

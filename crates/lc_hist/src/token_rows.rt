@@ -1,7 +1,5 @@
 //! How a history that is right is read from the tokens of its text, a row at a time.
-ghost use Rattle.std.specs.Prelude.{◌≡◌, [], ◌∷◌, Some, IsTrue, IfOk, IfSome};
-ghost use Rattle.json.specs.Json.{read_key};
-ghost use Rattle.json.specs.Token.{begin_object, end_object};
+ghost use Rattle.std.specs.Prelude.{◌≡◌, Some, IfOk, IfSome};
 ghost use Rattle.lc_seq.specs.SpecView.{choice_of};
 ghost use Rattle.lc_hist.specs.Histories.{events_in};
 ghost use Rattle.lc_hist.specs.JsonHistories.{entry_seen, entries_seen};
@@ -10,28 +8,31 @@ ghost use Rattle.lc_hist.specs.JsonTokens.{Says, SayDeed, SayPick, SayEvents, Sa
 ghost use Rattle.lc_hist.specs.JsonValues.{event_in, entry_in, pick_in};
 ghost use Rattle.lc_hist.specs.View.{event_of};
 
+use crate::cursor::Cursor;
 use crate::event::{Done, Event};
 use crate::history::History;
 use crate::json_reading::may_follow;
 use crate::open_calls::{OpenCalls, opened};
 use crate::operations::Operations;
-use crate::tokens::{begins_array, next_call, next_client, next_numbers, next_text};
-use json::{Reader, Scratch, Token};
+use crate::tokens::{are_same, next_call, next_numbers};
 use lc_base::{OpId, OutOfMemory};
 use lc_seq::{Pick, TextCall};
 use std::alloc::Global;
+use std::str;
 
 /// What is said of a client's event behind the client.
 fn next_deed(
     alloc: Global,
     operations: &Operations<'_>,
     client: u32,
-    reader: &mut Reader<'_>,
+    reader: &mut Cursor<'_>,
 ) -> Result<Option<Event>, OutOfMemory>
     ensures { IfOk result (λ found. IfSome found (λ event. SayDeed (all_of operations.now) client reader.old (event_of event) reader.new)) }
 {
-    match next_text(reader) {
-        Some(word) if word == "call" => match next_call(alloc, operations, reader)? {
+    match reader.next_text() {
+        Some(word) if are_same(word, b"call".as_slice()) => match next_call(
+            alloc, operations, reader,
+        )? {
             Some(call) => Ok(Some(Event::Invoke {
                 client,
                 op: call.op,
@@ -39,7 +40,7 @@ fn next_deed(
             })),
             None => Ok(None),
         },
-        Some(word) if word == "return" => match next_numbers(alloc, reader)? {
+        Some(word) if are_same(word, b"return".as_slice()) => match next_numbers(alloc, reader)? {
             Some(numbers) => Ok(Some(Event::Respond { client, numbers })),
             None => Ok(None),
         },
@@ -51,14 +52,14 @@ fn next_deed(
 fn next_event(
     alloc: Global,
     operations: &Operations<'_>,
-    reader: &mut Reader<'_>,
+    reader: &mut Cursor<'_>,
 ) -> Result<Option<Event>, OutOfMemory>
     ensures { IfOk result (λ found. IfSome found (λ event. Says 3 (event_in (all_of operations.now)) reader.old (event_of event) reader.new)) }
 {
-    if !begins_array(reader) {
+    if !reader.begins_array() {
         return Ok(None);
     }
-    let Some(client) = next_client(reader) else {
+    let Some(client) = reader.next_client() else {
         return Ok(None);
     };
     let Some(event) = next_deed(alloc, operations, client, reader)? else {
@@ -75,14 +76,17 @@ fn next_named_pick(
     alloc: Global,
     operations: &Operations<'_>,
     op: OpId,
-    reader: &mut Reader<'_>,
+    reader: &mut Cursor<'_>,
 ) -> Result<Option<Pick>, OutOfMemory>
     ensures { IfOk result (λ found. IfSome found (λ pick. Says 2 (λ d. pick_in (all_of operations.now) op.0 (Some d)) reader.old (choice_of pick) reader.new)) }
 {
-    if !begins_array(reader) {
+    if !reader.begins_array() {
         return Ok(None);
     }
-    let Some(text) = next_text(reader) else {
+    let Some(text) = reader.next_text() else {
+        return Ok(None);
+    };
+    let Ok(text) = str::from_utf8(text) else {
         return Ok(None);
     };
     let Some(numbers) = next_numbers(alloc, reader)? else {
@@ -102,7 +106,7 @@ fn next_pick(
     alloc: Global,
     operations: &Operations<'_>,
     op: OpId,
-    reader: &mut Reader<'_>,
+    reader: &mut Cursor<'_>,
 ) -> Result<Option<Pick>, OutOfMemory>
     ensures { IfOk result (λ found. IfSome found (λ pick. SayPick (all_of operations.now) op.0 reader.old (choice_of pick) reader.new)) }
 {
@@ -122,14 +126,14 @@ fn next_pick(
 fn next_entry(
     alloc: Global,
     operations: &Operations<'_>,
-    reader: &mut Reader<'_>,
+    reader: &mut Cursor<'_>,
 ) -> Result<Option<Done<TextCall, Pick, Vec<i64>>>, OutOfMemory>
     ensures { IfOk result (λ found. IfSome found (λ entry. Says 3 (entry_in (all_of operations.now)) reader.old (entry_seen entry) reader.new)) }
 {
-    if !begins_array(reader) {
+    if !reader.begins_array() {
         return Ok(None);
     }
-    let Some(client) = next_client(reader) else {
+    let Some(client) = reader.next_client() else {
         return Ok(None);
     };
     let Some(call) = next_call(alloc, operations, reader)? else {
@@ -156,11 +160,11 @@ fn next_entry(
 fn next_history(
     alloc: Global,
     operations: &Operations<'_>,
-    reader: &mut Reader<'_>,
+    reader: &mut Cursor<'_>,
 ) -> Result<Option<History>, OutOfMemory>
     ensures { IfOk result (λ found. IfSome found (λ history. SayEvents (all_of operations.now) reader.old (events_in history) reader.new)) }
 {
-    if !begins_array(reader) {
+    if !reader.begins_array() {
         return Ok(None);
     }
     let mut events = Vec::new(alloc);
@@ -183,11 +187,11 @@ fn next_history(
 fn next_order(
     alloc: Global,
     operations: &Operations<'_>,
-    reader: &mut Reader<'_>,
+    reader: &mut Cursor<'_>,
 ) -> Result<Option<Vec<Done<TextCall, Pick, Vec<i64>>>>, OutOfMemory>
     ensures { IfOk result (λ found. IfSome found (λ order. SayEntries (all_of operations.now) reader.old (entries_seen order.items) reader.new)) }
 {
-    if !begins_array(reader) {
+    if !reader.begins_array() {
         return Ok(None);
     }
     let mut order = Vec::new(alloc);
@@ -200,51 +204,27 @@ fn next_order(
     Ok(Some(order))
 }
 
-/// Whether this is the next key; if so, it is taken.
-fn takes_key(reader: &mut Reader<'_>, key: &str) -> bool
-    ensures { IsTrue result → read_key reader.old ≡ Some (Some key.now, reader.new) }
-{
-    match reader.next_key() {
-        Ok(Some(found)) => found == key,
-        _ => false,
-    }
-}
-
-/// Whether an object begins next; if so, its brace is taken.
-fn begins_object(reader: &mut Reader<'_>) -> bool
-    ensures { IsTrue result → reader.old ≡ begin_object ∷ reader.new }
-{
-    matches!(reader.next(), Some(Token::BeginObject))
-}
-
-/// Whether the text ends here with the end of an object.
-fn is_over(reader: &mut Reader<'_>) -> bool
-    ensures { IsTrue result → reader.old ≡ end_object ∷ [] }
-{
-    matches!(reader.next(), Some(Token::EndObject)) && reader.next().is_none()
-}
-
 /// The history under the key `events` and the order under the key `order`, which is all that is left of the text.
 fn next_parts(
     alloc: Global,
     operations: &Operations<'_>,
-    reader: &mut Reader<'_>,
+    reader: &mut Cursor<'_>,
 ) -> Result<Option<(History, Vec<Done<TextCall, Pick, Vec<i64>>>)>, OutOfMemory>
     ensures { IfOk result (λ found. IfSome found (λ answer. AreMembers (all_of operations.now) reader.old (events_in answer.0) (entries_seen answer.1.items))) }
 {
-    if !takes_key(reader, "events") {
+    if !reader.takes_key(b"events".as_slice()) {
         return Ok(None);
     }
     let Some(history) = next_history(alloc, operations, reader)? else {
         return Ok(None);
     };
-    if !takes_key(reader, "order") {
+    if !reader.takes_key(b"order".as_slice()) {
         return Ok(None);
     }
     let Some(order) = next_order(alloc, operations, reader)? else {
         return Ok(None);
     };
-    if !is_over(reader) {
+    if !reader.is_over() {
         return Ok(None);
     }
     Ok(Some((history, order)))
@@ -255,13 +235,12 @@ fn next_parts(
 pub(crate) fn read_right(
     alloc: Global,
     operations: &Operations<'_>,
-    text: &str,
+    text: &[u8],
 ) -> Result<Option<(History, Vec<Done<TextCall, Pick, Vec<i64>>>)>, OutOfMemory>
     ensures { IfOk result (λ found. IfSome found (λ answer. AreSaid (all_of operations.now) text.now (events_in answer.0) (entries_seen answer.1.items))) }
 {
-    let mut scratch = Scratch::new(alloc);
-    let mut reader = Reader::new(text, &mut scratch)?;
-    if !begins_object(&mut reader) {
+    let mut reader = Cursor::new(text);
+    if !reader.begins_object() {
         return Ok(None);
     }
     next_parts(alloc, operations, &mut reader)

@@ -159,6 +159,9 @@ fn add_gap(
     requires { IsFormula terms.now formula }
     ensures { OnOk result (AddsIn terms.now form.old form.new (λ p. count *ℤ form_of (gap (formula_in terms.now formula)) p)) }
 {
+    if count == 0 {
+        return Ok(());
+    }
     match terms.formula_node(formula) {
         FormulaNode::Le(left, right) | FormulaNode::Eq(left, right) => {
             add_difference(form, terms, *left, *right, count)?;

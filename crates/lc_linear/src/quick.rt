@@ -20,21 +20,26 @@ use std::alloc::Global;
 // How many nodes of a term are walked over before its parts are taken each once, in place of each time that they stand there.
 const WALK_LIMIT: u32 = 4096;
 
+// How many levels a walk goes down, before it is left to a loop over the parts: as many as a text may have.
+const LEVELS: u32 = 1000;
+
 // A bound of all numbers of the form and of the forms of its parts; none where the bound leaves 128 bits, or where the
-// term has more nodes than steps are left.
-fn walked(terms: &Terms, term: TermId, steps: &mut u32) -> Option<u128>
+// term has more nodes than steps are left, or more levels.
+fn walked(terms: &Terms, term: TermId, steps: &mut u32, levels: u32) -> Option<u128>
     requires { IsTerm terms.now term }
     ensures { IfSome result (λ w. w ≡ weight (term_in terms.now term)) }
 {
     *steps = steps.checked_sub(1)?;
+    let levels = levels.checked_sub(1)?;
     match terms.term_node(term) {
         TermNode::Number(number) => Some(u128::from(number.unsigned_abs())),
         TermNode::Variable(_) | TermNode::Bound(_) | TermNode::Read(_, _) => Some(1),
         TermNode::Add(left, right) | TermNode::Subtract(left, right) => {
-            walked(terms, left, steps)?.checked_add(walked(terms, right, steps)?)
+            walked(terms, left, steps, levels)?.checked_add(walked(terms, right, steps, levels)?)
         }
         TermNode::Multiply(factor, term) => {
-            u128::from(factor.unsigned_abs().max(1)).checked_mul(walked(terms, term, steps)?)
+            let below = walked(terms, term, steps, levels)?;
+            u128::from(factor.unsigned_abs().max(1)).checked_mul(below)
         }
         TermNode::Base(_) | TermNode::Store(_, _, _) | TermNode::Affine(_, _) => unreachable!(),
     }
@@ -46,7 +51,7 @@ pub(crate) fn weight(terms: &Terms, term: TermId) -> Option<u128>
     ensures { IfSome result (λ w. w ≡ weight (term_in terms.now term)) }
 {
     let mut steps = WALK_LIMIT;
-    walked(terms, term, &mut steps)
+    walked(terms, term, &mut steps, LEVELS)
 }
 
 // The bound for a difference, likewise.

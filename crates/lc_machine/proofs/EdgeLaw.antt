@@ -144,12 +144,12 @@ in_back : {A : Type 0} (x : A) (xs ys : List A) → IsIn x ys → IsIn x (xs ++ 
 in_back x [] ys h = h
 in_back x (z ∷ zs) ys h = inr (in_back x zs ys h)
 
-in_either : {A : Type 0} (x : A) (xs ys : List A) → IsIn x (xs ++ ys) → IsIn x xs ⊎ IsIn x ys
+pub in_either : {A : Type 0} (x : A) (xs ys : List A) → IsIn x (xs ++ ys) → IsIn x xs ⊎ IsIn x ys
 in_either x [] ys h = inr h
 in_either x (z ∷ zs) ys (inl e) = inl (inl e)
 in_either x (z ∷ zs) ys (inr h) = elim (in_either x zs ys h) [ inl k ↦ inl (inr k) | inr k ↦ inr k ]
 
-of_point : (object : Object) (p : ℕ) (i : Instr) (e : Edge) → IsIn e (edges_at object p i) → e.point ≡ p
+pub of_point : (object : Object) (p : ℕ) (i : Instr) (e : Edge) → IsIn e (edges_at object p i) → e.point ≡ p
 of_point object p (Load a t rs l) e (inl is) = ap (λ (x : Edge). x.point) is
 of_point object p (Load a t rs l) e (inr none) = absurd none
 of_point object p (Store a t us l) e (inl is) = ap (λ (x : Edge). x.point) is

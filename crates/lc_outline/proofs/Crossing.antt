@@ -15,7 +15,7 @@ use Rattle.lc_outline.specs.contracts.parts.Parts as Parts
 use Rattle.lc_outline.specs.contracts.development.Development as Development
 
 -- names, terms and formulas may, and what is made of them
-ruleset crossing = (Name.the_send, Name.the_field_send, Name.the_sync, Name.the_field_sync, Label.the_send, Label.the_field_send, Label.the_sync, Label.the_field_sync, crosses, Formula.crosses, Term.crosses, sendable)
+pub ruleset crossing = (Name.the_send, Name.the_field_send, Name.the_sync, Name.the_field_sync, Label.the_send, Label.the_field_send, Label.the_sync, Label.the_field_sync, crosses, Formula.crosses, Term.crosses, sendable)
 
 TextSpec-send : IsSend TextSpec.the_row
 TextSpec-send = search crossing depth 60 fits 20000

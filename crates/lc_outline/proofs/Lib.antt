@@ -1,7 +1,7 @@
 pub mod Chosen
 pub mod Matched
 pub mod Resolving
-mod Crossing
+pub mod Crossing
 mod InScope
 pub mod Scoped
 pub mod PathTotal

@@ -3,6 +3,7 @@ use Rattle.std.proofs.Common.{◌≡◌, ℕ, suc, ℤ, pos, negsuc, ◌+◌, Bo
 use Rattle.std.proofs.lemmas.Bool.{eq-eqb}
 use Rattle.std.specs.Prelude.{slice_get, option_map, if◌then◌else◌}
 use Rattle.std.specs.List.{list_all}
+use Rattle.lc_base.specs.Limits.{seat_limit}
 use Rattle.lc_base.specs.NameText.{is_name}
 use Rattle.lc_sexp.specs.Trees.{Tree, Trees, atom, list, none, ◌▸◌, item_count, item_count_of_all}
 use Rattle.lc_sexp.specs.Parts.{Fit, fits, misshapen, beyond, integer_fit}
@@ -16,7 +17,7 @@ use Rattle.lc_reading.specs.declared.pass.Pass.TheVariants.{Shape, Repeated, Bou
 use Rattle.lc_text.specs.Terms.{number_reading}
 use Rattle.lc_seq.specs.Specification.{Operation, takes, has_call}
 use Rattle.lc_plan.specs.Fitting.{calls_fit, script_fits, plan_fits, PlansFit}
-use Rattle.lc_plan.specs.Limits.{most_clients, most_turns, usual_turns}
+use Rattle.lc_plan.specs.Limits.{most_turns, usual_turns}
 use Rattle.lc_plan.specs.Numbers.{is_from, between, bounded, count_reading, turns_reading, client_fit, client_reading}
 use Rattle.lc_plan.specs.Plans.{Plan}
 use Rattle.lc_plan.specs.Readings.{names_of, arity_at, arity_named, numbers_reading, the_call, call_reading, once, repeatedly, upto_reading, call_form_reading, pair, times_parts_reading, head_of, calls_with, calls_reading, the_script, script_parts_reading, script_reading, scripts_reading, phase_reading, count_in, the_plan, plan_parts_reading, form_reading, only_reading, plan_reading}
@@ -146,21 +147,21 @@ counted (fine c) = refl
 counted (flawed f) = tt
 
 plan_parts_hold : (os : List Operation) (n m : ℕ) (ts : Trees)
-    → Holds (λ (p : Plan). (is_from 1 (most_clients + 1) p.clients && list_all (list_all (script_fits os p.clients)) p.phases) ≡ true) (plan_parts_reading os n m ts)
+    → Holds (λ (p : Plan). (is_from 1 (seat_limit + 1) p.clients && list_all (list_all (script_fits os p.clients)) p.phases) ≡ true) (plan_parts_reading os n m ts)
 plan_parts_hold os n m none = tt
 plan_parts_hold os n m (t ▸ ts) =
     let read = count_reading m t in
-    both_holds (λ c. (is_from 1 (most_clients + 1) c ≡ true) × (count_in read ≡ c)) (λ ps. list_all (list_all (script_fits os (count_in read))) ps ≡ true)
-    (λ (p : Plan). (is_from 1 (most_clients + 1) p.clients && list_all (list_all (script_fits os p.clients)) p.phases) ≡ true) the_plan read _
-    (and_holds (λ c. is_from 1 (most_clients + 1) c ≡ true) (λ c. count_in read ≡ c) read (bounded_holds 1 (most_clients + 1) m (number_reading m t)) (counted read))
+    both_holds (λ c. (is_from 1 (seat_limit + 1) c ≡ true) × (count_in read ≡ c)) (λ ps. list_all (list_all (script_fits os (count_in read))) ps ≡ true)
+    (λ (p : Plan). (is_from 1 (seat_limit + 1) p.clients && list_all (list_all (script_fits os p.clients)) p.phases) ≡ true) the_plan read _
+    (and_holds (λ c. is_from 1 (seat_limit + 1) c ≡ true) (λ c. count_in read ≡ c) read (bounded_holds 1 (seat_limit + 1) m (number_reading m t)) (counted read))
     (each_holds (list_all (script_fits os (count_in read))) (phase_reading os (count_in read)) (phase_holds os (count_in read)) (m + item_count t) ts)
-    (λ c ps u h. and_true (is_from 1 (most_clients + 1) c) (list_all (list_all (script_fits os c)) ps) u.0 (subst (λ d. list_all (list_all (script_fits os d)) ps ≡ true) u.1 h))
+    (λ c ps u h. and_true (is_from 1 (seat_limit + 1) c) (list_all (list_all (script_fits os c)) ps) u.0 (subst (λ d. list_all (list_all (script_fits os d)) ps ≡ true) u.1 h))
 
 only_holds : (os : List Operation) (n m : ℕ) (ts : Trees)
-    → Holds (λ (p : Plan). (is_from 1 (most_clients + 1) p.clients && list_all (list_all (script_fits os p.clients)) p.phases) ≡ true) (only_reading os n m ts)
+    → Holds (λ (p : Plan). (is_from 1 (seat_limit + 1) p.clients && list_all (list_all (script_fits os p.clients)) p.phases) ≡ true) (only_reading os n m ts)
 only_holds os n m none = tt
 only_holds os n m (t ▸ ts) =
-    let Fits : Plan → Type 0 = λ p. (is_from 1 (most_clients + 1) p.clients && list_all (list_all (script_fits os p.clients)) p.phases) ≡ true in
+    let Fits : Plan → Type 0 = λ p. (is_from 1 (seat_limit + 1) p.clients && list_all (list_all (script_fits os p.clients)) p.phases) ≡ true in
     ended_holds Fits (m + item_count t) ts (form_reading os m t) (behind_holds Fits _ (plan_parts_reading os) m t (plan_parts_hold os))
 
 pub plans_fit : PlansFit

@@ -1,10 +1,11 @@
 -- Which plans are for a development.
 use Rattle.std.specs.Prelude.{◌≡◌, ℕ, ◌+◌, Bool, true, ◌&&◌, List}
 use Rattle.std.specs.List.{list_all}
+use Rattle.lc_base.specs.Limits.{seat_limit}
 use Rattle.lc_seq.specs.Specification.{Operation, has_call}
 use Rattle.lc_outline.specs.Development.{Development}
 use Rattle.lc_reading.specs.Files.{Says}
-use Rattle.lc_plan.specs.Limits.{most_clients, most_turns}
+use Rattle.lc_plan.specs.Limits.{most_turns}
 use Rattle.lc_plan.specs.Numbers.{is_from}
 use Rattle.lc_plan.specs.Plans.{Calls, Script, Plan}
 use Rattle.lc_plan.specs.Readings.{plan_reading}
@@ -19,7 +20,7 @@ script_fits os clients s = is_from 0 clients s.client && list_all (calls_fit os)
 
 -- as many clients as there may be, and such scripts alone
 abbrev pub plan_fits : Development → Plan → Bool
-plan_fits D p = is_from 1 (most_clients + 1) p.clients && list_all (list_all (script_fits D.specification.operations p.clients)) p.phases
+plan_fits D p = is_from 1 (seat_limit + 1) p.clients && list_all (list_all (script_fits D.specification.operations p.clients)) p.phases
 
 -- each plan that is said for a development is for it
 abbrev pub PlansFit : Type 0

@@ -1,9 +1,5 @@
--- How many clients and turns a plan may have.
+-- How many turns a plan may give to a call.
 use Rattle.std.specs.Prelude.{ℕ}
-
--- the most clients of a run
-abbrev pub most_clients : ℕ
-most_clients = 64
 
 -- the most turns that a plan gives to a call, and the most times that it repeats one
 abbrev pub most_turns : ℕ

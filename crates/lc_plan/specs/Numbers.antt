@@ -1,6 +1,7 @@
 -- What a text reads as where the numbers of a plan are due.
 use Rattle.std.specs.Prelude.{ℕ, ℤ, pos, negsuc, ◌+◌, Bool, ◌&&◌, nat_le, nat_lt, if◌then◌else◌, List}
 use Rattle.std.specs.List.{list_any}
+use Rattle.lc_base.specs.Limits.{seat_limit}
 use Rattle.lc_sexp.specs.Trees.{Tree}
 use Rattle.lc_sexp.specs.Parts.{Fit, fits, misshapen, beyond, integer_fit}
 use Rattle.lc_reading.specs.Naming.{text_in}
@@ -8,7 +9,7 @@ use Rattle.lc_reading.specs.Readings.{Reading, fine, flawed, wrong}
 use Rattle.lc_reading.specs.Words.{is}
 use Rattle.lc_reading.specs.declared.pass.Pass.TheVariants.{Shape, Repeated, Bound}
 use Rattle.lc_text.specs.Terms.{number_reading}
-use Rattle.lc_plan.specs.Limits.{most_clients, most_turns}
+use Rattle.lc_plan.specs.Limits.{most_turns}
 
 -- it is the first of these or behind it, and before the other one
 abbrev pub is_from : ℕ → ℕ → ℕ → Bool
@@ -26,7 +27,7 @@ bounded least end n (flawed f) = flawed f
 
 -- CLIENTS
 abbrev pub count_reading : ℕ → Tree → Reading ℕ
-count_reading n t = bounded 1 (most_clients + 1) n (number_reading n t)
+count_reading n t = bounded 1 (seat_limit + 1) n (number_reading n t)
 
 -- TURNS, K
 abbrev pub turns_reading : ℕ → Tree → Reading ℕ

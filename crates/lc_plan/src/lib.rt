@@ -11,6 +11,6 @@ mod phase;
 mod plan;
 mod reading;
 
-pub use limits::{MOST_CLIENTS, MOST_TURNS, USUAL_TURNS};
+pub use limits::{MOST_TURNS, USUAL_TURNS};
 pub use plan::{Calls, Plan, Script};
 pub use reading::{plan_in, plan_of};

@@ -1,7 +1,4 @@
-//! How many clients and turns a plan may have. `specs/Limits.antt` has the same numbers, by the same words.
-
-/// The most clients of a run.
-pub const MOST_CLIENTS: u32 = 64;
+//! How many turns a plan may give to a call. `specs/Limits.antt` has the same numbers, by the same words.
 
 /// The most turns that a plan gives to a call, and the most times that it repeats one.
 pub const MOST_TURNS: u32 = 1_000_000;

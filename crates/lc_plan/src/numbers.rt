@@ -6,7 +6,8 @@ ghost use Rattle.lc_reading.specs.TableView.{listed};
 ghost use Rattle.lc_plan.specs.Numbers.{between, bounded, count_reading, turns_reading, client_reading};
 ghost use Rattle.lc_text.specs.Terms.{number_reading};
 
-use crate::limits::{MOST_CLIENTS, MOST_TURNS};
+use crate::limits::MOST_TURNS;
+use lc_base::SEAT_LIMIT;
 use lc_reading::{NameTable, Part, Pass, ReadFault, wrong};
 use lc_sexp::{Item, Misfit};
 use lc_text::read_number;
@@ -33,7 +34,7 @@ fn read_between(least: u32, end: u32, part: Part<'_>) -> Result<u32, ReadFault>
 pub(crate) fn read_count(part: Part<'_>) -> Result<u32, ReadFault>
     ensures { IsReading (λ k. k) (count_reading (place_of part.entry) (tree_of part.entry)) result }
 {
-    read_between(1, MOST_CLIENTS + 1, part)
+    read_between(1, SEAT_LIMIT + 1, part)
 }
 
 /// A number of turns, or of times.

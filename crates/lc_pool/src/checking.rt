@@ -29,6 +29,7 @@ use lc_outline_text::development_of;
 use std::alloc::Global;
 use std::marker::Brand;
 use std::sync::Wait;
+use std::thread;
 use std::thread::Threads;
 
 /// So many desks.
@@ -82,6 +83,23 @@ fn are_framed(
     is_framed(alloc, development, cert, cuts.places[0], cuts.places[count])
 }
 
+/// The cuts of a certificate, if it may be one, and the parts of the conditions of a development. A thread of its own cuts.
+fn cut_and_number<R: Threads>(
+    rt: &R,
+    alloc: Global,
+    development: &Development,
+    cert: &[u8],
+) -> Result<(Option<Cuts>, Numbering), OutOfMemory>
+    ensures { IfOk result (λ both. IsNumbering (development_shown development.now) both.1) }
+{
+    let (cuts, numbering) = thread::join(
+        rt,
+        || cut(alloc, cert),
+        || Numbering::new(alloc, development),
+    );
+    Ok((cuts?, numbering?))
+}
+
 /// How many conditions the development has, if the file, cut before it is read, is found to prove them all.
 fn proven_in_pieces<R: Threads + Wait + Sync, G: Gate + Sync>(
     rt: &R,
@@ -94,11 +112,11 @@ fn proven_in_pieces<R: Threads + Wait + Sync, G: Gate + Sync>(
     ensures { let d = development_shown development.now in
         IfOk result (λ count. IfSome count (λ n. (n ≡ length (conditions d)) × IsProvenBy d cert.now)) }
 {
-    let numbering = Numbering::new(alloc, development)?;
-    let count = numbering.count();
-    let Some(cuts) = cut(alloc, cert)? else {
+    let (cuts, numbering) = cut_and_number(rt, alloc, development, cert)?;
+    let Some(cuts) = cuts else {
         return Ok(None);
     };
+    let count = numbering.count();
     if !are_framed(alloc, development, cert, &cuts, count)? {
         return Ok(None);
     }

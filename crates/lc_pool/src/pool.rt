@@ -4,12 +4,11 @@ ghost use Rattle.lc_pool.specs.Marks.{AllHold};
 
 use crate::collecting::{Table, collect, mark_all};
 use crate::gate::Gate;
-use crate::lanes::{deal, work};
+use crate::lanes::{Board, deal, work};
 use crate::work::{Checker, Known, Work};
 use lc_base::OutOfMemory;
 use std::alloc::Global;
 use std::sync::Wait;
-use std::sync::atomic::{AtomicBool, Ordering};
 use std::thread;
 use std::thread::Threads;
 
@@ -31,14 +30,14 @@ pub fn pooled<
     ensures { IfOk result (λ all. IsTrue all → AllHold W.holds count) }
 {
     let mut table: Table<W> = Table::new(alloc, count)?;
-    let lanes = deal(alloc, count, desks)?;
-    let failed = AtomicBool::new(false);
+    let board = Board::new();
+    let lanes = deal(alloc, &board, count, desks)?;
     let found: Vec<Vec<Known<W>>> = thread::map_vec(
         rt,
         lanes,
-        &|lane| -> Vec<Known<W>> { work(rt, alloc, gate, &failed, lane) },
+        &|lane| -> Vec<Known<W>> { work(rt, alloc, gate, &board, lane) },
     )?;
-    if failed.load(Ordering::SeqCst) {
+    if board.has_failed() {
         return Ok(false);
     }
     mark_all(&mut table, &found);

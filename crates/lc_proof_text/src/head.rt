@@ -59,26 +59,43 @@ impl Due {
     }
 }
 
-/// What this word says. Those that stand most often in a long certificate come first. It stands apart from the readers of proofs,
-/// which call one another.
+/// What this word says. It is compared only with those of its length.
 #[inline(never)]
 pub(crate) fn head_of(word: &str) -> Option<Head>
     ensures { result ≡ head_of word.now }
 {
-    match word {
-        "opposite" => Some(Head::Opposite),
-        "trich" => Some(Head::Trichotomy),
-        "split" => Some(Head::Split),
-        "cases" => Some(Head::Cases),
-        "written" => Some(Head::Written),
-        "push" => Some(Head::Push),
-        "inst" => Some(Head::Instantiate),
-        "fresh" => Some(Head::Fresh),
-        "cut" => Some(Head::Cut),
-        "same" => Some(Head::Same),
-        "affine" => Some(Head::Affine),
-        "divide" => Some(Head::Divide),
-        "open" => Some(Head::Open),
+    match word.len() {
+        3 => match word {
+            "cut" => Some(Head::Cut),
+            _ => None,
+        },
+        4 => match word {
+            "push" => Some(Head::Push),
+            "inst" => Some(Head::Instantiate),
+            "same" => Some(Head::Same),
+            "open" => Some(Head::Open),
+            _ => None,
+        },
+        5 => match word {
+            "trich" => Some(Head::Trichotomy),
+            "split" => Some(Head::Split),
+            "cases" => Some(Head::Cases),
+            "fresh" => Some(Head::Fresh),
+            _ => None,
+        },
+        6 => match word {
+            "affine" => Some(Head::Affine),
+            "divide" => Some(Head::Divide),
+            _ => None,
+        },
+        7 => match word {
+            "written" => Some(Head::Written),
+            _ => None,
+        },
+        8 => match word {
+            "opposite" => Some(Head::Opposite),
+            _ => None,
+        },
         _ => None,
     }
 }

@@ -1,3 +1,3 @@
-pub mod Chains
-pub mod Under
+mod Chains
+mod Under
 pub mod Branches

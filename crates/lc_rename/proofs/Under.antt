@@ -1,6 +1,6 @@
 -- Columns in place of others, below a quantifier.
-use Rattle.std.proofs.Common.{◌≡◌, ℕ, zero, suc, refl, sym, ap, ◌∙◌, inl, inr}
-use Rattle.std.specs.Prelude.{Option, Box, ◌⊎◌}
+use Rattle.std.proofs.Common.{◌≡◌, ℕ, zero, suc, refl, sym, ap, ◌∙◌}
+use Rattle.std.specs.Prelude.{Option, Box}
 use Rattle.std.specs.declared.alloc.Global.{Global}
 use Rattle.lc_term.proofs.Views.{formula_of-Forall, formula_of-Exists}
 use Rattle.lc_term.specs.Replacement.{under, under_bounds, replace}
@@ -8,9 +8,7 @@ use Rattle.lc_term.specs.Syntax as S
 use Rattle.lc_term.specs.Syntax.{Bound, Variable, Base}
 use Rattle.lc_term.specs.View.{formula_of}
 use Rattle.lc_term.specs.declared.formula.Formula.{Formula, Forall, Exists}
-use Rattle.lc_kernel.proofs.Views.{passes_anywhere}
-use Rattle.lc_term.specs.Places.{passes}
-use Rattle.lc_rename.specs.Renaming.{column_or, renaming, covered}
+use Rattle.lc_rename.specs.Renaming.{column_or, renaming}
 
 same_bound : (k : ℕ) → under_bounds Bound k ≡ Bound k
 same_bound zero = refl
@@ -31,11 +29,3 @@ pub renamed_Exists : (to : ℕ → Option ℕ) (f : Formula) (body out : Box For
 renamed_Exists to f body out a b is ea eb h =
     let seen = ap formula_of is ∙ formula_of-Exists body ∙ ap (λ x. S.Exists (formula_of x)) (sym ea) in
     formula_of-Exists out ∙ ap S.Exists (ap formula_of eb ∙ h ∙ ap (λ r. replace r (formula_of a)) (sym (same_below to))) ∙ sym (ap (replace (renaming to)) seen)
-
--- what a quantifier binds is covered exactly where the whole is
-pub covered_below : (to : ℕ → Option ℕ) (f : Formula) (body : Box Formula Global) (a : Formula) → f ≡ Forall body ⊎ f ≡ Exists body → a ≡ body.value
-    → passes (λ n. covered to) 0 (formula_of a) ≡ passes (λ n. covered to) 0 (formula_of f)
-covered_below to f body a (inl is) at =
-    ap (λ x. passes (λ n. covered to) 0 (formula_of x)) at ∙ passes_anywhere (covered to) 0 1 (formula_of body.value) ∙ sym (ap (passes (λ n. covered to) 0) (ap formula_of is ∙ formula_of-Forall body))
-covered_below to f body a (inr is) at =
-    ap (λ x. passes (λ n. covered to) 0 (formula_of x)) at ∙ passes_anywhere (covered to) 0 1 (formula_of body.value) ∙ sym (ap (passes (λ n. covered to) 0) (ap formula_of is ∙ formula_of-Exists body))

@@ -2,7 +2,6 @@
 -- round them.
 use Rattle.std.proofs.Common.{◌≡◌, ℕ, ℤ, suc, ◌+◌, ◌<◌, Bool, true, false, ◌&&◌, cond, List, [], ◌∷◌, ◌++◌, Option, Some, None, IfSome, length, length-append, refl, arith}
 use Rattle.std.proofs.lemmas.Bool.Decides.{nat_tests}
-use Rattle.std.specs.Option.{option_or}
 use Rattle.std.specs.Prelude.{codes, not, nat_lt}
 use Rattle.lc_base.specs.NameText.{is_name}
 use Rattle.lc_sexp.specs.Parts.{Fit, fits, beyond, misshapen, integer_fit}
@@ -19,6 +18,7 @@ use Rattle.lc_term.specs.Places.{known, term_passes, column_passes, passes, all_
 use Rattle.lc_term.specs.Syntax as T
 use Rattle.lc_term.specs.Syntax.{Term, Column, Formula, Formulas}
 use Rattle.lc_term.specs.SystemColumns.{column_count, system_columns}
+use Rattle.lc_text.proofs.Kept.{bound_below}
 use Rattle.lc_text.specs.Formulas.{binder_reading, body_of, implication_of, connective_reading, formula_reading, only_reading, both_reading, body_reading, formulas_reading}
 use Rattle.lc_text.specs.Heads.{operation_of, built_of, connective_of, allowed}
 use Rattle.lc_text.specs.Names.{Names}
@@ -42,20 +42,6 @@ pub record AreInScope (m n : ℕ) (names : Names) : Type 0 where
   pub columns : (w : List ℕ) → IsColumnOf m (names.column w)
   pub numbered : names.allows NumberedVariables ≡ false
   pub built : names.allows BuiltColumns ≡ false
-
--- ---- bound variables
-
-innermost : (n k : ℕ) (b : Bool) → cond b (Some n) None ≡ Some k → k < n + 1
-innermost n k true e = let same : n ≡ k = cc in omega arith
-innermost n k false e = absurd (cc)
-
-inner_or : (n k : ℕ) (b : Bool) (o : Option ℕ) → ((j : ℕ) → o ≡ Some j → j < n) → option_or o (cond b (Some n) None) ≡ Some k → k < n + 1
-inner_or n k b None h e = innermost n k b e
-inner_or n k b (Some j) h e = let same : j ≡ k = cc in let lt = h j refl in omega arith
-
-bound_below : (bound : List (List ℕ)) (w : List ℕ) (k : ℕ) → bound_index bound w ≡ Some k → k < length bound
-bound_below [] w k e = absurd (cc)
-bound_below (b ∷ bound) w k e = let lt = inner_or (length bound) k (is w b) (bound_index bound w) (λ j is. bound_below bound w j is) e in omega arith
 
 -- ---- terms
 

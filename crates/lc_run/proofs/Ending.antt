@@ -5,6 +5,7 @@ use Rattle.std.specs.declared.alloc.Global.{Global}
 use Rattle.std.proofs.lemmas.List.{length-map}
 use Rattle.std.proofs.Math.Logic.{∥∥₁_map}
 use Rattle.std.specs.List.{list_all}
+use Rattle.lc_base.specs.Limits.{seat_limit}
 use Rattle.lc_seq.specs.TextStep.{text_step, start_of}
 use Rattle.lc_hist.specs.History as H
 use Rattle.lc_hist.specs.History.{Entry, Linearizes}
@@ -26,7 +27,7 @@ use Rattle.lc_run.proofs.Together.{gathered}
 use Rattle.lc_run.proofs.Turns.{held-well-formed, held-clients, held-small, held-linearizes}
 
 module _ {J : Type 0} (s : Shared J) where
-  few : clients_held s ≤ 64
+  few : clients_held s ≤ seat_limit
   few = let h = s.parts in omega arith
 
   is-resolved : IsResolved (development_held s)

@@ -4,6 +4,7 @@ use Rattle.std.specs.Prelude.{◌⊎◌}
 use Rattle.std.specs.List.{list_all}
 use Rattle.std.proofs.lemmas.Bool.Decides.{nat_tests}
 use Rattle.lc_term.proofs.Tests.{left_true, right_true, both_true}
+use Rattle.lc_base.specs.Limits.{seat_limit}
 use Rattle.lc_seq.specs.Sequential.{Call, Sequential}
 use Rattle.lc_hist.specs.History.{Entry, AreCalls, Linearizes, entries_of, returned_of, pending_of}
 use Rattle.lc_machine.specs.Step.{Event, Invoked, Moved, Returned}
@@ -36,13 +37,13 @@ behind-none : {A : Type 0} (b : Bool) (x : A) (xs : List A) → cond b (x ∷ xs
 behind-none true x xs e = absurd cc
 behind-none false x xs e = e
 
-below : (n : ℕ) (es : List Entry) → n ≤ 64 → ((c : ℕ) → n ≤ c → entries_of c es ≡ []) → list_all is_small es ≡ true
+below : (n : ℕ) (es : List Entry) → n ≤ seat_limit → ((c : ℕ) → n ≤ c → entries_of c es ≡ []) → list_all is_small es ≡ true
 below n [] few h = refl
 below n (e ∷ es) few h =
     both_true (is_small e) (list_all is_small es) (mine (nat_lt e.client n) refl)
     (below n es few (λ c le. behind-none (e.client == c) (e.call, e.reply) (entries_of c es) (h c le)))
   where
-    small : (d n : ℕ) → n ≤ 64 → nat_lt d n ≡ true → nat_lt d 4294967296 ≡ true
+    small : (d n : ℕ) → n ≤ seat_limit → nat_lt d n ≡ true → nat_lt d 4294967296 ≡ true
     small d n few t = grind (arith, nat_tests)
 
     past : (d n : ℕ) → nat_lt d n ≡ false → n ≤ d
@@ -57,6 +58,6 @@ below n (e ∷ es) few h =
         subst (λ b. cond b ((e.call, e.reply) ∷ entries_of e.client es) (entries_of e.client es) ≡ []) same none in cc)
 
 -- numbers of clients in an order that linearizes are small
-pub small-entries : {A : Type 0} (step : Sequential A) (start : A) (n : ℕ) (ls : List Label) (es : List Entry) → n ≤ 64 → list_all (has_client n) ls ≡ true → Linearizes step start (history ls) es → list_all is_small es ≡ true
+pub small-entries : {A : Type 0} (step : Sequential A) (start : A) (n : ℕ) (ls : List Label) (es : List Entry) → n ≤ seat_limit → list_all (has_client n) ls ≡ true → Linearizes step start (history ls) es → list_all is_small es ≡ true
 small-entries step start n ls es few clients law =
     below n es few (λ c le. let q = quiet n c ls le clients in none-of c ls (entries_of c es) q.0 q.1 (law.calls c))

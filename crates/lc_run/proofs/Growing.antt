@@ -6,6 +6,7 @@ use Rattle.std.specs.declared.alloc.Global.{Global}
 use Rattle.std.proofs.lemmas.List.{append-nil, length-append}
 use Rattle.std.proofs.lemmas.Option.{same_Some, slice_get_within}
 use Rattle.lc_hist.proofs.Tables.{slice_get-last}
+use Rattle.lc_base.specs.Limits.{label_limit}
 use Rattle.lc_term.specs.Lists.{Every}
 use Rattle.lc_term.specs.Meaning.{State}
 use Rattle.lc_machine.specs.Answered.{IsInCall}
@@ -20,7 +21,7 @@ use Rattle.lc_sound.specs.Instrumented.{Label}
 use Rattle.lc_steps.specs.StepView.{IsAdvanced, IsBegun, MayBegin}
 use Rattle.lc_run.specs.Labels.{last_of, goes_on, is_unfinished, HasMade, HasMoved, IsMove, IsMoveBy}
 use Rattle.lc_run.specs.Running.{IsSaid, IsCalled, IsLeft}
-use Rattle.lc_run.specs.Taken.{fault_as, label_limit, IsUntold, IsStepFault, MayStep}
+use Rattle.lc_run.specs.Taken.{fault_as, IsUntold, IsStepFault, MayStep}
 use Rattle.lc_run.specs.declared.fault.RunFault.{RunFault}
 use Rattle.lc_run.specs.declared.fault.RunFault.TheVariants.{Clients, Busy, Idle, NoOp, Arity, Mismatch, Full, Overflow, OutOfMemory}
 use Rattle.lc_run.specs.declared.runner.Called.TheVariants as called

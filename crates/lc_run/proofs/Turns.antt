@@ -9,7 +9,7 @@ use Rattle.std.proofs.lemmas.Bool.Decides.{nat_tests}
 use Rattle.std.proofs.lemmas.List.{append-nil, length-set, length-replicate}
 use Rattle.std.proofs.lemmas.Option.{same_Some, slice_get_within}
 use Rattle.lc_term.proofs.Tests.{both_true}
-use Rattle.lc_base.specs.Limits.{client_limit}
+use Rattle.lc_base.specs.Limits.{client_limit, seat_limit}
 use Rattle.lc_seq.specs.Sequential.{Call}
 use Rattle.lc_seq.specs.TextStep.{text_step, start_of}
 use Rattle.lc_hist.proofs.Tables.{slice_get-set, slice_get-set_other}
@@ -225,13 +225,13 @@ well-formed-once h = hlevel props
 test-once : (b : Bool) → IsProp (b ≡ true)
 test-once b = hlevel props
 
-pub held-well-formed : (D : Development) (n : ℕ) (ls : List Label) (w : World) → n ≤ 64 → ∥ IsRun D n ls w ∥₁ → IsWellFormed (history ls)
+pub held-well-formed : (D : Development) (n : ℕ) (ls : List Label) (w : World) → n ≤ seat_limit → ∥ IsRun D n ls w ∥₁ → IsWellFormed (history ls)
 held-well-formed D n ls w few run = ∥∥₁_elim run (well-formed-once (history ls)) (λ r. well-formed D n ls w (omega arith) r)
 
 pub held-clients : (D : Development) (n : ℕ) (ls : List Label) (w : World) → ∥ IsRun D n ls w ∥₁ → list_all (has_client n) ls ≡ true
 held-clients D n ls w run = ∥∥₁_elim run (test-once (list_all (has_client n) ls)) (λ r. are-clients D n ls w r)
 
-pub held-small : (D : Development) (n : ℕ) (ls : List Label) (w : World) → n ≤ 64 → OrdersLinearize → IsResolved D → ∥ IsRun D n ls w ∥₁ → list_all is_small (order ls) ≡ true
+pub held-small : (D : Development) (n : ℕ) (ls : List Label) (w : World) → n ≤ seat_limit → OrdersLinearize → IsResolved D → ∥ IsRun D n ls w ∥₁ → list_all is_small (order ls) ≡ true
 held-small D n ls w few law R run =
     ∥∥₁_elim run (test-once (list_all is_small (order ls)))
     (λ r. small-entries (text_step D.specification.operations) (start_of D.specification.columns) n ls (order ls) few (are-clients D n ls w r) (law D R n ls w r))

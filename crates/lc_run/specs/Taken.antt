@@ -1,5 +1,6 @@
 -- How a run that is held grows by a step of a seat's client, and why there is none.
 use Rattle.std.specs.Prelude.{◌≡◌, ℕ, ◌≤◌, true, false, List, [], ◌∷◌, ◌++◌, ℤ, Some, Result, Ok, Err, length, slice_get}
+use Rattle.lc_base.specs.Limits.{label_limit}
 use Rattle.lc_object.specs.Syntax.{Operation}
 use Rattle.lc_machine.specs.Answered.{IsInCall}
 use Rattle.lc_machine.specs.Step.{Event, IsClient}
@@ -17,10 +18,6 @@ use Rattle.lc_run.specs.declared.fault.RunFault.{RunFault}
 use Rattle.lc_run.specs.declared.fault.RunFault.TheVariants.{Clients, Busy, Idle, NoOp, Arity, Mismatch, Full, Overflow, OutOfMemory}
 use Rattle.lc_run.specs.declared.held.Shared.{Shared}
 use Rattle.lc_run.specs.declared.held.Seat.{Seat}
-
--- the most labels of a run
-abbrev pub label_limit : ℕ
-label_limit = 1000000
 
 module _ {J : Type 0} where
   -- the seat's client takes a step of this kind: lock and seat have its label more, and the world is the one that it leads to

@@ -7,7 +7,7 @@ use thiserror::Error;
 /// has changed then.
 #[derive(Clone, Copy, Debug, PartialEq, Eq, Error)]
 pub enum RunFault {
-    /// A runner has 1 to 64 clients.
+    /// A runner has at least one client, and at most `SEAT_LIMIT`.
     #[error("no such number of clients")]
     Clients,
     /// The client is in a call.

@@ -1,5 +1,6 @@
 //! What the lock of a runner holds, and the seats of its clients. Only the calls of this module change them.
 ghost use Rattle.std.specs.Prelude.{◌≡◌, ◌+◌, ◌<◌, true, length};
+ghost use Rattle.lc_base.specs.Limits.{seat_limit};
 ghost use Rattle.lc_term.specs.Drafts.{draft_columns};
 ghost use Rattle.lc_term.specs.SystemColumns.{column_count};
 ghost use Rattle.lc_machine.specs.Placed.{are_placed};
@@ -12,7 +13,7 @@ use crate::fault::RunFault;
 use crate::label::{Label, is_unfinished};
 use crate::lawful::{begun_step, lawful_step, may_call, may_step};
 use crate::starting::{idle_clients, start_draft};
-use lc_base::OpId;
+use lc_base::{OpId, SEAT_LIMIT};
 use lc_check::Accepted;
 use lc_machine::Client;
 use lc_outline::Development;
@@ -22,9 +23,6 @@ use lc_term::Draft;
 use std::alloc::Global;
 use std::sync::Arc;
 use std::sync::ledger::{Blank, Book, Ledger, Share};
-
-/// The most clients of a runner, and the parts of its ledger.
-pub const SEAT_LIMIT: u32 = 64;
 
 /// What the lock holds: labels that are a run of the development, for so many clients, to the world that is held; and the book
 /// of a ledger, whose total is the number of labels.
@@ -43,7 +41,7 @@ pub struct Shared<J: Ledger> {
     ghost placed: { are_placed (development_in accepted.value).object (clients_of stands.items) ≡ true },
     ghost count: { length stands.items ≡ clients },
     ghost total: { book.total ≡ length labels.items },
-    ghost parts: { rest.parts + clients ≡ 64 },
+    ghost parts: { rest.parts + clients ≡ seat_limit },
     ghost amount: { rest.amount ≡ 0 },
 }
 
@@ -53,20 +51,21 @@ pub struct Seat<J: Ledger> {
     client: u32,
     labels: Vec<Label>,
     share: Share<J>,
-    ghost few: { client < 64 },
+    ghost few: { client < seat_limit },
     ghost part: { share.parts ≡ 1 },
     ghost amount: { share.amount ≡ length labels.items },
 }
 
 impl<J: Ledger> Seat<J> {
     ghost use Rattle.std.specs.Prelude.{◌≡◌, ◌<◌};
+    ghost use Rattle.lc_base.specs.Limits.{seat_limit};
     ghost use Rattle.lc_run.specs.LabelView.{labels_of};
     ghost use Rattle.lc_run.specs.Locked.{client_in, labels_made};
 
     /// Whose place it is.
     pub fn client(&self) -> u32
         ensures client { result ≡ client_in self.now }
-        ensures few { result < 64 }
+        ensures few { result < seat_limit }
     {
         self.client
     }
@@ -94,6 +93,7 @@ impl<J: Ledger> Seat<J> {
 impl<J: Ledger> Shared<J> {
     ghost use Rattle.std.specs.Prelude.{◌≡◌, ◌<◌, ◌⊎◌, ◌↔◌, ℕ, [], true, false, OnOk, OnErr, IfOk, IfErr, IfSome, IsErrOf, slice_get, vec_len};
     ghost use Rattle.std.specs.Arc.{arc_value};
+    ghost use Rattle.lc_base.specs.Limits.{seat_limit};
     ghost use Rattle.lc_term.specs.Drafts.{written_in_draft};
     ghost use Rattle.lc_machine.specs.Answered.{IsInCall};
     ghost use Rattle.lc_machine.specs.Placed.{is_placed};
@@ -118,8 +118,8 @@ impl<J: Ledger> Shared<J> {
         clients: u32,
     ) -> Result<(Shared<J>, Vec<Seat<J>>), RunFault>
         requires name { blank.name ≡ J.name }
-        requires parts { (blank.parts ≡ J.parts) × (blank.parts ≡ 64) }
-        ensures clients { IsErrOf result RunFault.Clients ↔ ((clients ≡ 0) ⊎ (64 < clients)) }
+        requires parts { (blank.parts ≡ J.parts) × (blank.parts ≡ seat_limit) }
+        ensures clients { IsErrOf result RunFault.Clients ↔ ((clients ≡ 0) ⊎ (seat_limit < clients)) }
         ensures memory { IfErr result (λ e. (e ≡ RunFault.Clients) ⊎ (e ≡ RunFault.OutOfMemory)) }
         ensures labels { IfOk result (λ r. labels_held r.0 ≡ []) }
         ensures development { IfOk result (λ r. development_held r.0 ≡ development_in (arc_value accepted)) }

@@ -20,16 +20,13 @@ ghost use Rattle.lc_run.specs.Taken.{fault_as, IsUntold, StandsIn, MayStep, MayC
 
 use crate::fault::RunFault;
 use crate::label::Label;
-use lc_base::OpId;
+use lc_base::{LABEL_LIMIT, OpId};
 use lc_check::Accepted;
 use lc_machine::{Client, StepFault};
 use lc_outline::Development;
 use lc_steps::{Step, advance, begin, body_of, client_at};
 use lc_term::Draft;
 use std::alloc::Global;
-
-/// The most labels of a run.
-pub const LABEL_LIMIT: usize = 1_000_000;
 
 // A fault of a step, as one of a run.
 fn run_fault(fault: StepFault) -> RunFault

@@ -7,9 +7,9 @@ ghost use Rattle.lc_run.specs.Labels.{last_of};
 ghost use Rattle.lc_run.specs.Running.{IsSaid};
 
 use crate::fault::RunFault;
-use crate::held::{SEAT_LIMIT, Seat, Shared};
+use crate::held::{Seat, Shared};
 use crate::label::Label;
-use lc_base::{OpId, REPLY_LIMIT};
+use lc_base::{OpId, REPLY_LIMIT, SEAT_LIMIT};
 use lc_check::Accepted;
 use lc_outline::Development;
 use lc_steps::What;
@@ -86,6 +86,7 @@ fn said_last(labels: &[Label], room: Vec<i64>) -> Progress
 impl<J: Ledger> Runner<J> {
     ghost use Rattle.std.specs.Prelude.{◌≡◌, ◌<◌, ◌⊎◌, ◌↔◌, ℕ, [], true, false, OnOk, OnErr, IfOk, IfErr, IfSome, IsErrOf, slice_get, vec_len};
     ghost use Rattle.std.specs.Arc.{arc_value};
+    ghost use Rattle.lc_base.specs.Limits.{seat_limit};
     ghost use Rattle.lc_machine.specs.Step.{Invoked};
     ghost use Rattle.lc_outline.specs.DevelopmentView.{development_shown};
     ghost use Rattle.lc_check.specs.VerdictView.{development_in};
@@ -101,8 +102,8 @@ impl<J: Ledger> Runner<J> {
         clients: u32,
     ) -> Result<(Runner<J>, Vec<Seat<J>>), RunFault>
         requires name { blank.name ≡ J.name }
-        requires parts { (blank.parts ≡ J.parts) × (blank.parts ≡ 64) }
-        ensures clients { IsErrOf result RunFault.Clients ↔ ((clients ≡ 0) ⊎ (64 < clients)) }
+        requires parts { (blank.parts ≡ J.parts) × (blank.parts ≡ seat_limit) }
+        ensures clients { IsErrOf result RunFault.Clients ↔ ((clients ≡ 0) ⊎ (seat_limit < clients)) }
         ensures memory { IfErr result (λ e. (e ≡ RunFault.Clients) ⊎ (e ≡ RunFault.OutOfMemory)) }
         ensures development { IfOk result (λ r. development_of r.0 ≡ development_in (arc_value accepted)) }
         ensures runs { IfOk result (λ r. clients_of r.0 ≡ clients) }

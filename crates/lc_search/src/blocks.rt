@@ -1,7 +1,7 @@
 //! Blocks of quantifiers, and where their variables stand as indexes.
 
 use crate::model::DEEPEST;
-use crate::scanning::{Place, scan_formula};
+use crate::scanning::{Place, indexes_in};
 use indexmap::IndexMap;
 use lc_base::ColId;
 use lc_facts::{Form, Nodes};
@@ -76,8 +76,7 @@ impl Blocks {
             return Ok(());
         }
         let (body, count) = inside(nodes, formula);
-        let mut found = Vec::new(self.alloc);
-        scan_formula(nodes, body, 0, &mut found, DEEPEST)?;
+        let found = indexes_in(self.alloc, nodes, body)?;
         let mut slots = Vec::new(self.alloc);
         for place in &found {
             if let Some(slot) = slot_of(nodes, self.alloc, *place)? {

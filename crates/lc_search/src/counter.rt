@@ -16,7 +16,8 @@ pub struct Counted {
     pub denominator: i128,
 }
 
-/// What the search could not break: a number for each variable and for each read that was looked at. The witnesses are the variables
+/// What the search could not break: a number for each variable and for each read that was looked at, if it nests no deeper than a
+/// text may. The witnesses are the variables
 /// that it took for those of quantifiers of the negated goal, in turn.
 #[derive(Drop)]
 pub struct CounterModel {
@@ -30,12 +31,12 @@ pub(crate) fn counter_model(search: &mut Search) -> Result<CounterModel, Stop> {
     for place in 0..live_places(&search.known, search.blocks.variables) {
         if let Some(number) = live_variable(&search.known, search.blocks.variables, place) {
             let variable = search.known.nodes.variable(number)?;
-            numbers.push(number_in(search, variable)?)?;
+            push_number(search, variable, &mut numbers)?;
         }
     }
     for place in 0..search.known.active.len() {
         if let Some(read) = active_read(&search.known, place) {
-            numbers.push(number_in(search, read)?)?;
+            push_number(search, read, &mut numbers)?;
         }
     }
     let witnesses = goal_witnesses(search)?;
@@ -55,11 +56,18 @@ fn goal_witnesses(search: &Search) -> Result<Vec<u32>, Stop> {
     Ok(witnesses)
 }
 
-fn number_in(search: &Search, term: TermId) -> Result<Counted, Stop> {
+/// Puts a term and its number behind others; none that nests deeper than a text may.
+fn push_number(search: &Search, term: TermId, numbers: &mut Vec<Counted>) -> Result<(), Stop> {
     let number = search.known.tableau.value_of(term);
-    Ok(Counted {
-        term: search.known.nodes.term_tree(&[], term)?,
+    let term = match search.known.nodes.term_tree(&[], term) {
+        Ok(term) => term,
+        Err(Stop::Spent) => return Ok(()),
+        Err(stop) => return Err(stop),
+    };
+    numbers.push(Counted {
+        term,
         numerator: number.numerator(),
         denominator: number.denominator(),
-    })
+    })?;
+    Ok(())
 }

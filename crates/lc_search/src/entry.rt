@@ -8,7 +8,7 @@ use crate::ranks::{GOAL, rank_of};
 use crate::solving::{Search, solve};
 use crate::writing::written;
 use lc_base::OutOfMemory;
-use lc_facts::{FactId, Known, Place};
+use lc_facts::{FactId, Known, Place, Taken};
 use lc_farkas::Stop;
 use lc_kernel::{Goal, Proof};
 use lc_table::{FormulaId, TermId, Terms};
@@ -25,7 +25,7 @@ pub enum End {
     Found(Proof),
     /// Nothing is left to be tried.
     NotFound(CounterModel),
-    /// The steps that may be tried are spent, or too many splits are nested in each other.
+    /// The steps that may be tried are spent, or too many splits are nested in each other, or a proof is too deep for a text.
     Spent,
     /// A number does not fit 128 bits.
     Large,
@@ -100,28 +100,20 @@ fn begun(
     }
 }
 
-/// Enters a formula of the table.
-fn entered_formula(
-    search: &mut Search,
-    terms: &Terms,
-    formula: FormulaId,
-) -> Result<FormulaId, Stop>
-    requires { IsFormula terms.now formula }
-{
-    let formula = terms.formula(search.known.alloc, formula)?;
-    search.known.nodes.enter_formula(&formula)
-}
-
 /// The facts at the start, near ones first: the negated goal, whose number is behind those of the hypotheses, then these.
 fn entered(search: &mut Search, terms: &Terms, goal: &Goal) -> Result<Vec<FactId>, Stop>
     requires hypotheses { AreFormulas terms.now goal.now.hypotheses }
     requires goal { IsFormula terms.now goal.now.goal }
 {
+    let mut taken = Taken::new(search.known.alloc);
     let mut facts = Vec::new(search.known.alloc);
     let mut after = Vec::new(search.known.alloc);
     for hypothesis in goal.hypotheses.as_slice() {
-        let formula = entered_formula(search, terms, *hypothesis)?;
-        let rank = rank_of(&search.known.nodes, formula)?;
+        let formula = search
+            .known
+            .nodes
+            .take_formula(terms, &mut taken, *hypothesis)?;
+        let rank = rank_of(search.known.alloc, &search.known.nodes, formula)?;
         let fact = search.known.new_fact(formula, Place { rank, depth: 0 })?;
         if rank > 1 {
             after.push(fact)?;
@@ -129,7 +121,11 @@ fn entered(search: &mut Search, terms: &Terms, goal: &Goal) -> Result<Vec<FactId
             facts.push(fact)?;
         }
     }
-    let negated = entered_goal(search, terms, goal)?;
+    let goal = search
+        .known
+        .nodes
+        .take_formula(terms, &mut taken, goal.goal)?;
+    let negated = entered_goal(search, goal)?;
     let mut all = Vec::new(search.known.alloc);
     all.push(negated)?;
     all.extend_from_slice(&facts)?;
@@ -138,15 +134,11 @@ fn entered(search: &mut Search, terms: &Terms, goal: &Goal) -> Result<Vec<FactId
 }
 
 /// The fact of the negated goal. Its variables are near ones, except the number of clients.
-fn entered_goal(search: &mut Search, terms: &Terms, goal: &Goal) -> Result<FactId, Stop>
-    requires hypotheses { AreFormulas terms.now goal.now.hypotheses }
-    requires goal { IsFormula terms.now goal.now.goal }
-{
-    let formula = entered_formula(search, terms, goal.goal)?;
-    let negated = search.known.nodes.not(formula)?;
-    search.known.nodes.learn(formula)?;
-    for place in 0..search.known.nodes.variables(formula).len() {
-        if let Some(variable) = variable_at(search, formula, place)
+fn entered_goal(search: &mut Search, goal: FormulaId) -> Result<FactId, Stop> {
+    let negated = search.known.nodes.not(goal)?;
+    search.known.nodes.learn(goal)?;
+    for place in 0..search.known.nodes.variables(goal).len() {
+        if let Some(variable) = variable_at(search, goal, place)
             && variable != 0
         {
             search.known.near.insert(variable)?;

@@ -8,7 +8,7 @@ use lc_farkas::{Rational, Stop};
 use lc_table::{ColExprId, FormulaId, TermId, TermNode};
 use std::alloc::Global;
 
-/// How deep terms and formulas are looked into.
+/// How deep formulas are looked into.
 pub(crate) const DEEPEST: u32 = 4000;
 
 /// The number of a term, in the state of this stamp.
@@ -61,6 +61,23 @@ pub(crate) struct Clash {
     pub(crate) second: TermId,
 }
 
+/// What is still to be done for the number of a term.
+#[derive(Clone, Copy)]
+enum Due {
+    /// The number of this term.
+    Term(TermId),
+    /// What is made of the last numbers.
+    Add,
+    Subtract,
+    Multiply(i64),
+    /// What a column has at the index that is the last number.
+    Content(ColExprId),
+    /// The same, where the index of the column's outermost store stands behind it.
+    Compared(ColExprId),
+    /// The last number is that of this closed term.
+    Tell(TermId),
+}
+
 /// What closed terms and formulas mean in the state at hand.
 pub(crate) struct Model {
     alloc: Global,
@@ -68,6 +85,9 @@ pub(crate) struct Model {
     values: Vec<Told>,
     truths: Vec<Truth>,
     cells: IndexMap<Cell, Content>,
+    /// What is due for a number, the next one last, and the numbers that were found for it: a deep term takes nothing of the stack.
+    due: Vec<Due>,
+    numbers: Vec<Rational>,
 }
 
 impl Drop for Model {
@@ -78,6 +98,8 @@ impl Drop for Model {
             values: _,
             truths: _,
             cells: _,
+            due: _,
+            numbers: _,
         } = self;
     }
 }
@@ -91,6 +113,8 @@ impl Model {
             values: Vec::new(alloc),
             truths: Vec::new(alloc),
             cells: IndexMap::new(alloc),
+            due: Vec::new(alloc),
+            numbers: Vec::new(alloc),
         }
     }
 
@@ -100,14 +124,11 @@ impl Model {
         self.cells = IndexMap::new(self.alloc);
     }
 
-    /// Puts the number of a term where it is wanted, if it was told of the state at hand; whether it was.
-    fn put_told(&self, term: TermId, number: &mut Rational) -> bool {
+    /// The number of a term, if it was told of the state at hand.
+    fn told_value(&self, term: TermId) -> Option<Rational> {
         match self.values.get(term.0 as usize) {
-            Some(value) if value.stamp == self.stamp => {
-                *number = value.number;
-                true
-            }
-            _ => false,
+            Some(value) if value.stamp == self.stamp => Some(value.number),
+            _ => None,
         }
     }
 
@@ -150,6 +171,31 @@ impl Model {
         if let Some(truth) = self.truths.get_mut(place) {
             *truth = Truth { stamp, holds };
         }
+        Ok(())
+    }
+
+    /// The last number that was found.
+    fn number(&mut self) -> Result<Rational, Stop> {
+        self.numbers.pop().ok_or(Stop::Spent)
+    }
+
+    fn put_number(&mut self, number: Rational) -> Result<(), Stop> {
+        self.numbers.push(number)?;
+        Ok(())
+    }
+
+    /// A term is due, and then what is made of its number.
+    fn await_term(&mut self, whole: Due, term: TermId) -> Result<(), Stop> {
+        self.due.push(whole)?;
+        self.due.push(Due::Term(term))?;
+        Ok(())
+    }
+
+    /// Two terms are due, and then what is made of their numbers.
+    fn await_terms(&mut self, whole: Due, left: TermId, right: TermId) -> Result<(), Stop> {
+        self.due.push(whole)?;
+        self.due.push(Due::Term(right))?;
+        self.due.push(Due::Term(left))?;
         Ok(())
     }
 
@@ -254,159 +300,98 @@ pub(crate) fn value(
     model: &mut Model,
     term: TermId,
     bound: &[Rational],
-    deep: u32,
 ) -> Result<Rational, Stop> {
-    let mut number = Rational::ZERO;
-    put_value(known, model, term, bound, deep, &mut number)?;
-    Ok(number)
+    model.due.truncate(0);
+    model.numbers.truncate(0);
+    number_term(known, model, term, bound)?;
+    for _ in 0..u64::MAX {
+        match model.due.pop() {
+            Some(due) => go_on(known, model, due, bound)?,
+            None => return model.number(),
+        }
+    }
+    Err(Stop::Spent)
 }
 
-/// Puts the number of a term where it is wanted. So each level of a term takes little of the stack: a number has 32 bytes, and
-/// what is done to numbers stands apart.
-#[cycle(value)]
-fn put_value(
+/// Does what is due.
+fn go_on(known: &Known, model: &mut Model, due: Due, bound: &[Rational]) -> Result<(), Stop> {
+    match due {
+        Due::Term(term) => number_term(known, model, term, bound),
+        Due::Add => {
+            let right = model.number()?;
+            let sum = model.number()?.plus(right)?;
+            model.put_number(sum)
+        }
+        Due::Subtract => {
+            let right = model.number()?;
+            let difference = model.number()?.minus(right)?;
+            model.put_number(difference)
+        }
+        Due::Multiply(factor) => {
+            let product = Rational::whole(i128::from(factor)).times(model.number()?)?;
+            model.put_number(product)
+        }
+        Due::Content(column) => number_content(known, model, column),
+        Due::Compared(column) => compare_index(known, model, column),
+        Due::Tell(term) => {
+            let number = model.number()?;
+            model.tell_value(term, number)?;
+            model.put_number(number)
+        }
+    }
+}
+
+/// The number of a term that was told, or that has no parts; the parts of another one are due.
+fn number_term(
     known: &Known,
     model: &mut Model,
     term: TermId,
     bound: &[Rational],
-    deep: u32,
-    number: &mut Rational,
 ) -> Result<(), Stop> {
-    if model.put_told(term, number) {
-        return Ok(());
+    if let Some(number) = model.told_value(term) {
+        return model.put_number(number);
     }
-    if deep == 0 {
-        return Err(Stop::Spent);
-    }
-    put_node_value(known, model, term, bound, deep - 1, number)?;
-    tell_closed(known, model, term, number)
-}
-
-/// Tells the number of a term, if it is closed.
-#[inline(never)]
-fn tell_closed(
-    known: &Known,
-    model: &mut Model,
-    term: TermId,
-    number: &Rational,
-) -> Result<(), Stop> {
     if known.nodes.term_loose(term) == 0 {
-        model.tell_value(term, *number)?;
+        model.due.push(Due::Tell(term))?;
     }
-    Ok(())
-}
-
-#[inline(never)]
-fn add_to(number: &mut Rational, other: &Rational) -> Result<(), Stop> {
-    *number = number.plus(*other)?;
-    Ok(())
-}
-
-#[inline(never)]
-fn subtract_from(number: &mut Rational, other: &Rational) -> Result<(), Stop> {
-    *number = number.minus(*other)?;
-    Ok(())
-}
-
-#[inline(never)]
-fn multiply_by(number: &mut Rational, factor: i64) -> Result<(), Stop> {
-    *number = Rational::whole(i128::from(factor)).times(*number)?;
-    Ok(())
-}
-
-#[cycle(value)]
-fn put_node_value(
-    known: &Known,
-    model: &mut Model,
-    term: TermId,
-    bound: &[Rational],
-    deep: u32,
-    number: &mut Rational,
-) -> Result<(), Stop> {
     match known.nodes.term_node(term) {
-        Some(TermNode::Add(left, right)) => {
-            let mut other = Rational::ZERO;
-            put_value(known, model, left, bound, deep, number)?;
-            put_value(known, model, right, bound, deep, &mut other)?;
-            add_to(number, &other)
-        }
-        Some(TermNode::Subtract(left, right)) => {
-            let mut other = Rational::ZERO;
-            put_value(known, model, left, bound, deep, number)?;
-            put_value(known, model, right, bound, deep, &mut other)?;
-            subtract_from(number, &other)
-        }
-        Some(TermNode::Multiply(factor, term)) => {
-            put_value(known, model, term, bound, deep, number)?;
-            multiply_by(number, factor)
-        }
-        Some(TermNode::Read(column, index)) => {
-            put_value(known, model, index, bound, deep, number)?;
-            put_content(known, model, column, bound, deep, number)
-        }
-        node => {
-            put_leaf(known, node, term, bound, number);
+        Some(TermNode::Add(left, right)) => model.await_terms(Due::Add, left, right),
+        Some(TermNode::Subtract(left, right)) => model.await_terms(Due::Subtract, left, right),
+        Some(TermNode::Multiply(factor, term)) => model.await_term(Due::Multiply(factor), term),
+        Some(TermNode::Read(column, index)) => model.await_term(Due::Content(column), index),
+        Some(TermNode::Number(number)) => model.put_number(Rational::whole(i128::from(number))),
+        Some(TermNode::Variable(_)) => model.put_number(known.tableau.value_of(term)),
+        Some(TermNode::Bound(place)) => model.put_number(bound_value(bound, place)),
+        _ => model.put_number(Rational::ZERO),
+    }
+}
+
+/// What a column has at the index that is the last number: what its outermost store at that index stores there.
+fn number_content(known: &Known, model: &mut Model, column: ColExprId) -> Result<(), Stop> {
+    if let Some(TermNode::Store(_, place, _)) = known.nodes.column_node(column) {
+        return model.await_term(Due::Compared(column), place);
+    }
+    let index = model.number()?;
+    let content = content_of_base(known, model, column, index)?;
+    model.put_number(content)
+}
+
+/// Compares the index of a column's outermost store with that behind which it stands: what is stored there is due, or what the
+/// column below has.
+fn compare_index(known: &Known, model: &mut Model, column: ColExprId) -> Result<(), Stop> {
+    let place = model.number()?;
+    let index = model.number()?;
+    match known.nodes.column_node(column) {
+        Some(TermNode::Store(_, _, stored)) if place == index => {
+            model.due.push(Due::Term(stored))?;
             Ok(())
         }
-    }
-}
-
-/// Puts the number of a term without parts.
-#[inline(never)]
-fn put_leaf(
-    known: &Known,
-    node: Option<TermNode>,
-    term: TermId,
-    bound: &[Rational],
-    number: &mut Rational,
-) {
-    *number = match node {
-        Some(TermNode::Number(number)) => Rational::whole(i128::from(number)),
-        Some(TermNode::Variable(_)) => known.tableau.value_of(term),
-        Some(TermNode::Bound(place)) => bound_value(bound, place),
-        _ => Rational::ZERO,
-    };
-}
-
-/// Puts what a column has at an index, which is the number at first: what its outermost store at that index stores there.
-#[cycle(value)]
-#[inline(never)]
-fn put_content(
-    known: &Known,
-    model: &mut Model,
-    column: ColExprId,
-    bound: &[Rational],
-    deep: u32,
-    number: &mut Rational,
-) -> Result<(), Stop> {
-    if deep == 0 {
-        return Err(Stop::Spent);
-    }
-    let mut base = column;
-    let mut at = Rational::ZERO;
-    for _ in 0..known.nodes.term_count() {
-        let Some(TermNode::Store(below, place, stored)) = known.nodes.column_node(base) else {
-            break;
-        };
-        put_value(known, model, place, bound, deep - 1, &mut at)?;
-        if at == *number {
-            return put_value(known, model, stored, bound, deep - 1, number);
+        Some(TermNode::Store(below, _, _)) => {
+            model.due.push(Due::Content(below))?;
+            model.put_number(index)
         }
-        base = below;
+        _ => model.put_number(Rational::ZERO),
     }
-    put_content_of_base(known, model, base, number)
-}
-
-/// Puts what a column that is no store has at an index, likewise.
-#[inline(never)]
-fn put_content_of_base(
-    known: &Known,
-    model: &Model,
-    base: ColExprId,
-    number: &mut Rational,
-) -> Result<(), Stop> {
-    *number = content_of_base(known, model, base, *number)?;
-    Ok(())
 }
 
 /// What a column that is no store has at an index.
@@ -432,5 +417,5 @@ pub(crate) fn closed_value(
     model: &mut Model,
     term: TermId,
 ) -> Result<Rational, Stop> {
-    value(known, model, term, &[], DEEPEST)
+    value(known, model, term, &[])
 }

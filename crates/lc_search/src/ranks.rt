@@ -1,9 +1,9 @@
 //! How near what is known at the start is to the goal.
 
-use crate::model::DEEPEST;
 use lc_facts::Nodes;
 use lc_farkas::Stop;
 use lc_table::{ColExprId, FormulaId, FormulaNode, TermId, TermNode};
+use std::alloc::Global;
 
 /// The rank of the negated goal.
 pub(crate) const GOAL: i32 = 0;
@@ -14,68 +14,76 @@ pub(crate) const HYPOTHESIS: i32 = 1;
 /// The rank of what holds of the state behind an action.
 pub(crate) const AFTER: i32 = 2;
 
-/// The rank of a hypothesis: what speaks of columns that are built tells of the state behind an action.
-pub(crate) fn rank_of(nodes: &Nodes, hypothesis: FormulaId) -> Result<i32, Stop> {
-    if has_built(nodes, hypothesis, DEEPEST)? {
-        Ok(AFTER)
-    } else {
-        Ok(HYPOTHESIS)
-    }
+/// A part of a hypothesis that is still to be looked at. It waits in a list, so that a deep hypothesis takes nothing of the stack.
+#[derive(Clone, Copy)]
+enum Due {
+    Formula(FormulaId),
+    Term(TermId),
 }
 
-/// Whether a column that is built stands in a formula.
-#[cycle(built)]
-fn has_built(nodes: &Nodes, formula: FormulaId, deep: u32) -> Result<bool, Stop> {
-    if deep == 0 {
-        return Err(Stop::Spent);
+/// The rank of a hypothesis: what speaks of columns that are built tells of the state behind an action.
+pub(crate) fn rank_of(alloc: Global, nodes: &Nodes, hypothesis: FormulaId) -> Result<i32, Stop> {
+    let mut due = Vec::new(alloc);
+    due.push(Due::Formula(hypothesis))?;
+    for _ in 0..u64::MAX {
+        match due.pop() {
+            Some(Due::Formula(formula)) => await_parts(nodes, formula, &mut due)?,
+            Some(Due::Term(term)) => {
+                if reads_built(nodes, term) {
+                    return Ok(AFTER);
+                }
+                await_terms(nodes, term, &mut due)?;
+            }
+            None => return Ok(HYPOTHESIS),
+        }
     }
+    Err(Stop::Spent)
+}
+
+/// The parts of a formula are due.
+fn await_parts(nodes: &Nodes, formula: FormulaId, due: &mut Vec<Due>) -> Result<(), Stop> {
     match nodes.formula_node(formula) {
         Some(FormulaNode::Le(left, right)) | Some(FormulaNode::Eq(left, right)) => {
-            Ok(has_built_term(nodes, *left, deep - 1)? || has_built_term(nodes, *right, deep - 1)?)
+            due.push(Due::Term(*left))?;
+            due.push(Due::Term(*right))?;
         }
-        Some(FormulaNode::Not(inner)) => has_built(nodes, *inner, deep - 1),
         Some(FormulaNode::And(parts)) | Some(FormulaNode::Or(parts)) => {
-            has_built_part(nodes, parts, deep - 1)
+            for part in parts {
+                due.push(Due::Formula(*part))?;
+            }
         }
         Some(FormulaNode::Implies(left, right)) => {
-            Ok(has_built(nodes, *left, deep - 1)? || has_built(nodes, *right, deep - 1)?)
+            due.push(Due::Formula(*left))?;
+            due.push(Due::Formula(*right))?;
         }
-        Some(FormulaNode::Forall(body)) | Some(FormulaNode::Exists(body)) => {
-            has_built(nodes, *body, deep - 1)
-        }
-        None => Ok(false),
+        Some(FormulaNode::Not(inner))
+        | Some(FormulaNode::Forall(inner))
+        | Some(FormulaNode::Exists(inner)) => due.push(Due::Formula(*inner))?,
+        None => {}
     }
+    Ok(())
 }
 
-#[cycle(built)]
-fn has_built_part(nodes: &Nodes, parts: &[FormulaId], deep: u32) -> Result<bool, Stop> {
-    if deep == 0 {
-        return Err(Stop::Spent);
-    }
-    for part in parts {
-        if has_built(nodes, *part, deep - 1)? {
-            return Ok(true);
-        }
-    }
-    Ok(false)
-}
-
-fn has_built_term(nodes: &Nodes, term: TermId, deep: u32) -> Result<bool, Stop> {
-    if deep == 0 {
-        return Err(Stop::Spent);
-    }
+/// The parts of a term are due, and the index of a read.
+fn await_terms(nodes: &Nodes, term: TermId, due: &mut Vec<Due>) -> Result<(), Stop> {
     match nodes.term_node(term) {
         Some(TermNode::Add(left, right)) | Some(TermNode::Subtract(left, right)) => {
-            Ok(has_built_term(nodes, left, deep - 1)? || has_built_term(nodes, right, deep - 1)?)
+            due.push(Due::Term(left))?;
+            due.push(Due::Term(right))?;
         }
-        Some(TermNode::Multiply(_, term)) => has_built_term(nodes, term, deep - 1),
-        Some(TermNode::Read(column, index)) => {
-            if is_built(nodes, column) {
-                return Ok(true);
-            }
-            has_built_term(nodes, index, deep - 1)
+        Some(TermNode::Multiply(_, part)) | Some(TermNode::Read(_, part)) => {
+            due.push(Due::Term(part))?;
         }
-        _ => Ok(false),
+        _ => {}
+    }
+    Ok(())
+}
+
+/// Whether a term is a read of a column that is built.
+fn reads_built(nodes: &Nodes, term: TermId) -> bool {
+    match nodes.term_node(term) {
+        Some(TermNode::Read(column, _)) => is_built(nodes, column),
+        _ => false,
     }
 }
 

@@ -53,13 +53,13 @@ fn node_truth(
 ) -> Result<Option<bool>, Stop> {
     match known.nodes.formula_node(formula) {
         Some(FormulaNode::Le(left, right)) => {
-            let left = value(known, model, *left, bound, DEEPEST)?;
-            let right = value(known, model, *right, bound, DEEPEST)?;
+            let left = value(known, model, *left, bound)?;
+            let right = value(known, model, *right, bound)?;
             Ok(Some(!right.is_below(left)?))
         }
         Some(FormulaNode::Eq(left, right)) => {
-            let left = value(known, model, *left, bound, DEEPEST)?;
-            let right = value(known, model, *right, bound, DEEPEST)?;
+            let left = value(known, model, *left, bound)?;
+            let right = value(known, model, *right, bound)?;
             Ok(Some(left == right))
         }
         Some(FormulaNode::Not(inner)) => { Ok(negated(truth(known, model, *inner, bound, deep)?)) }

@@ -1,6 +1,6 @@
 //! Proofs of the arena written as trees.
 
-use crate::model::DEEPEST;
+use lc_base::DEPTH_LIMIT;
 use lc_facts::{FactId, Known, Made, ProofId, Rule};
 use lc_farkas::Stop;
 use lc_kernel::{Multiple, Proof, Step};
@@ -81,7 +81,7 @@ impl Numbering {
     }
 }
 
-/// A proof whose first hypotheses are the first facts, with the negated goal behind them.
+/// A proof whose first hypotheses are the first facts, with the negated goal behind them; none that nests deeper than a text may.
 pub(crate) fn written(
     known: &Known,
     proof: ProofId,
@@ -90,7 +90,7 @@ pub(crate) fn written(
 ) -> Result<Proof, Stop> {
     let mut numbering = Numbering::new(known, count, variables)?;
     let mut proofs = Vec::with_capacity(known.alloc, 1)?;
-    write(known, &mut numbering, proof, DEEPEST, &mut proofs)?;
+    write(known, &mut numbering, proof, DEPTH_LIMIT, &mut proofs)?;
     match proofs.pop() {
         Some(proof) => Ok(proof),
         None => Err(Stop::Large),
@@ -98,25 +98,23 @@ pub(crate) fn written(
 }
 
 /// Puts a proof behind others: a list of steps of one branch each, and what stands below them. Steps and proofs are large, and
-/// are made in functions that stand apart, so that each level of a proof takes little of the stack.
+/// are made in functions that stand apart, so that each level of a proof takes little of the stack. So many steps may be nested.
 #[cycle(write)]
 fn write(
     known: &Known,
     numbering: &mut Numbering,
     proof: ProofId,
-    deep: u32,
+    deep: usize,
     proofs: &mut Vec<Proof>,
 ) -> Result<(), Stop> {
-    if deep == 0 {
-        return Err(Stop::Spent);
-    }
     let mut steps = Vec::new(known.alloc);
-    let last = chain(known, numbering, proof, &mut steps)?;
+    let last = chain(known, numbering, proof, deep, &mut steps)?;
     let Some(made) = known.proofs.get(last) else {
         return Err(Stop::Large);
     };
     push_step(known, numbering, made, &mut steps)?;
-    let branches = write_each(known, numbering, made, deep - 1)?;
+    let deep = deep.checked_sub(steps.len().max(1)).ok_or(Stop::Spent)?;
+    let branches = write_each(known, numbering, made, deep)?;
     push_steps(known, steps, branches, proofs)
 }
 
@@ -132,16 +130,17 @@ fn push_step(
     Ok(())
 }
 
-/// Writes the steps of one branch that a proof begins with; the proof below them is answered.
+/// Writes the steps of one branch that a proof begins with, so many at most; the proof below them is answered.
 #[inline(never)]
 fn chain(
     known: &Known,
     numbering: &mut Numbering,
     proof: ProofId,
+    most: usize,
     steps: &mut Vec<Step>,
 ) -> Result<ProofId, Stop> {
     let mut proof = proof;
-    for _ in 0..known.proofs.len() {
+    for _ in 0..most {
         let Some(made) = known.proofs.get(proof) else {
             return Ok(proof);
         };
@@ -186,17 +185,14 @@ fn write_each(
     known: &Known,
     numbering: &mut Numbering,
     made: &Made,
-    deep: u32,
+    deep: usize,
 ) -> Result<Vec<Proof>, Stop> {
     let mut proofs = Vec::with_capacity(known.alloc, made.below.len())?;
-    if deep == 0 {
-        return Err(Stop::Spent);
-    }
     for (place, below) in made.below.iter().enumerate() {
         let hypothesis = numbering.next_hypothesis;
         let variable = numbering.next_variable;
         numbering.append_all(made.made.get(place));
-        write(known, numbering, *below, deep - 1, &mut proofs)?;
+        write(known, numbering, *below, deep, &mut proofs)?;
         numbering.next_hypothesis = hypothesis;
         numbering.next_variable = variable;
     }

@@ -88,20 +88,21 @@ impl Splitter {
         if self.machine.word().is_empty() {
             return Ok(());
         }
-        self.end_begun_word()
-    }
-
-    /// Ends the word that has begun. It stands apart so that the test before it costs no call.
-    #[inline(never)]
-    fn end_begun_word(&mut self) -> Result<(), OutOfMemory>
-        requires { self.old.machine.start ≢ vec_len self.old.machine.text }
-        ensures word { OnOk result (EndsWord self.old self.new) }
-        ensures place { StaysPut self.old self.new }
-    {
         if self.machine.depth() > 0 {
             self.machine.end_word()?;
             return Ok(());
         }
+        self.end_begun_word()
+    }
+
+    /// Ends the word that has begun, where no list is open but a form. It stands apart so that the tests before it cost no call.
+    #[inline(never)]
+    fn end_begun_word(&mut self) -> Result<(), OutOfMemory>
+        requires begun { self.old.machine.start ≢ vec_len self.old.machine.text }
+        requires outer { vec_len self.old.machine.holes ≡ 0 }
+        ensures word { OnOk result (EndsWord self.old self.new) }
+        ensures place { StaysPut self.old self.new }
+    {
         let word = self.machine.word();
         if self.in_list {
             let sexp = Sexp::of_letters(self.alloc, word)?;

@@ -1,7 +1,8 @@
 -- Where one call precedes another, it stands earlier in the order.
-use Rattle.std.proofs.Common.{◌≡◌, ℕ, zero, suc, ◌+◌, ◌<◌, ◌≤◌, Bool, true, false, ◌==◌, cond, List, [], ◌∷◌, ℤ, Some, take, slice_get, subst, inl, inr, arith}
+use Rattle.std.proofs.Common.{◌≡◌, ℕ, zero, suc, ◌+◌, ◌<◌, ◌≤◌, Bool, true, false, ◌==◌, cond, List, [], ◌∷◌, ℤ, take, subst, inl, inr, arith}
 use Rattle.lc_seq.specs.Sequential.{Call}
 use Rattle.lc_hist.specs.History.{Event, Called, Replied, Entry, is_call, is_return, is_of, count, IsPlace, Precedes}
+use Rattle.lc_hist.proofs.Places.{more, behind}
 use Rattle.lc_sound.specs.Happening.{Happening, Happens, Marked, client_of, events, returns_next, counted}
 use Rattle.lc_sound.specs.Lawful.{Phase, Free, Waiting, Noted, Done, Takes, calls, returns_done, returns_noted, marks, marks_noted, notes, notes_again}
 use Rattle.lc_sound.proofs.Own.{IsOwn, same_client}
@@ -90,28 +91,6 @@ is_cut c p (h ∷ hs) law (suc j) =
       | inl l ↦ cut_here c p law.0 h hs j l.1 l.0 rest
       | inr l ↦ cut_away c p h hs j l.0 (λ i. subst (λ q. IsCut c q hs i) l.1 (rest i))
     ]
-
--- a longer front has no fewer
-more : {A : Type 0} (test : A → Bool) (xs : List A) (m n : ℕ) → m ≤ n → count test (take m xs) ≤ count test (take n xs)
-more test xs zero n le = omega arith
-more test xs (suc m) zero le = absurd (omega arith)
-more test [] (suc m) (suc n) le = omega arith
-more test (x ∷ xs) (suc m) (suc n) le = step (test x) (more test xs m n (omega arith))
-  where
-    step : (b : Bool) → count test (take m xs) ≤ count test (take n xs) → cond b (suc (count test (take m xs))) (count test (take m xs)) ≤ cond b (suc (count test (take n xs))) (count test (take n xs))
-    step true h = omega arith
-    step false h = h
-
--- a front that ends behind the k-th has more than k
-behind : {A : Type 0} (test : A → Bool) (xs : List A) (i n : ℕ) (x : A) → slice_get xs i ≡ Some x → test x ≡ true → i < n → count test (take i xs) < count test (take n xs)
-behind test [] i n x at is lt = absurd cc
-behind test (y ∷ xs) i zero x at is lt = absurd (omega arith)
-behind test (y ∷ xs) zero (suc n) x at is lt = let e : test y ≡ true = cc (at, is) in rw e (omega arith)
-behind test (y ∷ xs) (suc i) (suc n) x at is lt = step (test y) (behind test xs i n x at is (omega arith))
-  where
-    step : (b : Bool) → count test (take i xs) < count test (take n xs) → cond b (suc (count test (take i xs))) (count test (take i xs)) < cond b (suc (count test (take n xs))) (count test (take n xs))
-    step true h = omega arith
-    step false h = h
 
 pub stands_earlier : (hs : List Happening) → ((c : ℕ) → IsOwn c Free hs) → (c k d m p q : ℕ)
     → Precedes (events hs) c k d m → IsPlace (is_of c) k (counted hs) p → IsPlace (is_of d) m (counted hs) q → p < q

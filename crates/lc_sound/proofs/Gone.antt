@@ -1,5 +1,5 @@
 -- A step of an instruction, as an edge of the table with all that is known of it.
-use Rattle.std.proofs.Common.{◌≡◌, ℕ, suc, ◌+◌, ◌≤◌, ◌⊎◌, ◌==◌, true, List, [], ◌∷◌, ◌++◌, ℤ, pos, Option, Some, None, length, refl, sym, ap, ◌∙◌, subst, inl, inr, arith}
+use Rattle.std.proofs.Common.{◌≡◌, ℕ, suc, ◌+◌, ◌≤◌, ◌⊎◌, ◌==◌, true, List, [], ◌∷◌, ℤ, pos, Option, Some, None, length, refl, sym, ap, ◌∙◌, subst, inl, inr, arith}
 use Rattle.std.specs.Prelude.{slice_get}
 use Rattle.std.proofs.lemmas.Bool.{eqb-true}
 use Rattle.std.proofs.lemmas.Option.{same_Some}
@@ -12,7 +12,7 @@ use Rattle.lc_object.specs.declared.instr.EdgeKind.{EdgeKind}
 use Rattle.lc_machine.specs.World.{In}
 use Rattle.lc_machine.specs.Step.{Does, Outcome, numbers}
 use Rattle.lc_machine.specs.EdgeSteps.{updated, reached, IsIn}
-use Rattle.lc_machine.proofs.EdgeLaw.{by_edge}
+use Rattle.lc_machine.proofs.EdgeLaw.{in_either, of_point, by_edge}
 use Rattle.lc_term.proofs.Tests.{left_true, right_true}
 use Rattle.lc_object.specs.Places.{operation_in}
 use Rattle.lc_outline.specs.Development.{Development, first_system, on_at}
@@ -23,29 +23,6 @@ use Rattle.lc_sound.proofs.Frames.{Kept}
 use Rattle.lc_sound.proofs.Lifting.{AreBehind, edge_targets, assigned_other}
 
 -- ---- an edge of the table is one of its point's instruction
-
-in_either : {A : Type 0} (x : A) (xs ys : List A) → IsIn x (xs ++ ys) → IsIn x xs ⊎ IsIn x ys
-in_either x [] ys h = inr h
-in_either x (z ∷ zs) ys (inl e) = inl (inl e)
-in_either x (z ∷ zs) ys (inr h) = elim (in_either x zs ys h) [ inl k ↦ inl (inr k) | inr k ↦ inr k ]
-
-point_of : (object : Object) (p : ℕ) (i : Instr) (e : Edge) → IsIn e (edges_at object p i) → e.point ≡ p
-point_of object p (Load a t rs l) e (inl is) = ap (λ (x : Edge). x.point) is
-point_of object p (Load a t rs l) e (inr none) = absurd none
-point_of object p (Store a t us l) e (inl is) = ap (λ (x : Edge). x.point) is
-point_of object p (Store a t us l) e (inr none) = absurd none
-point_of object p (Cas a t old new l m) e (inl is) = ap (λ (x : Edge). x.point) is
-point_of object p (Cas a t old new l m) e (inr (inl is)) = ap (λ (x : Edge). x.point) is
-point_of object p (Cas a t old new l m) e (inr (inr none)) = absurd none
-point_of object p (Set rs us l) e (inl is) = ap (λ (x : Edge). x.point) is
-point_of object p (Set rs us l) e (inr none) = absurd none
-point_of object p (Faa a t rs ds l) e (inl is) = ap (λ (x : Edge). x.point) is
-point_of object p (Faa a t rs ds l) e (inr none) = absurd none
-point_of object p (If f l m) e (inl is) = ap (λ (x : Edge). x.point) is
-point_of object p (If f l m) e (inr (inl is)) = ap (λ (x : Edge). x.point) is
-point_of object p (If f l m) e (inr (inr none)) = absurd none
-point_of object p (Return us) e (inl is) = ap (λ (x : Edge). x.point) is
-point_of object p (Return us) e (inr none) = absurd none
 
 abbrev Stands : Object → ℕ → List Point → Edge → Type 0
 Stands object q ps e = (k : ℕ) × (pt : Point) × (slice_get ps k ≡ Some pt) × IsIn e (edges_at object (q + k) pt.instruction)
@@ -61,7 +38,7 @@ stands object q (x ∷ ps) e h = by (in_either e (edges_at object q x.instructio
 pub edge_here : (object : Object) (e : Edge) (p : ℕ) (pt : Point) → IsIn e (edges object) → e.point ≡ p → slice_get object.points p ≡ Some pt → IsIn e (edges_at object p pt.instruction)
 edge_here object e p pt h from at =
     let y = stands object 0 object.points e h in
-    let is : y.0 ≡ p = (let a = point_of object (0 + y.0) (y.1).instruction e y.3 in omega (arith, a, from)) in
+    let is : y.0 ≡ p = (let a = of_point object (0 + y.0) (y.1).instruction e y.3 in omega (arith, a, from)) in
     let same : y.1 ≡ pt = same_Some y.1 pt (sym y.2 ∙ (ap (slice_get object.points) is ∙ at)) in
     subst (λ (x : Point). IsIn e (edges_at object p x.instruction)) same (subst (λ j. IsIn e (edges_at object j (y.1).instruction)) (omega arith) y.3)
 

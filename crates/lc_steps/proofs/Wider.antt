@@ -1,14 +1,14 @@
 -- What speaks of so many columns speaks of more.
-use Rattle.std.proofs.Common.{◌≡◌, ℕ, ◌≤◌, Bool, true, ◌&&◌, List, [], ◌∷◌, refl, arith}
-use Rattle.std.specs.Prelude.{nat_lt, suc}
+use Rattle.std.proofs.Common.{◌≡◌, ℕ, ◌≤◌, true, ◌&&◌, List, [], ◌∷◌, refl, arith}
+use Rattle.std.specs.Prelude.{nat_lt}
 use Rattle.std.specs.List.{list_all}
 use Rattle.std.proofs.lemmas.Bool.Decides.{nat_tests}
-use Rattle.lc_term.specs.Places.{known, term_passes, column_passes, passes, all_pass, is_known}
-use Rattle.lc_term.specs.Syntax.{Term, Number, Variable, Bound, Add, Subtract, Multiply, Read, Column, Base, Store, Affine}
-use Rattle.lc_term.specs.Syntax.{Formula, Le, Eq, Not, And, Or, Implies, Forall, Exists, Formulas, none, more}
+use Rattle.lc_term.specs.Places.{known, term_passes, is_known}
+use Rattle.lc_term.specs.Syntax.{Term}
 use Rattle.lc_term.specs.Truth.{is_ground}
 use Rattle.lc_term.specs.Updates.{Update}
 use Rattle.lc_term.proofs.Tests.{left_true, right_true, both_true}
+use Rattle.lc_term.proofs.Weaker.{IsWeaker, weaker_term, weaker_formula}
 use Rattle.lc_seq.specs.Specification.{Branch, update_is_resolved, branch_is_resolved}
 use Rattle.lc_seq.proofs.Choosing.{resolved_behind}
 
@@ -16,41 +16,11 @@ below : (c n m : ℕ) → n ≤ m → nat_lt c n ≡ true → nat_lt c m ≡ tru
 below c n m le e = grind (arith, nat_tests)
 
 module _ (n m variables : ℕ) (le : n ≤ m) where
-  mutual
-    term-wider : (t : Term) → term_passes (known n variables) t ≡ true → term_passes (known m variables) t ≡ true
-    term-wider (Number x) h = refl
-    term-wider (Variable k) h = h
-    term-wider (Bound k) h = h
-    term-wider (Add t u) h = both_true _ _ (term-wider t (left_true _ (term_passes (known n variables) u) h)) (term-wider u (right_true (term_passes (known n variables) t) _ h))
-    term-wider (Subtract t u) h = both_true _ _ (term-wider t (left_true _ (term_passes (known n variables) u) h)) (term-wider u (right_true (term_passes (known n variables) t) _ h))
-    term-wider (Multiply x t) h = term-wider t h
-    term-wider (Read c t) h = both_true _ _ (column-wider c (left_true _ (term_passes (known n variables) t) h)) (term-wider t (right_true (column_passes (known n variables) c) _ h))
+  wider : IsWeaker (known n variables) (known m variables)
+  wider = record { columns = λ c h. below c n m le h; variables = λ k h. h; bounds = λ k h. h }
 
-    column-wider : (c : Column) → column_passes (known n variables) c ≡ true → column_passes (known m variables) c ≡ true
-    column-wider (Base c) h = below c n m le h
-    column-wider (Store c t v) h =
-        let front = left_true (column_passes (known n variables) c && term_passes (known n variables) t) (term_passes (known n variables) v) h in
-        both_true _ _
-        (both_true _ _ (column-wider c (left_true (column_passes (known n variables) c) _ front)) (term-wider t (right_true (column_passes (known n variables) c) _ front)))
-        (term-wider v (right_true (column_passes (known n variables) c && term_passes (known n variables) t) _ h))
-    column-wider (Affine a b) h = refl
-
-  mutual
-    formula-wider : (k : ℕ) (f : Formula) → passes (λ j. known n variables) k f ≡ true → passes (λ j. known m variables) k f ≡ true
-    formula-wider k (Le t u) h = both_true _ _ (term-wider t (left_true _ (term_passes (known n variables) u) h)) (term-wider u (right_true (term_passes (known n variables) t) _ h))
-    formula-wider k (Eq t u) h = both_true _ _ (term-wider t (left_true _ (term_passes (known n variables) u) h)) (term-wider u (right_true (term_passes (known n variables) t) _ h))
-    formula-wider k (Not f) h = formula-wider k f h
-    formula-wider k (And fs) h = formulas-wider k fs h
-    formula-wider k (Or fs) h = formulas-wider k fs h
-    formula-wider k (Implies f g) h =
-        both_true _ _ (formula-wider k f (left_true _ (passes (λ j. known n variables) k g) h)) (formula-wider k g (right_true (passes (λ j. known n variables) k f) _ h))
-    formula-wider k (Forall f) h = formula-wider (suc k) f h
-    formula-wider k (Exists f) h = formula-wider (suc k) f h
-
-    formulas-wider : (k : ℕ) (fs : Formulas) → all_pass (λ j. known n variables) k fs ≡ true → all_pass (λ j. known m variables) k fs ≡ true
-    formulas-wider k none h = refl
-    formulas-wider k (more f fs) h =
-        both_true _ _ (formula-wider k f (left_true _ (all_pass (λ j. known n variables) k fs) h)) (formulas-wider k fs (right_true (passes (λ j. known n variables) k f) _ h))
+  term-wider : (t : Term) → term_passes (known n variables) t ≡ true → term_passes (known m variables) t ≡ true
+  term-wider t h = weaker_term (known n variables) (known m variables) wider t h
 
   terms-wider : (ts : List Term) → list_all (term_passes (known n variables)) ts ≡ true → list_all (term_passes (known m variables)) ts ≡ true
   terms-wider [] h = refl
@@ -76,7 +46,7 @@ module _ (n m variables : ℕ) (le : n ≤ m) where
       let replies = list_all (term_passes (known n variables)) b.replies in
       let front = left_true guard (updates && replies) h in
       let rest = right_true guard (updates && replies) h in
-      both_true _ _ (both_true _ _ (left_true (is_ground b.guard) _ front) (formula-wider 0 b.guard (right_true (is_ground b.guard) _ front)))
+      both_true _ _ (both_true _ _ (left_true (is_ground b.guard) _ front) (weaker_formula (λ k. known n variables) (λ k. known m variables) (λ k. wider) 0 b.guard (right_true (is_ground b.guard) _ front)))
       (both_true _ _ (updates-wider b.updates (left_true updates replies rest)) (terms-wider b.replies (right_true updates replies rest)))
 
 -- branches with the variables of their labels

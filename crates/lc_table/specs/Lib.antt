@@ -1,4 +1,5 @@
 pub mod Copies
+pub mod Deep
 pub mod Filling
 pub mod NodeChains
 pub mod NodeClosed

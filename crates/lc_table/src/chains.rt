@@ -39,25 +39,25 @@ impl Waiting {
     }
 }
 
-/// Of column expressions of a table, what is known already to become of them.
-pub(crate) trait KnownColumns {
+/// Of terms and column expressions of a table, what is known already to become of them.
+pub(crate) trait KnownParts {
     ghost use Rattle.std.specs.Prelude.{ℕ, IfSome};
 
     ghost Becomes: { Self → ℕ → ℕ → Type 0 };
 
-    // The number of what becomes of a column expression, if it is known.
-    fn known(&self, column: ColExprId) -> Option<u32>
-        ensures { IfSome result (Becomes self.now column.0) };
+    // The number of what becomes of a part, if it is known.
+    fn known(&self, part: u32) -> Option<u32>
+        ensures { IfSome result (Becomes self.now part) };
 }
 
-impl KnownColumns for IndexMap<u32, u32> {
+impl KnownParts for IndexMap<u32, u32> {
     ghost use Rattle.std.specs.Prelude.{◌≡◌, Some, nat_eq};
     ghost use Rattle.std.specs.Map.{lookup};
 
-    ghost Becomes = { λ done column number. lookup (nat_eq column) done.entries ≡ Some number };
+    ghost Becomes = { λ done part number. lookup (nat_eq part) done.entries ≡ Some number };
 
-    fn known(&self, column: ColExprId) -> Option<u32> {
-        self.get(&column.0).copied()
+    fn known(&self, part: u32) -> Option<u32> {
+        self.get(&part).copied()
     }
 }
 
@@ -68,16 +68,16 @@ pub(crate) struct ReplacedBelow<'a> {
     pub(crate) depth: u32,
 }
 
-impl KnownColumns for ReplacedBelow<'_> {
+impl KnownParts for ReplacedBelow<'_> {
     ghost use Rattle.std.specs.Prelude.{◌≡◌, Some};
     ghost use Rattle.std.specs.Map.{lookup};
     ghost use Rattle.lc_table.specs.Put.{occurrence_eq};
 
-    ghost Becomes = { λ below column number. lookup (occurrence_eq (record { number = column; depth = below.depth })) below.done.now.parts.entries ≡ Some number };
+    ghost Becomes = { λ below part number. lookup (occurrence_eq (record { number = part; depth = below.depth })) below.done.now.parts.entries ≡ Some number };
 
-    fn known(&self, column: ColExprId) -> Option<u32> {
+    fn known(&self, part: u32) -> Option<u32> {
         self.done.part(Occurrence {
-            number: column.0,
+            number: part,
             depth: self.depth,
         })
     }
@@ -110,7 +110,7 @@ impl Terms {
     }
 
     // A column expression in parts, down to where it is known already what becomes of it.
-    pub(crate) fn chain_to_done<K: KnownColumns>(
+    pub(crate) fn chain_to_done<K: KnownParts>(
         &self,
         alloc: Global,
         column: ColExprId,
@@ -127,7 +127,7 @@ impl Terms {
         let mut stores = Vec::new(alloc);
         let mut base = column;
         'stores: loop {
-            let known = done.known(base);
+            let known = done.known(base.0);
             if known.is_some() {
                 return Ok(Waiting {
                     base,

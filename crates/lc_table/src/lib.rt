@@ -4,6 +4,7 @@
 mod building;
 mod chains;
 mod copying;
+mod deep;
 mod entering;
 mod filling;
 mod node;

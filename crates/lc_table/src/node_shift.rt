@@ -11,6 +11,7 @@ ghost use Rattle.lc_term.specs.Replacement.{replace_column};
 ghost use Rattle.lc_term.specs.Substitution.{shifting, shifted_term};
 ghost use Rattle.lc_table.specs.Tables.{parts, term_in, column_in, IsTerm, IsColumn, HasTerm, HasColumn, Keeps};
 
+use crate::deep::LEVELS;
 use crate::node::{ColExprId, TermId, TermNode};
 use crate::table::Terms;
 use indexmap::IndexMap;
@@ -93,7 +94,7 @@ impl Terms {
         ensures place { IfErr result (λ fault. fault ≡ NoPlace → term_passes (shift_fits added cutoff 0) (term_in self.old term) ≡ false) }
     {
         let mut done = IndexMap::new(alloc);
-        self.shifted_term(term, added, cutoff, &mut done)
+        self.shifted_term(term, added, cutoff, &mut done, LEVELS)
     }
 
     // The column expression, likewise.
@@ -110,7 +111,7 @@ impl Terms {
         ensures place { IfErr result (λ fault. fault ≡ NoPlace → column_passes (shift_fits added cutoff 0) (column_in self.old column) ≡ false) }
     {
         let mut done = IndexMap::new(alloc);
-        self.shifted_column(column, added, cutoff, &mut done)
+        self.shifted_column(column, added, cutoff, &mut done, LEVELS)
     }
 
     #[cycle(shifted_part)]
@@ -121,6 +122,7 @@ impl Terms {
         added: u32,
         cutoff: u32,
         done: &mut IndexMap<u32, u32>,
+        levels: u32,
     ) -> Result<TermId, Unmoved>
         requires there { IsTerm self.old term }
         requires done { AreReplaced (shifting added cutoff) (parts self.old) done.old.entries }
@@ -132,7 +134,7 @@ impl Terms {
         if let Some(number) = done.get(&term.0) {
             return Ok(TermId(*number));
         }
-        let number = self.shifted_part(term.0, added, cutoff, done)?;
+        let number = self.shifted_within(term.0, added, cutoff, done, levels)?;
         done.insert(term.0, number)?;
         Ok(TermId(number))
     }
@@ -145,6 +147,7 @@ impl Terms {
         added: u32,
         cutoff: u32,
         done: &mut IndexMap<u32, u32>,
+        levels: u32,
     ) -> Result<ColExprId, Unmoved>
         requires there { IsColumn self.old column }
         requires done { AreReplaced (shifting added cutoff) (parts self.old) done.old.entries }
@@ -156,7 +159,7 @@ impl Terms {
         let mut chain = self.chain_to_done(self.allocator(), column, done)?;
         let mut moved = chain.below();
         'stores: while let Some(store) = chain.stores.pop() {
-            moved = self.shifted_store(store, moved, added, cutoff, done)?;
+            moved = self.shifted_store(store, moved, added, cutoff, done, levels)?;
         }
         Ok(moved)
     }
@@ -171,6 +174,7 @@ impl Terms {
         added: u32,
         cutoff: u32,
         done: &mut IndexMap<u32, u32>,
+        levels: u32,
     ) -> Result<ColExprId, Unmoved>
         requires there { IsColumn self.old store }
         requires store { is_store (column_in self.old store) ≡ true }
@@ -183,8 +187,8 @@ impl Terms {
     {
         match self.column_node(store) {
             TermNode::Store(_, index, value) => {
-                let index = self.shifted_term(index, added, cutoff, done)?;
-                let value = self.shifted_term(value, added, cutoff, done)?;
+                let index = self.shifted_term(index, added, cutoff, done, levels)?;
+                let value = self.shifted_term(value, added, cutoff, done, levels)?;
                 let number = self.store(below, index, value)?;
                 done.insert(store.0, number.0)?;
                 Ok(number)
@@ -193,10 +197,36 @@ impl Terms {
         }
     }
 
-    // A term, moved, which is not moved yet.
+    // A term that is not moved yet, moved: where no level is left, what is deep in it comes first.
     #[cycle(shifted_part)]
-    #[tactic(auto, using(crate::proofs::Later::kept_on, crate::proofs::Later::keeps_itself, crate::proofs::Later::is_term_later, crate::proofs::Later::is_column_later, crate::proofs::Later::is_term_still, crate::proofs::NodeReplacement::part_there))]
-    fn shifted_part(
+    fn shifted_within(
+        &mut self,
+        part: u32,
+        added: u32,
+        cutoff: u32,
+        done: &mut IndexMap<u32, u32>,
+        levels: u32,
+    ) -> Result<u32, Unmoved>
+        requires there { is_some (slice_get (parts self.old) part) ≡ true }
+        requires term { is_term (slice_get (parts self.old) part) ≡ true }
+        requires done { AreReplaced (shifting added cutoff) (parts self.old) done.old.entries }
+        ensures id { IfOk result (λ k. slice_get (parts self.new) k ≡ Some (replaced_part (shifting added cutoff) (part_in self.old part))) }
+        ensures kept { Keeps self.old self.new }
+        ensures done { OnOk result (AreReplaced (shifting added cutoff) (parts self.new) done.new.entries) }
+        ensures place { IfErr result (λ fault. fault ≡ NoPlace → part_passes (shift_fits added cutoff 0) (part_in self.old part) ≡ false) }
+    {
+        match levels.checked_sub(1) {
+            Some(levels) => self.shifted_part(part, added, cutoff, done, levels),
+            None => self.shifted_deep(part, added, cutoff, done),
+        }
+    }
+
+    // The same, after all that stands below it. Each of these has its own parts moved before it, so that none goes down far. One
+    // that has no place is found again with the part.
+    #[cycle(shifted_part)]
+    #[inline(never)]
+    #[tactic(auto, using(crate::proofs::Later::kept_on, crate::proofs::Later::keeps_itself, crate::proofs::Later::is_term_still))]
+    fn shifted_deep(
         &mut self,
         part: u32,
         added: u32,
@@ -211,26 +241,59 @@ impl Terms {
         ensures done { OnOk result (AreReplaced (shifting added cutoff) (parts self.new) done.new.entries) }
         ensures place { IfErr result (λ fault. fault ≡ NoPlace → part_passes (shift_fits added cutoff 0) (part_in self.old part) ≡ false) }
     {
+        let below = self.terms_below(self.allocator(), part, done)?;
+        for term in &below {
+            match self.shifted_term(*term, added, cutoff, done, LEVELS) {
+                Ok(_) => {}
+                Err(Unmoved::OutOfMemory) => return Err(Unmoved::OutOfMemory),
+                Err(Unmoved::NoPlace) => {
+                    done.clear();
+                    break;
+                }
+            }
+        }
+        self.shifted_part(part, added, cutoff, done, LEVELS)
+    }
+
+    // A term, moved, which is not moved yet.
+    #[cycle(shifted_part)]
+    #[tactic(auto, using(crate::proofs::Later::kept_on, crate::proofs::Later::keeps_itself, crate::proofs::Later::is_term_later, crate::proofs::Later::is_column_later, crate::proofs::Later::is_term_still, crate::proofs::NodeReplacement::part_there))]
+    fn shifted_part(
+        &mut self,
+        part: u32,
+        added: u32,
+        cutoff: u32,
+        done: &mut IndexMap<u32, u32>,
+        levels: u32,
+    ) -> Result<u32, Unmoved>
+        requires there { is_some (slice_get (parts self.old) part) ≡ true }
+        requires term { is_term (slice_get (parts self.old) part) ≡ true }
+        requires done { AreReplaced (shifting added cutoff) (parts self.old) done.old.entries }
+        ensures id { IfOk result (λ k. slice_get (parts self.new) k ≡ Some (replaced_part (shifting added cutoff) (part_in self.old part))) }
+        ensures kept { Keeps self.old self.new }
+        ensures done { OnOk result (AreReplaced (shifting added cutoff) (parts self.new) done.new.entries) }
+        ensures place { IfErr result (λ fault. fault ≡ NoPlace → part_passes (shift_fits added cutoff 0) (part_in self.old part) ≡ false) }
+    {
         match self.part_node(part) {
             TermNode::Bound(number) => Ok(self.bound(moved(number, added, cutoff)?)?.0),
             TermNode::Number(_) | TermNode::Variable(_) => Ok(part),
             TermNode::Add(left, right) => {
-                let left = self.shifted_term(left, added, cutoff, done)?;
-                let right = self.shifted_term(right, added, cutoff, done)?;
+                let left = self.shifted_term(left, added, cutoff, done, levels)?;
+                let right = self.shifted_term(right, added, cutoff, done, levels)?;
                 Ok(self.add(left, right)?.0)
             }
             TermNode::Subtract(left, right) => {
-                let left = self.shifted_term(left, added, cutoff, done)?;
-                let right = self.shifted_term(right, added, cutoff, done)?;
+                let left = self.shifted_term(left, added, cutoff, done, levels)?;
+                let right = self.shifted_term(right, added, cutoff, done, levels)?;
                 Ok(self.subtract(left, right)?.0)
             }
             TermNode::Multiply(factor, term) => {
-                let term = self.shifted_term(term, added, cutoff, done)?;
+                let term = self.shifted_term(term, added, cutoff, done, levels)?;
                 Ok(self.multiply(factor, term)?.0)
             }
             TermNode::Read(column, index) => {
-                let column = self.shifted_column(column, added, cutoff, done)?;
-                let index = self.shifted_term(index, added, cutoff, done)?;
+                let column = self.shifted_column(column, added, cutoff, done, levels)?;
+                let index = self.shifted_term(index, added, cutoff, done, levels)?;
                 Ok(self.read(column, index)?.0)
             }
             TermNode::Base(_) | TermNode::Affine(_, _) | TermNode::Store(_, _, _) => unreachable!(),

@@ -12,6 +12,7 @@ ghost use Rattle.lc_term.specs.Syntax as S;
 ghost use Rattle.lc_table.specs.Tables.{parts, formulas, term_in, column_in, formula_in, formulas_in, IsTerm, IsColumn, IsFormula, AreFormulas, HasTerm, HasColumn, HasFormula, Keeps};
 
 use crate::chains::{ReplacedBelow, Waiting};
+use crate::deep::LEVELS;
 use crate::filling::{Filled, Filling};
 use crate::node::{ColExprId, FormulaId, FormulaNode, TermId, TermNode};
 use crate::put::{Occurrence, Put, PutColumns, PutVariables, ReplacedNodes};
@@ -38,7 +39,7 @@ impl Terms {
         ensures kept { Keeps self.old self.new }
         ensures done { OnOk result (Remembers (replacement_of put.now) self.new done.new) }
     {
-        self.replaced_term::<Brand>(alloc, &Filling::Put(*put), done, term, 0)
+        self.replaced_term::<Brand>(alloc, &Filling::Put(*put), done, term, 0, LEVELS)
     }
 
     /// The column expression with what is put in.
@@ -55,7 +56,7 @@ impl Terms {
         ensures kept { Keeps self.old self.new }
         ensures done { OnOk result (Remembers (replacement_of put.now) self.new done.new) }
     {
-        self.replaced_column::<Brand>(alloc, &Filling::Put(*put), done, column, 0)
+        self.replaced_column::<Brand>(alloc, &Filling::Put(*put), done, column, 0, LEVELS)
     }
 
     /// The formula with what is put in. A formula in which nothing is replaced keeps its number.
@@ -256,6 +257,7 @@ impl Terms {
         done: &mut ReplacedNodes,
         term: TermId,
         depth: u32,
+        levels: u32,
     ) -> Result<TermId, OutOfMemory>
         requires there { IsTerm self.old term }
         requires done { Stands R.replacement self.old put.now done.old }
@@ -270,7 +272,7 @@ impl Terms {
         if let Some(number) = done.part(occurrence) {
             return Ok(TermId(number));
         }
-        let number = self.replaced_part::<R>(alloc, put, done, term.0, depth)?;
+        let number = self.replaced_within::<R>(alloc, put, done, term.0, depth, levels)?;
         done.note_part(occurrence, number)?;
         Ok(TermId(number))
     }
@@ -284,6 +286,7 @@ impl Terms {
         done: &mut ReplacedNodes,
         column: ColExprId,
         depth: u32,
+        levels: u32,
     ) -> Result<ColExprId, OutOfMemory>
         requires there { IsColumn self.old column }
         requires done { Stands R.replacement self.old put.now done.old }
@@ -294,7 +297,7 @@ impl Terms {
         let mut chain = self.chain_to_done(alloc, column, &ReplacedBelow { done, depth })?;
         let mut replaced = self.replaced_below::<R>(alloc, put, done, &chain, depth)?;
         'stores: while let Some(store) = chain.stores.pop() {
-            replaced = self.replaced_store::<R>(alloc, put, done, store, replaced, depth)?;
+            replaced = self.replaced_store::<R>(alloc, put, done, store, replaced, depth, levels)?;
         }
         Ok(replaced)
     }
@@ -381,6 +384,7 @@ impl Terms {
         store: ColExprId,
         below: ColExprId,
         depth: u32,
+        levels: u32,
     ) -> Result<ColExprId, OutOfMemory>
         requires there { IsColumn self.old store }
         requires store { is_store (column_in self.old store) ≡ true }
@@ -393,8 +397,8 @@ impl Terms {
         let node = self.part_node(store.0);
         match node {
             TermNode::Store(_, index, value) => {
-                let index = self.replaced_term::<R>(alloc, put, done, index, depth)?;
-                let value = self.replaced_term::<R>(alloc, put, done, value, depth)?;
+                let index = self.replaced_term::<R>(alloc, put, done, index, depth, levels)?;
+                let value = self.replaced_term::<R>(alloc, put, done, value, depth, levels)?;
                 let changed = TermNode::Store(below, index, value);
                 let number = self.enter_changed(store.0, node, changed)?;
                 let occurrence = Occurrence {
@@ -428,6 +432,56 @@ impl Terms {
         }
     }
 
+    // A term that is not replaced yet, replaced: where no level is left, what is deep in it comes first.
+    #[cycle(replaced_part)]
+    fn replaced_within<R: Filled>(
+        &mut self,
+        alloc: Global,
+        put: &Filling<'_>,
+        done: &mut ReplacedNodes,
+        part: u32,
+        depth: u32,
+        levels: u32,
+    ) -> Result<u32, OutOfMemory>
+        requires there { is_some (slice_get (parts self.old) part) ≡ true }
+        requires term { is_term (slice_get (parts self.old) part) ≡ true }
+        requires done { Stands R.replacement self.old put.now done.old }
+        ensures id { IfOk result (λ k. slice_get (parts self.new) k ≡ Some (replaced_part (under_many depth R.replacement) (part_in self.old part))) }
+        ensures kept { Keeps self.old self.new }
+        ensures done { OnOk result (Stands R.replacement self.new put.now done.new) }
+    {
+        match levels.checked_sub(1) {
+            Some(levels) => self.replaced_part::<R>(alloc, put, done, part, depth, levels),
+            None => self.replaced_deep::<R>(alloc, put, done, part, depth),
+        }
+    }
+
+    // The same, after all that stands below it. Each of these has its own parts replaced before it, so that none goes down far.
+    #[cycle(replaced_part)]
+    #[inline(never)]
+    #[tactic(auto, using(crate::proofs::Later::kept_on, crate::proofs::Later::keeps_itself, crate::proofs::Later::is_term_still))]
+    fn replaced_deep<R: Filled>(
+        &mut self,
+        alloc: Global,
+        put: &Filling<'_>,
+        done: &mut ReplacedNodes,
+        part: u32,
+        depth: u32,
+    ) -> Result<u32, OutOfMemory>
+        requires there { is_some (slice_get (parts self.old) part) ≡ true }
+        requires term { is_term (slice_get (parts self.old) part) ≡ true }
+        requires done { Stands R.replacement self.old put.now done.old }
+        ensures id { IfOk result (λ k. slice_get (parts self.new) k ≡ Some (replaced_part (under_many depth R.replacement) (part_in self.old part))) }
+        ensures kept { Keeps self.old self.new }
+        ensures done { OnOk result (Stands R.replacement self.new put.now done.new) }
+    {
+        let below = self.terms_below(alloc, part, &ReplacedBelow { done, depth })?;
+        for term in &below {
+            self.replaced_term::<R>(alloc, put, done, *term, depth, LEVELS)?;
+        }
+        self.replaced_part::<R>(alloc, put, done, part, depth, LEVELS)
+    }
+
     // A term, replaced, which is not replaced yet.
     #[cycle(replaced_part)]
     #[tactic(auto, using(crate::proofs::Later::kept_on, crate::proofs::Later::keeps_itself, crate::proofs::Later::is_term_later, crate::proofs::Later::is_column_later, crate::proofs::Later::is_term_still, crate::proofs::NodeReplacement::part_there, crate::proofs::NodeReplacement::node_later))]
@@ -438,6 +492,7 @@ impl Terms {
         done: &mut ReplacedNodes,
         part: u32,
         depth: u32,
+        levels: u32,
     ) -> Result<u32, OutOfMemory>
         requires there { is_some (slice_get (parts self.old) part) ≡ true }
         requires term { is_term (slice_get (parts self.old) part) ≡ true }
@@ -454,22 +509,22 @@ impl Terms {
             TermNode::Bound(number) => { self.replaced_bound::<R>(alloc, put, part, number, depth) }
             TermNode::Number(_) => Ok(part),
             TermNode::Add(left, right) => {
-                let left = self.replaced_term::<R>(alloc, put, done, left, depth)?;
-                let right = self.replaced_term::<R>(alloc, put, done, right, depth)?;
+                let left = self.replaced_term::<R>(alloc, put, done, left, depth, levels)?;
+                let right = self.replaced_term::<R>(alloc, put, done, right, depth, levels)?;
                 self.enter_changed(part, node, TermNode::Add(left, right))
             }
             TermNode::Subtract(left, right) => {
-                let left = self.replaced_term::<R>(alloc, put, done, left, depth)?;
-                let right = self.replaced_term::<R>(alloc, put, done, right, depth)?;
+                let left = self.replaced_term::<R>(alloc, put, done, left, depth, levels)?;
+                let right = self.replaced_term::<R>(alloc, put, done, right, depth, levels)?;
                 self.enter_changed(part, node, TermNode::Subtract(left, right))
             }
             TermNode::Multiply(factor, term) => {
-                let term = self.replaced_term::<R>(alloc, put, done, term, depth)?;
+                let term = self.replaced_term::<R>(alloc, put, done, term, depth, levels)?;
                 self.enter_changed(part, node, TermNode::Multiply(factor, term))
             }
             TermNode::Read(column, index) => {
-                let column = self.replaced_column::<R>(alloc, put, done, column, depth)?;
-                let index = self.replaced_term::<R>(alloc, put, done, index, depth)?;
+                let column = self.replaced_column::<R>(alloc, put, done, column, depth, levels)?;
+                let index = self.replaced_term::<R>(alloc, put, done, index, depth, levels)?;
                 self.enter_changed(part, node, TermNode::Read(column, index))
             }
             TermNode::Base(_) | TermNode::Affine(_, _) | TermNode::Store(_, _, _) => unreachable!(),
@@ -543,13 +598,13 @@ impl Terms {
     {
         match *self.formula_node(formula) {
             FormulaNode::Le(left, right) => {
-                let left = self.replaced_term::<R>(alloc, put, done, left, depth)?;
-                let right = self.replaced_term::<R>(alloc, put, done, right, depth)?;
+                let left = self.replaced_term::<R>(alloc, put, done, left, depth, LEVELS)?;
+                let right = self.replaced_term::<R>(alloc, put, done, right, depth, LEVELS)?;
                 Ok(FormulaNode::Le(left, right))
             }
             FormulaNode::Eq(left, right) => {
-                let left = self.replaced_term::<R>(alloc, put, done, left, depth)?;
-                let right = self.replaced_term::<R>(alloc, put, done, right, depth)?;
+                let left = self.replaced_term::<R>(alloc, put, done, left, depth, LEVELS)?;
+                let right = self.replaced_term::<R>(alloc, put, done, right, depth, LEVELS)?;
                 Ok(FormulaNode::Eq(left, right))
             }
             FormulaNode::Not(formula) => {

@@ -53,7 +53,7 @@ pub record Passes (p : Test) : Type 0 where
   pub bounds : (k : ℕ) → IsTrue (p.bounds k)
 
 mutual
-  every_term_passes : (p : Test) → Passes p → (t : Term) → IsTrue (term_passes p t)
+  pub every_term_passes : (p : Test) → Passes p → (t : Term) → IsTrue (term_passes p t)
   every_term_passes p h (Number n) = refl
   every_term_passes p h (Variable k) = h.variables k
   every_term_passes p h (Bound k) = h.bounds k
@@ -68,7 +68,7 @@ mutual
   every_column_passes p h (Affine m n) = refl
 
 mutual
-  every_formula_passes : (p : ℕ → Test) → ((n : ℕ) → Passes (p n)) → (n : ℕ) (f : Formula) → IsTrue (passes p n f)
+  pub every_formula_passes : (p : ℕ → Test) → ((n : ℕ) → Passes (p n)) → (n : ℕ) (f : Formula) → IsTrue (passes p n f)
   every_formula_passes p h n (Le t u) = and_from _ _ (every_term_passes (p n) (h n) t) (every_term_passes (p n) (h n) u)
   every_formula_passes p h n (Eq t u) = and_from _ _ (every_term_passes (p n) (h n) t) (every_term_passes (p n) (h n) u)
   every_formula_passes p h n (Not f) = every_formula_passes p h n f

@@ -17,4 +17,5 @@ mod Written
 pub mod Stores
 pub mod Tests
 pub mod Symbolic
-mod Depths
+pub mod Depths
+pub mod Weaker

@@ -67,7 +67,7 @@ inner_or : (n k : ℕ) (b : Bool) (o : Option ℕ) → ((j : ℕ) → o ≡ Some
 inner_or n k b None h e = innermost n k b e
 inner_or n k b (Some j) h e = let same : j ≡ k = cc in let lt = h j refl in omega arith
 
-bound_below : (bound : List (List ℕ)) (w : List ℕ) (k : ℕ) → bound_index bound w ≡ Some k → k < length bound
+pub bound_below : (bound : List (List ℕ)) (w : List ℕ) (k : ℕ) → bound_index bound w ≡ Some k → k < length bound
 bound_below [] w k e = absurd (cc)
 bound_below (b ∷ bound) w k e = let lt = inner_or (length bound) k (is w b) (bound_index bound w) (λ j is. bound_below bound w j is) e in omega arith
 

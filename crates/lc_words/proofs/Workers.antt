@@ -8,16 +8,17 @@ use Rattle.clap.specs.declared.builder.value_parser.ValueParser.TheVariants.{Uns
 use Rattle.clap.specs.declared.parser.matches.Found.{Found}
 use Rattle.clap.proofs.ValueTestLemmas.{Accepts-accepts}
 use Rattle.clap.proofs.WalkLemmas.{first_value-rows}
+use Rattle.lc_base.specs.Limits.{worker_limit}
 use Rattle.lc_words.specs.Reading.{checked, checking_task, is_set, number_in, workers_given}
 use Rattle.lc_words.specs.Tasks.{Task}
 use Rattle.lc_words.proofs.Numbers.{unsigned_in}
 
 -- a number of workers has 64 bits, and is one that clap takes
-pub workers_are_few : (workers : ℕ) → workers ≤ 64 → workers < 2 ^ 64
+pub workers_are_few : (workers : ℕ) → workers ≤ worker_limit → workers < 2 ^ 64
 workers_are_few workers most = omega (arith, most)
 
-pub workers_pass : (workers : ℕ) → 1 ≤ workers → workers ≤ 64 → is_unsigned_in 1 64 (decimal workers) ≡ true
-workers_pass workers least most = Accepts-accepts false (Unsigned 1 64) (decimal workers) (unsigned_in 1 64 workers (workers_are_few workers most) least most)
+pub workers_pass : (workers : ℕ) → 1 ≤ workers → workers ≤ worker_limit → is_unsigned_in 1 worker_limit (decimal workers) ≡ true
+workers_pass workers least most = Accepts-accepts false (Unsigned 1 worker_limit) (decimal workers) (unsigned_in 1 worker_limit workers (workers_are_few workers most) least most)
 
 -- the number of workers, where clap finds it
 pub workers_found : (f : Found) (text : Option Text) → text ≡ first_value f (codes "workers") → option_and_then number_in text ≡ workers_given (rows_of f)

@@ -3,6 +3,7 @@ use Rattle.std.specs.Prelude.{true, codes, [], Some}
 use Rattle.clap.specs.Words.{App, Rule, Text, new_app, new_rule, with_rule, with_subcommand}
 use Rattle.clap.specs.declared.builder.action.ArgAction.TheVariants.{Set, SetTrue}
 use Rattle.clap.specs.declared.builder.value_parser.ValueParser.TheVariants.{Unsigned}
+use Rattle.lc_base.specs.Limits.{worker_limit}
 
 -- a required argument that names a file
 abbrev pub file_rule : Text → Rule
@@ -16,9 +17,9 @@ option_rule name = record (new_rule name) { long = Some name; action = Some Set;
 abbrev pub object_rule : Text → Rule
 object_rule name = record (new_rule name) { action = Some Set; required = true }
 
--- an option with a number of workers, from 1 to 64
+-- an option with a number of workers, from 1 to their limit
 abbrev pub workers_rule : Rule
-workers_rule = record (option_rule (codes "workers")) { parser = Some (Unsigned 1 64) }
+workers_rule = record (option_rule (codes "workers")) { parser = Some (Unsigned 1 worker_limit) }
 
 -- an option without a value
 abbrev pub flag_rule : Text → Rule

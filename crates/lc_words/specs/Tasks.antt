@@ -4,7 +4,7 @@ use Rattle.std.specs.Borrow.{Bor}
 use Rattle.std.specs.Fmt.{decimal}
 use Rattle.std.specs.declared.alloc.Global.{Global}
 use Rattle.clap.specs.Words.{Text}
-use Rattle.lc_base.specs.Limits.{name_limit}
+use Rattle.lc_base.specs.Limits.{name_limit, worker_limit}
 use Rattle.lc_base.specs.NameText.{is_name}
 use Rattle.lc_lib_texts.specs.Names.{name_of}
 use Rattle.lc_lib_texts.specs.declared.library.Lib.{Lib}
@@ -149,7 +149,7 @@ HasPlainWords (OfPoint point) = is_plain point ≡ true
 HasPlainWords (OfKind kind) = is_plain kind ≡ true
 HasPlainWords (OfBoth point kind) = (is_plain point ≡ true) × (is_plain kind ≡ true)
 
--- none of its paths begins with a hyphen, what is to be a name is one, a number has 64 bits, and there are 1 to 64 workers
+-- none of its paths begins with a hyphen, what is to be a name is one, a number has 64 bits, and workers are from 1 to their limit
 abbrev pub HasPlainPaths : Task → Type 0
 HasPlainPaths (CheckFormula path) = is_plain path ≡ true
 HasPlainPaths (JudgeHistory development history) = (is_plain development ≡ true) × (is_plain history ≡ true)
@@ -159,7 +159,7 @@ HasPlainPaths (ListConditions development) = is_plain development ≡ true
 HasPlainPaths (ListChosen development filter) = (is_plain development ≡ true) × HasPlainWords filter
 HasPlainPaths (ShowCondition development number) = (is_plain development ≡ true) × (number < 2 ^ 64)
 HasPlainPaths (CheckCertificate development certificate) = (is_plain development ≡ true) × (is_plain certificate ≡ true)
-HasPlainPaths (CheckByWorkers development certificate workers) = (is_plain development ≡ true) × (is_plain certificate ≡ true) × (1 ≤ workers) × (workers ≤ 64)
+HasPlainPaths (CheckByWorkers development certificate workers) = (is_plain development ≡ true) × (is_plain certificate ≡ true) × (1 ≤ workers) × (workers ≤ worker_limit)
 HasPlainPaths (ProveDevelopment development) = is_plain development ≡ true
 HasPlainPaths (ProveWithHints development hints) = (is_plain development ≡ true) × (is_plain hints ≡ true)
 HasPlainPaths (CarryCertificate old certificate new) = (is_plain old ≡ true) × (is_plain certificate ≡ true) × (is_plain new ≡ true)

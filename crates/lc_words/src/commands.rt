@@ -15,10 +15,8 @@ use crate::texts::{
 };
 use clap::builder::ValueParser;
 use clap::{Arg, ArgAction, Command};
+use lc_base::WORKER_LIMIT;
 use std::alloc::{AllocError, Global};
-
-/// The most workers that a certificate is checked by.
-const MOST_WORKERS: u64 = 64;
 
 /// An argument that names a file.
 fn file<'a>(alloc: Global, name: &'a str, help: &'a str) -> Arg<'a>
@@ -139,7 +137,7 @@ fn workers<'a>(alloc: Global) -> Arg<'a>
 {
     value_option(alloc, "workers", "N", WORKERS).value_parser(ValueParser::Unsigned(
         1,
-        MOST_WORKERS,
+        WORKER_LIMIT,
     ))
 }
 

@@ -3,7 +3,7 @@
 use super::{IndexChange, Indexed, Known};
 use crate::fact::Place;
 use crate::form::Form;
-use crate::nodes::NESTING;
+use crate::nodes::STORES;
 use lc_base::ColId;
 use lc_farkas::{Rational, Stop};
 use lc_table::{ColExprId, FormulaId, TermId, TermNode};
@@ -80,7 +80,7 @@ impl Known {
         };
         self.note_index(base, index, place)?;
         let mut column = column;
-        for _ in 0..NESTING {
+        for _ in 0..STORES {
             let Some(TermNode::Store(before, stored, _)) = self.nodes.column_node(column) else {
                 return Ok(());
             };

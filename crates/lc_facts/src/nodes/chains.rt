@@ -21,25 +21,9 @@ pub(super) struct Chain {
 impl Nodes {
     /// All stores of a column expression.
     pub(super) fn chain(&self, column: ColExprId) -> Result<Chain, Stop> {
-        self.chain_to(column, None)
-    }
-
-    /// The stores of a column expression down to where its bound variables ask for no more quantifiers than `depth`.
-    pub(super) fn loose_chain(&self, column: ColExprId, depth: u32) -> Result<Chain, Stop> {
-        self.chain_to(column, Some(depth))
-    }
-
-    /// The stores of a column expression; those down to where its bound variables ask for no more quantifiers than these, if
-    /// a number of them is given.
-    fn chain_to(&self, column: ColExprId, depth: Option<u32>) -> Result<Chain, Stop> {
         let mut stores = Vec::new(self.alloc);
         let mut base = column;
         for _ in 0..self.parts.len() {
-            if let Some(depth) = depth
-                && self.column_loose(base) <= depth
-            {
-                break;
-            }
             let Some(TermNode::Store(below, index, value)) = self.column_node(base) else {
                 break;
             };

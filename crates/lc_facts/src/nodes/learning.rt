@@ -1,9 +1,20 @@
 //! What stands in terms and formulas: looked for once.
 
-use super::{Learnt, NESTING, Nodes};
+use super::{Learnt, Nodes};
 use indexmap::IndexSet;
 use lc_farkas::Stop;
 use lc_table::{ColExprId, FormulaId, FormulaNode, TermId, TermNode};
+
+/// What is still to be looked at. It waits in a list, the next one last, so that a deep formula takes nothing of the stack.
+#[derive(Clone, Copy)]
+enum Due {
+    Formula(FormulaId),
+    /// A side of a comparison.
+    Side(TermId),
+    Term(TermId),
+    /// A read whose parts were looked at.
+    Read(TermId),
+}
 
 impl Nodes {
     /// Nothing learnt yet.
@@ -20,8 +31,7 @@ impl Nodes {
         if self.learnt.contains_key(&formula) {
             return Ok(());
         }
-        let mut learnt = self.nothing_learnt();
-        self.gather_formula(formula, &mut learnt, NESTING)?;
+        let learnt = self.gathered(formula)?;
         self.learnt.insert(formula, learnt)?;
         Ok(())
     }
@@ -31,8 +41,7 @@ impl Nodes {
         if self.learnt_terms.contains_key(&term) {
             return Ok(());
         }
-        let mut learnt = self.nothing_learnt();
-        self.gather_term(term, &mut learnt, NESTING)?;
+        let learnt = self.gathered_variables(term)?;
         let form = self.form_of(term)?;
         self.forms.insert(term, form)?;
         self.learnt_terms.insert(term, learnt)?;
@@ -63,14 +72,6 @@ impl Nodes {
         }
     }
 
-    /// The closed reads of a term, itself last, as they were learnt.
-    pub fn term_reads(&self, term: TermId) -> &[TermId] {
-        match self.learnt_terms.get(&term) {
-            Some(learnt) => learnt.reads.as_slice(),
-            None => &[],
-        }
-    }
-
     /// The free variables of a term, as they were learnt.
     pub fn term_variables(&self, term: TermId) -> &[u32] {
         match self.learnt_terms.get(&term) {
@@ -84,46 +85,102 @@ impl Nodes {
         self.reads(formula).get(place).copied()
     }
 
-    /// Notes what stands in a term.
-    #[cycle(gather_term)]
-    fn gather_term(&self, term: TermId, learnt: &mut Learnt, fuel: u32) -> Result<(), Stop> {
-        if fuel == 0 {
-            return Err(Stop::Spent);
+    /// What stands in a formula, the parts of each node before it and in their order.
+    fn gathered(&self, formula: FormulaId) -> Result<Learnt, Stop> {
+        let mut learnt = self.nothing_learnt();
+        let mut due = Vec::new(self.alloc);
+        due.push(Due::Formula(formula))?;
+        for _ in 0..u64::MAX {
+            match due.pop() {
+                Some(next) => self.gather(next, &mut learnt, &mut due)?,
+                None => return Ok(learnt),
+            }
         }
+        Err(Stop::Spent)
+    }
+
+    /// The free variables of a term alone, in the order in which they come. A part of which they were learnt is not walked again.
+    fn gathered_variables(&self, term: TermId) -> Result<Learnt, Stop> {
+        let mut learnt = self.nothing_learnt();
+        let mut due = Vec::new(self.alloc);
+        due.push(Due::Term(term))?;
+        for _ in 0..u64::MAX {
+            match due.pop() {
+                Some(Due::Term(part)) if self.learnt_terms.contains_key(&part) => {
+                    for variable in self.term_variables(part) {
+                        learnt.variables.insert(*variable)?;
+                    }
+                }
+                Some(next) => self.gather(next, &mut learnt, &mut due)?,
+                None => return self.variables_alone(&learnt),
+            }
+        }
+        Err(Stop::Spent)
+    }
+
+    /// The variables of what was learnt, alone.
+    fn variables_alone(&self, learnt: &Learnt) -> Result<Learnt, Stop> {
+        let mut alone = self.nothing_learnt();
+        for variable in learnt.variables.as_slice() {
+            alone.variables.insert(*variable)?;
+        }
+        Ok(alone)
+    }
+
+    /// Notes what is due; its parts are due before what stands behind it.
+    fn gather(&self, next: Due, learnt: &mut Learnt, due: &mut Vec<Due>) -> Result<(), Stop> {
+        match next {
+            Due::Formula(formula) => self.gather_formula(formula, due),
+            Due::Side(side) => self.gather_side(side, learnt, due),
+            Due::Term(term) => self.gather_term(term, learnt, due),
+            Due::Read(read) => self.note_read(read, learnt),
+        }
+    }
+
+    /// Notes a term without parts; the parts of another one are due.
+    fn gather_term(
+        &self,
+        term: TermId,
+        learnt: &mut Learnt,
+        due: &mut Vec<Due>,
+    ) -> Result<(), Stop> {
         if learnt.reads.contains(&term) {
             return Ok(());
         }
         match self.term_node(term) {
             Some(TermNode::Variable(number)) => {
                 learnt.variables.insert(number)?;
-                Ok(())
             }
             Some(TermNode::Add(left, right)) | Some(TermNode::Subtract(left, right)) => {
-                self.gather_term(left, learnt, fuel - 1)?;
-                self.gather_term(right, learnt, fuel - 1)
+                due.push(Due::Term(right))?;
+                due.push(Due::Term(left))?;
             }
-            Some(TermNode::Multiply(_, term)) => self.gather_term(term, learnt, fuel - 1),
+            Some(TermNode::Multiply(_, term)) => due.push(Due::Term(term))?,
             Some(TermNode::Read(column, index)) => {
-                self.gather_column(column, learnt, fuel - 1)?;
-                self.gather_term(index, learnt, fuel - 1)?;
-                self.note_read(term, learnt)
+                due.push(Due::Read(term))?;
+                due.push(Due::Term(index))?;
+                self.gather_column(column, due)?;
             }
             Some(TermNode::Number(_))
             | Some(TermNode::Bound(_))
             | Some(TermNode::Base(_))
             | Some(TermNode::Store(_, _, _))
             | Some(TermNode::Affine(_, _))
-            | None => Ok(()),
+            | None => {}
         }
+        Ok(())
     }
 
-    /// Notes what stands in a column expression: in its stores, the innermost first.
-    #[cycle(gather_term)]
-    fn gather_column(&self, column: ColExprId, learnt: &mut Learnt, fuel: u32) -> Result<(), Stop> {
-        let mut chain = self.chain(column)?;
-        'stores: while let Some(store) = chain.stores.pop() {
-            self.gather_term(store.index, learnt, fuel)?;
-            self.gather_term(store.value, learnt, fuel)?;
+    /// What stands in a column expression is due: in its stores, the innermost first.
+    fn gather_column(&self, column: ColExprId, due: &mut Vec<Due>) -> Result<(), Stop> {
+        let mut rest = column;
+        for _ in 0..self.parts.len() {
+            let Some(TermNode::Store(below, index, value)) = self.column_node(rest) else {
+                break;
+            };
+            due.push(Due::Term(value))?;
+            due.push(Due::Term(index))?;
+            rest = below;
         }
         Ok(())
     }
@@ -136,55 +193,40 @@ impl Nodes {
         Ok(())
     }
 
-    /// Notes a side of a comparison.
-    fn gather_side(&self, side: TermId, learnt: &mut Learnt) -> Result<(), Stop> {
+    /// Notes a side of a comparison. What stands in it is due.
+    fn gather_side(
+        &self,
+        side: TermId,
+        learnt: &mut Learnt,
+        due: &mut Vec<Due>,
+    ) -> Result<(), Stop> {
         if self.term_loose(side) == 0 {
             learnt.compared.insert(side)?;
         }
-        self.gather_term(side, learnt, NESTING)
+        due.push(Due::Term(side))?;
+        Ok(())
     }
 
-    /// Notes what stands in a formula.
-    #[cycle(gather_formula)]
-    fn gather_formula(
-        &self,
-        formula: FormulaId,
-        learnt: &mut Learnt,
-        fuel: u32,
-    ) -> Result<(), Stop> {
-        if fuel == 0 {
-            return Err(Stop::Spent);
-        }
+    /// The parts of a formula are due.
+    fn gather_formula(&self, formula: FormulaId, due: &mut Vec<Due>) -> Result<(), Stop> {
         match self.formula_node(formula) {
             Some(FormulaNode::Le(left, right)) | Some(FormulaNode::Eq(left, right)) => {
-                self.gather_side(*left, learnt)?;
-                self.gather_side(*right, learnt)
+                due.push(Due::Side(*right))?;
+                due.push(Due::Side(*left))?;
             }
-            Some(FormulaNode::Not(inner)) => self.gather_formula(*inner, learnt, fuel - 1),
             Some(FormulaNode::And(parts)) | Some(FormulaNode::Or(parts)) => {
-                self.gather_formulas(parts, learnt, fuel - 1)
+                for part in parts.iter().rev() {
+                    due.push(Due::Formula(*part))?;
+                }
             }
             Some(FormulaNode::Implies(left, right)) => {
-                self.gather_formula(*left, learnt, fuel - 1)?;
-                self.gather_formula(*right, learnt, fuel - 1)
+                due.push(Due::Formula(*right))?;
+                due.push(Due::Formula(*left))?;
             }
-            Some(FormulaNode::Forall(body)) | Some(FormulaNode::Exists(body)) => {
-                self.gather_formula(*body, learnt, fuel - 1)
-            }
-            None => Ok(()),
-        }
-    }
-
-    /// Notes what stands in formulas.
-    #[cycle(gather_formula)]
-    fn gather_formulas(
-        &self,
-        parts: &[FormulaId],
-        learnt: &mut Learnt,
-        fuel: u32,
-    ) -> Result<(), Stop> {
-        for part in parts {
-            self.gather_formula(*part, learnt, fuel)?;
+            Some(FormulaNode::Not(inner))
+            | Some(FormulaNode::Forall(inner))
+            | Some(FormulaNode::Exists(inner)) => due.push(Due::Formula(*inner))?,
+            None => {}
         }
         Ok(())
     }

@@ -1,6 +1,6 @@
 //! Linear forms of terms and of comparisons, and terms of linear forms.
 
-use super::{NESTING, Nodes};
+use super::Nodes;
 use crate::form::Form;
 use lc_farkas::Stop;
 use lc_table::{FormulaId, FormulaNode, TermId, TermNode};
@@ -14,40 +14,58 @@ impl Nodes {
     /// The form of a term.
     pub(super) fn form_of(&self, term: TermId) -> Result<Form, Stop> {
         let mut form = Form::constant(self.alloc, 0);
-        self.add_term(&mut form, term, 1, NESTING)?;
+        self.add_term(&mut form, term, 1)?;
         Ok(form)
     }
 
-    /// Adds so many times a term.
-    fn add_term(&self, form: &mut Form, term: TermId, count: i128, fuel: u32) -> Result<(), Stop> {
-        if fuel == 0 {
-            return Err(Stop::Spent);
+    /// Adds so many times a term. What is still to be added waits in a list, so that a deep term takes nothing of the stack.
+    fn add_term(&self, form: &mut Form, term: TermId, count: i128) -> Result<(), Stop> {
+        let mut due = Vec::new(self.alloc);
+        self.add_node(form, term, count, &mut due)?;
+        for _ in 0..u64::MAX {
+            match due.pop() {
+                Some((term, count)) => self.add_node(form, term, count, &mut due)?,
+                None => return Ok(()),
+            }
         }
+        Err(Stop::Spent)
+    }
+
+    /// Adds so many times a term that is no sum; the parts of a sum are due.
+    fn add_node(
+        &self,
+        form: &mut Form,
+        term: TermId,
+        count: i128,
+        due: &mut Vec<(TermId, i128)>,
+    ) -> Result<(), Stop> {
         let Some(node) = self.term_node(term) else {
             return Ok(());
         };
         match node {
             TermNode::Number(number) => {
-                form.add_number(count.checked_mul(i128::from(number)).ok_or(Stop::Large)?)
+                form.add_number(count.checked_mul(i128::from(number)).ok_or(Stop::Large)?)?;
             }
             TermNode::Variable(_) | TermNode::Bound(_) | TermNode::Read(_, _) => {
-                form.add_atom(term, count)
+                form.add_atom(term, count)?;
             }
             TermNode::Add(left, right) => {
-                self.add_term(form, left, count, fuel - 1)?;
-                self.add_term(form, right, count, fuel - 1)
+                due.push((right, count))?;
+                due.push((left, count))?;
             }
             TermNode::Subtract(left, right) => {
-                let opposite = count.checked_neg().ok_or(Stop::Large)?;
-                self.add_term(form, left, count, fuel - 1)?;
-                self.add_term(form, right, opposite, fuel - 1)
+                due.push((right, count.checked_neg().ok_or(Stop::Large)?))?;
+                due.push((left, count))?;
             }
             TermNode::Multiply(factor, term) => {
-                let count = count.checked_mul(i128::from(factor)).ok_or(Stop::Large)?;
-                self.add_term(form, term, count, fuel - 1)
+                due.push((
+                    term,
+                    count.checked_mul(i128::from(factor)).ok_or(Stop::Large)?,
+                ))?;
             }
-            TermNode::Base(_) | TermNode::Store(_, _, _) | TermNode::Affine(_, _) => Ok(()),
+            TermNode::Base(_) | TermNode::Store(_, _, _) | TermNode::Affine(_, _) => {}
         }
+        Ok(())
     }
 
     /// The form of a term, as it was learnt.
@@ -74,8 +92,8 @@ impl Nodes {
             return Ok(());
         };
         let mut gap = Form::constant(self.alloc, 0);
-        self.add_term(&mut gap, left, 1, NESTING)?;
-        self.add_term(&mut gap, right, -1, NESTING)?;
+        self.add_term(&mut gap, left, 1)?;
+        self.add_term(&mut gap, right, -1)?;
         self.gaps.insert(formula, gap)?;
         Ok(())
     }

@@ -1,10 +1,12 @@
-//! The trees of nodes, with the variables of the search renamed.
+//! The trees of nodes, with the variables of the search renamed. None is made that nests deeper than a text may: it could not be
+//! printed. What is made of parts is made in functions that stand apart, so that each level takes little of the stack.
 
-use super::{NESTING, Nodes};
-use lc_base::ColId;
+use super::Nodes;
+use lc_base::{ColId, DEPTH_LIMIT};
 use lc_farkas::Stop;
 use lc_table::{ColExprId, FormulaId, FormulaNode, TermId, TermNode};
-use lc_term::{ColExpr, Formula, Term, with_store};
+use lc_term::{ColExpr, Formula, Term};
+use std::alloc::Global;
 
 /// The name of a variable, which is its own number where it has no other.
 fn name_of(names: &[u32], variable: u32) -> u32 {
@@ -12,6 +14,27 @@ fn name_of(names: &[u32], variable: u32) -> u32 {
         Some(name) => *name,
         None => variable,
     }
+}
+
+#[inline(never)]
+fn boxed_term(alloc: Global, term: Term) -> Result<Box<Term>, Stop> {
+    Ok(Box::new(alloc, term)?)
+}
+
+#[inline(never)]
+fn boxed_formula(alloc: Global, formula: Formula) -> Result<Box<Formula>, Stop> {
+    Ok(Box::new(alloc, formula)?)
+}
+
+/// A column expression with a value stored at an index.
+#[inline(never)]
+fn stored(
+    alloc: Global,
+    column: ColExpr,
+    index: Box<Term>,
+    value: Box<Term>,
+) -> Result<ColExpr, Stop> {
+    Ok(ColExpr::Store(Box::new(alloc, column)?, index, value))
 }
 
 /// Takes a formula out of its box, and puts it behind others.
@@ -24,67 +47,88 @@ fn push_out(trees: &mut Vec<Formula>, tree: Box<Formula>) -> Result<(), Stop> {
 impl Nodes {
     /// The tree of a term.
     pub fn term_tree(&self, names: &[u32], term: TermId) -> Result<Term, Stop> {
-        self.term_within(names, term, NESTING)
+        Ok(Box::into_inner(self.term_within(names, term, DEPTH_LIMIT)?))
     }
 
     /// The tree of a column expression.
     pub fn column_tree(&self, names: &[u32], column: ColExprId) -> Result<ColExpr, Stop> {
-        self.column_within(names, column, NESTING)
+        self.column_within(names, column, DEPTH_LIMIT)
     }
 
     /// The tree of a formula.
     pub fn formula_tree(&self, names: &[u32], formula: FormulaId) -> Result<Formula, Stop> {
-        self.formula_within(names, formula, NESTING)
+        Ok(Box::into_inner(self.formula_within(names, formula, DEPTH_LIMIT)?))
     }
 
+    /// The tree of a term, of so many levels at most.
     #[cycle(trees)]
-    fn boxed_term(&self, names: &[u32], term: TermId, fuel: u32) -> Result<Box<Term>, Stop> {
-        Ok(Box::new(self.alloc, self.term_within(names, term, fuel)?)?)
-    }
-
-    #[cycle(trees)]
-    fn term_within(&self, names: &[u32], term: TermId, fuel: u32) -> Result<Term, Stop> {
-        if fuel == 0 {
+    fn term_within(&self, names: &[u32], term: TermId, levels: usize) -> Result<Box<Term>, Stop> {
+        if levels == 0 {
             return Err(Stop::Spent);
         }
         match self.term_node(term) {
-            Some(TermNode::Number(number)) => Ok(Term::Number(number)),
-            Some(TermNode::Variable(number)) => Ok(Term::Variable(name_of(names, number))),
-            Some(TermNode::Bound(number)) => Ok(Term::Bound(number)),
             Some(TermNode::Add(left, right)) => {
-                let left = self.boxed_term(names, left, fuel - 1)?;
-                let right = self.boxed_term(names, right, fuel - 1)?;
-                Ok(Term::Add(left, right))
+                let left = self.term_within(names, left, levels - 1)?;
+                let right = self.term_within(names, right, levels - 1)?;
+                boxed_term(self.alloc, Term::Add(left, right))
             }
             Some(TermNode::Subtract(left, right)) => {
-                let left = self.boxed_term(names, left, fuel - 1)?;
-                let right = self.boxed_term(names, right, fuel - 1)?;
-                Ok(Term::Subtract(left, right))
+                let left = self.term_within(names, left, levels - 1)?;
+                let right = self.term_within(names, right, levels - 1)?;
+                boxed_term(self.alloc, Term::Subtract(left, right))
             }
             Some(TermNode::Multiply(factor, term)) => {
-                let term = self.boxed_term(names, term, fuel - 1)?;
-                Ok(Term::Multiply(factor, term))
+                let term = self.term_within(names, term, levels - 1)?;
+                boxed_term(self.alloc, Term::Multiply(factor, term))
             }
             Some(TermNode::Read(column, index)) => {
-                let column = self.column_within(names, column, fuel - 1)?;
-                let index = self.boxed_term(names, index, fuel - 1)?;
-                Ok(Term::Read(column, index))
+                let index = self.term_within(names, index, levels - 1)?;
+                self.read_within(names, column, index, levels - 1)
             }
-            Some(TermNode::Base(_))
-            | Some(TermNode::Store(_, _, _))
-            | Some(TermNode::Affine(_, _))
-            | None => Ok(Term::Number(0)),
+            node => self.leaf_tree(names, node),
         }
     }
 
+    /// The tree of a term without parts.
+    #[inline(never)]
+    fn leaf_tree(&self, names: &[u32], node: Option<TermNode>) -> Result<Box<Term>, Stop> {
+        let tree = match node {
+            Some(TermNode::Number(number)) => Term::Number(number),
+            Some(TermNode::Variable(number)) => Term::Variable(name_of(names, number)),
+            Some(TermNode::Bound(number)) => Term::Bound(number),
+            _ => Term::Number(0),
+        };
+        boxed_term(self.alloc, tree)
+    }
+
+    /// The tree of a read at an index.
     #[cycle(trees)]
-    fn column_within(&self, names: &[u32], column: ColExprId, fuel: u32) -> Result<ColExpr, Stop> {
+    #[inline(never)]
+    fn read_within(
+        &self,
+        names: &[u32],
+        column: ColExprId,
+        index: Box<Term>,
+        levels: usize,
+    ) -> Result<Box<Term>, Stop> {
+        let column = self.column_within(names, column, levels)?;
+        boxed_term(self.alloc, Term::Read(column, index))
+    }
+
+    /// The tree of a column expression, what stands in its stores being of so many levels at most.
+    #[cycle(trees)]
+    fn column_within(
+        &self,
+        names: &[u32],
+        column: ColExprId,
+        levels: usize,
+    ) -> Result<ColExpr, Stop> {
         let mut chain = self.chain(column)?;
         let mut tree = self.base_tree(chain.base);
         'stores: while let Some(store) = chain.stores.pop() {
-            let index = self.term_within(names, store.index, fuel)?;
-            let value = self.term_within(names, store.value, fuel)?;
-            tree = with_store(self.alloc, tree, index, value)?;
+            let index = self.term_within(names, store.index, levels)?;
+            let value = self.term_within(names, store.value, levels)?;
+            tree = stored(self.alloc, tree, index, value)?;
         }
         Ok(tree)
     }
@@ -98,74 +142,83 @@ impl Nodes {
         }
     }
 
-    /// The tree of a formula, in a box. It stands apart, so that each level of a formula takes little of the stack.
-    #[cycle(formula_trees)]
-    #[inline(never)]
-    fn boxed_formula(
-        &self,
-        names: &[u32],
-        formula: FormulaId,
-        fuel: u32,
-    ) -> Result<Box<Formula>, Stop> {
-        Ok(Box::new(self.alloc, self.formula_within(names, formula, fuel)?)?)
-    }
-
+    /// The tree of a formula, of so many levels at most.
     #[cycle(formula_trees)]
     fn formula_within(
         &self,
         names: &[u32],
         formula: FormulaId,
-        fuel: u32,
-    ) -> Result<Formula, Stop> {
-        if fuel == 0 {
+        levels: usize,
+    ) -> Result<Box<Formula>, Stop> {
+        if levels == 0 {
             return Err(Stop::Spent);
         }
         match self.formula_node(formula) {
-            Some(FormulaNode::Le(left, right)) => {
-                let left = self.term_tree(names, *left)?;
-                let right = self.term_tree(names, *right)?;
-                Ok(Formula::Le(left, right))
-            }
-            Some(FormulaNode::Eq(left, right)) => {
-                let left = self.term_tree(names, *left)?;
-                let right = self.term_tree(names, *right)?;
-                Ok(Formula::Eq(left, right))
-            }
             Some(FormulaNode::Not(inner)) => {
-                Ok(Formula::Not(self.boxed_formula(names, *inner, fuel - 1)?))
+                let inner = self.formula_within(names, *inner, levels - 1)?;
+                boxed_formula(self.alloc, Formula::Not(inner))
             }
             Some(FormulaNode::And(parts)) => {
-                Ok(Formula::And(self.formulas_within(names, parts, fuel - 1)?))
+                let parts = self.formulas_within(names, parts, levels - 1)?;
+                boxed_formula(self.alloc, Formula::And(parts))
             }
             Some(FormulaNode::Or(parts)) => {
-                Ok(Formula::Or(self.formulas_within(names, parts, fuel - 1)?))
+                let parts = self.formulas_within(names, parts, levels - 1)?;
+                boxed_formula(self.alloc, Formula::Or(parts))
             }
             Some(FormulaNode::Implies(left, right)) => {
-                let left = self.boxed_formula(names, *left, fuel - 1)?;
-                let right = self.boxed_formula(names, *right, fuel - 1)?;
-                Ok(Formula::Implies(left, right))
+                let left = self.formula_within(names, *left, levels - 1)?;
+                let right = self.formula_within(names, *right, levels - 1)?;
+                boxed_formula(self.alloc, Formula::Implies(left, right))
             }
             Some(FormulaNode::Forall(body)) => {
-                Ok(Formula::Forall(self.boxed_formula(names, *body, fuel - 1)?))
+                let body = self.formula_within(names, *body, levels - 1)?;
+                boxed_formula(self.alloc, Formula::Forall(body))
             }
             Some(FormulaNode::Exists(body)) => {
-                Ok(Formula::Exists(self.boxed_formula(names, *body, fuel - 1)?))
+                let body = self.formula_within(names, *body, levels - 1)?;
+                boxed_formula(self.alloc, Formula::Exists(body))
             }
-            None => Ok(Formula::And(Vec::new(self.alloc))),
+            node => self.comparison_tree(names, node, levels - 1),
         }
     }
 
     #[cycle(formula_trees)]
+    #[inline(never)]
     fn formulas_within(
         &self,
         names: &[u32],
         formulas: &[FormulaId],
-        fuel: u32,
+        levels: usize,
     ) -> Result<Vec<Formula>, Stop> {
         let mut trees = Vec::with_capacity(self.alloc, formulas.len())?;
         for formula in formulas {
-            push_out(&mut trees, self.boxed_formula(names, *formula, fuel)?)?;
+            push_out(&mut trees, self.formula_within(names, *formula, levels)?)?;
         }
         Ok(trees)
+    }
+
+    /// The tree of a comparison, whose sides are of so many levels at most.
+    #[inline(never)]
+    fn comparison_tree(
+        &self,
+        names: &[u32],
+        node: Option<&FormulaNode>,
+        levels: usize,
+    ) -> Result<Box<Formula>, Stop> {
+        let tree = match node {
+            Some(FormulaNode::Le(left, right)) => {
+                let left = self.term_within(names, *left, levels)?;
+                let right = self.term_within(names, *right, levels)?;
+                Formula::Le(Box::into_inner(left), Box::into_inner(right))
+            }
+            Some(FormulaNode::Eq(left, right)) => {
+                let left = self.term_within(names, *left, levels)?;
+                let right = self.term_within(names, *right, levels)?;
+                Formula::Eq(Box::into_inner(left), Box::into_inner(right))
+            }
+            _ => Formula::And(Vec::new(self.alloc)),
+        };
+        boxed_formula(self.alloc, tree)
     }
 }

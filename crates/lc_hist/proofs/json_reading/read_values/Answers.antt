@@ -1,9 +1,9 @@
-use Rattle.std.proofs.Common.{◌≡◌, ◌+◌, MatchOption, ap, sym, subst, ◌∙◌, length}
+use Rattle.std.proofs.Common.{◌≡◌, ◌+◌, MatchOption, ap, sym, subst, length}
 use Rattle.std.proofs.lemmas.List.{length-map}
 use Rattle.std.proofs.lemmas.Result.{err_from_is_err_and}
 use Rattle.serde_json.specs.View.{view}
 use Rattle.lc_hist.specs.Histories.{events_in}
-use Rattle.lc_hist.specs.JsonHistories.{HasParts, IsWrongItem, SaysHistory, entries_seen}
+use Rattle.lc_hist.specs.JsonHistories.{HasParts, entries_seen}
 use Rattle.lc_hist.specs.JsonSeen.{all_of, parts_seen, HasValue, IsNoJson, IsWrongEventItem, IsWrongEntryItem}
 use Rattle.lc_hist.proofs.JsonAnswers.{refused_weaker, has_parts, wrong_in_events, wrong_in_order, says_history}
 use Rattle.lc_hist.proofs.json_reading.read_values.Goals as goal

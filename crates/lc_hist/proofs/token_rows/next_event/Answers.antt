@@ -11,6 +11,6 @@ returns c =
     let deed = rw c.in-Some-2.is at c.in_ok-event.ensures in
     let between = c.next_deed.new.reader in
     let rest = c.take_end_array.new.self in
-    let opens : c.args.reader.now ≡ Token.begin_array ∷ c.begins_array.new.reader = grind arith in
+    let opens : c.args.reader.now ≡ Token.begin_array ∷ c.begins_array.new.self = grind arith in
     let ends : after_end_array between ≡ Some rest = grind arith in
-    event_read (all_of c.args.operations.now) c.args.reader.now c.begins_array.new.reader c.in-Some.client c.next_client.new.reader (event_of c.in-Some-2.event) between rest opens c.in-Some.ensures deed ends
+    event_read (all_of c.args.operations.now) c.args.reader.now c.begins_array.new.self c.in-Some.client c.next_client.new.self (event_of c.in-Some-2.event) between rest opens c.in-Some.ensures deed ends

@@ -1,4 +1,4 @@
-use Rattle.std.proofs.Common.{◌≡◌, ◌==◌, ℕ, Some, None, true, cond, option_map, ◌++◌, ◌∷◌, [], refl, ap, sym, subst, ◌∙◌, arith, rules}
+use Rattle.std.proofs.Common.{◌≡◌, ◌==◌, ℕ, Some, true, cond, ◌++◌, ◌∷◌, [], ap, sym, subst, ◌∙◌, arith, rules}
 use Rattle.std.proofs.lemmas.List.{map-append}
 use Rattle.json.specs.Json.{after_end_array}
 use Rattle.json.specs.Token.{Token}
@@ -17,7 +17,7 @@ events-init c =
     let events = events_of c.new-events.result.items in
     let are : AreEvents (all_of c.args.operations.now) [] events = sym (ap events_of c.new-events.ensures.items) in
     let calls : AreOpen events (λ k. number_of (open_of c.new-calls.result k)) = search rules in
-    ([], are, calls, row_begins 3 c.begins_array.new.reader)
+    ([], are, calls, row_begins 3 c.begins_array.new.self)
 
 pub events-preserved : goal.events-preserved
 events-preserved c =
@@ -42,7 +42,7 @@ events-preserved c =
       rw pushed (open_next events table (λ k. number_of (open_of c.set.new.self k)) e l.invariant.2 (follows operations (table (client_of e)) e may)
           (λ k. ap number_of (c.in_ok-set.ensures k) ∙ number_cond (k == c.client-client.result) c.opened.result (open_of l.calls k)
           ∙ ap (λ z. cond (k == z) (number_of c.opened.result) (table k)) c.client-client.ensures ∙ ap (λ z. cond (k == client_of e) z (table k)) c.opened.ensures)),
-      row_next 3 c.begins_array.new.reader ds l.reader d rest l.invariant.3 begins,
+      row_next 3 c.begins_array.new.self ds l.reader d rest l.invariant.3 begins,
     )
 
 pub events-smaller : goal.events-smaller
@@ -61,9 +61,9 @@ pub returns : goal.returns
 returns c =
     let l = c.events in
     let rest = c.take_end_array.new.self in
-    let opens : c.args.reader.now ≡ Token.begin_array ∷ c.begins_array.new.reader = grind arith in
+    let opens : c.args.reader.now ≡ Token.begin_array ∷ c.begins_array.new.self = grind arith in
     let ends : after_end_array l.reader ≡ Some rest = grind arith in (
       l.invariant.0,
       subst (λ h. AreEvents (all_of c.args.operations.now) l.invariant.0 h) (sym c.of_well_formed.ensures) l.invariant.1,
-      row_ends 3 c.args.reader.now c.begins_array.new.reader l.invariant.0 l.reader rest opens l.invariant.3 ends,
+      row_ends 3 c.args.reader.now c.begins_array.new.self l.invariant.0 l.reader rest opens l.invariant.3 ends,
     )

@@ -1,4 +1,4 @@
-use Rattle.std.proofs.Common.{◌≡◌, Some, ◌++◌, ◌∷◌, [], refl, ap, sym, subst, ◌∙◌, arith}
+use Rattle.std.proofs.Common.{◌≡◌, Some, ◌++◌, ◌∷◌, [], ap, sym, subst, ◌∙◌, arith}
 use Rattle.std.proofs.lemmas.List.{map-append}
 use Rattle.json.specs.Json.{after_end_array}
 use Rattle.json.specs.Token.{Token}
@@ -11,7 +11,7 @@ use Rattle.lc_hist.proofs.JsonTokens.{row_begins, row_next, row_ends, begins-sho
 use Rattle.lc_hist.proofs.token_rows.next_order.Goals as goal
 
 pub entries-init : goal.entries-init
-entries-init c = ([], ap (λ order. Some (entries_seen order)) (sym c.new-order.ensures.items), row_begins 3 c.begins_array.new.reader)
+entries-init c = ([], ap (λ order. Some (entries_seen order)) (sym c.new-order.ensures.items), row_begins 3 c.begins_array.new.self)
 
 pub entries-preserved : goal.entries-preserved
 entries-preserved c =
@@ -26,7 +26,7 @@ entries-preserved c =
     let pushed : entries_seen c.push.new.self.items ≡ entries_seen l.order.items ++ entry ∷ [] = ap entries_seen c.in_ok-push.ensures.items ∙ map-append entry_seen l.order.items (c.in-Some.done ∷ []) in (
       ds ++ d ∷ [],
       all_in-push (entry_in (all_of c.args.operations.now)) ds d (entries_seen l.order.items) entry l.invariant.1 said.1 ∙ ap Some (sym pushed),
-      row_next 3 c.begins_array.new.reader ds l.reader d rest l.invariant.2 begins,
+      row_next 3 c.begins_array.new.self ds l.reader d rest l.invariant.2 begins,
     )
 
 pub entries-smaller : goal.entries-smaller
@@ -42,6 +42,6 @@ pub returns : goal.returns
 returns c =
     let l = c.entries in
     let rest = c.take_end_array.new.self in
-    let opens : c.args.reader.now ≡ Token.begin_array ∷ c.begins_array.new.reader = grind arith in
+    let opens : c.args.reader.now ≡ Token.begin_array ∷ c.begins_array.new.self = grind arith in
     let ends : after_end_array l.reader ≡ Some rest = grind arith in
-    (l.invariant.0, l.invariant.1, row_ends 3 c.args.reader.now c.begins_array.new.reader l.invariant.0 l.reader rest opens l.invariant.2 ends)
+    (l.invariant.0, l.invariant.1, row_ends 3 c.args.reader.now c.begins_array.new.self l.invariant.0 l.reader rest opens l.invariant.2 ends)

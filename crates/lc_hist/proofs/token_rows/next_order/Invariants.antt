@@ -1,4 +1,4 @@
-use Rattle.std.proofs.Common.{◌≡◌, List, Some, length}
+use Rattle.std.proofs.Common.{List, length}
 use Rattle.serde_json.specs.Data.{Data}
 use Rattle.lc_hist.specs.JsonHistories.{AreEntries, entries_seen}
 use Rattle.lc_hist.specs.JsonSeen.{all_of}

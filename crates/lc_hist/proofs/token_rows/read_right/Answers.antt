@@ -12,8 +12,8 @@ pub returns : goal.returns
 returns c =
     let operations = all_of c.args.operations.now in
     let text = c.args.text.now in
-    let inner = c.begins_object.new.reader in
-    let first : c.in_ok-reader.reader ≡ Token.begin_object ∷ inner = grind arith in
-    let opens : tokens text ≡ Token.begin_object ∷ inner = sym c.in_ok-reader.ensures.ok ∙ first in
+    let inner = c.begins_object.new.self in
+    let first : c.new-reader.result ≡ Token.begin_object ∷ inner = grind arith in
+    let opens : tokens text ≡ Token.begin_object ∷ inner = sym c.new-reader.ensures ∙ first in
     each_found (λ answer. AreMembers operations inner (events_in answer.0) (entries_seen answer.1.items)) (λ answer. AreSaid operations text (events_in answer.0) (entries_seen answer.1.items))
     (λ answer members. text_read operations text inner (events_in answer.0) (entries_seen answer.1.items) opens members) c.next_parts.result c.next_parts.ensures

@@ -12,7 +12,7 @@ returns-then-branch g c =
     let cert = c.args.cert.now in
     let places = c.in-Some.cuts.places.items in
     let items = c.in-Some.cuts.items.items in
-    let counted = c.count-count.ensures D c.in_ok-numbering.ensures in
+    let counted = c.count-count.ensures D c.in_ok-cuts.ensures in
     let framed : c.in_ok-are_framed.field-0 ≡ true = (let f = c.if-not-branch.false in cc) in
     let frame = subst (λ n. IsFrame D cert (at_place places 0) (at_place places n)) counted (c.in_ok-are_framed.ensures.frame framed) in
     let at_items = subst (λ (ns : List ℕ). AllHold (IsKnown D cert (at_place c.deref.result.now) (at_place ns)) (length (conditions D))) c.deref-2.ensures.value (c.in_ok-all_proved.ensures c.if-branch.true) in

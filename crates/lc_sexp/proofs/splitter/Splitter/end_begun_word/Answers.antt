@@ -14,11 +14,10 @@ returns-then-self-clause-word c = record {
       let m' = c.drop_word.new.self in
       let n = m.holes.ok.0 in
       let t' = m'.text.ok.0 in
-      let d = c.depth.ensures in
       let w = c.word-word.ensures in
       let t = m.text.ok.0 in
-      let some : length c.word-word.result.now ≢ 0 = omega (arith, t, m.begun, ap length w.word, length-drop m.start m.text.items, c.requires) in
-      let no = none_listed m.holes.items (omega (arith, n, d, c.if-depth-gt0.false)) in
+      let some : length c.word-word.result.now ≢ 0 = omega (arith, t, m.begun, ap length w.word, length-drop m.start m.text.items, c.requires.begun) in
+      let no = none_listed m.holes.items (omega (arith, n, c.requires.outer)) in
       let none = rooted_none m.text.items m.start m.nodes.items m.holes.items no h.rooted m.under_way in
       let same = ap (λ v. v.items) c.drop_word.ensures.nodes in
       part_step whole rest rest taken c.args.self.now c.set_aside.new.self m' c.in_ok-sexp.sexp c.if-self.true
@@ -37,11 +36,10 @@ returns-clause-word c = record {
       let m' = c.drop_word-2.new.self in
       let n = m.holes.ok.0 in
       let t' = m'.text.ok.0 in
-      let d = c.depth.ensures in
       let w = c.word-word.ensures in
       let t = m.text.ok.0 in
-      let some : length c.word-word.result.now ≢ 0 = omega (arith, t, m.begun, ap length w.word, length-drop m.start m.text.items, c.requires) in
-      let no = none_listed m.holes.items (omega (arith, n, d, c.if-depth-gt0.false)) in
+      let some : length c.word-word.result.now ≢ 0 = omega (arith, t, m.begun, ap length w.word, length-drop m.start m.text.items, c.requires.begun) in
+      let no = none_listed m.holes.items (omega (arith, n, c.requires.outer)) in
       let none = rooted_none m.text.items m.start m.nodes.items m.holes.items no h.rooted m.under_way in
       let same = ap (λ v. v.items) c.drop_word-2.ensures.nodes in
       atom_step whole rest taken c.args.self.now _ c.word-word.result.now c.if-self.false refl refl c.in_ok-push_atom.ensures c.in_ok-self.ensures c.in_ok-self-2.ensures

@@ -6,22 +6,32 @@ use Rattle.lc_table.specs.Tables.{column_in, HasColumn, Keeps}
 use Rattle.lc_table.proofs.table.Terms.+replaced_part.Given as goal
 
 abbrev pub decreases-replaced_column : goal.decreases-replaced_column
-decreases-replaced_column g l = 2 * l.column.0 + 1
+decreases-replaced_column g l = 4 * l.column.0 + 1
 
 abbrev pub decreases-replaced_part : goal.decreases-replaced_part
-decreases-replaced_part g l = 2 * l.part
+decreases-replaced_part g l = 4 * l.part
+
+abbrev pub decreases-replaced_deep : goal.decreases-replaced_deep
+decreases-replaced_deep g l = 4 * l.part + 1
+
+abbrev pub decreases-replaced_within : goal.decreases-replaced_within
+decreases-replaced_within g l = 4 * l.part + 2
 
 abbrev pub decreases-replaced_term : goal.decreases-replaced_term
-decreases-replaced_term g l = 2 * l.term.0 + 1
+decreases-replaced_term g l = 4 * l.term.0 + 3
 
 abbrev pub decreases-replaced_store : goal.decreases-replaced_store
-decreases-replaced_store g l = 2 * l.store.0
+decreases-replaced_store g l = 4 * l.store.0
 
 -- what stands below the stores that are left is replaced
 abbrev pub invariant-replaced_column-stores : goal.invariant-replaced_column-stores
 invariant-replaced_column-stores g l =
     Keeps l.fn.self l.self × Stands g.R.Filled.replacement l.self l.put l.done × AreStores l.fn.self l.fn.column.0 (column_in l.fn.self l.fn.column) l.chain.stores.items ×
     HasColumn l.self l.replaced (replace_column (under_many l.depth g.R.Filled.replacement) (below_stores (column_in l.fn.self l.fn.column) l.chain.stores.items))
+
+-- what is remembered stands in the table
+abbrev pub invariant-replaced_deep-loop-term : goal.invariant-replaced_deep-loop-term
+invariant-replaced_deep-loop-term g l = Keeps l.fn.self l.self × Stands g.R.Filled.replacement l.self l.put l.done
 
 abbrev pub decreases-replaced_column-stores : goal.decreases-replaced_column-stores
 decreases-replaced_column-stores g l = vec_len l.chain.stores

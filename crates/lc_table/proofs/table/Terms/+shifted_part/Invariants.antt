@@ -7,22 +7,32 @@ use Rattle.lc_table.specs.Tables.{parts, column_in, HasColumn, Keeps}
 use Rattle.lc_table.proofs.table.Terms.+shifted_part.Given as goal
 
 abbrev pub decreases-shifted_column : goal.decreases-shifted_column
-decreases-shifted_column l = 2 * l.column.0 + 1
+decreases-shifted_column l = 4 * l.column.0 + 1
 
 abbrev pub decreases-shifted_part : goal.decreases-shifted_part
-decreases-shifted_part l = 2 * l.part
+decreases-shifted_part l = 4 * l.part
+
+abbrev pub decreases-shifted_deep : goal.decreases-shifted_deep
+decreases-shifted_deep l = 4 * l.part + 1
+
+abbrev pub decreases-shifted_within : goal.decreases-shifted_within
+decreases-shifted_within l = 4 * l.part + 2
 
 abbrev pub decreases-shifted_term : goal.decreases-shifted_term
-decreases-shifted_term l = 2 * l.term.0 + 1
+decreases-shifted_term l = 4 * l.term.0 + 3
 
 abbrev pub decreases-shifted_store : goal.decreases-shifted_store
-decreases-shifted_store l = 2 * l.store.0
+decreases-shifted_store l = 4 * l.store.0
 
 -- what stands below the stores that are left is moved
 abbrev pub invariant-shifted_column-stores : goal.invariant-shifted_column-stores
 invariant-shifted_column-stores l =
     Keeps l.fn.self l.self × AreReplaced (shifting l.added l.cutoff) (parts l.self) l.done.entries × AreStores l.fn.self l.fn.column.0 (column_in l.fn.self l.fn.column) l.chain.stores.items ×
     HasColumn l.self l.moved (replace_column (shifting l.added l.cutoff) (below_stores (column_in l.fn.self l.fn.column) l.chain.stores.items))
+
+-- what is done is moved
+abbrev pub invariant-shifted_deep-loop-term : goal.invariant-shifted_deep-loop-term
+invariant-shifted_deep-loop-term l = Keeps l.fn.self l.self × AreReplaced (shifting l.added l.cutoff) (parts l.self) l.done.entries
 
 abbrev pub decreases-shifted_column-stores : goal.decreases-shifted_column-stores
 decreases-shifted_column-stores l = vec_len l.chain.stores

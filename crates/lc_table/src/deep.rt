@@ -1,0 +1,145 @@
+//! The terms below a part of a table. A walk that remembers what it has seen goes down so many levels at once; where it comes
+//! deeper, it takes these first, the lowest before the others. So it takes little of the stack, however deep a term is.
+ghost use Rattle.std.specs.Prelude.{◌≡◌, ◌≤◌, ◌<◌, ℕ, IfOk, OnOk};
+ghost use Rattle.std.specs.List.{All};
+ghost use Rattle.lc_table.specs.Deep.{IsPart, IsTermBelow, AreFound};
+ghost use Rattle.lc_table.specs.NodeTables.{Table};
+ghost use Rattle.lc_table.specs.Tables.{IsTerm, IsColumn};
+
+use crate::chains::KnownParts;
+use crate::node::{ColExprId, TermId, TermNode};
+use crate::table::Terms;
+use indexmap::IndexSet;
+use lc_base::OutOfMemory;
+use std::alloc::Global;
+
+/// How many levels a walk goes down at once.
+pub(crate) const LEVELS: u32 = 128;
+
+// What is found below a part: terms and column expressions by their numbers, and the terms among them.
+struct Found {
+    met: IndexSet<u32>,
+    parts: Vec<u32>,
+    terms: Vec<TermId>,
+}
+
+impl Drop for Found {
+    fn drop(self) {
+        let Found {
+            met: _,
+            parts: _,
+            terms: _,
+        } = self;
+    }
+}
+
+impl Found {
+    fn into_terms(self) -> Vec<TermId>
+        ensures { result.items ≡ self.terms.items }
+    {
+        let Found {
+            met: _,
+            parts: _,
+            terms,
+        } = self;
+        terms
+    }
+}
+
+fn nothing_found(alloc: Global) -> Found
+    ensures { (ts : Table) (n : ℕ) → AreFound ts n result }
+{
+    Found {
+        met: IndexSet::new(alloc),
+        parts: Vec::new(alloc),
+        terms: Vec::new(alloc),
+    }
+}
+
+impl Terms {
+    // Puts a term into the lists, unless it was met before or is known.
+    fn find_term<K: KnownParts>(
+        &self,
+        found: &mut Found,
+        done: &K,
+        term: TermId,
+    ) -> Result<(), OutOfMemory>
+        requires { IsTerm self.now term }
+        ensures { (n : ℕ) → term.0 < n → AreFound self.now n found.old → OnOk result (AreFound self.now n found.new) }
+    {
+        if done.known(term.0).is_none() && found.met.insert(term.0)? {
+            found.parts.push(term.0)?;
+            found.terms.push(term)?;
+        }
+        Ok(())
+    }
+
+    // A column expression, likewise.
+    fn find_column<K: KnownParts>(
+        &self,
+        found: &mut Found,
+        done: &K,
+        column: ColExprId,
+    ) -> Result<(), OutOfMemory>
+        requires { IsColumn self.now column }
+        ensures { (n : ℕ) → column.0 < n → AreFound self.now n found.old → OnOk result (AreFound self.now n found.new) }
+    {
+        if done.known(column.0).is_none() && found.met.insert(column.0)? {
+            found.parts.push(column.0)?;
+        }
+        Ok(())
+    }
+
+    // Puts the parts of a part into the lists.
+    fn find_parts<K: KnownParts>(
+        &self,
+        found: &mut Found,
+        done: &K,
+        part: u32,
+    ) -> Result<(), OutOfMemory>
+        requires { IsPart self.now part }
+        ensures { (n : ℕ) → part ≤ n → AreFound self.now n found.old → OnOk result (AreFound self.now n found.new) }
+    {
+        match self.part_node(part) {
+            TermNode::Add(left, right) | TermNode::Subtract(left, right) => {
+                self.find_term(found, done, left)?;
+                self.find_term(found, done, right)
+            }
+            TermNode::Multiply(_, term) => self.find_term(found, done, term),
+            TermNode::Read(column, index) => {
+                self.find_column(found, done, column)?;
+                self.find_term(found, done, index)
+            }
+            TermNode::Store(below, index, value) => {
+                self.find_column(found, done, below)?;
+                self.find_term(found, done, index)?;
+                self.find_term(found, done, value)
+            }
+            _ => Ok(()),
+        }
+    }
+
+    /// The terms below a part of which it is not known yet what becomes of them, the lowest first.
+    pub(crate) fn terms_below<K: KnownParts>(
+        &self,
+        alloc: Global,
+        part: u32,
+        done: &K,
+    ) -> Result<Vec<TermId>, OutOfMemory>
+        requires { IsPart self.now part }
+        ensures there { IfOk result (λ terms. All (IsTerm self.now) terms.items) }
+        ensures below { IfOk result (λ terms. All (IsTermBelow part) terms.items) }
+    {
+        let mut found = nothing_found(alloc);
+        self.find_parts(&mut found, done, part)?;
+        for place in 0..usize::MAX {
+            let Some(below) = found.parts.get(place).copied() else {
+                break;
+            };
+            self.find_parts(&mut found, done, below)?;
+        }
+        let mut terms = found.into_terms();
+        terms.sort_by_key(|term| term.0)?;
+        Ok(terms)
+    }
+}
