@@ -1,4 +1,0 @@
-use Rattle.lc_claims.proofs.certificates.finishing_a_certificate.Goals as goal
-
-pub returns : goal.returns
-returns c = c.finish.ensures.answer

@@ -1,4 +1,0 @@
-use Rattle.lc_claims.proofs.certificates.reading_a_certificate.Goals as goal
-
-pub returns : goal.returns
-returns c = c.certificate_of.ensures

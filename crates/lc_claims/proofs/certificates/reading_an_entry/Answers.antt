@@ -1,4 +1,0 @@
-use Rattle.lc_claims.proofs.certificates.reading_an_entry.Goals as goal
-
-pub returns : goal.returns
-returns c = c.read.ensures.exactly

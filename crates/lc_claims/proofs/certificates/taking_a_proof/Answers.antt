@@ -1,4 +1,0 @@
-use Rattle.lc_claims.proofs.certificates.taking_a_proof.Goals as goal
-
-pub returns : goal.returns
-returns c = c.take.ensures.entry

@@ -1,4 +1,0 @@
-use Rattle.lc_claims.proofs.developments.beginning_lines.Goals as goal
-
-pub returns : goal.returns
-returns c = c.new.ensures.text

@@ -1,4 +1,0 @@
-use Rattle.lc_claims.proofs.developments.printing_a_condition.Goals as goal
-
-pub returns : goal.returns
-returns c = c.condition_text.ensures

@@ -1,4 +1,0 @@
-use Rattle.lc_claims.proofs.developments.printing_a_development.Goals as goal
-
-pub returns : goal.returns
-returns c = c.development_text.ensures

@@ -1,4 +1,0 @@
-use Rattle.lc_claims.proofs.developments.reading_a_development.Goals as goal
-
-pub returns : goal.returns
-returns c = c.development_of.ensures

@@ -1,4 +1,0 @@
-use Rattle.lc_claims.proofs.objects.finding_sections.Goals as goal
-
-pub returns : goal.returns
-returns c = c.find_sections.ensures

@@ -1,4 +1,0 @@
-use Rattle.lc_claims.proofs.objects.reading_a_specification.Goals as goal
-
-pub returns : goal.returns
-returns c = c.spec_of.ensures

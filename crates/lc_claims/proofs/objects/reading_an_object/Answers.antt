@@ -1,4 +1,0 @@
-use Rattle.lc_claims.proofs.objects.reading_an_object.Goals as goal
-
-pub returns : goal.returns
-returns c = c.object_of.ensures

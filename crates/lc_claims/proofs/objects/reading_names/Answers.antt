@@ -1,4 +1,0 @@
-use Rattle.lc_claims.proofs.objects.reading_names.Goals as goal
-
-pub returns : goal.returns
-returns c = c.read_names.ensures

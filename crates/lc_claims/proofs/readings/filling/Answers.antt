@@ -1,4 +1,0 @@
-use Rattle.lc_claims.proofs.readings.filling.Goals as goal
-
-pub returns : goal.returns
-returns c = c.is_full.ensures

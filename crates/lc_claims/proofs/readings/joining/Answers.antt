@@ -1,4 +1,0 @@
-use Rattle.lc_claims.proofs.readings.joining.Goals as goal
-
-pub returns : goal.returns
-returns c = c.and.ensures

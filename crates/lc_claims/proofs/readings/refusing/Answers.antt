@@ -1,4 +1,0 @@
-use Rattle.lc_claims.proofs.readings.refusing.Goals as goal
-
-pub returns : goal.returns
-returns c = c.refusal.ensures

@@ -1,4 +1,0 @@
-use Rattle.lc_claims.proofs.riders.counting_paths.Goals as goal
-
-pub returns : goal.returns
-returns c = c.path_count.ensures

@@ -1,4 +1,0 @@
-use Rattle.lc_claims.proofs.riders.reading_an_action.Goals as goal
-
-pub returns : goal.returns
-returns c = c.read.ensures

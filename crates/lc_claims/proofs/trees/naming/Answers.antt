@@ -1,4 +1,0 @@
-use Rattle.lc_claims.proofs.trees.naming.Goals as goal
-
-pub returns : goal.returns
-returns c = c.name.ensures

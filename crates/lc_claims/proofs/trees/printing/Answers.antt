@@ -1,4 +1,0 @@
-use Rattle.lc_claims.proofs.trees.printing.Goals as goal
-
-pub returns : goal.returns
-returns c = c.print.ensures

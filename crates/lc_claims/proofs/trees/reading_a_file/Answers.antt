@@ -1,4 +1,0 @@
-use Rattle.lc_claims.proofs.trees.reading_a_file.Goals as goal
-
-pub returns : goal.returns
-returns c = c.read.ensures.answer
