@@ -1,10 +1,10 @@
 //! How deep the terms of a goal are nested. In a condition a term stands in another one that reads what it was written to, and that
 //! again in another, so that its terms can be far deeper than any in a file. Of these no trees are made.
-ghost use Rattle.std.specs.Prelude.{IfOk, OnOk};
+ghost use Rattle.std.specs.Prelude.{IfOk};
 ghost use Rattle.std.specs.List.{All};
 ghost use Rattle.lc_table.specs.Tables.{IsTerm, IsColumn, IsFormula, AreFormulas};
 
-use indexmap::{IndexMap, IndexSet};
+use indexmap::IndexMap;
 use lc_base::{DEPTH_LIMIT, OutOfMemory};
 use lc_kernel::Goal;
 use lc_table::{ColExprId, FormulaId, FormulaNode, TermId, TermNode, Terms};
@@ -156,87 +156,8 @@ fn store_height(
     }
 }
 
-/// The formulas of a goal and those that stand in them, as far as they are found: each once.
-struct Found {
-    met: IndexSet<FormulaId>,
-    formulas: Vec<FormulaId>,
-}
-
-impl Drop for Found {
-    fn drop(self) {
-        let Found {
-            met: _,
-            formulas: _,
-        } = self;
-    }
-}
-
-/// Puts a formula into the list, unless it was met before.
-fn find(terms: &Terms, found: &mut Found, formula: FormulaId) -> Result<(), OutOfMemory>
-    requires formula { IsFormula terms.now formula }
-    requires found { All (IsFormula terms.now) found.old.formulas.items }
-    ensures { OnOk result (All (IsFormula terms.now) found.new.formulas.items) }
-{
-    let _ = terms;
-    if found.met.insert(formula)? {
-        found.formulas.push(formula)?;
-    }
-    Ok(())
-}
-
-/// Formulas, likewise.
-fn find_all(terms: &Terms, found: &mut Found, formulas: &[FormulaId]) -> Result<(), OutOfMemory>
-    requires formulas { AreFormulas terms.now formulas.now }
-    requires found { All (IsFormula terms.now) found.old.formulas.items }
-    ensures { OnOk result (All (IsFormula terms.now) found.new.formulas.items) }
-{
-    for formula in formulas {
-        find(terms, found, *formula)?;
-    }
-    Ok(())
-}
-
-/// The formulas that stand in a formula, likewise.
-fn find_parts(terms: &Terms, found: &mut Found, formula: FormulaId) -> Result<(), OutOfMemory>
-    requires formula { IsFormula terms.now formula }
-    requires found { All (IsFormula terms.now) found.old.formulas.items }
-    ensures { OnOk result (All (IsFormula terms.now) found.new.formulas.items) }
-{
-    match terms.formula_node(formula) {
-        FormulaNode::Le(_, _) | FormulaNode::Eq(_, _) => Ok(()),
-        FormulaNode::Not(part) | FormulaNode::Forall(part) | FormulaNode::Exists(part) => {
-            find(terms, found, *part)
-        }
-        FormulaNode::And(parts) | FormulaNode::Or(parts) => find_all(terms, found, parts),
-        FormulaNode::Implies(left, right) => {
-            find(terms, found, *left)?;
-            find(terms, found, *right)
-        }
-    }
-}
-
-/// The formulas of a goal and those that stand in them.
-fn formulas_of(alloc: Global, terms: &Terms, goal: &Goal) -> Result<Found, OutOfMemory>
-    requires hypotheses { AreFormulas terms.now goal.now.hypotheses }
-    requires goal { IsFormula terms.now goal.now.goal }
-    ensures { IfOk result (λ found. All (IsFormula terms.now) found.formulas.items) }
-{
-    let mut found = Found {
-        met: IndexSet::new(alloc),
-        formulas: Vec::new(alloc),
-    };
-    find_all(terms, &mut found, goal.hypotheses.as_slice())?;
-    find(terms, &mut found, goal.goal)?;
-    for place in 0..usize::MAX {
-        let Some(formula) = found.formulas.get(place).copied() else {
-            break;
-        };
-        find_parts(terms, &mut found, formula)?;
-    }
-    Ok(found)
-}
-
-/// Looks at the terms of a comparison.
+/// Looks at the terms of the comparisons in a formula. It goes down as the formula nests, as it does where it is written.
+#[cycle(look_at)]
 fn look_at(
     terms: &Terms,
     formula: FormulaId,
@@ -250,8 +171,40 @@ fn look_at(
             term_height(terms, *right, LEVELS, heights)?;
             Ok(())
         }
-        _ => Ok(()),
+        FormulaNode::Not(part) | FormulaNode::Forall(part) | FormulaNode::Exists(part) => {
+            look_at(terms, *part, heights)
+        }
+        FormulaNode::And(parts) | FormulaNode::Or(parts) => look_at_all(terms, parts, heights),
+        FormulaNode::Implies(left, right) => {
+            look_at(terms, *left, heights)?;
+            look_at(terms, *right, heights)
+        }
     }
+}
+
+/// Looks at the terms in formulas, likewise.
+#[cycle(look_at)]
+fn look_at_all(
+    terms: &Terms,
+    formulas: &[FormulaId],
+    heights: &mut IndexMap<u32, u32>,
+) -> Result<(), Untold>
+    requires { AreFormulas terms.now formulas.now }
+{
+    for formula in formulas {
+        look_at(terms, *formula, heights)?;
+    }
+    Ok(())
+}
+
+/// Looks at the terms of a goal.
+fn look_at_goal(alloc: Global, terms: &Terms, goal: &Goal) -> Result<(), Untold>
+    requires hypotheses { AreFormulas terms.now goal.now.hypotheses }
+    requires goal { IsFormula terms.now goal.now.goal }
+{
+    let mut heights = IndexMap::new(alloc);
+    look_at_all(terms, goal.hypotheses.as_slice(), &mut heights)?;
+    look_at(terms, goal.goal, &mut heights)
 }
 
 /// Whether some term of a goal has more levels than the terms have of which trees are made.
@@ -259,14 +212,9 @@ pub(crate) fn has_deep_terms(alloc: Global, terms: &Terms, goal: &Goal) -> Resul
     requires hypotheses { AreFormulas terms.now goal.now.hypotheses }
     requires goal { IsFormula terms.now goal.now.goal }
 {
-    let found = formulas_of(alloc, terms, goal)?;
-    let mut heights = IndexMap::new(alloc);
-    for formula in &found.formulas {
-        match look_at(terms, *formula, &mut heights) {
-            Ok(()) => {}
-            Err(Untold::Deep) => return Ok(true),
-            Err(Untold::OutOfMemory) => return Err(OutOfMemory),
-        }
+    match look_at_goal(alloc, terms, goal) {
+        Ok(()) => Ok(false),
+        Err(Untold::Deep) => Ok(true),
+        Err(Untold::OutOfMemory) => Err(OutOfMemory),
     }
-    Ok(false)
 }
