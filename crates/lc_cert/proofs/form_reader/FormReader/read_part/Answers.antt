@@ -9,6 +9,6 @@ use Rattle.lc_cert.proofs.form_reader.FormReader.read_part.Goals as goal
 pub returns-in-Proofs-clause-reads : goal.returns-in-Proofs-clause-reads
 returns-in-Proofs-clause-reads c =
     on_ok_weaker c.read_proof.result
-        (λ reads taken ts. reads c.args.name.now taken ts c.in-Proofs.is
-          ∙ ap (λ due. form_due (listed c.args.columns.now) c.args.name.now taken c.args.self.now due (place_of c.args.part) (tree_of c.args.part ▸ ts)) (sym c.in-Proofs.is))
-        c.read_proof.ensures.reads
+    (λ reads taken ts. reads c.args.name.now taken ts c.in-Proofs.is
+    ∙ ap (λ due. form_due (listed c.args.columns.now) c.args.name.now taken c.args.self.now due (place_of c.args.part) (tree_of c.args.part ▸ ts)) (sym c.in-Proofs.is))
+    c.read_proof.ensures.reads
