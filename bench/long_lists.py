@@ -138,6 +138,7 @@ ABUSES = {
     "small_development": development,
     # What an action, an edge or a point has too many of.
     "action_updates": lambda: development(actions=f"(action act () (and) {many('(c 0 1)')})"),
+    "action_updates_told": lambda: development(actions=f"(action act () (and) {many('(c 0 1)')})", invariant="(n (<= (rd c 0) 0))"),
     "updates_of_a_column": lambda: development(actions=f"(action act () (and) {many('(c @ @)', 50_000)})"),
     "updates_on_an_edge": lambda: riders("", actions=f"(action act () (and) {many('(c @ @)', 50_000)})"),
     "many_updates_of_a_column": lambda: development(actions=f"(action act () (and) {many('(c @ @)', 500_000)})"),

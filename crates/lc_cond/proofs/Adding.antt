@@ -82,10 +82,6 @@ pub terms_entered : {E : Type 0} (r : Result (Vec TermId Global) E) (ts : Table)
 terms_entered (Ok ks) ts us are trees = record { are = are; trees = trees }
 terms_entered (Err e) ts us are trees = tt
 
-pub columns_entered : {E : Type 0} (r : Result (Vec (ColId × ColExprId) Global) E) (ts : Table) (σ : ℕ → Column) → IfOk r (λ ks. AreColumns ts ks.items) → IfOk r (λ ks. columns_at ts ks.items ≡ σ) → IfOk r (λ ks. HasColumns ts ks.items σ)
-columns_entered (Ok ks) ts σ are columns = record { are = are; columns = columns }
-columns_entered (Err e) ts σ are columns = tt
-
 -- the same numbers, seen as a list
 pub terms_listed : (ts : Table) (ks now : List TermId) (us : List Term) → HasTerms ts ks us → now ≡ ks → HasTerms ts now us
 terms_listed ts ks now us h same = (let P : List TermId → Type 0 = λ l. HasTerms ts l us in subst P (sym same) h)

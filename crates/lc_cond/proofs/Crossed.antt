@@ -10,13 +10,14 @@ use Rattle.lc_term.specs.Syntax as T
 use Rattle.lc_term.specs.Syntax.{Formula}
 use Rattle.lc_table.specs.Tables.{Keeps, HasFormula, formula_in, formulas_in, AreFormulas}
 use Rattle.lc_table.specs.declared.node.FormulaId.{FormulaId}
-use Rattle.lc_table.proofs.Later.{formula_has, are_formulas_still}
+use Rattle.lc_table.proofs.Later.{formula_has, are_formulas_still, formulas_still}
 use Rattle.lc_action.specs.Action.{Action}
 use Rattle.lc_outline.specs.Development.{Development}
+use Rattle.lc_outline.specs.Resolved.{IsBelow}
 use Rattle.lc_cond.specs.Adding.{HasFormulas, Adds}
 use Rattle.lc_cond.specs.Conditions as S
 use Rattle.lc_cond.specs.Conditions.{stable_under, stable_goal}
-use Rattle.lc_cond.specs.Crossings.{IsGiven, IsCrossing, AreCrossings, HaveGoals, MakesStable, MakesAllStable}
+use Rattle.lc_cond.specs.Crossings.{code_variable_limit, IsGiven, IsCrossing, AreCrossings, HaveGoals, MakesStable, MakesAllStable}
 use Rattle.lc_cond.specs.Heads.{MakesOne}
 use Rattle.lc_cond.specs.declared.condition.Kind.TheVariants as K
 use Rattle.lc_cond.specs.declared.condition.Passage.TheVariants as P
@@ -24,17 +25,19 @@ use Rattle.lc_cond.specs.declared.condition.Which.TheVariants as W
 use Rattle.lc_cond.specs.declared.condition.Condition.{Condition}
 use Rattle.lc_cond.specs.declared.stability.Crossing.{Crossing}
 use Rattle.lc_cond.specs.declared.stability.Given.{Given}
-use Rattle.lc_cond.proofs.Adding.{formulas_later, formulas_joined, formulas_listed, adds_both, adds_nothing}
+use Rattle.lc_cond.proofs.Adding.{formulas_later, terms_later, formulas_joined, formulas_listed, adds_both, adds_nothing}
 use Rattle.lc_cond.proofs.Made.{numbered-snoc}
 use Rattle.lc_cond.proofs.Ridden.{concat_places-snoc}
 
 pub given_later : (old new : Table) (D : Development) (g : Given) → IsGiven old D g → Keeps old new → IsGiven new D g
 given_later old new D g h kept = record {
   few = h.few;
+  variables = terms_later old new g.variables.now _ h.variables kept;
   clients = formulas_later old new g.clients.now _ h.clients kept;
   known = are_formulas_still old new g.known.now h.known kept;
   invariant = formulas_later old new g.invariant.now _ h.invariant kept;
   asserts = are_formulas_still old new g.asserts.now h.asserts kept;
+  below = subst (Every (IsBelow code_variable_limit)) (sym (formulas_still old new g.asserts.now h.asserts kept)) h.below;
 }
 
 -- what is known of a client, part by part

@@ -7,6 +7,8 @@ use Rattle.std.proofs.lemmas.List.{length-append, length-map}
 use Rattle.std.proofs.lemmas.Option.{same_Some, slice_get-get_or, slice_get-map, slice_get_past}
 use Rattle.lc_base.specs.Limits.{action_limit, argument_limit, column_limit, condition_limit, local_limit, operation_limit, parameter_limit, point_limit, reply_limit}
 use Rattle.lc_term.specs.Lists.{Every, numbered, concat_map, concat_places}
+use Rattle.lc_term.specs.Syntax.{Formula}
+use Rattle.lc_term.proofs.Stores.{Every-map}
 use Rattle.lc_term.proofs.Tests.{left_true, right_true, at_all}
 use Rattle.lc_object.specs.Edges.{Edge, edges}
 use Rattle.lc_object.specs.Syntax as O
@@ -16,9 +18,10 @@ use Rattle.lc_object.proofs.ObjectParts.{operations_pass}
 use Rattle.lc_action.specs.Action.{Action}
 use Rattle.lc_outline.specs.Development.{Development, Outline, first_system, invariant_of, asserts_at, asserts_in, in_operation}
 use Rattle.lc_outline.specs.Limits.{is_limited, on_is_limited, outlines_are_limited}
-use Rattle.lc_outline.specs.Resolved.{is_resolved}
+use Rattle.lc_outline.specs.Resolved.{IsBelow, is_resolved}
 use Rattle.lc_outline.specs.Sizes.{sizes_of, count}
 use Rattle.lc_outline.proofs.Resolving.{resolved}
+use Rattle.lc_kernel.proofs.InUse.{formula_below-more}
 use Rattle.lc_cond.specs.Conditions as S
 use Rattle.lc_cond.specs.Conditions.{idle_frame, body_frame, start_conditions, entry_conditions, edge_conditions, point_stability, idle_stability, stable_conditions, conditions}
 use Rattle.lc_cond.specs.Crossings.{code_variable_limit, TakesFew}
@@ -44,6 +47,10 @@ every_at P (y ∷ xs) (suc k) x h e = every_at P xs k x h.1 e
 
 few : (k limit : ℕ) → nat_le k limit ≡ true → k ≤ limit
 few k limit e = grind (arith, nat_tests)
+
+-- formulas speak of no more variables than of more
+pub below_more : (m n : ℕ) (fs : List Formula) → m ≤ n → Every (IsBelow m) fs → Every (IsBelow n) fs
+below_more m n fs le h = Every-map (IsBelow m) (IsBelow n) fs (λ f g. formula_below-more m n le f g) h
 
 -- ---- the variables of an operation
 
@@ -234,3 +241,17 @@ module _ (D : Development) (h : is_resolved D ≡ true) (t : is_limited D ≡ tr
           subst (λ n. n ≤ condition_limit) (sym none) (omega arith))
       by (Some point) at =
           (let f = found point (slice_get D.object.operations point.operation) (at_all (is_point D.object) D.object.points p point (right_true _ _ (resolved D h).object) at) in of point f.0 at f.1)
+
+  -- what is asserted at a point speaks of no more variables than code may have
+  pub asserts_below : (p : ℕ) → Every (IsBelow code_variable_limit) (asserts_at D p)
+  asserts_below p = by (slice_get D.object.points p) refl
+    where
+      by : (k : Option O.Point) → slice_get D.object.points p ≡ k → Every (IsBelow code_variable_limit) (asserts_at D p)
+      by None at = subst (λ x. Every (IsBelow code_variable_limit) (asserts_in x)) (sym (none_behind D.object.points D.outlines p (paths_few D t) at)) tt
+      by (Some point) at =
+          (let f = found point (slice_get D.object.operations point.operation) (at_all (is_point D.object) D.object.points p point (right_true _ _ (resolved D h).object) at) in
+          below_more (variable_count f.0) code_variable_limit (asserts_at D p) (variables_few f.0 (operation_limited D h point.operation f.0 f.1)) ((resolved D h).asserts p point f.0 at f.1))
+
+  -- and what holds of idle clients
+  pub idle_below : Every (IsBelow code_variable_limit) D.idle
+  idle_below = below_more 2 code_variable_limit D.idle (omega arith) (resolved D h).idle

@@ -26,3 +26,5 @@ mod BelowPaths
 mod BelowCode
 pub mod BelowConditions
 mod CounterCount
+mod OwnVariables
+mod Updated

@@ -5,7 +5,7 @@ use Rattle.std.proofs.Math.Nat.{lt-div-mul-add, div-mul-le_self, mul-le-mul_righ
 use Rattle.std.proofs.Math.Seq.{take-length}
 use Rattle.std.proofs.lemmas.List.{length-drop, length-map, length-take-le, take-append-drop, drop-map}
 use Rattle.lc_base.specs.Limits.{condition_limit}
-use Rattle.lc_term.specs.Lists.{numbered, concat_places}
+use Rattle.lc_term.specs.Lists.{Every, numbered, concat_places}
 use Rattle.lc_term.specs.Syntax.{Formula}
 use Rattle.lc_table.specs.NodeTables.{Table}
 use Rattle.lc_table.specs.Tables.{formula_in, AreFormulas}
@@ -22,6 +22,7 @@ use Rattle.lc_cond.specs.Stretches.{IsWithin, stretch_of, stable_from, stable_st
 use Rattle.lc_cond.specs.declared.condition.Condition.{Condition}
 use Rattle.lc_cond.specs.declared.stretch.Stretch.{Stretch}
 use Rattle.lc_cond.proofs.Adding.{first_formulas}
+use Rattle.lc_cond.proofs.Elements.{Every-take}
 use Rattle.lc_cond.proofs.Sized.{stable_from_length, stable_length}
 
 -- ---- the stretch that has a place
@@ -126,6 +127,15 @@ pub stretch_formulas : (ts : Table) (ks : List FormulaId) (fs : List Formula) (s
 stretch_formulas ts ks fs s h =
     first_formulas ts (drop s.from ks) (drop s.from fs) (s.to - s.from)
     (record { are = rest_are ts ks s.from h.are; trees = sym (drop-map (formula_in ts) s.from ks) ∙ ap (drop s.from) h.trees })
+
+every_behind : {A : Type 0} (P : A → Type 0) (n : ℕ) (xs : List A) → Every P xs → Every P (drop n xs)
+every_behind P zero xs h = h
+every_behind P (suc n) [] h = tt
+every_behind P (suc n) (x ∷ xs) h = every_behind P n xs h.1
+
+-- what holds of each holds of each in a stretch
+pub stretch_every : {A : Type 0} (P : A → Type 0) (s : Stretch) (xs : List A) → Every P xs → Every P (stretch_of s xs)
+stretch_every P s xs h = Every-take P (s.to - s.from) (drop s.from xs) (every_behind P s.from xs h)
 
 -- of all conjuncts, so many
 abbrev pub whole : ℕ → Stretch

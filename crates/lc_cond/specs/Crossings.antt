@@ -2,14 +2,16 @@
 use Rattle.std.specs.Prelude.{◌≡◌, ℕ, suc, ◌+◌, ◌≤◌, List, [], ◌∷◌, ◌++◌, map, length, slice_get, Option, Some, option_map}
 use Rattle.lc_base.specs.Limits.{argument_limit, local_limit}
 use Rattle.lc_base.specs.declared.ids.PointId.{PointId}
-use Rattle.lc_term.specs.Lists.{numbered, concat_places}
+use Rattle.lc_term.specs.Lists.{Every, numbered, concat_places}
+use Rattle.lc_term.specs.Said.{variables_from}
 use Rattle.lc_table.specs.NodeTables.{Table}
-use Rattle.lc_term.specs.Syntax.{Variable, Formula, Eq, Not}
-use Rattle.lc_table.specs.Tables.{AreFormulas}
+use Rattle.lc_term.specs.Syntax.{Term, Variable, Formula, Eq, Not}
+use Rattle.lc_table.specs.Tables.{AreFormulas, formulas_in}
 use Rattle.lc_table.specs.declared.node.FormulaId.{FormulaId}
 use Rattle.lc_action.specs.Action.{Action}
 use Rattle.lc_outline.specs.Development.{Development, invariant_of}
-use Rattle.lc_cond.specs.Adding.{HasFormulas, Adds}
+use Rattle.lc_outline.specs.Resolved.{IsBelow}
+use Rattle.lc_cond.specs.Adding.{HasFormulas, HasTerms, Adds}
 use Rattle.lc_cond.specs.Conditions.{range, stable_hypotheses, stable_goal, stable_under}
 use Rattle.lc_cond.specs.declared.condition.Condition.{Condition}
 use Rattle.lc_cond.specs.declared.stability.Crossing.{Crossing}
@@ -18,6 +20,10 @@ use Rattle.lc_cond.specs.declared.stability.Given.{Given}
 -- the most variables that the code of an operation has: the number of clients, the client, arguments and locals
 abbrev pub code_variable_limit : ℕ
 code_variable_limit = 2 + argument_limit + local_limit
+
+-- all of them, as terms
+abbrev pub code_variables : List Term
+code_variables = variables_from 0 code_variable_limit
 
 -- no action has more parameters than `enter`: the operation and its arguments
 abbrev pub TakesFew : Action → Type 0
@@ -30,10 +36,12 @@ two_clients n = range (Variable 1) ++ (range (Variable n) ++ (Not (Eq (Variable 
 -- what the table has for all actions of u
 pub record IsGiven (ts : Table) (D : Development) (g : Given) : Type 0 where
   pub few : g.client ≤ code_variable_limit
+  pub variables : HasTerms ts g.variables.now code_variables
   pub clients : HasFormulas ts g.clients.now (two_clients g.client)
   pub known : AreFormulas ts g.known.now
   pub invariant : HasFormulas ts g.invariant.now (invariant_of D)
   pub asserts : AreFormulas ts g.asserts.now
+  pub below : Every (IsBelow code_variable_limit) (formulas_in ts g.asserts.now)
 
 -- client u, whose variable is the n-th, does this action, where hs is known of the other client and these are asserted
 pub record IsCrossing (ts : Table) (D : Development) (n : ℕ) (hs asserts : List Formula) (a : Action) (c : Crossing) : Type 0 where

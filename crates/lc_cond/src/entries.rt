@@ -2,7 +2,6 @@
 ghost use Rattle.std.specs.Prelude.{◌≡◌, ◌++◌, true, map, None, Some, IfOk, OnOk};
 ghost use Rattle.lc_term.specs.Said.{after, told};
 ghost use Rattle.lc_term.specs.Syntax.{Base};
-ghost use Rattle.lc_table.specs.Put.{columns_in};
 ghost use Rattle.lc_table.specs.PutNumbers.{AreColumns};
 ghost use Rattle.lc_table.specs.Tables.{Keeps};
 ghost use Rattle.lc_action.specs.Action.{enter};
@@ -15,6 +14,7 @@ ghost use Rattle.lc_cond.specs.Adding.{HasFormulas, HasTerms, HasColumns, Adds, 
 ghost use Rattle.lc_cond.specs.Conditions as S;
 ghost use Rattle.lc_cond.specs.Conditions.{at_entry, conditions_of, enter_variables, entry_conditions};
 
+use crate::after_updates::entered_after;
 use crate::condition::{Condition, Kind, Passage};
 use crate::entering::{entered, entered_invariant};
 use crate::known::{in_range, known_idle};
@@ -22,13 +22,12 @@ use crate::lookup::{argument_count, asserts_at, entry_count, system_columns};
 use crate::making::Head;
 use crate::telling::push_both_told;
 use crate::variables::{enter_variables, entry_variables};
-use lc_action::{Before, SystemColumns, enter, store_together};
+use lc_action::{SystemColumns, enter};
 use lc_base::{ColId, OpId, OutOfMemory};
 use lc_kernel::Hypotheses;
 use lc_object::Operation;
 use lc_outline::Development;
 use lc_table::{ColExprId, FormulaId, PutNumbers, TermId, Terms};
-use lc_term::ColExpr;
 use std::alloc::Global;
 
 // What the conditions of a kind where a call of this operation begins share.
@@ -44,25 +43,7 @@ fn at_entry(kind: Kind, variables: u32, body: &Operation) -> Head
     }
 }
 
-// The columns behind `enter`, where a call of this operation begins.
-fn stored_columns(
-    alloc: Global,
-    system: SystemColumns,
-    operation: OpId,
-    count: usize,
-) -> Result<Vec<(ColId, ColExpr)>, OutOfMemory>
-    ensures { IfOk result (λ columns. columns_in columns.items ≡ after Base (enter_variables operation.0 count) (enter (first_of system)).updates) }
-{
-    let action = enter(alloc, system)?;
-    let variables = enter_variables(alloc, operation, count)?;
-    let before = Before {
-        columns: &[],
-        variables: &variables,
-    };
-    store_together(alloc, before, &action.updates)
-}
-
-// The same, entered.
+// The columns behind `enter`, where a call of this operation begins, entered.
 fn entered_columns(
     alloc: Global,
     terms: &mut Terms,
@@ -73,8 +54,9 @@ fn entered_columns(
     ensures list { IfOk result (λ columns. HasColumns terms.new columns.items (after Base (enter_variables operation.0 count) (enter (first_of system)).updates)) }
     ensures kept { Keeps terms.old terms.new }
 {
-    let columns = stored_columns(alloc, system, operation, count)?;
-    terms.enter_columns(alloc, &columns)
+    let action = enter(alloc, system)?;
+    let variables = enter_variables(alloc, operation, count)?;
+    entered_after(alloc, terms, &variables, &action.updates)
 }
 
 // The variables where a call of this operation begins, entered.

@@ -1,6 +1,7 @@
 //! The conditions of a development, as a list that is defined: where all of them are valid, its object is linearizable.
 #![tactic(auto)]
 
+mod after_updates;
 mod condition;
 mod edge_conditions;
 mod entering;

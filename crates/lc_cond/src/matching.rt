@@ -17,11 +17,12 @@ ghost use Rattle.lc_cond.specs.Conditions.{OfColumn, is_base, same_column, colum
 ghost use Rattle.lc_cond.specs.Heads.{condition_made};
 ghost use Rattle.lc_cond.specs.Scenes.{IsActing, IsOutcome, Behind, acting_on, development_in, code_in, on_conditions_in};
 
+use crate::after_updates::entered_after;
 use crate::condition::{Condition, Kind, Which};
 use crate::edge_conditions::{Outcome, on_path};
 use crate::lookup::action_at;
 use crate::making::{Head, push_one};
-use lc_action::{Action, SystemColumns, post_columns};
+use lc_action::{Action, SystemColumns};
 use lc_base::{ColId, OutOfMemory};
 use lc_kernel::Hypotheses;
 use lc_outline::{Development, On};
@@ -242,6 +243,21 @@ pub(crate) fn entered_guard(
     terms.replace(alloc, &put, &mut done, guard)
 }
 
+/// The columns behind an action of the client that is this variable with these arguments, entered.
+pub(crate) fn entered_post(
+    alloc: Global,
+    terms: &mut Terms,
+    action: &Action,
+    client: u32,
+    arguments: &[Term],
+) -> Result<Vec<(ColId, ColExprId)>, OutOfMemory>
+    ensures list { IfOk result (λ ps. HasColumns terms.new ps.items (post_columns (action_of action.now) (Variable client) (map term_of arguments.now))) }
+    ensures kept { Keeps terms.old terms.new }
+{
+    let variables = acting_variables(alloc, client, arguments)?;
+    entered_after(alloc, terms, &variables, &action.updates)
+}
+
 // An action of client 1 with these arguments, entered.
 #[tactic(auto, using(lc_table::proofs::Later::kept_on))]
 fn entered_action(
@@ -255,8 +271,7 @@ fn entered_action(
     ensures kept { Keeps terms.old terms.new }
 {
     let guard = entered_guard(alloc, terms, action, 1, arguments)?;
-    let stored = post_columns(alloc, action, &Term::Variable(1), arguments)?;
-    let columns = terms.enter_columns(alloc, &stored)?;
+    let columns = entered_post(alloc, terms, action, 1, arguments)?;
     Ok(Acting { guard, columns })
 }
 

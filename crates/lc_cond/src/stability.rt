@@ -1,35 +1,41 @@
 //! The conditions that what holds of a client stays where another one acts.
-ghost use Rattle.std.specs.Prelude.{◌≡◌, ◌+◌, ◌*◌, ◌<◌, ◌≤◌, ◌++◌, ◌∷◌, suc, length, map, option_map, IfOk, OnOk};
+ghost use Rattle.std.specs.Prelude.{◌≡◌, ◌+◌, ◌*◌, ◌<◌, ◌≤◌, ◌++◌, [], ◌∷◌, suc, true, length, map, option_map, IfOk, OnOk};
 ghost use Rattle.lc_base.specs.Limits.{condition_limit};
 ghost use Rattle.lc_term.specs.Lists.{Every};
 ghost use Rattle.lc_term.specs.Replacement.{replace, replacing};
 ghost use Rattle.lc_term.specs.Syntax.{Variable};
+ghost use Rattle.lc_table.specs.PutNumbers.{AreColumns, AreTerms};
 ghost use Rattle.lc_table.specs.Tables.{formulas_in, AreFormulas, Keeps};
 ghost use Rattle.lc_term.specs.View.{term_of, formulas_of};
 ghost use Rattle.lc_action.specs.Action.{post_columns};
 ghost use Rattle.lc_action.specs.ActionView.{action_of, first_of};
 ghost use Rattle.lc_outline.specs.Development.{invariant_of, all_actions, first_system};
 ghost use Rattle.lc_outline.specs.DevelopmentView.{development_shown};
-ghost use Rattle.lc_cond.specs.Adding.{HasFormulas, Adds, Under};
+ghost use Rattle.lc_outline.specs.Resolved.{IsBelow};
+ghost use Rattle.lc_cond.specs.Adding.{HasFormulas, HasTerms, Adds, Under};
 ghost use Rattle.lc_cond.specs.Conditions.{stable_variables};
 ghost use Rattle.lc_cond.specs.Stretches.{IsWithin, stretch_of, stable_stretch};
-ghost use Rattle.lc_cond.specs.Crossings.{code_variable_limit, two_clients, TakesFew, IsGiven, AreCrossings, Crosses, AllCross, CrossesToo, MakesStable, MakesAllStable, HaveGoals};
+ghost use Rattle.lc_cond.specs.Heads.{Tells};
+ghost use Rattle.lc_cond.specs.Crossings.{code_variable_limit, code_variables, two_clients, TakesFew, IsGiven, AreCrossings, Crosses, AllCross, CrossesToo, MakesStable, MakesAllStable, HaveGoals};
 
 use crate::condition::{Condition, Kind, Passage, Which};
-use crate::entering::{entered, entered_invariant, joined, told};
+use crate::entering::{entered, entered_invariant, joined, told_by_number};
 use crate::frames;
 use crate::lookup::system_columns;
 use crate::making::{Head, push_one};
-use crate::matching::entered_guard;
+use crate::matching::{entered_guard, entered_post};
 use crate::stretch::Stretch;
 use crate::variables::variables_from;
-use lc_action::{Action, SystemColumns, enter, leave, post_columns};
-use lc_base::{OutOfMemory, PointId};
+use lc_action::{Action, SystemColumns, enter, leave};
+use lc_base::{ARGUMENT_LIMIT, ColId, LOCAL_LIMIT, OutOfMemory, PointId};
 use lc_kernel::Hypotheses;
 use lc_outline::Development;
-use lc_table::{FormulaId, Put, PutColumns, PutVariables, Terms, nothing_replaced};
+use lc_table::{ColExprId, FormulaId, PutNumbers, TermId, Terms, nothing_replaced};
 use lc_term::{Formula, Term};
 use std::alloc::Global;
+
+// The most variables that the code of an operation has: the number of clients, the client, arguments and locals.
+const CODE_VARIABLE_LIMIT: u32 = (2 + ARGUMENT_LIMIT + LOCAL_LIMIT) as u32;
 
 /// Another client's action where something is known of a client: what is known then, and what is to hold behind it.
 pub(crate) struct Crossing {
@@ -62,6 +68,8 @@ pub(crate) struct Asserted<'a> {
 struct Given<'a> {
     /// The variable of the other client.
     client: u32,
+    /// All variables that code may have, which stand for themselves.
+    variables: &'a [TermId],
     /// That it is another client.
     clients: &'a [FormulaId],
     /// What is known of the first client.
@@ -83,34 +91,63 @@ fn two_clients(alloc: Global, other: u32) -> Result<Vec<Formula>, OutOfMemory>
     Ok(formulas)
 }
 
-// The invariant, and the assertions, behind an action of the client that is this variable.
+// Whether there is nothing of which it is asked what it is behind an action.
+fn tells_nothing(given: &Given<'_>) -> bool
+    ensures invariant { result ≡ true → given.now.invariant.now ≡ [] }
+    ensures asserts { result ≡ true → given.now.asserts.now ≡ [] }
+{
+    given.invariant.is_empty() && given.asserts.is_empty()
+}
+
+// The invariant, and the assertions, in these columns.
 #[tactic(auto, using(lc_table::proofs::Later::kept_on, crate::proofs::Adding::formulas_later))]
+fn told_in(
+    alloc: Global,
+    terms: &mut Terms,
+    columns: &[(ColId, ColExprId)],
+    given: &Given<'_>,
+) -> Result<(Vec<FormulaId>, Vec<FormulaId>), OutOfMemory>
+    requires columns { AreColumns terms.old columns.now }
+    requires variables { AreTerms terms.old given.now.variables.now }
+    requires invariant { AreFormulas terms.old given.now.invariant.now }
+    requires asserts { AreFormulas terms.old given.now.asserts.now }
+    ensures invariant { IfOk result (λ p. Tells terms.old terms.new columns.now given.now.variables.now given.now.invariant.now p.0.items) }
+    ensures asserts { IfOk result (λ p. Tells terms.old terms.new columns.now given.now.variables.now given.now.asserts.now p.1.items) }
+    ensures kept { Keeps terms.old terms.new }
+{
+    let put = PutNumbers {
+        columns,
+        variables: given.variables,
+    };
+    let mut done = nothing_replaced(alloc);
+    let invariant = told_by_number(alloc, terms, put, &mut done, given.invariant)?;
+    let asserts = told_by_number(alloc, terms, put, &mut done, given.asserts)?;
+    Ok((invariant, asserts))
+}
+
+// The invariant, and the assertions, behind an action of the other client. Where there are none, no columns are made.
+#[tactic(auto, using(lc_table::proofs::Later::kept_on))]
 fn told_behind(
     alloc: Global,
     terms: &mut Terms,
+    development: &Development,
     action: &Action,
-    client: u32,
     parameters: &[Term],
-    invariant: &[FormulaId],
-    asserts: &[FormulaId],
+    given: &Given<'_>,
 ) -> Result<(Vec<FormulaId>, Vec<FormulaId>), OutOfMemory>
-    requires invariant { AreFormulas terms.old invariant.now }
-    requires asserts { AreFormulas terms.old asserts.now }
-    ensures invariant { let σ = post_columns (action_of action.now) (Variable client) (map term_of parameters.now) in
-        IfOk result (λ p. HasFormulas terms.new p.0.items (map (replace (replacing σ Variable)) (formulas_in terms.old invariant.now))) }
-    ensures asserts { let σ = post_columns (action_of action.now) (Variable client) (map term_of parameters.now) in
-        IfOk result (λ p. HasFormulas terms.new p.1.items (map (replace (replacing σ Variable)) (formulas_in terms.old asserts.now))) }
+    requires { IsGiven terms.old (development_shown development.now) given.now }
+    ensures invariant { let σ = post_columns (action_of action.now) (Variable given.now.client) (map term_of parameters.now) in
+        IfOk result (λ p. HasFormulas terms.new p.0.items (map (replace (replacing σ Variable)) (formulas_in terms.old given.now.invariant.now))) }
+    ensures asserts { let σ = post_columns (action_of action.now) (Variable given.now.client) (map term_of parameters.now) in
+        IfOk result (λ p. HasFormulas terms.new p.1.items (map (replace (replacing σ Variable)) (formulas_in terms.old given.now.asserts.now))) }
     ensures kept { Keeps terms.old terms.new }
 {
-    let columns = post_columns(alloc, action, &Term::Variable(client), parameters)?;
-    let put = Put {
-        columns: PutColumns::Stored(&columns),
-        variables: PutVariables::Own,
-    };
-    let mut done = nothing_replaced(alloc);
-    let invariant = told(alloc, terms, &put, &mut done, invariant)?;
-    let asserts = told(alloc, terms, &put, &mut done, asserts)?;
-    Ok((invariant, asserts))
+    let _ = development;
+    if tells_nothing(given) {
+        return Ok((Vec::new(alloc), Vec::new(alloc)));
+    }
+    let columns = entered_post(alloc, terms, action, given.client, parameters)?;
+    told_in(alloc, terms, &columns, given)
 }
 
 // Two clients, what is known, the guard, and what holds behind the action.
@@ -157,6 +194,15 @@ fn variables_with(action: &Action, client: u32) -> u32
     client + 1 + parameter_count(action)
 }
 
+// All variables that code may have, entered.
+fn code_variables(alloc: Global, terms: &mut Terms) -> Result<Vec<TermId>, OutOfMemory>
+    ensures list { IfOk result (λ ks. HasTerms terms.new ks.items code_variables) }
+    ensures kept { Keeps terms.old terms.new }
+{
+    let variables = variables_from(alloc, 0, CODE_VARIABLE_LIMIT)?;
+    terms.enter_terms(alloc, &variables)
+}
+
 // Two clients, entered.
 fn entered_clients(
     alloc: Global,
@@ -184,18 +230,9 @@ fn cross(
     ensures crossing { IfOk result (λ c. Crosses terms.old terms.new (development_shown development.now) given.now.client given.now.known.now given.now.asserts.now (action_of action.now) c) }
     ensures kept { Keeps terms.old terms.new }
 {
-    let _ = development;
     let variables = variables_with(action, given.client);
     let parameters = parameters(alloc, action, given.client)?;
-    let (behind, goals) = told_behind(
-        alloc,
-        terms,
-        action,
-        given.client,
-        &parameters,
-        given.invariant,
-        given.asserts,
-    )?;
+    let (behind, goals) = told_behind(alloc, terms, development, action, &parameters, given)?;
     let guard = entered_guard(alloc, terms, action, given.client, &parameters)?;
     let known = gathered(alloc, given.clients, given.known, guard, &behind)?;
     let hypotheses = Hypotheses::new(known)?;
@@ -310,18 +347,21 @@ fn entered_crossings(
     requires client { client ≤ code_variable_limit }
     requires frame { AreFormulas terms.old frame.now }
     requires asked { IsWithin (length asserted.conjuncts.now) asserted.asked }
+    requires below { Every (IsBelow code_variable_limit) (formulas_of asserted.conjuncts.now) }
     ensures crossings { let d = development_shown development.now in
         let fs = formulas_of asserted.entry.conjuncts.now in
         IfOk result (λ cs. Under terms.old frame.now (λ hs. AreCrossings terms.new d client (hs ++ (invariant_of d ++ fs)) (stretch_of asserted.entry.asked fs) (all_actions d) cs.items)) }
     ensures kept { Keeps terms.old terms.new }
 {
     let system = system_columns(development);
+    let variables = code_variables(alloc, terms)?;
     let clients = entered_clients(alloc, terms, client)?;
     let invariant = entered_invariant(alloc, terms, &development.parts().tie)?;
     let asserts = entered(alloc, terms, asserted.conjuncts)?;
     let known = known_of(alloc, frame, &invariant, &asserts)?;
     let given = Given {
         client,
+        variables: &variables,
         clients: &clients,
         known: &known,
         invariant: &invariant,
@@ -391,6 +431,7 @@ pub(crate) fn push_stable(
     requires variables { variables ≤ code_variable_limit }
     requires frame { AreFormulas terms.old frame.now }
     requires asked { IsWithin (length asserted.conjuncts.now) asserted.asked }
+    requires below { Every (IsBelow code_variable_limit) (formulas_of asserted.conjuncts.now) }
     requires few { length asserted.conjuncts.now * (length (development_shown development.now).actions + 2) ≤ condition_limit }
     ensures list { OnOk result (Under terms.old frame.now (λ hs. Adds conditions.old.items terms.new conditions.new.items
         (stable_stretch (development_shown development.now) (option_map (λ p. p.0) point) variables hs (formulas_of asserted.entry.conjuncts.now) asserted.entry.asked))) }

@@ -5,13 +5,13 @@ ghost use Rattle.std.specs.List.{All};
 ghost use Rattle.lc_table.specs.Tables.{IsTerm, IsColumn, IsFormula, AreFormulas};
 
 use indexmap::{IndexMap, IndexSet};
-use lc_base::OutOfMemory;
+use lc_base::{DEPTH_LIMIT, OutOfMemory};
 use lc_kernel::Goal;
 use lc_table::{ColExprId, FormulaId, FormulaNode, TermId, TermNode, Terms};
 use std::alloc::{AllocFailed, Global};
 
 /// How many levels terms have at most of which trees are made: as many as a text may have.
-const LEVELS: u32 = 1_000;
+const LEVELS: u32 = DEPTH_LIMIT as u32;
 
 /// Why a height is not told.
 #[derive(Clone, Copy)]

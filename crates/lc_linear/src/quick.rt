@@ -14,18 +14,17 @@ ghost use Rattle.lc_linear.specs.Weight.{weight};
 
 use crate::number::{difference, product};
 use crate::{LinFault, LinForm};
+use lc_base::DEPTH_LIMIT;
 use lc_table::{TermId, TermNode, Terms, numbers_are_exact};
 use std::alloc::Global;
 
 // How many nodes of a term are walked over before its parts are taken each once, in place of each time that they stand there.
 const WALK_LIMIT: u32 = 4096;
 
-// How many levels a walk goes down, before it is left to a loop over the parts: as many as a text may have.
-const LEVELS: u32 = 1000;
-
 // A bound of all numbers of the form and of the forms of its parts; none where the bound leaves 128 bits, or where the
-// term has more nodes than steps are left, or more levels.
-fn walked(terms: &Terms, term: TermId, steps: &mut u32, levels: u32) -> Option<u128>
+// term has more nodes than steps are left, or more levels. A walk goes down as many levels as a text may have, and leaves a
+// deeper term to a loop over the parts.
+fn walked(terms: &Terms, term: TermId, steps: &mut u32, levels: usize) -> Option<u128>
     requires { IsTerm terms.now term }
     ensures { IfSome result (λ w. w ≡ weight (term_in terms.now term)) }
 {
@@ -51,7 +50,7 @@ pub(crate) fn weight(terms: &Terms, term: TermId) -> Option<u128>
     ensures { IfSome result (λ w. w ≡ weight (term_in terms.now term)) }
 {
     let mut steps = WALK_LIMIT;
-    walked(terms, term, &mut steps, LEVELS)
+    walked(terms, term, &mut steps, DEPTH_LIMIT)
 }
 
 // The bound for a difference, likewise.

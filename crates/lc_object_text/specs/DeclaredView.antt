@@ -1,6 +1,8 @@
 -- What clauses see of the names that a development file declares.
 use Rattle.std.specs.Prelude.{List, map, Option, Some, None}
 use Rattle.std.specs.Borrow.{Bor}
+use Rattle.lc_sexp.specs.Shown.{rest_of}
+use Rattle.lc_reading.specs.Listed.{names_among}
 use Rattle.lc_reading.specs.TableView.{listed}
 use Rattle.lc_object_text.specs.ObjectNames as N
 use Rattle.lc_object_text.specs.declared.declared.Span.{Span}
@@ -12,7 +14,7 @@ abbrev pub span_seen : Span → N.Span
 span_seen span = record { first = span.first; width = span.width }
 
 abbrev pub call_seen : Call → N.Call
-call_seen call = record { arguments = listed call.arguments; replies = call.replies }
+call_seen call = record { arguments = names_among (rest_of call.arguments); replies = call.replies }
 
 -- a call that is referred to, or none
 abbrev pub call_found : Option (Bor Call) → N.Call
@@ -23,7 +25,7 @@ abbrev pub body_seen : Body → N.Body
 body_seen b = record {
   operation = b.operation.now;
   first = b.first;
-  call = record { arguments = listed b.arguments; replies = b.replies };
+  call = record { arguments = names_among (rest_of b.arguments); replies = b.replies };
   locals = listed b.locals;
   labels = listed b.labels;
 }

@@ -62,7 +62,7 @@ fn read_locals(
     let names = Names {
         limit: LOCAL_LIMIT as u64,
         names: &scope.body.variables,
-        base: scope.body.arguments.len() as u32,
+        base: scope.body.argument_count(),
     };
     match both(operation, read_names(alloc, &names, second)) {
         Ok((_, locals)) => Ok(locals),

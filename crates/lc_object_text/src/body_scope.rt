@@ -83,7 +83,7 @@ impl CodeScope for InBody<'_, '_> {
 
     fn target(&self, name: &str) -> Option<LocalId> {
         let place = self.body.locals.place(name)?;
-        let variable = 2 + self.body.arguments.len() + place;
+        let variable = 2 + self.body.argument_count() as usize + place;
         Some(LocalId(variable as u32))
     }
 

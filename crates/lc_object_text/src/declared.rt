@@ -18,14 +18,12 @@ pub struct Span {
 }
 
 /// How an operation is called.
-#[derive(Drop)]
+#[derive(Clone, Copy)]
 pub struct Call<'a> {
     /// The items of its list of arguments.
-    pub items: Cursor<'a>,
-    pub arguments: NameTable<'a>,
+    pub arguments: Cursor<'a>,
     /// How many numbers it returns, if that is said.
     pub replies: Option<u64>,
-    ghost named: { listed arguments ≡ names_among (rest_of items) },
 }
 
 /// The operations that a specification declares.
@@ -45,16 +43,29 @@ pub struct Body<'a> {
     pub operation: &'a str,
     /// The number of its first point.
     pub first: u32,
-    /// Those of its operation.
-    pub arguments: NameTable<'a>,
+    /// The items of the list of its operation's arguments.
+    pub arguments: Cursor<'a>,
     pub replies: Option<u64>,
     pub locals: NameTable<'a>,
     /// The arguments, and then the locals.
     pub variables: NameTable<'a>,
     pub labels: NameTable<'a>,
-    ghost together: { listed variables ≡ listed arguments ++ listed locals },
+    ghost together: { listed variables ≡ names_among (rest_of arguments) ++ listed locals },
     ghost few_variables: { 2 + length (listed variables) < 2 ^ 32 },
     ghost few_points: { first + length (listed labels) < 2 ^ 32 },
+}
+
+impl Body<'_> {
+    ghost use Rattle.std.specs.Prelude.{◌≡◌, length};
+    ghost use Rattle.lc_sexp.specs.Shown.{rest_of};
+    ghost use Rattle.lc_reading.specs.Listed.{names_among};
+
+    /// How many arguments its operation has.
+    pub fn argument_count(&self) -> u32
+        ensures { result ≡ length (names_among (rest_of self.now.arguments)) }
+    {
+        (self.variables.len() - self.locals.len()) as u32
+    }
 }
 
 /// The names that a development file declares.

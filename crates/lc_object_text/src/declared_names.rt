@@ -31,7 +31,10 @@ fn short(count: usize) -> Result<u32, OutOfMemory>
 }
 
 /// The names with those that items declare.
-fn enter_names<'a>(names: NameTable<'a>, list: Cursor<'a>) -> Result<NameTable<'a>, OutOfMemory>
+pub(crate) fn enter_names<'a>(
+    names: NameTable<'a>,
+    list: Cursor<'a>,
+) -> Result<NameTable<'a>, OutOfMemory>
     ensures { IfOk result (λ all. listed all ≡ listed names.entry ++ names_among (rest_of list.entry)) }
 {
     let mut names = names;
@@ -130,16 +133,14 @@ pub(crate) fn reply_count(mut list: Cursor<'_>) -> Option<u64>
 }
 
 /// How the operation of these parts is called: `NAME (ARG ..) REPLIES ..`.
-fn read_call<'a>(alloc: Global, parts: Cursor<'a>) -> Result<Call<'a>, OutOfMemory>
-    ensures { IfOk result (λ call. call_seen call ≡ call_of (rest_of parts.entry)) }
+fn read_call<'a>(parts: Cursor<'a>) -> Call<'a>
+    ensures { call_seen result ≡ call_of (rest_of parts.entry) }
 {
     let behind_name = behind_first(parts);
-    let items = within_first(behind_name);
-    Ok(Call {
-        items,
-        arguments: enter_names(NameTable::new(alloc), items)?,
+    Call {
+        arguments: within_first(behind_name),
         replies: reply_count(behind_first(behind_name)),
-    })
+    }
 }
 
 /// The operations of a specification.
@@ -163,7 +164,7 @@ fn read_operations<'a>(alloc: Global, mut list: Cursor<'a>) -> Result<Operations
         let name = first_text(&parts);
         names = names.enter(name)?;
         texts.push(name)?;
-        calls.push(read_call(alloc, parts)?)?;
+        calls.push(read_call(parts))?;
     }
 }
 
@@ -211,7 +212,7 @@ fn find_arguments<'a>(operations: &Operations<'a>, name: &str) -> (Cursor<'a>, O
     let Some(call) = find_call(operations, name) else {
         return (Cursor::empty(), None);
     };
-    (call.items, call.replies)
+    (call.arguments, call.replies)
 }
 
 /// The body of these names, if there are not too many of them.
@@ -219,16 +220,16 @@ fn body<'a>(
     operation: &'a str,
     first: u32,
     replies: Option<u64>,
-    arguments: NameTable<'a>,
+    arguments: Cursor<'a>,
     locals: NameTable<'a>,
     variables: NameTable<'a>,
     labels: NameTable<'a>,
 ) -> Result<Body<'a>, OutOfMemory>
-    requires { listed variables ≡ listed arguments ++ listed locals }
+    requires { listed variables ≡ names_among (rest_of arguments) ++ listed locals }
     ensures { IfOk result (λ body. body_seen body ≡ record {
       operation = operation.now;
       first = first;
-      call = record { arguments = listed arguments.entry; replies = replies };
+      call = record { arguments = names_among (rest_of arguments.entry); replies = replies };
       locals = listed locals.entry;
       labels = listed labels.entry;
     }) }
@@ -261,10 +262,9 @@ fn read_body<'a>(
     let behind_name = behind_first(parts);
     let local_items = within_first(behind_name);
     let labels = enter_labels(NameTable::new(alloc), behind_first(behind_name))?;
-    let (argument_items, replies) = find_arguments(operations, first_text(&parts));
-    let arguments = enter_names(NameTable::new(alloc), argument_items)?;
+    let (arguments, replies) = find_arguments(operations, first_text(&parts));
     let locals = enter_names(NameTable::new(alloc), local_items)?;
-    let variables = enter_names(NameTable::new(alloc), argument_items)?;
+    let variables = enter_names(NameTable::new(alloc), arguments)?;
     let variables = enter_names(variables, local_items)?;
     let operation = operation_name(operations, number);
     body(

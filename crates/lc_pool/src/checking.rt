@@ -83,18 +83,19 @@ fn are_framed(
     is_framed(alloc, development, cert, cuts.places[0], cuts.places[count])
 }
 
-/// The cuts of a certificate, if it may be one, and the parts of the conditions of a development. A thread of its own cuts.
-fn cut_and_number<R: Threads>(
+/// The cuts of a certificate, if it may be one, and the parts of the conditions of a development. Threads of their own cut.
+fn cut_and_number<R: Threads + Sync>(
     rt: &R,
     alloc: Global,
     development: &Development,
     cert: &[u8],
+    workers: u64,
 ) -> Result<(Option<Cuts>, Numbering), OutOfMemory>
     ensures { IfOk result (λ both. IsNumbering (development_shown development.now) both.1) }
 {
     let (cuts, numbering) = thread::join(
         rt,
-        || cut(alloc, cert),
+        || cut(rt, alloc, cert, workers),
         || Numbering::new(alloc, development),
     );
     Ok((cuts?, numbering?))
@@ -112,7 +113,7 @@ fn proven_in_pieces<R: Threads + Wait + Sync, G: Gate + Sync>(
     ensures { let d = development_shown development.now in
         IfOk result (λ count. IfSome count (λ n. (n ≡ length (conditions d)) × IsProvenBy d cert.now)) }
 {
-    let (cuts, numbering) = cut_and_number(rt, alloc, development, cert)?;
+    let (cuts, numbering) = cut_and_number(rt, alloc, development, cert, workers)?;
     let Some(cuts) = cuts else {
         return Ok(None);
     };

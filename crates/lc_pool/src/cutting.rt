@@ -3,6 +3,8 @@
 use lc_base::{DEPTH_LIMIT, OutOfMemory};
 use std::alloc::Global;
 use std::simd::prelude::*;
+use std::thread;
+use std::thread::Threads;
 
 /// Where a file is cut: before the first list that stands in its first one, and behind each of those; and the number of the item
 /// that stands behind each cut. Nothing is promised of either: whoever uses one tests it.
@@ -70,6 +72,12 @@ fn block_of(bytes: &[u8; WIDTH], in_comment: &mut bool) -> Block {
     }
 }
 
+/// Which brackets of a block are the next ones behind one that opens: from there a carry runs over what is no bracket.
+fn behind_opens(block: Block) -> u64 {
+    let brackets = block.opens | block.closes;
+    u64::wrapping_add(block.opens << 1, !brackets) & brackets
+}
+
 /// How a file is cut as far as it was looked at: how many lists are open, how many items have begun, and whether the last byte
 /// stands in a word, which is 1, or in a comment.
 #[derive(Drop)]
@@ -82,6 +90,20 @@ struct Cutter {
 }
 
 impl Cutter {
+    /// Nothing was looked at; so many lists are open.
+    fn new(alloc: Global, depth: usize) -> Cutter {
+        Cutter {
+            cuts: Cuts {
+                places: Vec::new(alloc),
+                items: Vec::new(alloc),
+            },
+            depth,
+            items: 0,
+            in_word: 0,
+            in_comment: false,
+        }
+    }
+
     /// Takes a bracket that opens at this place, where so many items have begun; whether no more lists are open than may be.
     fn open(&mut self, place: usize, items: u64) -> Result<bool, OutOfMemory> {
         if self.depth >= DEPTH_LIMIT {
@@ -135,8 +157,10 @@ impl Cutter {
         self.in_word = letters >> 63;
         let opened = block.opens.count_ones() as usize;
         let closed = block.closes.count_ones() as usize;
-        if self.depth > closed + 1 && opened <= DEPTH_LIMIT.saturating_sub(self.depth) {
-            self.depth = self.depth - closed + opened;
+        // Apart from lists in which no list stands, so many lists are closed.
+        let down = (block.closes & !behind_opens(block)).count_ones() as usize;
+        if self.depth > down + 1 && opened <= DEPTH_LIMIT.saturating_sub(self.depth) {
+            self.depth = usize::wrapping_sub(usize::wrapping_add(self.depth, opened), closed);
         } else if !self.take_brackets(block, begun, at)? {
             return Ok(false);
         }
@@ -144,10 +168,10 @@ impl Cutter {
         Ok(true)
     }
 
-    /// Takes a file; whether its brackets may stand so.
-    fn take_all(&mut self, file: &[u8]) -> Result<bool, OutOfMemory> {
-        let (blocks, rest) = file.as_chunks::<WIDTH>();
-        let mut at: usize = 0;
+    /// Takes the bytes from this place on; whether their brackets may stand so.
+    fn take_all(&mut self, bytes: &[u8], from: usize) -> Result<bool, OutOfMemory> {
+        let (blocks, rest) = bytes.as_chunks::<WIDTH>();
+        let mut at = from;
         for block in blocks {
             if !self.take(block, at)? {
                 return Ok(false);
@@ -158,23 +182,136 @@ impl Cutter {
         last[..rest.len()].copy_from_slice(rest);
         self.take(&last, at)
     }
+
+    /// Takes what was found of the bytes that stand behind, where one list was said to be open; whether it is.
+    fn take_next(&mut self, next: Cutter) -> Result<bool, OutOfMemory> {
+        if self.depth != 1 || self.in_comment {
+            return Ok(false);
+        }
+        let Cutter {
+            cuts,
+            depth,
+            items,
+            in_word,
+            in_comment,
+        } = next;
+        // Its first cut stands before a list, and there the last one of this stands too.
+        for (place, item) in cuts.places.iter().zip(&cuts.items).skip(1) {
+            self.cuts
+                .push(*place, u64::wrapping_add(self.items, *item))?;
+        }
+        self.depth = depth;
+        self.items = u64::wrapping_add(self.items, items);
+        self.in_word = in_word;
+        self.in_comment = in_comment;
+        Ok(true)
+    }
 }
 
-/// The cuts of a file; nothing where it is no certificate for a reason that shows here.
-pub(crate) fn cut(alloc: Global, file: &[u8]) -> Result<Option<Cuts>, OutOfMemory> {
-    let mut cutter = Cutter {
-        cuts: Cuts {
-            places: Vec::new(alloc),
-            items: Vec::new(alloc),
-        },
-        depth: 0,
-        items: 0,
-        in_word: 0,
-        in_comment: false,
-    };
-    if !cutter.take_all(file)? {
-        return Ok(None);
+/// A stretch of a file: from the one place on, and before the other.
+#[derive(Clone, Copy)]
+struct Stretch {
+    from: usize,
+    to: usize,
+}
+
+/// How entries begin.
+const ENTRY: &[u8] = b"(proof";
+
+/// The fewest bytes that are worth a thread.
+const LEAST: usize = 131_072;
+
+/// The first place from the one on, and before the other, where an entry seems to begin.
+fn entry_between(file: &[u8], from: usize, to: usize) -> Option<usize> {
+    for at in from..to.min(file.len()) {
+        if file[at..].starts_with(ENTRY) {
+            return Some(at);
+        }
     }
+    None
+}
+
+/// The stretches of a file, so many at most. Where each but the first begins, an entry seems to begin.
+fn stretches_of(alloc: Global, file: &[u8], most: u64) -> Result<Vec<Stretch>, OutOfMemory> {
+    let count = (file.len() / LEAST).min(most as usize).max(1);
+    let each = file.len() / count;
+    let mut stretches = Vec::new(alloc);
+    let mut from = 0;
+    for before in 1..count {
+        let near = usize::saturating_mul(each, before);
+        if let Some(to) = entry_between(file, near, usize::saturating_add(near, each)) {
+            stretches.push(Stretch { from, to })?;
+            from = to;
+        }
+    }
+    stretches.push(Stretch {
+        from,
+        to: file.len(),
+    })?;
+    Ok(stretches)
+}
+
+/// What is found of a stretch, if its brackets may stand so. In the first one no list is open, and in each other one is.
+fn cut_stretch(
+    alloc: Global,
+    file: &[u8],
+    stretch: Stretch,
+) -> Result<Option<Cutter>, OutOfMemory> {
+    let Some(bytes) = file.get(stretch.from..stretch.to) else {
+        return Ok(None);
+    };
+    let mut cutter = Cutter::new(alloc, if stretch.from == 0 { 0 } else { 1 });
+    if cutter.take_all(bytes, stretch.from)? {
+        return Ok(Some(cutter));
+    }
+    Ok(None)
+}
+
+/// The cuts of a file whose stretches were cut, if those fit.
+fn joined(found: Vec<Result<Option<Cutter>, OutOfMemory>>) -> Result<Option<Cuts>, OutOfMemory> {
+    let mut found = found.into_iter();
+    let Some(first) = found.next() else {
+        return Ok(None);
+    };
+    let Some(mut cutter) = first? else {
+        return Ok(None);
+    };
+    for next in found {
+        let Some(next) = next? else {
+            return Ok(None);
+        };
+        if !cutter.take_next(next)? {
+            return Ok(None);
+        }
+    }
+    let Cutter { cuts, .. } = cutter;
+    Ok(Some(cuts))
+}
+
+/// The cuts of a file, whose stretches are cut side by side, so many at most; nothing where it is no certificate for a reason that
+/// shows here. Where an entry only seemed to begin, the file is cut once more as one stretch.
+pub(crate) fn cut<R: Threads + Sync>(
+    rt: &R,
+    alloc: Global,
+    file: &[u8],
+    most: u64,
+) -> Result<Option<Cuts>, OutOfMemory> {
+    let stretches = stretches_of(alloc, file, most)?;
+    let found: Vec<Result<Option<Cutter>, OutOfMemory>> = thread::map_vec(
+        rt,
+        stretches,
+        &|stretch| -> Result<Option<Cutter>, OutOfMemory> { cut_stretch(alloc, file, stretch) },
+    )?;
+    if let Some(cuts) = joined(found)? {
+        return Ok(Some(cuts));
+    }
+    let whole = Stretch {
+        from: 0,
+        to: file.len(),
+    };
+    let Some(cutter) = cut_stretch(alloc, file, whole)? else {
+        return Ok(None);
+    };
     let Cutter { cuts, .. } = cutter;
     Ok(Some(cuts))
 }

@@ -6,6 +6,7 @@ pub mod Sections
 pub mod Listed
 pub mod Holding
 pub mod Places
+mod Entries
 mod Noted
 pub mod Files
 pub mod Fine

@@ -1,8 +1,5 @@
 -- Names that are listed, and the places at which they stand first.
-use Rattle.std.proofs.Common.{◌≡◌, ℕ, suc, ◌<◌, Bool, true, false, List, [], ◌∷◌, ◌++◌, Option, Some, None, refl, sym, ap, ◌∙◌, cond, arith}
-use Rattle.std.specs.Borrow.{Bor}
-use Rattle.std.proofs.lemmas.List.{map-append, length-map}
-use Rattle.lc_reading.specs.Words.{names_in}
+use Rattle.std.proofs.Common.{◌≡◌, ℕ, suc, ◌<◌, Bool, true, false, List, [], ◌∷◌, ◌++◌, Option, Some, None, refl, ap, ◌∙◌, cond, arith}
 use Rattle.std.specs.Prelude.{option_map, is_some, ◌||◌, length}
 use Rattle.std.specs.List.{list_any}
 use Rattle.std.specs.Map.{lookup}
@@ -43,13 +40,6 @@ placed false b (Some k) e = e
 pub has_place : (vs : List (List ℕ)) (w : List ℕ) → is_some (place_of vs w) ≡ list_any (is w) vs
 has_place [] w = refl
 has_place (u ∷ vs) w = placed (is w u) (list_any (is w) vs) (place_of vs w) (has_place vs w)
-
--- the same of names that are referred to
-pub entered : (ns : List (Bor (List ℕ))) (n : Bor (List ℕ)) (w : List ℕ) → option_or (place_of (names_in ns) w) (cond (is w n.now) (Some (length ns)) None) ≡ place_of (names_in (ns ++ n ∷ [])) w
-entered ns n w =
-    ap (λ k. option_or (place_of (names_in ns) w) (cond (is w n.now) (Some k) None)) (sym (length-map ns (λ (m : Bor (List ℕ)). m.now)))
-    ∙ sym (place_of_last (names_in ns) n.now w)
-    ∙ ap (λ vs. place_of vs w) (sym (map-append (λ (m : Bor (List ℕ)). m.now) ns (n ∷ [])))
 
 below : (here : Bool) (o : Option ℕ) (n p : ℕ) → ((q : ℕ) → o ≡ Some q → q < n) → cond here (Some 0) (option_map suc o) ≡ Some p → p < suc n
 below true o n p later_below e = let zero_is : 0 ≡ p = cc in omega arith

@@ -7,6 +7,7 @@ pub mod Placed
 pub mod Parts
 pub mod Rows
 pub mod Listed
+pub mod Entries
 pub mod TableView
 pub mod Naming
 pub mod Files

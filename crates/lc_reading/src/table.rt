@@ -1,9 +1,9 @@
 //! Names in a row, found by a hash.
-ghost use Rattle.std.specs.Prelude.{◌≡◌, ◌<◌, ◌^◌, List, length, ℕ, OnOk, Some, None, if◌then◌else◌};
+ghost use Rattle.std.specs.Prelude.{◌≡◌, ◌<◌, List, length, ℕ, true, IfOk, OnOk, Some, None, if◌then◌else◌};
 ghost use Rattle.std.specs.Option.{option_or};
 ghost use Rattle.std.specs.Map.{lookup};
-ghost use Rattle.lc_reading.specs.Words.{names_in};
 ghost use Rattle.lc_reading.specs.Words.{is};
+ghost use Rattle.lc_reading.specs.Entries.{name_at, names_at, are_within};
 ghost use Rattle.lc_reading.specs.Listed.{place_of};
 
 use crate::lists::{next_part, two};
@@ -13,35 +13,53 @@ use lc_base::OutOfMemory;
 use lc_sexp::Item;
 use std::alloc::Global;
 
-/// Names in a row, and for each the place at which it stands first.
+/// Names in a row, and for each the place at which it stands first. The letters of a name that stands there more than once
+/// are held once, by the number of its entry.
 pub struct NameTable<'a> {
-    names: Vec<&'a str>,
-    places: IndexMap<&'a str, usize>,
-    ghost placed: { (w : List ℕ) → lookup (λ name. is w name.now) places.entries ≡ place_of (names_in names.items) w },
+    numbers: Vec<u32>,
+    places: IndexMap<&'a str, u32>,
+    ghost within: { are_within places.entries numbers.items ≡ true },
+    ghost placed: { (w : List ℕ) → lookup (λ name. is w name.now) places.entries ≡ place_of (names_at places.entries numbers.items) w },
 }
 
 impl Drop for NameTable<'_> {
     fn drop(self) {
         let NameTable {
-            names: _,
+            numbers: _,
             places: _,
         } = self;
     }
 }
 
-/// Notes the place of a name, unless it stands at one already.
-fn note_place<'a>(
-    places: &mut IndexMap<&'a str, usize>,
-    name: &'a str,
-    place: usize,
-) -> Result<(), OutOfMemory>
-    ensures { OnOk result ((w : List ℕ) →
-        lookup (λ n. is w n.now) places.new.entries ≡ option_or (lookup (λ n. is w n.now) places.old.entries) (if is w name.now then Some place else None)) }
+/// A count of names, which has 32 bits. More than that stand in no file, and are answered by `OutOfMemory`.
+fn short(count: usize) -> Result<u32, OutOfMemory>
+    ensures { IfOk result (λ n. n ≡ count) }
 {
-    if !places.contains_key(name) {
-        places.insert(name, place)?;
+    match u32::try_from(count) {
+        Ok(count) => Ok(count),
+        Err(_) => Err(OutOfMemory),
     }
-    Ok(())
+}
+
+/// The number of the entry of a name, which is entered with this place where it has none.
+fn entry_of<'a>(
+    places: &mut IndexMap<&'a str, u32>,
+    name: &'a str,
+    place: u32,
+) -> Result<u32, OutOfMemory>
+    ensures placed { OnOk result ((w : List ℕ) →
+        lookup (λ n. is w n.now) places.new.entries ≡ option_or (lookup (λ n. is w n.now) places.old.entries) (if is w name.now then Some place else None)) }
+    ensures named { IfOk result (λ k. name_at places.new.entries k ≡ name.now) }
+    ensures within { IfOk result (λ k. k < length places.new.entries) }
+    ensures kept { OnOk result ((ks : List ℕ) → are_within places.old.entries ks ≡ true → names_at places.new.entries ks ≡ names_at places.old.entries ks) }
+    ensures kept_within { OnOk result ((ks : List ℕ) → are_within places.old.entries ks ≡ true → are_within places.new.entries ks ≡ true) }
+{
+    if let Some(number) = places.get_index_of(name) {
+        return short(number);
+    }
+    let number = short(places.len())?;
+    places.insert(name, place)?;
+    Ok(number)
 }
 
 impl<'a> NameTable<'a> {
@@ -58,7 +76,7 @@ impl<'a> NameTable<'a> {
         ensures { listed result ≡ [] }
     {
         NameTable {
-            names: Vec::new(alloc),
+            numbers: Vec::new(alloc),
             places: IndexMap::new(alloc),
         }
     }
@@ -68,12 +86,13 @@ impl<'a> NameTable<'a> {
         ensures { IfOk result (λ names. listed names ≡ listed self.entry ++ name.now ∷ []) }
     {
         let NameTable {
-            mut names,
+            mut numbers,
             mut places,
         } = self;
-        note_place(&mut places, name, names.len())?;
-        names.push(name)?;
-        Ok(NameTable { names, places })
+        let place = short(numbers.len())?;
+        let number = entry_of(&mut places, name, place)?;
+        numbers.push(number)?;
+        Ok(NameTable { numbers, places })
     }
 
     /// The names with the one behind them that an item declares.
@@ -118,14 +137,15 @@ impl<'a> NameTable<'a> {
     pub fn len(&self) -> usize
         ensures { result ≡ length (listed self.now) }
     {
-        self.names.len()
+        self.numbers.len()
     }
 
     /// The place at which a name stands first.
     pub fn place(&self, name: &str) -> Option<usize>
         ensures { result ≡ place_of (listed self.now) name.now }
     {
-        self.places.get(name).copied()
+        let place = self.places.get(name)?;
+        Some(*place as usize)
     }
 
     /// Whether a name is there.

@@ -134,7 +134,11 @@ impl Terms {
         if let Some(number) = done.get(&term.0) {
             return Ok(TermId(*number));
         }
-        let number = self.shifted_within(term.0, added, cutoff, done, levels)?;
+        let Some(levels) = levels.checked_sub(1) else {
+            self.shift_below(term, added, cutoff, done)?;
+            return self.shifted_term(term, added, cutoff, done, LEVELS);
+        };
+        let number = self.shifted_part(term.0, added, cutoff, done, levels)?;
         done.insert(term.0, number)?;
         Ok(TermId(number))
     }
@@ -197,62 +201,35 @@ impl Terms {
         }
     }
 
-    // A term that is not moved yet, moved: where no level is left, what is deep in it comes first.
-    #[cycle(shifted_part)]
-    fn shifted_within(
-        &mut self,
-        part: u32,
-        added: u32,
-        cutoff: u32,
-        done: &mut IndexMap<u32, u32>,
-        levels: u32,
-    ) -> Result<u32, Unmoved>
-        requires there { is_some (slice_get (parts self.old) part) ≡ true }
-        requires term { is_term (slice_get (parts self.old) part) ≡ true }
-        requires done { AreReplaced (shifting added cutoff) (parts self.old) done.old.entries }
-        ensures id { IfOk result (λ k. slice_get (parts self.new) k ≡ Some (replaced_part (shifting added cutoff) (part_in self.old part))) }
-        ensures kept { Keeps self.old self.new }
-        ensures done { OnOk result (AreReplaced (shifting added cutoff) (parts self.new) done.new.entries) }
-        ensures place { IfErr result (λ fault. fault ≡ NoPlace → part_passes (shift_fits added cutoff 0) (part_in self.old part) ≡ false) }
-    {
-        match levels.checked_sub(1) {
-            Some(levels) => self.shifted_part(part, added, cutoff, done, levels),
-            None => self.shifted_deep(part, added, cutoff, done),
-        }
-    }
-
-    // The same, after all that stands below it. Each of these has its own parts moved before it, so that none goes down far. One
-    // that has no place is found again with the part.
+    // Moves all that stands below a term and is not moved yet. Each of these has its own parts moved before it, so that none goes
+    // down far. One that has no place is found again with the term.
     #[cycle(shifted_part)]
     #[inline(never)]
     #[tactic(auto, using(crate::proofs::Later::kept_on, crate::proofs::Later::keeps_itself, crate::proofs::Later::is_term_still))]
-    fn shifted_deep(
+    fn shift_below(
         &mut self,
-        part: u32,
+        term: TermId,
         added: u32,
         cutoff: u32,
         done: &mut IndexMap<u32, u32>,
-    ) -> Result<u32, Unmoved>
-        requires there { is_some (slice_get (parts self.old) part) ≡ true }
-        requires term { is_term (slice_get (parts self.old) part) ≡ true }
+    ) -> Result<(), OutOfMemory>
+        requires there { IsTerm self.old term }
         requires done { AreReplaced (shifting added cutoff) (parts self.old) done.old.entries }
-        ensures id { IfOk result (λ k. slice_get (parts self.new) k ≡ Some (replaced_part (shifting added cutoff) (part_in self.old part))) }
         ensures kept { Keeps self.old self.new }
         ensures done { OnOk result (AreReplaced (shifting added cutoff) (parts self.new) done.new.entries) }
-        ensures place { IfErr result (λ fault. fault ≡ NoPlace → part_passes (shift_fits added cutoff 0) (part_in self.old part) ≡ false) }
     {
-        let below = self.terms_below(self.allocator(), part, done)?;
+        let below = self.terms_below(self.allocator(), term.0, done)?;
         for term in &below {
             match self.shifted_term(*term, added, cutoff, done, LEVELS) {
                 Ok(_) => {}
-                Err(Unmoved::OutOfMemory) => return Err(Unmoved::OutOfMemory),
+                Err(Unmoved::OutOfMemory) => return Err(OutOfMemory),
                 Err(Unmoved::NoPlace) => {
                     done.clear();
                     break;
                 }
             }
         }
-        self.shifted_part(part, added, cutoff, done, LEVELS)
+        Ok(())
     }
 
     // A term, moved, which is not moved yet.

@@ -272,7 +272,11 @@ impl Terms {
         if let Some(number) = done.part(occurrence) {
             return Ok(TermId(number));
         }
-        let number = self.replaced_within::<R>(alloc, put, done, term.0, depth, levels)?;
+        let Some(levels) = levels.checked_sub(1) else {
+            self.replace_below::<R>(alloc, put, done, term, depth)?;
+            return self.replaced_term::<R>(alloc, put, done, term, depth, LEVELS);
+        };
+        let number = self.replaced_part::<R>(alloc, put, done, term.0, depth, levels)?;
         done.note_part(occurrence, number)?;
         Ok(TermId(number))
     }
@@ -432,54 +436,29 @@ impl Terms {
         }
     }
 
-    // A term that is not replaced yet, replaced: where no level is left, what is deep in it comes first.
-    #[cycle(replaced_part)]
-    fn replaced_within<R: Filled>(
-        &mut self,
-        alloc: Global,
-        put: &Filling<'_>,
-        done: &mut ReplacedNodes,
-        part: u32,
-        depth: u32,
-        levels: u32,
-    ) -> Result<u32, OutOfMemory>
-        requires there { is_some (slice_get (parts self.old) part) ≡ true }
-        requires term { is_term (slice_get (parts self.old) part) ≡ true }
-        requires done { Stands R.replacement self.old put.now done.old }
-        ensures id { IfOk result (λ k. slice_get (parts self.new) k ≡ Some (replaced_part (under_many depth R.replacement) (part_in self.old part))) }
-        ensures kept { Keeps self.old self.new }
-        ensures done { OnOk result (Stands R.replacement self.new put.now done.new) }
-    {
-        match levels.checked_sub(1) {
-            Some(levels) => self.replaced_part::<R>(alloc, put, done, part, depth, levels),
-            None => self.replaced_deep::<R>(alloc, put, done, part, depth),
-        }
-    }
-
-    // The same, after all that stands below it. Each of these has its own parts replaced before it, so that none goes down far.
+    // Replaces all that stands below a term and is not replaced yet. Each of these has its own parts replaced before it, so that
+    // none goes down far.
     #[cycle(replaced_part)]
     #[inline(never)]
     #[tactic(auto, using(crate::proofs::Later::kept_on, crate::proofs::Later::keeps_itself, crate::proofs::Later::is_term_still))]
-    fn replaced_deep<R: Filled>(
+    fn replace_below<R: Filled>(
         &mut self,
         alloc: Global,
         put: &Filling<'_>,
         done: &mut ReplacedNodes,
-        part: u32,
+        term: TermId,
         depth: u32,
-    ) -> Result<u32, OutOfMemory>
-        requires there { is_some (slice_get (parts self.old) part) ≡ true }
-        requires term { is_term (slice_get (parts self.old) part) ≡ true }
+    ) -> Result<(), OutOfMemory>
+        requires there { IsTerm self.old term }
         requires done { Stands R.replacement self.old put.now done.old }
-        ensures id { IfOk result (λ k. slice_get (parts self.new) k ≡ Some (replaced_part (under_many depth R.replacement) (part_in self.old part))) }
         ensures kept { Keeps self.old self.new }
         ensures done { OnOk result (Stands R.replacement self.new put.now done.new) }
     {
-        let below = self.terms_below(alloc, part, &ReplacedBelow { done, depth })?;
+        let below = self.terms_below(alloc, term.0, &ReplacedBelow { done, depth })?;
         for term in &below {
             self.replaced_term::<R>(alloc, put, done, *term, depth, LEVELS)?;
         }
-        self.replaced_part::<R>(alloc, put, done, part, depth, LEVELS)
+        Ok(())
     }
 
     // A term, replaced, which is not replaced yet.

@@ -18,7 +18,7 @@ pub const MOST_BYTES: usize = FILE_LIMIT as usize + 1;
 /// The most reads of a file.
 pub const MOST_READS: u64 = 33_554_432;
 
-const PIECE: usize = 4096;
+const PIECE: usize = 16_384;
 
 /// Why a file was not read.
 #[derive(Clone, Copy)]

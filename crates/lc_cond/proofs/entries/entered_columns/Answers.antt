@@ -1,10 +1,12 @@
-use Rattle.std.proofs.Common.{ap, ◌∙◌}
-use Rattle.std.proofs.lemmas.Result.{IfOk-weaker}
-use Rattle.lc_table.specs.Put.{columns_in}
-use Rattle.lc_cond.proofs.Adding.{columns_entered}
+use Rattle.std.proofs.Common.{ℕ, IfOk, map, ap, ap₂, subst, ◌∙◌}
+use Rattle.lc_term.specs.Said.{after}
+use Rattle.lc_term.specs.Syntax.{Column, Base}
+use Rattle.lc_term.specs.UpdateView.{updates_of}
+use Rattle.lc_term.specs.View.{term_of}
+use Rattle.lc_cond.specs.Adding.{HasColumns}
 use Rattle.lc_cond.proofs.entries.entered_columns.Goals as goal
 
 pub returns-clause-list : goal.returns-clause-list
 returns-clause-list c =
-    columns_entered c.enter_columns.result c.enter_columns.new.self _ c.enter_columns.ensures.are
-    (IfOk-weaker c.enter_columns.result _ _ (λ ks e. e ∙ ap columns_in c.deref.ensures.value ∙ c.in_ok-columns.ensures) c.enter_columns.ensures.trees)
+    subst (λ (σ : ℕ → Column). IfOk c.entered_after.result (λ ps. HasColumns c.entered_after.new.terms ps.items σ))
+    (ap₂ (after Base) (ap (map term_of) c.deref.ensures.value ∙ c.in_ok-variables.ensures) (ap updates_of c.deref-2.ensures.value ∙ ap (λ a. a.updates) c.in_ok-action.ensures)) c.entered_after.ensures.list

@@ -11,12 +11,6 @@ use Rattle.lc_cond.specs.Conditions.{stable_variables, stable_goal}
 use Rattle.lc_cond.proofs.Adding.{formulas_later, formulas_joined, formulas_listed, formula_alone}
 use Rattle.lc_cond.proofs.stability.cross.Goals as goal
 
-pub told_behind-requires-clause-invariant : goal.told_behind-requires-clause-invariant
-told_behind-requires-clause-invariant c = c.requires.given.invariant.are
-
-pub told_behind-requires-clause-asserts : goal.told_behind-requires-clause-asserts
-told_behind-requires-clause-asserts c = c.requires.given.asserts
-
 pub returns-clause-crossing : goal.returns-clause-crossing
 returns-clause-crossing c =
     let a = action_of c.args.action.now in

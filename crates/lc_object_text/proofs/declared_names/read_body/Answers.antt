@@ -23,9 +23,9 @@ returns c =
     let found = c.find_arguments-replies in
     seen_as c.body.result _ _
     (same_body c.operation_name-operation.ensures
-    (c.in_ok-arguments.ensures ∙ ap (λ xs. xs ++ names_among (rest_of found.result.0)) c.new-2.ensures ∙ sym found.ensures.arguments ∙ ap (λ w. (call_named names calls w).arguments) c.first_text.ensures)
+    (sym found.ensures.arguments ∙ ap (λ w. (call_named names calls w).arguments) c.first_text.ensures)
     (sym found.ensures.replies ∙ ap (λ w. (call_named names calls w).replies) c.first_text.ensures)
-    (c.in_ok-locals.ensures ∙ ap (λ xs. xs ++ names_among (rest_of c.within_first-local_items.result)) c.new-3.ensures ∙ ap names_among (c.within_first-local_items.ensures.rest ∙ ap within_first behind))
+    (c.in_ok-locals.ensures ∙ ap (λ xs. xs ++ names_among (rest_of c.within_first-local_items.result)) c.new-2.ensures ∙ ap names_among (c.within_first-local_items.ensures.rest ∙ ap within_first behind))
     (c.in_ok-labels.ensures.names ∙ ap (λ xs. xs ++ map first_text (some_forms_in (codes "point") (rest_of c.behind_first.result))) c.new.ensures
     ∙ ap (λ us. map first_text (some_forms_in (codes "point") us)) (c.behind_first.ensures.rest ∙ ap later behind)))
     c.body.ensures

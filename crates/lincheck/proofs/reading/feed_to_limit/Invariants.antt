@@ -4,4 +4,4 @@ use Rattle.lincheck.proofs.reading.feed_to_limit.Given as goal
 
 abbrev pub invariant-loop-turn : goal.invariant-loop-turn
 invariant-loop-turn g l =
-    (length l.piece ≡ 4096) × IsFedSoFar g.S.Sink.WasFed l.fn.sink l.sink (g.R.Read.remaining l.fn.reader) (g.R.Read.remaining l.reader) l.left
+    (length l.piece ≡ 16384) × IsFedSoFar g.S.Sink.WasFed l.fn.sink l.sink (g.R.Read.remaining l.fn.reader) (g.R.Read.remaining l.reader) l.left

@@ -127,7 +127,7 @@ replaced_term-returns-in-Some-clause-id g t c =
 
 pub replaced_term-returns-clause-done : goal.replaced_term-returns-clause-done
 replaced_term-returns-clause-done g t c =
-    term_noted g.R.Filled.replacement c.args.self.now c.replaced_within.new.self c.args.put.now c.replaced_within.new.done c.note_part.new.self c.args.term c.args.depth _ c.requires.there c.in_ok-number.ensures.kept c.in_ok-number.ensures.done
+    term_noted g.R.Filled.replacement c.args.self.now c.replaced_part.new.self c.args.put.now c.replaced_part.new.done c.note_part.new.self c.args.term c.args.depth _ c.requires.there c.in_ok-number.ensures.kept c.in_ok-number.ensures.done
     c.in_ok-number.ensures.id c.in_ok-note_part.ensures.parts c.in_ok-note_part.ensures.formulas
 
 pub replaced_column-stores-init : goal.replaced_column-stores-init

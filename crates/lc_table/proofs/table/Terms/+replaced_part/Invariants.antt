@@ -1,4 +1,4 @@
-use Rattle.std.proofs.Common.{◌+◌, ◌*◌, vec_len}
+use Rattle.std.proofs.Common.{◌+◌, ◌*◌, ◌==◌, if◌then◌else◌, vec_len}
 use Rattle.lc_term.specs.Replacement.{under_many, replace_column}
 use Rattle.lc_table.specs.Filling.{Stands}
 use Rattle.lc_table.specs.NodeChains.{below_stores, AreStores}
@@ -11,14 +11,12 @@ decreases-replaced_column g l = 4 * l.column.0 + 1
 abbrev pub decreases-replaced_part : goal.decreases-replaced_part
 decreases-replaced_part g l = 4 * l.part
 
-abbrev pub decreases-replaced_deep : goal.decreases-replaced_deep
-decreases-replaced_deep g l = 4 * l.part + 1
+abbrev pub decreases-replace_below : goal.decreases-replace_below
+decreases-replace_below g l = 4 * l.term.0 + 1
 
-abbrev pub decreases-replaced_within : goal.decreases-replaced_within
-decreases-replaced_within g l = 4 * l.part + 2
-
+-- with no level left a term is taken once more
 abbrev pub decreases-replaced_term : goal.decreases-replaced_term
-decreases-replaced_term g l = 4 * l.term.0 + 3
+decreases-replaced_term g l = 4 * l.term.0 + (if l.levels == 0 then 3 else 2)
 
 abbrev pub decreases-replaced_store : goal.decreases-replaced_store
 decreases-replaced_store g l = 4 * l.store.0
@@ -30,8 +28,8 @@ invariant-replaced_column-stores g l =
     HasColumn l.self l.replaced (replace_column (under_many l.depth g.R.Filled.replacement) (below_stores (column_in l.fn.self l.fn.column) l.chain.stores.items))
 
 -- what is remembered stands in the table
-abbrev pub invariant-replaced_deep-loop-term : goal.invariant-replaced_deep-loop-term
-invariant-replaced_deep-loop-term g l = Keeps l.fn.self l.self × Stands g.R.Filled.replacement l.self l.put l.done
+abbrev pub invariant-replace_below-loop-term : goal.invariant-replace_below-loop-term
+invariant-replace_below-loop-term g l = Keeps l.fn.self l.self × Stands g.R.Filled.replacement l.self l.put l.done
 
 abbrev pub decreases-replaced_column-stores : goal.decreases-replaced_column-stores
 decreases-replaced_column-stores g l = vec_len l.chain.stores

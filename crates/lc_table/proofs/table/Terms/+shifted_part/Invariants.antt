@@ -1,4 +1,4 @@
-use Rattle.std.proofs.Common.{◌+◌, ◌*◌, vec_len}
+use Rattle.std.proofs.Common.{◌+◌, ◌*◌, ◌==◌, if◌then◌else◌, vec_len}
 use Rattle.lc_term.specs.Replacement.{replace_column}
 use Rattle.lc_term.specs.Substitution.{shifting}
 use Rattle.lc_table.specs.NodeChains.{below_stores, AreStores}
@@ -12,14 +12,12 @@ decreases-shifted_column l = 4 * l.column.0 + 1
 abbrev pub decreases-shifted_part : goal.decreases-shifted_part
 decreases-shifted_part l = 4 * l.part
 
-abbrev pub decreases-shifted_deep : goal.decreases-shifted_deep
-decreases-shifted_deep l = 4 * l.part + 1
+abbrev pub decreases-shift_below : goal.decreases-shift_below
+decreases-shift_below l = 4 * l.term.0 + 1
 
-abbrev pub decreases-shifted_within : goal.decreases-shifted_within
-decreases-shifted_within l = 4 * l.part + 2
-
+-- with no level left a term is taken once more
 abbrev pub decreases-shifted_term : goal.decreases-shifted_term
-decreases-shifted_term l = 4 * l.term.0 + 3
+decreases-shifted_term l = 4 * l.term.0 + (if l.levels == 0 then 3 else 2)
 
 abbrev pub decreases-shifted_store : goal.decreases-shifted_store
 decreases-shifted_store l = 4 * l.store.0
@@ -31,8 +29,8 @@ invariant-shifted_column-stores l =
     HasColumn l.self l.moved (replace_column (shifting l.added l.cutoff) (below_stores (column_in l.fn.self l.fn.column) l.chain.stores.items))
 
 -- what is done is moved
-abbrev pub invariant-shifted_deep-loop-term : goal.invariant-shifted_deep-loop-term
-invariant-shifted_deep-loop-term l = Keeps l.fn.self l.self × AreReplaced (shifting l.added l.cutoff) (parts l.self) l.done.entries
+abbrev pub invariant-shift_below-loop-term : goal.invariant-shift_below-loop-term
+invariant-shift_below-loop-term l = Keeps l.fn.self l.self × AreReplaced (shifting l.added l.cutoff) (parts l.self) l.done.entries
 
 abbrev pub decreases-shifted_column-stores : goal.decreases-shifted_column-stores
 decreases-shifted_column-stores l = vec_len l.chain.stores
