@@ -9,7 +9,7 @@ use Rattle.lc_base.specs.Limits.{file_limit}
 use Rattle.lc_sexp.proofs.Tokens.{and_parts, Letter-from}
 use Rattle.lc_sexp.specs.Text.{class_of, is_Letter, are_letters, begins_word, lexed, before, uncommented, is_misplaced}
 use Rattle.lc_sexp.specs.Progress.{told, told_tokens, fault_from, depth_behind}
-use Rattle.lc_sexp.specs.Runs.{AreOf, IsCount, AreSeen, IsRun}
+use Rattle.lc_sexp.specs.Runs.{AreOf, IsCount, AreSeen, IsRun, IsBeforeWhite}
 use Rattle.lc_sexp.specs.CutFiles.{ends_in_comment}
 use Rattle.lc_sexp.specs.declared.node.Node.{Node}
 use Rattle.lc_sexp.specs.declared.run.Run.{Run}
@@ -152,6 +152,7 @@ comment_open bytes n some le h =
         count = tt;
         letters = λ k. absurd (cc);
       };
+      outside = λ k. absurd (cc);
       uncomments = λ rest.
           ap (λ x. uncommented true (x ++ rest)) same
           ∙ blanked bytes rest going
@@ -174,6 +175,7 @@ comment_ended bytes n b d lt at e h =
         count = tt;
         letters = λ k. absurd (cc);
       };
+      outside = λ k. refl;
       uncomments = λ rest.
           ap (λ x. uncommented true (x ++ rest)) more
           ∙ ap (uncommented true) (append_assoc w (10 ∷ []) rest)
@@ -210,6 +212,7 @@ byte_alone bytes d k some other e =
       within = omega (arith, some);
       seen = b ∷ [];
       counts = record { of_class = (e, tt); size = sym (ap length same); count = alone_counts k; letters = λ k. sym same };
+      outside = λ k. refl;
       uncomments = λ rest. ap (λ x. uncommented false (x ++ rest)) same ∙ plain b rest other;
     }
 
@@ -242,6 +245,7 @@ letters_together bytes n le some h = record {
   within = le;
   seen = take n bytes;
   counts = record { of_class = of_letters (take n bytes) h; size = refl; count = tt; letters = λ k. refl };
+  outside = λ k. refl;
   uncomments = λ rest. letters_plain (take n bytes) rest h;
 }
 
@@ -291,6 +295,32 @@ fault_taken c c' bytes run offset offset' depth depth' h p le eo ed ec rest =
     ∙ ap (λ o. fault_from o (depth_behind depth run.class) text) at
     ∙ sym (fault_run run.class offset depth h.seen text h.counts.count p h.counts.of_class (omega (arith, le, n)))
     ∙ ap (fault_from offset depth) (sym (h.uncomments rest))
+
+-- a word and the white byte behind it, as bytes that count
+pub uncommented_word : (c : Bool) (bytes : List ℕ) (run : Run) → (h : IsRun c bytes run) → IsBeforeWhite run bytes
+    → (rest : List ℕ) → uncommented c (take (run.length + 1) bytes ++ rest) ≡ h.seen ++ (get_or bytes run.length 0 ∷ uncommented false rest)
+uncommented_word c bytes run h w rest =
+    let b : ℕ = get_or bytes run.length 0 in
+    ap (λ x. uncommented c (x ++ rest)) (take_more bytes run.length 0 w.within)
+    ∙ ap (uncommented c) (append_assoc (take run.length bytes) (b ∷ []) rest)
+    ∙ h.uncomments (b ∷ rest)
+    ∙ ap (λ d. h.seen ++ uncommented d (b ∷ rest)) (h.outside w.word)
+    ∙ ap (λ x. h.seen ++ x) (plain b rest (no_comment b White (sym w.white) refl))
+
+pub fault_word : (c c' : Bool) (bytes : List ℕ) (run : Run) (offset offset' depth depth' : ℕ) → IsRun c bytes run → IsBeforeWhite run bytes → offset + length bytes ≤ file_limit
+    → offset' ≡ offset + (run.length + 1) → depth' ≡ depth_behind depth run.class → c' ≡ false
+    → (rest : List ℕ) → fault_from offset' depth' (uncommented c' rest) ≡ fault_from offset depth (uncommented c (take (run.length + 1) bytes ++ rest))
+fault_word c c' bytes run offset offset' depth depth' h w le eo ed ec rest =
+    let n = seen_length c bytes run h in
+    let within = w.within in
+    let text : List ℕ = uncommented false rest in
+    let at : offset' ≡ (offset + length h.seen) + 1 = omega (arith, eo, n) in
+    ap (λ d. fault_from offset' depth' (uncommented d rest)) ec
+    ∙ ap (λ d. fault_from offset' d text) (ed ∙ ap (depth_behind depth) w.word)
+    ∙ ap (λ o. fault_from o depth text) at
+    ∙ sym (fault_run White (offset + length h.seen) depth (get_or bytes run.length 0 ∷ []) text tt refl (w.white, tt) (omega (arith, le, n, within)))
+    ∙ sym (fault_run Letter offset depth h.seen (get_or bytes run.length 0 ∷ text) tt refl (seen_of run.class Letter (take run.length bytes) h.seen w.word h.counts) (omega (arith, le, n, within)))
+    ∙ ap (fault_from offset depth) (sym (uncommented_word c bytes run h w rest))
 
 -- a run that is misplaced
 pub fault_refused : (c : Bool) (bytes : List ℕ) (run : Run) (offset depth : ℕ) → IsRun c bytes run → is_misplaced depth run.class ≡ true
@@ -365,14 +395,21 @@ told_apart false = refl
 same_shown : (c d : Bool) → shown c ≡ shown d → c ≡ d
 same_shown c d e = sym (told_apart c) ∙ ap (λ x. x == 32) e ∙ told_apart d
 
--- whether a comment goes on behind a run
-pub run_comment : (c : Bool) (bytes : List ℕ) (run : Run) → IsRun c bytes run → run.in_comment ≡ ends_in_comment c (take run.length bytes)
-run_comment c bytes run h =
-    let w : List ℕ = take run.length bytes in
-    same_shown run.in_comment (ends_in_comment c w)
-    (same_last h.seen (uncommented c w) (shown run.in_comment) (shown (ends_in_comment c w))
-    (ap (λ x. h.seen ++ x) (sym (shows run.in_comment)) ∙ sym (h.uncomments (97 ∷ [])) ∙ uncommented_behind c w (97 ∷ [])
+-- whether a comment goes on behind bytes
+comment_behind : (c d : Bool) (w seen : List ℕ) → ((rest : List ℕ) → uncommented c (w ++ rest) ≡ seen ++ uncommented d rest) → d ≡ ends_in_comment c w
+comment_behind c d w seen u =
+    same_shown d (ends_in_comment c w)
+    (same_last seen (uncommented c w) (shown d) (shown (ends_in_comment c w))
+    (ap (λ x. seen ++ x) (sym (shows d)) ∙ sym (u (97 ∷ [])) ∙ uncommented_behind c w (97 ∷ [])
     ∙ ap (λ x. uncommented c w ++ x) (shows (ends_in_comment c w))))
+
+pub run_comment : (c : Bool) (bytes : List ℕ) (run : Run) → IsRun c bytes run → run.in_comment ≡ ends_in_comment c (take run.length bytes)
+run_comment c bytes run h = comment_behind c run.in_comment (take run.length bytes) h.seen h.uncomments
+
+pub word_comment : (c : Bool) (bytes : List ℕ) (run : Run) → IsRun c bytes run → IsBeforeWhite run bytes → false ≡ ends_in_comment c (take (run.length + 1) bytes)
+word_comment c bytes run h w =
+    let b : ℕ = get_or bytes run.length 0 in
+    comment_behind c false (take (run.length + 1) bytes) (h.seen ++ (b ∷ [])) (λ rest. uncommented_word c bytes run h w rest ∙ sym (append_assoc h.seen (b ∷ []) (uncommented false rest)))
 
 -- a comment over a text and one behind it
 ends_behind : (s : List ℕ) (c : Bool) (t : List ℕ) → ends_in_comment (ends_in_comment c s) t ≡ ends_in_comment c (s ++ t)

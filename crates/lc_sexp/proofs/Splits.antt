@@ -168,11 +168,11 @@ count_step whole rest taken s m t en eh h =
     machine_step whole rest rest taken s m (λ x. t (rest x)) (λ r. ap (λ v. is_rooted v.items) en ∙ r) (λ e o. ap (λ v. v.items) eh ∙ o) h
 
 -- bytes of the file as the bytes that count
-pub run_step : (whole : List ℕ → List Token) (taken : List Part) (s : Splitter) (bytes seen : List ℕ) (c : Bool)
-    → ((x : List ℕ) → uncommented s.machine.in_comment (bytes ++ x) ≡ seen ++ uncommented c x) → Splits whole (uncommented s.machine.in_comment) taken s
-    → Splits (λ x. whole (bytes ++ x)) (λ x. seen ++ uncommented c x) taken s
-run_step whole taken s bytes seen c u h = record {
-  aside = at_rests whole (λ x. whole (bytes ++ x)) (λ x. told_by s.machine (uncommented s.machine.in_comment x)) (λ x. told_by s.machine (seen ++ uncommented c x)) _ s.in_list _ s.form s.item (λ x. bytes ++ x) (λ x. refl)
+pub run_step : (whole : List ℕ → List Token) (taken : List Part) (s : Splitter) (bytes : List ℕ) (rest : List ℕ → List ℕ)
+    → ((x : List ℕ) → uncommented s.machine.in_comment (bytes ++ x) ≡ rest x) → Splits whole (uncommented s.machine.in_comment) taken s
+    → Splits (λ x. whole (bytes ++ x)) rest taken s
+run_step whole taken s bytes rest u h = record {
+  aside = at_rests whole (λ x. whole (bytes ++ x)) (λ x. told_by s.machine (uncommented s.machine.in_comment x)) (λ x. told_by s.machine (rest x)) _ s.in_list _ s.form s.item (λ x. bytes ++ x) (λ x. refl)
       (λ x. ap (told_by s.machine) (sym (u x)))
       h.aside;
   rooted = h.rooted;

@@ -1,5 +1,5 @@
 -- Runs of bytes, which are read at once.
-use Rattle.std.specs.Prelude.{◌≡◌, ℕ, ◌≤◌, ◌<◌, Bool, List, [], ◌∷◌, ◌++◌, length, take}
+use Rattle.std.specs.Prelude.{◌≡◌, ℕ, ◌≤◌, ◌<◌, Bool, false, List, [], ◌∷◌, ◌++◌, length, get_or, take}
 use Rattle.lc_sexp.specs.Text.{class_of, uncommented}
 use Rattle.lc_sexp.specs.declared.class.Class.{Class}
 use Rattle.lc_sexp.specs.declared.class.Class.TheVariants.{White, Open, Close, Letter, Other}
@@ -31,4 +31,11 @@ pub record IsRun (in_comment : Bool) (bytes : List ℕ) (run : Run) : Type 0 whe
   pub within : run.length ≤ length bytes
   pub seen : List ℕ
   pub counts : AreSeen run.class (take run.length bytes) seen
+  pub outside : run.class ≡ Letter → run.in_comment ≡ false
   pub uncomments : (rest : List ℕ) → uncommented in_comment (take run.length bytes ++ rest) ≡ seen ++ uncommented run.in_comment rest
+
+-- The run is a word, and a white byte stands behind it.
+pub record IsBeforeWhite (run : Run) (bytes : List ℕ) : Type 0 where
+  pub word : run.class ≡ Letter
+  pub within : run.length < length bytes
+  pub white : class_of (get_or bytes run.length 0) ≡ White

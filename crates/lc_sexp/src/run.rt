@@ -1,7 +1,7 @@
 //! Runs of bytes that are read at once: comments, words and single bytes.
 ghost use Rattle.std.specs.Prelude.{◌≡◌, ◌<◌, ◌≤◌, length, take, true, false};
 ghost use Rattle.lc_sexp.specs.Text.{are_letters, begins_word};
-ghost use Rattle.lc_sexp.specs.Runs.{IsRun};
+ghost use Rattle.lc_sexp.specs.Runs.{IsRun, IsBeforeWhite};
 
 use crate::class::{Class, classify, is_letter};
 
@@ -36,6 +36,19 @@ pub(crate) fn first_run(bytes: &[u8], in_comment: bool) -> Run
         Class::Close => alone(Class::Close),
         Class::Other if bytes[0] == b';' => comment(bytes),
         Class::Other => alone(Class::Other),
+    }
+}
+
+/// Whether the run at the front of these bytes is a word with a white byte behind it, which is then taken in the same step.
+#[inline(always)]
+pub(crate) fn is_word_before_white(run: Run, bytes: &[u8]) -> bool
+    ensures { result ≡ true → IsBeforeWhite run bytes.now }
+{
+    match run.class {
+        Class::Letter if run.length < bytes.len() => {
+            matches!(classify(bytes[run.length]), Class::White)
+        }
+        _ => false,
     }
 }
 

@@ -19,7 +19,7 @@ use crate::filling::fill;
 use crate::forms::Forms;
 use crate::machine::Machine;
 use crate::part::Part;
-use crate::run::{Run, first_run};
+use crate::run::{Run, first_run, is_word_before_white};
 use crate::sexp::Sexp;
 use lc_base::{Fault, OutOfMemory, Refusal};
 use std::alloc::Global;
@@ -219,8 +219,8 @@ impl Splitter {
         Ok(true)
     }
 
-    /// Takes the run at the front of these bytes of the file, and answers how many they are. Where it is misplaced
-    /// nothing changes, and the offset is that of the first fault.
+    /// Takes the run at the front of these bytes of the file, a word with the white byte behind it if one stands there,
+    /// and answers how many they are. Where it is misplaced nothing changes, and the offset is that of the first fault.
     pub(crate) fn push_run(&mut self, bytes: &[u8]) -> Result<usize, OutOfMemory>
         requires some { 0 < length bytes.now }
         requires room { self.old.machine.offset + length bytes.now ≤ file_limit }
@@ -239,6 +239,11 @@ impl Splitter {
         let run = first_run(bytes, self.machine.in_comment());
         if !self.take_run(run, &bytes[..run.length])? {
             return Ok(0);
+        }
+        if is_word_before_white(run, bytes) {
+            self.machine.advance(1, false);
+            self.end_word()?;
+            return Ok(run.length + 1);
         }
         Ok(run.length)
     }
