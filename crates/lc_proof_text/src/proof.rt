@@ -11,7 +11,7 @@ ghost use Rattle.lc_proof_text.specs.Own.{IsBegun, begun_step, boxed_proof, bran
 ghost use Rattle.lc_proof_text.specs.Proofs.{sum_reading, proof_reading, proofs_reading, with_proofs};
 ghost use Rattle.lc_proof_text.specs.Steps.{multiple_reading, step_reading};
 
-use crate::head::{Due, Head, head_of};
+use crate::head::{Due, Head, head_of, is_sum};
 use crate::step::read_own;
 use lc_kernel::{Multiple, Proof, Step};
 use lc_reading::{
@@ -130,7 +130,13 @@ fn pushed_out(
 ) -> Result<Vec<Proof>, ReadFault>
     ensures { IsPushed proofs (unboxed proof) result }
 {
-    pushed(proofs, out_of_box(proof))
+    match (proofs, proof) {
+        (Ok(mut proofs), Ok(proof)) => {
+            proofs.push(Box::into_inner(proof))?;
+            Ok(proofs)
+        }
+        (proofs, proof) => pushed(proofs, out_of_box(proof)),
+    }
 }
 
 /// The proofs, with the flaw too that an item is misshapen. It stands apart, likewise.
@@ -158,7 +164,7 @@ fn read_boxed<S: Scope>(alloc: Global, scope: &S, part: &Part<'_>) -> Result<Box
         Item::List(list) => list,
     };
     let (word, mut parts) = headed(list)?;
-    if word == "sum" {
+    if is_sum(word) {
         return read_sum(alloc, parts);
     }
     match head_of(word) {
