@@ -5,7 +5,7 @@ use Rattle.lc_sexp.specs.Trees.{Tree, Trees, atom, list, none, ◌▸◌, item_c
 use Rattle.lc_sexp.specs.declared.cursor.Cursor.{Cursor}
 use Rattle.lc_reading.proofs.Places.{place_below}
 use Rattle.lc_reading.specs.Listed.{declared_by, names_among, place_of}
-use Rattle.lc_reading.specs.Parts.{IsNext, IsOne, IsBehindWord, tree_of}
+use Rattle.lc_reading.specs.Parts.{IsOne, tree_of}
 use Rattle.lc_reading.specs.Words.{is}
 use Rattle.lc_reading.specs.declared.part.Part.{Part}
 use Rattle.lc_proof_text.specs.FileNames.{names_behind}

@@ -1,6 +1,6 @@
 -- What is left behind a step's own parts.
-use Rattle.std.proofs.Common.{◌≡◌, ℕ, ◌+◌, ◌≤◌, zero, suc, refl, ap, arith}
-use Rattle.lc_sexp.specs.Trees.{Trees, none, ◌▸◌, item_count, item_count_of_all}
+use Rattle.std.proofs.Common.{◌≡◌, ℕ, ◌+◌, zero, suc, refl}
+use Rattle.lc_sexp.specs.Trees.{Trees, none, ◌▸◌, item_count}
 use Rattle.lc_sexp.specs.Shown.{rest_of, number_of}
 use Rattle.lc_sexp.specs.declared.cursor.Cursor.{Cursor}
 use Rattle.lc_text.specs.Names.{Names}

@@ -1,7 +1,7 @@
 -- What readers answer of the parts of a step that stand before its proofs.
 use Rattle.std.specs.Prelude.{◌≡◌, ℕ, ℤ, zero, suc, ◌+◌, List, map, Vec, Box, Result, Ok, Err}
 use Rattle.std.specs.declared.alloc.Global.{Global}
-use Rattle.lc_sexp.specs.Trees.{Trees, none, ◌▸◌, item_count}
+use Rattle.lc_sexp.specs.Trees.{Tree, Trees, none, ◌▸◌, item_count}
 use Rattle.lc_sexp.specs.Shown.{rest_of, number_of, owner_of}
 use Rattle.lc_sexp.specs.declared.cursor.Cursor.{Cursor}
 use Rattle.lc_sexp.specs.declared.misfit.Misfit.{Misfit}
@@ -11,10 +11,16 @@ use Rattle.lc_kernel.specs.View.{multiple_of, step_of, proof_of, proofs_of}
 use Rattle.lc_kernel.specs.declared.proof.Multiple.{Multiple}
 use Rattle.lc_kernel.specs.declared.proof.Proof.{Proof, out-Proof}
 use Rattle.lc_kernel.specs.declared.proof.Step.{Step}
-use Rattle.lc_reading.specs.Readings.{Reading, wrong}
+use Rattle.lc_reading.specs.Parts.{IsBehind}
+use Rattle.lc_reading.specs.Readings.{Reading, fine, wrong}
 use Rattle.lc_reading.specs.Results.{IsReading}
 use Rattle.lc_reading.specs.declared.flaw.ReadFault.{ReadFault}
+use Rattle.lc_text.specs.Terms.{number_reading}
 use Rattle.lc_reading.specs.declared.pass.Pass.TheVariants.{Shape}
+
+-- the list begins with this number, and this is left behind it
+abbrev pub BeginsWith : Cursor → ℤ → Cursor → Type 0
+BeginsWith l z rest = (t : Tree) × (number_reading (number_of l) t ≡ fine z) × IsBehind l t rest
 
 -- this is left behind so many parts
 abbrev pub IsLeft : ℕ → ℕ → Trees → Cursor → Type 0

@@ -1,5 +1,6 @@
 //! The first words of the steps of proofs.
-ghost use Rattle.std.specs.Prelude.{◌≡◌};
+ghost use Rattle.std.specs.Prelude.{◌≡◌, codes};
+ghost use Rattle.lc_reading.specs.Words.{is};
 ghost use Rattle.lc_proof_text.specs.Heads.{head_of, proofs_due};
 
 /// What the first word of a step says, where it is any but `sum`.
@@ -59,43 +60,32 @@ impl Due {
     }
 }
 
-/// What this word says. It is compared only with those of its length.
+/// Whether this word begins a sum.
+pub(crate) fn is_sum(word: &str) -> bool
+    ensures { result ≡ is word.now (codes "sum") }
+{
+    matches!(word.as_bytes(), b"sum")
+}
+
+/// What this word says. Its bytes are told apart one by one: to compare words by calls of the library costs more.
 #[inline(never)]
 pub(crate) fn head_of(word: &str) -> Option<Head>
     ensures { result ≡ head_of word.now }
 {
-    match word.len() {
-        3 => match word {
-            "cut" => Some(Head::Cut),
-            _ => None,
-        },
-        4 => match word {
-            "push" => Some(Head::Push),
-            "inst" => Some(Head::Instantiate),
-            "same" => Some(Head::Same),
-            "open" => Some(Head::Open),
-            _ => None,
-        },
-        5 => match word {
-            "trich" => Some(Head::Trichotomy),
-            "split" => Some(Head::Split),
-            "cases" => Some(Head::Cases),
-            "fresh" => Some(Head::Fresh),
-            _ => None,
-        },
-        6 => match word {
-            "affine" => Some(Head::Affine),
-            "divide" => Some(Head::Divide),
-            _ => None,
-        },
-        7 => match word {
-            "written" => Some(Head::Written),
-            _ => None,
-        },
-        8 => match word {
-            "opposite" => Some(Head::Opposite),
-            _ => None,
-        },
+    match word.as_bytes() {
+        b"cut" => Some(Head::Cut),
+        b"push" => Some(Head::Push),
+        b"inst" => Some(Head::Instantiate),
+        b"same" => Some(Head::Same),
+        b"open" => Some(Head::Open),
+        b"trich" => Some(Head::Trichotomy),
+        b"split" => Some(Head::Split),
+        b"cases" => Some(Head::Cases),
+        b"fresh" => Some(Head::Fresh),
+        b"affine" => Some(Head::Affine),
+        b"divide" => Some(Head::Divide),
+        b"written" => Some(Head::Written),
+        b"opposite" => Some(Head::Opposite),
         _ => None,
     }
 }

@@ -7,6 +7,7 @@ mod formula;
 mod head;
 pub mod laws;
 mod names;
+mod numbers;
 mod printing;
 mod proof;
 pub mod read_back;

@@ -7,18 +7,19 @@ ghost use Rattle.lc_reading.specs.Parts.{tree_of, place_of};
 ghost use Rattle.lc_reading.specs.Readings.{Reading, both};
 ghost use Rattle.lc_reading.specs.Results.{IsReading, IsPushed, misshapen_too};
 ghost use Rattle.lc_proof_text.specs.Heads.{own_parts};
-ghost use Rattle.lc_proof_text.specs.Own.{IsBegun, begun_step, boxed_proof, branches_of, unboxed};
+ghost use Rattle.lc_proof_text.specs.Own.{IsBegun, begun_step, boxed_proof, branches_of, multiples_of, unboxed};
 ghost use Rattle.lc_proof_text.specs.Proofs.{sum_reading, proof_reading, proofs_reading, with_proofs};
-ghost use Rattle.lc_proof_text.specs.Steps.{multiple_reading, step_reading};
+ghost use Rattle.lc_proof_text.specs.Steps.{multiple_reading, multiples_reading, step_reading};
 
-use crate::head::{Due, Head, head_of};
+use crate::head::{Due, Head, head_of, is_sum};
+use crate::numbers::only_numbers;
 use crate::step::read_own;
 use lc_kernel::{Multiple, Proof, Step};
 use lc_reading::{
     Part, Pass, ReadFault, Reads, both, headed, misshapen_too, next_part, pushed, read_each, wrong,
 };
 use lc_sexp::{Cursor, Item, Misfit};
-use lc_text::{Scope, read_numbers};
+use lc_text::Scope;
 use std::alloc::Global;
 
 /// `(h k)`
@@ -29,7 +30,7 @@ fn read_multiple(part: Part<'_>) -> Result<Multiple, ReadFault>
         Item::Atom(atom) => return Err(wrong(Pass::Shape, atom.number())),
         Item::List(list) => list,
     };
-    let (hypothesis, multiplier) = read_numbers(list)?;
+    let (hypothesis, multiplier) = only_numbers(list)?;
     Ok(Multiple {
         hypothesis,
         multiplier,
@@ -57,12 +58,27 @@ impl Reads for Multiples {
     }
 }
 
+/// The multiples that the items read as that are left in a list. Where one is wrong, all are read anew, to tell what is wrong.
+fn read_multiples(alloc: Global, list: Cursor<'_>) -> Result<Vec<Multiple>, ReadFault>
+    ensures { IsReading multiples_of (multiples_reading (number_of list.entry) (rest_of list.entry)) result }
+{
+    let mut multiples = Vec::with_capacity(alloc, list.len())?;
+    let mut rest = list;
+    'multiples: while let Ok(part) = next_part(&mut rest) {
+        let Ok(multiple) = read_multiple(part) else {
+            return read_each(alloc, &Multiples, list);
+        };
+        multiples.push(multiple)?;
+    }
+    Ok(multiples)
+}
+
 /// `(sum (h k) ..)`
 #[inline(never)]
 fn read_sum(alloc: Global, list: Cursor<'_>) -> Result<Box<Proof>, ReadFault>
     ensures { IsReading boxed_proof (sum_reading (number_of list.entry) (rest_of list.entry)) result }
 {
-    let multiples = read_each(alloc, &Multiples, list)?;
+    let multiples = read_multiples(alloc, list)?;
     let proof = Proof {
         step: Step::Sum { multiples },
         branches: Vec::new(alloc),
@@ -130,7 +146,13 @@ fn pushed_out(
 ) -> Result<Vec<Proof>, ReadFault>
     ensures { IsPushed proofs (unboxed proof) result }
 {
-    pushed(proofs, out_of_box(proof))
+    match (proofs, proof) {
+        (Ok(mut proofs), Ok(proof)) => {
+            proofs.push(Box::into_inner(proof))?;
+            Ok(proofs)
+        }
+        (proofs, proof) => pushed(proofs, out_of_box(proof)),
+    }
 }
 
 /// The proofs, with the flaw too that an item is misshapen. It stands apart, likewise.
@@ -158,7 +180,7 @@ fn read_boxed<S: Scope>(alloc: Global, scope: &S, part: &Part<'_>) -> Result<Box
         Item::List(list) => list,
     };
     let (word, mut parts) = headed(list)?;
-    if word == "sum" {
+    if is_sum(word) {
         return read_sum(alloc, parts);
     }
     match head_of(word) {

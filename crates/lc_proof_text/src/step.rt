@@ -1,13 +1,16 @@
 //! The parts of a step that stand before its proofs. Parts too many are told where the proofs are read.
+ghost use Rattle.std.specs.Prelude.{◌≡◌};
 ghost use Rattle.lc_sexp.specs.Shown.{rest_of, number_of, owner_of};
+ghost use Rattle.lc_kernel.specs.View.{step_of};
 ghost use Rattle.lc_reading.specs.Parts.{tree_of, place_of};
 ghost use Rattle.lc_reading.specs.Results.{IsReading};
 ghost use Rattle.lc_text.specs.Seen.{numbers_of, terms_of, access_parts};
 ghost use Rattle.lc_proof_text.specs.Heads.{own_parts};
 ghost use Rattle.lc_proof_text.specs.Own.{IsOwn};
-ghost use Rattle.lc_proof_text.specs.Steps.{two_numbers, two_terms, cell_reading, hypothesis_reading, instantiate_reading, cut_reading, written_reading, same_reading, affine_reading, divide_reading, opposite_reading, step_reading};
+ghost use Rattle.lc_proof_text.specs.Steps.{hypothesis_step, two_numbers, two_terms, cell_reading, hypothesis_reading, instantiate_reading, cut_reading, written_reading, same_reading, affine_reading, divide_reading, opposite_reading, step_reading};
 
 use crate::head::Head;
+use crate::numbers::{first_number, first_numbers};
 use lc_kernel::Step;
 use lc_reading::{Part, ReadFault, both, next_part, one, two};
 use lc_sexp::{Cursor, Misfit};
@@ -18,17 +21,29 @@ use std::alloc::Global;
 /// The step that so many parts of a list read as, or what is wrong in them, and what is left behind them.
 type Own<'a> = (Result<Step, ReadFault>, Cursor<'a>);
 
+/// The step that begins so and has a hypothesis alone.
+fn step_of_hypothesis(head: Head, hypothesis: i64) -> Step
+    ensures { step_of result ≡ hypothesis_step head hypothesis }
+{
+    match head {
+        Head::Split => Step::Split { hypothesis },
+        Head::Cases => Step::Cases { hypothesis },
+        Head::Push => Step::Push { hypothesis },
+        Head::Fresh => Step::Fresh { hypothesis },
+        _ => Step::Trichotomy { hypothesis },
+    }
+}
+
 fn read_hypothesis<'a>(head: Head, list: Cursor<'a>) -> Result<Own<'a>, Misfit>
     ensures { IsOwn (hypothesis_reading head (owner_of list.entry) (number_of list.entry) (rest_of list.entry)) 1 list.entry result }
 {
+    if let Some((hypothesis, rest)) = first_number(list) {
+        return Ok((Ok(step_of_hypothesis(head, hypothesis)), rest));
+    }
     let (part, rest) = one(list)?;
-    let step = match (read_number(part), head) {
-        (Err(fault), _) => Err(fault),
-        (Ok(hypothesis), Head::Split) => Ok(Step::Split { hypothesis }),
-        (Ok(hypothesis), Head::Cases) => Ok(Step::Cases { hypothesis }),
-        (Ok(hypothesis), Head::Push) => Ok(Step::Push { hypothesis }),
-        (Ok(hypothesis), Head::Fresh) => Ok(Step::Fresh { hypothesis }),
-        (Ok(hypothesis), _) => Ok(Step::Trichotomy { hypothesis }),
+    let step = match read_number(part) {
+        Ok(hypothesis) => Ok(step_of_hypothesis(head, hypothesis)),
+        Err(fault) => Err(fault),
     };
     Ok((step, rest))
 }
@@ -181,6 +196,13 @@ fn read_division<'a, S: Scope>(
 fn read_opposite<'a>(list: Cursor<'a>) -> Result<Own<'a>, Misfit>
     ensures { IsOwn (opposite_reading (owner_of list.entry) (number_of list.entry) (rest_of list.entry)) 2 list.entry result }
 {
+    if let Some((hypothesis, negation, rest)) = first_numbers(list) {
+        let step = Step::Opposite {
+            hypothesis,
+            negation,
+        };
+        return Ok((Ok(step), rest));
+    }
     let (first, second, rest) = two(list)?;
     let step = match both(read_number(first), read_number(second)) {
         Ok((hypothesis, negation)) => Ok(Step::Opposite {

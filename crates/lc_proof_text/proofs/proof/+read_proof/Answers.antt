@@ -80,7 +80,7 @@ read_branches-proofs-preserved g t c =
 pub read_boxed-returns-in-Some : goal.read_boxed-returns-in-Some
 read_boxed-returns-in-Some g t c =
     let names = g.S.Scope.names c.args.scope.now in
-    let other = sym c.eq.ensures ∙ c.if-eq.false in
+    let other = sym c.is_sum.ensures ∙ c.if-is_sum.false in
     headed_at boxed_proof (proof_reading names) (with_proofs names c.in-Some.head) _ _ c.in-List.list c.in_ok-word.parts c.in_ok-word.word.now _
     c.in-List.ensures.tree c.in-List.ensures.number c.in-List.ensures.placed c.in_ok-word.ensures (λ n ts. rw (other, sym c.in-Some.ensures) refl) c.read_step.ensures
 
