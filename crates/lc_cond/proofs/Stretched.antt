@@ -57,6 +57,9 @@ stretch_has count each place conjunct size more some least is below far =
 
 -- ---- what comes of a stretch
 
+pub nothing_asked : {A : Type 0} (s : Stretch) (xs : List A) → s.from ≡ s.to → stretch_of s xs ≡ []
+nothing_asked s xs none = (let zero : s.to - s.from ≡ 0 = omega (arith, none) in ap (λ n. take n (drop s.from xs)) zero)
+
 -- what comes of some, and of others behind them
 places_both : {A B : Type 0} (f : ℕ → A → List B) (k : ℕ) (xs ys : List A) → concat_places f k (xs ++ ys) ≡ concat_places f k xs ++ concat_places f (k + length xs) ys
 places_both f k [] ys = ap (λ n. concat_places f n ys) (sym (add-zero k))

@@ -1,7 +1,10 @@
 //! What the conditions of an edge share.
-ghost use Rattle.std.specs.Prelude.{◌≡◌, ◌++◌, true, IfOk};
-ghost use Rattle.lc_table.specs.Tables.{Keeps};
-ghost use Rattle.lc_object.specs.EdgeView.{edge_of};
+ghost use Rattle.std.specs.Prelude.{◌≡◌, ◌++◌, List, true, IfOk};
+ghost use Rattle.lc_term.specs.Syntax as S;
+ghost use Rattle.lc_term.specs.Syntax.{Not};
+ghost use Rattle.lc_term.specs.View.{formula_of};
+ghost use Rattle.lc_table.specs.Tables.{HasFormula, Keeps};
+ghost use Rattle.lc_object.specs.EdgeView.{facts_of, edge_of};
 ghost use Rattle.lc_object.specs.View.{operation_of};
 ghost use Rattle.lc_object.specs.WellFormed.{has_limits};
 ghost use Rattle.lc_action.specs.ActionView.{first_of};
@@ -19,10 +22,11 @@ use crate::lookup::{asserts_to, on_at, system_columns, variable_count};
 use crate::matching::{Acting, entered_on};
 use lc_action::SystemColumns;
 use lc_base::{OpId, OutOfMemory};
-use lc_object::{Edge, Operation};
+use lc_object::{Edge, Facts, Operation};
 use lc_outline::{Development, On};
 use lc_rider::edge_variables;
 use lc_table::{FormulaId, TermId, Terms};
+use lc_term::Formula;
 use std::alloc::Global;
 
 /// What the conditions of an edge share, in a table that has its formulas.
@@ -94,6 +98,37 @@ fn entered_reply(
     Ok(Some(terms.enter_formula(alloc, &formula)?))
 }
 
+// That a condition does not hold, entered.
+fn entered_not(
+    alloc: Global,
+    terms: &mut Terms,
+    condition: &Formula,
+) -> Result<FormulaId, OutOfMemory>
+    ensures id { IfOk result (λ k. HasFormula terms.new k (Not (formula_of condition.now))) }
+    ensures kept { Keeps terms.old terms.new }
+{
+    let entered = terms.enter_formula(alloc, condition)?;
+    terms.not(entered)
+}
+
+// Formulas that are entered, and behind them what holds where an edge is gone.
+fn with_facts(
+    alloc: Global,
+    terms: &mut Terms,
+    mut known: Vec<FormulaId>,
+    facts: &Facts,
+) -> Result<Vec<FormulaId>, OutOfMemory>
+    ensures list { IfOk result (λ ks. (fs : List S.Formula) → HasFormulas terms.old known.items fs → HasFormulas terms.new ks.items (fs ++ facts_of facts.now)) }
+    ensures kept { Keeps terms.old terms.new }
+{
+    match facts {
+        Facts::Each(formulas) => return entered_behind(alloc, terms, &known, formulas),
+        Facts::Holds(condition) => known.push(terms.enter_formula(alloc, condition)?)?,
+        Facts::Fails(condition) => known.push(entered_not(alloc, terms, condition)?)?,
+    }
+    Ok(known)
+}
+
 // What is known before the edge of an operation's code, entered.
 #[tactic(auto, using(lc_table::proofs::Later::kept_on))]
 fn edge_hypotheses(
@@ -120,7 +155,7 @@ fn edge_hypotheses(
         code.point,
     )?;
     let before = in_range(alloc, terms, &known)?;
-    entered_behind(alloc, terms, &before, &code.facts)
+    with_facts(alloc, terms, before, &code.facts)
 }
 
 // What is to hold behind the edge, entered: the invariant, and what holds where the edge leads to.

@@ -438,6 +438,9 @@ pub(crate) fn push_stable(
     ensures kept { Keeps terms.old terms.new }
 {
     let Stretch { from, to } = asserted.asked;
+    if from == to {
+        return Ok(());
+    }
     let crossings = entered_crossings(alloc, terms, development, variables, frame, asserted)?;
     push_conjuncts(point, from, to - from, &crossings, conditions)
 }

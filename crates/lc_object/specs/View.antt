@@ -1,5 +1,6 @@
 -- What the values of the code stand for.
 use Rattle.std.specs.Prelude.{ℕ, List, map}
+use Rattle.std.specs.Arc.{arc_value}
 use Rattle.lc_base.specs.Name.{bytes_of}
 use Rattle.lc_base.specs.declared.name.Name.{Name}
 use Rattle.lc_base.specs.declared.ids.ColId.{ColId}
@@ -34,7 +35,7 @@ instruction_of (Store a t vs l) = S.Store a.0 (term_of t) (terms_of vs.items) l.
 instruction_of (Cas a t old new l m) = S.Cas a.0 (term_of t) (terms_of old.items) (terms_of new.items) l.0 m.0
 instruction_of (Set rs vs l) = S.Set (locals_of rs.items) (terms_of vs.items) l.0
 instruction_of (Faa a t rs ds l) = S.Faa a.0 (term_of t) (locals_of rs.items) (terms_of ds.items) l.0
-instruction_of (If f l m) = S.If (formula_of f) l.0 m.0
+instruction_of (If f l m) = S.If (formula_of (arc_value f)) l.0 m.0
 instruction_of (Return vs) = S.Return (terms_of vs.items)
 
 abbrev pub column_shown : Column → S.Column

@@ -1,9 +1,10 @@
 //! The edges of an object's code: what holds where an edge is gone, what it does, and where it leads.
+ghost use Rattle.std.specs.Arc.{arc_value};
 ghost use Rattle.std.specs.Prelude.{◌≡◌, ◌++◌, ◌∷◌, [], map, option_map, IfOk, OnOk};
 ghost use Rattle.lc_term.specs.Syntax.{Read, Base};
 ghost use Rattle.lc_term.specs.View.{term_of, formula_of, formulas_of};
 ghost use Rattle.lc_object.specs.Edges.{array_columns, reads, row_updates, row_sums, row_facts, edges_at, edges};
-ghost use Rattle.lc_object.specs.EdgeView.{update_of, edge_of};
+ghost use Rattle.lc_object.specs.EdgeView.{update_of, facts_of, edge_of};
 ghost use Rattle.lc_object.specs.Objects.{object_shown};
 ghost use Rattle.lc_object.specs.Syntax as S;
 ghost use Rattle.lc_object.specs.View.{columns_of, locals_of, terms_of, instruction_of};
@@ -13,6 +14,18 @@ use crate::object::Object;
 use lc_base::{ColId, OutOfMemory, PointId};
 use lc_term::{ColExpr, Formula, Term, Update};
 use std::alloc::Global;
+use std::sync::Arc;
+
+/// What holds where an edge is gone.
+#[derive(Drop)]
+pub enum Facts {
+    /// Each of these.
+    Each(Vec<Formula>),
+    /// The condition of a test, in the memory in which the object has it.
+    Holds(Arc<Formula>),
+    /// That the condition of a test does not hold, likewise.
+    Fails(Arc<Formula>),
+}
 
 /// An edge of the instruction at a point: what holds where it is gone, what it does, and what comes next.
 #[derive(Drop)]
@@ -20,7 +33,7 @@ pub struct Edge {
     /// The point that is left.
     pub point: PointId,
     pub kind: EdgeKind,
-    pub facts: Vec<Formula>,
+    pub facts: Facts,
     /// The locals that are written at once, and the values of each.
     pub targets: Vec<LocalId>,
     pub values: Vec<Term>,
@@ -147,7 +160,7 @@ fn plain(alloc: Global, point: PointId, kind: EdgeKind, next: Option<PointId>) -
     Edge {
         point,
         kind,
-        facts: Vec::new(alloc),
+        facts: Facts::Each(Vec::new(alloc)),
         targets: Vec::new(alloc),
         values: Vec::new(alloc),
         updates: Vec::new(alloc),
@@ -191,6 +204,15 @@ fn store_edge(
     Ok(edge)
 }
 
+// This holds.
+fn one_fact(alloc: Global, formula: Formula) -> Result<Facts, OutOfMemory>
+    ensures { IfOk result (λ facts. facts_of facts ≡ formula_of formula ∷ []) }
+{
+    let mut formulas = Vec::with_capacity(alloc, 1)?;
+    formulas.push(formula)?;
+    Ok(Facts::Each(formulas))
+}
+
 // Of a compare-and-swap: the row is the old one and becomes the new one, or it is another one.
 fn cas_edges(
     alloc: Global,
@@ -207,11 +229,11 @@ fn cas_edges(
 {
     let columns = row_columns(object, array);
     let mut then = plain(alloc, point, EdgeKind::Then, Some(equal));
-    then.facts = row_facts(alloc, columns, index, old)?;
+    then.facts = Facts::Each(row_facts(alloc, columns, index, old)?);
     then.updates = row_updates(alloc, columns, index, new)?;
     let mut otherwise = plain(alloc, point, EdgeKind::Else, Some(different));
     let same = Formula::And(row_facts(alloc, columns, index, old)?);
-    otherwise.facts.push(Formula::Not(Box::new(alloc, same)?))?;
+    otherwise.facts = one_fact(alloc, Formula::Not(Box::new(alloc, same)?))?;
     Ok((then, otherwise))
 }
 
@@ -259,17 +281,16 @@ fn if_edges(
     alloc: Global,
     object: &Object,
     point: PointId,
-    condition: &Formula,
+    condition: &Arc<Formula>,
     holds: PointId,
     fails: PointId,
 ) -> Result<(Edge, Edge), OutOfMemory>
-    ensures { IfOk result (λ both. edge_of both.0 ∷ edge_of both.1 ∷ [] ≡ edges_at (object_shown object.now) point.0 (S.If (formula_of condition.now) holds.0 fails.0)) }
+    ensures { IfOk result (λ both. edge_of both.0 ∷ edge_of both.1 ∷ [] ≡ edges_at (object_shown object.now) point.0 (S.If (formula_of (arc_value condition.now)) holds.0 fails.0)) }
 {
     let mut then = plain(alloc, point, EdgeKind::Then, Some(holds));
-    then.facts.push(condition.try_clone(alloc)?)?;
+    then.facts = Facts::Holds(condition.clone()?);
     let mut otherwise = plain(alloc, point, EdgeKind::Else, Some(fails));
-    let not = Formula::Not(Box::new(alloc, condition.try_clone(alloc)?)?);
-    otherwise.facts.push(not)?;
+    otherwise.facts = Facts::Fails(condition.clone()?);
     Ok((then, otherwise))
 }
 

@@ -1,6 +1,7 @@
 //! The type of instructions.
 use lc_base::PointId;
 use lc_term::{Formula, Term};
+use std::sync::Arc;
 
 /// An array, by its place in the object, from 0.
 #[derive(Clone, Copy)]
@@ -63,9 +64,9 @@ pub enum Instr {
         added: Vec<Term>,
         next: PointId,
     },
-    /// A test of the locals.
+    /// A test of the locals. Its edges have the condition in the same memory.
     If {
-        condition: Formula,
+        condition: Arc<Formula>,
         holds: PointId,
         fails: PointId,
     },

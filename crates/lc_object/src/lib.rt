@@ -7,7 +7,7 @@ mod object;
 mod parts;
 mod testing;
 
-pub use edge_table::{Edge, edges};
+pub use edge_table::{Edge, Facts, edges};
 pub use instr::{ArrayId, EdgeKind, Instr, LocalId};
 pub use object::Object;
 pub use parts::{Array, Column, Operation, Parts, Point};

@@ -1,20 +1,21 @@
 -- Instructions and operations at their parts.
 use Rattle.std.proofs.Common.{◌≡◌, ℕ, ◌+◌, Ok, refl, sym, ap, ◌∙◌, subst}
-use Rattle.std.specs.Prelude.{Option, Result, slice_get}
+use Rattle.std.specs.Prelude.{Option, Result, [], slice_get}
 use Rattle.lc_sexp.specs.Trees.{Tree, Trees, ◌▸◌, item_count}
 use Rattle.lc_sexp.specs.Shown.{rest_of, number_of, owner_of}
 use Rattle.lc_sexp.specs.declared.cursor.Cursor.{Cursor}
 use Rattle.lc_text.specs.Names.{Names}
+use Rattle.lc_text.specs.Formulas.{formula_reading}
 use Rattle.lc_object.specs.View.{instruction_of}
 use Rattle.lc_object.specs.declared.instr.Instr.{Instr}
 use Rattle.lc_reading.specs.declared.flaw.ReadFault.{ReadFault}
 use Rattle.lc_reading.specs.declared.part.Part.{Part}
-use Rattle.lc_reading.specs.Parts.{IsNext, IsTwo, tree_of, place_of}
+use Rattle.lc_reading.specs.Parts.{IsNext, IsTwo, IsThree, tree_of, place_of}
 use Rattle.lc_reading.specs.Readings.{both}
 use Rattle.lc_reading.specs.Results.{IsReading}
 use Rattle.lc_object_text.specs.Cells.{row_width, label_reading, assignments_reading}
 use Rattle.lc_object_text.specs.CodeNames.{CodeNames}
-use Rattle.lc_object_text.specs.Instructions.{place_reading, exchange_reading, cas_of, cas_reading, set_of, set_reading, adding_reading, faa_of, faa_reading}
+use Rattle.lc_object_text.specs.Instructions.{place_reading, exchange_reading, cas_of, cas_reading, set_of, set_reading, adding_reading, faa_of, faa_reading, labels_reading, if_of, if_reading}
 use Rattle.lc_object_text.specs.ObjectNames.{Declared, call_or}
 use Rattle.lc_object_text.specs.Objects.{signature_of, call_reading, operation_name_reading, signature_parts}
 use Rattle.lc_object_text.specs.Own.{IsLeft}
@@ -97,6 +98,22 @@ pub set_read : (names : Names) (code : CodeNames) (l rest : Cursor) (cells label
 set_read names code l rest cells label result (same, first, second, number) h = (
   subst (λ r. IsReading instruction_of r result) (sym (set_from names code (owner_of l) (number_of l) (place_of cells) (place_of label) (tree_of cells) (tree_of label) (rest_of rest) (rest_of l) same first second)) h,
   left_two (number_of l) (tree_of cells) (tree_of label) (rest_of l) rest same number,
+)
+
+left_three : (m : ℕ) (a b d : Tree) (us : Trees) (rest : Cursor) → us ≡ a ▸ b ▸ d ▸ rest_of rest → number_of rest ≡ m + item_count a + item_count b + item_count d → IsLeft 3 m us rest
+left_three m a b d us rest same number = subst (λ vs. IsLeft 3 m vs rest) (sym same) (number, refl)
+
+if_from : (names : Names) (code : CodeNames) (n m i j k : ℕ) (t u v : Tree) (ts us : Trees) → us ≡ t ▸ u ▸ v ▸ ts → i ≡ m → j ≡ m + item_count t → k ≡ m + item_count t + item_count u
+    → if_reading names code n m us ≡ both if_of (formula_reading names [] i t) (labels_reading code j u k v)
+if_from names code n m i j k t u v ts us same first second third = rw (same, first, second, third) refl
+
+-- the three parts of `if`, and what is left behind them
+pub if_read : (names : Names) (code : CodeNames) (l rest : Cursor) (condition then otherwise : Part) (result : Result Instr ReadFault) → IsThree l (Ok (condition, then, otherwise, rest))
+    → IsReading instruction_of (both if_of (formula_reading names [] (place_of condition) (tree_of condition)) (labels_reading code (place_of then) (tree_of then) (place_of otherwise) (tree_of otherwise))) result
+    → IsReading instruction_of (if_reading names code (owner_of l) (number_of l) (rest_of l)) result × IsLeft 3 (number_of l) (rest_of l) rest
+if_read names code l rest condition then otherwise result (same, first, second, third, number) h = (
+  subst (λ r. IsReading instruction_of r result) (sym (if_from names code (owner_of l) (number_of l) (place_of condition) (place_of then) (place_of otherwise) (tree_of condition) (tree_of then) (tree_of otherwise) (rest_of rest) (rest_of l) same first second third)) h,
+  left_three (number_of l) (tree_of condition) (tree_of then) (tree_of otherwise) (rest_of l) rest same number,
 )
 
 signature_from : (declared : Declared) (k n o m i j p : ℕ) (t u v : Tree) (ts us : Trees) → us ≡ t ▸ u ▸ v ▸ ts → o ≡ n → i ≡ m → j ≡ m + item_count t → p ≡ m + item_count t + item_count u

@@ -2,12 +2,13 @@
 ghost use Rattle.std.specs.Prelude.{◌≡◌, ℕ, List, map, IfOk};
 ghost use Rattle.lc_sexp.specs.Shown.{rest_of, number_of, owner_of};
 ghost use Rattle.lc_term.specs.Syntax as T;
+ghost use Rattle.lc_term.specs.View.{formula_of};
 ghost use Rattle.lc_object.specs.View.{instruction_of, locals_of, terms_of};
 ghost use Rattle.lc_reading.specs.Parts.{tree_of, place_of};
 ghost use Rattle.lc_reading.specs.Readings.{Reading, both};
 ghost use Rattle.lc_reading.specs.Results.{IsReading};
 ghost use Rattle.lc_object_text.specs.Heads.{own_parts};
-ghost use Rattle.lc_object_text.specs.Instructions.{place_reading, labels_reading, moved_reading, stored_reading, rows_reading, exchange_reading, cas_of, set_of, load_reading, store_reading, cas_reading, set_reading, adding_reading, faa_of, faa_reading, if_reading, own_reading, headed_reading, return_reading, instruction_reading};
+ghost use Rattle.lc_object_text.specs.Instructions.{place_reading, labels_reading, moved_reading, stored_reading, rows_reading, exchange_reading, cas_of, set_of, load_reading, store_reading, cas_reading, set_reading, adding_reading, faa_of, faa_reading, if_of, if_reading, own_reading, headed_reading, return_reading, instruction_reading};
 ghost use Rattle.lc_object_text.specs.Own.{IsOwn, place_seen, labels_seen, moved_seen, stored_seen, rows_seen, exchange_seen, adding_seen, assignments_seen};
 
 use crate::cells::{
@@ -22,9 +23,10 @@ use lc_reading::{
     Part, Pass, ReadFault, both, ended, headed, next_part, read_each, three, two, wrong,
 };
 use lc_sexp::{Cursor, Item, Misfit};
-use lc_term::Term;
+use lc_term::{Formula, Term};
 use lc_text::{Scope, Terms, read_formula, read_term};
 use std::alloc::Global;
+use std::sync::Arc;
 
 /// An array and a cell in it.
 fn read_place<S: Scope + CodeScope>(
@@ -324,6 +326,23 @@ fn read_faa<'a, S: Scope + CodeScope>(
     Ok((made_faa(place, adding), rest))
 }
 
+/// The instruction `if` of its parts.
+fn made_if(
+    alloc: Global,
+    condition: Result<Formula, ReadFault>,
+    labels: Result<(PointId, PointId), ReadFault>,
+) -> Result<Instr, ReadFault>
+    ensures { (f : Reading T.Formula) (l : Reading (ℕ × ℕ)) → IsReading formula_of f condition → IsReading labels_seen l labels → IsReading instruction_of (both if_of f l) result }
+{
+    let (condition, (holds, fails)) = both(condition, labels)?;
+    let condition = Arc::new(alloc, condition)?;
+    Ok(Instr::If {
+        condition,
+        holds,
+        fails,
+    })
+}
+
 /// `F L M`
 fn read_if<'a, S: Scope + CodeScope>(
     alloc: Global,
@@ -335,15 +354,7 @@ fn read_if<'a, S: Scope + CodeScope>(
     let (first, second, third, rest) = three(list)?;
     let condition = read_formula(alloc, scope, first);
     let labels = read_labels(scope, second, third);
-    let instruction = match both(condition, labels) {
-        Ok((condition, (holds, fails))) => Ok(Instr::If {
-            condition,
-            holds,
-            fails,
-        }),
-        Err(fault) => Err(fault),
-    };
-    Ok((instruction, rest))
+    Ok((made_if(alloc, condition, labels), rest))
 }
 
 /// The instruction that begins so, and what is left behind its parts.

@@ -1,7 +1,7 @@
-use Rattle.std.proofs.Common.{◌++◌, ap, ap₂, sym, subst}
+use Rattle.std.proofs.Common.{◌++◌, ap, sym, subst}
 use Rattle.std.proofs.lemmas.Result.{IfOk-weaker}
 use Rattle.lc_term.specs.Syntax.{Variable}
-use Rattle.lc_term.specs.View.{formulas_of}
+use Rattle.lc_object.specs.EdgeView.{facts_of}
 use Rattle.lc_object.specs.View.{operation_of}
 use Rattle.lc_action.specs.ActionView.{first_of}
 use Rattle.lc_outline.specs.Development.{invariant_of, asserts_at}
@@ -9,7 +9,6 @@ use Rattle.lc_outline.specs.DevelopmentView.{development_shown}
 use Rattle.std.specs.Prelude.{length}
 use Rattle.lc_cond.specs.Adding.{HasFormulas}
 use Rattle.lc_cond.specs.Conditions.{range, body_frame}
-use Rattle.lc_cond.proofs.Adding.{formulas_listed}
 use Rattle.lc_cond.proofs.scene.edge_hypotheses.Goals as goal
 
 pub returns-clause-list : goal.returns-clause-list
@@ -18,7 +17,7 @@ returns-clause-list c =
     let n = length (operation_of c.args.body.now).arguments in
     let known = body_frame (first_of c.args.system) c.args.operation.0 n ++ (invariant_of d ++ asserts_at d c.args.code.now.point.0) in
     let has = c.in_ok-before.ensures.list known (subst (λ l. HasFormulas c.known_in_body.new.terms l known) (sym c.deref.ensures.value) c.in_ok-known.ensures.list) in
-    IfOk-weaker c.entered_behind.result _ _
-    (λ ks h. subst (HasFormulas c.entered_behind.new.terms ks.items)
-    (ap₂ (λ first facts. (range (Variable 1) ++ (body_frame first c.args.operation.0 n ++ (invariant_of d ++ asserts_at d c.args.code.now.point.0))) ++ facts) c.requires (ap formulas_of c.deref-3.ensures.value))
-    (h (range (Variable 1) ++ known) (formulas_listed c.in_range.new.terms c.in_ok-before.before.items c.deref-2.result.now _ has c.deref-2.ensures.value))) c.entered_behind.ensures.list
+    IfOk-weaker c.with_facts.result _ _
+    (λ ks h. subst (HasFormulas c.with_facts.new.terms ks.items)
+    (ap (λ first. (range (Variable 1) ++ (body_frame first c.args.operation.0 n ++ (invariant_of d ++ asserts_at d c.args.code.now.point.0))) ++ facts_of c.args.code.now.facts) c.requires)
+    (h (range (Variable 1) ++ known) has)) c.with_facts.ensures.list

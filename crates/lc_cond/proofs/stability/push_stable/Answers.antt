@@ -9,11 +9,13 @@ use Rattle.lc_outline.specs.Development.{all_actions, invariant_of}
 use Rattle.lc_outline.specs.DevelopmentView.{development_shown}
 use Rattle.lc_outline.proofs.Resolving.{resolved}
 use Rattle.lc_cond.specs.Crossings.{AreCrossings, HaveGoals}
-use Rattle.lc_cond.specs.Stretches.{IsWithin, stretch_of}
-use Rattle.lc_cond.proofs.Adding.{formulas_are}
+use Rattle.lc_cond.specs.Stretches.{IsWithin, stretch_of, stable_from}
+use Rattle.std.specs.Prelude.{option_map}
+use Rattle.lc_cond.specs.Adding.{Adds}
+use Rattle.lc_cond.proofs.Adding.{formulas_are, adds_nothing}
 use Rattle.lc_cond.proofs.Crossed.{crossings_length, have_goals}
 use Rattle.lc_cond.proofs.Sized.{actions_length}
-use Rattle.lc_cond.proofs.Stretched.{stretch_length}
+use Rattle.lc_cond.proofs.Stretched.{nothing_asked, stretch_length}
 use Rattle.lc_cond.proofs.stability.push_stable.Goals as goal
 
 pub push_conjuncts-requires-clause-goals : goal.push_conjuncts-requires-clause-goals
@@ -66,3 +68,13 @@ returns-clause-list c =
     (λ made hs has. made now D c.args.variables (hs ++ (invariant_of D ++ fs)) (stretch_of s fs) (all_actions D)
     (subst (λ l. AreCrossings now D c.args.variables (hs ++ (invariant_of D ++ fs)) (stretch_of s fs) (all_actions D) l) (sym c.deref.ensures.value) (c.in_ok-crossings.ensures.crossings hs has))
     (stretch_length fs s within)) c.push_conjuncts.ensures
+
+-- nothing is asked
+pub returns-then-from-to-clause-list : goal.returns-then-from-to-clause-list
+returns-then-from-to-clause-list c =
+    let D = development_shown c.args.development.now in
+    let s = c.args.asserted.asked in
+    let fs = formulas_of c.args.asserted.conjuncts.now in
+    λ hs has. subst (λ xs. Adds c.args.conditions.now.items c.args.terms.now c.args.conditions.now.items
+    (stable_from D (option_map (λ p. p.0) c.args.point) c.args.variables (hs ++ (invariant_of D ++ fs)) s.from xs))
+    (sym (nothing_asked s fs c.if-from-to.true)) (adds_nothing c.args.conditions.now.items c.args.terms.now)
