@@ -73,15 +73,16 @@ impl Walk {
         ensures { IfOk result (IsAdvanced (development_shown development.now) self.old self.new) }
     {
         'parts: while self.place >= self.part.len() {
-            // Each part has a table of its own, so that what its proofs made is let go with it. A part enters all its formulas,
-            // whether or not they are in the table already, so the time stays in proportion to what the conditions say.
-            let mut terms = Terms::new(alloc);
-            let Some(part) = self.stream.next_part(development, &mut terms)? else {
+            // Each part has a table of its own, so that what its proofs made is let go with it, before the next is made. A part
+            // enters all its formulas, whether or not they are in the table already, so the time stays in proportion to what the
+            // conditions say.
+            self.terms = Terms::new(alloc);
+            self.part = Vec::new(alloc);
+            self.place = 0;
+            let Some(part) = self.stream.next_part(development, &mut self.terms)? else {
                 return Ok(false);
             };
-            self.terms = terms;
             self.part = part;
-            self.place = 0;
         }
         Ok(true)
     }
