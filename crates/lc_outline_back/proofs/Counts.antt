@@ -12,7 +12,8 @@ use Rattle.lc_object_text.specs.Sections.{Sections, parts_in, parts_of_fit, form
 use Rattle.lc_outline_text.specs.Declarations.{Declarations, parameter_count, ways_in, known_of, or_nothing, form_at}
 use Rattle.lc_naming.specs.EdgeWords.{edge_word}
 use Rattle.lc_outline_text.specs.Needs.{goes_next, branches_off}
-use Rattle.lc_outline_text.specs.Sizes.{Totals, columns_stored, columns_acted, all_ways, path_conditions, edge_conditions, on_of, assert_count, ons_of, count_at, asked_behind, columns_written, kind_conditions, point_conditions, body_conditions, bodies_conditions, totals_of, condition_count}
+use Rattle.lc_outline.specs.Sizes.{way_count}
+use Rattle.lc_outline_text.specs.Sizes.{Totals, columns_stored, columns_acted, all_ways, edge_conditions, on_of, assert_count, ons_of, count_at, asked_behind, columns_written, kind_conditions, point_conditions, body_conditions, bodies_conditions, totals_of, condition_count}
 use Rattle.lc_outline_back.proofs.Actions.{SameAction}
 use Rattle.lc_outline_back.proofs.Kin.{Pairwise, AreBehind}
 use Rattle.lc_outline_back.proofs.Points.{SamePoint, SameBody}
@@ -141,7 +142,7 @@ module _ (d : Declarations) (xs ys : List Trees) (same : PairsOf SameAction xs y
 
   edge_same : (o : ℕ) (on : Option Trees) (asked : ℕ) (columns : List ℕ) → edge_conditions d₁ o on asked columns ≡ edge_conditions d₂ o on asked columns
   edge_same o None asked columns = refl
-  edge_same o (Some ts) asked columns = ap (λ stored. path_conditions (Some stored) (all_ways d₁ o (later ts)) asked columns) (acted_same (first_text (within_first ts)))
+  edge_same o (Some ts) asked columns = ap (λ stored. way_count (Some stored) (all_ways d₁ o (later ts)) asked columns) (acted_same (first_text (within_first ts)))
 
   abbrev kind_by : Declarations → Totals → ℕ → Body → List ℕ → Trees → List Trees → EdgeKind → ℕ
   kind_by e n o b asserts code ons kind =

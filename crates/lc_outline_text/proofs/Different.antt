@@ -4,7 +4,7 @@ use Rattle.std.proofs.lemmas.Bool.Decides.{nat_tests}
 use Rattle.std.proofs.lemmas.List.Folds.{list_any-append}
 use mathlib.Core.Path.{fun_ext}
 use Rattle.lc_term.specs.Lists.{Every}
-use Rattle.lc_outline_text.specs.Sizes.{different}
+use Rattle.lc_outline.specs.Sizes.{different}
 use Rattle.lc_outline_text.specs.Paths.{stands}
 
 -- 1 where something is not so, and where it is

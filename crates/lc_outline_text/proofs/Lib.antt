@@ -32,5 +32,4 @@ mod StoredThere
 mod SumsCounted
 mod UpdatesCounted
 mod Walks
-mod WaysCounted
 pub mod WholeCounted

@@ -28,7 +28,6 @@ use Rattle.lc_outline_text.specs.Sizes.{mark_ways, choice_named, choice_ways}
 use Rattle.lc_outline_text.proofs.BranchesCounted.{AreBranchesOf, AreWaysSaid, IsOperationOf}
 use Rattle.lc_outline_text.proofs.RowsCounted.{Alike}
 use Rattle.lc_outline_text.proofs.UpdatesCounted.{stored_by, marked_columns}
-use Rattle.lc_outline_text.proofs.WaysCounted.{way_of}
 
 -- ---- lists
 
@@ -59,7 +58,7 @@ operation_at all (f ∷ fs) (q ∷ qs) (suc k) h g few =
 
 -- ---- the branches in order
 
-marked : (all : List (List ℕ)) (k : Marking) (ts : Trees) (bs : List Branch) → AreBranchesOf all ts bs → map (C.mark_way (length all) k) bs ≡ map way_of (mark_ways (stored_by all k) (C.asked_of k) ts)
+marked : (all : List (List ℕ)) (k : Marking) (ts : Trees) (bs : List Branch) → AreBranchesOf all ts bs → map (C.mark_way (length all) k) bs ≡ mark_ways (stored_by all k) (C.asked_of k) ts
 marked all k none [] h = refl
 marked all k none (b ∷ bs) h = absurd h
 marked all k (t ▸ ts) [] h = absurd h
@@ -112,18 +111,18 @@ module _ (d : Declarations) (D : Development) (first : first_system D ≡ length
   at o few = operation_at d.declared.columns d.operations D.specification.operations o go said (omega (arith, few, same))
 
   pub in_order_said : (k : Marking) (o : ℕ) → o < length d.declared.operations → (by : Chosen Term) → IsInOrder (slice_get (known_of d).ways o) by
-      → map (C.mark_way (first_system D) k) (chosen by (op_branches D.specification.operations o)) ≡ map way_of (mark_ways (stored_by d.declared.columns k) (C.asked_of k) (branches_in (form_at d.operations (Some o))))
+      → map (C.mark_way (first_system D) k) (chosen by (op_branches D.specification.operations o)) ≡ mark_ways (stored_by d.declared.columns k) (C.asked_of k) (branches_in (form_at d.operations (Some o)))
   in_order_said k o few by h =
       let x = at o few in
       let bs = op_branches D.specification.operations o in
       let known : slice_get (known_of d).ways o ≡ Some (ways_in x.form) = mapped_there ways_in d.operations o x.form x.there in
       let (unnamed, left) = all_left (ways_in x.form) bs (goes_so (branches_in x.form) bs x.ways) by (subst (λ w. IsInOrder w by) known h) in
       ap₂ (λ n xs. map (C.mark_way n k) xs) first left ∙ marked d.declared.columns k (branches_in x.form) bs (x.said.branches (none_first (branches_in x.form) bs x.ways unnamed))
-      ∙ ap (λ f. map way_of (mark_ways (stored_by d.declared.columns k) (C.asked_of k) (branches_in (or_nothing f)))) (sym x.there)
+      ∙ ap (λ f. mark_ways (stored_by d.declared.columns k) (C.asked_of k) (branches_in (or_nothing f))) (sym x.there)
 
   pub by_name_said : (k : Marking) (o : ℕ) → o < length d.declared.operations → (name : List ℕ) (terms : List Term) → is_choosing (slice_get (known_of d).ways o) (ByName name terms) ≡ true
       → map (C.mark_way (first_system D) k) (chosen (ByName name terms) (op_branches D.specification.operations o))
-      ≡ map way_of (choice_ways (stored_by d.declared.columns k) (C.asked_of k) (choice_named (form_at d.operations (Some o)) name))
+      ≡ choice_ways (stored_by d.declared.columns k) (C.asked_of k) (choice_named (form_at d.operations (Some o)) name)
   by_name_said k o few name terms h =
       let x = at o few in
       let known : slice_get (known_of d).ways o ≡ Some (ways_in x.form) = mapped_there ways_in d.operations o x.form x.there in

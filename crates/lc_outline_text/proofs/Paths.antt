@@ -5,7 +5,7 @@ use Rattle.std.proofs.Math.Nat.{mul_comm}
 use Rattle.std.proofs.lemmas.Nat.{mod-mul-add, div-mul-add}
 use Rattle.std.proofs.lemmas.List.{take_more, take_all}
 use Rattle.std.proofs.lemmas.List.Sums.{sum_by-cons, sum_by_push}
-use Rattle.lc_outline_text.specs.Sizes.{Way, no_way, path_conditions}
+use Rattle.lc_outline.specs.Sizes.{Way, no_way, way_count}
 use Rattle.lc_outline_text.specs.Paths.{stands, way_kept, ways_kept, path_number, path_at, common_way, branching}
 use Rattle.lc_outline_text.proofs.Different.{same_different, stands_swapped, joined_alike}
 
@@ -13,7 +13,7 @@ use Rattle.lc_outline_text.proofs.Different.{same_different, stands_swapped, joi
 
 -- the conditions of paths that go on by a way
 abbrev by_way : List ℕ → List (List Way) → ℕ → List ℕ → Way → ℕ
-by_way action riders asked columns way = path_conditions (Some action) riders (asked + way.asked) (columns ++ way.columns)
+by_way action riders asked columns way = way_count (Some action) riders (asked + way.asked) (columns ++ way.columns)
 
 -- a list behind both, and the actions' behind it
 behind_both : (xs ys action acted us vs : List ℕ) → stands (xs ++ action) ≡ stands (ys ++ acted) → stands us ≡ stands vs → stands ((xs ++ us) ++ action) ≡ stands ((ys ++ vs) ++ acted)
@@ -25,7 +25,7 @@ behind_both xs ys action acted us vs h g =
 -- paths that go on past these riders, if as much is asked and is stored in the same columns
 abbrev GoAlike : List ℕ → List ℕ → List (List Way) → List (List Way) → Type 0
 GoAlike action acted rs qs =
-    (asked more : ℕ) (xs ys : List ℕ) → asked ≡ more → stands (xs ++ action) ≡ stands (ys ++ acted) → path_conditions (Some action) rs asked xs ≡ path_conditions (Some acted) qs more ys
+    (asked more : ℕ) (xs ys : List ℕ) → asked ≡ more → stands (xs ++ action) ≡ stands (ys ++ acted) → way_count (Some action) rs asked xs ≡ way_count (Some acted) qs more ys
 
 each_alike : (action acted : List ℕ) (rs qs : List (List Way)) → GoAlike action acted rs qs → (asked more : ℕ) (xs ys : List ℕ) → asked ≡ more → stands (xs ++ action) ≡ stands (ys ++ acted)
     → (ws vs : List Way) → ways_kept ws ≡ ways_kept vs → sum_by (by_way action rs asked xs) ws ≡ sum_by (by_way acted qs more ys) vs
@@ -41,7 +41,7 @@ each_alike action acted rs qs go asked more xs ys f h (w ∷ ws) (v ∷ vs) g =
 
 -- riders whose ways ask as much and store in the same columns
 pub same_paths : (action acted : List ℕ) (rs qs : List (List Way)) → map ways_kept rs ≡ map ways_kept qs → GoAlike action acted rs qs
-same_paths action acted [] [] e asked more xs ys f h = ap₂ (λ n m. n + (1 + m)) f (same_different (xs ++ action) (ys ++ acted) h)
+same_paths action acted [] [] e asked more xs ys f h = ap₂ (λ n m. n + suc m) f (same_different (xs ++ action) (ys ++ acted) h)
 same_paths action acted [] (vs ∷ qs) e asked more xs ys f h = absurd (cc)
 same_paths action acted (ws ∷ rs) [] e asked more xs ys f h = absurd (cc)
 same_paths action acted (ws ∷ rs) (vs ∷ qs) e asked more xs ys f h = each_alike action acted rs qs (same_paths action acted rs qs (cc)) asked more xs ys f h ws vs (cc)
@@ -56,7 +56,7 @@ one_of f w = let e = sum_by-cons f w [] in omega (arith, e)
 
 -- what is common to all paths may be done before a way
 each_apart : (action : List ℕ) (rs : List (List Way))
-    → ((asked : ℕ) (xs : List ℕ) → path_conditions (Some action) rs asked xs ≡ path_conditions (Some action) (branching rs) (asked + (common_way rs).asked) (xs ++ (common_way rs).columns))
+    → ((asked : ℕ) (xs : List ℕ) → way_count (Some action) rs asked xs ≡ way_count (Some action) (branching rs) (asked + (common_way rs).asked) (xs ++ (common_way rs).columns))
     → (asked : ℕ) (xs : List ℕ) (ws : List Way) → sum_by (by_way action rs asked xs) ws ≡ sum_by (by_way action (branching rs) (asked + (0 + (common_way rs).asked)) (xs ++ (common_way rs).columns)) ws
 each_apart action rs apart asked xs [] = refl
 each_apart action rs apart asked xs (w ∷ ws) =
@@ -65,7 +65,7 @@ each_apart action rs apart asked xs (w ∷ ws) =
       common : Way
       common = common_way rs
 
-      one : path_conditions (Some action) (branching rs) ((asked + w.asked) + common.asked) ((xs ++ w.columns) ++ common.columns) ≡ by_way action (branching rs) (asked + (0 + common.asked)) (xs ++ common.columns) w
+      one : way_count (Some action) (branching rs) ((asked + w.asked) + common.asked) ((xs ++ w.columns) ++ common.columns) ≡ by_way action (branching rs) (asked + (0 + common.asked)) (xs ++ common.columns) w
       one =
           same_paths action action (branching rs) (branching rs) refl ((asked + w.asked) + common.asked) ((asked + (0 + common.asked)) + w.asked) ((xs ++ w.columns) ++ common.columns) ((xs ++ common.columns) ++ w.columns) (omega arith)
           (ap (λ cs. stands (cs ++ action)) (append_assoc xs w.columns common.columns)
@@ -73,12 +73,12 @@ each_apart action rs apart asked xs (w ∷ ws) =
           (joined_alike xs xs (w.columns ++ common.columns) (common.columns ++ w.columns) refl (stands_swapped w.columns common.columns)) refl
           ∙ ap (λ cs. stands (cs ++ action)) (sym (append_assoc xs common.columns w.columns)))
 
-pub set_apart : (action : List ℕ) (rs : List (List Way)) (asked : ℕ) (xs : List ℕ) → path_conditions (Some action) rs asked xs
-    ≡ path_conditions (Some action) (branching rs) (asked + (common_way rs).asked) (xs ++ (common_way rs).columns)
-set_apart action [] asked xs = ap₂ (λ n cs. path_conditions (Some action) [] n cs) (omega arith) (sym (append-nil xs))
+pub set_apart : (action : List ℕ) (rs : List (List Way)) (asked : ℕ) (xs : List ℕ) → way_count (Some action) rs asked xs
+    ≡ way_count (Some action) (branching rs) (asked + (common_way rs).asked) (xs ++ (common_way rs).columns)
+set_apart action [] asked xs = ap₂ (λ n cs. way_count (Some action) [] n cs) (omega arith) (sym (append-nil xs))
 set_apart action ((w ∷ []) ∷ rs) asked xs =
     one_of (by_way action rs asked xs) w ∙ set_apart action rs (asked + w.asked) (xs ++ w.columns)
-    ∙ ap₂ (path_conditions (Some action) (branching rs)) (same_number asked w.asked (common_way rs).asked) (append_assoc xs w.columns (common_way rs).columns)
+    ∙ ap₂ (way_count (Some action) (branching rs)) (same_number asked w.asked (common_way rs).asked) (append_assoc xs w.columns (common_way rs).columns)
 set_apart action ([] ∷ rs) asked xs = refl
 set_apart action ((v ∷ w ∷ ws) ∷ rs) asked xs = each_apart action rs (set_apart action rs) asked xs (v ∷ w ∷ ws)
 
@@ -97,7 +97,7 @@ sum_below f (suc n) = sum_below f n + f n
 
 -- the conditions of one path
 abbrev pub on_path : List ℕ → List (List Way) → ℕ → List ℕ → ℕ → ℕ
-on_path action riders asked columns n = path_conditions (Some action) [] (asked + (path_at riders n).asked) (columns ++ (path_at riders n).columns)
+on_path action riders asked columns n = way_count (Some action) [] (asked + (path_at riders n).asked) (columns ++ (path_at riders n).columns)
 
 below_alike : (f g : ℕ → ℕ) (n : ℕ) → ((k : ℕ) → f k ≡ g k) → sum_below f n ≡ sum_below g n
 below_alike f g zero h = refl
@@ -175,9 +175,9 @@ path_more : (action : List ℕ) (ws : List Way) (rs : List (List Way)) (asked : 
 path_more action ws rs asked xs n =
     let w = get_or ws (n % length ws) no_way in
     let q = path_at rs (n / length ws) in
-    ap₂ (path_conditions (Some action) []) (same_number asked w.asked q.asked) (append_assoc xs w.columns q.columns)
+    ap₂ (way_count (Some action) []) (same_number asked w.asked q.asked) (append_assoc xs w.columns q.columns)
 
-each_path : (action : List ℕ) (rs : List (List Way)) → ((asked : ℕ) (xs : List ℕ) → path_conditions (Some action) rs asked xs ≡ sum_below (on_path action rs asked xs) (path_number rs))
+each_path : (action : List ℕ) (rs : List (List Way)) → ((asked : ℕ) (xs : List ℕ) → way_count (Some action) rs asked xs ≡ sum_below (on_path action rs asked xs) (path_number rs))
     → (asked : ℕ) (xs : List ℕ) (ws : List Way) → sum_by (by_way action rs asked xs) ws ≡ sum_by (λ w. sum_below (on_path action rs (asked + w.asked) (xs ++ w.columns)) (path_number rs)) ws
 each_path action rs each asked xs [] = refl
 each_path action rs each asked xs (w ∷ ws) =
@@ -185,10 +185,10 @@ each_path action rs each asked xs (w ∷ ws) =
     sum_by-cons (by_way action rs asked xs) w ws ∙ ap₂ (λ n m. n + m) (each (asked + w.asked) (xs ++ w.columns)) (each_path action rs each asked xs ws) ∙ sym (sum_by-cons f w ws)
 
 -- the conditions of all paths are those of each
-pub path_by_path : (action : List ℕ) (rs : List (List Way)) (asked : ℕ) (xs : List ℕ) → path_conditions (Some action) rs asked xs ≡ sum_below (on_path action rs asked xs) (path_number rs)
+pub path_by_path : (action : List ℕ) (rs : List (List Way)) (asked : ℕ) (xs : List ℕ) → way_count (Some action) rs asked xs ≡ sum_below (on_path action rs asked xs) (path_number rs)
 path_by_path action [] asked xs =
     let e : asked + 0 ≡ asked = omega arith in
-    let one : on_path action [] asked xs 0 ≡ path_conditions (Some action) [] asked xs = ap₂ (path_conditions (Some action) []) e (append-nil xs) in
+    let one : on_path action [] asked xs 0 ≡ way_count (Some action) [] asked xs = ap₂ (way_count (Some action) []) e (append-nil xs) in
     omega (arith, one)
 path_by_path action (ws ∷ rs) asked xs =
     each_path action rs (path_by_path action rs) asked xs ws
@@ -203,7 +203,7 @@ some_below f (suc n) h =
     let rest = some_below f n h in
     omega (arith, one, rest)
 
-pub as_many_paths : (action : List ℕ) (rs : List (List Way)) (asked : ℕ) (xs : List ℕ) → path_number rs ≤ path_conditions (Some action) rs asked xs
+pub as_many_paths : (action : List ℕ) (rs : List (List Way)) (asked : ℕ) (xs : List ℕ) → path_number rs ≤ way_count (Some action) rs asked xs
 as_many_paths action rs asked xs = subst (λ n. path_number rs ≤ n) (sym (path_by_path action rs asked xs)) (some_below (on_path action rs asked xs) (path_number rs) (λ k. omega arith))
 
 -- those of the first paths are among them

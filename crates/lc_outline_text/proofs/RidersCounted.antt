@@ -1,6 +1,5 @@
 -- What is done at an edge is passed in the ways that its text says.
 use Rattle.std.proofs.Common.{◌≡◌, ℕ, ◌+◌, Bool, true, false, cond, List, [], ◌∷◌, ◌++◌, map, Option, Some, None, refl, sym, ap, ap₂, ◌∙◌, subst, ◌<◌, arith}
-use Rattle.std.proofs.lemmas.List.{map-append}
 use Rattle.std.specs.Prelude.{codes, option_map, slice_get, nat_le, nat_lt, length, ◌&&◌}
 use Rattle.lc_base.specs.NameText.{is_name}
 use Rattle.lc_base.specs.Limits.{rider_limit}
@@ -49,16 +48,15 @@ use Rattle.lc_outline_text.specs.Sizes as Z
 use Rattle.lc_outline_text.specs.Sizes.{column_named, columns_settled, columns_noted, mark_ways, choice_named, choice_ways, on_of}
 use Rattle.lc_outline_text.proofs.RowsCounted.{Alike, IsForm}
 use Rattle.lc_outline_text.proofs.UpdatesCounted.{IsColumn, stored_by, update_by_test, update_said}
-use Rattle.lc_outline_text.proofs.WaysCounted.{way_of, ways_same}
 
 -- the branches and the actions of a development store in the columns that the declarations name
 pub record Agrees (d : Declarations) (D : Development) : Type 0 where
   pub own : (o : ℕ) → o < length d.declared.operations → own_ways d o ≡ slice_get (known_of d).ways o
   pub in_order : (k : Marking) (o : ℕ) → o < length d.declared.operations → (by : Chosen Term) → IsInOrder (slice_get (known_of d).ways o) by →
-      map (C.mark_way (first_system D) k) (chosen by (op_branches D.specification.operations o)) ≡ map way_of (mark_ways (stored_by d.declared.columns k) (C.asked_of k) (branches_in (form_at d.operations (Some o))))
+      map (C.mark_way (first_system D) k) (chosen by (op_branches D.specification.operations o)) ≡ mark_ways (stored_by d.declared.columns k) (C.asked_of k) (branches_in (form_at d.operations (Some o)))
   pub by_name : (k : Marking) (o : ℕ) → o < length d.declared.operations → (name : List ℕ) (terms : List Term) → is_choosing (slice_get (known_of d).ways o) (ByName name terms) ≡ true →
       map (C.mark_way (first_system D) k) (chosen (ByName name terms) (op_branches D.specification.operations o))
-      ≡ map way_of (choice_ways (stored_by d.declared.columns k) (C.asked_of k) (choice_named (form_at d.operations (Some o)) name))
+      ≡ choice_ways (stored_by d.declared.columns k) (C.asked_of k) (choice_named (form_at d.operations (Some o)) name)
   pub acted : (w : List ℕ) (a : ℕ) → place_of (map first_text d.actions) w ≡ Some a → option_map (λ (x : Action). columns_of x.updates) (slice_get D.actions a) ≡ Some (Z.columns_acted d w)
 
 -- ---- names
@@ -111,11 +109,11 @@ other_said known names m t l u =
 -- ---- deeds
 
 -- what is done has the ways of this text
-abbrev HasWays : Declarations → ℕ → List Z.Way → Deed → Type 0
-HasWays d o ways x = (D : Development) → Agrees d D → o < length d.declared.operations → C.deed_ways D o x ≡ map way_of ways
+abbrev HasWays : Declarations → ℕ → List C.Way → Deed → Type 0
+HasWays d o ways x = (D : Development) → Agrees d D → o < length d.declared.operations → C.deed_ways D o x ≡ ways
 
-abbrev HasRiderWays : Declarations → ℕ → List Z.Way → Rider → Type 0
-HasRiderWays d o ways r = (D : Development) → Agrees d D → o < length d.declared.operations → C.rider_ways D o r ≡ map way_of ways
+abbrev HasRiderWays : Declarations → ℕ → List C.Way → Rider → Type 0
+HasRiderWays d o ways r = (D : Development) → Agrees d D → o < length d.declared.operations → C.rider_ways D o r ≡ ways
 
 module _ (d : Declarations) (o : ℕ) where
   -- the text of the operation itself, and of the one that is named
@@ -131,13 +129,13 @@ module _ (d : Declarations) (o : ℕ) where
   abbrev noted : Trees → List ℕ
   noted = columns_noted d.declared.columns
 
-  abbrev set_ways : Trees → List Z.Way
+  abbrev set_ways : Trees → List C.Way
   set_ways ts = record { asked = 0; columns = column_named d.declared.columns (first_text ts) } ∷ []
 
-  abbrev other_ways : Trees → List Z.Way
+  abbrev other_ways : Trees → List C.Way
   other_ways ts = mark_ways settled 3 (branches_in (other ts))
 
-  abbrev other_by_ways : Trees → List Z.Way
+  abbrev other_by_ways : Trees → List C.Way
   other_by_ways ts = choice_ways settled 3 (choice_named (other ts) (first_text (later (later ts))))
 
   -- a column may be stored in that is auxiliary
@@ -181,7 +179,7 @@ module _ (d : Declarations) (o : ℕ) where
       ended_holds P (m + item_count t + item_count u) ts _
       (both_holds (IsOtherAt (known_of d) u) (IsInOrder ways) P mark_of_other (other_reading (known_of d) names m t (m + item_count t) u) (in_order_reading ways n)
       (other_said (known_of d) names m t (m + item_count t) u) (in_order_known ways n)
-      (λ p by h g D a few. a.in_order (Other p.0 p.1) p.1 h.1.0 by (subst (λ ways. IsInOrder ways by) h.1.1 g) ∙ ap (λ q. map way_of (mark_ways settled 3 (branches_in (form_at d.operations q)))) (sym h.0)))
+      (λ p by h g D a few. a.in_order (Other p.0 p.1) p.1 h.1.0 by (subst (λ ways. IsInOrder ways by) h.1.1 g) ∙ ap (λ q. mark_ways settled 3 (branches_in (form_at d.operations q))) (sym h.0)))
 
   others_by_said : (names : Names) (n m : ℕ) (ts : Trees) → Holds (HasWays d o (other_by_ways ts)) (lin_other_by_reading (known_of d) names n m ts)
   others_by_said names n m none = tt
@@ -194,7 +192,7 @@ module _ (d : Declarations) (o : ℕ) where
       (λ p by h g D a few.
       let choosing : is_choosing (slice_get (known_of d).ways p.1) (ByName (first_text ts) g.0.0) ≡ true = subst (λ ways. is_choosing ways (ByName (first_text ts) g.0.0) ≡ true) h.1.1 (subst (λ c. is_choosing ways c ≡ true) g.0.1 g.1) in
       ap (λ c. map (C.mark_way (first_system D) (Other p.0 p.1)) (chosen c (op_branches D.specification.operations p.1))) g.0.1
-      ∙ a.by_name (Other p.0 p.1) p.1 h.1.0 (first_text ts) g.0.0 choosing ∙ ap (λ q. map way_of (choice_ways settled 3 (choice_named (form_at d.operations q) (first_text ts)))) (sym h.0))
+      ∙ a.by_name (Other p.0 p.1) p.1 h.1.0 (first_text ts) g.0.0 choosing ∙ ap (λ q. choice_ways settled 3 (choice_named (form_at d.operations q) (first_text ts))) (sym h.0))
 
   begun_said : (names : Names) (n m : ℕ) (w : List ℕ) (ts : Trees) → Holds (HasWays d o (Z.ways_with d o w ts)) (deed_with (known_of d) names (own_ways d o) n m ts (head_of w))
   begun_said names n m w ts =
@@ -221,8 +219,8 @@ module _ (d : Declarations) (o : ℕ) where
 
   -- ---- riders
 
-  abbrev when_ways : Trees → List Z.Way
-  when_ways ts = Z.deed_ways d o (within_first (later ts)) ++ Z.no_way ∷ []
+  abbrev when_ways : Trees → List C.Way
+  when_ways ts = Z.deed_ways d o (within_first (later ts)) ++ C.no_way ∷ []
 
   when_said : (names : Names) (n m : ℕ) (ts : Trees) → Holds (λ (p : Formula × Deed). HasWays d o (Z.deed_ways d o (within_first (later ts))) p.1) (when_reading (known_of d) names (own_ways d o) n m ts)
   when_said names n m none = tt
@@ -242,12 +240,12 @@ module _ (d : Declarations) (o : ℕ) where
         (cond b (mapped where_holds (when_reading (known_of d) names (own_ways d o) n (n + 2) ts)) (mapped always (deed_with (known_of d) names (own_ways d o) n (n + 2) ts (head_of w))))
     by_word true =
         mapped_holds (λ (p : Formula × Deed). HasWays d o (Z.deed_ways d o (within_first (later ts))) p.1) (HasRiderWays d o (when_ways ts)) where_holds (when_reading (known_of d) names (own_ways d o) n (n + 2) ts) (when_said names n (n + 2) ts)
-        (λ p h D a few. ap (λ l. l ++ C.no_way ∷ []) (h D a few) ∙ sym (map-append way_of (Z.deed_ways d o (within_first (later ts))) (Z.no_way ∷ [])))
+        (λ p h D a few. ap (λ l. l ++ C.no_way ∷ []) (h D a few))
     by_word false =
         mapped_holds (HasWays d o (Z.ways_with d o w ts)) (HasRiderWays d o (Z.ways_with d o w ts)) always (deed_with (known_of d) names (own_ways d o) n (n + 2) ts (head_of w)) (begun_said names n (n + 2) w ts) (λ x h. h)
 
   abbrev HaveWays : Trees → List Rider → Type 0
-  HaveWays ts rs = (D : Development) → Agrees d D → o < length d.declared.operations → map (C.rider_ways D o) rs ≡ map (map way_of) (Z.all_ways d o ts)
+  HaveWays ts rs = (D : Development) → Agrees d D → o < length d.declared.operations → map (C.rider_ways D o) rs ≡ Z.all_ways d o ts
 
   row_said : (names : Names) (i m : ℕ) (ts : Trees) → Holds (HaveWays ts) (placed_reading (ith_rider_reading (known_of d) names (own_ways d o)) i m ts)
   row_said names i m none = λ D a few. refl
@@ -354,4 +352,4 @@ edge_counted d o D a few None (Some x) h asked cs = absurd h
 edge_counted d o D a few (Some ts) None h asked cs = absurd h
 edge_counted d o D a few (Some ts) (Some x) h asked cs =
     let w = first_text (within_first ts) in
-    ap₂ (λ action riders. C.way_count action riders asked cs) (a.acted w x.action h.0) (h.1 D a few) ∙ ways_same (Some (Z.columns_acted d w)) (Z.all_ways d o (later ts)) asked cs
+    ap₂ (λ action riders. C.way_count action riders asked cs) (a.acted w x.action h.0) (h.1 D a few)

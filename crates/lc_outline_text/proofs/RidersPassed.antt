@@ -7,7 +7,7 @@ use Rattle.std.specs.Prelude.{Vec}
 use Rattle.std.specs.declared.alloc.Global.{Global}
 use Rattle.lc_base.specs.declared.ids.ColId.{ColId}
 use Rattle.lc_outline_text.specs.declared.riders.Rider.{Rider}
-use Rattle.lc_outline_text.specs.Sizes.{Way, no_way, different, path_conditions}
+use Rattle.lc_outline.specs.Sizes.{Way, no_way, different, way_count}
 use Rattle.lc_outline_text.specs.Paths.{stands, only_way, common_way, leaves_choice, branching}
 use Rattle.lc_outline_text.proofs.Counting.{product_capped}
 use Rattle.lc_outline_text.proofs.Different.{same_different}
@@ -83,18 +83,18 @@ past_cap count s all h g few = omega (arith, h, g, few)
 
 -- as many as there are columns on it, and two more than are asked
 pub told_on : (listed columns more : List ℕ) (asked way n stored count : ℕ) → stands listed ≡ stands (columns ++ more) → n ≡ different listed → stored ≡ 1 + n → count ≡ (asked + way) + stored
-    → count ≡ path_conditions (Some []) [] (asked + way) (columns ++ more)
+    → count ≡ way_count (Some []) [] (asked + way) (columns ++ more)
 told_on listed columns more asked way n stored count h g k is =
     let same : different listed ≡ different ((columns ++ more) ++ []) = same_different listed (columns ++ more) h ∙ ap different (sym (append-nil (columns ++ more))) in
     omega (arith, g, k, is, same)
 
 -- what is common to all paths is told apart from the riders that leave a choice
 pub told_apart : (action columns stored : List ℕ) (rs those : List (List Way)) (before asked : ℕ) → asked ≡ before + (common_way rs).asked → stands stored ≡ stands ((columns ++ action) ++ (common_way rs).columns) → those ≡ branching rs
-    → path_conditions (Some []) those asked stored ≡ path_conditions (Some action) rs before columns
+    → way_count (Some []) those asked stored ≡ way_count (Some action) rs before columns
 told_apart action columns stored rs those before asked is h same =
     let rest = branching rs in
     let all = (columns ++ action) ++ (common_way rs).columns in
-    ap (λ l. path_conditions (Some []) l asked stored) same
+    ap (λ l. way_count (Some []) l asked stored) same
     ∙ same_paths [] [] rest rest refl asked (before + (common_way rs).asked) stored all is (ap stands (append-nil stored) ∙ h ∙ ap stands (sym (append-nil all)))
     ∙ sym (set_apart [] rs before (columns ++ action))
     ∙ same_paths [] action rs rs refl before before (columns ++ action) columns refl (ap stands (append-nil (columns ++ action)))

@@ -5,7 +5,7 @@ use Rattle.std.proofs.lemmas.List.{length-append, map-append, map_more}
 use Rattle.std.proofs.lemmas.List.Folds.{list_any-append}
 use Rattle.lc_base.specs.declared.ids.ColId.{ColId}
 use Rattle.lc_object.specs.View.{columns_of}
-use Rattle.lc_outline_text.specs.Sizes.{different}
+use Rattle.lc_outline.specs.Sizes.{different}
 use Rattle.lc_outline_text.specs.Paths.{stands}
 use Rattle.lc_outline_text.specs.StoredView.{round_of, is_in, listed_in, IsSet}
 use Rattle.lc_outline_text.specs.declared.column_set.ColumnSet.{ColumnSet}

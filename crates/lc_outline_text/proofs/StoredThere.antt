@@ -15,7 +15,8 @@ use Rattle.lc_rider_text.specs.KnownView.{ways_seen}
 use Rattle.lc_rider_text.specs.declared.known.Ways.{Ways}
 use Rattle.lc_outline_text.specs.Declarations.{branches_in, choices_in, ways_in, or_nothing, form_at}
 use Rattle.lc_outline_text.specs.Paths.{stands, way_kept, ways_kept}
-use Rattle.lc_outline_text.specs.Sizes.{Way, no_way, mark_ways, text_at}
+use Rattle.lc_outline.specs.Sizes.{Way, no_way}
+use Rattle.lc_outline_text.specs.Sizes.{mark_ways, text_at}
 use Rattle.lc_outline_text.specs.StoredView.{row_way, rows_kept, acted_kept, kept_at, marked_kept, marked_in, marked_at, both_kept, branch_parts, behind_parameters, by_branches, by_choices}
 use Rattle.lc_outline_text.specs.Views.{columns_marked}
 

@@ -1,7 +1,7 @@
 -- Which columns stand in a list, the ways past riders by what stands in them, and paths by their numbers.
 use Rattle.std.specs.Prelude.{ℕ, ◌+◌, ◌*◌, ◌==◌, ◌/◌, ◌%◌, Bool, true, false, if◌then◌else◌, List, [], ◌∷◌, ◌++◌, map, length, get_or}
 use Rattle.std.specs.List.{list_any}
-use Rattle.lc_outline_text.specs.Sizes.{Way, no_way}
+use Rattle.lc_outline.specs.Sizes.{Way, no_way}
 
 -- whether a number stands there
 abbrev pub stands : List ℕ → ℕ → Bool

@@ -1,6 +1,5 @@
 -- How many conditions a development has, by its text: lists are counted, and names have places; nothing else is read.
-use Rattle.std.specs.Prelude.{ℕ, zero, suc, ◌+◌, ◌*◌, ◌==◌, codes, if◌then◌else◌, List, [], ◌∷◌, ◌++◌, map, length, sum, sum_by, take, slice_get, slice_index_or, Option, Some, None}
-use Rattle.std.specs.List.{list_any}
+use Rattle.std.specs.Prelude.{ℕ, zero, suc, ◌+◌, ◌*◌, codes, if◌then◌else◌, List, [], ◌∷◌, ◌++◌, map, length, sum, sum_by, take, slice_get, slice_index_or, Option, Some, None}
 use Rattle.lc_sexp.specs.TreeCode.{tree_count}
 use Rattle.lc_sexp.specs.Trees.{Trees, none, ◌▸◌}
 use Rattle.lc_reading.specs.Listed.{place_of}
@@ -12,6 +11,7 @@ use Rattle.lc_object.specs.declared.instr.EdgeKind.TheVariants.{Next, Then, Else
 use Rattle.lc_object_text.specs.ObjectNames.{Declared, Body, Span, text_in, first_text, items_within, within_first, later, parts_in_first, points_in}
 use Rattle.lc_object_text.specs.Sections.{Sections, parts_in, forms_in}
 use Rattle.lc_rider_text.specs.Scopes.{column_place}
+use Rattle.lc_outline.specs.Sizes.{Way, no_way, way_count}
 use Rattle.lc_outline_text.specs.Declarations.{Declarations, branches_in, choices_in, form_at}
 use Rattle.lc_naming.specs.EdgeWords.{edge_word}
 use Rattle.lc_outline_text.specs.Needs.{goes_next, branches_off, stores}
@@ -41,11 +41,6 @@ abbrev pub columns_noted : List (List ℕ) → Trees → List ℕ
 columns_noted columns ts = noted (length columns) ∷ take (tree_count (within_first (later (later ts)))) (note_columns (length columns))
 
 -- ---- the ways in which a rider is passed
-
--- how many conditions are asked on the way, and the columns that are stored in
-pub record Way : Type 0 where
-  pub asked : ℕ
-  pub columns : List ℕ
 
 -- one for each of these branches
 abbrev pub mark_ways : (Trees → List ℕ) → ℕ → Trees → List Way
@@ -80,9 +75,6 @@ ways_with d o w ts =
 abbrev pub deed_ways : Declarations → ℕ → Trees → List Way
 deed_ways d o ts = ways_with d o (first_text ts) (later ts)
 
-abbrev pub no_way : Way
-no_way = record { asked = 0; columns = [] }
-
 -- of a `when` also that its condition does not hold
 abbrev pub rider_ways : Declarations → ℕ → Trees → List Way
 rider_ways d o ts =
@@ -93,22 +85,6 @@ all_ways d o none = []
 all_ways d o (t ▸ ts) = rider_ways d o (items_within t) ∷ all_ways d o ts
 
 -- ---- the conditions of an edge
-
--- how many different numbers there are
-abbrev pub different : List ℕ → ℕ
-different [] = 0
-different (c ∷ cs) = (if list_any (λ k. k == c) cs then 0 else 1) + different cs
-
--- how many ask of a path on which these columns are stored in that it is an instance of an action that stores in those: the
--- action's guard, and each column in which either stores
-abbrev pub instance_count : Option (List ℕ) → List ℕ → ℕ
-instance_count None columns = 0
-instance_count (Some stored) columns = 1 + different (columns ++ stored)
-
--- those of the paths that pass these riders, where so many conditions are asked and these columns stored in before
-abbrev pub path_conditions : Option (List ℕ) → List (List Way) → ℕ → List ℕ → ℕ
-path_conditions action [] asked columns = asked + instance_count action columns
-path_conditions action (ways ∷ riders) asked columns = sum_by (λ (way : Way). path_conditions action riders (asked + way.asked) (columns ++ way.columns)) ways
 
 -- the `on` of the edge of this word, EDGE (ACTION ..) RIDER ..: what stands behind EDGE
 abbrev pub on_of : List ℕ → List Trees → Option Trees
@@ -122,7 +98,7 @@ columns_acted d w = columns_stored d.declared.columns (later (later (later (form
 -- where an edge has no `on`, nothing is done beside it
 abbrev pub edge_conditions : Declarations → ℕ → Option Trees → ℕ → List ℕ → ℕ
 edge_conditions d o None asked columns = asked
-edge_conditions d o (Some ts) asked columns = path_conditions (Some (columns_acted d (first_text (within_first ts)))) (all_ways d o (later ts)) asked columns
+edge_conditions d o (Some ts) asked columns = way_count (Some (columns_acted d (first_text (within_first ts)))) (all_ways d o (later ts)) asked columns
 
 -- ---- points
 

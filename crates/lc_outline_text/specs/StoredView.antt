@@ -6,7 +6,8 @@ use Rattle.lc_object_text.specs.ObjectNames.{later}
 use Rattle.lc_object_text.specs.Sections.{parts_in}
 use Rattle.lc_base.specs.declared.ids.ColId.{ColId}
 use Rattle.lc_object.specs.View.{columns_of}
-use Rattle.lc_outline_text.specs.Sizes.{Way, no_way, columns_stored, different}
+use Rattle.lc_outline.specs.Sizes.{Way, no_way, different}
+use Rattle.lc_outline_text.specs.Sizes.{columns_stored}
 use Rattle.lc_outline_text.specs.Paths.{stands}
 use Rattle.lc_outline_text.specs.Declarations.{Declarations, branches_in, choices_in}
 use Rattle.lc_outline_text.specs.Views.{columns_marked}

@@ -1,7 +1,7 @@
 //! Columns, each kept once.
 ghost use Rattle.std.specs.Prelude.{◌≡◌, ◌∷◌, ◌++◌, [], OnOk, IfOk};
 ghost use Rattle.lc_object.specs.View.{columns_of};
-ghost use Rattle.lc_outline_text.specs.Sizes.{different};
+ghost use Rattle.lc_outline.specs.Sizes.{different};
 ghost use Rattle.lc_outline_text.specs.Paths.{stands};
 ghost use Rattle.lc_outline_text.specs.StoredView.{IsSet, listed_in};
 
@@ -49,7 +49,7 @@ pub struct ColumnSet {
 impl ColumnSet {
     ghost use Rattle.std.specs.Prelude.{◌≡◌, ◌∷◌, ◌++◌, [], length, OnOk, IfOk};
     ghost use Rattle.lc_object.specs.View.{columns_of};
-    ghost use Rattle.lc_outline_text.specs.Sizes.{different};
+    ghost use Rattle.lc_outline.specs.Sizes.{different};
     ghost use Rattle.lc_outline_text.specs.Paths.{stands};
     ghost use Rattle.lc_outline_text.specs.StoredView.{IsSet, listed_in};
 

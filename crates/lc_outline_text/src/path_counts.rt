@@ -1,7 +1,7 @@
 //! The conditions of the paths of an edge, counted up to a cap.
 ghost use Rattle.std.specs.Prelude.{◌≡◌, ◌+◌, ◌++◌, ◌≤◌, [], Some, IfOk, OnOk};
 ghost use Rattle.lc_object.specs.View.{columns_of};
-ghost use Rattle.lc_outline_text.specs.Sizes.{path_conditions};
+ghost use Rattle.lc_outline.specs.Sizes.{way_count};
 ghost use Rattle.lc_outline_text.specs.Paths.{stands, path_number, path_at};
 ghost use Rattle.lc_outline_text.specs.StoredView.{IsSet, listed_in, riders_seen};
 ghost use Rattle.lc_outline_text.specs.Views.{capped};
@@ -46,7 +46,7 @@ fn conditions_on(
 ) -> Result<u64, OutOfMemory>
     requires set { IsSet set.old }
     requires some { 1 ≤ path_number (riders_seen riders.now) }
-    ensures count { IfOk result (λ count. count ≡ path_conditions (Some []) [] (asked + (path_at (riders_seen riders.now) number).asked) (columns_of columns.now ++ (path_at (riders_seen riders.now) number).columns)) }
+    ensures count { IfOk result (λ count. count ≡ way_count (Some []) [] (asked + (path_at (riders_seen riders.now) number).asked) (columns_of columns.now ++ (path_at (riders_seen riders.now) number).columns)) }
     ensures set { OnOk result (IsSet set.new) }
 {
     set.clear()?;
@@ -67,7 +67,7 @@ fn conditions_on_all(
 ) -> Result<u64, OutOfMemory>
     requires set { IsSet set.old }
     requires all { paths ≡ path_number (riders_seen riders.now) }
-    ensures count { IfOk result (λ count. count ≡ capped (path_conditions (Some []) (riders_seen riders.now) asked (columns_of columns.now))) }
+    ensures count { IfOk result (λ count. count ≡ capped (way_count (Some []) (riders_seen riders.now) asked (columns_of columns.now))) }
     ensures set { OnOk result (IsSet set.new) }
 {
     let mut count = 0;
@@ -93,7 +93,7 @@ pub(crate) fn path_conditions(
     columns: &[ColId],
 ) -> Result<u64, OutOfMemory>
     requires { IsSet set.old }
-    ensures count { IfOk result (λ count. count ≡ capped (path_conditions (Some (columns_of action.now)) (riders_seen riders.now) asked (columns_of columns.now))) }
+    ensures count { IfOk result (λ count. count ≡ capped (way_count (Some (columns_of action.now)) (riders_seen riders.now) asked (columns_of columns.now))) }
     ensures set { OnOk result (IsSet set.new) }
 {
     let paths = path_number(riders);

@@ -1,6 +1,6 @@
 //! Riders, by the columns that are stored in on the ways past them.
 ghost use Rattle.std.specs.Prelude.{◌≡◌, ℕ, ◌+◌, ◌++◌, length, get_or, map, IfOk, OnOk};
-ghost use Rattle.lc_outline_text.specs.Sizes.{no_way};
+ghost use Rattle.lc_outline.specs.Sizes.{no_way};
 ghost use Rattle.lc_outline_text.specs.Paths.{stands, path_number, only_way, common_way, branching};
 ghost use Rattle.lc_outline_text.specs.StoredView.{IsSet, listed_in, row_way, none_stored, deed_seen, rider_seen, riders_seen};
 ghost use Rattle.lc_outline_text.specs.Views.{capped};

@@ -1,5 +1,5 @@
 use Rattle.std.proofs.Common.{◌≡◌, ◌+◌, ◌/◌, ◌%◌, ◌≤◌, ◌++◌, drop, get_or, length, ap, sym, subst, ◌∙◌, arith}
-use Rattle.lc_outline_text.specs.Sizes.{no_way}
+use Rattle.lc_outline.specs.Sizes.{no_way}
 use Rattle.lc_outline_text.specs.Paths.{stands, path_number, path_at, then_way}
 use Rattle.lc_outline_text.specs.StoredView.{listed_in, rider_seen, riders_seen}
 use Rattle.lc_outline_text.proofs.RidersPassed.{next_rider, some_left}

@@ -5,7 +5,8 @@ use Rattle.lc_reading.specs.Words.{is}
 use Rattle.lc_object_text.specs.ObjectNames.{first_text, within_first, later}
 use Rattle.lc_outline_text.specs.DeclarationsView.{declarations_seen}
 use Rattle.lc_outline_text.specs.Paths.{ways_kept}
-use Rattle.lc_outline_text.specs.Sizes.{deed_ways, no_way}
+use Rattle.lc_outline.specs.Sizes.{no_way}
+use Rattle.lc_outline_text.specs.Sizes.{deed_ways}
 use Rattle.lc_outline_text.specs.StoredView.{deed_seen}
 use Rattle.lc_outline_text.proofs.StoredThere.{or_none}
 use Rattle.lc_outline_text.proofs.ways.rider_of.Goals as goal
