@@ -12,14 +12,14 @@ use std::alloc::Global;
 fn instantiated(alloc: Global, hypothesis: i64, term: &Term) -> Result<Step, OutOfMemory>
     ensures { IfOk result (λ copy. step_of copy ≡ S.Instantiate hypothesis (term_of term.now)) }
 {
-    let term = term.try_clone(alloc)?;
+    let term = Box::new(alloc, term.try_clone(alloc)?)?;
     Ok(Step::Instantiate { hypothesis, term })
 }
 
 fn cut(alloc: Global, formula: &Formula) -> Result<Step, OutOfMemory>
     ensures { IfOk result (λ copy. step_of copy ≡ S.Cut (formula_of formula.now)) }
 {
-    let formula = formula.try_clone(alloc)?;
+    let formula = Box::new(alloc, formula.try_clone(alloc)?)?;
     Ok(Step::Cut { formula })
 }
 
@@ -33,10 +33,10 @@ fn written(
     ensures { IfOk result (λ copy. step_of copy ≡ S.Written (column_of column.now) (term_of index.now) (term_of value.now) (term_of other.now)) }
 {
     Ok(Step::Written {
-        column: column.try_clone(alloc)?,
-        index: index.try_clone(alloc)?,
-        value: value.try_clone(alloc)?,
-        other: other.try_clone(alloc)?,
+        column: Box::new(alloc, column.try_clone(alloc)?)?,
+        index: Box::new(alloc, index.try_clone(alloc)?)?,
+        value: Box::new(alloc, value.try_clone(alloc)?)?,
+        other: Box::new(alloc, other.try_clone(alloc)?)?,
     })
 }
 
@@ -44,9 +44,9 @@ fn same(alloc: Global, column: &ColExpr, index: &Term, other: &Term) -> Result<S
     ensures { IfOk result (λ copy. step_of copy ≡ S.Same (column_of column.now) (term_of index.now) (term_of other.now)) }
 {
     Ok(Step::Same {
-        column: column.try_clone(alloc)?,
-        index: index.try_clone(alloc)?,
-        other: other.try_clone(alloc)?,
+        column: Box::new(alloc, column.try_clone(alloc)?)?,
+        index: Box::new(alloc, index.try_clone(alloc)?)?,
+        other: Box::new(alloc, other.try_clone(alloc)?)?,
     })
 }
 
@@ -56,7 +56,7 @@ fn affine(alloc: Global, slope: i64, start: i64, index: &Term) -> Result<Step, O
     Ok(Step::Affine {
         slope,
         start,
-        index: index.try_clone(alloc)?,
+        index: Box::new(alloc, index.try_clone(alloc)?)?,
     })
 }
 
@@ -71,7 +71,7 @@ fn divide(
     Ok(Step::Divide {
         hypothesis,
         divisor,
-        quotient: quotient.try_clone(alloc)?,
+        quotient: Box::new(alloc, quotient.try_clone(alloc)?)?,
     })
 }
 

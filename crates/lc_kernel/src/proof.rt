@@ -28,7 +28,8 @@ impl Proof {
     }
 }
 
-/// A step of a proof. A hypothesis is given by its number.
+/// A step of a proof. A hypothesis is given by its number. Terms and formulas stand in boxes, so that a list of steps that have
+/// none takes little.
 pub enum Step {
     /// `(split h P)`: of `(and F ..)` one branch, with each F.
     Split {
@@ -46,7 +47,7 @@ pub enum Step {
     /// `(inst h T P)`: of `(forall x F)` one branch, with F where x is T.
     Instantiate {
         hypothesis: i64,
-        term: Term,
+        term: Box<Term>,
     },
     /// `(fresh h P)`: of `(exists x F)` one branch, with F where x is a variable that was not in use.
     Fresh {
@@ -54,26 +55,26 @@ pub enum Step {
     },
     /// `(cut F P Q)`: a branch with `(not F)` and one with `F`.
     Cut {
-        formula: Formula,
+        formula: Box<Formula>,
     },
     /// `(written C i v j P)`: one branch, with the axiom of a stored value.
     Written {
-        column: ColExpr,
-        index: Term,
-        value: Term,
-        other: Term,
+        column: Box<ColExpr>,
+        index: Box<Term>,
+        value: Box<Term>,
+        other: Box<Term>,
     },
     /// `(same C i j P)`: one branch, with the axiom of equal indexes.
     Same {
-        column: ColExpr,
-        index: Term,
-        other: Term,
+        column: Box<ColExpr>,
+        index: Box<Term>,
+        other: Box<Term>,
     },
     /// `(affine a b i P)`: one branch, with the axiom of the column that has `a * i + b` at i.
     Affine {
         slope: i64,
         start: i64,
-        index: Term,
+        index: Box<Term>,
     },
     /// `(trich h P Q)`: of `(not (= a b))` a branch with `a < b` and one with `b < a`.
     Trichotomy {
@@ -83,7 +84,7 @@ pub enum Step {
     Divide {
         hypothesis: i64,
         divisor: i64,
-        quotient: Formula,
+        quotient: Box<Formula>,
     },
     /// `(sum (h k) ..)`: no branch; so many times these comparisons contradict each other.
     Sum {

@@ -1,10 +1,10 @@
 -- Proofs that are read one after another.
 use Rattle.std.proofs.Common.{◌≡◌, ℕ, List, [], ◌∷◌, Ok, Err, refl, sym, ap, ◌∙◌, subst}
-use Rattle.std.specs.Prelude.{Result, Vec, Box}
+use Rattle.std.specs.Prelude.{Result, Vec}
 use Rattle.std.specs.declared.alloc.Global.{Global}
 use Rattle.lc_reading.specs.declared.pass.Pass.TheVariants.{Shape}
 use Rattle.lc_kernel.specs.Proofs.{Proof, Proofs, none, more, proofs}
-use Rattle.lc_proof_text.specs.Own.{boxed_proof, branches_of, unboxed}
+use Rattle.lc_proof_text.specs.Own.{branches_of}
 use Rattle.lc_kernel.specs.View.{proof_of, proofs_of}
 use Rattle.lc_kernel.specs.declared.proof.Proof.{Proof as SeenProof}
 use Rattle.lc_reading.proofs.SoFar.{IsSoFar, front, flawed_before}
@@ -34,8 +34,3 @@ pub proofs_wrong : (whole rest : Reading Proofs) (n : ℕ) (a b : Result (Vec Se
 proofs_wrong whole rest n (Ok ps) b e is h = subst (IsReading branches_of whole) (sym is) (h ∙ ap (front more (proofs_of ps.items)) e ∙ front_flawed (proofs_of ps.items) (at Shape n))
 proofs_wrong whole rest n (Err (Flawed g)) b e is h = subst (IsReading branches_of whole) (sym is) (h ∙ ap (flawed_before g) e)
 proofs_wrong whole rest n (Err OutOfMemory) b e is h = subst (IsReading branches_of whole) (sym is) tt
-
--- a proof is read out of its box
-pub unboxed_reads : (r : Reading Proof) (a : Result (Box SeenProof Global) ReadFault) → IsReading boxed_proof r a → IsReading proof_of r (unboxed a)
-unboxed_reads r (Ok b) h = h
-unboxed_reads r (Err fault) h = h

@@ -7,14 +7,18 @@ use Rattle.lc_sexp.specs.declared.cursor.Cursor.{Cursor}
 use Rattle.lc_sexp.specs.declared.misfit.Misfit.{Misfit}
 use Rattle.lc_sexp.specs.declared.misfit.Misfit.TheVariants.{Shape as Misshapen}
 use Rattle.lc_kernel.specs.Proofs as S
-use Rattle.lc_kernel.specs.View.{multiple_of, step_of, proof_of, proofs_of}
+use Rattle.lc_kernel.specs.View.{multiple_of, step_of, proofs_of}
 use Rattle.lc_kernel.specs.declared.proof.Multiple.{Multiple}
-use Rattle.lc_kernel.specs.declared.proof.Proof.{Proof, out-Proof}
+use Rattle.lc_kernel.specs.declared.proof.Proof.{Proof}
 use Rattle.lc_kernel.specs.declared.proof.Step.{Step}
 use Rattle.lc_reading.specs.Parts.{IsBehind}
 use Rattle.lc_reading.specs.Readings.{Reading, fine, wrong}
 use Rattle.lc_reading.specs.Results.{IsReading}
 use Rattle.lc_reading.specs.declared.flaw.ReadFault.{ReadFault}
+use Rattle.lc_term.specs.Syntax as T
+use Rattle.lc_term.specs.View.{term_of, column_of}
+use Rattle.lc_term.specs.declared.term.Term.{Term}
+use Rattle.lc_term.specs.declared.term.ColExpr.{ColExpr}
 use Rattle.lc_text.specs.Terms.{number_reading}
 use Rattle.lc_reading.specs.declared.pass.Pass.TheVariants.{Shape}
 
@@ -39,22 +43,23 @@ abbrev pub IsOwn : Reading S.Step → ℕ → Cursor → Result (Result Step Rea
 IsOwn read k l (Ok r) = IsReading step_of read r.0 × IsLeft k (number_of l) (rest_of l) r.1
 IsOwn read k l (Err misfit) = (misfit ≡ Misshapen (owner_of l)) × (read ≡ wrong Shape (owner_of l)) × IsShort k (rest_of l)
 
--- the proof in a box, and its step
-abbrev pub boxed_proof : Box Proof Global → S.Proof
-boxed_proof b = proof_of b.value
+-- the same where the list is left at what stands behind
+abbrev pub IsBegun : Reading S.Step → ℕ → Cursor → Result (Result Step ReadFault) Misfit → Cursor → Type 0
+IsBegun read k old (Ok step) new = IsOwn read k old (Ok (step, new))
+IsBegun read k old (Err misfit) new = IsOwn read k old (Err misfit)
 
-abbrev pub begun_step : Box Proof Global → S.Step
-begun_step b = step_of (out-Proof b.value).step
+-- what is in boxes
+abbrev pub boxed_term : Box Term Global → T.Term
+boxed_term t = term_of t.value
 
--- the same where the step is that of a proof in a box, and the list is left at what stands behind
-abbrev pub IsBegun : Reading S.Step → ℕ → Cursor → Result (Result (Box Proof Global) ReadFault) Misfit → Cursor → Type 0
-IsBegun read k old (Ok begun) new = IsReading begun_step read begun × IsLeft k (number_of old) (rest_of old) new
-IsBegun read k old (Err misfit) new = (misfit ≡ Misshapen (owner_of old)) × (read ≡ wrong Shape (owner_of old)) × IsShort k (rest_of old)
+abbrev pub boxed_column : Box ColExpr Global → T.Column
+boxed_column c = column_of c.value
 
--- the proof out of its box
-abbrev pub unboxed : Result (Box Proof Global) ReadFault → Result Proof ReadFault
-unboxed (Ok b) = Ok b.value
-unboxed (Err fault) = Err fault
+abbrev pub boxed_cell : Box ColExpr Global × Box Term Global → T.Column × T.Term
+boxed_cell p = (boxed_column p.0, boxed_term p.1)
+
+abbrev pub boxed_terms : Box Term Global × Box Term Global → T.Term × T.Term
+boxed_terms p = (boxed_term p.0, boxed_term p.1)
 
 -- the proofs of branches
 abbrev pub branches_of : Vec Proof Global → S.Proofs

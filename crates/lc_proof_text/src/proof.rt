@@ -7,7 +7,7 @@ ghost use Rattle.lc_reading.specs.Parts.{tree_of, place_of};
 ghost use Rattle.lc_reading.specs.Readings.{Reading, both};
 ghost use Rattle.lc_reading.specs.Results.{IsReading, IsPushed, misshapen_too};
 ghost use Rattle.lc_proof_text.specs.Heads.{own_parts};
-ghost use Rattle.lc_proof_text.specs.Own.{IsBegun, begun_step, boxed_proof, branches_of, multiples_of, unboxed};
+ghost use Rattle.lc_proof_text.specs.Own.{IsBegun, branches_of, multiples_of};
 ghost use Rattle.lc_proof_text.specs.Proofs.{sum_reading, proof_reading, proofs_reading, with_proofs};
 ghost use Rattle.lc_proof_text.specs.Steps.{multiple_reading, multiples_reading, step_reading};
 
@@ -75,84 +75,53 @@ fn read_multiples(alloc: Global, list: Cursor<'_>) -> Result<Vec<Multiple>, Read
 
 /// `(sum (h k) ..)`
 #[inline(never)]
-fn read_sum(alloc: Global, list: Cursor<'_>) -> Result<Box<Proof>, ReadFault>
-    ensures { IsReading boxed_proof (sum_reading (number_of list.entry) (rest_of list.entry)) result }
+fn read_sum(alloc: Global, list: Cursor<'_>) -> Result<Proof, ReadFault>
+    ensures { IsReading proof_of (sum_reading (number_of list.entry) (rest_of list.entry)) result }
 {
     let multiples = read_multiples(alloc, list)?;
-    let proof = Proof {
+    Ok(Proof {
         step: Step::Sum { multiples },
         branches: Vec::new(alloc),
-    };
-    Ok(Box::new(alloc, proof)?)
+    })
 }
 
-/// A proof of one step, whose branches are still to come.
-fn boxed_step(alloc: Global, step: Result<Step, ReadFault>) -> Result<Box<Proof>, ReadFault>
-    ensures { (r : Reading S.Step) → IsReading step_of r step → IsReading begun_step r result }
-{
-    let proof = Proof {
-        step: step?,
-        branches: Vec::new(alloc),
-    };
-    Ok(Box::new(alloc, proof)?)
-}
-
-/// The step that begins so, of its own parts, as a proof whose branches are still to come; the list is left at what stands
-/// behind them. It stands apart from those who call one another, which keeps what each level of them takes of the stack small: so
-/// do `finished` and `pushed_out`.
+/// The step that begins so, of its own parts; the list is left at what stands behind them. It stands apart from those who call one
+/// another, which keeps what each level of them takes of the stack small: so do `finished` and `pushed_proof`.
 #[inline(never)]
 fn read_begun<'a, S: Scope>(
     alloc: Global,
     scope: &S,
     head: Head,
     list: &mut Cursor<'a>,
-) -> Result<Result<Box<Proof>, ReadFault>, Misfit>
+) -> Result<Result<Step, ReadFault>, Misfit>
     ensures { IsBegun (step_reading (S.names scope.now) head (owner_of list.old) (number_of list.old) (rest_of list.old)) (own_parts head) list.old result list.new }
 {
     let (step, rest) = read_own(alloc, scope, head, *list)?;
     *list = rest;
-    Ok(boxed_step(alloc, step))
+    Ok(step)
 }
 
-/// A proof that is begun, with its branches.
+/// A step with its branches.
 #[inline(never)]
 fn finished(
-    begun: Result<Box<Proof>, ReadFault>,
+    step: Result<Step, ReadFault>,
     branches: Result<Vec<Proof>, ReadFault>,
-) -> Result<Box<Proof>, ReadFault>
-    ensures { (r : Reading S.Step) (s : Reading S.Proofs) → IsReading begun_step r begun → IsReading branches_of s branches → IsReading boxed_proof (both S.proof r s) result }
+) -> Result<Proof, ReadFault>
+    ensures { (r : Reading S.Step) (s : Reading S.Proofs) → IsReading step_of r step → IsReading branches_of s branches → IsReading proof_of (both S.proof r s) result }
 {
-    let (begun, branches) = both(begun, branches)?;
-    let mut proof = begun;
-    proof.branches = branches;
-    Ok(proof)
-}
-
-/// The proof that a box has.
-fn out_of_box(proof: Result<Box<Proof>, ReadFault>) -> Result<Proof, ReadFault>
-    ensures { result ≡ unboxed proof }
-{
-    match proof {
-        Ok(proof) => Ok(Box::into_inner(proof)),
-        Err(fault) => Err(fault),
-    }
+    let (step, branches) = both(step, branches)?;
+    Ok(Proof { step, branches })
 }
 
 /// One proof more, where all before it are read; else what is wrong in any.
 #[inline(never)]
-fn pushed_out(
+fn pushed_proof(
     proofs: Result<Vec<Proof>, ReadFault>,
-    proof: Result<Box<Proof>, ReadFault>,
+    proof: Result<Proof, ReadFault>,
 ) -> Result<Vec<Proof>, ReadFault>
-    ensures { IsPushed proofs (unboxed proof) result }
+    ensures { IsPushed proofs proof result }
 {
-    match (proofs, proof) {
-        (Ok(mut proofs), Ok(proof)) => {
-            proofs.push(Box::into_inner(proof))?;
-            Ok(proofs)
-        }
-        (proofs, proof) => pushed(proofs, out_of_box(proof)),
-    }
+    pushed(proofs, proof)
 }
 
 /// The proofs, with the flaw too that an item is misshapen. It stands apart, likewise.
@@ -164,16 +133,9 @@ fn with_misshapen(proofs: Result<Vec<Proof>, ReadFault>, item: u64) -> Result<Ve
 }
 
 /// The proof that an item reads as: a step, with its proofs.
+#[cycle(read_proof)]
 pub fn read_proof<S: Scope>(alloc: Global, scope: &S, part: Part<'_>) -> Result<Proof, ReadFault>
     ensures { IsReading proof_of (proof_reading (S.names scope.now) (place_of part.entry) (tree_of part.entry)) result }
-{
-    out_of_box(read_boxed(alloc, scope, &part))
-}
-
-/// The same in a box.
-#[cycle(read_proof)]
-fn read_boxed<S: Scope>(alloc: Global, scope: &S, part: &Part<'_>) -> Result<Box<Proof>, ReadFault>
-    ensures { IsReading boxed_proof (proof_reading (S.names scope.now) (place_of part.now) (tree_of part.now)) result }
 {
     let list = match part.item() {
         Item::Atom(atom) => return Err(wrong(Pass::Shape, atom.number())),
@@ -197,13 +159,13 @@ fn read_step<S: Scope>(
     scope: &S,
     head: Head,
     list: &mut Cursor<'_>,
-) -> Result<Box<Proof>, ReadFault>
-    ensures { IsReading boxed_proof (with_proofs (S.names scope.now) head (owner_of list.old) (number_of list.old) (rest_of list.old)) result }
+) -> Result<Proof, ReadFault>
+    ensures { IsReading proof_of (with_proofs (S.names scope.now) head (owner_of list.old) (number_of list.old) (rest_of list.old)) result }
 {
     let owner = list.owner();
-    let begun = read_begun(alloc, scope, head, list)?;
+    let step = read_begun(alloc, scope, head, list)?;
     finished(
-        begun,
+        step,
         read_branches(alloc, scope, owner, head.proofs_due(), list),
     )
 }
@@ -233,7 +195,7 @@ fn read_branches<S: Scope>(
         if due.is_full() {
             return with_misshapen(proofs, number);
         }
-        proofs = pushed_out(proofs, read_boxed(alloc, scope, &part));
+        proofs = pushed_proof(proofs, read_proof(alloc, scope, part));
         due = due.later();
     }
 }

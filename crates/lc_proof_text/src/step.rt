@@ -1,12 +1,13 @@
 //! The parts of a step that stand before its proofs. Parts too many are told where the proofs are read.
-ghost use Rattle.std.specs.Prelude.{◌≡◌};
+ghost use Rattle.std.specs.Prelude.{◌≡◌, []};
 ghost use Rattle.lc_sexp.specs.Shown.{rest_of, number_of, owner_of};
 ghost use Rattle.lc_kernel.specs.View.{step_of};
 ghost use Rattle.lc_reading.specs.Parts.{tree_of, place_of};
 ghost use Rattle.lc_reading.specs.Results.{IsReading};
-ghost use Rattle.lc_text.specs.Seen.{numbers_of, terms_of, access_parts};
+ghost use Rattle.lc_text.specs.Seen.{numbers_of};
+ghost use Rattle.lc_text.specs.Terms.{column_reading, term_reading};
 ghost use Rattle.lc_proof_text.specs.Heads.{own_parts};
-ghost use Rattle.lc_proof_text.specs.Own.{IsOwn};
+ghost use Rattle.lc_proof_text.specs.Own.{IsOwn, boxed_column, boxed_term, boxed_cell, boxed_terms};
 ghost use Rattle.lc_proof_text.specs.Steps.{hypothesis_step, two_numbers, two_terms, cell_reading, hypothesis_reading, instantiate_reading, cut_reading, written_reading, same_reading, affine_reading, divide_reading, opposite_reading, step_reading};
 
 use crate::head::Head;
@@ -15,7 +16,7 @@ use lc_kernel::Step;
 use lc_reading::{Part, ReadFault, both, next_part, one, two};
 use lc_sexp::{Cursor, Misfit};
 use lc_term::{ColExpr, Term};
-use lc_text::{Scope, read_column, read_formula, read_number, read_term};
+use lc_text::{Scope, read_boxed_formula, read_column, read_number, read_term};
 use std::alloc::Global;
 
 /// The step that so many parts of a list read as, or what is wrong in them, and what is left behind them.
@@ -56,7 +57,7 @@ fn read_instantiation<'a, S: Scope>(
     ensures { IsOwn (instantiate_reading (S.names scope.now) (owner_of list.entry) (number_of list.entry) (rest_of list.entry)) 2 list.entry result }
 {
     let (first, second, rest) = two(list)?;
-    let parts = both(read_number(first), read_term(alloc, scope, second));
+    let parts = both(read_number(first), read_boxed_term(alloc, scope, second));
     let step = match parts {
         Ok((hypothesis, term)) => Ok(Step::Instantiate { hypothesis, term }),
         Err(fault) => Err(fault),
@@ -68,26 +69,49 @@ fn read_cut<'a, S: Scope>(alloc: Global, scope: &S, list: Cursor<'a>) -> Result<
     ensures { IsOwn (cut_reading (S.names scope.now) (owner_of list.entry) (number_of list.entry) (rest_of list.entry)) 1 list.entry result }
 {
     let (part, rest) = one(list)?;
-    let step = match read_formula(alloc, scope, part) {
+    let step = match read_boxed_formula(alloc, scope, part) {
         Ok(formula) => Ok(Step::Cut { formula }),
         Err(fault) => Err(fault),
     };
     Ok((step, rest))
 }
 
-/// A column and an index. A column that may not be read so is told at the reader.
+/// The term that an item reads as, in a box.
+fn read_boxed_term<S: Scope>(
+    alloc: Global,
+    scope: &S,
+    part: Part<'_>,
+) -> Result<Box<Term>, ReadFault>
+    ensures { IsReading boxed_term (term_reading (S.names scope.now) [] (place_of part.entry) (tree_of part.entry)) result }
+{
+    Ok(Box::new(alloc, read_term(alloc, scope, part)?)?)
+}
+
+/// The column expression that an item reads as, in a box. A column that may not be read so is told at the reader.
+fn read_boxed_column<S: Scope>(
+    alloc: Global,
+    scope: &S,
+    reader: u64,
+    part: Part<'_>,
+) -> Result<Box<ColExpr>, ReadFault>
+    ensures { IsReading boxed_column (column_reading (S.names scope.now) [] reader (place_of part.entry) (tree_of part.entry)) result }
+{
+    Ok(Box::new(alloc, read_column(alloc, scope, reader, part)?)?)
+}
+
+/// A column and an index.
 fn read_cell<S: Scope>(
     alloc: Global,
     scope: &S,
     reader: u64,
     first: Part<'_>,
     second: Part<'_>,
-) -> Result<(ColExpr, Term), ReadFault>
-    ensures { IsReading access_parts (cell_reading (S.names scope.now) reader (place_of first.entry) (tree_of first.entry) (place_of second.entry) (tree_of second.entry)) result }
+) -> Result<(Box<ColExpr>, Box<Term>), ReadFault>
+    ensures { IsReading boxed_cell (cell_reading (S.names scope.now) reader (place_of first.entry) (tree_of first.entry) (place_of second.entry) (tree_of second.entry)) result }
 {
     both(
-        read_column(alloc, scope, reader, first),
-        read_term(alloc, scope, second),
+        read_boxed_column(alloc, scope, reader, first),
+        read_boxed_term(alloc, scope, second),
     )
 }
 
@@ -96,12 +120,12 @@ fn read_terms<S: Scope>(
     scope: &S,
     first: Part<'_>,
     second: Part<'_>,
-) -> Result<(Term, Term), ReadFault>
-    ensures { IsReading terms_of (two_terms (S.names scope.now) (place_of first.entry) (tree_of first.entry) (place_of second.entry) (tree_of second.entry)) result }
+) -> Result<(Box<Term>, Box<Term>), ReadFault>
+    ensures { IsReading boxed_terms (two_terms (S.names scope.now) (place_of first.entry) (tree_of first.entry) (place_of second.entry) (tree_of second.entry)) result }
 {
     both(
-        read_term(alloc, scope, first),
-        read_term(alloc, scope, second),
+        read_boxed_term(alloc, scope, first),
+        read_boxed_term(alloc, scope, second),
     )
 }
 
@@ -140,7 +164,7 @@ fn read_same<'a, S: Scope>(alloc: Global, scope: &S, list: Cursor<'a>) -> Result
     let second = next_part(&mut rest)?;
     let third = next_part(&mut rest)?;
     let cell = read_cell(alloc, scope, list.owner(), first, second);
-    let step = match both(cell, read_term(alloc, scope, third)) {
+    let step = match both(cell, read_boxed_term(alloc, scope, third)) {
         Ok(((column, index), other)) => Ok(Step::Same {
             column,
             index,
@@ -159,7 +183,7 @@ fn read_affine<'a, S: Scope>(alloc: Global, scope: &S, list: Cursor<'a>) -> Resu
     let second = next_part(&mut rest)?;
     let third = next_part(&mut rest)?;
     let numbers = read_numbers(first, second);
-    let step = match both(numbers, read_term(alloc, scope, third)) {
+    let step = match both(numbers, read_boxed_term(alloc, scope, third)) {
         Ok(((slope, start), index)) => Ok(Step::Affine {
             slope,
             start,
@@ -182,7 +206,7 @@ fn read_division<'a, S: Scope>(
     let second = next_part(&mut rest)?;
     let third = next_part(&mut rest)?;
     let numbers = read_numbers(first, second);
-    let step = match both(numbers, read_formula(alloc, scope, third)) {
+    let step = match both(numbers, read_boxed_formula(alloc, scope, third)) {
         Ok(((hypothesis, divisor), quotient)) => Ok(Step::Divide {
             hypothesis,
             divisor,

@@ -92,13 +92,13 @@ fn renamed_step(alloc: Global, columns: &[Option<ColId>], step: &Step) -> Result
         }),
         Step::Instantiate { hypothesis, term } => Ok(Step::Instantiate {
             hypothesis: *hypothesis,
-            term: renamed_term(alloc, columns, term)?,
+            term: Box::new(alloc, renamed_term(alloc, columns, term)?)?,
         }),
         Step::Fresh { hypothesis } => Ok(Step::Fresh {
             hypothesis: *hypothesis,
         }),
         Step::Cut { formula } => Ok(Step::Cut {
-            formula: renamed_formula(alloc, columns, formula)?,
+            formula: Box::new(alloc, renamed_formula(alloc, columns, formula)?)?,
         }),
         Step::Written {
             column,
@@ -106,19 +106,19 @@ fn renamed_step(alloc: Global, columns: &[Option<ColId>], step: &Step) -> Result
             value,
             other,
         } => Ok(Step::Written {
-            column: renamed_column(alloc, columns, column)?,
-            index: renamed_term(alloc, columns, index)?,
-            value: renamed_term(alloc, columns, value)?,
-            other: renamed_term(alloc, columns, other)?,
+            column: Box::new(alloc, renamed_column(alloc, columns, column)?)?,
+            index: Box::new(alloc, renamed_term(alloc, columns, index)?)?,
+            value: Box::new(alloc, renamed_term(alloc, columns, value)?)?,
+            other: Box::new(alloc, renamed_term(alloc, columns, other)?)?,
         }),
         Step::Same {
             column,
             index,
             other,
         } => Ok(Step::Same {
-            column: renamed_column(alloc, columns, column)?,
-            index: renamed_term(alloc, columns, index)?,
-            other: renamed_term(alloc, columns, other)?,
+            column: Box::new(alloc, renamed_column(alloc, columns, column)?)?,
+            index: Box::new(alloc, renamed_term(alloc, columns, index)?)?,
+            other: Box::new(alloc, renamed_term(alloc, columns, other)?)?,
         }),
         Step::Affine {
             slope,
@@ -127,7 +127,7 @@ fn renamed_step(alloc: Global, columns: &[Option<ColId>], step: &Step) -> Result
         } => Ok(Step::Affine {
             slope: *slope,
             start: *start,
-            index: renamed_term(alloc, columns, index)?,
+            index: Box::new(alloc, renamed_term(alloc, columns, index)?)?,
         }),
         Step::Trichotomy { hypothesis } => Ok(Step::Trichotomy {
             hypothesis: *hypothesis,
@@ -139,7 +139,7 @@ fn renamed_step(alloc: Global, columns: &[Option<ColId>], step: &Step) -> Result
         } => Ok(Step::Divide {
             hypothesis: *hypothesis,
             divisor: *divisor,
-            quotient: renamed_formula(alloc, columns, quotient)?,
+            quotient: Box::new(alloc, renamed_formula(alloc, columns, quotient)?)?,
         }),
         Step::Sum { multiples } => Ok(Step::Sum {
             multiples: Vec::from_slice(alloc, multiples)?,

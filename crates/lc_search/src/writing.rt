@@ -246,15 +246,15 @@ fn built_step(known: &Known, numbering: &Numbering, rule: Rule) -> Result<Step, 
     match rule {
         Rule::Instantiate(fact, term) => Ok(Step::Instantiate {
             hypothesis: numbering.hypothesis(fact),
-            term: known.nodes.term_tree(names, term)?,
+            term: Box::new(known.alloc, known.nodes.term_tree(names, term)?)?,
         }),
         Rule::Cut(formula) => Ok(Step::Cut {
-            formula: known.nodes.formula_tree(names, formula)?,
+            formula: Box::new(known.alloc, known.nodes.formula_tree(names, formula)?)?,
         }),
         Rule::Divide(fact, divisor, quotient) => Ok(Step::Divide {
             hypothesis: numbering.hypothesis(fact),
             divisor,
-            quotient: known.nodes.formula_tree(names, quotient)?,
+            quotient: Box::new(known.alloc, known.nodes.formula_tree(names, quotient)?)?,
         }),
         rule => axiom_step(known, numbering, rule),
     }
@@ -265,20 +265,20 @@ fn axiom_step(known: &Known, numbering: &Numbering, rule: Rule) -> Result<Step, 
     let names = &numbering.variables;
     match rule {
         Rule::Written(column, index, value, other) => Ok(Step::Written {
-            column: known.nodes.column_tree(names, column)?,
-            index: known.nodes.term_tree(names, index)?,
-            value: known.nodes.term_tree(names, value)?,
-            other: known.nodes.term_tree(names, other)?,
+            column: Box::new(known.alloc, known.nodes.column_tree(names, column)?)?,
+            index: Box::new(known.alloc, known.nodes.term_tree(names, index)?)?,
+            value: Box::new(known.alloc, known.nodes.term_tree(names, value)?)?,
+            other: Box::new(known.alloc, known.nodes.term_tree(names, other)?)?,
         }),
         Rule::Same(column, index, other) => Ok(Step::Same {
-            column: known.nodes.column_tree(names, column)?,
-            index: known.nodes.term_tree(names, index)?,
-            other: known.nodes.term_tree(names, other)?,
+            column: Box::new(known.alloc, known.nodes.column_tree(names, column)?)?,
+            index: Box::new(known.alloc, known.nodes.term_tree(names, index)?)?,
+            other: Box::new(known.alloc, known.nodes.term_tree(names, other)?)?,
         }),
         Rule::Affine(slope, start, index) => Ok(Step::Affine {
             slope,
             start,
-            index: known.nodes.term_tree(names, index)?,
+            index: Box::new(known.alloc, known.nodes.term_tree(names, index)?)?,
         }),
         _ => Ok(Step::Open),
     }

@@ -34,8 +34,19 @@ pub fn read_formula<S: Scope>(
 ) -> Result<Formula, ReadFault>
     ensures { IsReading formula_of (formula_reading (S.names scope.now) [] (place_of part.entry) (tree_of part.entry)) result }
 {
+    out_of_box(read_boxed_formula(alloc, scope, part))
+}
+
+/// The same in a box.
+pub fn read_boxed_formula<S: Scope>(
+    alloc: Global,
+    scope: &S,
+    part: Part<'_>,
+) -> Result<Box<Formula>, ReadFault>
+    ensures { IsReading boxed (formula_reading (S.names scope.now) [] (place_of part.entry) (tree_of part.entry)) result }
+{
     let mut bound = Vec::new(alloc);
-    out_of_box(read_bound_formula(alloc, scope, &mut bound, part))
+    read_bound_formula(alloc, scope, &mut bound, part)
 }
 
 /// The formulas that the items read as that are left in a list.

@@ -14,7 +14,7 @@ mod words;
 
 pub use column::{read_column, read_numbers};
 pub use declared_column::read_declared_column;
-pub use formula::{read_formula, read_formulas};
+pub use formula::{read_boxed_formula, read_formula, read_formulas};
 pub use printing::{Spelling, write_column, write_formula, write_term};
 pub use scope::{ColumnUse, Extra, Scope};
 pub use term::{Terms, read_number, read_term};

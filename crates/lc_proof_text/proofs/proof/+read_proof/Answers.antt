@@ -1,6 +1,5 @@
 use Rattle.std.proofs.Common.{◌≡◌, ℕ, ◌+◌, zero, false, refl, sym, ap, ap₂, ◌∙◌, arith}
-use Rattle.std.specs.Prelude.{Result, Box}
-use Rattle.std.specs.declared.alloc.Global.{Global}
+use Rattle.std.specs.Prelude.{Result}
 use Rattle.std.specs.Result.{IsErrAnd}
 use Rattle.lc_sexp.specs.Trees.{Tree, Trees, ◌▸◌, item_count, item_count_of_all}
 use Rattle.lc_sexp.specs.Shown.{rest_of, number_of, owner_of}
@@ -10,7 +9,7 @@ use Rattle.lc_sexp.specs.declared.misfit.Misfit.TheVariants.{Shape as Misshapen}
 use Rattle.lc_text.specs.Names.{Names}
 use Rattle.lc_kernel.specs.Proofs as S
 use Rattle.lc_kernel.specs.Proofs.{more}
-use Rattle.lc_proof_text.specs.Own.{IsShort, boxed_proof, unboxed}
+use Rattle.lc_proof_text.specs.Own.{IsShort}
 use Rattle.lc_kernel.specs.View.{proof_of}
 use Rattle.lc_kernel.specs.declared.proof.Proof.{Proof as SeenProof}
 use Rattle.lc_reading.specs.Results.{IsReading}
@@ -30,7 +29,7 @@ use Rattle.lc_proof_text.specs.Steps.{step_reading}
 use Rattle.lc_proof_text.specs.declared.head.Due.{Due}
 use Rattle.lc_proof_text.proofs.Behind.{misfit_at}
 use Rattle.lc_proof_text.proofs.Left.{left_proofs, short_proofs}
-use Rattle.lc_proof_text.proofs.Proofs.{proofs_end, proofs_wrong, unboxed_reads}
+use Rattle.lc_proof_text.proofs.Proofs.{proofs_end, proofs_wrong}
 use Rattle.lc_proof_text.proofs.proof.+read_proof.Goals as goal
 
 pub read_branches-returns-then-is_met : goal.read_branches-returns-then-is_met
@@ -72,32 +71,32 @@ read_branches-proofs-preserved g t c =
     let left = one_more names c.args.owner c.proofs.due c.later-due.result c.proofs.list c.next_part.new.list c.in-Ok.part full c.later-due.ensures at next in
     let size = ap item_count_of_all next.rest in
     record {
-      read = so_far_push proof_of more _ _ _ c.proofs.proofs (unboxed c.read_boxed.result) c.pushed_out-proofs.result (rw left at c.proofs.invariant.read)
-          (unboxed_reads _ _ c.read_boxed.ensures) c.pushed_out-proofs.ensures;
+      read = so_far_push proof_of more _ _ _ c.proofs.proofs c.read_proof.result c.pushed_proof-proofs.result (rw left at c.proofs.invariant.read)
+          c.read_proof.ensures c.pushed_proof-proofs.ensures;
       shorter = omega (arith, size, c.proofs.invariant.shorter);
     }
 
-pub read_boxed-returns-in-Some : goal.read_boxed-returns-in-Some
-read_boxed-returns-in-Some g t c =
+pub read_proof-returns-in-Some : goal.read_proof-returns-in-Some
+read_proof-returns-in-Some g t c =
     let names = g.S.Scope.names c.args.scope.now in
     let other = sym c.is_sum.ensures ∙ c.if-is_sum.false in
-    headed_at boxed_proof (proof_reading names) (with_proofs names c.in-Some.head) _ _ c.in-List.list c.in_ok-word.parts c.in_ok-word.word.now _
+    headed_at proof_of (proof_reading names) (with_proofs names c.in-Some.head) _ _ c.in-List.list c.in_ok-word.parts c.in_ok-word.word.now _
     c.in-List.ensures.tree c.in-List.ensures.number c.in-List.ensures.placed c.in_ok-word.ensures (λ n ts. rw (other, sym c.in-Some.ensures) refl) c.read_step.ensures
 
 -- a step that lacks parts
-short_step : (names : Names) (h : Head) (n m : ℕ) (ts : Trees) (misfit : Misfit) (result : Result (Box SeenProof Global) ReadFault)
+short_step : (names : Names) (h : Head) (n m : ℕ) (ts : Trees) (misfit : Misfit) (result : Result SeenProof ReadFault)
     → (misfit ≡ Misshapen n) × (step_reading names h n m ts ≡ wrong Shape n) × IsShort (own_parts h) ts → IsErrAnd result (λ fault. fault ≡ Flawed (misfit_flaw misfit))
-    → IsReading boxed_proof (with_proofs names h n m ts) result
+    → IsReading proof_of (with_proofs names h n m ts) result
 short_step names h n m ts misfit result (is, own, short) told =
-    misfit_at boxed_proof n (with_proofs names h n m ts) misfit result (ap₂ (both S.proof) own (short_proofs names n (own_parts h) (proofs_due h) m ts short)) is told
+    misfit_at proof_of n (with_proofs names h n m ts) misfit result (ap₂ (both S.proof) own (short_proofs names n (own_parts h) (proofs_due h) m ts short)) is told
 
-pub read_step-returns-in_err-begun : goal.read_step-returns-in_err-begun
-read_step-returns-in_err-begun g t c =
-    short_step (g.S.Scope.names c.args.scope.now) c.args.head (owner_of c.args.list.now) (number_of c.args.list.now) (rest_of c.args.list.now) _ c.from_residual.result c.in_err-begun.ensures c.from_residual.ensures.1
+pub read_step-returns-in_err-step : goal.read_step-returns-in_err-step
+read_step-returns-in_err-step g t c =
+    short_step (g.S.Scope.names c.args.scope.now) c.args.head (owner_of c.args.list.now) (number_of c.args.list.now) (rest_of c.args.list.now) _ c.from_residual.result c.in_err-step.ensures c.from_residual.ensures.1
 
 pub read_step-returns : goal.read_step-returns
 read_step-returns g t c =
     let names = g.S.Scope.names c.args.scope.now in
-    let (own, left) = c.in_ok-begun.ensures in
+    let (own, left) = c.in_ok-step.ensures in
     let due = left_proofs names (owner_of c.args.list.now) (own_parts c.args.head) (proofs_due c.args.head) _ _ c.read_begun.new.list left in
     rw due (c.finished.ensures _ _ own (rw (c.owner-owner.ensures, c.proofs_due.ensures) at c.read_branches.ensures))

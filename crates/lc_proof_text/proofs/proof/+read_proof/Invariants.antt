@@ -8,8 +8,8 @@ use Rattle.lc_reading.proofs.SoFar.{IsSoFar}
 use Rattle.lc_proof_text.specs.Proofs.{proofs_reading}
 use Rattle.lc_proof_text.proofs.proof.+read_proof.Given as goal
 
-abbrev pub decreases-read_boxed : goal.decreases-read_boxed
-decreases-read_boxed g l = 2 * item_count (tree_of l.part.now)
+abbrev pub decreases-read_proof : goal.decreases-read_proof
+decreases-read_proof g l = 2 * item_count (tree_of l.part)
 
 abbrev pub decreases-read_step : goal.decreases-read_step
 decreases-read_step g l = 2 * item_count_of_all (rest_of l.list.now) + 2
