@@ -2,11 +2,18 @@
 may be.
 
 Each entry of ABUSES answers commands, as words in which DEV, CERT, FILE and HISTORY stand for the files, and the bytes of
-these files by such a word.
+these files by such a word. Its lists have COUNT items, or so many that a file is as large as one may be.
 """
 
+import os
+
+EXAMPLES = os.path.join(os.path.dirname(os.path.abspath(__file__)), os.pardir, "examples")
 COUNT = 200_000
+LARGE = 16_700_000
 NESTING = 1000
+
+# How many items the lists have now.
+count = COUNT
 
 SPEC = {"name": "s", "abstract": "(v 0 0)", "operations": "(op go () 0 (branch (and) () ()))"}
 OBJECT = {
@@ -23,9 +30,12 @@ DEVELOPMENT = ["show DEV", "show DEV --lines", "conditions DEV", "check DEV CERT
 HISTORY = b'{"events":[],"order":[]}'
 
 
-def many(text, count=COUNT):
-    """So many copies of a text, with their number in place of `@`."""
-    return " ".join(text.replace("@", str(i)) for i in range(count))
+def many(text, times=None, between=None):
+    """So many copies of a text, with their number in place of `@`, and with no more between them than has to be."""
+    parts, numbers = text.split("@"), range(times or count)
+    if between is None:
+        between = "" if text.endswith(")") else " "
+    return between.join([str(i).join(parts) for i in numbers] if parts[1:] else [text] * len(numbers))
 
 
 def development(commands=DEVELOPMENT, certificate="(certificate s)", **parts):
@@ -64,16 +74,29 @@ def formula(hypotheses="", goal="(<= x 0)", proof="(open)", variables="x", colum
     return ["formula FILE"], {"FILE": text.encode()}
 
 
+def hints(text):
+    return ["prove DEV --hints FILE"], {"DEV": development()[1]["DEV"], "FILE": f"(hints {text})".encode()}
+
+
+def example(name):
+    with open(os.path.join(EXAMPLES, name), "rb") as file:
+        return file.read()
+
+
+def plan(text):
+    return ["run DEV CERT FILE"], {"DEV": example("counter.lc"), "CERT": example("counter.cert"), "FILE": f"(plan 1 {text})".encode()}
+
+
 def judged(text):
-    return ["judge DEV HISTORY"], {"DEV": development()[1]["DEV"], "HISTORY": text.encode()}
+    return ["judge DEV HISTORY", "draw DEV HISTORY"], {"DEV": development()[1]["DEV"], "HISTORY": text.encode()}
 
 
 def history(events="", order=""):
     return judged(f'{{"events":[{events}],"order":[{order}]}}')
 
 
-def commas(text, count=COUNT):
-    return ",".join(text.replace("@", str(i)) for i in range(count))
+def commas(text):
+    return many(text, between=",")
 
 
 def nested(begin, middle, end, depth):
@@ -117,40 +140,48 @@ def deep_steps():
     return formula(nested("(and ", "(<= 1 0)", ")", depth), "(or)", f"{steps}(sum ({1 + depth} 1)){')' * depth}")
 
 
-def conjuncts(count):
+def conjuncts(times):
     """So many conjuncts at a point that no code leads to, each with its three proofs. The conditions are not printed, since
     each has all conjuncts for hypotheses."""
-    points = f"(point p0 (load cell 0 (x) p0) (assert)) (point p1 (load cell 0 (x) p0) (assert {many('(and)', count)}))"
+    points = f"(point p0 (load cell 0 (x) p0) (assert)) (point p1 (load cell 0 (x) p0) (assert {many('(and)', times)}))"
     return development(
-        ["show DEV", "check DEV CERT"], f"(certificate s {many(f'(proof @ (cases {count + 9}))', 3 * count)})", points=points
+        ["show DEV", "check DEV CERT"], f"(certificate s {many(f'(proof @ (cases {times + 9}))', 3 * times)})", points=points
     )
 
 
+def files(name, large):
+    """What an entry answers; if it is to be large, with lists so long that a file has LARGE bytes, or none of less than half."""
+    global count
+    count = COUNT
+    commands, texts = ABUSES[name]()
+    for _ in range(2 if large else 0):
+        count = count * LARGE // max(map(len, texts.values()))
+        commands, texts = ABUSES[name]()
+    is_due = not large or max(map(len, texts.values())) > LARGE // 2
+    return commands if is_due else [], texts
+
+
 BRANCHED = many("(branch (and) () ())", 8)
-NUMBERS = many("0")
-TRUE = many("(and)")
 CHOICES = "(op go () 0 (choice one (k) (and) () ()))"
-ZERO = many("(<= 0 @)")
-CASES = f"(or {many('(<= 1 0)')})"
+TOLD = "(n (<= (rd c 0) 0))"
 
 ABUSES = {
     "small_formula": lambda: formula("(<= x 0)", "(<= x 0)", "(opposite 0 1)"),
     "small_development": development,
     # What an action, an edge or a point has too many of.
     "action_updates": lambda: development(actions=f"(action act () (and) {many('(c 0 1)')})"),
-    "action_updates_told": lambda: development(actions=f"(action act () (and) {many('(c 0 1)')})", invariant="(n (<= (rd c 0) 0))"),
-    "updates_of_a_column": lambda: development(actions=f"(action act () (and) {many('(c @ @)', 50_000)})"),
-    "updates_on_an_edge": lambda: riders("", actions=f"(action act () (and) {many('(c @ @)', 50_000)})"),
-    "many_updates_of_a_column": lambda: development(actions=f"(action act () (and) {many('(c @ @)', 500_000)})"),
-    "many_updates_on_an_edge": lambda: riders("", actions=f"(action act () (and) {many('(c @ @)', 500_000)})"),
-    "most_updates_told": lambda: development(actions=f"(action act () (and) {many('(c 0 1)', 2_000_000)})", invariant="(n (<= (rd c 0) 0))"),
-    "updates_up_to_the_limit": lambda: riders("", actions=f"(action act () (and) {many('(c @ @)', 940_000)})"),
-    "lin_riders": lambda: riders(many("(lin)", 40_000)),
-    "set_riders": lambda: riders(many("(set h 0 1)", 900_000)),
+    "action_updates_told": lambda: development(actions=f"(action act () (and) {many('(c 0 1)')})", invariant=TOLD),
+    "updates_told_at_a_point": lambda: riders(
+        "", asserts="(<= (rd c 0) 0)", actions=f"(action act () (and) {many('(c 0 1)')})", invariant=TOLD
+    ),
+    "updates_of_a_column": lambda: development(actions=f"(action act () (and) {many('(c @ @)')})"),
+    "updates_on_an_edge": lambda: riders("", actions=f"(action act () (and) {many('(c @ @)')})"),
+    "lin_riders": lambda: riders(many("(lin)")),
+    "set_riders": lambda: riders(many("(set h 0 1)")),
     "paths_and_updates": lambda: operation(
         f"(op go () 0 {BRANCHED})",
         many("(when (and) (lin))", 6),
-        actions=f"(action act () (and) {many('(c 0 1)', 100_000)})",
+        actions=f"(action act () (and) {many('(c 0 1)')})",
     ),
     "conjuncts_16000": lambda: conjuncts(16_000),
     "conjuncts_33000": lambda: conjuncts(33_000),
@@ -164,63 +195,98 @@ ABUSES = {
     "auxiliary_columns": lambda: development(auxiliaries=many("(h@ 0 0)")),
     "operations": lambda: development(operations=many("(op go@ () 0 (branch (and) () ()))")),
     "operations_and_bodies": lambda: development(
-        operations=many("(op go@ () 0 (branch (and) () ()))", 150_000),
-        bodies=many("(body go@ () (point p@ (return) (assert)))", 150_000),
+        operations=many("(op go@ () 0 (branch (and) () ()))", count * 3 // 4),
+        bodies=many("(body go@ () (point p@ (return) (assert)))", count * 3 // 4),
     ),
     "arguments": lambda: development(operations=f"(op go ({many('a@')}) 0 (branch (and) () ()))"),
     "branches": lambda: operation(f"(op go () 0 {many('(branch (and) () ())')})", "(lin)"),
-    "choices": lambda: operation(f"(op go () 0 {many('(choice way@ () (and) () ())')})", "(lin-by way199999)"),
+    "choices": lambda: operation(f"(op go () 0 {many('(choice way@ () (and) () ())')})", f"(lin-by way{count - 1})"),
     "parameters_of_a_choice": lambda: operation(
-        f"(op go () 0 (choice one ({many('k@')}) (and) () ()))", f"(lin-by one {NUMBERS})"
+        f"(op go () 0 (choice one ({many('k@')}) (and) () ()))", f"(lin-by one {many('0')})"
     ),
-    "guard": lambda: operation(f"(op go () 0 (branch (and {ZERO}) () ()))", "(lin)"),
+    "choice_guard": lambda: operation(f"(op go () 0 (choice one () (or {many('(<= 0 @)')}) () ()))", "(lin-by one)"),
+    "choice_updates": lambda: operation(f"(op go () 0 (choice one () (and) ({many('(v @ @)')}) ()))", "(lin-by one)"),
+    "guard": lambda: operation(f"(op go () 0 (branch (and {many('(<= 0 @)')}) () ()))", "(lin)"),
     "branch_updates": lambda: operation(f"(op go () 0 (branch (and) ({many('(v @ @)')}) ()))", "(lin)"),
-    "branch_replies": lambda: operation(f"(op go () 200000 (branch (and) () ({NUMBERS})))", "(lin)"),
+    "branch_replies": lambda: operation(f"(op go () {count} (branch (and) () ({many('0')})))", "(lin)"),
+    "atoms": lambda: (DEVELOPMENT, {"DEV": many("0").encode(), "CERT": many("0").encode(), "HISTORY": HISTORY}),
     "actions": lambda: development(actions=many("(action act@ () (and))")),
     "action_parameters": lambda: riders("", actions=f"(action act ({many('p@')}) (and))"),
-    "action_guard": lambda: riders("", actions=f"(action act () (or {ZERO}))"),
+    "action_guard": lambda: riders("", actions=f"(action act () (or {many('(<= 0 @)')}))"),
     "invariant": lambda: development(invariant=many("(n@ (and))")),
-    "idle": lambda: development(idle=TRUE),
+    "invariant_or": lambda: development(invariant=f"(n (or {many('(<= 0 @)')}))"),
+    "idle_and": lambda: development(idle=f"(and {many('(<= 0 @)')})"),
+    "idle": lambda: development(idle=many('(or)')),
     "locals": lambda: development(locals=many("x@")),
     "bodies": lambda: development(bodies=many("(body go () (point p0 (return) (assert)))")),
     "points": lambda: development(points=many("(point p@ (return) (assert))")),
-    "asserts": lambda: first_point("(load cell 0 (x) p1)", TRUE),
-    "assert_and": lambda: first_point("(load cell 0 (x) p1)", f"(and {ZERO})"),
-    "assert_or": lambda: first_point("(load cell 0 (x) p1)", f"(or {ZERO})"),
+    "asserts": lambda: first_point("(load cell 0 (x) p1)", many("(or)")),
+    "assert_and": lambda: first_point("(load cell 0 (x) p1)", f"(and {many('(<= 0 @)')})"),
+    "assert_or": lambda: first_point("(load cell 0 (x) p1)", f"(or {many('(<= 0 @)')})"),
+    "assert_forall": lambda: first_point("(load cell 0 (x) p1)", f"(forall i (and {many('(<= i @)')}))"),
     # What an instruction, an edge and a rider are made of.
     "load_targets": lambda: first_point(f"(load cell 0 ({many('x@')}) p1)"),
-    "store_values": lambda: first_point(f"(store cell 0 ({NUMBERS}) p1)"),
-    "cas_values": lambda: first_point(f"(cas cell 0 ({NUMBERS}) ({NUMBERS}) p1 p0)"),
-    "faa_values": lambda: first_point(f"(faa cell 0 ({many('x@')}) ({NUMBERS}) p1)"),
+    "store_values": lambda: first_point(f"(store cell 0 ({many('0')}) p1)"),
+    "cas_values": lambda: first_point(f"(cas cell 0 ({many('0')}) ({many('0')}) p1 p0)"),
+    "faa_values": lambda: first_point(f"(faa cell 0 ({many('x@')}) ({many('0')}) p1)"),
     "set_pairs": lambda: first_point(f"(set ({many('(x@ 0)')}) p1)", locals=many("x@")),
-    "if_and": lambda: first_point(f"(if (and {TRUE}) p1 p0)"),
-    "if_or": lambda: first_point(f"(if (or {ZERO}) p1 p0)"),
-    "return_values": lambda: development(points=f"(point p0 (return {NUMBERS}) (assert))"),
+    "if_and": lambda: first_point(f"(if (and {many('(or)')}) p1 p0)"),
+    "if_or": lambda: first_point(f"(if (or {many('(<= 0 @)')}) p1 p0)"),
+    "return_values": lambda: development(points=f"(point p0 (return {many('0')}) (assert))"),
     "ons": lambda: first_point("(load cell 0 (x) p1)", ons=many("(on next (act))")),
-    "on_arguments": lambda: first_point("(load cell 0 (x) p1)", ons=f"(on next (act {NUMBERS}))"),
-    "when_true": lambda: riders(f"(when (and {TRUE}) (lin))"),
-    "when_and": lambda: riders(f"(when (and {ZERO}) (lin))"),
-    "choice_terms": lambda: operation(CHOICES, f"(lin-by one {NUMBERS})"),
-    "other_choice_terms": lambda: operation(CHOICES, f"(lin-other-by self go one {NUMBERS})"),
+    "on_arguments": lambda: first_point("(load cell 0 (x) p1)", ons=f"(on next (act {many('0')}))"),
+    "when_true": lambda: riders(f"(when (and {many('(or)')}) (lin))"),
+    "when_and": lambda: riders(f"(when (and {many('(<= 0 @)')}) (lin))"),
+    "choice_terms": lambda: operation(CHOICES, f"(lin-by one {many('0')})"),
+    "note_choice_terms": lambda: operation(CHOICES, f"(note-by one {many('0')})"),
+    "other_choice_terms": lambda: operation(CHOICES, f"(lin-other-by self go one {many('0')})"),
     # Certificates, formulas and proofs.
     "entries": lambda: certificate(f"(certificate s {many('(proof @ (open))')})"),
     "entries_without_proof": lambda: certificate(f"(certificate s {many('(proof @)')})"),
     "branches_of_a_proof": lambda: certificate(f"(certificate s (proof 0 (cases 0 {many('(open)')})))"),
     "sum_of_a_proof": lambda: certificate(f"(certificate s (proof 0 (sum {many('(@ 1)')})))"),
+    "short_branches": lambda: certificate(f"(certificate s (proof 0 (cases 0 {many('(sum)')})))"),
+    "branches_of_cuts": lambda: certificate(f"(certificate s (proof 0 (cases 0 {many('(cut(or)(sum)(sum))')})))"),
+    "cut_of_a_proof": lambda: certificate(f"(certificate s (proof 0 (cut (and {many('(<= 0 @)')}) (open) (open))))"),
+    "entries_of_sums": lambda: certificate(f"(certificate s {many('(proof @ (sum (0 1)))')})"),
     "variables": lambda: formula(variables=many("x@"), goal="(<= x0 0)"),
     "columns": lambda: formula(columns=many("c@")),
-    "hypotheses": lambda: formula(many("(<= x @)"), "(<= x 7)", f"(opposite 7 {COUNT})"),
+    "hypotheses_false": lambda: formula(many("(or)")),
+    "or_of_implications": lambda: formula(f"(or {many('(=>(or)(or))')})"),
+    "or_of_ors": lambda: formula(f"(or {many('(or(or)(or))')})"),
+    "hypotheses": lambda: formula(many("(<= x @)"), "(<= x 7)", f"(opposite 7 {count})"),
     "and_split": lambda: formula(f"(and {many('(<= x @)')})", "(<= x 7)", "(split 0 (opposite 9 1))"),
-    "or_cases": lambda: formula(CASES, "(or)", f"(cases 0 {many('(sum (2 1))')})"),
+    "or_cases": lambda: formula(f"(or {many('(<= 1 0)')})", "(or)", f"(cases 0 {many('(sum (2 1))')})"),
+    "branches_of_a_formula": lambda: formula(proof=f"(cases 0 {many('(open)')})"),
+    "or_cases_left": lambda: formula(f"(or {many('(<= 1 0)')})", "(or)", f"(cases 0 {many('(open)')})"),
+    "implied_and_cases": lambda: formula("", f"(and {many('(and)')})", f"(cases 0 {many('(cases 1)')})"),
+    "inst_and": lambda: formula(f"(forall q (and {many('(<= q @)')}))", "(or)", "(inst 0 ?0 (split 2 (open)))"),
+    "fresh_or": lambda: formula(f"(exists q (or {many('(<= q @)')}))", "(or)", "(fresh 0 (open))"),
+    "cut_and": lambda: formula(proof=f"(cut (and {many('(<= 0 @)')}) (open) (split 1 (open)))"),
+    "sum_of_hypotheses": lambda: formula(many("(<= x @)"), "(or)", f"(sum {many('(@ 1)')})"),
     "or_pushed": lambda: formula(
         "",
-        f"(or (=> (<= x 0) (<= x 0)) {ZERO})",
-        f"(push 0 (split 1 (push 2 (split {COUNT + 3} (opposite {COUNT + 4} {COUNT + 5})))))",
+        f"(or (=> (<= x 0) (<= x 0)) {many('(<= 0 @)')})",
+        f"(push 0 (split 1 (push 2 (split {count + 3} (opposite {count + 4} {count + 5})))))",
     ),
-    "sum_entries": lambda: formula("(<= 1 x) (<= x 0)", "(or)", f"(sum {many('(0 1) (1 1)', COUNT // 2)})"),
+    "sum_entries": lambda: formula("(<= 1 x) (<= x 0)", "(or)", f"(sum {many('(0 1) (1 1)', count // 2)})"),
+    # Hints and plans.
+    "hints": lambda: hints(many("(by @(open))")),
+    "terms_of_a_hint": lambda: hints(f"(use 0 {many('0')})"),
+    "cuts_of_hints": lambda: hints(many("(cut 0(or))")),
+    "branches_of_a_hint": lambda: hints(f"(by 0(cases 0 {many('(sum)')}))"),
+    "phases": lambda: plan(many("(phase)")),
+    "scripts": lambda: plan(f"(phase {many('(@)')})"),
+    "calls_of_a_script": lambda: plan(f"(phase(0 {many('(times 0(call get))')}))"),
+    "numbers_of_a_script": lambda: plan(f"(phase(0(call get {many('0')})))"),
     # Histories.
     "events": lambda: history(commas('[@,"call","go",[]]')),
-    "order": lambda: history(commas('[@,"call","go",[]]', 150_000), commas('[@,"go",[],[]]', 150_000)),
+    "order": lambda: history(commas('[@,"call","go",[]]'), commas('[@,"go",[],[]]')),
+    "numbers_for_events": lambda: history(commas("0")),
+    "arrays_for_events": lambda: history(commas("[]")),
+    "lists_for_events": lambda: history(commas("[0]")),
+    "objects_for_events": lambda: history(commas('{"":0}')),
+    "arrays_for_entries": lambda: history("", commas("[]")),
     "numbers_of_a_call": lambda: history(f'[0,"call","go",[{commas("0")}]]'),
     "numbers_of_a_choice": lambda: history("", f'[0,"go",[],[],["one",[{commas("0")}]]]'),
     "keys": lambda: judged("{" + commas('"k@":0') + "}"),
