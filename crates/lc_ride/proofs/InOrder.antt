@@ -3,7 +3,6 @@ use Rattle.std.proofs.Common.{◌≡◌, ℕ, Bool, true, false, List, [], ◌�
 use Rattle.std.specs.Prelude.{MatchOption}
 use Rattle.std.specs.Option.{option_and_then}
 use Rattle.lc_term.specs.Meaning.{State, Env}
-use Rattle.lc_seq.specs.Run.{seq_says}
 use Rattle.lc_seq.specs.Specification.{Operation}
 use Rattle.lc_seq.specs.declared.fault.SeqFault.{SeqFault}
 use Rattle.lc_rider.specs.Rider.{Rider}
@@ -51,6 +50,3 @@ module _ (operations : List Operation) (first self o : ℕ) (e : Env) where
       (fits, subst (λ (x : Option Ridden). MatchOption x (Unit {0}) (λ (y : Ridden). RidersFit operations first self o e y.1 rs)) (sym is) tt),
       ap (option_and_then (λ (x : Ridden). behind operations first x.0 (do_all operations first self o e x.1 rs))) is,
     )
-
-    pub one-faulted : (before after : List Mark) (end : State) (fault : SeqFault) → seq_says fault (RiderFits operations first self o e m r) → Answers m (r ∷ rs) before after end (Err fault)
-    one-faulted before after end fault h = says-less (RidersFit operations first self o e m (r ∷ rs)) (RiderFits operations first self o e m r) fault (λ t. t.0) h

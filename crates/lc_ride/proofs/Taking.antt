@@ -3,7 +3,6 @@ use Rattle.std.proofs.Common.{◌≡◌, ℕ, zero, suc, Bool, true, false, List
 use Rattle.std.specs.Prelude.{FitsSigned, slice_index_or, IsErrAnd, IfErr}
 use Rattle.std.specs.Int.{w64}
 use Rattle.std.specs.Ordering.{int_eq}
-use Rattle.std.proofs.lemmas.Bool.{false≢true}
 use Rattle.std.proofs.lemmas.Bool.Decides.{Decides-int_eq}
 use Rattle.lc_term.specs.Computed.{IsComputed}
 use Rattle.lc_term.specs.Meaning.{State, Env}
@@ -49,19 +48,7 @@ cond_true : {A : Type 0} (b : Bool) (x y : A) → b ≡ true → cond b x y ≡ 
 cond_true true x y e = refl
 cond_true false x y e = absurd cc
 
-cond_false : {A : Type 0} (b : Bool) (x y : A) → b ≡ false → cond b x y ≡ y
-cond_false true x y e = absurd cc
-cond_false false x y e = refl
-
 module _ (operations : List Operation) (first : ℕ) (m : State) (c o : ℕ) (choice : Choice) where
-  -- no branch is taken where the call is none or is settled
-  pub not-taken : FitsSigned w64 (m (pend first) (pos c)) → int_eq (m (pend first) (pos c)) (pos 1) ≡ false →
-      TakenFits operations first m c o choice × (None ≡ taken operations first m c o choice)
-  not-taken fits differs = (
-    (fits, λ e. absurd (false≢true (sym differs ∙ (Decides-int_eq (m (pend first) (pos c)) (pos 1)).1 e))),
-    sym (cond_false (int_eq (m (pend first) (pos c)) (pos 1)) _ None differs),
-  )
-
   pub is-taken : {X : Type 0} (view : X → Option (List Write × List ℤ)) (e : Env) (bs : List Branch) (r : Result X SeqFault) →
       FitsSigned w64 (m (pend first) (pos c)) → int_eq (m (pend first) (pos c)) (pos 1) ≡ true →
       CellsFit m (take (arity operations o) (arg_columns first)) (pos c) → e ≡ call_env c (arguments_in operations first m c o ++ given_in choice) → bs ≡ chosen choice (op_branches operations o) →
@@ -74,9 +61,3 @@ module _ (operations : List Operation) (first : ℕ) (m : State) (c o : ℕ) (ch
       λ t. known (subst (λ z. RunFits m z bs) (sym env-is) (subst (λ z. RunFits m (call_env c (arguments_in operations first m c o ++ given_in choice)) z) (sym branches-are)
       (t.1 ((Decides-int_eq (m (pend first) (pos c)) (pos 1)).0 equal)).1))
   is-taken view e bs (Err OutOfMemory) fits equal cells env-is branches-are known = tt
-
-  -- a fault before the branches
-  pub not-fitting : (fault : SeqFault) → int_eq (m (pend first) (pos c)) (pos 1) ≡ true →
-      seq_says fault (CellsFit m (take (arity operations o) (arg_columns first)) (pos c)) → seq_says fault (TakenFits operations first m c o choice)
-  not-fitting Overflow equal known = λ t. known (t.1 ((Decides-int_eq (m (pend first) (pos c)) (pos 1)).0 equal)).0
-  not-fitting OutOfMemory equal known = tt

@@ -1,57 +1,23 @@
-use Rattle.std.proofs.Common.{◌≡◌, ◌++◌, [], ◌∷◌, false, Ok, refl, subst, rules}
-use Rattle.lc_term.specs.Computed.{IsComputed}
-use Rattle.lc_term.specs.UpdateView.{writes_shown}
-use Rattle.lc_term.specs.Updates.{stored_all}
+use Rattle.std.proofs.Common.{rules}
 use Rattle.lc_action.specs.ActionView.{first_of}
 use Rattle.lc_term.specs.Drafts.{written_in_draft}
-use Rattle.lc_rider.specs.Rider.{mark_writes}
-use Rattle.lc_seq.specs.Run.{seq_says, outcome_in}
+use Rattle.lc_term.specs.State.{state_of}
 use Rattle.lc_seq.specs.SpecView.{operations_of, choice_of}
-use Rattle.lc_ride.specs.Riding.{taken, settle}
-use Rattle.lc_ride.specs.RidingFits.{TakenFits}
-use Rattle.lc_ride.specs.declared.marks.Mark.{Mark}
-use Rattle.lc_ride.proofs.Deeding.{faulted, not-settled, settled}
+use Rattle.lc_ride.specs.Riding.{settle}
+use Rattle.lc_ride.proofs.Deeding.{untaken, not-settled, settled}
 use Rattle.lc_ride.proofs.deeds.settle.Goals as goal
 
 pub returns-in_err-found-clause-done : goal.returns-in_err-found-clause-done
 returns-in_err-found-clause-done c =
-    let ops = operations_of c.args.call.operations.now in
     let m = written_in_draft c.args.draft.now in
-    let first = first_of c.args.call.system in
-    let o = c.args.call.operation.0 in
-    let x = c.args.call.client in
-    let ch = choice_of c.args.pick in
-    let known : seq_says c.in_err-found.field-0.0 (TakenFits ops first m x o ch) =
-    subst (λ s. seq_says c.in_err-found.field-0.0 (TakenFits ops first s x o ch)) c.state.ensures.written c.in_err-found.ensures.computed in
-    faulted (TakenFits ops first m x o ch) (settle ops first m x o ch) c.args.marks.now.items c.args.marks.now.items m c.from_residual.result c.in_err-found.field-0.0 c.from_residual.ensures.1 known
+    let wanted = settle (operations_of c.args.call.operations.now) (first_of c.args.call.system) m c.args.call.client c.args.call.operation.0 (choice_of c.args.pick) in
+    untaken c.args.call (state_of c.state.result.now) m c.state.ensures.written c.args.pick wanted c.args.marks.now.items c.from_residual.result c.in_err-found.field-0.0 c.from_residual.ensures.1 c.in_err-found.ensures.computed
 
 pub returns-in-None-clause-done : goal.returns-in-None-clause-done
 returns-in-None-clause-done c =
-    let ops = operations_of c.args.call.operations.now in
-    let m = written_in_draft c.args.draft.now in
-    let first = first_of c.args.call.system in
-    let o = c.args.call.operation.0 in
-    let x = c.args.call.client in
-    let ch = choice_of c.args.pick in
-    let found : IsComputed seq_says outcome_in (TakenFits ops first m x o ch) (taken ops first m x o ch) (Ok c.in_ok-found.found) =
-    subst (λ s. IsComputed seq_says outcome_in (TakenFits ops first s x o ch) (taken ops first s x o ch) (Ok c.in_ok-found.found)) c.state.ensures.written c.in_ok-found.ensures.computed in
-    let known = subst (λ f. IsComputed seq_says outcome_in (TakenFits ops first m x o ch) (taken ops first m x o ch) (Ok f)) c.in-None.is found in
-    (known.0, not-settled ops first m x o ch known.1)
+    not-settled c.args.call (state_of c.state.result.now) (written_in_draft c.args.draft.now) c.state.ensures.written c.args.pick c.args.marks.now.items c.in_ok-found.found c.in-None.is c.in_ok-found.ensures.computed
 
 pub returns-clause-done : goal.returns-clause-done
 returns-clause-done c =
-    let ops = operations_of c.args.call.operations.now in
-    let m = written_in_draft c.args.draft.now in
-    let first = first_of c.args.call.system in
-    let o = c.args.call.operation.0 in
-    let x = c.args.call.client in
-    let ch = choice_of c.args.pick in
-    let found : IsComputed seq_says outcome_in (TakenFits ops first m x o ch) (taken ops first m x o ch) (Ok c.in_ok-found.found) =
-    subst (λ s. IsComputed seq_says outcome_in (TakenFits ops first s x o ch) (taken ops first s x o ch) (Ok c.in_ok-found.found)) c.state.ensures.written c.in_ok-found.ensures.computed in
-    let known = subst (λ f. IsComputed seq_says outcome_in (TakenFits ops first m x o ch) (taken ops first m x o ch) (Ok f)) c.in-Some.is found in
-    let outcome = c.in-Some.outcome in
-    let ws = writes_shown outcome.writes.items in
-    let the_mark : Mark = record { client = x; note = false; choice = c.args.pick; reply = outcome.replies } in
-    let items : c.push.new.self.items ≡ c.args.marks.now.items ++ the_mark ∷ [] = search rules in
-    let columns : written_in_draft c.write_all-2.new.self ≡ stored_all (stored_all m ws) (mark_writes first x outcome.replies.items) = search rules in
-    settled ops first m x o ch ws outcome.replies.items c.args.marks.now.items c.push.new.self.items the_mark (written_in_draft c.write_all-2.new.self) known.0 known.1 items refl columns
+    settled c.args.call (state_of c.state.result.now) (written_in_draft c.args.draft.now) c.state.ensures.written c.args.pick c.in_ok-found.found c.in-Some.outcome c.in-Some.is c.in_ok-found.ensures.computed
+    c.args.marks.now.items c.push.new.self.items (written_in_draft c.write_all-2.new.self) (search rules) (search rules)

@@ -9,7 +9,7 @@ use Rattle.lc_rider.specs.RiderView.{rider_of, riders_of}
 use Rattle.lc_ride.specs.Riding.{do_rider, do_all}
 use Rattle.lc_ride.specs.RidingFits.{RiderFits, RidersFit}
 use Rattle.lc_ride.specs.RideView.{AreThere, IsRidden, rider_is_seen}
-use Rattle.lc_ride.proofs.Deeding.{faulted, says-less}
+use Rattle.lc_ride.proofs.Deeding.{faulted}
 use Rattle.lc_ride.proofs.InOrder.{Answers, none-left, one-done, one-not-done}
 use Rattle.lc_ride.proofs.riding.ride_all.Goals as goal
 
@@ -59,8 +59,7 @@ returns-in_err-do_rider-clause-done c =
     let new = c.do_rider.new.marks.items in
     let mid = written_in_draft c.do_rider.new.draft in
     let fault = c.in_err-do_rider.field-0.0 in
-    let says = says-less (RidersFit ops first x o e m (r ∷ rs)) (RiderFits ops first x o e m r) fault (λ t. t.0) c.in_err-do_rider.ensures.done in
-    let here = faulted (RidersFit ops first x o e m (r ∷ rs)) (do_all ops first x o e m (r ∷ rs)) marks new mid c.from_residual.result fault c.from_residual.ensures.1 says in
+    let here = faulted (RidersFit ops first x o e m (r ∷ rs)) (RiderFits ops first x o e m r) (do_all ops first x o e m (r ∷ rs)) marks new mid c.from_residual.result fault c.from_residual.ensures.1 (λ t. t.0) c.in_err-do_rider.ensures.done in
     c.loop-rider.invariant.leads new mid c.from_residual.result (subst (λ xs. Answers ops first x o e m xs marks new mid c.from_residual.result) (sym front) here)
 
 pub do_rider-requires-clause-rides : goal.do_rider-requires-clause-rides
