@@ -14,6 +14,7 @@ pub mod PoolStackLaws
 pub mod Queue
 pub mod QueueFollows
 pub mod QueueLaws
+pub mod SameNumbers
 pub mod Snapshot
 pub mod SnapshotLaws
 pub mod Stack
