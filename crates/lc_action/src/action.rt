@@ -63,8 +63,7 @@ pub fn at_client(
 fn is_idle(alloc: Global, system: SystemColumns) -> Result<Formula, OutOfMemory>
     ensures { IfOk result (λ f. formula_of f ≡ Eq (Read (Base (pend (first_of system))) (Variable 1)) (Number (pos 0))) }
 {
-    let own = Box::new(alloc, Term::Variable(1))?;
-    let call = Term::Read(ColExpr::Base(system.pend()), own);
+    let call = Term::read(alloc, ColExpr::Base(system.pend()), Term::Variable(1))?;
     Ok(Formula::Eq(call, Term::Number(0)))
 }
 

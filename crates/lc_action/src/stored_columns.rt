@@ -37,8 +37,8 @@ pub fn read_after(
 ) -> Result<Term, OutOfMemory>
     ensures { IfOk result (λ t. term_of t ≡ Read (columns_in columns.now column.0) (term_of index.now)) }
 {
-    let index = Box::new(alloc, index.try_clone(alloc)?)?;
-    Ok(Term::Read(column_after(alloc, columns, column)?, index))
+    let index = index.try_clone(alloc)?;
+    Term::read(alloc, column_after(alloc, columns, column)?, index)
 }
 
 /// The same columns, in memory of their own.

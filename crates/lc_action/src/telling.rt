@@ -78,7 +78,7 @@ fn said_term(alloc: Global, term: &Term, before: Before<'_>) -> Result<Term, Out
             boxed_term(alloc, term, before)?,
         )),
         Term::Read(column, index) => Ok(Term::Read(
-            said_column(alloc, column, before)?,
+            Box::new(alloc, said_column(alloc, column, before)?)?,
             boxed_term(alloc, index, before)?,
         )),
     }

@@ -15,8 +15,7 @@ use std::alloc::Global;
 fn own_cell(alloc: Global, column: ColId) -> Result<Term, OutOfMemory>
     ensures { IfOk result (λ t. term_of t ≡ Read (Base column.0) (Variable 1)) }
 {
-    let own = Box::new(alloc, Term::Variable(1))?;
-    Ok(Term::Read(ColExpr::Base(column), own))
+    Term::read(alloc, ColExpr::Base(column), Term::Variable(1))
 }
 
 // This stands in the cell of client 1.

@@ -74,8 +74,7 @@ fn push_told(
         writeln!(text, "    in the goal b{place} is {number}")?;
     }
     for cell in &situation.cells {
-        let index = Box::new(alloc, Term::Number(cell.index))?;
-        let read = Term::Read(ColExpr::Base(cell.column), index);
+        let read = Term::read(alloc, ColExpr::Base(cell.column), Term::Number(cell.index))?;
         push_number(text, names, &read, cell.value)?;
     }
     writeln!(text, "    {}", content_words(situation.content))?;

@@ -72,7 +72,10 @@ fn variables_in(
 fn cell_of(numbered: &Numbered, state: &State, env: &Env) -> Option<Write>
     ensures { IfSome result (λ cell. cell.column.0 < column_count state.now) }
 {
-    let Term::Read(ColExpr::Base(column), index) = &numbered.term else {
+    let Term::Read(column, index) = &numbered.term else {
+        return None;
+    };
+    let ColExpr::Base(column) = &**column else {
         return None;
     };
     let columns = state.column_count();

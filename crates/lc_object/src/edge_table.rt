@@ -75,8 +75,7 @@ fn copy_locals(alloc: Global, locals: &[LocalId]) -> Result<Vec<LocalId>, OutOfM
 fn read(alloc: Global, column: ColId, index: &Term) -> Result<Term, OutOfMemory>
     ensures { IfOk result (λ t. term_of t ≡ Read (Base column.0) (term_of index.now)) }
 {
-    let index = Box::new(alloc, index.try_clone(alloc)?)?;
-    Ok(Term::Read(ColExpr::Base(column), index))
+    Term::read(alloc, ColExpr::Base(column), index.try_clone(alloc)?)
 }
 
 // What stands in a cell of these columns.

@@ -96,8 +96,8 @@ fn terms_are_those_of_code(alloc: Global) -> Result<bool, OutOfMemory> {
     let local = is_returned(alloc, Term::Variable(2))?;
     let none = is_returned(alloc, Term::Variable(3))?;
     let clients = is_returned(alloc, Term::Variable(0))?;
-    let index = Box::new(alloc, Term::Number(0))?;
-    let column = is_returned(alloc, Term::Read(ColExpr::Base(ColId(0)), index))?;
+    let read = Term::read(alloc, ColExpr::Base(ColId(0)), Term::Number(0))?;
+    let column = is_returned(alloc, read)?;
     Ok(local & !none & !clients & !column)
 }
 

@@ -37,7 +37,7 @@ pub(crate) fn renamed_term(
             boxed_term(alloc, columns, term)?,
         )),
         Term::Read(column, index) => Ok(Term::Read(
-            renamed_column(alloc, columns, column)?,
+            Box::new(alloc, renamed_column(alloc, columns, column)?)?,
             boxed_term(alloc, columns, index)?,
         )),
     }

@@ -44,7 +44,7 @@ impl Terms {
                 Ok(Term::Multiply(factor, self.boxed_term(alloc, term)?))
             }
             TermNode::Read(column, index) => Ok(Term::Read(
-                self.column(alloc, column)?,
+                Box::new(alloc, self.column(alloc, column)?)?,
                 self.boxed_term(alloc, index)?,
             )),
             TermNode::Base(_) | TermNode::Store(_, _, _) | TermNode::Affine(_, _) => unreachable!(),

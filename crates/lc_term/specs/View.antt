@@ -17,7 +17,7 @@ abbrev mutual
   term_of (Add' p t q u) = S.Add (term_of t) (term_of u)
   term_of (Subtract' p t q u) = S.Subtract (term_of t) (term_of u)
   term_of (Multiply' n p t) = S.Multiply n (term_of t)
-  term_of (Read' c p i) = S.Read (column_of c) (term_of i)
+  term_of (Read' p c q i) = S.Read (column_of c) (term_of i)
 
   -- the tree of a column expression
   pub column_of : ColExpr → S.Column

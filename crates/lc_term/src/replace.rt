@@ -67,7 +67,7 @@ pub(crate) fn replaced_term<R: Replacing>(
             Box::new(alloc, replaced_term(alloc, term, put, depth)?)?,
         )),
         Term::Read(column, index) => Ok(Term::Read(
-            replaced_column(alloc, column, put, depth)?,
+            Box::new(alloc, replaced_column(alloc, column, put, depth)?)?,
             Box::new(alloc, replaced_term(alloc, index, put, depth)?)?,
         )),
     }

@@ -1,5 +1,6 @@
 //! The types of terms and column expressions: copies, and whether two are the same.
 ghost use Rattle.std.specs.Prelude.{◌≡◌, IfOk, IsTrue, ◌↔◌};
+ghost use Rattle.lc_term.specs.Syntax.{Read};
 ghost use Rattle.lc_term.specs.View.{term_of, column_of};
 ghost use Rattle.lc_term.specs.Equal.{term_eq, column_eq};
 ghost use Rattle.lc_term.specs.EqualLaws.{term_eq_equiv, column_eq_equiv};
@@ -25,7 +26,7 @@ pub enum Term {
     /// A product by a number.
     Multiply(i64, Box<Term>),
     /// What a column has at an index.
-    Read(ColExpr, Box<Term>),
+    Read(Box<ColExpr>, Box<Term>),
 }
 
 /// A column: a whole number in each cell, the cells being numbered by the whole numbers.
@@ -67,6 +68,14 @@ impl Drop for ColExpr {
 }
 
 impl Term {
+    /// What a column has at an index.
+    pub fn read(alloc: Global, column: ColExpr, index: Term) -> Result<Term, OutOfMemory>
+        ensures { IfOk result (λ read. term_of read ≡ Read (column_of column) (term_of index)) }
+    {
+        let column = Box::new(alloc, column)?;
+        Ok(Term::Read(column, Box::new(alloc, index)?))
+    }
+
     /// The same term, in memory of its own.
     #[cycle(copy_term)]
     pub fn try_clone(&self, alloc: Global) -> Result<Term, OutOfMemory>
@@ -85,7 +94,7 @@ impl Term {
             )),
             Term::Multiply(factor, term) => Ok(Term::Multiply(*factor, boxed_copy(alloc, term)?)),
             Term::Read(column, index) => Ok(Term::Read(
-                column.try_clone(alloc)?,
+                Box::new(alloc, column.try_clone(alloc)?)?,
                 boxed_copy(alloc, index)?,
             )),
         }

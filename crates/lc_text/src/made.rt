@@ -48,7 +48,7 @@ fn made_access(alloc: Global, parts: Result<(ColExpr, Term), ReadFault>) -> Resu
     ensures { (r : Reading (S.Column × S.Term)) → IsReading access_parts r parts → IsReading term_of (mapped access_of r) result }
 {
     let (column, index) = parts?;
-    Ok(Term::Read(column, Box::new(alloc, index)?))
+    Ok(Term::read(alloc, column, index)?)
 }
 
 /// The column of two numbers.

@@ -49,7 +49,7 @@ fn is_shifted(alloc: Global) -> Result<bool, OutOfMemory> {
     let column = Box::new(alloc, ColExpr::Base(ColId(0)))?;
     let index = Box::new(alloc, Term::Bound(0))?;
     let stored = ColExpr::Store(column, index, Box::new(alloc, Term::Number(7))?);
-    let read = Term::Read(stored, Box::new(alloc, Term::Bound(1))?);
+    let read = Term::read(alloc, stored, Term::Bound(1))?;
     let mut terms = Terms::new(alloc);
     let id = terms.enter_term(&read)?;
     let moved = terms.shift(alloc, id, 2, 1)?;

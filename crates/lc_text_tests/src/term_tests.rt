@@ -19,7 +19,7 @@ fn is_read_beside_a_store(alloc: Global, state: &State, env: &Env) -> Result<boo
     let index = Box::new(alloc, Term::Number(4))?;
     let large = Term::Multiply(2, Box::new(alloc, Term::Number(i64::MAX))?);
     let stored = ColExpr::Store(column, index, Box::new(alloc, large)?);
-    let elsewhere = Term::Read(stored, Box::new(alloc, Term::Variable(0))?);
+    let elsewhere = Term::read(alloc, stored, Term::Variable(0))?;
     Ok(eval_term(&elsewhere, state, env) == Ok(13))
 }
 
@@ -27,7 +27,7 @@ fn is_read_beside_a_store(alloc: Global, state: &State, env: &Env) -> Result<boo
 fn is_read_on_a_line(alloc: Global, state: &State, env: &Env) -> Result<bool, OutOfMemory>
     requires { variable_count env.now ≡ 1 }
 {
-    let affine = Term::Read(ColExpr::Affine(2, 3), Box::new(alloc, Term::Variable(0))?);
+    let affine = Term::read(alloc, ColExpr::Affine(2, 3), Term::Variable(0))?;
     Ok(eval_term(&affine, state, env) == Ok(13))
 }
 
@@ -130,7 +130,7 @@ fn cell(alloc: Global) -> Result<Term, OutOfMemory> {
     let column = Box::new(alloc, ColExpr::Affine(1, 2))?;
     let index = Box::new(alloc, Term::Bound(0))?;
     let stored = ColExpr::Store(column, index, Box::new(alloc, Term::Number(3))?);
-    Ok(Term::Read(stored, Box::new(alloc, Term::Number(4))?))
+    Term::read(alloc, stored, Term::Number(4))
 }
 
 /// `(and (<= (rd (store (affine 1 2) b0 3) 4) ?0) (or))`

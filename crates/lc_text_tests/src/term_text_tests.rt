@@ -36,9 +36,9 @@ impl Spelling for Numbers {
 
 /// `(forall b1 (<= (rd c0 b1) ?0))` and `(<= (rd c0 ?1) ?0)`, below one quantifier.
 fn comparisons(alloc: Global) -> Result<Formula, OutOfMemory> {
-    let cell = Term::Read(ColExpr::Base(ColId(0)), Box::new(alloc, Term::Bound(0))?);
+    let cell = Term::read(alloc, ColExpr::Base(ColId(0)), Term::Bound(0))?;
     let each = Formula::Forall(Box::new(alloc, Formula::Le(cell, Term::Variable(0)))?);
-    let cell = Term::Read(ColExpr::Base(ColId(0)), Box::new(alloc, Term::Variable(1))?);
+    let cell = Term::read(alloc, ColExpr::Base(ColId(0)), Term::Variable(1))?;
     let one = Formula::Le(cell, Term::Variable(0));
     Ok(Formula::And(Vec::from_array(alloc, [each, one])?))
 }

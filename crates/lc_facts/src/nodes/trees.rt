@@ -111,7 +111,7 @@ impl Nodes {
         index: Box<Term>,
         levels: usize,
     ) -> Result<Box<Term>, Stop> {
-        let column = self.column_within(names, column, levels)?;
+        let column = Box::new(self.alloc, self.column_within(names, column, levels)?)?;
         boxed_term(self.alloc, Term::Read(column, index))
     }
 
