@@ -43,17 +43,23 @@ fn take_step(
         }
         Step::Fresh { hypothesis } => fresh(alloc, terms, setting, *hypothesis),
         Step::Cut { formula } => cut(alloc, terms, setting, formula),
-        Step::Written {
-            column,
-            index,
-            value,
-            other,
-        } => written(alloc, terms, setting, column, index, value, other),
-        Step::Same {
-            column,
-            index,
-            other,
-        } => same(alloc, terms, setting, column, index, other),
+        Step::Written { access } => written(
+            alloc,
+            terms,
+            setting,
+            &access.column,
+            &access.index,
+            &access.value,
+            &access.other,
+        ),
+        Step::Same { access } => same(
+            alloc,
+            terms,
+            setting,
+            &access.column,
+            &access.index,
+            &access.other,
+        ),
         Step::Affine {
             slope,
             start,

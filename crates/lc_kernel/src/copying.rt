@@ -4,9 +4,9 @@ ghost use Rattle.lc_kernel.specs.Proofs as S;
 ghost use Rattle.lc_kernel.specs.View.{multiple_of, step_of, proof_of, proofs_of};
 ghost use Rattle.lc_term.specs.View.{term_of, column_of, formula_of};
 
-use crate::proof::{Multiple, Proof, Step};
+use crate::proof::{Multiple, Proof, SameAccess, Step, StoredAccess};
 use lc_base::OutOfMemory;
-use lc_term::{ColExpr, Formula, Term};
+use lc_term::{Formula, Term};
 use std::alloc::Global;
 
 fn instantiated(alloc: Global, hypothesis: i64, term: &Term) -> Result<Step, OutOfMemory>
@@ -23,30 +23,30 @@ fn cut(alloc: Global, formula: &Formula) -> Result<Step, OutOfMemory>
     Ok(Step::Cut { formula })
 }
 
-fn written(
-    alloc: Global,
-    column: &ColExpr,
-    index: &Term,
-    value: &Term,
-    other: &Term,
-) -> Result<Step, OutOfMemory>
-    ensures { IfOk result (λ copy. step_of copy ≡ S.Written (column_of column.now) (term_of index.now) (term_of value.now) (term_of other.now)) }
+fn written(alloc: Global, access: &StoredAccess) -> Result<Step, OutOfMemory>
+    ensures { IfOk result (λ copy. step_of copy ≡ S.Written (column_of access.now.column) (term_of access.now.index) (term_of access.now.value) (term_of access.now.other)) }
 {
+    let access = StoredAccess {
+        column: access.column.try_clone(alloc)?,
+        index: access.index.try_clone(alloc)?,
+        value: access.value.try_clone(alloc)?,
+        other: access.other.try_clone(alloc)?,
+    };
     Ok(Step::Written {
-        column: Box::new(alloc, column.try_clone(alloc)?)?,
-        index: Box::new(alloc, index.try_clone(alloc)?)?,
-        value: Box::new(alloc, value.try_clone(alloc)?)?,
-        other: Box::new(alloc, other.try_clone(alloc)?)?,
+        access: Box::new(alloc, access)?,
     })
 }
 
-fn same(alloc: Global, column: &ColExpr, index: &Term, other: &Term) -> Result<Step, OutOfMemory>
-    ensures { IfOk result (λ copy. step_of copy ≡ S.Same (column_of column.now) (term_of index.now) (term_of other.now)) }
+fn same(alloc: Global, access: &SameAccess) -> Result<Step, OutOfMemory>
+    ensures { IfOk result (λ copy. step_of copy ≡ S.Same (column_of access.now.column) (term_of access.now.index) (term_of access.now.other)) }
 {
+    let access = SameAccess {
+        column: access.column.try_clone(alloc)?,
+        index: access.index.try_clone(alloc)?,
+        other: access.other.try_clone(alloc)?,
+    };
     Ok(Step::Same {
-        column: Box::new(alloc, column.try_clone(alloc)?)?,
-        index: Box::new(alloc, index.try_clone(alloc)?)?,
-        other: Box::new(alloc, other.try_clone(alloc)?)?,
+        access: Box::new(alloc, access)?,
     })
 }
 
@@ -96,17 +96,8 @@ fn copy_of_step(alloc: Global, step: &Step) -> Result<Step, OutOfMemory>
         } => instantiated(alloc, hypothesis, term),
         Step::Fresh { hypothesis } => Ok(Step::Fresh { hypothesis }),
         Step::Cut { ref formula } => cut(alloc, formula),
-        Step::Written {
-            ref column,
-            ref index,
-            ref value,
-            ref other,
-        } => written(alloc, column, index, value, other),
-        Step::Same {
-            ref column,
-            ref index,
-            ref other,
-        } => same(alloc, column, index, other),
+        Step::Written { ref access } => written(alloc, access),
+        Step::Same { ref access } => same(alloc, access),
         Step::Affine {
             slope,
             start,

@@ -21,7 +21,7 @@ mod uses;
 pub use fault::ProofFault;
 pub use goal::Goal;
 pub use hypotheses::Hypotheses;
-pub use proof::{Multiple, Proof, Step};
+pub use proof::{Multiple, Proof, SameAccess, Step, StoredAccess};
 pub use proving::prove;
 pub use reason::{Flaw, Reason};
 pub use rules::{entered_cell, entered_pair};

@@ -59,16 +59,11 @@ pub enum Step {
     },
     /// `(written C i v j P)`: one branch, with the axiom of a stored value.
     Written {
-        column: Box<ColExpr>,
-        index: Box<Term>,
-        value: Box<Term>,
-        other: Box<Term>,
+        access: Box<StoredAccess>,
     },
     /// `(same C i j P)`: one branch, with the axiom of equal indexes.
     Same {
-        column: Box<ColExpr>,
-        index: Box<Term>,
-        other: Box<Term>,
+        access: Box<SameAccess>,
     },
     /// `(affine a b i P)`: one branch, with the axiom of the column that has `a * i + b` at i.
     Affine {
@@ -113,17 +108,8 @@ impl Drop for Step {
                 term: _,
             } => {}
             Step::Cut { formula: _ } => {}
-            Step::Written {
-                column: _,
-                index: _,
-                value: _,
-                other: _,
-            } => {}
-            Step::Same {
-                column: _,
-                index: _,
-                other: _,
-            } => {}
+            Step::Written { access: _ } => {}
+            Step::Same { access: _ } => {}
             Step::Affine {
                 slope: _,
                 start: _,
@@ -142,6 +128,23 @@ impl Drop for Step {
             Step::Open => {}
         }
     }
+}
+
+/// A value that is stored in a column at an index, and another index at which the column is read.
+#[derive(Drop)]
+pub struct StoredAccess {
+    pub column: ColExpr,
+    pub index: Term,
+    pub value: Term,
+    pub other: Term,
+}
+
+/// A column that is read at two indexes.
+#[derive(Drop)]
+pub struct SameAccess {
+    pub column: ColExpr,
+    pub index: Term,
+    pub other: Term,
 }
 
 /// So many times a hypothesis.

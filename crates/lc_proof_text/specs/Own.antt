@@ -16,9 +16,8 @@ use Rattle.lc_reading.specs.Readings.{Reading, fine, wrong}
 use Rattle.lc_reading.specs.Results.{IsReading}
 use Rattle.lc_reading.specs.declared.flaw.ReadFault.{ReadFault}
 use Rattle.lc_term.specs.Syntax as T
-use Rattle.lc_term.specs.View.{term_of, column_of}
+use Rattle.lc_term.specs.View.{term_of}
 use Rattle.lc_term.specs.declared.term.Term.{Term}
-use Rattle.lc_term.specs.declared.term.ColExpr.{ColExpr}
 use Rattle.lc_text.specs.Terms.{number_reading}
 use Rattle.lc_reading.specs.declared.pass.Pass.TheVariants.{Shape}
 
@@ -48,18 +47,9 @@ abbrev pub IsBegun : Reading S.Step → ℕ → Cursor → Result (Result Step R
 IsBegun read k old (Ok step) new = IsOwn read k old (Ok (step, new))
 IsBegun read k old (Err misfit) new = IsOwn read k old (Err misfit)
 
--- what is in boxes
+-- the term in a box
 abbrev pub boxed_term : Box Term Global → T.Term
 boxed_term t = term_of t.value
-
-abbrev pub boxed_column : Box ColExpr Global → T.Column
-boxed_column c = column_of c.value
-
-abbrev pub boxed_cell : Box ColExpr Global × Box Term Global → T.Column × T.Term
-boxed_cell p = (boxed_column p.0, boxed_term p.1)
-
-abbrev pub boxed_terms : Box Term Global × Box Term Global → T.Term × T.Term
-boxed_terms p = (boxed_term p.0, boxed_term p.1)
 
 -- the proofs of branches
 abbrev pub branches_of : Vec Proof Global → S.Proofs

@@ -114,23 +114,14 @@ fn write_step<S: Spelling>(out: &mut String, spelling: &S, step: &Step) -> Resul
             out.push_str("cut")?;
             write_part(out, spelling, formula)
         }
-        Step::Written {
-            column,
-            index,
-            value,
-            other,
-        } => {
-            write_cell(out, spelling, "written", column, index)?;
-            write_index(out, spelling, value)?;
-            write_index(out, spelling, other)
+        Step::Written { access } => {
+            write_cell(out, spelling, "written", &access.column, &access.index)?;
+            write_index(out, spelling, &access.value)?;
+            write_index(out, spelling, &access.other)
         }
-        Step::Same {
-            column,
-            index,
-            other,
-        } => {
-            write_cell(out, spelling, "same", column, index)?;
-            write_index(out, spelling, other)
+        Step::Same { access } => {
+            write_cell(out, spelling, "same", &access.column, &access.index)?;
+            write_index(out, spelling, &access.other)
         }
         Step::Affine {
             slope,

@@ -1,18 +1,21 @@
 //! The parts of a step that stand before its proofs. Parts too many are told where the proofs are read.
-ghost use Rattle.std.specs.Prelude.{◌≡◌, []};
+ghost use Rattle.std.specs.Prelude.{◌≡◌, [], IfOk, IfErr};
 ghost use Rattle.lc_sexp.specs.Shown.{rest_of, number_of, owner_of};
+ghost use Rattle.lc_kernel.specs.Proofs as S;
 ghost use Rattle.lc_kernel.specs.View.{step_of};
+ghost use Rattle.lc_term.specs.View.{term_of, column_of};
+ghost use Rattle.lc_reading.specs.declared.flaw.ReadFault.TheVariants.{OutOfMemory};
 ghost use Rattle.lc_reading.specs.Parts.{tree_of, place_of};
 ghost use Rattle.lc_reading.specs.Results.{IsReading};
-ghost use Rattle.lc_text.specs.Seen.{numbers_of};
-ghost use Rattle.lc_text.specs.Terms.{column_reading, term_reading};
+ghost use Rattle.lc_text.specs.Seen.{numbers_of, terms_of, access_parts};
+ghost use Rattle.lc_text.specs.Terms.{term_reading};
 ghost use Rattle.lc_proof_text.specs.Heads.{own_parts};
-ghost use Rattle.lc_proof_text.specs.Own.{IsOwn, boxed_column, boxed_term, boxed_cell, boxed_terms};
+ghost use Rattle.lc_proof_text.specs.Own.{IsOwn, boxed_term};
 ghost use Rattle.lc_proof_text.specs.Steps.{hypothesis_step, two_numbers, two_terms, cell_reading, hypothesis_reading, instantiate_reading, cut_reading, written_reading, same_reading, affine_reading, divide_reading, opposite_reading, step_reading};
 
 use crate::head::Head;
 use crate::numbers::{first_number, first_numbers};
-use lc_kernel::Step;
+use lc_kernel::{SameAccess, Step, StoredAccess};
 use lc_reading::{Part, ReadFault, both, next_part, one, two};
 use lc_sexp::{Cursor, Misfit};
 use lc_term::{ColExpr, Term};
@@ -87,31 +90,19 @@ fn read_boxed_term<S: Scope>(
     Ok(Box::new(alloc, read_term(alloc, scope, part)?)?)
 }
 
-/// The column expression that an item reads as, in a box. A column that may not be read so is told at the reader.
-fn read_boxed_column<S: Scope>(
-    alloc: Global,
-    scope: &S,
-    reader: u64,
-    part: Part<'_>,
-) -> Result<Box<ColExpr>, ReadFault>
-    ensures { IsReading boxed_column (column_reading (S.names scope.now) [] reader (place_of part.entry) (tree_of part.entry)) result }
-{
-    Ok(Box::new(alloc, read_column(alloc, scope, reader, part)?)?)
-}
-
-/// A column and an index.
+/// A column and an index. A column that may not be read so is told at the reader.
 fn read_cell<S: Scope>(
     alloc: Global,
     scope: &S,
     reader: u64,
     first: Part<'_>,
     second: Part<'_>,
-) -> Result<(Box<ColExpr>, Box<Term>), ReadFault>
-    ensures { IsReading boxed_cell (cell_reading (S.names scope.now) reader (place_of first.entry) (tree_of first.entry) (place_of second.entry) (tree_of second.entry)) result }
+) -> Result<(ColExpr, Term), ReadFault>
+    ensures { IsReading access_parts (cell_reading (S.names scope.now) reader (place_of first.entry) (tree_of first.entry) (place_of second.entry) (tree_of second.entry)) result }
 {
     both(
-        read_boxed_column(alloc, scope, reader, first),
-        read_boxed_term(alloc, scope, second),
+        read_column(alloc, scope, reader, first),
+        read_term(alloc, scope, second),
     )
 }
 
@@ -120,12 +111,12 @@ fn read_terms<S: Scope>(
     scope: &S,
     first: Part<'_>,
     second: Part<'_>,
-) -> Result<(Box<Term>, Box<Term>), ReadFault>
-    ensures { IsReading boxed_terms (two_terms (S.names scope.now) (place_of first.entry) (tree_of first.entry) (place_of second.entry) (tree_of second.entry)) result }
+) -> Result<(Term, Term), ReadFault>
+    ensures { IsReading terms_of (two_terms (S.names scope.now) (place_of first.entry) (tree_of first.entry) (place_of second.entry) (tree_of second.entry)) result }
 {
     both(
-        read_boxed_term(alloc, scope, first),
-        read_boxed_term(alloc, scope, second),
+        read_term(alloc, scope, first),
+        read_term(alloc, scope, second),
     )
 }
 
@@ -133,6 +124,39 @@ fn read_numbers(first: Part<'_>, second: Part<'_>) -> Result<(i64, i64), ReadFau
     ensures { IsReading numbers_of (two_numbers (place_of first.entry) (tree_of first.entry) (place_of second.entry) (tree_of second.entry)) result }
 {
     both(read_number(first), read_number(second))
+}
+
+/// The axiom of a stored value, of these parts.
+fn made_written(alloc: Global, parts: ((ColExpr, Term), (Term, Term))) -> Result<Step, ReadFault>
+    ensures made { IfOk result (λ step. step_of step ≡ S.Written (column_of parts.0.0) (term_of parts.0.1) (term_of parts.1.0) (term_of parts.1.1)) }
+    ensures fault { IfErr result (λ fault. fault ≡ OutOfMemory) }
+{
+    let ((column, index), (value, other)) = parts;
+    let access = StoredAccess {
+        column,
+        index,
+        value,
+        other,
+    };
+    Ok(Step::Written {
+        access: Box::new(alloc, access)?,
+    })
+}
+
+/// The axiom of equal indexes, of these parts.
+fn made_same(alloc: Global, parts: ((ColExpr, Term), Term)) -> Result<Step, ReadFault>
+    ensures made { IfOk result (λ step. step_of step ≡ S.Same (column_of parts.0.0) (term_of parts.0.1) (term_of parts.1)) }
+    ensures fault { IfErr result (λ fault. fault ≡ OutOfMemory) }
+{
+    let ((column, index), other) = parts;
+    let access = SameAccess {
+        column,
+        index,
+        other,
+    };
+    Ok(Step::Same {
+        access: Box::new(alloc, access)?,
+    })
 }
 
 fn read_written<'a, S: Scope>(alloc: Global, scope: &S, list: Cursor<'a>) -> Result<Own<'a>, Misfit>
@@ -145,12 +169,7 @@ fn read_written<'a, S: Scope>(alloc: Global, scope: &S, list: Cursor<'a>) -> Res
     let fourth = next_part(&mut rest)?;
     let cell = read_cell(alloc, scope, list.owner(), first, second);
     let step = match both(cell, read_terms(alloc, scope, third, fourth)) {
-        Ok(((column, index), (value, other))) => Ok(Step::Written {
-            column,
-            index,
-            value,
-            other,
-        }),
+        Ok(parts) => made_written(alloc, parts),
         Err(fault) => Err(fault),
     };
     Ok((step, rest))
@@ -164,12 +183,8 @@ fn read_same<'a, S: Scope>(alloc: Global, scope: &S, list: Cursor<'a>) -> Result
     let second = next_part(&mut rest)?;
     let third = next_part(&mut rest)?;
     let cell = read_cell(alloc, scope, list.owner(), first, second);
-    let step = match both(cell, read_boxed_term(alloc, scope, third)) {
-        Ok(((column, index), other)) => Ok(Step::Same {
-            column,
-            index,
-            other,
-        }),
+    let step = match both(cell, read_term(alloc, scope, third)) {
+        Ok(parts) => made_same(alloc, parts),
         Err(fault) => Err(fault),
     };
     Ok((step, rest))

@@ -3,13 +3,14 @@ ghost use Rattle.std.specs.Prelude.{◌≡◌, ◌++◌, ◌∷◌, [], map, IfO
 ghost use Rattle.lc_kernel.specs.Proofs as S;
 ghost use Rattle.lc_kernel.specs.Proofs.{proofs, size};
 ghost use Rattle.lc_kernel.specs.View.{step_of, proof_of, proofs_of};
+ghost use Rattle.lc_term.specs.View.{term_of, column_of};
 ghost use Rattle.lc_rename.specs.Renaming.{column_for};
 ghost use Rattle.lc_rename.specs.RenamedProofs.{step_is_covered, is_covered, are_covered, renamed_step, renamed};
 
 use crate::covering::{is_column_covered, is_formula_covered, is_term_covered};
 use crate::renaming::{renamed_column, renamed_formula, renamed_term};
 use lc_base::{ColId, OutOfMemory};
-use lc_kernel::{Proof, Step};
+use lc_kernel::{Proof, SameAccess, Step, StoredAccess};
 use std::alloc::Global;
 
 /// Whether there is a column in place of each that a step names.
@@ -19,25 +20,16 @@ fn is_step_covered(columns: &[Option<ColId>], step: &Step) -> bool
     match step {
         Step::Instantiate { term, .. } => is_term_covered(columns, term),
         Step::Cut { formula } => is_formula_covered(columns, formula),
-        Step::Written {
-            column,
-            index,
-            value,
-            other,
-        } => {
-            is_column_covered(columns, column)
-                && is_term_covered(columns, index)
-                && is_term_covered(columns, value)
-                && is_term_covered(columns, other)
+        Step::Written { access } => {
+            is_column_covered(columns, &access.column)
+                && is_term_covered(columns, &access.index)
+                && is_term_covered(columns, &access.value)
+                && is_term_covered(columns, &access.other)
         }
-        Step::Same {
-            column,
-            index,
-            other,
-        } => {
-            is_column_covered(columns, column)
-                && is_term_covered(columns, index)
-                && is_term_covered(columns, other)
+        Step::Same { access } => {
+            is_column_covered(columns, &access.column)
+                && is_term_covered(columns, &access.index)
+                && is_term_covered(columns, &access.other)
         }
         Step::Affine { index, .. } => is_term_covered(columns, index),
         Step::Divide { quotient, .. } => is_formula_covered(columns, quotient),
@@ -76,6 +68,41 @@ fn are_covered(columns: &[Option<ColId>], branches: &[Proof]) -> bool
     true
 }
 
+fn renamed_stored(
+    alloc: Global,
+    columns: &[Option<ColId>],
+    access: &StoredAccess,
+) -> Result<Step, OutOfMemory>
+    ensures { IfOk result (λ made. step_of made ≡ renamed_step (column_for columns.now) (S.Written (column_of access.now.column) (term_of access.now.index) (term_of access.now.value) (term_of access.now.other))) }
+{
+    let access = StoredAccess {
+        column: renamed_column(alloc, columns, &access.column)?,
+        index: renamed_term(alloc, columns, &access.index)?,
+        value: renamed_term(alloc, columns, &access.value)?,
+        other: renamed_term(alloc, columns, &access.other)?,
+    };
+    Ok(Step::Written {
+        access: Box::new(alloc, access)?,
+    })
+}
+
+fn renamed_same(
+    alloc: Global,
+    columns: &[Option<ColId>],
+    access: &SameAccess,
+) -> Result<Step, OutOfMemory>
+    ensures { IfOk result (λ made. step_of made ≡ renamed_step (column_for columns.now) (S.Same (column_of access.now.column) (term_of access.now.index) (term_of access.now.other))) }
+{
+    let access = SameAccess {
+        column: renamed_column(alloc, columns, &access.column)?,
+        index: renamed_term(alloc, columns, &access.index)?,
+        other: renamed_term(alloc, columns, &access.other)?,
+    };
+    Ok(Step::Same {
+        access: Box::new(alloc, access)?,
+    })
+}
+
 /// A step with the columns in place of those that it names.
 fn renamed_step(alloc: Global, columns: &[Option<ColId>], step: &Step) -> Result<Step, OutOfMemory>
     ensures { IfOk result (λ made. step_of made ≡ renamed_step (column_for columns.now) (step_of step.now)) }
@@ -100,26 +127,8 @@ fn renamed_step(alloc: Global, columns: &[Option<ColId>], step: &Step) -> Result
         Step::Cut { formula } => Ok(Step::Cut {
             formula: Box::new(alloc, renamed_formula(alloc, columns, formula)?)?,
         }),
-        Step::Written {
-            column,
-            index,
-            value,
-            other,
-        } => Ok(Step::Written {
-            column: Box::new(alloc, renamed_column(alloc, columns, column)?)?,
-            index: Box::new(alloc, renamed_term(alloc, columns, index)?)?,
-            value: Box::new(alloc, renamed_term(alloc, columns, value)?)?,
-            other: Box::new(alloc, renamed_term(alloc, columns, other)?)?,
-        }),
-        Step::Same {
-            column,
-            index,
-            other,
-        } => Ok(Step::Same {
-            column: Box::new(alloc, renamed_column(alloc, columns, column)?)?,
-            index: Box::new(alloc, renamed_term(alloc, columns, index)?)?,
-            other: Box::new(alloc, renamed_term(alloc, columns, other)?)?,
-        }),
+        Step::Written { access } => renamed_stored(alloc, columns, access),
+        Step::Same { access } => renamed_same(alloc, columns, access),
         Step::Affine {
             slope,
             start,

@@ -3,7 +3,7 @@
 use lc_base::DEPTH_LIMIT;
 use lc_facts::{FactId, Known, Made, ProofId, Rule};
 use lc_farkas::Stop;
-use lc_kernel::{Multiple, Proof, Step};
+use lc_kernel::{Multiple, Proof, SameAccess, Step, StoredAccess};
 
 /// The numbers that hypotheses and variables have where a proof is written.
 struct Numbering {
@@ -264,17 +264,27 @@ fn built_step(known: &Known, numbering: &Numbering, rule: Rule) -> Result<Step, 
 fn axiom_step(known: &Known, numbering: &Numbering, rule: Rule) -> Result<Step, Stop> {
     let names = &numbering.variables;
     match rule {
-        Rule::Written(column, index, value, other) => Ok(Step::Written {
-            column: Box::new(known.alloc, known.nodes.column_tree(names, column)?)?,
-            index: Box::new(known.alloc, known.nodes.term_tree(names, index)?)?,
-            value: Box::new(known.alloc, known.nodes.term_tree(names, value)?)?,
-            other: Box::new(known.alloc, known.nodes.term_tree(names, other)?)?,
-        }),
-        Rule::Same(column, index, other) => Ok(Step::Same {
-            column: Box::new(known.alloc, known.nodes.column_tree(names, column)?)?,
-            index: Box::new(known.alloc, known.nodes.term_tree(names, index)?)?,
-            other: Box::new(known.alloc, known.nodes.term_tree(names, other)?)?,
-        }),
+        Rule::Written(column, index, value, other) => {
+            let access = StoredAccess {
+                column: known.nodes.column_tree(names, column)?,
+                index: known.nodes.term_tree(names, index)?,
+                value: known.nodes.term_tree(names, value)?,
+                other: known.nodes.term_tree(names, other)?,
+            };
+            Ok(Step::Written {
+                access: Box::new(known.alloc, access)?,
+            })
+        }
+        Rule::Same(column, index, other) => {
+            let access = SameAccess {
+                column: known.nodes.column_tree(names, column)?,
+                index: known.nodes.term_tree(names, index)?,
+                other: known.nodes.term_tree(names, other)?,
+            };
+            Ok(Step::Same {
+                access: Box::new(known.alloc, access)?,
+            })
+        }
         Rule::Affine(slope, start, index) => Ok(Step::Affine {
             slope,
             start,

@@ -86,21 +86,18 @@ pub(crate) fn opened_at(
         }
         Step::Fresh { hypothesis } => fresh(alloc, hypotheses, variables, *hypothesis),
         Step::Cut { formula } => cut(alloc, variables, formula, place),
-        Step::Written {
-            column,
-            index,
-            value,
-            other,
-        } => {
-            let axiom = written_axiom(alloc, column, index, value, other)?;
+        Step::Written { access } => {
+            let axiom = written_axiom(
+                alloc,
+                &access.column,
+                &access.index,
+                &access.value,
+                &access.other,
+            )?;
             appended(alloc, variables, Some(axiom))
         }
-        Step::Same {
-            column,
-            index,
-            other,
-        } => {
-            let axiom = same_axiom(alloc, column, index, other)?;
+        Step::Same { access } => {
+            let axiom = same_axiom(alloc, &access.column, &access.index, &access.other)?;
             appended(alloc, variables, Some(axiom))
         }
         Step::Affine {
