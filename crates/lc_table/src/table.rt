@@ -68,6 +68,14 @@ impl Terms {
         self.terms.len().saturating_add(self.formulas.len())
     }
 
+    /// Makes room for so many more terms and column expressions, so that while they are entered none has to move.
+    pub fn reserve(&mut self, more: usize) -> Result<(), OutOfMemory>
+        ensures { Keeps self.old self.new }
+    {
+        self.terms.reserve(more)?;
+        Ok(())
+    }
+
     // The number of a node of a term or a column expression, which is entered if it is not there.
     pub(crate) fn enter_part(&mut self, node: TermNode) -> Result<u32, OutOfMemory>
         requires { PartFits (parts self.old) node }
