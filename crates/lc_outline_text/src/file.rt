@@ -161,8 +161,8 @@ fn read_file(alloc: Global, forms: Cursor<'_>) -> Result<Parts, ReadFault>
 
 /// The development of the file of which these are the forms. Where it is none, `Refused` has its first refusal, as in
 /// `development_of`.
-pub fn development_in(alloc: Global, forms: Forms) -> Result<Development, Fault>
-    ensures { (bytes : List ℕ) → ReadsAs bytes forms → IsAnswerTo development_shown file_reading bytes result }
+pub fn development_in(alloc: Global, forms: &Forms) -> Result<Development, Fault>
+    ensures { (bytes : List ℕ) → ReadsAs bytes forms.now → IsAnswerTo development_shown file_reading bytes result }
 {
     let parts = read_file(alloc, forms.cursor())?;
     Ok(Development::of_parts(parts))
@@ -182,5 +182,5 @@ pub fn development_of(alloc: Global, bytes: &[u8]) -> Result<Development, Fault>
     ensures { IsAnswerTo development_shown file_reading bytes.now result }
 {
     let forms = Forms::read(alloc, bytes)?;
-    development_in(alloc, forms)
+    development_in(alloc, &forms)
 }

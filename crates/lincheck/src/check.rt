@@ -30,7 +30,7 @@ fn development_fed(alloc: Global, reader: FormsReader) -> Result<Development, Fa
     ensures { (bytes : List ℕ) → WasFed reader bytes → IsAnswerTo development_shown file_reading bytes result }
 {
     let forms = reader.finish()?;
-    development_in(alloc, forms)
+    development_in(alloc, &forms)
 }
 
 /// The development in the file at a path; else the answer that tells its first refusal.

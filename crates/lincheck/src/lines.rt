@@ -17,9 +17,9 @@ fn laid_out_fed(alloc: Global, reader: FormsReader) -> Result<Vec<u8>, Fault>
     ensures { (bytes : List ℕ) → WasFed reader bytes → LaysOut (λ text. text.items) bytes result }
 {
     let forms = reader.finish()?;
-    let text = lay_out(alloc, forms.cursor())?;
-    development_in(alloc, forms)?;
-    Ok(text)
+    // The development goes before the text is made, so that both need not be held.
+    development_in(alloc, &forms)?;
+    Ok(lay_out(alloc, forms.cursor())?)
 }
 
 /// The answer of the command `show` with `--lines` to the file at a path: its forms over lines, where it says a development.

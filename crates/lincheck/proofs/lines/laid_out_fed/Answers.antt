@@ -8,17 +8,17 @@ pub returns-in_err-forms : goal.returns-in_err-forms
 returns-in_err-forms c = λ bytes fed.
     text_lays (λ text. text.items) bytes _ c.from_residual.result (c.in_err-forms.ensures.answer bytes fed) c.from_residual.ensures.1
 
-pub returns-in_err-text : goal.returns-in_err-text
-returns-in_err-text c = λ bytes fed.
-    memory_lays (λ text. text.items) bytes c.from_residual-in_err-text.result c.from_residual-in_err-text.ensures.1
-
 pub returns-in_err-development_in : goal.returns-in_err-development_in
 returns-in_err-development_in c = λ bytes fed.
     refusal_lays development_shown (λ text. text.items) bytes _ c.from_residual-in_err-development_in.result
     (c.in_err-development_in.ensures bytes (c.in_ok-forms.ensures.answer bytes fed)) c.from_residual-in_err-development_in.ensures.1
 
+pub returns-in_err-lay_out : goal.returns-in_err-lay_out
+returns-in_err-lay_out c = λ bytes fed.
+    memory_lays (λ text. text.items) bytes c.from_residual-in_err-lay_out.result c.from_residual-in_err-lay_out.ensures.1
+
 pub returns : goal.returns
 returns c = λ bytes fed.
     let reads = c.in_ok-forms.ensures.answer bytes fed in
-    forms_lay bytes c.in_ok-forms.forms (development_shown c.in_ok-development_in.field-0) c.in_ok-text.text.items reads (c.in_ok-development_in.ensures bytes reads)
-    (c.in_ok-text.ensures ∙ ap laid_out c.cursor.ensures.rest)
+    forms_lay bytes c.in_ok-forms.forms (development_shown c.in_ok-development_in.field-0) c.in_ok-lay_out.field-0.items reads (c.in_ok-development_in.ensures bytes reads)
+    (c.in_ok-lay_out.ensures ∙ ap laid_out c.cursor.ensures.rest)
