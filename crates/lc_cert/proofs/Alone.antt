@@ -33,10 +33,6 @@ given_none r (Some x) h g = absurd (h x refl)
 one_piece : (text : List ℕ) (t u : Tree) → IsPieceOf t text → IsPieceOf u text → t ≡ u
 one_piece text t u p q = let same = one_reading_lem (bracketed text) (list (t ▸ none) ▸ none) (list (u ▸ none) ▸ none) p.reads q.reads in cc
 
--- no entry, where the text is no piece; where its tree reads as none; where its number is another
-pub no_text : (names : Names) (text : List ℕ) (number item : ℕ) → ((t : Tree) → IsPieceOf t text → ⊥) → (t : Tree) (e : Entry) → IsEntryText names text number item t e → ⊥
-no_text names text number item none_is t e h = none_is t h.piece
-
 pub no_reading : (names : Names) (text : List ℕ) (number item : ℕ) (u : Tree) → IsPieceOf u text → ((e : Entry) → entry_reading names (number_before number) item u ≢ fine e)
     → (t : Tree) (e : Entry) → IsEntryText names text number item t e → ⊥
 no_reading names text number item u p other t e h = other e (ap (entry_reading names (number_before number) item) (one_piece text u t p h.piece) ∙ h.reads)

@@ -132,9 +132,6 @@ adds_both a b c ts xs ys h k = record {
 pub adds_on : (a b c : List Condition) (old new : Table) (xs ys : List S.Condition) → Adds a old b xs → Keeps old new → Adds b new c ys → Adds a new c (xs ++ ys)
 adds_on a b c old new xs ys h kept k = adds_both a b c new xs ys (adds_later a old new b xs h kept) k
 
-pub adds_one : (before now : List Condition) (ts : Table) (c : Condition) (x : S.Condition) → now ≡ before ++ c ∷ [] → IsCondition ts c → condition_in ts c ≡ x → Adds before ts now (x ∷ [])
-adds_one before now ts c x pushed is reads = record { added = c ∷ []; behind = pushed; are = (is, tt); read = ap (λ y. y ∷ []) reads }
-
 -- all that there are
 pub adds_to_none : (ts : Table) (now : List Condition) (said : List S.Condition) → Adds [] ts now said → AreConditions ts now × (map (condition_in ts) now ≡ said)
 adds_to_none ts now said h =

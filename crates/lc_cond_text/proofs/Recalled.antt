@@ -51,10 +51,6 @@ same_number : (k j : FormulaId) → k.0 ≡ j.0 → k ≡ j
 same_number k j e = λ i. record { 0 = e i }
 
 module _ (There : FormulaId → Type 0) (text : FormulaId → List ℕ) where
-  -- nothing is recalled of nothing
-  pub recalls_nothing : (bytes : List ℕ) (places : List (Option Place)) → places ≡ [] → AreRecalled There text bytes places
-  recalls_nothing bytes places none = subst (AreRecalled There text bytes) (sym none) (λ k p e. absurd (cc))
-
   -- a text more is recalled, which is written behind the others; what is found was there before
   pub recalls_more : (bytes new : List ℕ) (old places after : List (Option Place)) (k : FormulaId) (p : Place) → AreRecalled There text bytes old
       → ((j : ℕ) (q : Place) → slice_get places j ≡ Some (Some q) → slice_get old j ≡ Some (Some q)) → There k → new ≡ bytes ++ text k → LiesAt (text k) new p → after ≡ set places k.0 (Some p)

@@ -6,7 +6,6 @@ use Rattle.std.specs.Option.{option_or}
 use Rattle.lc_check.proofs.LeastExtra.{at_first, at_other}
 use Rattle.lc_cert.specs.Certificates.{Entry, proof_at}
 use Rattle.lc_kernel.specs.Proofs.{Proof}
-use Rattle.lc_term.specs.Lists.{Every}
 use Rattle.lc_find.specs.FirstProofs.{place_at}
 
 -- the proof of the entry at this place
@@ -28,12 +27,6 @@ by_first e es n (inr (there, other)) h =
 pub at_place : (es : List Entry) (n : ℕ) → proof_of_place es (place_at es n) ≡ proof_at es n
 at_place [] n = refl
 at_place (e ∷ es) n = by_first e es n (eqb_tells n e.number) (at_place es n)
-
--- what holds of each entry holds of the one at a place
-pub Every_at : {A : Type 0} (P : A → Type 0) (xs : List A) (i : ℕ) (x : A) → Every P xs → slice_get xs i ≡ Some x → P x
-Every_at P [] i x h at = absurd (let none : None ≡ Some x = at in cc)
-Every_at P (y ∷ xs) zero x h at = let is : Some y ≡ Some x = at in let same : y ≡ x = cc in subst P same h.0
-Every_at P (y ∷ xs) (suc i) x h at = Every_at P xs i x h.1 at
 
 counted_on : (n : ℕ) (p : Option ℕ) → option_map (λ k. n + 1 + k) p ≡ option_map (λ k. n + k) (option_map suc p)
 counted_on n None = refl

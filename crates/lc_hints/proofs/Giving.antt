@@ -56,16 +56,3 @@ given_by hs e old new proofs terms formulas given =
     (ap entries_of proofs ∙ map-append entry_of old.proofs.items (e ∷ []))
     (λ k. ap (λ ts. map term_of (items_at ts k)) terms ∙ no_more (e.number == k) (terms_given old k))
     (λ k. ap (λ fs. formulas_of (items_at fs k)) formulas ∙ no_more (e.number == k) (formulas_given old k)) given
-
--- a hint for a number below 0 gives nothing
-none_below : (a : Advice) (n : ℕ) → proof_offered a (negsuc n) ≡ []
-none_below (Use ts) n = refl
-none_below (Cut f) n = refl
-none_below (By p) n = refl
-
-pub given_none : (hs : List Hint) (z : ℤ) (n : ℕ) (a : Advice) (g : Given) → z ≡ negsuc n → IsGiven hs g → IsGiven (hs ++ record { number = z; advice = a } ∷ []) g
-given_none hs z n a g below given =
-    rw below
-    (given_more hs (record { number = negsuc n; advice = a }) g g
-    (sym (append-nil (proofs_given g)) ∙ ap (λ r. proofs_given g ++ r) (sym (none_below a n)))
-    (λ k. sym (append-nil (terms_given g k))) (λ k. sym (append-nil (formulas_given g k))) given)

@@ -1,6 +1,5 @@
 mod Back
 mod Laid
 mod Rows
-mod Walks
 mod Widths
 mod Words

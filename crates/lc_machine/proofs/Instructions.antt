@@ -86,11 +86,6 @@ adds object s vs a t rs ds l i cs ns ms ks ws e fits index ds_fit added columns 
     (label ∙ ap Some (sym (assigned_length vs rs ns)))
     (subst (AreWithin (length (initial_numbers object))) (sym writes) (row_within (length (initial_numbers object)) cs i ks there))
 
--- a cell that does not
-pub not_read : (object : Object) (s : State) (vs : List ℤ) (a : ℕ) (t : Term) (rs : List ℕ) (ds : List Term) (l : ℕ) (i : ℤ) (cs : List ℕ) →
-    i ≡ number s vs t → cs ≡ array_columns object a → (RowFits s cs i → ⊥) → InstructionFits object s vs (Faa a t rs ds l) → ⊥
-not_read object s vs a t rs ds l i cs index columns wrong fits = wrong (subst (λ x. x) (sym (ap₂ (RowFits s) columns index)) fits.2)
-
 pub answers : (object : Object) (s : State) (vs : List ℤ) (us : List Term) (ns : List ℤ) (e : Effect) →
     TermsFit s (variable vs) us → ns ≡ numbers s vs us → length us ≤ 3 → HasParts Next [] (Answers ns) e → IsEffect object (Return us) s vs (Ok e)
 answers object s vs us ns e fits values few parts =

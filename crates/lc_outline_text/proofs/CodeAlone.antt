@@ -42,10 +42,6 @@ headed {X} word read n (list (atom w ▸ ts)) = by_test (is w word) where
   by_test true = all_read (λ x. nothing_more n (n + 2) ts ≡ fine tt) (read n (n + 2) ts) (λ x. refl)
   by_test false = tt
 
--- lists that read so begin with `on`
-AreHeaded : ℕ → Trees → Type 0
-AreHeaded m ts = (us : List (Unit {0})) × (each_reading (headed_reading (codes "on")) m ts ≡ fine us)
-
 one_more : (m : ℕ) (t : Tree) (ts : Trees) (us : List (Unit {0})) → headed_reading (codes "on") m t ≡ fine tt → each_reading (headed_reading (codes "on")) (m + item_count t) ts ≡ fine us
     → each_reading (headed_reading (codes "on")) m (t ▸ ts) ≡ fine (tt ∷ us)
 one_more m t ts us h g = ap₂ (both (λ x xs. x ∷ xs)) h g

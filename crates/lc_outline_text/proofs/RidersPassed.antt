@@ -2,10 +2,6 @@
 use Rattle.std.proofs.Common.{◌≡◌, ℕ, zero, suc, ◌+◌, ◌*◌, ◌<◌, ◌≤◌, Bool, true, false, List, [], ◌∷◌, ◌++◌, map, length, drop, get_or, Some, refl, sym, ap, ap₂, ◌∙◌, append-nil, arith}
 use Rattle.std.proofs.Math.Nat.{mul_assoc}
 use Rattle.std.proofs.Math.Seq.{drop-cons}
-use Rattle.std.proofs.lemmas.List.{drop_all}
-use Rattle.std.specs.Prelude.{Vec}
-use Rattle.std.specs.declared.alloc.Global.{Global}
-use Rattle.lc_base.specs.declared.ids.ColId.{ColId}
 use Rattle.lc_outline_text.specs.declared.riders.Rider.{Rider}
 use Rattle.lc_outline.specs.Sizes.{Way, no_way, different, way_count}
 use Rattle.lc_outline_text.specs.Paths.{stands, only_way, common_way, leaves_choice, branching}
@@ -39,25 +35,12 @@ none_left [] h = absurd (omega (arith, h))
 none_left (w ∷ []) h = refl
 none_left (v ∷ w ∷ ws) h = absurd (omega (arith, h))
 
-pub only_first : (ws : List Way) → length ws ≡ 1 → get_or ws 0 no_way ≡ only_way ws
-only_first [] h = absurd (omega (arith, h))
-only_first (w ∷ []) h = refl
-only_first (v ∷ w ∷ ws) h = absurd (omega (arith, h))
-
 -- ---- the way at a place
-
-get_mapped : {X : Type 0} (f : X → Way) (xs : List X) (k : ℕ) (x : X) (d : Way) → k < length xs → get_or (map f xs) k d ≡ f (get_or xs k x)
-get_mapped f [] k x d h = absurd (omega (arith, h))
-get_mapped f (y ∷ xs) zero x d h = refl
-get_mapped f (y ∷ xs) (suc k) x d h = get_mapped f xs k x d (omega (arith, h))
 
 no_more : (b : Bool) (j : ℕ) → get_or (none_stored b) j no_way ≡ no_way
 no_more true zero = refl
 no_more true (suc j) = refl
 no_more false j = refl
-
-pub row_at : (asked : ℕ) (rows : List (Vec ColId Global)) (k : ℕ) (row : Vec ColId Global) → k < length rows → row ≡ get_or rows k row → get_or (map (row_way asked) rows) k no_way ≡ row_way asked row
-row_at asked rows k row below is = get_mapped (row_way asked) rows k row no_way below ∙ ap (row_way asked) (sym is)
 
 -- on the way on which a rider's condition does not hold nothing is done
 get_joined : (xs ys : List Way) (k : ℕ) → ((j : ℕ) → get_or ys j no_way ≡ no_way) → get_or (xs ++ ys) k no_way ≡ get_or xs k no_way

@@ -1,7 +1,6 @@
 mod Depths
 mod Items
 mod Opened
-mod Places
 mod Preorder
 mod Spans
 mod Tokens

@@ -1,6 +1,5 @@
 -- How far an item goes.
 use Rattle.std.proofs.Common.{◌≡◌, ℕ, ◌+◌, ◌≤◌, ◌<◌, Bool, true, false, ◌||◌, inl, inr, List, [], ◌∷◌, length, get_or, take, drop, refl, sym, ap, ◌∙◌, subst, arith}
-use Rattle.std.specs.Prelude.{◌==◌}
 use Rattle.std.proofs.lemmas.Bool.{cases_eq, and_from}
 use Rattle.std.proofs.lemmas.List.{drop_more}
 use Rattle.std.proofs.lemmas.List.Folds.{list_all-append}
@@ -49,11 +48,3 @@ word_to_end bytes i n h le e w =
       letters = ap are_letters (all.0 ∙ sym (read_all bytes i le).0) ∙ w.letters;
       whole = end;
     }
-
-pub some_bytes : (bytes : List ℕ) → begins_item (text_of bytes) ≡ true → 0 < length bytes
-some_bytes [] h = absurd (cc)
-some_bytes (b ∷ s) h = omega arith
-
-no_list : (a b : Bool) → (a || b) ≡ true → a ≡ false → b ≡ true
-no_list true b h e = absurd (cc)
-no_list false b h e = h

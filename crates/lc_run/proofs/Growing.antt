@@ -1,16 +1,12 @@
 -- Lists of labels that grow, and why a client takes no step.
 use Rattle.std.proofs.Common.{◌≡◌, ℕ, ◌+◌, ◌-◌, ◌<◌, ◌≤◌, true, false, List, [], ◌∷◌, ◌++◌, ℤ, Some, Err, length, refl, sym, ap, subst, ◌∙◌, inr, arith, append_assoc}
 use Rattle.std.specs.Prelude.{Vec, Result, Ok, IfOk, IfErr, IfSome, IsErrAnd}
-use Rattle.std.specs.Option.{option_map_or}
-use Rattle.std.specs.declared.alloc.Global.{Global}
 use Rattle.std.proofs.lemmas.List.{append-nil, length-append}
 use Rattle.std.proofs.lemmas.Option.{same_Some, slice_get_within}
 use Rattle.lc_hist.proofs.Tables.{slice_get-last}
 use Rattle.lc_base.specs.Limits.{label_limit}
-use Rattle.lc_term.specs.Lists.{Every}
 use Rattle.lc_term.specs.Meaning.{State}
 use Rattle.lc_machine.specs.Answered.{IsInCall}
-use Rattle.lc_machine.specs.Step as M
 use Rattle.lc_machine.specs.Step.{Event, IsClient}
 use Rattle.lc_machine.specs.World as W
 use Rattle.lc_machine.specs.World.{World}
@@ -24,7 +20,6 @@ use Rattle.lc_run.specs.Running.{IsSaid, IsCalled, IsLeft}
 use Rattle.lc_run.specs.Taken.{fault_as, IsUntold, IsStepFault, MayStep}
 use Rattle.lc_run.specs.declared.fault.RunFault.{RunFault}
 use Rattle.lc_run.specs.declared.fault.RunFault.TheVariants.{Clients, Busy, Idle, NoOp, Arity, Mismatch, Full, Overflow, OutOfMemory}
-use Rattle.lc_run.specs.declared.runner.Called.TheVariants as called
 use Rattle.lc_run.specs.declared.runner.Progress.{Progress}
 use Rattle.lc_run.specs.declared.runner.Progress.TheVariants as progress
 
@@ -76,10 +71,6 @@ if-done (Err e) P h = tt
 pub handed-on : {T E : Type 0} (P : E → Type 0) (r : Result T E) (e : E) → IsErrAnd r (λ f. f ≡ e) → P e → IfErr r P
 handed-on P (Ok x) e is h = tt
 handed-on P (Err f) e is h = subst P (sym is) h
-
--- a fault of which this is not said is not told
-pub never : {T E : Type 0} (P : E → Type 0) (r : Result T E) (e : E) → (P e → ⊥) → IfErr r P → r ≡ Err e → ⊥
-never P r e nothing h is = nothing (subst (λ x. IfErr x P) is h)
 
 -- what is said of a fault, in other words
 pub fault-as : {T E : Type 0} (P Q : E → Type 0) (r : Result T E) → ((e : E) → P e → Q e) → IfErr r P → IfErr r Q

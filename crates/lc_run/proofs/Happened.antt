@@ -3,20 +3,16 @@ use Rattle.std.proofs.Common.{ℤ, ◌-◌, ap₂, ◌≡◌, ◌≢◌, ℕ, ze
 use Rattle.std.specs.Prelude.{Vec, reverse, slice_index_or}
 use Rattle.std.specs.declared.alloc.Global.{Global}
 use Rattle.std.specs.List.{list_all}
-use Rattle.std.proofs.lemmas.Bool.{eqb-true}
 use Rattle.std.proofs.lemmas.Bool.Decides.{nat_tests}
-use Rattle.std.proofs.lemmas.Grind.{get_or-set_at}
 use Rattle.std.proofs.lemmas.List.{drop_more, get_or_past, get_or-set_other, map-append, reverse-append}
 use Rattle.std.proofs.lemmas.List.Folds.{list_all-append}
 use Rattle.lc_term.proofs.Tests.{left_true, right_true, both_true}
-use mathlib.Core.Path.{fun_ext}
 use Rattle.lc_seq.specs.Sequential.{Call}
 use Rattle.lc_seq.specs.SpecView.{text_call_of, choice_of}
 use Rattle.lc_seq.specs.declared.choice.Pick.{Pick}
 use Rattle.lc_seq.specs.declared.text_call.TextCall.{TextCall}
 use Rattle.lc_hist.specs.declared.event.Done.{Done}
 use Rattle.lc_hist.specs.View as H
-use Rattle.lc_hist.specs.History.{Entry}
 use Rattle.lc_machine.specs.Step.{Event, Invoked, Moved, Returned}
 use Rattle.lc_rider.specs.Rider.{Mark}
 use Rattle.lc_sound.specs.Happening as S
@@ -26,24 +22,7 @@ use Rattle.lc_sound.specs.Order.{called_last, marked, happenings, no_call}
 use Rattle.lc_run.specs.LabelView.{labels_of}
 use Rattle.lc_run.specs.Ordering.{entries_shown, call_of, call_in, calls_in, happening_of, happenings_of, has_client, returns_in, is_within, counted_first, is_small}
 use Rattle.lc_run.specs.declared.label.Label as code
-use Rattle.lc_run.specs.declared.ordering.Begun.{Begun}
 use Rattle.lc_run.specs.declared.ordering.Happening.{Happening}
-
--- ---- lists
-
-pub regroup : {A : Type 0} (a b c rest whole : List A) → a ++ (b ++ (c ++ rest)) ≡ whole → ((a ++ b) ++ c) ++ rest ≡ whole
-regroup a b c rest whole e = (append_assoc (a ++ b) c rest ∙ append_assoc a b (c ++ rest)) ∙ e
-
--- ---- the calls that clients began last
-
-put-there : (calls : List (Rattle.std.specs.Prelude.Option Begun)) (c : ℕ) (b : Begun) (d : ℕ) (e : Bool) → c < length calls → (d == c) ≡ e →
-    calls_in (set calls c (Some b)) d ≡ cond e (call_of b) (calls_in calls d)
-put-there calls c b d true h e = ap call_in (get_or-set_at calls c d (Some b) None (eqb-true d c e) h)
-put-there calls c b d false h e = let apart : d ≢ c = grind (arith, nat_tests) in ap call_in (get_or-set_other calls c d (Some b) None apart)
-
--- a call begins
-pub begun : (calls : List (Rattle.std.specs.Prelude.Option Begun)) (c : ℕ) (b : Begun) → c < length calls → calls_in (set calls c (Some b)) ≡ put (calls_in calls) c (call_of b)
-begun calls c b h = fun_ext (λ d. put-there calls c b d (d == c) h refl)
 
 -- ---- clients
 
@@ -83,16 +62,6 @@ counted-as f g (Happens event) e = refl
 counted-as f g (Marked false entry) e = refl
 counted-as f g (Marked true entry) e = ap (λ b. cond b (entry ∷ []) []) (e entry.client)
 
--- one entry at most
-pub turned : (f : ℕ → Bool) (h : S.Happening) → reverse (counted_first f h) ≡ counted_first f h
-turned f (Happens event) = refl
-turned f (Marked false entry) = refl
-turned f (Marked true entry) = by (f entry.client)
-  where
-    by : (b : Bool) → reverse (cond b (entry ∷ []) []) ≡ cond b (entry ∷ []) []
-    by true = refl
-    by false = refl
-
 -- what is left behind a place that is taken from the end
 pub next-left : (hs : List Happening) (place : ℕ) (x : Happening) → 0 < place → place ≤ length hs → x ≡ get_or hs (place - 1) x → happenings_of (drop (place - 1) hs) ≡ happening_of x ∷ happenings_of (drop place hs)
 next-left hs place x some le is =
@@ -108,12 +77,7 @@ behind-small (suc p) (h ∷ hs) e =
     behind-small p hs (right_true (list_all is_small (counted_first f (happening_of h))) (list_all is_small (counted (happenings_of hs)))
     (sym (ap (list_all is_small) (counted-is (happening_of h) (happenings_of hs)) ∙ list_all-append is_small (counted_first f (happening_of h)) (counted (happenings_of hs))) ∙ e))
 
--- ---- label by label, from the front
-
 -- ---- one by one, from the end
-
-pub sees : (f g : ℕ → Bool) (h : S.Happening) (hs : List S.Happening) → ((c : ℕ) → g c ≡ cond (client_of h == c) (is_reply h) (f c)) → ((c : ℕ) → f c ≡ returns_next c hs) → (c : ℕ) → g c ≡ returns_next c (h ∷ hs)
-sees f g h hs e known c = e c ∙ ap (cond (client_of h == c) (is_reply h)) (known c)
 
 -- of the first of these
 pub first-small : (f : ℕ → Bool) (h : S.Happening) (hs : List S.Happening) → ((c : ℕ) → f c ≡ returns_next c hs) → list_all is_small (counted (h ∷ hs)) ≡ true → list_all is_small (counted_first f h) ≡ true

@@ -1,7 +1,6 @@
 -- The parts of what a lock holds, and of seats.
 use Rattle.std.specs.Prelude.{ℕ, List}
 use Rattle.lc_check.specs.VerdictView.{development_in}
-use Rattle.lc_check.specs.declared.verdict.Accepted.{Accepted}
 use Rattle.lc_machine.specs.World.{World}
 use Rattle.lc_outline.specs.Development.{Development}
 use Rattle.lc_sound.specs.Instrumented.{Label}

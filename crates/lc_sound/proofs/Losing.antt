@@ -141,9 +141,6 @@ incremented s t c e es st is =
     head_is : (x y : ℤ) → x ∷ [] ≡ y ∷ [] → x ≡ y
     head_is x y e = cc
 
-Others : ℕ → ℕ → List Entry → Type 0
-Others a b es = (c : ℕ) → (c ≡ a → ⊥) → (c ≡ b → ⊥) → entries_of c es ≡ []
-
 -- whose entry is in front
 whose : (a b : ℕ) (e : Entry) (es : List Entry) → ((c : ℕ) → (c ≡ a → ⊥) → (c ≡ b → ⊥) → entries_of c (e ∷ es) ≡ []) → (e.client ≡ a) ⊎ (e.client ≡ b)
 whose a b e es others = by (e.client == a) (e.client == b) refl refl

@@ -26,7 +26,6 @@ use Rattle.lc_sound.specs.Claims.{OutlinesHold}
 use Rattle.lc_sound.specs.Claims.{IsAction, IsEdgeAction, StepsAreActions}
 use Rattle.lc_action.specs.Action.{enter, Acts}
 use Rattle.lc_rider.specs.Rider.{argument}
-use Rattle.lc_sound.proofs.Going.{justified_is}
 use Rattle.lc_sound.proofs.Leaving.{return_edge}
 use Rattle.lc_sound.proofs.Going as Y
 use Rattle.lc_sound.proofs.Arrived as A

@@ -24,7 +24,6 @@ use Rattle.lc_sound.specs.Order.{called_last, marked, happenings}
 use Rattle.lc_sound.specs.Lawful.{Phase, Free, Waiting, Takes, calls, IsLawful}
 use Rattle.lc_sound.proofs.Own.{same_client}
 use Rattle.lc_sound.proofs.Kept.{call_in}
-use Rattle.lc_term.proofs.Stores.{if_true, if_false}
 use Rattle.lc_seq.proofs.Abstract.{same-abstract}
 use Rattle.lc_machine.proofs.Bodies.{placed, goes_to, answers_count, answers_next, entry_is}
 use Rattle.lc_sound.proofs.Rows.{takes_return}

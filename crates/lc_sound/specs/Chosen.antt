@@ -4,7 +4,6 @@ use Rattle.lc_term.specs.Syntax.{Term, Number, Variable, Read, Base, Formula, Le
 use Rattle.lc_seq.specs.Sequential.{Choice, Chosen, InOrder, ByName}
 use Rattle.lc_seq.specs.Specification.{Specification}
 use Rattle.lc_hist.specs.History.{Entry}
-use Rattle.lc_object.specs.Syntax as O
 use Rattle.lc_object.specs.Syntax.{Load, Faa, Return}
 use Rattle.lc_object.specs.declared.instr.EdgeKind.TheVariants.{Next}
 use Rattle.lc_rider.specs.Rider.{Own, Note, Marks, Marking}

@@ -1,20 +1,12 @@
 -- Names that stand behind others, in a table of their own.
 use Rattle.std.proofs.Common.{◌≡◌, ℕ, suc, ◌+◌, Bool, true, false, ◌||◌, ◌&&◌, cond, List, [], ◌∷◌, ◌++◌, length, length-append, append_assoc, Option, Some, None, refl, sym, ap, ◌∙◌, arith}
-use Rattle.std.proofs.lemmas.Bool.Decides.{nat_tests}
-use Rattle.std.proofs.lemmas.List.Folds.{list_any-append}
-use Rattle.std.specs.List.{list_any}
 use Rattle.std.specs.Option.{option_or}
 use Rattle.std.specs.Prelude.{nat_le, option_map}
-use Rattle.lc_base.specs.NameText.{is_name}
 use Rattle.lc_sexp.specs.Trees.{Tree, Trees, atom, list, none, ◌▸◌, item_count}
 use Rattle.lc_reading.specs.Listed.{place_of}
-use Rattle.lc_reading.specs.Naming.{within, name_reading}
 use Rattle.lc_reading.specs.Readings.{Reading, wrong, mapped, both}
-use Rattle.lc_reading.specs.Reserved.{is_reserved}
 use Rattle.lc_reading.specs.Rows.{declared_reading}
 use Rattle.lc_reading.specs.Words.{is}
-use Rattle.lc_reading.specs.declared.pass.Pass.TheVariants.{Shape, Repeated, Bound}
-use Rattle.lc_spec_text.specs.Choices.{is_one_of}
 
 -- ---- places
 

@@ -11,8 +11,6 @@ use Rattle.lc_reading.specs.Naming.{name_reading}
 use Rattle.lc_reading.specs.Parts.{IsNext, IsThree, IsBehindWord, begins, tree_of, place_of}
 use Rattle.lc_reading.specs.Readings.{Reading, flawed, both, three}
 use Rattle.lc_reading.specs.Results.{IsReading, IsReadFault}
-use Rattle.lc_reading.specs.Rows.{all_declared, first_name}
-use Rattle.lc_reading.specs.Words.{is}
 use Rattle.lc_reading.specs.declared.flaw.ReadFault.{ReadFault}
 use Rattle.lc_reading.specs.declared.flaw.ReadFault.TheVariants.{Flawed}
 use Rattle.lc_reading.specs.declared.part.Part.{Part}
@@ -77,7 +75,3 @@ specification_found others l first second ahead t u o (a1, n1) (a2, n2) (a3, n3)
     specification_at others (owner_of l) (number_of l) (place_of t) (place_of u) (number_of second) (tree_of t) (tree_of u) (tree_of o)
     (rest_of l) (rest_of first) (rest_of second) (rest_of ahead) n1.rest n2.rest n3.rest
     a1 (a2 ∙ n1.number) (n2.number ∙ ap (λ m. m + item_count (tree_of u)) (sym a2))
-
--- the columns of a section
-columns_at : (t : Tree) (w : List ℕ) (ts us : Trees) → t ≡ list (atom w ▸ ts) → is w (codes "abstract") ≡ true → us ≡ ts → columns_in t ≡ all_declared first_name us
-columns_at t w ts us tree same rest = rw (tree, same, rest) refl

@@ -3,7 +3,6 @@ use Rattle.std.proofs.Common.{◌≡◌, ℕ, zero, suc, ◌+◌, List, [], ◌�
 use Rattle.std.proofs.Math.IntN.{zero-*ℤ}
 use Rattle.std.proofs.lemmas.List.{length-append, length-map, length-replicate}
 use mathlib.Core.Path.{fun_ext}
-use Rattle.lc_term.specs.Meaning.{affine}
 use Rattle.std.specs.Prelude.{IfOk, Result, Ok, Err}
 use Rattle.lc_base.specs.declared.memory.OutOfMemory.{OutOfMemory}
 use Rattle.lc_term.specs.State.{column_at, initial_columns, initial_state, state_of}

@@ -13,13 +13,6 @@ pub Keeps-same : (known : Option (List ℕ)) → Keeps known known
 Keeps-same None = tt
 Keeps-same (Some xs) = refl
 
--- what was written stays when it is flushed
-pub Appends-flushed : (before written after : Option (List ℕ)) (text : List ℕ) → Appends before written text → Keeps written after → Appends before after text
-Appends-flushed None written after text appends keeps = tt
-Appends-flushed (Some xs) None after text appends keeps = absurd appends
-Appends-flushed (Some xs) (Some ys) None text appends keeps = absurd keeps
-Appends-flushed (Some xs) (Some ys) (Some zs) text appends keeps = keeps ∙ appends
-
 -- nothing was written
 pub Appends-none : (known : Option (List ℕ)) → Appends known known []
 Appends-none None = tt

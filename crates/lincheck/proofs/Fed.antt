@@ -30,10 +30,6 @@ fed_on (Ok x) P e h = h
 fed_on (Err x) P e h = absurd (cc)
 
 module _ {S X : Type 0} (WasFed : S → X → List ℕ → Type 0) where
-  -- nothing was fed
-  pub fed_none : (sink : S) (known : Option (List ℕ)) → IsFedSoFar WasFed sink sink known known most_bytes
-  fed_none sink known = ([], refl, Consumes-nil known, λ about fed h. subst (WasFed sink about) (sym (append-nil fed)) h)
-
   -- one piece more
   pub fed_more : (old sink new : S) (before mid after : Option (List ℕ)) (left n : ℕ) (piece : List ℕ) → IsFedSoFar WasFed old sink before mid left
       → Consumes mid after piece → length piece ≡ n → n ≤ left → IsFedOn WasFed sink new piece → IsFedSoFar WasFed old new before after (left - n)

@@ -1,7 +1,6 @@
 -- A formula file has one answer, and what is accepted is true.
 use Rattle.std.proofs.Common.{◌≡◌, ℕ, ◌⊎◌, inl, inr, List, Result, Ok, Err, sym, ap, ap₂, ◌∙◌, subst}
 use Rattle.lc_base.specs.Line.{refusal_line_of}
-use Rattle.lc_base.specs.declared.refusal.Fault.{Fault}
 use Rattle.lc_base.specs.declared.refusal.Fault.TheVariants.{Refused, OutOfMemory}
 use Rattle.lc_base.specs.declared.refusal.Refusal.{Refusal}
 use Rattle.lc_kernel.proofs.First.{fails_not_derives, fails_once}
@@ -12,15 +11,7 @@ use Rattle.lc_reading.proofs.Files.{says_not_refused, says_one, refused_once}
 use Rattle.lc_reading.specs.Files.{Says, IsFirstRefusal}
 use Rattle.lc_sexp.specs.Trees.{item_count_of_all}
 use Rattle.lc_term.specs.Syntax.{parts}
-use Rattle.lincheck.specs.Answers.{Told}
 use Rattle.lincheck.specs.Formula.{IsProved, IsTrueClaim, FailsAt, IsProofRefusal, refusal_at, AnswersFormula}
-
--- what is told of one verdict
-told_once : (word : List ℕ) (verdict : Result (Unit {0}) Fault) (text text' : List ℕ) (status status' : ℕ) → Told word verdict text status → Told word verdict text' status'
-    → (text ≡ text') × (status ≡ status')
-told_once word (Ok u) text text' status status' h g = (h.0 ∙ sym g.0, h.1 ∙ sym g.1)
-told_once word (Err (Refused refusal)) text text' status status' h g = (h.0 ∙ sym g.0, h.1 ∙ sym g.1)
-told_once word (Err OutOfMemory) text text' status status' h g = absurd h
 
 one_flaw : (file : List ℕ) (r s : Refusal) → IsProofRefusal file r → IsProofRefusal file s → r ≡ s
 one_flaw file r s (claim, step, flaw, says, fails, is) (claim', step', flaw', says', fails', is') =

@@ -11,7 +11,6 @@ use Rattle.lc_check.proofs.OneVerdict.{not_certified_and_refused}
 use Rattle.lc_check.specs.VerdictView.{IsVerdictOn, development_in}
 use Rattle.lc_check.specs.Verdicts.{IsCertificateRefusal, IsProvenBy}
 use Rattle.lc_check.specs.declared.verdict.Accepted.{Accepted}
-use Rattle.lc_check.specs.declared.verdict.Verdict.{Verdict}
 use Rattle.lc_check.specs.declared.verdict.Verdict.TheVariants.{Accepted as accepts, Refused as refuses}
 use Rattle.lc_crew.specs.Ran.{IsRunOf}
 use Rattle.lc_crew.specs.declared.ended.Ended.{Ended}

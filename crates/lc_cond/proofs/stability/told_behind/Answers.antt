@@ -1,7 +1,6 @@
 use Rattle.std.proofs.Common.{[], map, arith, sym, subst}
 use Rattle.std.proofs.lemmas.Result.{IfOk-weaker}
 use Rattle.lc_term.specs.Lists.{Every}
-use Rattle.lc_term.specs.Replacement.{replacing, replace}
 use Rattle.lc_term.specs.Syntax.{Variable}
 use Rattle.lc_term.specs.View.{term_of}
 use Rattle.lc_table.specs.Tables.{formulas_in}

@@ -1,8 +1,6 @@
 use Rattle.std.proofs.Common.{◌≡◌, ap, sym, ◌∙◌, Some, true}
-use Rattle.std.specs.Prelude.{slice_get}
 use Rattle.lc_term.proofs.Tests.{at_all}
 use Rattle.lc_machine.specs.Placed.{is_placed}
-use Rattle.lc_machine.specs.Step.{IsClient}
 use Rattle.lc_machine.specs.View.{client_of, clients_of, variables_of}
 use Rattle.lc_machine.specs.World.{Idle, In}
 use Rattle.lc_outline.specs.DevelopmentView.{development_shown}

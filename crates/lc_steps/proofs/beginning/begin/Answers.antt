@@ -1,10 +1,7 @@
 use Rattle.std.proofs.Common.{◌≡◌, refl, ap, sym, ◌∙◌, Some, length, rules, subst}
-use Rattle.std.specs.Prelude.{slice_get}
 use Rattle.std.proofs.lemmas.List.{length-map}
 use Rattle.lc_base.specs.Name.{bytes_of}
 use Rattle.lc_object.specs.View.{operation_of}
-use Rattle.lc_machine.specs.World as W
-use Rattle.lc_machine.specs.Step.{IsClient}
 use Rattle.lc_machine.specs.View.{client_of, clients_of}
 use Rattle.lc_outline.specs.DevelopmentView.{development_shown}
 use Rattle.lc_term.specs.Drafts.{written_in_draft}

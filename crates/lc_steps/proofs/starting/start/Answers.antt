@@ -1,5 +1,4 @@
 use Rattle.std.proofs.Common.{◌≡◌, ◌++◌, map, pos, replicate, rules}
-use Rattle.lc_outline.specs.Development.{Development}
 use Rattle.lc_outline.specs.DevelopmentView.{development_shown}
 use Rattle.lc_seq.specs.Specification as Q
 use Rattle.lc_object.specs.Syntax as O

@@ -1,4 +1,3 @@
-use Rattle.std.proofs.Common.{refl, sym, ◌∙◌}
 use Rattle.lc_outline.specs.DevelopmentView.{development_shown}
 use Rattle.lincheck.proofs.Opened.{certificate_answered}
 use Rattle.lincheck.proofs.check.answer_counted.Goals as goal

@@ -1,6 +1,5 @@
 use Rattle.std.proofs.Common.{◌≡◌, ◌++◌, [], ◌∷◌, refl, ap, subst, ◌∙◌, rules}
 use Rattle.std.proofs.lemmas.List.{length-set}
-use Rattle.lc_term.specs.Drafts.{written_in_draft}
 use Rattle.lc_machine.specs.Placed.{is_placed}
 use Rattle.lc_machine.specs.View.{client_of}
 use Rattle.lc_ride.specs.RideView.{marks_of}
