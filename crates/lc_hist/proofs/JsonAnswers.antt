@@ -1,23 +1,19 @@
 -- What is answered to JSON texts.
-use Rattle.std.proofs.Common.{◌≡◌, ℕ, zero, suc, ◌+◌, ◌<◌, ◌≤◌, ◌==◌, Bool, true, false, if◌then◌else◌, List, [], ◌∷◌, ◌++◌, Option, Some, None, option_and_then, map, take, slice_get, length, codes, String, Global, refl, ap, sym, subst, ◌∙◌, arith, true≢false, inl, inr}
+use Rattle.std.proofs.Common.{◌≡◌, ℕ, zero, suc, ◌+◌, ◌<◌, ◌≤◌, List, [], ◌∷◌, ◌++◌, None, option_and_then, Some, take, slice_get, length, refl, ap, sym, subst, ◌∙◌, arith, inl, inr}
 use Rattle.std.specs.Prelude.{is_some}
-use Rattle.std.proofs.lemmas.Bool.Decides.{nat_tests}
+use Rattle.std.proofs.lemmas.List.{length-append}
 use Rattle.serde_json.specs.Data.{Data}
-use Rattle.serde_json.specs.Find.{as_array, as_object, get}
-use Rattle.serde_json.specs.View.{view, items_view, members_view}
-use Rattle.serde_json.specs.declared.value.Value.{Value}
-use Rattle.serde_json.proofs.Views.{members_len-members_view}
 use Rattle.lc_base.specs.declared.refusal.Fault.{Fault}
 use Rattle.lc_base.specs.declared.refusal.Fault.TheVariants.{Refused, OutOfMemory}
 use Rattle.lc_base.specs.declared.refusal.Refusal.TheVariants.{HistoryShape}
 use Rattle.lc_seq.specs.Specification.{Operation}
 use Rattle.lc_hist.specs.History.{Event, Entry}
-use Rattle.lc_hist.specs.JsonHistories.{Parts, parts_in, array_at, IsNext, AreNext, AreEvents, AreEntries, HasParts, IsRefusedAt, IsWrongItem, SaysHistory}
+use Rattle.lc_hist.specs.JsonHistories.{Parts, parts_in, IsNext, AreNext, AreEvents, AreEntries, HasParts, IsRefusedAt, IsWrongItem, SaysHistory}
 use Rattle.lc_hist.specs.JsonSeen.{HasValue, IsWrongEventItem, IsWrongEntryItem}
 use Rattle.lc_hist.specs.JsonValues.{all_in, event_in, entry_in}
 use Rattle.lc_hist.specs.WellFormed.{IsInTurn, IsWellFormed}
-use Rattle.lc_hist.proofs.JsonLists.{values_in-items_view}
 use Rattle.lc_hist.proofs.JsonEvents.{take_front, get_last}
+use Rattle.lc_hist.proofs.JsonLists.{stands_behind, all_in-length}
 use Rattle.lc_hist.proofs.Turns.{IsFront, front_next, well_formed}
 
 -- a refusal of which more is known
@@ -26,36 +22,33 @@ refused_weaker P Q (Refused (HistoryShape item)) weaker h = weaker item h
 refused_weaker P Q (Refused refusal) weaker h = h
 refused_weaker P Q OutOfMemory weaker h = tt
 
-either : {X : Type 0} (b : Bool) (x : Option X) → b ≡ false → (if b then x else None) ≡ None
-either true x e = absurd (true≢false e)
-either false x e = refl
+-- the first wrong entry, behind those that are read
+pub wrong_entry : (operations : List Operation) (ds all rest : List Data) (before item : ℕ) (d : Data) (entries : List Entry) → ds ++ d ∷ rest ≡ all → all_in (entry_in operations) ds ≡ Some entries
+    → entry_in operations d ≡ None → item ≡ before + length entries → IsWrongEntryItem operations all before item
+wrong_entry operations ds all rest before item d entries is right wrong at = (
+  length ds,
+  record { value = d; stands = stands_behind ds d rest all is; right = rw (← is, take_front) (ap is_some right); wrong = wrong },
+  omega (arith, all_in-length (entry_in operations) ds entries right),
+)
 
--- an object of another count of members has no parts
-pub parts_absent : (d : Data) (es : List (String Global × Value)) → Some (members_view es) ≡ as_object d → (length es ≡ 2 → ⊥) → None ≡ parts_in d
-parts_absent d es is other =
-    rw (← is, members_len-members_view es) (sym (either (length es == 2) _ (grind (arith, nat_tests))))
+count_behind : (operations : List Operation) (before : List Event) (ds : List Data) (all : List Event) → AreNext operations before ds all → length all ≡ length before + length ds
+count_behind operations before [] all are = let size = ap length are in omega arith
+count_behind operations before (d ∷ ds) all are =
+    let more = count_behind operations (before ++ are.0 ∷ []) ds all are.2 in
+    omega (arith, length-append before (are.0 ∷ []))
 
-array_found : (key : List ℕ) (d x : Data) (vs : List Value) → Some x ≡ get key d → Some (items_view vs) ≡ as_array x → array_at key d ≡ Some (map view vs)
-array_found key d x vs at is = rw (← at, ← is) (ap Some (values_in-items_view vs))
+-- as many events as values
+pub count_of_events : (operations : List Operation) (ds : List Data) (all : List Event) → AreEvents operations ds all → length all ≡ length ds
+count_of_events operations ds all are = let count = count_behind operations [] ds all are in omega arith
 
--- the parts of an object
-pub parts_found : (d x y : Data) (es : List (String Global × Value)) (vs ws : List Value) → Some (members_view es) ≡ as_object d → length es ≡ 2
-    → Some x ≡ get (codes "events") d → Some (items_view vs) ≡ as_array x → Some y ≡ get (codes "order") d → Some (items_view ws) ≡ as_array y
-    → Some (record { events = map view vs; order = map view ws }) ≡ parts_in d
-parts_found d x y es vs ws is two events these order those =
-    rw (← is, members_len-members_view es, two, array_found (codes "events") d x vs events these, array_found (codes "order") d y ws order those) refl
-
--- the first wrong entry
-pub wrong_entry : (operations : List Operation) (ds : List Data) (before place item : ℕ) (d : Data) (entries : List Entry) → slice_get ds place ≡ Some d
-    → all_in (entry_in operations) (take place ds) ≡ Some entries → entry_in operations d ≡ None → item ≡ before + place → IsWrongEntryItem operations ds before item
-wrong_entry operations ds before place item d entries at right wrong is =
-    (place, record { value = d; stands = at; right = ap is_some right; wrong = wrong }, is)
-
--- the first wrong event
-pub wrong_event : (operations : List Operation) (ds : List Data) (place item : ℕ) (d : Data) (events : List Event) → slice_get ds place ≡ Some d
-    → AreEvents operations (take place ds) events → ((e : Event) → IsNext operations events d e → ⊥) → item ≡ 1 + place → IsWrongEventItem operations ds item
-wrong_event operations ds place item d events at right wrong is =
-    (place, record { value = d; stands = at; before = events; right = right; wrong = wrong }, is)
+-- the first wrong event, behind those that are read
+pub wrong_event : (operations : List Operation) (ds all rest : List Data) (item : ℕ) (d : Data) (events : List Event) → ds ++ d ∷ rest ≡ all → AreEvents operations ds events
+    → ((e : Event) → IsNext operations events d e → ⊥) → item ≡ 1 + length events → IsWrongEventItem operations all item
+wrong_event operations ds all rest item d events is right wrong at = (
+  length ds,
+  record { value = d; stands = stands_behind ds d rest all is; before = events; right = rw (← is, take_front) right; wrong = wrong },
+  omega (arith, count_of_events operations ds events right),
+)
 
 pub no_form : (operations : List Operation) (events : List Event) (d : Data) → event_in operations d ≡ None → (e : Event) → IsNext operations events d e → ⊥
 no_form operations events d none e next = let form = next.form in absurd (cc (none, form))

@@ -1,18 +1,13 @@
 -- What lists of values say, element by element.
-use Rattle.std.proofs.Common.{◌≡◌, ℕ, zero, suc, ◌<◌, ◌≤◌, List, [], ◌∷◌, ◌++◌, Option, Some, None, option_map, option_and_then, map, take, slice_get, get_or, length, refl, ap, subst, ◌∙◌, arith, ℤ}
-use Rattle.std.proofs.lemmas.List.{map-append}
-use Rattle.std.proofs.lemmas.Option.{slice_get-map, slice_get_read}
-use Rattle.serde_json.specs.Data.{Data}
+use Rattle.std.proofs.Common.{◌≡◌, ℕ, zero, suc, ◌≤◌, List, [], ◌∷◌, ◌++◌, Option, Some, None, option_map, option_and_then, map, take, slice_get, length, refl, ap, sym, subst, ◌∙◌, arith, ℤ}
+use Rattle.std.proofs.lemmas.List.{map-append, append_assoc}
+use Rattle.serde_json.specs.Data.{Data, Items}
 use Rattle.serde_json.specs.Find.{as_array}
-use Rattle.serde_json.specs.View.{view, items_view, items_of}
+use Rattle.serde_json.specs.View.{view, items_of}
 use Rattle.serde_json.specs.declared.value.Value.{Value}
 use Rattle.lc_hist.specs.JsonKept.{Each}
 use Rattle.lc_hist.specs.JsonWritten.{number_data}
 use Rattle.lc_hist.specs.JsonValues.{values_in, all_in, number_in, numbers_in}
-
-pub values_in-items_view : (vs : List Value) → values_in (items_view vs) ≡ map view vs
-values_in-items_view [] = refl
-values_in-items_view (v ∷ vs) = ap (λ ds. view v ∷ ds) (values_in-items_view vs)
 
 one_more : {B : Type 0} (r s : Option (List B)) (n : Option B) (zs : List B) (z : B) → ((ys : List B) → r ≡ Some ys → s ≡ Some (ys ++ z ∷ []))
     → option_and_then (λ y. option_map (λ ys. y ∷ ys) r) n ≡ Some zs → option_and_then (λ y. option_map (λ ys. y ∷ ys) s) n ≡ Some (zs ++ z ∷ [])
@@ -21,17 +16,6 @@ one_more None s (Some y) zs z more h = absurd cc
 one_more (Some ys) s (Some y) zs z more h =
     let e : y ∷ ys ≡ zs = cc in
     rw (more ys refl) (ap (λ xs. Some (xs ++ z ∷ [])) e)
-
--- one element more
-pub all_in-next : {A B : Type 0} (says : A → Option B) (xs : List A) (i : ℕ) (x : A) (ys : List B) (y : B)
-    → all_in says (take i xs) ≡ Some ys → slice_get xs i ≡ Some x → says x ≡ Some y → all_in says (take (suc i) xs) ≡ Some (ys ++ y ∷ [])
-all_in-next says [] i x ys y all at is = absurd cc
-all_in-next says (z ∷ xs) zero x ys y all at is =
-    let same : z ≡ x = cc in
-    let none : [] ≡ ys = cc in
-    rw (same, is, ← none) refl
-all_in-next says (z ∷ xs) (suc i) x ys y all at is =
-    one_more (all_in says (take i xs)) (all_in says (take (suc i) xs)) (says z) ys y (λ zs e. all_in-next says xs i x zs y e at is) all
 
 -- one element more, at the end
 pub all_in-push : {A B : Type 0} (says : A → Option B) (xs : List A) (x : A) (ys : List B) (y : B) → all_in says xs ≡ Some ys → says x ≡ Some y → all_in says (xs ++ x ∷ []) ≡ Some (ys ++ y ∷ [])
@@ -50,7 +34,7 @@ all_in-none says [] i x at is = absurd cc
 all_in-none says (z ∷ xs) zero x at is = let same : z ≡ x = cc in rw (same, is) refl
 all_in-none says (z ∷ xs) (suc i) x at is = rw (all_in-none says xs i x at is) (nothing_behind (says z))
 
-pub take-next : {A : Type 0} (xs : List A) (i : ℕ) (x : A) → slice_get xs i ≡ Some x → take (suc i) xs ≡ take i xs ++ x ∷ []
+take-next : {A : Type 0} (xs : List A) (i : ℕ) (x : A) → slice_get xs i ≡ Some x → take (suc i) xs ≡ take i xs ++ x ∷ []
 take-next [] i x at = absurd cc
 take-next (z ∷ xs) zero x at = let same : z ≡ x = cc in rw same refl
 take-next (z ∷ xs) (suc i) x at = ap (λ ys. z ∷ ys) (take-next xs i x at)
@@ -67,18 +51,6 @@ each-next P (z ∷ xs) zero x each at here j y found = let same : x ≡ z = cc i
 each-next P (z ∷ xs) (suc i) x each at here zero y found = each zero y found
 each-next P (z ∷ xs) (suc i) x each at here (suc j) y found = each-next P xs i x (λ k w e. each (suc k) w e) at here j y found
 
-pub is_none : {A : Type 0} (o : Option A) → ((x : A) → o ≡ Some x → ⊥) → o ≡ None
-is_none None other = refl
-is_none (Some x) other = absurd (other x refl)
-
--- the value at a place
-pub value_at : (vs : List Value) (i : ℕ) (v : Value) → i < length vs → v ≡ get_or vs i v → slice_get (map view vs) i ≡ Some (view v)
-value_at vs i v lt is = slice_get-map view vs i ∙ ap (option_map view) (slice_get_read vs (length vs) i v refl lt is)
-
--- the numbers of an array
-pub numbers_of : (d : Data) (vs : List Value) → Some (items_view vs) ≡ as_array d → numbers_in d ≡ all_in number_in (map view vs)
-numbers_of d vs is = rw (← is) (ap (all_in number_in) (values_in-items_view vs))
-
 pub take_past : {A : Type 0} (xs : List A) (n : ℕ) → length xs ≤ n → take n xs ≡ xs
 take_past [] zero le = refl
 take_past [] (suc n) le = refl
@@ -91,6 +63,30 @@ pub both_parts : {A B C : Type 0} (f : A → B → C) (a : Option A) (b : Option
 both_parts f None b x h = absurd cc
 both_parts f (Some y) None x h = absurd cc
 both_parts f (Some y) (Some z) x h = (y, z, refl, refl, cc)
+
+-- as many elements as are read
+pub all_in-length : {A B : Type 0} (says : A → Option B) (xs : List A) (ys : List B) → all_in says xs ≡ Some ys → length xs ≡ length ys
+all_in-length says [] ys all = let none : [] ≡ ys = cc in ap length none
+all_in-length says (x ∷ xs) ys all =
+    let parts = both_parts (λ y zs. y ∷ zs) (says x) (all_in says xs) ys all in
+    ap suc (all_in-length says xs parts.1 parts.3) ∙ ap length parts.4
+
+-- the element behind those that are read
+pub stands_behind : {A : Type 0} (xs : List A) (y : A) (zs all : List A) → xs ++ y ∷ zs ≡ all → slice_get all (length xs) ≡ Some y
+stands_behind [] y zs all is = rw (← is) refl
+stands_behind (x ∷ xs) y zs all is = rw (← is) (stands_behind xs y zs (xs ++ y ∷ zs) refl)
+
+-- one element more is read
+pub one_read : {A : Type 0} (xs : List A) (y : A) (zs rest all : List A) → rest ≡ y ∷ zs → xs ++ rest ≡ all → (xs ++ y ∷ []) ++ zs ≡ all
+one_read xs y zs rest all next is = append_assoc xs (y ∷ []) zs ∙ ap (λ r. xs ++ r) (sym next) ∙ is
+
+numbers_by : (o : Option Items) (ds : List Data) → Some ds ≡ option_map values_in o → option_and_then (λ es. all_in number_in (values_in es)) o ≡ all_in number_in ds
+numbers_by None ds is = absurd cc
+numbers_by (Some es) ds is = let same : values_in es ≡ ds = cc in ap (all_in number_in) same
+
+-- the numbers of an array
+pub numbers_of : (d : Data) (ds : List Data) → Some ds ≡ option_map values_in (as_array d) → numbers_in d ≡ all_in number_in ds
+numbers_of d ds is = numbers_by (as_array d) ds is
 
 -- numbers that are read back
 pub kept_numbers : (zs : List ℤ) → Each (λ z. number_in (number_data z) ≡ Some z) zs → all_in number_in (map number_data zs) ≡ Some zs

@@ -18,6 +18,11 @@ mod JsonEvents
 mod NamesApart
 mod JsonWriting
 mod JsonNames
+mod JsonFound
+mod JsonFits
+mod JsonMembers
+mod JsonParts
+mod JsonRead
 mod JsonAlways
 mod JsonAnswers
 pub mod JsonOnce

@@ -1,10 +1,9 @@
 -- What clauses see of the tables with which a JSON history is read.
-use Rattle.std.specs.Prelude.{◌≡◌, ◌≤◌, ◌+◌, ℕ, Bool, true, false, List, Option, Some, None, option_map, slice_index_or, slice_get, length, map, IsUtf8}
+use Rattle.std.specs.Prelude.{◌≡◌, ◌≤◌, ◌+◌, ℕ, Bool, true, false, List, Option, Some, None, option_map, slice_index_or, slice_get, length, IsUtf8}
+use Rattle.json.specs.Token.{Token}
 use Rattle.serde_json.specs.Data.{Data}
 use Rattle.serde_json.specs.Read.{read}
 use Rattle.std.specs.Borrow.{Bor}
-use Rattle.serde_json.specs.View.{view}
-use Rattle.serde_json.specs.declared.value.Value.{Value}
 use Rattle.lc_base.specs.declared.ids.OpId.{OpId}
 use Rattle.lc_base.specs.Limits.{file_limit}
 use Rattle.lc_seq.specs.Specification.{Operation}
@@ -12,14 +11,15 @@ use Rattle.lc_seq.specs.SpecView.{operations_of}
 use Rattle.lc_hist.specs.History.{Event, Called, Replied}
 use Rattle.lc_hist.specs.JsonHistories.{Parts, IsFirstWrongEvent, IsFirstWrongEntry}
 use Rattle.lc_hist.specs.JsonValues.{has_replies}
-use Rattle.lc_hist.specs.declared.json_reading.Parts.{Parts as SeenParts}
+use Rattle.lc_hist.specs.JsonItems.{data_at, values_at}
+use Rattle.lc_hist.specs.declared.document.Parts.{Parts as SeenParts}
 use Rattle.lc_hist.specs.declared.open_calls.OpenCalls.{OpenCalls}
 use Rattle.lc_hist.specs.declared.operations.Operations.{Operations}
 
 -- the value that is said, if one is
-abbrev pub said_in : Option (Bor Value) → Option Data
+abbrev pub said_in : Option (Bor (List Token)) → Option Data
 said_in None = None
-said_in (Some value) = Some (view value.now)
+said_in (Some value) = Some (data_at value.now)
 
 -- the operations that are found by their names
 abbrev pub all_of : Operations → List Operation
@@ -47,7 +47,7 @@ opened (Replied c reply) = None
 
 -- the values of the parts
 abbrev pub parts_seen : SeenParts → Parts
-parts_seen parts = record { events = map view parts.events.now; order = map view parts.order.now }
+parts_seen parts = record { events = values_at parts.events; order = values_at parts.order }
 
 -- the item is the first wrong one of these events
 abbrev pub IsWrongEventItem : List Operation → List Data → ℕ → Type 0

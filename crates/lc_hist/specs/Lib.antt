@@ -5,6 +5,7 @@ pub mod History
 pub mod InCall
 pub mod JsonCursor
 pub mod JsonHistories
+pub mod JsonItems
 pub mod JsonKept
 pub mod JsonSeen
 pub mod JsonTokens

@@ -1,61 +1,28 @@
 //! How the text of a history and its order is read: its bytes, and its two lists.
-ghost use Rattle.std.specs.Prelude.{◌≡◌, ◌+◌, ◌<◌, ◌^◌, length, map, option_map, MatchOption, IfOk, IfSome, MatchResult};
-ghost use Rattle.serde_json.specs.View.{view};
+ghost use Rattle.std.specs.Prelude.{◌≡◌, ◌≤◌, ◌^◌, IfOk, IfSome, MatchResult};
 ghost use Rattle.lc_seq.specs.TextView.{specification_of};
 ghost use Rattle.lc_hist.specs.Histories.{events_in};
-ghost use Rattle.lc_hist.specs.JsonHistories.{parts_in, IsRefusedAt, IsHistoryOf, SaysHistory, AreEvents, AreEntries, entries_seen};
-ghost use Rattle.lc_hist.specs.JsonSeen.{all_of, parts_seen, may_follow, number_of, HasValue, IsNoJson, IsWrongEventItem, IsWrongEntryItem};
+ghost use Rattle.lc_hist.specs.JsonHistories.{IsRefusedAt, IsHistoryOf, SaysHistory, AreEvents, AreEntries, entries_seen};
+ghost use Rattle.lc_hist.specs.JsonItems.{values_at};
+ghost use Rattle.lc_hist.specs.JsonSeen.{all_of, may_follow, number_of, IsWrongEventItem, IsWrongEntryItem};
 ghost use Rattle.lc_hist.specs.View.{event_of};
 
+use crate::document::{Items, root, tokens_of};
 use crate::event::{Done, Event};
 use crate::history::History;
 use crate::json_values::{read_entry, read_event};
 use crate::open_calls::{OpenCalls, opened};
 use crate::operations::Operations;
 use crate::token_rows::read_right;
+use json::Scratch;
 use lc_base::{FILE_LIMIT, Fault, OpId, OutOfMemory, Refusal};
 use lc_seq::{Pick, TextCall, TextSpec};
-use serde_json::Value;
 use std::alloc::Global;
-
-/// The values of the events, and those of the order.
-#[derive(Clone, Copy)]
-struct Parts<'a> {
-    events: &'a [Value],
-    order: &'a [Value],
-}
 
 fn wrong(item: usize) -> Fault
     ensures { IsRefusedAt (λ at. at ≡ item) result }
 {
     Fault::Refused(Refusal::HistoryShape(item as u64))
-}
-
-/// The values under the keys `events` and `order`, if these are arrays and there is no other key.
-fn parts_of(value: &Value) -> Option<Parts<'_>>
-    ensures { option_map parts_seen result ≡ parts_in (view value.now) }
-{
-    if value.as_object()?.len() != 2 {
-        return None;
-    }
-    let events = value.get("events")?.as_array()?;
-    let order = value.get("order")?.as_array()?;
-    Some(Parts { events, order })
-}
-
-/// The value of a text within the limit, if it is JSON.
-fn parse(alloc: Global, bytes: &[u8]) -> Result<Option<Value>, OutOfMemory>
-    ensures { IfOk result (λ found. MatchOption found
-        (IsNoJson bytes.now) (λ value. HasValue bytes.now (view value))) }
-{
-    if bytes.len() as u64 > FILE_LIMIT {
-        return Ok(None);
-    }
-    match Value::from_slice(alloc, bytes) {
-        Ok(value) => Ok(Some(value)),
-        Err(error) if error.is_memory() => Err(OutOfMemory),
-        Err(_) => Ok(None),
-    }
 }
 
 /// Whether an event is in turn where its client is in a call of this operation, or in none, and is a return with as
@@ -74,17 +41,17 @@ pub(crate) fn may_follow(operations: &Operations<'_>, current: Option<OpId>, eve
 fn read_events(
     alloc: Global,
     operations: &Operations<'_>,
-    values: &[Value],
+    mut values: Items<'_, '_>,
 ) -> Result<History, Fault>
     ensures { MatchResult result
-        (λ history. AreEvents (all_of operations.now) (map view values.now) (events_in history))
-        (IsRefusedAt (IsWrongEventItem (all_of operations.now) (map view values.now))) }
+        (λ history. AreEvents (all_of operations.now) (values_at values.entry) (events_in history))
+        (IsRefusedAt (IsWrongEventItem (all_of operations.now) (values_at values.entry))) }
 {
     let mut events = Vec::new(alloc);
     let mut calls = OpenCalls::new(alloc);
-    for (place, value) in values.iter().enumerate() {
-        let item = 1 + place;
-        let Some(event) = read_event(alloc, operations, value)? else {
+    'values: while let Some(value) = values.next() {
+        let item = 1 + events.len();
+        let Some(event) = read_event(alloc, operations, &value)? else {
             return Err(wrong(item));
         };
         let client = event.client();
@@ -101,18 +68,18 @@ fn read_events(
 fn read_order(
     alloc: Global,
     operations: &Operations<'_>,
-    values: &[Value],
+    mut values: Items<'_, '_>,
     before: usize,
 ) -> Result<Vec<Done<TextCall, Pick, Vec<i64>>>, Fault>
-    requires { before + length values.now < 2 ^ 64 }
+    requires { before ≤ 2 ^ 63 }
     ensures { MatchResult result
-        (λ order. AreEntries (all_of operations.now) (map view values.now) (entries_seen order.items))
-        (IsRefusedAt (IsWrongEntryItem (all_of operations.now) (map view values.now) before)) }
+        (λ order. AreEntries (all_of operations.now) (values_at values.entry) (entries_seen order.items))
+        (IsRefusedAt (IsWrongEntryItem (all_of operations.now) (values_at values.entry) before)) }
 {
     let mut order = Vec::new(alloc);
-    for (place, value) in values.iter().enumerate() {
-        let Some(done) = read_entry(alloc, operations, value)? else {
-            return Err(wrong(before + place));
+    'values: while let Some(value) = values.next() {
+        let Some(done) = read_entry(alloc, operations, &value)? else {
+            return Err(wrong(before + order.len()));
         };
         order.push(done)?;
     }
@@ -134,7 +101,7 @@ fn read_at_once(
     read_right(alloc, operations, bytes)
 }
 
-/// The history and the order that these bytes say, by all their values; else the first item that is wrong.
+/// The history and the order that these bytes say, by their values one after another; else the first item that is wrong.
 fn read_values(
     alloc: Global,
     operations: &Operations<'_>,
@@ -142,14 +109,18 @@ fn read_values(
 ) -> Result<(History, Vec<Done<TextCall, Pick, Vec<i64>>>), Fault>
     ensures { IsHistoryOf (all_of operations.now) bytes.now result }
 {
-    let Some(value) = parse(alloc, bytes)? else {
+    let mut scratch = Scratch::new(alloc);
+    let Some(tape) = tokens_of(alloc, bytes, &mut scratch)? else {
         return Err(wrong(0));
     };
-    let Some(parts) = parts_of(&value) else {
+    let Some(value) = root(&tape) else {
+        return Err(wrong(0));
+    };
+    let Some(parts) = value.parts() else {
         return Err(wrong(0));
     };
     let history = read_events(alloc, operations, parts.events)?;
-    let order = read_order(alloc, operations, parts.order, 1 + parts.events.len())?;
+    let order = read_order(alloc, operations, parts.order, 1 + history.events().len())?;
     Ok((history, order))
 }
 

@@ -1,29 +1,36 @@
 //! How the values of a text are read: clients, calls, returns, entries and choices.
-ghost use Rattle.std.specs.Prelude.{◌≡◌, IfOk, option_map, option_and_then, map, codes};
-ghost use Rattle.serde_json.specs.View.{view};
+ghost use Rattle.std.specs.Prelude.{◌≡◌, IfOk, option_map, option_and_then, codes};
 ghost use Rattle.lc_seq.specs.SpecView.{text_call_of, choice_of};
+ghost use Rattle.lc_hist.specs.JsonItems.{data_at, values_at};
 ghost use Rattle.lc_hist.specs.JsonSeen.{all_of, said_in};
 ghost use Rattle.lc_hist.specs.JsonHistories.{entry_seen};
-ghost use Rattle.lc_hist.specs.JsonValues.{numbers_in, client_in, is_word, call_in, invoke_from, respond_from, event_from, event_in, pick_in, choice_from, choice_with, done_from, entry_from, entry_in};
+ghost use Rattle.lc_hist.specs.JsonValues.{number_in, numbers_in, client_in, is_word, call_in, invoke_from, respond_from, event_from, event_in, pick_in, choice_from, choice_with, done_from, entry_from, entry_in};
 ghost use Rattle.lc_hist.specs.View.{event_of};
 
+use crate::document::{Item, Items};
 use crate::event::{Done, Event};
 use crate::operations::Operations;
 use lc_base::{CLIENT_LIMIT, OpId, OutOfMemory};
 use lc_seq::{Pick, TextCall};
-use serde_json::Value;
 use std::alloc::Global;
 
-/// The numbers that the value lists, if it is a list of numbers.
-fn read_numbers(alloc: Global, value: &Value) -> Result<Option<Vec<i64>>, OutOfMemory>
-    ensures { IfOk result (λ found. option_map (λ numbers. numbers.items) found ≡ numbers_in (view value.now)) }
+/// The number that the value is, if it is one of 64 bits.
+fn read_number(value: &Item<'_, '_>) -> Option<i64>
+    ensures { result ≡ number_in (data_at value.now) }
 {
-    let Some(values) = value.as_array() else {
+    value.as_number()?.as_i64()
+}
+
+/// The numbers that the value lists, if it is a list of numbers.
+fn read_numbers(alloc: Global, value: &Item<'_, '_>) -> Result<Option<Vec<i64>>, OutOfMemory>
+    ensures { IfOk result (λ found. option_map (λ numbers. numbers.items) found ≡ numbers_in (data_at value.now)) }
+{
+    let Some(mut values) = value.items() else {
         return Ok(None);
     };
     let mut numbers = Vec::new(alloc);
-    for value in values {
-        let Some(number) = value.as_i64() else {
+    'values: while let Some(value) = values.next() {
+        let Some(number) = read_number(&value) else {
             return Ok(None);
         };
         numbers.push(number)?;
@@ -32,17 +39,17 @@ fn read_numbers(alloc: Global, value: &Value) -> Result<Option<Vec<i64>>, OutOfM
 }
 
 /// The client that the value names.
-fn read_client(value: &Value) -> Option<u32>
-    ensures { result ≡ client_in (view value.now) }
+fn read_client(value: &Item<'_, '_>) -> Option<u32>
+    ensures { result ≡ client_in (data_at value.now) }
 {
-    match value.as_u64() {
+    match value.as_number()?.as_u64() {
         Some(client) if client <= u64::from(CLIENT_LIMIT) => Some(client as u32),
         _ => None,
     }
 }
 
-fn says_call(value: &Value) -> bool
-    ensures { result ≡ is_word (codes "call") (view value.now) }
+fn says_call(value: &Item<'_, '_>) -> bool
+    ensures { result ≡ is_word (codes "call") (data_at value.now) }
 {
     match value.as_str() {
         Some(word) => word == "call",
@@ -50,8 +57,8 @@ fn says_call(value: &Value) -> bool
     }
 }
 
-fn says_return(value: &Value) -> bool
-    ensures { result ≡ is_word (codes "return") (view value.now) }
+fn says_return(value: &Item<'_, '_>) -> bool
+    ensures { result ≡ is_word (codes "return") (data_at value.now) }
 {
     match value.as_str() {
         Some(word) => word == "return",
@@ -63,10 +70,10 @@ fn says_return(value: &Value) -> bool
 fn read_call(
     alloc: Global,
     operations: &Operations<'_>,
-    name: &Value,
-    numbers: &Value,
+    name: &Item<'_, '_>,
+    numbers: &Item<'_, '_>,
 ) -> Result<Option<TextCall>, OutOfMemory>
-    ensures { IfOk result (λ found. option_map text_call_of found ≡ call_in (all_of operations.now) (view name.now) (view numbers.now)) }
+    ensures { IfOk result (λ found. option_map text_call_of found ≡ call_in (all_of operations.now) (data_at name.now) (data_at numbers.now)) }
 {
     let Some(name) = name.as_str() else {
         return Ok(None);
@@ -87,11 +94,11 @@ fn read_call(
 fn read_invoke(
     alloc: Global,
     operations: &Operations<'_>,
-    client: &Value,
-    name: &Value,
-    numbers: &Value,
+    client: &Item<'_, '_>,
+    name: &Item<'_, '_>,
+    numbers: &Item<'_, '_>,
 ) -> Result<Option<Event>, OutOfMemory>
-    ensures { IfOk result (λ found. option_map event_of found ≡ invoke_from (all_of operations.now) (view client.now) (view name.now) (view numbers.now)) }
+    ensures { IfOk result (λ found. option_map event_of found ≡ invoke_from (all_of operations.now) (data_at client.now) (data_at name.now) (data_at numbers.now)) }
 {
     let Some(client) = read_client(client) else {
         return Ok(None);
@@ -109,10 +116,10 @@ fn read_invoke(
 /// The return of a call.
 fn read_respond(
     alloc: Global,
-    client: &Value,
-    numbers: &Value,
+    client: &Item<'_, '_>,
+    numbers: &Item<'_, '_>,
 ) -> Result<Option<Event>, OutOfMemory>
-    ensures { IfOk result (λ found. option_map event_of found ≡ respond_from (view client.now) (view numbers.now)) }
+    ensures { IfOk result (λ found. option_map event_of found ≡ respond_from (data_at client.now) (data_at numbers.now)) }
 {
     let Some(client) = read_client(client) else {
         return Ok(None);
@@ -126,36 +133,34 @@ fn read_respond(
 fn read_event_items(
     alloc: Global,
     operations: &Operations<'_>,
-    items: &[Value],
+    mut items: Items<'_, '_>,
 ) -> Result<Option<Event>, OutOfMemory>
-    ensures { IfOk result (λ found. option_map event_of found ≡ event_from (all_of operations.now) (map view items.now)) }
+    ensures { IfOk result (λ found. option_map event_of found ≡ event_from (all_of operations.now) (values_at items.entry)) }
 {
-    match items {
-        [client, word, name, numbers] => {
-            if !says_call(word) {
-                return Ok(None);
-            }
-            read_invoke(alloc, operations, client, name, numbers)
+    let (Some(client), Some(word), Some(third)) = (items.next(), items.next(), items.next()) else {
+        return Ok(None);
+    };
+    let Some(fourth) = items.next() else {
+        if !says_return(&word) {
+            return Ok(None);
         }
-        [client, word, numbers] => {
-            if !says_return(word) {
-                return Ok(None);
-            }
-            read_respond(alloc, client, numbers)
-        }
-        _ => Ok(None),
+        return read_respond(alloc, &client, &third);
+    };
+    if items.next().is_some() || !says_call(&word) {
+        return Ok(None);
     }
+    read_invoke(alloc, operations, &client, &third, &fourth)
 }
 
 /// The event that the value is, whatever stands before it.
 pub(crate) fn read_event(
     alloc: Global,
     operations: &Operations<'_>,
-    value: &Value,
+    value: &Item<'_, '_>,
 ) -> Result<Option<Event>, OutOfMemory>
-    ensures { IfOk result (λ found. option_map event_of found ≡ event_in (all_of operations.now) (view value.now)) }
+    ensures { IfOk result (λ found. option_map event_of found ≡ event_in (all_of operations.now) (data_at value.now)) }
 {
-    match value.as_array() {
+    match value.items() {
         Some(items) => read_event_items(alloc, operations, items),
         None => Ok(None),
     }
@@ -166,17 +171,20 @@ fn read_named_pick(
     alloc: Global,
     operations: &Operations<'_>,
     op: OpId,
-    items: &[Value],
+    mut items: Items<'_, '_>,
 ) -> Result<Option<Pick>, OutOfMemory>
-    ensures { IfOk result (λ found. option_map choice_of found ≡ option_and_then (choice_with (all_of operations.now) op.0) (choice_from (map view items.now))) }
+    ensures { IfOk result (λ found. option_map choice_of found ≡ option_and_then (choice_with (all_of operations.now) op.0) (choice_from (values_at items.entry))) }
 {
-    let [name, numbers] = items else {
+    let (Some(name), Some(numbers)) = (items.next(), items.next()) else {
         return Ok(None);
     };
+    if items.next().is_some() {
+        return Ok(None);
+    }
     let Some(text) = name.as_str() else {
         return Ok(None);
     };
-    let Some(numbers) = read_numbers(alloc, numbers)? else {
+    let Some(numbers) = read_numbers(alloc, &numbers)? else {
         return Ok(None);
     };
     let Some(name) = operations.choice(op, text, numbers.len()) else {
@@ -190,14 +198,14 @@ fn read_pick(
     alloc: Global,
     operations: &Operations<'_>,
     op: OpId,
-    said: Option<&Value>,
+    said: Option<&Item<'_, '_>>,
 ) -> Result<Option<Pick>, OutOfMemory>
     ensures { IfOk result (λ found. option_map choice_of found ≡ pick_in (all_of operations.now) op.0 (said_in said.entry)) }
 {
     let Some(value) = said else {
         return Ok(operations.is_ordered(op).then_some(Pick::First));
     };
-    match value.as_array() {
+    match value.items() {
         Some(items) => read_named_pick(alloc, operations, op, items),
         None => Ok(None),
     }
@@ -207,13 +215,13 @@ fn read_pick(
 fn read_done(
     alloc: Global,
     operations: &Operations<'_>,
-    client: &Value,
-    name: &Value,
-    numbers: &Value,
-    reply: &Value,
-    choice: Option<&Value>,
+    client: &Item<'_, '_>,
+    name: &Item<'_, '_>,
+    numbers: &Item<'_, '_>,
+    reply: &Item<'_, '_>,
+    choice: Option<&Item<'_, '_>>,
 ) -> Result<Option<Done<TextCall, Pick, Vec<i64>>>, OutOfMemory>
-    ensures { IfOk result (λ found. option_map entry_seen found ≡ done_from (all_of operations.now) (view client.now) (view name.now) (view numbers.now) (view reply.now) (said_in choice.entry)) }
+    ensures { IfOk result (λ found. option_map entry_seen found ≡ done_from (all_of operations.now) (data_at client.now) (data_at name.now) (data_at numbers.now) (data_at reply.now) (said_in choice.entry)) }
 {
     let Some(client) = read_client(client) else {
         return Ok(None);
@@ -241,36 +249,40 @@ fn read_done(
 fn read_entry_items(
     alloc: Global,
     operations: &Operations<'_>,
-    items: &[Value],
+    mut items: Items<'_, '_>,
 ) -> Result<Option<Done<TextCall, Pick, Vec<i64>>>, OutOfMemory>
-    ensures { IfOk result (λ found. option_map entry_seen found ≡ entry_from (all_of operations.now) (map view items.now)) }
+    ensures { IfOk result (λ found. option_map entry_seen found ≡ entry_from (all_of operations.now) (values_at items.entry)) }
 {
-    match items {
-        [client, name, numbers, reply] => {
-            read_done(alloc, operations, client, name, numbers, reply, None)
-        }
-        [client, name, numbers, reply, choice] => read_done(
-            alloc,
-            operations,
-            client,
-            name,
-            numbers,
-            reply,
-            Some(choice),
-        ),
-        _ => Ok(None),
+    let (Some(client), Some(name)) = (items.next(), items.next()) else {
+        return Ok(None);
+    };
+    let (Some(numbers), Some(reply)) = (items.next(), items.next()) else {
+        return Ok(None);
+    };
+    let choice = items.next();
+    if choice.is_some() && items.next().is_some() {
+        return Ok(None);
     }
+    read_done(
+        alloc,
+        operations,
+        &client,
+        &name,
+        &numbers,
+        &reply,
+        choice.as_ref(),
+    )
 }
 
 /// The entry of an order that the value is.
 pub(crate) fn read_entry(
     alloc: Global,
     operations: &Operations<'_>,
-    value: &Value,
+    value: &Item<'_, '_>,
 ) -> Result<Option<Done<TextCall, Pick, Vec<i64>>>, OutOfMemory>
-    ensures { IfOk result (λ found. option_map entry_seen found ≡ entry_in (all_of operations.now) (view value.now)) }
+    ensures { IfOk result (λ found. option_map entry_seen found ≡ entry_in (all_of operations.now) (data_at value.now)) }
 {
-    match value.as_array() {
+    match value.items() {
         Some(items) => read_entry_items(alloc, operations, items),
         None => Ok(None),
     }

@@ -2,6 +2,7 @@
 #![tactic(auto)]
 
 mod cursor;
+mod document;
 mod event;
 mod history;
 mod json_reading;

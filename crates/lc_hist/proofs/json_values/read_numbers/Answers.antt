@@ -1,29 +1,30 @@
-use Rattle.std.proofs.Common.{◌≡◌, None, map, ap, sym, ◌∙◌, arith, add-one, rules, to_z, of_z, w64}
-use Rattle.std.proofs.lemmas.List.{length-map}
-use Rattle.serde_json.specs.View.{view}
-use Rattle.lc_hist.specs.JsonValues.{all_in, number_in}
-use Rattle.lc_hist.proofs.JsonLists.{value_at, numbers_of, all_in-next, all_in-none, take_past}
+use Rattle.std.proofs.Common.{◌≡◌, Some, None, [], ◌∷◌, ◌++◌, length, ap, sym, ◌∙◌, rules, to_z, of_z, w64}
+use Rattle.lc_hist.specs.JsonItems.{data_at, values_at}
+use Rattle.lc_hist.specs.JsonValues.{all_in, number_in, numbers_in}
+use Rattle.lc_hist.proofs.JsonLists.{all_in-none, all_in-push, numbers_of, one_read, stands_behind}
 use Rattle.lc_hist.proofs.json_values.read_numbers.Goals as goal
 
-pub returns-in_default-as_i64 : goal.returns-in_default-as_i64
-returns-in_default-as_i64 c =
-    let vs = c.deref-value-items.result.now in
-    let at = value_at vs c.loop-value.value-index c.value-item.result (omega arith) c.value-item.is in
-    let none : number_in (view c.value-item.result) ≡ None = sym c.as_i64.ensures ∙ c.in_default-as_i64.is in
-    sym (numbers_of (view c.args.value.now) c.in-Some.values.now.items c.in-Some.ensures
-    ∙ ap (λ xs. all_in number_in (map view xs)) (sym c.deref-value-items.ensures.value) ∙ all_in-none number_in (map view vs) c.loop-value.value-index (view c.value-item.result) at none)
+pub returns-in_default-read_number : goal.returns-in_default-read_number
+returns-in_default-read_number c =
+    let l = c.values in
+    let d = data_at c.in-Some-next.value in
+    let all = values_at c.in-Some.values in
+    let listed : numbers_in (data_at c.args.value.now) ≡ all_in number_in all =
+    numbers_of (data_at c.args.value.now) all c.in-Some.ensures in
+    let here : l.invariant.0 ++ d ∷ values_at c.next.new.self ≡ all = ap (λ rest. l.invariant.0 ++ rest) (sym c.in-Some-next.ensures.value) ∙ l.invariant.2 in
+    let none : number_in d ≡ None = sym c.read_number.ensures ∙ c.in_default-read_number.is in
+    sym (listed ∙ all_in-none number_in all (length l.invariant.0) d (stands_behind l.invariant.0 d (values_at c.next.new.self) all here) none)
 
-pub loop-value-preserved : goal.loop-value-preserved
-loop-value-preserved c =
-    let vs = c.deref-value-items.result.now in
-    let at = value_at vs c.loop-value.value-index c.value-item.result (omega arith) c.value-item.is in
-    let next = all_in-next number_in (map view vs) c.loop-value.value-index (view c.value-item.result) c.loop-value.numbers.items c.in-Some-as_i64.number c.loop-value.invariant at (sym c.in-Some-as_i64.ensures) in
-    let e : to_z w64 (of_z w64 c.in-Some-as_i64.number) ≡ c.in-Some-as_i64.number = search rules in
-    rw (add-one c.loop-value.value-index, c.in_ok-push.ensures.items, e) next
-
-pub returns : goal.returns
-returns c =
-    let vs = c.deref-value-items.result.now in
-    let whole = take_past (map view vs) c.loop-value.value-index (omega (arith, length-map vs view)) in
-    sym (numbers_of (view c.args.value.now) c.in-Some.values.now.items c.in-Some.ensures
-    ∙ ap (λ xs. all_in number_in (map view xs)) (sym c.deref-value-items.ensures.value) ∙ ap (all_in number_in) (sym whole) ∙ c.loop-value.invariant)
+pub values-preserved : goal.values-preserved
+values-preserved c =
+    let l = c.values in
+    let ds = l.invariant.0 in
+    let d = data_at c.in-Some-next.value in
+    let z = c.in-Some-read_number.number in
+    let says : number_in d ≡ Some z = sym c.read_number.ensures ∙ c.in-Some-read_number.is in
+    let e : to_z w64 (of_z w64 z) ≡ z = search rules in
+    let pushed : l.numbers.items ++ z ∷ [] ≡ c.push.new.self.items = sym (c.in_ok-push.ensures.items ∙ ap (λ w. l.numbers.items ++ w ∷ []) e) in (
+      ds ++ d ∷ [],
+      all_in-push number_in ds d l.numbers.items z l.invariant.1 says ∙ ap Some pushed,
+      one_read ds d (values_at c.next.new.self) (values_at l.values) (values_at c.in-Some.values) c.in-Some-next.ensures.value l.invariant.2,
+    )
