@@ -286,6 +286,7 @@ ABUSES = {
     "arrays_for_events": lambda: history(commas("[]")),
     "lists_for_events": lambda: history(commas("[0]")),
     "objects_for_events": lambda: history(commas('{"":0}')),
+    "deep_lists_for_events": lambda: history(many(nested("[", "", "]", 100), count // 50, ",")),
     "arrays_for_entries": lambda: history("", commas("[]")),
     "numbers_of_a_call": lambda: history(f'[0,"call","go",[{commas("0")}]]'),
     "numbers_of_a_choice": lambda: history("", f'[0,"go",[],[],["one",[{commas("0")}]]]'),
