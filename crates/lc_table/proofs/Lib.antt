@@ -3,6 +3,7 @@ pub mod TermNodes
 mod FormulaNodes
 mod Tables
 pub mod Later
+pub mod Found
 mod Taken
 pub mod Listed
 mod Copied

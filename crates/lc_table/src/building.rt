@@ -92,7 +92,7 @@ impl Terms {
         ensures id { IfOk result (λ k. HasColumn self.new k (S.Store (column_in self.old column) (term_in self.old index) (term_in self.old value))) }
         ensures kept { Keeps self.old self.new }
     {
-        Ok(ColExprId(self.enter_part(TermNode::Store(column, index, value))?))
+        Ok(ColExprId(self.enter_store(TermNode::Store(column, index, value))?))
     }
 
     /// The column expression whose cell i has `slope` times i, and `start`.

@@ -85,6 +85,10 @@ impl Terms {
         ensures id { IfOk result (λ k. HasFormula self.new k (formula_of formula.now)) }
         ensures kept { Keeps self.old self.new }
     {
+        if let Some(number) = self.expected_atom(formula) {
+            self.note_entered(number);
+            return Ok(number);
+        }
         match formula {
             Formula::Le(left, right) => {
                 let left = self.enter_term(left)?;
@@ -136,6 +140,7 @@ impl Terms {
         ensures trees { IfOk result (λ ks. formulas_in self.new ks.items ≡ formulas_of parts.now) }
         ensures kept { Keeps self.old self.new }
     {
+        self.reserve_for(parts.len())?;
         let mut entered = Vec::with_capacity(alloc, parts.len())?;
         for part in parts {
             entered.push(self.enter_formula(alloc, part)?)?;

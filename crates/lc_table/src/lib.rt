@@ -1,6 +1,7 @@
 //! Terms, column expressions and formulas as numbers of a table, in which each distinct one stands once.
 #![tactic(auto)]
 
+mod again;
 mod building;
 mod chains;
 mod copying;

@@ -15,9 +15,14 @@ use std::alloc::Global;
 // take far longer than a shift, which remembers what it has seen.
 const LOOKS: u32 = 512;
 
+// How many more are looked at for each store of the outermost chain, which is as long as the updates that made it. There are never
+// more looks left than at first, so that a term in it is not gone down further.
+const LOOKS_OF_A_STORE: u32 = 8;
+
 impl Terms {
-    // Whether it is seen that no bound variable stands in what stands at a number. `false` says nothing.
-    fn is_seen_closed(&self, part: u32, looks: &mut u32) -> bool
+    // Whether it is seen that no bound variable stands in what stands at a number. `false` says nothing. Each store of the
+    // chain that stands there, but none of those in its terms, brings so many more looks.
+    fn is_seen_closed(&self, part: u32, looks: &mut u32, brought: u32) -> bool
         requires { is_some (slice_get (parts self.now) part) ≡ true }
         ensures { result ≡ true → is_closed_part (part_in self.now part) ≡ true }
     {
@@ -34,17 +39,18 @@ impl Terms {
                 | TermNode::Affine(_, _) => return true,
                 TermNode::Bound(_) => return false,
                 TermNode::Add(left, right) | TermNode::Subtract(left, right) => {
-                    return self.is_seen_closed(left.0, looks)
-                        && self.is_seen_closed(right.0, looks);
+                    return self.is_seen_closed(left.0, looks, 0)
+                        && self.is_seen_closed(right.0, looks, 0);
                 }
-                TermNode::Multiply(_, term) => return self.is_seen_closed(term.0, looks),
+                TermNode::Multiply(_, term) => return self.is_seen_closed(term.0, looks, 0),
                 TermNode::Read(column, index) => {
-                    return self.is_seen_closed(column.0, looks)
-                        && self.is_seen_closed(index.0, looks);
+                    return self.is_seen_closed(column.0, looks, 0)
+                        && self.is_seen_closed(index.0, looks, 0);
                 }
                 TermNode::Store(below, index, value) => {
-                    if !self.is_seen_closed(index.0, looks)
-                        || !self.is_seen_closed(value.0, looks)
+                    *looks = looks.saturating_add(brought).min(LOOKS);
+                    if !self.is_seen_closed(index.0, looks, 0)
+                        || !self.is_seen_closed(value.0, looks, 0)
                     {
                         return false;
                     }
@@ -60,7 +66,7 @@ impl Terms {
         ensures { result ≡ true → is_closed_part (part_in self.now part) ≡ true }
     {
         let mut looks = LOOKS;
-        self.is_seen_closed(part, &mut looks)
+        self.is_seen_closed(part, &mut looks, LOOKS_OF_A_STORE)
     }
 
     // A term below as many further quantifiers as `depth` counts. A number that has no place is answered as by a table that

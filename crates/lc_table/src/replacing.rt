@@ -265,6 +265,10 @@ impl Terms {
         ensures kept { Keeps self.old self.new }
         ensures done { OnOk result (Stands R.replacement self.new put.now done.new) }
     {
+        // A number stays, whatever is put in.
+        if let TermNode::Number(_) = self.part_node(term.0) {
+            return Ok(term);
+        }
         let occurrence = Occurrence {
             number: term.0,
             depth,
@@ -530,12 +534,16 @@ impl Terms {
             number: formula.0,
             depth,
         };
-        if let Some(number) = done.formula(occurrence) {
+        let is_atom = matches!(
+            self.formula_node(formula),
+            FormulaNode::Le(..) | FormulaNode::Eq(..)
+        );
+        if let Some(number) = done.formula(occurrence, is_atom) {
             return Ok(FormulaId(number));
         }
         let node = self.replaced_node::<R>(alloc, put, done, formula, depth)?;
         let number = self.enter_changed_formula(formula, node)?;
-        done.note_formula(occurrence, number.0)?;
+        done.note_formula(occurrence, number.0, is_atom)?;
         Ok(number)
     }
 

@@ -18,6 +18,14 @@ use std::marker::Model;
 pub struct Terms {
     terms: IndexSet<TermNode>,
     formulas: IndexSet<FormulaNode>,
+    /// The store that was entered last.
+    last_store: u32,
+    /// Where the next store is expected: as far behind the last one as that is behind the one before it. A chain of stores that is
+    /// entered once more has numbers that go up so.
+    next_store: u32,
+    /// Where the next formula is expected: behind the one that was entered last. Formulas that are entered once more, in the
+    /// same order, have numbers one behind another.
+    next: u32,
 }
 
 impl Model for Terms {
@@ -36,12 +44,15 @@ impl Drop for Terms {
         let Terms {
             terms: _,
             formulas: _,
+            last_store: _,
+            next_store: _,
+            next: _,
         } = self;
     }
 }
 
 impl Terms {
-    ghost use Rattle.std.specs.Prelude.{◌≡◌, ◌+◌, ◌-◌, ◌^◌, min, length, IfOk, slice_get, Some, [], is_some, true, false, IsTrue, ◌↔◌};
+    ghost use Rattle.std.specs.Prelude.{◌≡◌, ◌+◌, ◌-◌, ◌^◌, min, length, IfOk, IfSome, slice_get, Some, [], is_some, true, false, IsTrue, ◌↔◌};
     ghost use Rattle.lc_table.specs.Nodes.{part_of, PartFits, PartBelow, is_term_node, term_of_node, column_of_node, tree_of, TreeFits, PartsBelow};
     ghost use Rattle.lc_table.specs.Tables.{parts, formulas, term_in, column_in, formula_in, IsTerm, IsColumn, IsFormula, Keeps};
 
@@ -53,6 +64,9 @@ impl Terms {
         Terms {
             terms: IndexSet::new(alloc),
             formulas: IndexSet::new(alloc),
+            last_store: 0,
+            next_store: 0,
+            next: 0,
         }
     }
 
@@ -66,6 +80,17 @@ impl Terms {
         ensures { result ≡ min (length (parts self.now) + length (formulas self.now)) (2 ^ 64 - 1) }
     {
         self.terms.len().saturating_add(self.formulas.len())
+    }
+
+    // Makes room for so many formulas in all, and so many terms and column expressions, before the formulas of a list are entered.
+    pub(crate) fn reserve_for(&mut self, count: usize) -> Result<(), OutOfMemory>
+        ensures { Keeps self.old self.new }
+    {
+        let terms = count.saturating_sub(self.terms.len());
+        let formulas = count.saturating_sub(self.formulas.len());
+        self.terms.reserve(terms)?;
+        self.formulas.reserve(formulas)?;
+        Ok(())
     }
 
     /// Makes room for so many more terms and column expressions, so that while they are entered none has to move.
@@ -86,14 +111,77 @@ impl Terms {
         number_of(index)
     }
 
+    // The same of a store.
+    pub(crate) fn enter_store(&mut self, node: TermNode) -> Result<u32, OutOfMemory>
+        requires { PartFits (parts self.old) node }
+        ensures part { IfOk result (λ k. slice_get (parts self.new) k ≡ Some (part_of (parts self.old) node)) }
+        ensures kept { Keeps self.old self.new }
+    {
+        if let Some(number) = self.expected_store(node) {
+            self.note_store(number);
+            return Ok(number);
+        }
+        let number = self.enter_part(node)?;
+        self.note_store(number);
+        Ok(number)
+    }
+
+    // The number where the next store is expected, if it has this node.
+    fn expected_store(&self, node: TermNode) -> Option<u32>
+        ensures { IfSome result (λ k. slice_get (parts self.now) k ≡ Some (part_of (parts self.now) node)) }
+    {
+        if self.part_at(self.next_store)? == node {
+            Some(self.next_store)
+        } else {
+            None
+        }
+    }
+
+    // The store of this number was entered.
+    fn note_store(&mut self, number: u32)
+        ensures { self.new ≡ self.old }
+    {
+        let step = number.saturating_sub(self.last_store);
+        self.last_store = number;
+        self.next_store = number.saturating_add(step);
+    }
+
     // The number of a node of a formula, which is entered if it is not there.
     pub(crate) fn enter_node(&mut self, node: FormulaNode) -> Result<u32, OutOfMemory>
         requires { TreeFits (parts self.old) (formulas self.old) node }
         ensures formula { IfOk result (λ k. slice_get (formulas self.new) k ≡ Some (tree_of (parts self.old) (formulas self.old) node)) }
         ensures kept { Keeps self.old self.new }
     {
+        if let Some(number) = self.expected_node(&node) {
+            self.note_entered(number);
+            return Ok(number.0);
+        }
         let (index, _) = self.formulas.insert_full(node)?;
-        number_of(index)
+        let number = number_of(index)?;
+        self.next = number.saturating_add(1);
+        Ok(number)
+    }
+
+    // The number where the next formula is expected, and its node, if there is one.
+    pub(crate) fn expected(&self) -> Option<(FormulaId, &FormulaNode)>
+        ensures { IfSome result (λ p. slice_get (formulas self.now) p.0.0 ≡ Some (tree_of (parts self.now) (formulas self.now) p.1.now)) }
+    {
+        let node = self.formulas.get_index(self.next as usize)?;
+        Some((FormulaId(self.next), node))
+    }
+
+    // This formula was entered, so the next one is expected behind it.
+    pub(crate) fn note_entered(&mut self, formula: FormulaId)
+        ensures { self.new ≡ self.old }
+    {
+        self.next = formula.0.saturating_add(1);
+    }
+
+    // The node at a number, of a term or a column expression, if there is one.
+    pub(crate) fn part_at(&self, part: u32) -> Option<TermNode>
+        ensures { IfSome result (λ node. slice_get (parts self.now) part ≡ Some (part_of (parts self.now) node)) }
+    {
+        self.terms.get_index(part as usize).copied()
     }
 
     // The node at a number, of a term or a column expression.

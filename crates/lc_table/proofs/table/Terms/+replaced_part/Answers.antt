@@ -3,9 +3,9 @@ use Rattle.lc_term.specs.Syntax as S
 use Rattle.lc_table.specs.Nodes.{part_of, is_term, term as term_part, column as column_part}
 use Rattle.lc_table.specs.Tables.{parts, term_in, column_in, IsTerm, HasColumn}
 use Rattle.lc_table.specs.NodeReplacement.{as_part, part_in, replaced_part}
-use Rattle.lc_table.proofs.Later.{kept_on, column_is, is_column_later, is_term_later}
+use Rattle.lc_table.proofs.Later.{kept_on, column_is, is_column_later, is_term_later, term_still}
 use Rattle.lc_table.proofs.NodeReplacement.{one_term, first_term, second_term, first_column, node_later}
-use Rattle.lc_term.specs.Replacement.{under_many, replace_column}
+use Rattle.lc_term.specs.Replacement.{under_many, replace_column, replace_term}
 use Rattle.lc_table.proofs.Chained.{next_store, replaced_store, column_part_at}
 use Rattle.lc_table.proofs.Remembered.{stands_later, term_remembered, term_noted, column_noted}
 use Rattle.std.proofs.lemmas.Result.{IfOk-weaker}
@@ -124,6 +124,17 @@ replaced_part-enter_changed-requires-in-Read-clause-there g t c =
 pub replaced_term-returns-in-Some-clause-id : goal.replaced_term-returns-in-Some-clause-id
 replaced_term-returns-in-Some-clause-id g t c =
     term_remembered g.R.Filled.replacement c.args.self.now c.args.done.now c.args.term c.args.depth _ c.requires.done.remembers c.requires.there c.in-Some.ensures
+
+pub replaced_term-returns-in_default-checked_sub : goal.replaced_term-returns-in_default-checked_sub
+replaced_term-returns-in_default-checked_sub g t c =
+    let r = under_many c.args.depth g.R.Filled.replacement in
+    let kept = c.in_ok-replace_below.ensures.kept in
+    let still = term_still c.args.self.now c.replace_below.new.self c.args.term c.requires.there kept in
+    record {
+      id = IfOk-weaker c.replaced_term.result _ _ (λ k h. h ∙ ap (λ x. Some (term_part (replace_term r x))) still) c.replaced_term.ensures.id;
+      kept = kept_on _ _ _ kept c.replaced_term.ensures.kept;
+      done = c.replaced_term.ensures.done;
+    }
 
 pub replaced_term-returns-clause-done : goal.replaced_term-returns-clause-done
 replaced_term-returns-clause-done g t c =
