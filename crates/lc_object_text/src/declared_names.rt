@@ -37,7 +37,7 @@ pub(crate) fn enter_names<'a>(
 ) -> Result<NameTable<'a>, OutOfMemory>
     ensures { IfOk result (λ all. listed all ≡ listed names.entry ++ names_among (rest_of list.entry)) }
 {
-    let mut names = names;
+    let mut names = names.with_room(list.len())?;
     let mut rest = list;
     'names: loop {
         let Ok(part) = next_part(&mut rest) else {
@@ -54,7 +54,7 @@ fn enter_columns<'a>(
 ) -> Result<NameTable<'a>, OutOfMemory>
     ensures names { IfOk result (λ all. listed all ≡ listed names.entry ++ names_of_columns (rest_of list.entry)) }
 {
-    let mut names = names;
+    let mut names = names.with_room(list.len())?;
     'columns: loop {
         let name = first_text(&within_first(list));
         let Ok(_) = list.item() else {
@@ -175,7 +175,7 @@ fn enter_labels<'a>(
 ) -> Result<NameTable<'a>, OutOfMemory>
     ensures names { IfOk result (λ all. listed all ≡ listed names.entry ++ map N.first_text (some_forms_in (codes "point") (rest_of list.entry))) }
 {
-    let mut names = names;
+    let mut names = names.with_room(list.len())?;
     let mut some = true;
     'points: loop {
         let Some(parts) = next_form(&mut list, "point", some) else {

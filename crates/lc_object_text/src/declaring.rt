@@ -21,7 +21,7 @@ use std::alloc::Global;
 fn stands_before(names: &NameTable<'_>, count: u64, text: &str) -> bool
     ensures { result ≡ list_any (is text.now) (take count (listed names.now)) }
 {
-    match names.place(text) {
+    match names.place_from(count as usize, text) {
         None => false,
         Some(first) => (first as u64) < count,
     }

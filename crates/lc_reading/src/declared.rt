@@ -61,7 +61,7 @@ pub fn read_declared<'a, D: Declares>(
     ensures names { IfOk result (λ r. listed r.0 ≡ listed before.entry ++ all_declared D.declares (rest_of list.entry)) }
     ensures read { IfOk result (λ r. IsReading (λ values. map D.meaning values.items) (declared_reading (D.reading reader.now) D.declares (listed before.entry) (number_of list.entry) (rest_of list.entry)) r.1) }
 {
-    let mut names = before;
+    let mut names = before.with_room(list.len())?;
     let mut rest = list;
     let mut values = Ok(Vec::with_capacity(alloc, list.len())?);
     'items: loop {

@@ -106,7 +106,7 @@ pub fn read_names<'a>(
     ensures names { IfOk result (λ r. listed r.0 ≡ listed before.entry ++ names_among (rest_of list.entry)) }
     ensures wrong { IfOk result (λ r. IsReading (λ u. u) (names_reading limit (listed before.entry) (number_of list.entry) (rest_of list.entry)) r.1) }
 {
-    let mut names = before;
+    let mut names = before.with_room(list.len())?;
     let mut found = Ok(());
     let mut rest = list;
     'names: loop {

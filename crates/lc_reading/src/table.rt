@@ -81,6 +81,19 @@ impl<'a> NameTable<'a> {
         }
     }
 
+    /// These names, with room for so many more, so that while they are entered none has to move.
+    pub fn with_room(self, more: usize) -> Result<NameTable<'a>, OutOfMemory>
+        ensures { IfOk result (λ names. listed names ≡ listed self.entry) }
+    {
+        let NameTable {
+            mut numbers,
+            mut places,
+        } = self;
+        numbers.reserve(more)?;
+        places.reserve(more)?;
+        Ok(NameTable { numbers, places })
+    }
+
     /// The names with one more behind them.
     pub fn enter(self, name: &'a str) -> Result<NameTable<'a>, OutOfMemory>
         ensures { IfOk result (λ names. listed names ≡ listed self.entry ++ name.now ∷ []) }
@@ -146,6 +159,20 @@ impl<'a> NameTable<'a> {
     {
         let place = self.places.get(name)?;
         Some(*place as usize)
+    }
+
+    /// The place at which a name stands first, which is looked for as the name at this place, and only then among all.
+    pub fn place_from(&self, place: usize, name: &str) -> Option<usize>
+        ensures { result ≡ place_of (listed self.now) name.now }
+    {
+        if let Some(number) = self.numbers.get(place) {
+            if let Some((found, first)) = self.places.get_index(*number as usize) {
+                if *found == name {
+                    return Some(*first as usize);
+                }
+            }
+        }
+        self.place(name)
     }
 
     /// Whether a name is there.

@@ -28,9 +28,9 @@ pub items-preserved : goal.items-preserved
 items-preserved g c =
     let (at, next) = c.in-Ok.ensures in
     let declares = g.D.Declares.declares in
-    let entered = c.in_ok-names.ensures in
+    let entered = c.in_ok-names-2.ensures in
     let t = tree_of c.in-Ok.part in
-    let left = one_more (g.D.Declares.reading c.args.reader.now) declares (listed c.items.names) (listed c.in_ok-names.names) (number_of c.items.rest) (place_of c.in-Ok.part) (number_of c.next_part.new.list) t
+    let left = one_more (g.D.Declares.reading c.args.reader.now) declares (listed c.items.names) (listed c.in_ok-names-2.names) (number_of c.items.rest) (place_of c.in-Ok.part) (number_of c.next_part.new.list) t
     (rest_of c.next_part.new.list) (rest_of c.items.rest) next.rest at next.number entered in
     record {
       names = ap (λ vs. vs ++ all_declared declares (rest_of c.next_part.new.list)) entered

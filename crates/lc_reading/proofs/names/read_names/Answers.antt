@@ -29,8 +29,8 @@ one_more limit before after l behind part at next entered =
 pub names-preserved : goal.names-preserved
 names-preserved c =
     let (at, next) = c.in-Ok.ensures in
-    let entered = c.in_ok-names.ensures in
-    let left = one_more c.args.limit (listed c.names.names) (listed c.in_ok-names.names) c.names.rest c.next_part.new.list c.in-Ok.part at next entered in
+    let entered = c.in_ok-names-2.ensures in
+    let left = one_more c.args.limit (listed c.names.names) (listed c.in_ok-names-2.names) c.names.rest c.next_part.new.list c.in-Ok.part at next entered in
     record {
       names = ap (λ vs. vs ++ names_among (rest_of c.next_part.new.list)) entered
           ∙ append_assoc (listed c.names.names) (declared_by (tree_of c.in-Ok.part)) (names_among (rest_of c.next_part.new.list))
