@@ -4,7 +4,7 @@ use Rattle.lc_object_text.proofs.Placed.{not_placed, placed}
 use Rattle.lc_object_text.proofs.declaring.stands_before.Goals as goal
 
 pub returns-in-None : goal.returns-in-None
-returns-in-None c = not_placed (listed c.args.names.now) c.args.text.now c.args.count (sym c.place.ensures ∙ c.in-None.is)
+returns-in-None c = not_placed (listed c.args.names.now) c.args.text.now c.args.count (sym c.place_from.ensures ∙ c.in-None.is)
 
 pub returns-in-Some : goal.returns-in-Some
-returns-in-Some c = placed (listed c.args.names.now) c.args.text.now c.args.count c.in-Some.first (sym c.place.ensures ∙ c.in-Some.is)
+returns-in-Some c = placed (listed c.args.names.now) c.args.text.now c.args.count c.in-Some.first (sym c.place_from.ensures ∙ c.in-Some.is)
