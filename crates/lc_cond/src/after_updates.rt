@@ -64,7 +64,8 @@ pub(crate) fn entered_after(
     ensures list { IfOk result (λ ps. HasColumns terms.new ps.items (after Base (map term_of variables.now) (updates_of updates.now))) }
     ensures kept { Keeps terms.old terms.new }
 {
-    terms.reserve(updates.len())?;
+    // Another part may have entered the same stores, so no more room is made than for a table without them.
+    terms.reserve(updates.len().saturating_sub(terms.len()))?;
     let mut columns = Vec::new(alloc);
     for update in updates {
         store_update(alloc, terms, variables, update, &mut columns)?;

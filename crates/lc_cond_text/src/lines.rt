@@ -19,8 +19,8 @@ use std::marker::Model;
 /// A piece is handed out once it has so many bytes.
 const PIECE: usize = 65_536;
 
-/// The table is begun anew once it has so many entries.
-const MOST_ENTRIES: usize = 65_536;
+/// A table with no more entries than this is kept for the next part.
+const FEW_ENTRIES: usize = 65_536;
 
 // Whether lines are left.
 #[derive(Clone, Copy)]
@@ -36,6 +36,9 @@ pub(crate) struct Left {
     stream: ConditionStream,
     terms: Terms,
     texts: FormulaTexts,
+    /// With more entries than this the table is begun anew, before the next part is made. It is twice what was entered for the
+    /// largest part, so that what parts share, as the invariant, is rarely entered anew.
+    most: usize,
     part: Vec<Condition>,
     written: usize,
     /// The number of the next condition.
@@ -48,6 +51,7 @@ impl Drop for Left {
             stream: _,
             terms: _,
             texts: _,
+            most: _,
             part: _,
             written: _,
             number: _,
@@ -121,11 +125,11 @@ fn push_line(
     Ok(())
 }
 
-// Begins the table anew, and what is recalled of it, once it is large.
-fn renew(alloc: Global, terms: &mut Terms, texts: &mut FormulaTexts)
+// Begins the table anew, and what is recalled of it, if it has more entries than these.
+fn renew(alloc: Global, terms: &mut Terms, texts: &mut FormulaTexts, most: usize)
     ensures { (by : Spelled) → Recalls by terms.old texts.old → Recalls by terms.new texts.new }
 {
-    if terms.len() > MOST_ENTRIES {
+    if terms.len() > most {
         let fresh = Terms::new(alloc);
         let none = no_texts(alloc);
         *terms = fresh;
@@ -145,9 +149,12 @@ fn make_part(
     requires none { length left.old.part.items ≤ left.old.written }
     ensures { IfOk result (λ more. Passes (development_shown development.now) piece.old.items left.old piece.new.items left.new more) }
 {
-    renew(alloc, &mut left.terms, &mut left.texts);
+    renew(alloc, &mut left.terms, &mut left.texts, left.most);
+    let before = left.terms.len();
     match left.stream.next_part(development, &mut left.terms)? {
         Some(part) => {
+            let entered = left.terms.len().saturating_sub(before);
+            left.most = left.most.max(entered.saturating_mul(2));
             left.part = part;
             left.written = 0;
             Ok(true)
@@ -210,6 +217,7 @@ impl<'d> ConditionLines<'d> {
             stream: ConditionStream::new(alloc, development)?,
             terms: Terms::new(alloc),
             texts: no_texts(alloc),
+            most: FEW_ENTRIES,
             part: Vec::new(alloc),
             written: 0,
             number: 0,

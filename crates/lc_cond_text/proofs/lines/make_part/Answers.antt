@@ -16,11 +16,11 @@ returns-in-Some c =
     let ts = c.next_part.new.terms in
     let is : IsPart d ts l.stream c.next_part.new.self c.in-Some.part.items = subst (λ (o : Option (Vec Condition Global)). IsNextPart d ts l.stream c.next_part.new.self o) c.in-Some.is c.in_ok-part.ensures.next in
     let recalls = recalls_kept (spelled d) c.renew.new.terms ts c.renew.new.texts (c.renew.ensures (spelled d) c.requires.left.recalls) c.in_ok-part.ensures.kept in
-    part_made d l.stream c.next_part.new.self l.terms ts l.texts c.renew.new.texts l.part c.in-Some.part l.written l.number c.args.piece.now.items c.requires.none is recalls
+    part_made d l.stream c.next_part.new.self l.terms ts l.texts c.renew.new.texts l.most _ l.part c.in-Some.part l.written l.number c.args.piece.now.items c.requires.none is recalls
 
 pub returns-in_ok-push_total-in-None : goal.returns-in_ok-push_total-in-None
 returns-in_ok-push_total-in-None c =
     let d = development_shown c.args.development.now in
     let l = c.args.left.now in
     let is : IsEnd d l.stream c.next_part.new.self = subst (λ (o : Option (Vec Condition Global)). IsNextPart d c.next_part.new.terms l.stream c.next_part.new.self o) c.in-None.is c.in_ok-part.ensures.next in
-    counted d l.stream c.next_part.new.self l.terms l.texts l.part l.written l.number c.args.piece.now.items c.push_total.new.piece.items c.requires.none is c.in_ok-push_total-in-None.ensures
+    counted d l.stream c.next_part.new.self l.terms l.texts l.most l.part l.written l.number c.args.piece.now.items c.push_total.new.piece.items c.requires.none is c.in_ok-push_total-in-None.ensures
