@@ -11,12 +11,18 @@ use lc_outline::Development;
 use lc_table::Terms;
 use std::alloc::Global;
 
+/// A table with no more entries than this is kept for the next part.
+const FEW_ENTRIES: usize = 4_096;
+
 /// How far the conditions of a development are proved. No more than one part of them is kept at a time. Each call is given
 /// the same development.
 pub struct Walk {
     stream: ConditionStream,
     /// The table of the part.
     pub terms: Terms,
+    /// With more entries than this, of which proofs made some, the table is begun anew before the next part is made. It is twice
+    /// what was entered for the largest part, so that what parts share, as the invariant, is not entered anew for each.
+    most: usize,
     /// The conditions at hand.
     pub part: Vec<Condition>,
     /// Where the next condition stands in the part.
@@ -30,10 +36,19 @@ impl Drop for Walk {
         let Walk {
             stream: _,
             terms: _,
+            most: _,
             part: _,
             place: _,
             next: _,
         } = self;
+    }
+}
+
+// Begins the table anew, if it has more entries than these.
+fn renew(alloc: Global, terms: &mut Terms, most: usize) {
+    if terms.len() > most {
+        let fresh = Terms::new(alloc);
+        *terms = fresh;
     }
 }
 
@@ -62,6 +77,7 @@ impl Walk {
         Ok(Walk {
             stream,
             terms,
+            most: FEW_ENTRIES,
             part,
             place: 0,
             next: 0,
@@ -73,15 +89,17 @@ impl Walk {
         ensures { IfOk result (IsAdvanced (development_shown development.now) self.old self.new) }
     {
         'parts: while self.place >= self.part.len() {
-            // Each part has a table of its own, so that what its proofs made is let go with it, before the next is made. A part
-            // enters all its formulas, whether or not they are in the table already, so the time stays in proportion to what the
-            // conditions say.
-            self.terms = Terms::new(alloc);
+            // A part enters all its formulas, whether or not they are in the table already, so the time stays in proportion to
+            // what the conditions say.
+            renew(alloc, &mut self.terms, self.most);
             self.part = Vec::new(alloc);
             self.place = 0;
+            let before = self.terms.len();
             let Some(part) = self.stream.next_part(development, &mut self.terms)? else {
                 return Ok(false);
             };
+            let entered = self.terms.len().saturating_sub(before);
+            self.most = self.most.max(entered.saturating_mul(2));
             self.part = part;
         }
         Ok(true)

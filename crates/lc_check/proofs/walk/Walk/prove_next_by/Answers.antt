@@ -24,7 +24,7 @@ returns-in_ok-self-in-Ok g c =
     let x = c.index-condition.result.now in
     let seen = condition_in old.terms x in
     let e : Entry = record { number = old.next; proof = proof_of c.args.proof.now } in
-    let new : Walk = record { stream = old.stream; terms = c.prove.new.terms; part = old.part; place = old.place + 1; next = c.in_ok-self-in-Ok.field-0 } in
+    let new : Walk = record { stream = old.stream; terms = c.prove.new.terms; most = old.most; part = old.part; place = old.place + 1; next = c.in_ok-self-in-Ok.field-0 } in
     let rest = drop (old.place + 1) old.part.items in
     let left = first_left old.part.items old.place x c.requires.stands c.index-condition.ensures in
     let known = subst (AreConditions old.terms) left c.requires.in_turn.1.known in
@@ -40,7 +40,7 @@ pub returns-in-Err : goal.returns-in-Err
 returns-in-Err g c =
     let d = development_shown c.args.development.now in
     let old = c.args.self.now in
-    let new : Walk = record { stream = old.stream; terms = c.prove.new.terms; part = old.part; place = old.place; next = old.next } in
+    let new : Walk = record { stream = old.stream; terms = c.prove.new.terms; most = old.most; part = old.part; place = old.place; next = old.next } in
     let x = c.index-condition.result.now in
     let rest = drop (old.place + 1) old.part.items in
     let left = first_left old.part.items old.place x c.requires.stands c.index-condition.ensures in
