@@ -33,6 +33,10 @@ pub(crate) fn play_phase<J: Ledger + Sync, R: Threads + Wait + Sync>(
     crew: &mut [Option<Member<J>>],
     phase: &[Script],
 ) -> Result<(), Stop> {
+    // A scope costs calls of the system, also where it has no thread.
+    if phase.is_empty() {
+        return Ok(());
+    }
     thread::scope(thread::scope_env(), rt, |scope| -> Result<(), Stop> {
         let mut threads = Vec::new(alloc);
         for script in phase {
