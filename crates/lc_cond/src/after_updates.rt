@@ -65,7 +65,7 @@ pub(crate) fn entered_after(
     ensures kept { Keeps terms.old terms.new }
 {
     // Another part may have entered the same stores, so no more room is made than for a table without them.
-    terms.reserve(updates.len().saturating_sub(terms.len()))?;
+    terms.reserve(updates.len())?;
     let mut columns = Vec::new(alloc);
     for update in updates {
         store_update(alloc, terms, variables, update, &mut columns)?;

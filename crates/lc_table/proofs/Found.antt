@@ -1,14 +1,11 @@
 -- What stands at a number where a node is found.
-use Rattle.std.proofs.Common.{◌≡◌, ℕ, ℤ, true, List, slice_get, Option, Some, None, ap, ◌∙◌, sym, subst}
+use Rattle.std.proofs.Common.{◌≡◌, ℕ, true, List, slice_get, Option, Some, None, ap, ◌∙◌, subst}
 use Rattle.std.specs.Prelude.{IfSome}
-use Rattle.lc_table.specs.declared.node.TermId.{TermId}
 use Rattle.lc_table.specs.declared.node.TermNode.{TermNode}
-use Rattle.lc_table.specs.declared.node.TermNode.TheVariants.{Number}
 use Rattle.lc_table.specs.declared.node.FormulaNode.{FormulaNode}
-use Rattle.lc_table.specs.Nodes.{part_of, PartFits, tree_of, TreeFits, term, as_term}
+use Rattle.lc_table.specs.Nodes.{part_of, PartFits, tree_of, TreeFits}
 use Rattle.lc_table.specs.NodeTables.{Table, parts_of, IsNodeTable}
-use Rattle.lc_table.specs.Tables.{parts, formulas, term_in, HasTerm}
-use Rattle.lc_term.specs.Replacement.{Replacement, replace_term}
+use Rattle.lc_table.specs.Tables.{parts, formulas}
 use Rattle.lc_table.proofs.Rows as rows
 use Rattle.lc_table.proofs.TermNodes.{part-kept, part_fits-kept}
 use Rattle.lc_table.proofs.FormulaNodes.{tree-kept, tree_fits-kept, formula_node_eq, node_eq-tree}
@@ -32,7 +29,3 @@ formula_found now ns xs k n view ok at = subst (λ t. slice_get (formulas t) k �
 pub equal_found : (ts : Table) (k : ℕ) (m n : FormulaNode) → formula_node_eq m n ≡ true → slice_get (formulas ts) k ≡ Some (tree_of (parts ts) (formulas ts) m)
     → slice_get (formulas ts) k ≡ Some (tree_of (parts ts) (formulas ts) n)
 equal_found ts k m n h at = at ∙ ap Some (node_eq-tree (parts ts) (formulas ts) m n h)
-
--- a number stays, whatever is put in
-pub number_stays : (r : Replacement) (ts : Table) (k : TermId) (n : ℤ) → slice_get (parts ts) k.0 ≡ Some (part_of (parts ts) (Number n)) → HasTerm ts k (replace_term r (term_in ts k))
-number_stays r ts k n at = at ∙ ap (λ o. Some (term (replace_term r (as_term o)))) (sym at)

@@ -3,7 +3,7 @@ pub mod TermNodes
 mod FormulaNodes
 mod Tables
 pub mod Later
-pub mod Found
+mod Found
 mod Taken
 pub mod Listed
 mod Copied

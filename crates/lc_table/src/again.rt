@@ -8,6 +8,38 @@ use crate::node::{ColExprId, FormulaId, FormulaNode, TermId, TermNode};
 use crate::table::Terms;
 use lc_term::{ColExpr, Formula, Term};
 
+/// The two numbers that were entered last, of formulas or of stores. What is entered once more, in the same order, has numbers
+/// that go up by the same steps, so the next number can be told.
+#[derive(Clone, Copy)]
+pub(crate) struct Expected {
+    last: u32,
+    before: u32,
+}
+
+impl Expected {
+    /// Nothing was entered.
+    pub(crate) fn first() -> Expected {
+        Expected { last: 0, before: 0 }
+    }
+
+    /// As far behind the last one as that is behind the one before it: so are the stores of a chain.
+    pub(crate) fn stepped(self) -> u32 {
+        let step = self.last.saturating_sub(self.before);
+        self.last.saturating_add(step)
+    }
+
+    /// Behind the last one: so are the formulas of a list.
+    pub(crate) fn following(self) -> u32 {
+        self.last.saturating_add(1)
+    }
+
+    /// This one was entered.
+    pub(crate) fn note(&mut self, number: u32) {
+        self.before = self.last;
+        self.last = number;
+    }
+}
+
 impl Terms {
     // Whether a term stands at a number.
     fn is_term_at(&self, at: TermId, term: &Term) -> bool

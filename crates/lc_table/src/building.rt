@@ -13,7 +13,8 @@ impl Terms {
         ensures id { IfOk result (λ k. HasTerm self.new k (S.Number number)) }
         ensures kept { Keeps self.old self.new }
     {
-        Ok(TermId(self.enter_part(TermNode::Number(number))?))
+        let place = (number.unsigned_abs() % 4) as usize;
+        Ok(TermId(self.enter_leaf(TermNode::Number(number), place)?))
     }
 
     /// The term that is a free variable.
@@ -21,7 +22,8 @@ impl Terms {
         ensures id { IfOk result (λ k. HasTerm self.new k (S.Variable number)) }
         ensures kept { Keeps self.old self.new }
     {
-        Ok(TermId(self.enter_part(TermNode::Variable(number))?))
+        let place = (4 + number % 4) as usize;
+        Ok(TermId(self.enter_leaf(TermNode::Variable(number), place)?))
     }
 
     /// The term that is a bound variable, counted from the innermost quantifier.
@@ -29,7 +31,8 @@ impl Terms {
         ensures id { IfOk result (λ k. HasTerm self.new k (S.Bound number)) }
         ensures kept { Keeps self.old self.new }
     {
-        Ok(TermId(self.enter_part(TermNode::Bound(number))?))
+        let place = (4 + number % 4) as usize;
+        Ok(TermId(self.enter_leaf(TermNode::Bound(number), place)?))
     }
 
     /// The sum of two terms.

@@ -140,7 +140,7 @@ impl Terms {
         ensures trees { IfOk result (λ ks. formulas_in self.new ks.items ≡ formulas_of parts.now) }
         ensures kept { Keeps self.old self.new }
     {
-        self.reserve_for(parts.len())?;
+        self.reserve_formulas(parts.len())?;
         let mut entered = Vec::with_capacity(alloc, parts.len())?;
         for part in parts {
             entered.push(self.enter_formula(alloc, part)?)?;

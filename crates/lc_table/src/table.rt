@@ -5,11 +5,15 @@ ghost use Rattle.lc_table.specs.declared.node.ColExprId.{ColExprId};
 ghost use Rattle.lc_table.specs.declared.node.FormulaId.{FormulaId};
 ghost use Rattle.lc_table.specs.Tables.{term_in, column_in, formula_in, IsTerm, IsColumn, IsFormula};
 
+use crate::again::Expected;
 use crate::node::{ColExprId, FormulaId, FormulaNode, TermId, TermNode};
 use indexmap::IndexSet;
 use lc_base::OutOfMemory;
 use std::alloc::Global;
 use std::marker::Model;
+
+/// So many places there are for numbers and variables.
+const LEAF_PLACES: usize = 8;
 
 /// Terms, column expressions and formulas by number: each that is there stands there once, and is made of others by
 /// their numbers. So two numbers are equal exactly where their trees are, and what occurs often is kept once.
@@ -18,14 +22,12 @@ use std::marker::Model;
 pub struct Terms {
     terms: IndexSet<TermNode>,
     formulas: IndexSet<FormulaNode>,
-    /// The store that was entered last.
-    last_store: u32,
-    /// Where the next store is expected: as far behind the last one as that is behind the one before it. A chain of stores that is
-    /// entered once more has numbers that go up so.
-    next_store: u32,
-    /// Where the next formula is expected: behind the one that was entered last. Formulas that are entered once more, in the
-    /// same order, have numbers one behind another.
-    next: u32,
+    /// Where the next formula is expected.
+    next_formula: Expected,
+    /// Where the next store is expected.
+    next_store: Expected,
+    /// Where numbers and variables stand that were entered last, by a place of each.
+    leaves: [u32; LEAF_PLACES],
 }
 
 impl Model for Terms {
@@ -44,15 +46,15 @@ impl Drop for Terms {
         let Terms {
             terms: _,
             formulas: _,
-            last_store: _,
+            next_formula: _,
             next_store: _,
-            next: _,
+            leaves: _,
         } = self;
     }
 }
 
 impl Terms {
-    ghost use Rattle.std.specs.Prelude.{◌≡◌, ◌+◌, ◌-◌, ◌^◌, min, length, IfOk, IfSome, slice_get, Some, [], is_some, true, false, IsTrue, ◌↔◌};
+    ghost use Rattle.std.specs.Prelude.{◌≡◌, ◌+◌, ◌-◌, ◌^◌, ◌<◌, min, length, IfOk, IfSome, slice_get, Some, [], is_some, true, false, IsTrue, ◌↔◌};
     ghost use Rattle.lc_table.specs.Nodes.{part_of, PartFits, PartBelow, is_term_node, term_of_node, column_of_node, tree_of, TreeFits, PartsBelow};
     ghost use Rattle.lc_table.specs.Tables.{parts, formulas, term_in, column_in, formula_in, IsTerm, IsColumn, IsFormula, Keeps};
 
@@ -64,9 +66,9 @@ impl Terms {
         Terms {
             terms: IndexSet::new(alloc),
             formulas: IndexSet::new(alloc),
-            last_store: 0,
-            next_store: 0,
-            next: 0,
+            next_formula: Expected::first(),
+            next_store: Expected::first(),
+            leaves: [0; LEAF_PLACES],
         }
     }
 
@@ -82,22 +84,23 @@ impl Terms {
         self.terms.len().saturating_add(self.formulas.len())
     }
 
-    // Makes room for so many formulas in all, and so many terms and column expressions, before the formulas of a list are entered.
-    pub(crate) fn reserve_for(&mut self, count: usize) -> Result<(), OutOfMemory>
+    /// Makes room for so many terms and column expressions in all, so that while they are entered none has to move.
+    pub fn reserve(&mut self, count: usize) -> Result<(), OutOfMemory>
         ensures { Keeps self.old self.new }
     {
-        let terms = count.saturating_sub(self.terms.len());
-        let formulas = count.saturating_sub(self.formulas.len());
-        self.terms.reserve(terms)?;
-        self.formulas.reserve(formulas)?;
+        let more = count.saturating_sub(self.terms.len());
+        self.terms.reserve(more)?;
         Ok(())
     }
 
-    /// Makes room for so many more terms and column expressions, so that while they are entered none has to move.
-    pub fn reserve(&mut self, more: usize) -> Result<(), OutOfMemory>
+    // Makes room for the formulas of a list of so many, and for those that they become where something is put in.
+    pub(crate) fn reserve_formulas(&mut self, count: usize) -> Result<(), OutOfMemory>
         ensures { Keeps self.old self.new }
     {
-        self.terms.reserve(more)?;
+        self.reserve(count)?;
+        let both = count.saturating_mul(2);
+        let more = both.saturating_sub(self.formulas.len());
+        self.formulas.reserve(more)?;
         Ok(())
     }
 
@@ -111,39 +114,36 @@ impl Terms {
         number_of(index)
     }
 
-    // The same of a store.
+    // The same of a store, which is looked for where one is expected.
     pub(crate) fn enter_store(&mut self, node: TermNode) -> Result<u32, OutOfMemory>
         requires { PartFits (parts self.old) node }
         ensures part { IfOk result (λ k. slice_get (parts self.new) k ≡ Some (part_of (parts self.old) node)) }
         ensures kept { Keeps self.old self.new }
     {
-        if let Some(number) = self.expected_store(node) {
-            self.note_store(number);
-            return Ok(number);
+        let expected = self.next_store.stepped();
+        if self.is_part_at(expected, node) {
+            self.next_store.note(expected);
+            return Ok(expected);
         }
         let number = self.enter_part(node)?;
-        self.note_store(number);
+        self.next_store.note(number);
         Ok(number)
     }
 
-    // The number where the next store is expected, if it has this node.
-    fn expected_store(&self, node: TermNode) -> Option<u32>
-        ensures { IfSome result (λ k. slice_get (parts self.now) k ≡ Some (part_of (parts self.now) node)) }
+    // The same of a number or a variable, which is looked for where one of its place was entered last.
+    pub(crate) fn enter_leaf(&mut self, node: TermNode, place: usize) -> Result<u32, OutOfMemory>
+        requires fits { PartFits (parts self.old) node }
+        requires place { place < 8 }
+        ensures part { IfOk result (λ k. slice_get (parts self.new) k ≡ Some (part_of (parts self.old) node)) }
+        ensures kept { Keeps self.old self.new }
     {
-        if self.part_at(self.next_store)? == node {
-            Some(self.next_store)
-        } else {
-            None
+        let last = self.leaves[place];
+        if self.is_part_at(last, node) {
+            return Ok(last);
         }
-    }
-
-    // The store of this number was entered.
-    fn note_store(&mut self, number: u32)
-        ensures { self.new ≡ self.old }
-    {
-        let step = number.saturating_sub(self.last_store);
-        self.last_store = number;
-        self.next_store = number.saturating_add(step);
+        let number = self.enter_part(node)?;
+        self.leaves[place] = number;
+        Ok(number)
     }
 
     // The number of a node of a formula, which is entered if it is not there.
@@ -158,7 +158,7 @@ impl Terms {
         }
         let (index, _) = self.formulas.insert_full(node)?;
         let number = number_of(index)?;
-        self.next = number.saturating_add(1);
+        self.next_formula.note(number);
         Ok(number)
     }
 
@@ -166,15 +166,16 @@ impl Terms {
     pub(crate) fn expected(&self) -> Option<(FormulaId, &FormulaNode)>
         ensures { IfSome result (λ p. slice_get (formulas self.now) p.0.0 ≡ Some (tree_of (parts self.now) (formulas self.now) p.1.now)) }
     {
-        let node = self.formulas.get_index(self.next as usize)?;
-        Some((FormulaId(self.next), node))
+        let next = self.next_formula.following();
+        let node = self.formulas.get_index(next as usize)?;
+        Some((FormulaId(next), node))
     }
 
     // This formula was entered, so the next one is expected behind it.
     pub(crate) fn note_entered(&mut self, formula: FormulaId)
         ensures { self.new ≡ self.old }
     {
-        self.next = formula.0.saturating_add(1);
+        self.next_formula.note(formula.0);
     }
 
     // The node at a number, of a term or a column expression, if there is one.
@@ -182,6 +183,16 @@ impl Terms {
         ensures { IfSome result (λ node. slice_get (parts self.now) part ≡ Some (part_of (parts self.now) node)) }
     {
         self.terms.get_index(part as usize).copied()
+    }
+
+    // Whether a term or a column expression of this node stands at a number.
+    fn is_part_at(&self, part: u32, node: TermNode) -> bool
+        ensures { result ≡ true → slice_get (parts self.now) part ≡ Some (part_of (parts self.now) node) }
+    {
+        match self.part_at(part) {
+            Some(found) => found == node,
+            None => false,
+        }
     }
 
     // The node at a number, of a term or a column expression.

@@ -5,5 +5,5 @@ use Rattle.lc_table.proofs.table.Terms.expected.Goals as goal
 
 pub returns : goal.returns
 returns c =
-    formula_found c.args.self.now _ c.self.inside.formulas.keys c.self.inside.next c.in_ok-node.node.now c.self.view_is c.self.invariant
+    formula_found c.args.self.now _ c.self.inside.formulas.keys c.following-next.result c.in_ok-node.node.now c.self.view_is c.self.invariant
     (sym c.get_index.ensures.key ∙ ap option_copied c.in_ok-node.was)
