@@ -179,6 +179,28 @@ fn go_on(
     }
 }
 
+// A term. Nothing waits, and no list is made, where it has no parts.
+fn push_term(
+    out: &mut Vec<u8>,
+    terms: &Terms,
+    development: &Development,
+    depth: u64,
+    term: TermId,
+) -> Result<(), OutOfMemory>
+    requires { IsTerm terms.now term }
+    ensures { OnOk result (out.new.items ≡ out.old.items ++ spelled_term (spelled (development_shown development.now)) depth (term_in terms.now term)) }
+{
+    let mut waiting = Vec::new(*out.allocator());
+    begin_term(out, &mut waiting, terms, development, depth, term)?;
+    for _ in 0..u64::MAX {
+        let Some(next) = waiting.pop() else {
+            return Ok(());
+        };
+        go_on(out, &mut waiting, terms, development, depth, next)?;
+    }
+    Err(OutOfMemory)
+}
+
 /// Two terms in brackets, behind a word.
 pub(crate) fn push_pair(
     out: &mut Vec<u8>,
@@ -194,13 +216,9 @@ pub(crate) fn push_pair(
     ensures { let by = spelled (development_shown development.now) in
         OnOk result (out.new.items ≡ out.old.items ++ (word.now ++ spelled_term by depth (term_in terms.now left) ++ spaced (spelled_term by depth (term_in terms.now right)) ++ codes ")")) }
 {
-    let mut waiting = Vec::new(*out.allocator());
-    begin_pair(out, &mut waiting, word, left, right)?;
-    for _ in 0..u64::MAX {
-        let Some(next) = waiting.pop() else {
-            return Ok(());
-        };
-        go_on(out, &mut waiting, terms, development, depth, next)?;
-    }
-    Err(OutOfMemory)
+    push_text(out, word)?;
+    push_term(out, terms, development, depth, left)?;
+    push_text(out, " ")?;
+    push_term(out, terms, development, depth, right)?;
+    push_text(out, ")")
 }

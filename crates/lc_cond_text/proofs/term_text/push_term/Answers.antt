@@ -1,20 +1,23 @@
-use Rattle.std.proofs.Common.{rules, ◌≡◌, ◌++◌, [], sym, subst, codes}
+use Rattle.std.proofs.Common.{rules, ◌≡◌, [], sym, subst}
 use Rattle.lc_table.specs.Tables.{term_in}
-use Rattle.lc_text.specs.Spelled.{spaced, spelled_term}
+use Rattle.lc_text.specs.Spelled.{spelled_term}
 use Rattle.lc_outline.specs.DevelopmentView.{development_shown}
 use Rattle.lc_cond_text.specs.ConditionText.{spelled}
 use Rattle.lc_cond_text.specs.Waiting.{AreWaiting, GoesOn}
 use Rattle.lc_cond_text.proofs.Waiting.{last_waits, one_more, all_written}
-use Rattle.lc_cond_text.proofs.term_text.push_pair.Goals as goal
+use Rattle.lc_cond_text.proofs.term_text.push_term.Goals as goal
+
+pub begin_term-requires-clause-waiting : goal.begin_term-requires-clause-waiting
+begin_term-requires-clause-waiting c =
+    let none : c.new-waiting.result.items ≡ [] = search rules in
+    subst (AreWaiting c.args.terms.now) (sym none) tt
 
 pub loop-init : goal.loop-init
 loop-init c =
-    let ts = c.args.terms.now in
     let by = spelled (development_shown c.args.development.now) in
-    let d = c.args.depth in
     let none : c.new-waiting.result.items ≡ [] = search rules in
-    subst (λ ws. GoesOn by d ts c.args.out.now.items ws (c.args.word.now ++ spelled_term by d (term_in ts c.args.left) ++ spaced (spelled_term by d (term_in ts c.args.right)) ++ codes ")") c.begin_pair.new.out.items c.begin_pair.new.waiting.items)
-    none (c.in_ok-begin_pair.ensures by d ts c.requires.left c.requires.right (subst (AreWaiting ts) (sym none) tt))
+    subst (λ ws. GoesOn by c.args.depth c.args.terms.now c.args.out.now.items ws (spelled_term by c.args.depth (term_in c.args.terms.now c.args.term)) c.begin_term.new.out.items c.begin_term.new.waiting.items)
+    none c.in_ok-begin_term.ensures
 
 pub returns-in_default : goal.returns-in_default
 returns-in_default c =
