@@ -1,6 +1,7 @@
 -- Words that are the same.
-use Rattle.std.proofs.Common.{◌≡◌, ℕ, true, List, [], ◌∷◌, refl}
+use Rattle.std.proofs.Common.{◌≡◌, ◌≢◌, ℕ, true, false, Bool, ◌&&◌, List, [], ◌∷◌, length, refl, ap, ◌∙◌, arith}
 use Rattle.std.proofs.lemmas.Bool.{and_parts, eqb-true}
+use Rattle.std.specs.Bool.{nat_eq}
 use Rattle.lc_reading.specs.Words.{is}
 
 pub is-true : (w c : List ℕ) → is w c ≡ true → w ≡ c
@@ -12,3 +13,14 @@ is-true (x ∷ w) (y ∷ c) h =
     let first = eqb-true x y p.0 in
     let others = is-true w c p.1 in
     cc
+
+not_both : (b : Bool) → (b && false) ≡ false
+not_both true = refl
+not_both false = refl
+
+-- words of different lengths are not the same
+pub unlike : (w c : List ℕ) → length w ≢ length c → is w c ≡ false
+unlike [] [] h = absurd (h refl)
+unlike [] (y ∷ c) h = refl
+unlike (x ∷ w) [] h = refl
+unlike (x ∷ w) (y ∷ c) h = ap (λ b. nat_eq x y && b) (unlike w c (λ e. h (omega (arith, e)))) ∙ not_both (nat_eq x y)

@@ -2,51 +2,32 @@
 ghost use Rattle.std.specs.Prelude.{◌≡◌};
 ghost use Rattle.lc_reading.specs.Reserved.{is_client_name, is_call_column, is_reply_column, is_note_column, is_system_column, is_action_name, is_reserved};
 
-#[tactic(auto, unfolding(crate::specs::Reserved::is_client_name))]
-fn is_client_name(name: &str) -> bool
-    ensures { result ≡ is_client_name name.now }
-{
-    matches!(name, "self" | "N")
-}
-
-#[tactic(auto, unfolding(crate::specs::Reserved::is_call_column))]
-fn is_call_column(name: &str) -> bool
-    ensures { result ≡ is_call_column name.now }
-{
-    matches!(name, "pend" | "op" | "arg1" | "arg2" | "arg3")
-}
-
-#[tactic(auto, unfolding(crate::specs::Reserved::is_reply_column))]
-fn is_reply_column(name: &str) -> bool
-    ensures { result ≡ is_reply_column name.now }
-{
-    matches!(name, "rep1" | "rep2" | "rep3")
-}
-
-#[tactic(auto, unfolding(crate::specs::Reserved::is_note_column))]
-fn is_note_column(name: &str) -> bool
-    ensures { result ≡ is_note_column name.now }
-{
-    matches!(name, "noted" | "note1" | "note2" | "note3")
-}
-
-#[tactic(auto, unfolding(crate::specs::Reserved::is_action_name))]
-fn is_action_name(name: &str) -> bool
-    ensures { result ≡ is_action_name name.now }
-{
-    matches!(name, "skip" | "enter" | "leave")
-}
-
-/// Whether this is the name of a column of a client's call, of its replies or of its note, which each object has.
+/// Whether this is the name of a column of a client's call, of its replies or of its note, which each object has. The length
+/// is looked at first, so that most names are compared with few texts or with none.
+#[tactic(auto, using(crate::proofs::Words::unlike), unfolding(crate::specs::Reserved::is_call_column, crate::specs::Reserved::is_reply_column, crate::specs::Reserved::is_note_column))]
 pub fn is_system_column(name: &str) -> bool
     ensures { result ≡ is_system_column name.now }
 {
-    is_call_column(name) || is_reply_column(name) || is_note_column(name)
+    match name.len() {
+        2 => name == "op",
+        4 => matches!(
+            name,
+            "pend" | "arg1" | "arg2" | "arg3" | "rep1" | "rep2" | "rep3"
+        ),
+        5 => matches!(name, "noted" | "note1" | "note2" | "note3"),
+        _ => false,
+    }
 }
 
 /// Whether no file may declare this name: `self`, `N`, the system columns and the built-in actions.
+#[tactic(auto, using(crate::proofs::Words::unlike), unfolding(crate::specs::Reserved::is_client_name, crate::specs::Reserved::is_call_column, crate::specs::Reserved::is_reply_column, crate::specs::Reserved::is_note_column, crate::specs::Reserved::is_action_name))]
 pub fn is_reserved(name: &str) -> bool
     ensures { result ≡ is_reserved name.now }
 {
-    is_client_name(name) || is_system_column(name) || is_action_name(name)
+    match name.len() {
+        1 => name == "N",
+        4 => matches!(name, "self" | "skip") || is_system_column(name),
+        5 => matches!(name, "enter" | "leave") || is_system_column(name),
+        _ => is_system_column(name),
+    }
 }
