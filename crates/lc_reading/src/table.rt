@@ -11,7 +11,7 @@ use crate::part::Part;
 use indexmap::IndexMap;
 use lc_base::OutOfMemory;
 use lc_sexp::Item;
-use std::alloc::Global;
+use std::alloc::{AllocError, Global};
 
 /// Names in a row, and for each the place at which it stands first. The letters of a name that stands there more than once
 /// are held once, by the number of its entry.
@@ -60,6 +60,19 @@ fn entry_of<'a>(
     let number = short(places.len())?;
     places.insert(name, place)?;
     Ok(number)
+}
+
+impl Clone for NameTable<'_> {
+    ghost use Rattle.std.specs.Prelude.{◌≡◌};
+    ghost use Rattle.lc_reading.specs.TableView.{listed};
+
+    ghost is_clone = { λ names copy. listed copy ≡ listed names };
+
+    fn clone(&self) -> Result<Self, AllocError> {
+        let numbers = self.numbers.clone()?;
+        let places = self.places.clone()?;
+        Ok(NameTable { numbers, places })
+    }
 }
 
 impl<'a> NameTable<'a> {
