@@ -1,5 +1,5 @@
 //! Names in a row, found by a hash.
-ghost use Rattle.std.specs.Prelude.{◌≡◌, ◌<◌, List, length, ℕ, true, IfOk, OnOk, Some, None, if◌then◌else◌};
+ghost use Rattle.std.specs.Prelude.{◌≡◌, ◌<◌, ◌++◌, ◌∷◌, [], List, length, ℕ, true, IfOk, OnOk, Some, None, if◌then◌else◌};
 ghost use Rattle.std.specs.Option.{option_or};
 ghost use Rattle.std.specs.Map.{lookup};
 ghost use Rattle.lc_reading.specs.Words.{is};
@@ -10,7 +10,7 @@ use crate::lists::{next_part, two};
 use crate::part::Part;
 use indexmap::IndexMap;
 use lc_base::OutOfMemory;
-use lc_sexp::Item;
+use lc_sexp::{Cursor, Item};
 use std::alloc::{AllocError, Global};
 
 /// Names in a row, and for each the place at which it stands first. The letters of a name that stands there more than once
@@ -62,6 +62,24 @@ fn entry_of<'a>(
     Ok(number)
 }
 
+/// Enters a name behind those of these parts of a table.
+fn enter_in<'a>(
+    numbers: &mut Vec<u32>,
+    places: &mut IndexMap<&'a str, u32>,
+    name: &'a str,
+) -> Result<(), OutOfMemory>
+    requires within { are_within places.old.entries numbers.old.items ≡ true }
+    requires placed { (w : List ℕ) → lookup (λ n. is w n.now) places.old.entries ≡ place_of (names_at places.old.entries numbers.old.items) w }
+    ensures within { OnOk result (are_within places.new.entries numbers.new.items ≡ true) }
+    ensures placed { OnOk result ((w : List ℕ) → lookup (λ n. is w n.now) places.new.entries ≡ place_of (names_at places.new.entries numbers.new.items) w) }
+    ensures names { OnOk result (names_at places.new.entries numbers.new.items ≡ names_at places.old.entries numbers.old.items ++ name.now ∷ []) }
+{
+    let place = short(numbers.len())?;
+    let number = entry_of(places, name, place)?;
+    numbers.push(number)?;
+    Ok(())
+}
+
 impl Clone for NameTable<'_> {
     ghost use Rattle.std.specs.Prelude.{◌≡◌};
     ghost use Rattle.lc_reading.specs.TableView.{listed};
@@ -79,7 +97,8 @@ impl<'a> NameTable<'a> {
     ghost use Rattle.std.specs.Prelude.{◌≡◌, ◌++◌, ◌∷◌, [], length, IfOk};
     ghost use Rattle.std.specs.List.{list_any};
     ghost use Rattle.lc_reading.specs.Words.{is};
-    ghost use Rattle.lc_reading.specs.Listed.{place_of, declared_by};
+    ghost use Rattle.lc_sexp.specs.Shown.{rest_of};
+    ghost use Rattle.lc_reading.specs.Listed.{place_of, declared_by, names_among};
     ghost use Rattle.lc_reading.specs.Parts.{tree_of};
     ghost use Rattle.lc_reading.specs.Rows.{first_name, second_name};
     ghost use Rattle.lc_reading.specs.TableView.{listed};
@@ -115,10 +134,31 @@ impl<'a> NameTable<'a> {
             mut numbers,
             mut places,
         } = self;
-        let place = short(numbers.len())?;
-        let number = entry_of(&mut places, name, place)?;
-        numbers.push(number)?;
+        enter_in(&mut numbers, &mut places, name)?;
         Ok(NameTable { numbers, places })
+    }
+
+    /// The names with those behind them that the items declare which are left in a list. The table is taken apart once, and
+    /// not for each of the names.
+    pub fn enter_all(self, list: Cursor<'a>) -> Result<NameTable<'a>, OutOfMemory>
+        ensures { IfOk result (λ names. listed names ≡ listed self.entry ++ names_among (rest_of list.entry)) }
+    {
+        let NameTable {
+            mut numbers,
+            mut places,
+        } = self;
+        numbers.reserve(list.len())?;
+        places.reserve(list.len())?;
+        let mut rest = list;
+        'items: loop {
+            let Ok(part) = next_part(&mut rest) else {
+                return Ok(NameTable { numbers, places });
+            };
+            let Item::Atom(atom) = part.item() else {
+                continue 'items;
+            };
+            enter_in(&mut numbers, &mut places, atom.text())?;
+        }
     }
 
     /// The names with the one behind them that an item declares.
