@@ -5,7 +5,9 @@ Each entry of ABUSES answers commands, as words in which DEV, CERT, FILE and HIS
 these files by such a word. Its lists have COUNT items, or so many that a file is as large as one may be.
 """
 
+import itertools
 import os
+import string
 
 EXAMPLES = os.path.join(os.path.dirname(os.path.abspath(__file__)), os.pardir, "examples")
 COUNT = 200_000
@@ -36,6 +38,12 @@ def many(text, times=None, between=None):
     if between is None:
         between = "" if text.endswith(")") else " "
     return between.join([str(i).join(parts) for i in numbers] if parts[1:] else [text] * len(numbers))
+
+
+def short_names():
+    """Names of two letters, again and again: a file has more of them than of names that differ."""
+    pairs = map("".join, itertools.product(string.ascii_lowercase, repeat=2))
+    return " ".join(itertools.islice(itertools.cycle(pairs), count))
 
 
 def development(commands=DEVELOPMENT, certificate="(certificate s)", **parts):
@@ -199,6 +207,8 @@ ABUSES = {
         bodies=many("(body go@ () (point p@ (return) (assert)))", count * 3 // 4),
     ),
     "arguments": lambda: development(operations=f"(op go ({many('a@')}) 0 (branch (and) () ()))"),
+    "short_arguments": lambda: development(operations=f"(op go ({short_names()}) 0 (branch (and) () ()))"),
+    "numbers_for_arguments": lambda: development(operations=f"(op go ({many('0')}) 0 (branch (and) () ()))"),
     "branches": lambda: operation(f"(op go () 0 {many('(branch (and) () ())')})", "(lin)"),
     "choices": lambda: operation(f"(op go () 0 {many('(choice way@ () (and) () ())')})", f"(lin-by way{count - 1})"),
     "parameters_of_a_choice": lambda: operation(
@@ -218,6 +228,7 @@ ABUSES = {
     "idle_and": lambda: development(idle=f"(and {many('(<= 0 @)')})"),
     "idle": lambda: development(idle=many('(or)')),
     "locals": lambda: development(locals=many("x@")),
+    "short_locals": lambda: development(locals=short_names()),
     "bodies": lambda: development(bodies=many("(body go () (point p0 (return) (assert)))")),
     "points": lambda: development(points=many("(point p@ (return) (assert))")),
     "asserts": lambda: first_point("(load cell 0 (x) p1)", many("(or)")),
