@@ -21,6 +21,22 @@ pub(crate) fn push_text(out: &mut Vec<u8>, text: &str) -> Result<(), OutOfMemory
     Ok(())
 }
 
+// A space, which is one byte and no text, since half of what is written are these and brackets.
+pub(crate) fn push_space(out: &mut Vec<u8>) -> Result<(), OutOfMemory>
+    ensures { OnOk result (out.new.items ≡ out.old.items ++ codes " ") }
+{
+    out.push(b' ')?;
+    Ok(())
+}
+
+// The bracket that ends a part.
+pub(crate) fn push_end(out: &mut Vec<u8>) -> Result<(), OutOfMemory>
+    ensures { OnOk result (out.new.items ≡ out.old.items ++ codes ")") }
+{
+    out.push(b')')?;
+    Ok(())
+}
+
 // A number behind what is there.
 pub(crate) fn push_number(out: &mut Vec<u8>, number: u64) -> Result<(), OutOfMemory>
     ensures { OnOk result (out.new.items ≡ out.old.items ++ decimal number) }
@@ -57,9 +73,9 @@ pub(crate) fn push_affine(out: &mut Vec<u8>, slope: i64, start: i64) -> Result<(
 {
     push_text(out, "(affine ")?;
     push_integer(out, slope)?;
-    push_text(out, " ")?;
+    push_space(out)?;
     push_integer(out, start)?;
-    push_text(out, ")")
+    push_end(out)
 }
 
 /// A formula, round which stand so many quantifiers, behind what is there.
@@ -84,16 +100,16 @@ pub(crate) fn push_formula(
         FormulaNode::Not(part) => {
             push_text(out, "(not ")?;
             push_formula(out, terms, development, depth, *part)?;
-            push_text(out, ")")
+            push_end(out)
         }
         FormulaNode::And(parts) => push_parts(out, terms, development, depth, "(and", parts),
         FormulaNode::Or(parts) => push_parts(out, terms, development, depth, "(or", parts),
         FormulaNode::Implies(left, right) => {
             push_text(out, "(=> ")?;
             push_formula(out, terms, development, depth, *left)?;
-            push_text(out, " ")?;
+            push_space(out)?;
             push_formula(out, terms, development, depth, *right)?;
-            push_text(out, ")")
+            push_end(out)
         }
         FormulaNode::Forall(body) => {
             push_below(out, terms, development, depth, "(forall ", *body)
@@ -120,9 +136,9 @@ fn push_below(
 {
     push_text(out, word)?;
     push_binder(out, depth)?;
-    push_text(out, " ")?;
+    push_space(out)?;
     push_formula(out, terms, development, depth.saturating_add(1), body)?;
-    push_text(out, ")")
+    push_end(out)
 }
 
 // A connective, by its word, and its parts.
@@ -141,8 +157,8 @@ fn push_parts(
 {
     push_text(out, word)?;
     for part in parts {
-        push_text(out, " ")?;
+        push_space(out)?;
         push_formula(out, terms, development, depth, *part)?;
     }
-    push_text(out, ")")
+    push_end(out)
 }

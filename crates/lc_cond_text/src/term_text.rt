@@ -11,7 +11,9 @@ ghost use Rattle.lc_cond_text.specs.ConditionText.{spelled};
 ghost use Rattle.lc_cond_text.specs.Waiting.{IsWaiting, AreWaiting, waiting_text, GoesOn};
 
 use crate::naming::column_name;
-use crate::nodes::{push_affine, push_binder, push_integer, push_text, push_variable};
+use crate::nodes::{
+    push_affine, push_binder, push_end, push_integer, push_space, push_text, push_variable,
+};
 use lc_base::OutOfMemory;
 use lc_outline::Development;
 use lc_table::{ColExprId, TermId, TermNode, Terms};
@@ -171,11 +173,11 @@ fn go_on(
     match next {
         Waiting::Term(term) => begin_term(out, waiting, terms, development, depth, term),
         Waiting::Spaced(term) => {
-            push_text(out, " ")?;
+            push_space(out)?;
             begin_term(out, waiting, terms, development, depth, term)
         }
         Waiting::Column(column) => begin_column(out, waiting, terms, development, column),
-        Waiting::End => push_text(out, ")"),
+        Waiting::End => push_end(out),
     }
 }
 
@@ -218,7 +220,7 @@ pub(crate) fn push_pair(
 {
     push_text(out, word)?;
     push_term(out, terms, development, depth, left)?;
-    push_text(out, " ")?;
+    push_space(out)?;
     push_term(out, terms, development, depth, right)?;
-    push_text(out, ")")
+    push_end(out)
 }

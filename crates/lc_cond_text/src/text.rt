@@ -11,7 +11,7 @@ ghost use Rattle.lc_naming.specs.ColumnNames.{name_at};
 ghost use Rattle.lc_cond_text.specs.ConditionText.{duty_word, kind_word, or_hyphen, point_names, passage_text, which_text, spelled, formulas_text, condition_text};
 
 use crate::naming::{action_name, column_name, point_name};
-use crate::nodes::{push_formula, push_number, push_text};
+use crate::nodes::{push_formula, push_number, push_space, push_text};
 use crate::texts::{FormulaTexts, is_met, no_texts, push_repeated};
 use lc_base::{OutOfMemory, PointId};
 use lc_cond::{Condition, Kind, Passage, Place, Which};
@@ -56,7 +56,7 @@ pub fn kind_word(kind: Kind) -> &'static str
 fn push_spaced(out: &mut Vec<u8>, word: &str) -> Result<(), OutOfMemory>
     ensures { OnOk result (out.new.items ≡ out.old.items ++ spaced word.now) }
 {
-    push_text(out, " ")?;
+    push_space(out)?;
     push_text(out, word)
 }
 
@@ -64,7 +64,7 @@ fn push_spaced(out: &mut Vec<u8>, word: &str) -> Result<(), OutOfMemory>
 fn push_spaced_number(out: &mut Vec<u8>, number: usize) -> Result<(), OutOfMemory>
     ensures { OnOk result (out.new.items ≡ out.old.items ++ spaced (decimal number)) }
 {
-    push_text(out, " ")?;
+    push_space(out)?;
     push_number(out, number as u64)
 }
 
@@ -144,7 +144,7 @@ fn push_hypotheses(
     ensures recalls { OnOk result (Recalls (spelled (development_shown development.now)) terms.now texts.new) }
 {
     for formula in formulas {
-        push_text(out, " ")?;
+        push_space(out)?;
         push_repeated(out, texts, terms, development, *formula)?;
     }
     Ok(())
