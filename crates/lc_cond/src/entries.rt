@@ -73,35 +73,20 @@ fn entered_variables(
     terms.enter_terms(alloc, &variables)
 }
 
-// What is to hold where a call begins, entered: the invariant, and the assertions of the first point.
-#[tactic(auto, using(lc_table::proofs::Later::kept_on, crate::proofs::Adding::formulas_later))]
-fn entry_goals(
-    alloc: Global,
-    terms: &mut Terms,
-    development: &Development,
-    body: &Operation,
-) -> Result<(Vec<FormulaId>, Vec<FormulaId>), OutOfMemory>
-    ensures invariant { IfOk result (λ p. HasFormulas terms.new p.0.items (invariant_of (development_shown development.now))) }
-    ensures first { IfOk result (λ p. HasFormulas terms.new p.1.items (asserts_at (development_shown development.now) (operation_of body.now).entry)) }
-    ensures kept { Keeps terms.old terms.new }
-{
-    let invariant = entered_invariant(alloc, terms, &development.parts().tie)?;
-    let first = entered(alloc, terms, asserts_at(development, body.entry))?;
-    Ok((invariant, first))
-}
-
-// The conditions where a call of this operation begins, in these columns.
+// The conditions where a call of this operation begins, in these columns, where the invariant is entered already.
 #[tactic(auto, using(lc_table::proofs::Later::kept_on))]
 fn push_entered(
     alloc: Global,
     terms: &mut Terms,
     development: &Development,
+    invariant: &[FormulaId],
     body: &Operation,
     columns: &[(ColId, ColExprId)],
     known: &Hypotheses,
     conditions: &mut Vec<Condition>,
 ) -> Result<(), OutOfMemory>
     requires limits { has_limits (operation_of body.now) ≡ true }
+    requires invariant { HasFormulas terms.old invariant.now (invariant_of (development_shown development.now)) }
     requires columns { AreColumns terms.old columns.now }
     ensures list { let d = development_shown development.now in
         let o = operation_of body.now in
@@ -112,7 +97,7 @@ fn push_entered(
 {
     let count = entry_count(body);
     let variables = entered_variables(alloc, terms, body)?;
-    let (invariant, first) = entry_goals(alloc, terms, development, body)?;
+    let first = entered(alloc, terms, asserts_at(development, body.entry))?;
     let heads = (
         at_entry(Kind::Entry, count, body),
         at_entry(Kind::First, count, body),
@@ -122,11 +107,12 @@ fn push_entered(
         variables: &variables,
     };
     push_both_told(
-        alloc, terms, heads, put, known, &invariant, &first, conditions,
+        alloc, terms, heads, put, known, invariant, &first, conditions,
     )
 }
 
-/// The conditions where a call of this operation begins.
+/// The conditions where a call of this operation begins. The invariant, which may be long, is entered once: it is known before
+/// the call, and is to hold where it has begun.
 #[tactic(auto, using(lc_table::proofs::Later::kept_on))]
 pub(crate) fn push_entry(
     alloc: Global,
@@ -141,15 +127,17 @@ pub(crate) fn push_entry(
         (entry_conditions (development_shown development.now) operation.0 (operation_of body.now))) }
     ensures kept { Keeps terms.old terms.new }
 {
+    let invariant = entered_invariant(alloc, terms, &development.parts().tie)?;
     let system = system_columns(development);
     let columns = entered_columns(alloc, terms, system, operation, argument_count(body))?;
-    let idle = known_idle(alloc, terms, development, system)?;
+    let idle = known_idle(alloc, terms, development, &invariant, system)?;
     let ranged = in_range(alloc, terms, &idle)?;
     let known = Hypotheses::new(ranged)?;
     push_entered(
         alloc,
         terms,
         development,
+        &invariant,
         body,
         &columns,
         &known,

@@ -3,7 +3,6 @@ ghost use Rattle.std.specs.Prelude.{◌≡◌, ◌++◌, List, length, IfOk};
 ghost use Rattle.lc_term.specs.Syntax as S;
 ghost use Rattle.lc_term.specs.Syntax.{Variable};
 ghost use Rattle.lc_table.specs.Tables.{Keeps};
-ghost use Rattle.lc_term.specs.View.{formulas_of};
 ghost use Rattle.lc_object.specs.View.{operation_of};
 ghost use Rattle.lc_action.specs.ActionView.{first_of};
 ghost use Rattle.lc_outline.specs.Development.{invariant_of, asserts_at};
@@ -11,7 +10,7 @@ ghost use Rattle.lc_outline.specs.DevelopmentView.{development_shown};
 ghost use Rattle.lc_cond.specs.Adding.{HasFormulas};
 ghost use Rattle.lc_cond.specs.Conditions.{range, idle_frame, body_frame};
 
-use crate::entering::{entered, entered_behind, entered_invariant, joined};
+use crate::entering::{entered, entered_behind, joined};
 use crate::frames;
 use crate::lookup::{argument_count, asserts_at, idle_of};
 use lc_action::SystemColumns;
@@ -19,7 +18,6 @@ use lc_base::{OpId, OutOfMemory, PointId};
 use lc_object::Operation;
 use lc_outline::Development;
 use lc_table::{FormulaId, Terms};
-use lc_term::Formula;
 use std::alloc::Global;
 
 /// The range of a client, entered.
@@ -63,32 +61,20 @@ pub(crate) fn body_frame(
     entered(alloc, terms, &formulas)
 }
 
-/// The invariant, and other formulas behind it, entered.
-#[tactic(auto, using(lc_table::proofs::Later::kept_on))]
-pub(crate) fn with_invariant(
-    alloc: Global,
-    terms: &mut Terms,
-    development: &Development,
-    others: &[Formula],
-) -> Result<Vec<FormulaId>, OutOfMemory>
-    ensures list { IfOk result (λ ks. HasFormulas terms.new ks.items (invariant_of (development_shown development.now) ++ formulas_of others.now)) }
-    ensures kept { Keeps terms.old terms.new }
-{
-    let invariant = entered_invariant(alloc, terms, &development.parts().tie)?;
-    entered_behind(alloc, terms, &invariant, others)
-}
-
-/// What is known of client 1 at a point of the body of this operation: its frame, the invariant and the assertions.
+/// What is known of client 1 at a point of the body of this operation: its frame, the invariant, which is entered already, and
+/// the assertions.
 #[tactic(auto, using(lc_table::proofs::Later::kept_on))]
 pub(crate) fn known_in_body(
     alloc: Global,
     terms: &mut Terms,
     development: &Development,
+    invariant: &[FormulaId],
     system: SystemColumns,
     operation: OpId,
     body: &Operation,
     point: PointId,
 ) -> Result<Vec<FormulaId>, OutOfMemory>
+    requires { HasFormulas terms.old invariant.now (invariant_of (development_shown development.now)) }
     ensures list { let d = development_shown development.now in
         IfOk result (λ ks. HasFormulas terms.new ks.items
         (body_frame (first_of system) operation.0 (length (operation_of body.now).arguments) ++ (invariant_of d ++ asserts_at d point.0))) }
@@ -96,24 +82,27 @@ pub(crate) fn known_in_body(
 {
     let frame = body_frame(alloc, terms, system, operation, argument_count(body))?;
     let asserts = asserts_at(development, point);
-    let shared = with_invariant(alloc, terms, development, asserts)?;
+    let shared = entered_behind(alloc, terms, invariant, asserts)?;
     joined(alloc, &frame, &shared)
 }
 
-/// What is known of client 1 where it has no call.
+/// What is known of client 1 where it has no call: its frame, the invariant, which is entered already, and what holds of idle
+/// clients.
 #[tactic(auto, using(lc_table::proofs::Later::kept_on))]
 pub(crate) fn known_idle(
     alloc: Global,
     terms: &mut Terms,
     development: &Development,
+    invariant: &[FormulaId],
     system: SystemColumns,
 ) -> Result<Vec<FormulaId>, OutOfMemory>
+    requires { HasFormulas terms.old invariant.now (invariant_of (development_shown development.now)) }
     ensures list { let d = development_shown development.now in
         IfOk result (λ ks. HasFormulas terms.new ks.items (idle_frame (first_of system) ++ (invariant_of d ++ d.idle))) }
     ensures kept { Keeps terms.old terms.new }
 {
     let frame = idle_frame(alloc, terms, system)?;
-    let shared = with_invariant(alloc, terms, development, idle_of(development))?;
+    let shared = entered_behind(alloc, terms, invariant, idle_of(development))?;
     joined(alloc, &frame, &shared)
 }
 

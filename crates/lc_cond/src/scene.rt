@@ -8,7 +8,7 @@ ghost use Rattle.lc_object.specs.EdgeView.{facts_of, edge_of};
 ghost use Rattle.lc_object.specs.View.{operation_of};
 ghost use Rattle.lc_object.specs.WellFormed.{has_limits};
 ghost use Rattle.lc_action.specs.ActionView.{first_of};
-ghost use Rattle.lc_outline.specs.Development.{first_system, invariant_of, asserts_to};
+ghost use Rattle.lc_outline.specs.Development.{invariant_of};
 ghost use Rattle.lc_outline.specs.DevelopmentView.{development_shown};
 ghost use Rattle.lc_rider.specs.Paths.{edge_variables};
 ghost use Rattle.lc_cond.specs.Adding.{HasFormulas, HasTerms};
@@ -129,26 +129,28 @@ fn with_facts(
     Ok(known)
 }
 
-// What is known before the edge of an operation's code, entered.
+// What is known before the edge of an operation's code, entered; the invariant is so already.
 #[tactic(auto, using(lc_table::proofs::Later::kept_on))]
 fn edge_hypotheses(
     alloc: Global,
     terms: &mut Terms,
     development: &Development,
-    system: SystemColumns,
+    invariant: &[FormulaId],
     operation: OpId,
     body: &Operation,
     code: &Edge,
 ) -> Result<Vec<FormulaId>, OutOfMemory>
-    requires { first_of system ≡ first_system (development_shown development.now) }
+    requires { HasFormulas terms.old invariant.now (invariant_of (development_shown development.now)) }
     ensures list { IfOk result (λ ks. HasFormulas terms.new ks.items
         (body_hypotheses (development_shown development.now) operation.0 (operation_of body.now) (edge_of code.now).point ++ (edge_of code.now).facts)) }
     ensures kept { Keeps terms.old terms.new }
 {
+    let system = system_columns(development);
     let known = known_in_body(
         alloc,
         terms,
         development,
+        invariant,
         system,
         operation,
         body,
@@ -158,25 +160,9 @@ fn edge_hypotheses(
     with_facts(alloc, terms, before, &code.facts)
 }
 
-// What is to hold behind the edge, entered: the invariant, and what holds where the edge leads to.
-#[tactic(auto, using(lc_table::proofs::Later::kept_on, crate::proofs::Adding::formulas_later))]
-fn edge_goals(
-    alloc: Global,
-    terms: &mut Terms,
-    development: &Development,
-    code: &Edge,
-) -> Result<(Vec<FormulaId>, Vec<FormulaId>), OutOfMemory>
-    ensures invariant { IfOk result (λ p. HasFormulas terms.new p.0.items (invariant_of (development_shown development.now))) }
-    ensures next { IfOk result (λ p. HasFormulas terms.new p.1.items (asserts_to (development_shown development.now) (edge_of code.now).next)) }
-    ensures kept { Keeps terms.old terms.new }
-{
-    let invariant = entered_invariant(alloc, terms, &development.parts().tie)?;
-    let next = entered(alloc, terms, asserts_to(development, code.next))?;
-    Ok((invariant, next))
-}
-
-/// The scene of an edge in the body of this operation.
-#[tactic(auto, using(lc_table::proofs::Later::kept_on, crate::proofs::Adding::formulas_later))]
+/// The scene of an edge in the body of this operation. The invariant, which may be long, is entered once: it is known before
+/// the edge, and is to hold behind it.
+#[tactic(auto, using(lc_table::proofs::Later::kept_on))]
 pub(crate) fn set_scene<'a>(
     alloc: Global,
     terms: &mut Terms,
@@ -189,11 +175,12 @@ pub(crate) fn set_scene<'a>(
     ensures scene { IfOk result (λ s. IsSceneOf terms.new (development_shown development.now) operation.0 (operation_of body.now) (edge_of code.now) s) }
     ensures kept { Keeps terms.old terms.new }
 {
+    let invariant = entered_invariant(alloc, terms, &development.parts().tie)?;
     let system = system_columns(development);
     let count = variable_count(body);
     let variables = entered_variables(alloc, terms, count, code)?;
-    let hypotheses = edge_hypotheses(alloc, terms, development, system, operation, body, code)?;
-    let (invariant, next) = edge_goals(alloc, terms, development, code)?;
+    let hypotheses = edge_hypotheses(alloc, terms, development, &invariant, operation, body, code)?;
+    let next = entered(alloc, terms, asserts_to(development, code.next))?;
     let reply = entered_reply(alloc, terms, system, code)?;
     let on = on_at(development, code.point, code.kind);
     let acting = entered_on(alloc, terms, development, on)?;

@@ -5,13 +5,16 @@ use Rattle.lc_outline.specs.Development.{invariant_of}
 use Rattle.lc_outline.specs.DevelopmentView.{development_shown}
 use Rattle.lc_cond.specs.Adding.{HasFormulas}
 use Rattle.lc_cond.specs.Conditions.{idle_frame}
-use Rattle.lc_cond.proofs.Adding.{formulas_behind}
+use Rattle.lc_cond.proofs.Adding.{formulas_behind, formulas_later}
 use Rattle.lc_cond.proofs.known.known_idle.Goals as goal
 
 pub returns-clause-list : goal.returns-clause-list
 returns-clause-list c =
-    let now = c.with_invariant.new.terms in
+    let t1 = c.idle_frame.new.terms in
+    let now = c.entered_behind.new.terms in
+    let d = development_shown c.args.development.now in
+    let shared = c.in_ok-shared.ensures.list (invariant_of d) (formulas_later c.args.terms.now t1 c.args.invariant.now (invariant_of d) c.requires c.in_ok-frame.ensures.kept) in
     IfOk-weaker c.joined.result _ _
-    (λ ks joins. subst (λ fs. HasFormulas now ks.items (idle_frame (first_of c.args.system) ++ (invariant_of (development_shown c.args.development.now) ++ fs))) c.idle_of.ensures
-    (formulas_behind c.idle_frame.new.terms now c.in_ok-frame.frame.items c.in_ok-shared.shared.items ks.items _ _ c.in_ok-frame.ensures.list c.in_ok-shared.ensures.kept c.in_ok-shared.ensures.list
+    (λ ks joins. subst (λ fs. HasFormulas now ks.items (idle_frame (first_of c.args.system) ++ (invariant_of d ++ fs))) c.idle_of.ensures
+    (formulas_behind t1 now c.in_ok-frame.frame.items c.in_ok-shared.shared.items ks.items _ _ c.in_ok-frame.ensures.list c.in_ok-shared.ensures.kept shared
     (joins ∙ ap₂ (λ k l. k ++ l) c.deref.ensures.value c.deref-2.ensures.value))) c.joined.ensures

@@ -15,9 +15,9 @@ pub returns-clause-list : goal.returns-clause-list
 returns-clause-list c =
     let d = development_shown c.args.development.now in
     let n = length (operation_of c.args.body.now).arguments in
-    let known = body_frame (first_of c.args.system) c.args.operation.0 n ++ (invariant_of d ++ asserts_at d c.args.code.now.point.0) in
+    let known = body_frame (first_of c.system_columns-system.result) c.args.operation.0 n ++ (invariant_of d ++ asserts_at d c.args.code.now.point.0) in
     let has = c.in_ok-before.ensures.list known (subst (λ l. HasFormulas c.known_in_body.new.terms l known) (sym c.deref.ensures.value) c.in_ok-known.ensures.list) in
     IfOk-weaker c.with_facts.result _ _
     (λ ks h. subst (HasFormulas c.with_facts.new.terms ks.items)
-    (ap (λ first. (range (Variable 1) ++ (body_frame first c.args.operation.0 n ++ (invariant_of d ++ asserts_at d c.args.code.now.point.0))) ++ facts_of c.args.code.now.facts) c.requires)
+    (ap (λ first. (range (Variable 1) ++ (body_frame first c.args.operation.0 n ++ (invariant_of d ++ asserts_at d c.args.code.now.point.0))) ++ facts_of c.args.code.now.facts) c.system_columns-system.ensures)
     (h (range (Variable 1) ++ known) has)) c.with_facts.ensures.list
