@@ -18,12 +18,15 @@ pub struct Span {
 }
 
 /// How an operation is called.
-#[derive(Clone, Copy)]
+#[derive(Drop)]
 pub struct Call<'a> {
     /// The items of its list of arguments.
     pub arguments: Cursor<'a>,
+    /// The names of its arguments, which its signature and the bodies of its operation share.
+    pub names: NameTable<'a>,
     /// How many numbers it returns, if that is said.
     pub replies: Option<u64>,
+    ghost named: { listed names ≡ names_among (rest_of arguments) },
 }
 
 /// The operations that a specification declares.

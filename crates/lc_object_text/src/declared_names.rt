@@ -13,7 +13,7 @@ use crate::declared::{Body, Call, Declared, Operations, Span};
 use crate::section_finding::{behind_first, first_text, items_in_first, next_form, within_first};
 use crate::sections::Sections;
 use lc_base::OutOfMemory;
-use lc_reading::{NameTable, next_part};
+use lc_reading::NameTable;
 use lc_sexp::{Cursor, Misfit};
 use std::alloc::Global;
 
@@ -27,23 +27,6 @@ fn short(count: usize) -> Result<u32, OutOfMemory>
     match u32::try_from(count) {
         Ok(count) => Ok(count),
         Err(_) => Err(OutOfMemory),
-    }
-}
-
-/// The names with those that items declare.
-pub(crate) fn enter_names<'a>(
-    names: NameTable<'a>,
-    list: Cursor<'a>,
-) -> Result<NameTable<'a>, OutOfMemory>
-    ensures { IfOk result (λ all. listed all ≡ listed names.entry ++ names_among (rest_of list.entry)) }
-{
-    let mut names = names.with_room(list.len())?;
-    let mut rest = list;
-    'names: loop {
-        let Ok(part) = next_part(&mut rest) else {
-            return Ok(names);
-        };
-        names = names.enter_part(part)?;
     }
 }
 
@@ -133,14 +116,17 @@ pub(crate) fn reply_count(mut list: Cursor<'_>) -> Option<u64>
 }
 
 /// How the operation of these parts is called: `NAME (ARG ..) REPLIES ..`.
-fn read_call<'a>(parts: Cursor<'a>) -> Call<'a>
-    ensures { call_seen result ≡ call_of (rest_of parts.entry) }
+fn read_call<'a>(alloc: Global, parts: Cursor<'a>) -> Result<Call<'a>, OutOfMemory>
+    ensures { IfOk result (λ call. call_seen call ≡ call_of (rest_of parts.entry)) }
 {
     let behind_name = behind_first(parts);
-    Call {
-        arguments: within_first(behind_name),
+    let arguments = within_first(behind_name);
+    let names = NameTable::new(alloc).enter_all(arguments)?;
+    Ok(Call {
+        arguments,
+        names,
         replies: reply_count(behind_first(behind_name)),
-    }
+    })
 }
 
 /// The operations of a specification.
@@ -164,7 +150,8 @@ fn read_operations<'a>(alloc: Global, mut list: Cursor<'a>) -> Result<Operations
         let name = first_text(&parts);
         names = names.enter(name)?;
         texts.push(name)?;
-        calls.push(read_call(parts))?;
+        let call = read_call(alloc, parts)?;
+        calls.push(call)?;
     }
 }
 
@@ -204,15 +191,25 @@ fn operation_name<'a>(operations: &Operations<'a>, number: usize) -> &'a str
     }
 }
 
-/// The arguments of the operation of this name, and how many numbers it returns; if there is none no arguments.
-fn find_arguments<'a>(operations: &Operations<'a>, name: &str) -> (Cursor<'a>, Option<u64>)
-    ensures arguments { (call_named (listed operations.now.names) (calls_seen operations.now.calls.items) name.now).arguments ≡ names_among (rest_of result.0) }
-    ensures replies { (call_named (listed operations.now.names) (calls_seen operations.now.calls.items) name.now).replies ≡ result.1 }
+/// The arguments of a call, and how many numbers it returns; where there is no call no arguments.
+fn call_parts<'a>(call: Option<&Call<'a>>) -> (Cursor<'a>, Option<u64>)
+    ensures arguments { (call_found call.entry).arguments ≡ names_among (rest_of result.0) }
+    ensures replies { (call_found call.entry).replies ≡ result.1 }
 {
-    let Some(call) = find_call(operations, name) else {
-        return (Cursor::empty(), None);
-    };
-    (call.arguments, call.replies)
+    match call {
+        Some(call) => (call.arguments, call.replies),
+        None => (Cursor::empty(), None),
+    }
+}
+
+/// The names of the arguments of a call, in a table of their own; where there is no call none.
+fn argument_names<'a>(alloc: Global, call: Option<&Call<'a>>) -> Result<NameTable<'a>, OutOfMemory>
+    ensures { IfOk result (λ names. listed names ≡ (call_found call.entry).arguments) }
+{
+    match call {
+        Some(call) => Ok(call.names.clone()?),
+        None => Ok(NameTable::new(alloc)),
+    }
 }
 
 /// The body of these names, if there are not too many of them.
@@ -262,10 +259,11 @@ fn read_body<'a>(
     let behind_name = behind_first(parts);
     let local_items = within_first(behind_name);
     let labels = enter_labels(NameTable::new(alloc), behind_first(behind_name))?;
-    let (arguments, replies) = find_arguments(operations, first_text(&parts));
-    let locals = enter_names(NameTable::new(alloc), local_items)?;
-    let variables = enter_names(NameTable::new(alloc), arguments)?;
-    let variables = enter_names(variables, local_items)?;
+    let call = find_call(operations, first_text(&parts));
+    let (arguments, replies) = call_parts(call);
+    let locals = NameTable::new(alloc).enter_all(local_items)?;
+    let variables = argument_names(alloc, call)?;
+    let variables = variables.enter_all(local_items)?;
     let operation = operation_name(operations, number);
     body(
         operation, first, replies, arguments, locals, variables, labels,

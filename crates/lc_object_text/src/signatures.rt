@@ -3,7 +3,7 @@ ghost use Rattle.std.specs.Prelude.{◌≡◌, ℕ, List, map, slice_get};
 ghost use Rattle.lc_base.specs.Name.{bytes_of};
 ghost use Rattle.lc_sexp.specs.Shown.{rest_of, number_of, owner_of};
 ghost use Rattle.lc_object.specs.View.{names_of};
-ghost use Rattle.lc_reading.specs.Listed.{names_among};
+ghost use Rattle.lc_reading.specs.TableView.{listed};
 ghost use Rattle.lc_reading.specs.Parts.{tree_of, place_of};
 ghost use Rattle.lc_reading.specs.Readings.{Reading, both};
 ghost use Rattle.lc_reading.specs.Results.{IsReading};
@@ -12,8 +12,7 @@ ghost use Rattle.lc_object_text.specs.ObjectNames.{call_or};
 ghost use Rattle.lc_object_text.specs.Objects.{has_minus, signature_of, replies_reading, call_reading, operation_name_reading, signature_parts, signatures_reading, abstracts_reading, specification_parts, specification_reading};
 ghost use Rattle.lc_object_text.specs.Texts.{call_shown, signature_shown, specification_shown};
 
-use crate::declared::{Call, Declared};
-use crate::declared_names::enter_names;
+use crate::declared::Declared;
 use crate::declaring::{ColumnNames, Names, read_kth_name, read_names, read_section};
 use crate::rows::{ReadsPlaced, read_placed};
 use lc_base::{ARGUMENT_LIMIT, Name, OPERATION_LIMIT};
@@ -69,16 +68,15 @@ fn read_replies(part: Part<'_>) -> Result<u32, ReadFault>
 /// `(ARG ..) REPLIES`
 fn read_call(
     alloc: Global,
-    arguments: Cursor<'_>,
+    arguments: &NameTable<'_>,
     first: Part<'_>,
     second: Part<'_>,
 ) -> Result<(Vec<Name>, u32), ReadFault>
-    ensures { IsReading call_shown (call_reading (names_among (rest_of arguments.entry)) (place_of first.entry) (tree_of first.entry) (place_of second.entry) (tree_of second.entry)) result }
+    ensures { IsReading call_shown (call_reading (listed arguments.now) (place_of first.entry) (tree_of first.entry) (place_of second.entry) (tree_of second.entry)) result }
 {
-    let arguments = enter_names(NameTable::new(alloc), arguments)?;
     let names = Names {
         limit: ARGUMENT_LIMIT as u64,
-        names: &arguments,
+        names: arguments,
         base: 0,
     };
     both(read_names(alloc, &names, first), read_replies(second))
@@ -96,8 +94,8 @@ fn read_call_of(
         (place_of second.entry) (tree_of second.entry)) result }
 {
     match declared.calls.get(place as usize) {
-        Some(call) => read_call(alloc, call.arguments, first, second),
-        None => read_call(alloc, Cursor::empty(), first, second),
+        Some(call) => read_call(alloc, &call.names, first, second),
+        None => read_call(alloc, &NameTable::new(alloc), first, second),
     }
 }
 

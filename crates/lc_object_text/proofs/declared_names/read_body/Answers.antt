@@ -20,11 +20,12 @@ returns c =
     let names = listed c.args.operations.now.names in
     let calls = calls_seen c.args.operations.now.calls.items in
     let behind = c.behind_first-behind_name.ensures.rest in
-    let found = c.find_arguments-replies in
+    let found = c.find_call-call.ensures ∙ ap (call_named names calls) c.first_text.ensures in
+    let call = c.call_parts-replies.ensures in
     seen_as c.body.result _ _
     (same_body c.operation_name-operation.ensures
-    (sym found.ensures.arguments ∙ ap (λ w. (call_named names calls w).arguments) c.first_text.ensures)
-    (sym found.ensures.replies ∙ ap (λ w. (call_named names calls w).replies) c.first_text.ensures)
+    (sym call.arguments ∙ ap (λ (k : N.Call). k.arguments) found)
+    (sym call.replies ∙ ap (λ (k : N.Call). k.replies) found)
     (c.in_ok-locals.ensures ∙ ap (λ xs. xs ++ names_among (rest_of c.within_first-local_items.result)) c.new-2.ensures ∙ ap names_among (c.within_first-local_items.ensures.rest ∙ ap within_first behind))
     (c.in_ok-labels.ensures.names ∙ ap (λ xs. xs ++ map first_text (some_forms_in (codes "point") (rest_of c.behind_first.result))) c.new.ensures
     ∙ ap (λ us. map first_text (some_forms_in (codes "point") us)) (c.behind_first.ensures.rest ∙ ap later behind)))
