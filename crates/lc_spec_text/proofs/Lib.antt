@@ -6,3 +6,5 @@ mod Apart
 mod Named
 pub mod Resolved
 pub mod Ways
+mod Placed
+mod Argued

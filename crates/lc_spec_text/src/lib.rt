@@ -1,6 +1,7 @@
 //! The text of specifications: how it is read, in one walk, as a value or its first flaw.
 #![tactic(auto)]
 
+mod arguments;
 mod branch;
 mod choice;
 mod column;

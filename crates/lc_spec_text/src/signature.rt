@@ -14,15 +14,11 @@ ghost use Rattle.lc_text.specs.Terms.{triple};
 ghost use Rattle.lc_spec_text.specs.Operations.{natural, few, is_negative, count_reading, count_in, arguments_reading, variables_in};
 ghost use Rattle.lc_spec_text.specs.Seen.{names_of, signature_of};
 
-use lc_base::{ARGUMENT_LIMIT, Name, OutOfMemory, REPLY_LIMIT};
-use lc_reading::{
-    NameTable, NamesUpTo, Part, Pass, ReadFault, both, read_declared, read_name, wrong,
-};
+use crate::arguments::read_listed_arguments;
+use lc_base::{Name, OutOfMemory, REPLY_LIMIT};
+use lc_reading::{NameTable, Part, Pass, ReadFault, both, read_name, wrong};
 use lc_sexp::{Atom, Item, Misfit};
 use std::alloc::Global;
-
-/// The most arguments of an operation, with the client before them.
-const VARIABLE_LIMIT: u64 = ARGUMENT_LIMIT as u64 + 1;
 
 /// The client with the arguments that an item declares, and the names of these.
 pub(crate) fn read_arguments<'a>(
@@ -35,7 +31,7 @@ pub(crate) fn read_arguments<'a>(
     let client = NameTable::new(alloc).enter("self")?;
     match part.item() {
         Item::Atom(atom) => Ok((client, Err(wrong(Pass::Shape, atom.number())))),
-        Item::List(list) => read_declared(alloc, &NamesUpTo(VARIABLE_LIMIT), client, list),
+        Item::List(list) => read_listed_arguments(alloc, client, list),
     }
 }
 
