@@ -169,7 +169,8 @@ def files(name, large):
     return commands if is_due else [], texts
 
 
-BRANCHED = many("(branch (and) () ())", 8)
+BRANCH = "(branch (and) () ())"
+BRANCHED = many(BRANCH, 8)
 CHOICES = "(op go () 0 (choice one (k) (and) () ()))"
 TOLD = "(n (<= (rd c 0) 0))"
 
@@ -205,6 +206,19 @@ ABUSES = {
     "operations_and_bodies": lambda: development(
         operations=many("(op go@ () 0 (branch (and) () ()))", count * 3 // 4),
         bodies=many("(body go@ () (point p@ (return) (assert)))", count * 3 // 4),
+    ),
+    # Two lists of which each item of one names the other.
+    "bodies_and_arguments": lambda: development(
+        operations=f"(op go ({many('a@', count // 3)}) 0 {BRANCH})" + many(f"(op go () 0 {BRANCH})", count // 3),
+        bodies=many("(body go () (point p (return) (assert)))", count // 3 + 1),
+    ),
+    "points_and_updates": lambda: development(
+        actions=f"(action act () (and) {many('(c @ @)', count // 2)})",
+        points=many("(point p@ (load cell 0 (x) p0) (assert) (on next (act)))", count // 2),
+    ),
+    "points_and_branches": lambda: development(
+        operations=f"(op go () 0 {many(BRANCH, count // 2)})",
+        points=many("(point p@ (load cell 0 (x) p0) (assert) (on next (act) (lin)))", count // 2),
     ),
     "arguments": lambda: development(operations=f"(op go ({many('a@')}) 0 (branch (and) () ()))"),
     "short_arguments": lambda: development(operations=f"(op go ({short_names()}) 0 (branch (and) () ()))"),
