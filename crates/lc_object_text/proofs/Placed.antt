@@ -1,7 +1,10 @@
 -- Names that stand before a place.
-use Rattle.std.proofs.Common.{◌≡◌, ℕ, suc, zero, Bool, true, false, List, [], ◌∷◌, Option, Some, None, take, refl, sym, ap, ◌∙◌, cond, arith}
+use Rattle.std.proofs.Common.{◌≡◌, ℕ, suc, zero, ◌+◌, Bool, true, false, List, [], ◌∷◌, ◌++◌, length, Option, Some, None, take, refl, sym, ap, ◌∙◌, cond, arith}
+use Rattle.std.proofs.Math.Seq.{take-append-add}
+use Rattle.std.proofs.lemmas.List.Folds.{list_any-append}
 use Rattle.std.specs.Prelude.{option_map, ◌||◌, nat_lt}
 use Rattle.std.specs.List.{list_any}
+use Rattle.std.specs.Option.{option_or}
 use Rattle.std.proofs.lemmas.Bool.Decides.{nat_tests}
 use Rattle.lc_reading.specs.Words.{is}
 use Rattle.lc_reading.specs.Listed.{place_of}
@@ -38,3 +41,28 @@ not_placed vs w k e = sym (stands_before vs w k ∙ ap (is_before k) e)
 
 pub placed : (vs : List (List ℕ)) (w : List ℕ) (k p : ℕ) → place_of vs w ≡ Some p → nat_lt p k ≡ list_any (is w) (take k vs)
 placed vs w k p e = sym (stands_before vs w k ∙ ap (is_before k) e)
+
+-- a name stands among names and the first of those behind them exactly where it stands among either
+pub stands_behind : (us vs : List (List ℕ)) (w : List ℕ) (k : ℕ) → (list_any (is w) us || list_any (is w) (take k vs)) ≡ list_any (is w) (take (length us + k) (us ++ vs))
+stands_behind us vs w k = sym (ap (list_any (is w)) (take-append-add us vs k) ∙ list_any-append (is w) us (take k vs))
+
+no_more : (o : Option ℕ) → o ≡ option_map (λ p. 0 + p) o
+no_more None = refl
+no_more (Some p) = ap Some (omega arith)
+
+one_more : (here : Bool) (n : ℕ) (o p : Option ℕ) → cond here (Some 0) (option_map suc (option_or o (option_map (λ k. n + k) p))) ≡ option_or (cond here (Some 0) (option_map suc o)) (option_map (λ k. suc n + k) p)
+one_more true n o p = refl
+one_more false n (Some q) p = refl
+one_more false n None None = refl
+one_more false n None (Some k) = ap Some (omega arith)
+
+-- the place of a name among names and those behind them
+pub place_behind : (us vs : List (List ℕ)) (w : List ℕ) → place_of (us ++ vs) w ≡ option_or (place_of us w) (option_map (λ k. length us + k) (place_of vs w))
+place_behind [] vs w = no_more (place_of vs w)
+place_behind (u ∷ us) vs w = ap (λ p. cond (is w u) (Some 0) (option_map suc p)) (place_behind us vs w) ∙ one_more (is w u) (length us) (place_of us w) (place_of vs w)
+
+pub among_first : (us vs : List (List ℕ)) (w : List ℕ) (p : ℕ) → place_of us w ≡ Some p → Some p ≡ place_of (us ++ vs) w
+among_first us vs w p e = sym (place_behind us vs w ∙ ap (λ o. option_or o (option_map (λ k. length us + k) (place_of vs w))) e)
+
+pub among_others : (us vs : List (List ℕ)) (w : List ℕ) (o : Option ℕ) → place_of us w ≡ None → place_of vs w ≡ o → option_map (λ k. length us + k) o ≡ place_of (us ++ vs) w
+among_others us vs w o e f = sym (place_behind us vs w ∙ ap (λ q. option_or q (option_map (λ k. length us + k) (place_of vs w))) e ∙ ap (option_map (λ k. length us + k)) f)

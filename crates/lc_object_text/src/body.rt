@@ -13,10 +13,10 @@ ghost use Rattle.lc_object_text.specs.Texts.{body_shown};
 use crate::body_scope::InBody;
 use crate::declared::{Body, Declared};
 use crate::declared_names::bodies_due;
-use crate::declaring::{Names, read_names};
+use crate::declaring::read_local_names;
 use crate::point::{Points, ReadsBeside, read_points};
 use crate::rows::{ReadsPlaced, read_placed};
-use lc_base::{LOCAL_LIMIT, Name, OpId};
+use lc_base::{Name, OpId};
 use lc_reading::{NameTable, Part, Pass, ReadFault, behind_word, both, next_part, read_use, wrong};
 use lc_sexp::{Cursor, Item};
 use std::alloc::Global;
@@ -59,12 +59,7 @@ fn read_locals(
         (place_of first.entry) (tree_of first.entry) (place_of second.entry) (tree_of second.entry)) result }
 {
     let operation = read_use(&scope.declared.operations, first);
-    let names = Names {
-        limit: LOCAL_LIMIT as u64,
-        names: &scope.body.variables,
-        base: scope.body.argument_count(),
-    };
-    match both(operation, read_names(alloc, &names, second)) {
+    match both(operation, read_local_names(alloc, scope.body, second)) {
         Ok((_, locals)) => Ok(locals),
         Err(fault) => Err(fault),
     }

@@ -51,7 +51,7 @@ impl Scope for InBody<'_, '_> {
         if name == "self" {
             return Some(1);
         }
-        let place = self.body.variables.place(name)?;
+        let place = self.body.variable(name)?;
         Some(2 + place as u32)
     }
 

@@ -1,5 +1,5 @@
 //! What a file declares for the code of its object.
-ghost use Rattle.std.specs.Prelude.{◌≡◌, ◌+◌, ◌<◌, ◌^◌, ◌++◌, length};
+ghost use Rattle.std.specs.Prelude.{◌≡◌, ◌+◌, ◌<◌, ◌^◌, length};
 ghost use Rattle.lc_sexp.specs.Shown.{rest_of};
 ghost use Rattle.lc_reading.specs.Words.{names_in};
 ghost use Rattle.lc_reading.specs.Listed.{names_among};
@@ -7,6 +7,7 @@ ghost use Rattle.lc_reading.specs.TableView.{listed};
 
 use lc_reading::NameTable;
 use lc_sexp::Cursor;
+use std::rc::Rc;
 
 /// The columns of an array.
 #[derive(Clone, Copy)]
@@ -23,10 +24,10 @@ pub struct Call<'a> {
     /// The items of its list of arguments.
     pub arguments: Cursor<'a>,
     /// The names of its arguments, which its signature and the bodies of its operation share.
-    pub names: NameTable<'a>,
+    pub names: Rc<NameTable<'a>>,
     /// How many numbers it returns, if that is said.
     pub replies: Option<u64>,
-    ghost named: { listed names ≡ names_among (rest_of arguments) },
+    ghost named: { listed names.value ≡ names_among (rest_of arguments) },
 }
 
 /// The operations that a specification declares.
@@ -48,26 +49,38 @@ pub struct Body<'a> {
     pub first: u32,
     /// The items of the list of its operation's arguments.
     pub arguments: Cursor<'a>,
+    /// The names of these arguments, which the bodies share that name the operation.
+    pub argument_names: Rc<NameTable<'a>>,
     pub replies: Option<u64>,
     pub locals: NameTable<'a>,
-    /// The arguments, and then the locals.
-    pub variables: NameTable<'a>,
     pub labels: NameTable<'a>,
-    ghost together: { listed variables ≡ names_among (rest_of arguments) ++ listed locals },
-    ghost few_variables: { 2 + length (listed variables) < 2 ^ 32 },
+    ghost shared: { listed argument_names.value ≡ names_among (rest_of arguments) },
+    ghost few_variables: { 2 + length (names_among (rest_of arguments)) + length (listed locals) < 2 ^ 32 },
     ghost few_points: { first + length (listed labels) < 2 ^ 32 },
 }
 
 impl Body<'_> {
-    ghost use Rattle.std.specs.Prelude.{◌≡◌, length};
+    ghost use Rattle.std.specs.Prelude.{◌≡◌, ◌++◌, length};
     ghost use Rattle.lc_sexp.specs.Shown.{rest_of};
-    ghost use Rattle.lc_reading.specs.Listed.{names_among};
+    ghost use Rattle.lc_reading.specs.Listed.{names_among, place_of};
+    ghost use Rattle.lc_reading.specs.TableView.{listed};
 
     /// How many arguments its operation has.
     pub fn argument_count(&self) -> u32
         ensures { result ≡ length (names_among (rest_of self.now.arguments)) }
     {
-        (self.variables.len() - self.locals.len()) as u32
+        self.argument_names.len() as u32
+    }
+
+    /// The place at which a name stands first among the arguments, and then the locals.
+    pub fn variable(&self, name: &str) -> Option<usize>
+        ensures { result ≡ place_of (names_among (rest_of self.now.arguments) ++ listed self.now.locals) name.now }
+    {
+        if let Some(place) = self.argument_names.place(name) {
+            return Some(place);
+        }
+        let place = self.locals.place(name)?;
+        Some(self.argument_names.len() + place)
     }
 }
 

@@ -16,6 +16,7 @@ use lc_base::OutOfMemory;
 use lc_reading::NameTable;
 use lc_sexp::{Cursor, Misfit};
 use std::alloc::Global;
+use std::rc::Rc;
 
 /// So many variables an operation may have, the number of clients and the client not counted.
 const VARIABLE_LIMIT: usize = 4_294_967_293;
@@ -122,6 +123,7 @@ fn read_call<'a>(alloc: Global, parts: Cursor<'a>) -> Result<Call<'a>, OutOfMemo
     let behind_name = behind_first(parts);
     let arguments = within_first(behind_name);
     let names = NameTable::new(alloc).enter_all(arguments)?;
+    let names = Rc::new(alloc, names)?;
     Ok(Call {
         arguments,
         names,
@@ -202,13 +204,16 @@ fn call_parts<'a>(call: Option<&Call<'a>>) -> (Cursor<'a>, Option<u64>)
     }
 }
 
-/// The names of the arguments of a call, in a table of their own; where there is no call none.
-fn argument_names<'a>(alloc: Global, call: Option<&Call<'a>>) -> Result<NameTable<'a>, OutOfMemory>
-    ensures { IfOk result (λ names. listed names ≡ (call_found call.entry).arguments) }
+/// The names of the arguments of a call, in the table that it has already; where there is no call none.
+fn argument_names<'a>(
+    alloc: Global,
+    call: Option<&Call<'a>>,
+) -> Result<Rc<NameTable<'a>>, OutOfMemory>
+    ensures { IfOk result (λ names. listed names.value ≡ (call_found call.entry).arguments) }
 {
     match call {
         Some(call) => Ok(call.names.clone()?),
-        None => Ok(NameTable::new(alloc)),
+        None => Ok(Rc::new(alloc, NameTable::new(alloc))?),
     }
 }
 
@@ -218,11 +223,11 @@ fn body<'a>(
     first: u32,
     replies: Option<u64>,
     arguments: Cursor<'a>,
+    argument_names: Rc<NameTable<'a>>,
     locals: NameTable<'a>,
-    variables: NameTable<'a>,
     labels: NameTable<'a>,
 ) -> Result<Body<'a>, OutOfMemory>
-    requires { listed variables ≡ names_among (rest_of arguments) ++ listed locals }
+    requires { listed argument_names.value ≡ names_among (rest_of arguments) }
     ensures { IfOk result (λ body. body_seen body ≡ record {
       operation = operation.now;
       first = first;
@@ -232,16 +237,17 @@ fn body<'a>(
     }) }
 {
     let points = short(labels.len())?;
-    if variables.len() >= VARIABLE_LIMIT || first.checked_add(points).is_none() {
+    let variables = argument_names.len().saturating_add(locals.len());
+    if variables >= VARIABLE_LIMIT || first.checked_add(points).is_none() {
         return Err(OutOfMemory);
     }
     Ok(Body {
         operation,
         first,
         arguments,
+        argument_names,
         replies,
         locals,
-        variables,
         labels,
     })
 }
@@ -261,13 +267,10 @@ fn read_body<'a>(
     let labels = enter_labels(NameTable::new(alloc), behind_first(behind_name))?;
     let call = find_call(operations, first_text(&parts));
     let (arguments, replies) = call_parts(call);
+    let names = argument_names(alloc, call)?;
     let locals = NameTable::new(alloc).enter_all(local_items)?;
-    let variables = argument_names(alloc, call)?;
-    let variables = variables.enter_all(local_items)?;
     let operation = operation_name(operations, number);
-    body(
-        operation, first, replies, arguments, locals, variables, labels,
-    )
+    body(operation, first, replies, arguments, names, locals, labels)
 }
 
 /// The names of the points of all bodies, and the bodies.

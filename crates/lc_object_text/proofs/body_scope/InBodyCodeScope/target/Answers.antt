@@ -1,6 +1,4 @@
-use Rattle.std.proofs.Common.{sym, ap, length, length-append, arith}
-use Rattle.lc_sexp.specs.Shown.{rest_of}
-use Rattle.lc_reading.specs.Listed.{names_among}
+use Rattle.std.proofs.Common.{sym, arith}
 use Rattle.lc_reading.specs.TableView.{listed}
 use Rattle.lc_reading.proofs.Places.{place_below}
 use Rattle.lc_object_text.proofs.body_scope.InBodyCodeScope.target.Goals as goal
@@ -8,9 +6,9 @@ use Rattle.lc_object_text.proofs.body_scope.InBodyCodeScope.target.Goals as goal
 pub overflow_add-variable-2 : goal.overflow_add-variable-2
 overflow_add-variable-2 c =
     let b = c.args.self.now.body.now in
-    omega (arith, place_below (listed b.locals) c.args.name.now c.in_ok-place.place (sym c.in_ok-place.ensures), ap length b.together, length-append (names_among (rest_of b.arguments)) (listed b.locals), b.few_variables)
+    omega (arith, place_below (listed b.locals) c.args.name.now c.in_ok-place.place (sym c.in_ok-place.ensures), b.few_variables)
 
 pub overflow_cast-result : goal.overflow_cast-result
 overflow_cast-result c =
     let b = c.args.self.now.body.now in
-    omega (arith, place_below (listed b.locals) c.args.name.now c.in_ok-place.place (sym c.in_ok-place.ensures), ap length b.together, length-append (names_among (rest_of b.arguments)) (listed b.locals), b.few_variables)
+    omega (arith, place_below (listed b.locals) c.args.name.now c.in_ok-place.place (sym c.in_ok-place.ensures), b.few_variables)
