@@ -6,5 +6,6 @@ mod Ground
 pub mod OnsLimited
 mod Parts
 mod PathsCounted
+mod Placed
 pub mod ReadsScoped
 pub mod RidersKnown

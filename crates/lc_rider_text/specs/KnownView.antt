@@ -18,7 +18,7 @@ columns_listed columns = listed columns.names.now
 
 -- the variables behind the client, if there is one
 abbrev pub others_listed : Variables → Option (List (List ℕ))
-others_listed variables = listed_there variables.others
+others_listed variables = listed_there variables.first variables.second
 
 -- how an operation goes
 abbrev pub ways_seen : Ways → K.Ways

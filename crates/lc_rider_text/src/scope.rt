@@ -1,9 +1,10 @@
 //! The columns and variables that a name may stand for beside the code.
-ghost use Rattle.std.specs.Prelude.{◌≡◌, ◌<◌, ◌∷◌, [], codes, IfSome};
+ghost use Rattle.std.specs.Prelude.{◌≡◌, ◌<◌, ◌≤◌, ◌+◌, ◌^◌, ◌∷◌, [], length, codes, IfSome};
 ghost use Rattle.lc_reading.specs.Listed.{place_of};
 ghost use Rattle.lc_reading.specs.TableView.{listed};
 ghost use Rattle.lc_rider_text.specs.KnownView.{columns_listed};
 ghost use Rattle.lc_rider_text.specs.Scopes.{system_place, column_place, column_at};
+ghost use Rattle.lc_rider_text.specs.Tables.{count_there, listed_before};
 
 use crate::columns::Columns;
 use crate::variables::Variables;
@@ -70,7 +71,7 @@ impl<'a, 'b> Columns<'a, 'b> {
 }
 
 impl<'a, 'b> Variables<'a, 'b> {
-    ghost use Rattle.std.specs.Prelude.{◌≡◌, Some, None, IfOk};
+    ghost use Rattle.std.specs.Prelude.{◌≡◌, ◌++◌, Some, None, IfOk};
     ghost use Rattle.lc_reading.specs.TableView.{listed};
     ghost use Rattle.lc_rider_text.specs.KnownView.{others_listed};
 
@@ -78,7 +79,10 @@ impl<'a, 'b> Variables<'a, 'b> {
     pub fn of_clients() -> Variables<'a, 'b>
         ensures { others_listed result ≡ None }
     {
-        Variables { others: None }
+        Variables {
+            first: None,
+            second: None,
+        }
     }
 
     /// The number of clients, a client and these. `OutOfMemory` is answered where these would have no numbers.
@@ -89,7 +93,26 @@ impl<'a, 'b> Variables<'a, 'b> {
             return Err(OutOfMemory);
         }
         Ok(Variables {
-            others: Some(others),
+            first: Some(others),
+            second: None,
+        })
+    }
+
+    /// The number of clients, a client, these arguments, and these locals behind them. `OutOfMemory` is answered where these
+    /// would have no numbers.
+    pub fn of_body(
+        arguments: &'b NameTable<'a>,
+        locals: &'b NameTable<'a>,
+    ) -> Result<Variables<'a, 'b>, OutOfMemory>
+        ensures { IfOk result (λ variables. others_listed variables ≡ Some (listed arguments.now ++ listed locals.now)) }
+    {
+        let most = (u32::MAX - 2) as usize;
+        if arguments.len() > most || locals.len() > most - arguments.len() {
+            return Err(OutOfMemory);
+        }
+        Ok(Variables {
+            first: Some(arguments),
+            second: Some(locals),
         })
     }
 }
@@ -99,6 +122,21 @@ fn clients_place(name: &str) -> Option<u32>
     ensures { result ≡ place_of (codes "N" ∷ []) name.now }
 {
     if name == "N" { Some(0) } else { None }
+}
+
+/// The place at which a name stands first in a table, or in a second one behind it.
+fn place_behind(first: &NameTable<'_>, second: Option<&NameTable<'_>>, name: &str) -> Option<usize>
+    requires few { length (listed first.now) + count_there second ≤ 2 ^ 32 }
+    ensures { result ≡ place_of (listed_before (listed first.now) second.entry) name.now }
+{
+    if let Some(place) = first.place(name) {
+        return Some(place);
+    }
+    let Some(second) = second else {
+        return None;
+    };
+    let place = second.place(name)?;
+    Some(first.len() + place)
 }
 
 fn column_at(place: Option<u32>) -> ColumnUse
@@ -123,7 +161,7 @@ impl Scope for Beside<'_, '_> {
     ghost names = { names_beside };
 
     fn variable(&self, name: &str) -> Option<u32> {
-        let Some(others) = self.variables.others else {
+        let Some(first) = self.variables.first else {
             return clients_place(name);
         };
         if name == "N" {
@@ -132,7 +170,7 @@ impl Scope for Beside<'_, '_> {
         if name == "self" {
             return Some(1);
         }
-        let place = others.place(name)?;
+        let place = place_behind(first, self.variables.second, name)?;
         Some(2 + place as u32)
     }
 

@@ -1,19 +1,13 @@
-use Rattle.std.proofs.Common.{◌+◌, ◌≤◌, ◌^◌, Option, length, sym, subst, arith}
-use Rattle.std.specs.Borrow.{Bor}
-use Rattle.lc_reading.specs.TableView.{listed}
-use Rattle.lc_reading.specs.declared.table.NameTable.{NameTable}
-use Rattle.lc_rider_text.specs.Tables.{count_there}
-use Rattle.lc_reading.proofs.Places.{place_below}
+use Rattle.std.proofs.Common.{sym, arith}
+use Rattle.lc_rider_text.proofs.Placed.{placed_short}
 use Rattle.lc_rider_text.proofs.scope.BesideScope.variable.Goals as goal
-
-pub overflow_add-result : goal.overflow_add-result
-overflow_add-result c =
-    let others = c.in-Some.others.now in
-    let few : length (listed others) + 2 ≤ 2 ^ 32 = subst (λ (o : Option (Bor NameTable)). count_there o + 2 ≤ 2 ^ 32) c.in-Some.is c.args.self.now.variables.few in
-    omega (arith, few, place_below (listed others) c.args.name.now c.in_ok-place.place (sym c.in_ok-place.ensures))
 
 pub overflow_cast-result : goal.overflow_cast-result
 overflow_cast-result c =
-    let others = c.in-Some.others.now in
-    let few : length (listed others) + 2 ≤ 2 ^ 32 = subst (λ (o : Option (Bor NameTable)). count_there o + 2 ≤ 2 ^ 32) c.in-Some.is c.args.self.now.variables.few in
-    omega (arith, few, place_below (listed others) c.args.name.now c.in_ok-place.place (sym c.in_ok-place.ensures))
+    let variables = c.args.self.now.variables in
+    omega (arith, placed_short variables.first variables.second c.in-Some.first c.args.name.now c.in_ok-place.place variables.few c.in-Some.is (sym c.in_ok-place.ensures))
+
+pub overflow_add-result : goal.overflow_add-result
+overflow_add-result c =
+    let variables = c.args.self.now.variables in
+    omega (arith, placed_short variables.first variables.second c.in-Some.first c.args.name.now c.in_ok-place.place variables.few c.in-Some.is (sym c.in_ok-place.ensures))
