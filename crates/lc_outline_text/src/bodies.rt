@@ -49,7 +49,7 @@ fn read_ith(
         known,
         scope: Beside {
             columns: known.columns,
-            variables: Variables::of_client(&body.variables)?,
+            variables: Variables::of_body(&*body.argument_names, &body.locals)?,
         },
         own: declarations.own_ways(place),
     };
