@@ -52,7 +52,7 @@ fn capped_total(counts: &[u64]) -> u64
 /// The conditions of all edges of the points of a body, up to the cap.
 fn points_conditions(
     alloc: Global,
-    counting: Counting<'_>,
+    counting: Counting<'_, '_>,
     set: &mut ColumnSet,
     list: Cursor<'_>,
 ) -> Result<u64, OutOfMemory>
@@ -78,14 +78,14 @@ fn points_conditions(
 }
 
 /// The conditions of the body of the operation of this number, up to the cap.
-fn body_conditions(
+fn body_conditions<'t>(
     alloc: Global,
-    declarations: &Declarations<'_>,
+    declarations: &Declarations<'t>,
     stored: &Stored,
     set: &mut ColumnSet,
     totals: Totals,
     operation: u32,
-    body: &Body<'_>,
+    body: &Body<'t>,
     list: Cursor<'_>,
 ) -> Result<u64, OutOfMemory>
     requires stored { IsStored (declarations_seen declarations.now) stored.now }

@@ -28,12 +28,12 @@ use std::alloc::Global;
 /// declared, how many conditions are asked everywhere, the number of its operation, the body, and how many assertions each of
 /// its points has.
 #[derive(Clone, Copy)]
-pub(crate) struct Counting<'a> {
-    pub(crate) declarations: &'a Declarations<'a>,
+pub(crate) struct Counting<'a, 't> {
+    pub(crate) declarations: &'a Declarations<'t>,
     pub(crate) stored: &'a Stored,
     pub(crate) totals: Totals,
     pub(crate) operation: u32,
-    pub(crate) body: &'a Body<'a>,
+    pub(crate) body: &'a Body<'t>,
     pub(crate) asserts: &'a [u64],
 }
 
@@ -81,7 +81,7 @@ fn edge_conditions(
 /// The conditions of the edge of this kind of a point `NAME INSTR ASSERT ON ..`, up to the cap.
 fn kind_conditions(
     alloc: Global,
-    counting: Counting<'_>,
+    counting: Counting<'_, '_>,
     set: &mut ColumnSet,
     point: Cursor<'_>,
     kind: EdgeKind,
@@ -113,7 +113,7 @@ fn kind_conditions(
 /// The conditions of all edges of a point, up to the cap.
 pub(crate) fn point_conditions(
     alloc: Global,
-    counting: Counting<'_>,
+    counting: Counting<'_, '_>,
     set: &mut ColumnSet,
     point: Cursor<'_>,
 ) -> Result<u64, OutOfMemory>
