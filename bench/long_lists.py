@@ -17,7 +17,8 @@ NESTING = 1000
 # How many items the lists have now.
 count = COUNT
 
-SPEC = {"name": "s", "abstract": "(v 0 0)", "operations": "(op go () 0 (branch (and) () ()))"}
+BRANCH = "(branch (and) () ())"
+SPEC = {"name": "s", "abstract": "(v 0 0)", "operations": f"(op go () 0 {BRANCH})"}
 OBJECT = {
     "arrays": "(array cell (c 0 0))",
     "auxiliaries": "(h 0 0)",
@@ -169,7 +170,6 @@ def files(name, large):
     return commands if is_due else [], texts
 
 
-BRANCH = "(branch (and) () ())"
 BRANCHED = many(BRANCH, 8)
 CHOICES = "(op go () 0 (choice one (k) (and) () ()))"
 TOLD = "(n (<= (rd c 0) 0))"
@@ -220,9 +220,9 @@ ABUSES = {
         operations=f"(op go () 0 {many(BRANCH, count // 2)})",
         points=many("(point p@ (load cell 0 (x) p0) (assert) (on next (act) (lin)))", count // 2),
     ),
-    "arguments": lambda: development(operations=f"(op go ({many('a@')}) 0 (branch (and) () ()))"),
-    "short_arguments": lambda: development(operations=f"(op go ({short_names()}) 0 (branch (and) () ()))"),
-    "numbers_for_arguments": lambda: development(operations=f"(op go ({many('0')}) 0 (branch (and) () ()))"),
+    "arguments": lambda: development(operations=f"(op go ({many('a@')}) 0 {BRANCH})"),
+    "short_arguments": lambda: development(operations=f"(op go ({short_names()}) 0 {BRANCH})"),
+    "numbers_for_arguments": lambda: development(operations=f"(op go ({many('0')}) 0 {BRANCH})"),
     "branches": lambda: operation(f"(op go () 0 {many('(branch (and) () ())')})", "(lin)"),
     "choices": lambda: operation(f"(op go () 0 {many('(choice way@ () (and) () ())')})", f"(lin-by way{count - 1})"),
     "parameters_of_a_choice": lambda: operation(
