@@ -10,13 +10,14 @@ use Rattle.lc_table.specs.declared.node.TermNode.{TermNode}
 use Rattle.lc_table.specs.declared.node.FormulaNode.{FormulaNode}
 use Rattle.lc_table.specs.Nodes.{Part, term, column, part_of, PartFits, tree_of}
 use Rattle.lc_table.specs.NodeTables.{Table}
-use Rattle.lc_term.specs.Replacement.{Replacement, replace_term, replace_column}
+use Rattle.lc_term.specs.Replacement.{Replacement, replace, replace_term, replace_column}
 use Rattle.lc_table.specs.Tables.{parts, formulas, term_in, column_in, formula_in, HasTerm, HasColumn, HasFormula, IsTerm, IsColumn, IsFormula, Keeps}
 use Rattle.lc_table.specs.NodeReplacement.{as_part, part_in, replaced_part, AreReplaced}
 use Rattle.lc_table.proofs.Rows.{kept_left}
 use Rattle.lc_table.proofs.FormulaNodes.{formula-there, formula_node_eq, node_eq-tree}
 use Rattle.lc_table.proofs.TermNodes.{term-there, column-there, part-kept, node_eq, node_eq-part}
-use Rattle.lc_table.proofs.Later.{term_later, column_later, term_is, column_is, term_still}
+use Rattle.lc_term.specs.Syntax as S
+use Rattle.lc_table.proofs.Later.{term_later, column_later, formula_later, term_is, column_is, term_still}
 
 some_same : {T : Type 0} (x y : T) → Some x ≡ Some y → x ≡ y
 some_same x y e = cc
@@ -117,3 +118,30 @@ first_term r t0 t1 t2 a l kept h = term_is t2 l _ (term_later t1 t2 l _ h kept)
 
 pub first_column : (r : Replacement) (t0 t1 t2 : Table) (a l : ColExprId) → Keeps t1 t2 → HasColumn t1 l (replace_column r (column_in t0 a)) → column_in t2 l ≡ replace_column r (column_in t0 a)
 first_column r t0 t1 t2 a l kept h = column_is t2 l _ (column_later t1 t2 l _ h kept)
+
+-- ---- a comparison, from its terms, which are replaced
+
+-- it stays where they stay
+stays : (r : Replacement) (f : S.Term → S.Term → S.Formula) (old new : Table) (k : FormulaId) (a b : TermId) → IsFormula old k → IsTerm old a → IsTerm old b → formula_in old k ≡ f (term_in old a) (term_in old b)
+    → Keeps old new → HasTerm new a (replace_term r (term_in old a)) → HasTerm new b (replace_term r (term_in old b)) → HasFormula new k (f (replace_term r (term_in old a)) (replace_term r (term_in old b)))
+stays r f old new k a b is left right tree kept h g =
+    let first = sym (term_still old new a left kept) ∙ term_is new a _ h in
+    let second = sym (term_still old new b right kept) ∙ term_is new b _ g in
+    formula_later old new k _ (formula-there (formulas old) k is) kept ∙ ap Some (tree ∙ ap₂ f first second)
+
+pub le_stays : (r : Replacement) (old new : Table) (k : FormulaId) (a b : TermId) → IsFormula old k → IsTerm old a → IsTerm old b → formula_in old k ≡ S.Le (term_in old a) (term_in old b)
+    → Keeps old new → HasTerm new a (replace_term r (term_in old a)) → HasTerm new b (replace_term r (term_in old b)) → HasFormula new k (replace r (formula_in old k))
+le_stays r old new k a b is left right tree kept h g = stays r S.Le old new k a b is left right tree kept h g ∙ ap (λ f. Some (replace r f)) (sym tree)
+
+pub eq_stays : (r : Replacement) (old new : Table) (k : FormulaId) (a b : TermId) → IsFormula old k → IsTerm old a → IsTerm old b → formula_in old k ≡ S.Eq (term_in old a) (term_in old b)
+    → Keeps old new → HasTerm new a (replace_term r (term_in old a)) → HasTerm new b (replace_term r (term_in old b)) → HasFormula new k (replace r (formula_in old k))
+eq_stays r old new k a b is left right tree kept h g = stays r S.Eq old new k a b is left right tree kept h g ∙ ap (λ f. Some (replace r f)) (sym tree)
+
+-- it is made of what they become
+pub le_made : (r : Replacement) (old mid new : Table) (k v : FormulaId) (a b l m : TermId) → formula_in old k ≡ S.Le (term_in old a) (term_in old b)
+    → HasTerm mid l (replace_term r (term_in old a)) → HasTerm mid m (replace_term r (term_in old b)) → HasFormula new v (S.Le (term_in mid l) (term_in mid m)) → HasFormula new v (replace r (formula_in old k))
+le_made r old mid new k v a b l m tree h g at = at ∙ ap Some (ap₂ S.Le (term_is mid l _ h) (term_is mid m _ g) ∙ ap (replace r) (sym tree))
+
+pub eq_made : (r : Replacement) (old mid new : Table) (k v : FormulaId) (a b l m : TermId) → formula_in old k ≡ S.Eq (term_in old a) (term_in old b)
+    → HasTerm mid l (replace_term r (term_in old a)) → HasTerm mid m (replace_term r (term_in old b)) → HasFormula new v (S.Eq (term_in mid l) (term_in mid m)) → HasFormula new v (replace r (formula_in old k))
+eq_made r old mid new k v a b l m tree h g at = at ∙ ap Some (ap₂ S.Eq (term_is mid l _ h) (term_is mid m _ g) ∙ ap (replace r) (sym tree))

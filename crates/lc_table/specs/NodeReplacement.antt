@@ -1,5 +1,5 @@
 -- What is put in for parts of a table.
-use Rattle.std.specs.Prelude.{◌≡◌, ℕ, Bool, pos, List, Option, Some, None, slice_get, nat_eq}
+use Rattle.std.specs.Prelude.{◌≡◌, ℕ, Bool, true, false, pos, List, Option, Some, None, slice_get, nat_eq}
 use Rattle.std.specs.Map.{lookup}
 use Rattle.lc_term.specs.Syntax as S
 use Rattle.lc_table.specs.Nodes.{Part, term, column}
@@ -25,6 +25,12 @@ part_passes p (column c) = column_passes p c
 abbrev pub replaced_part : Replacement → Part → Part
 replaced_part r (term t) = term (replace_term r t)
 replaced_part r (column c) = column (replace_column r c)
+
+-- whether a formula compares two terms
+abbrev pub is_comparison : S.Formula → Bool
+is_comparison (S.Le t u) = true
+is_comparison (S.Eq t u) = true
+is_comparison _ = false
 
 -- what stands at each of these numbers stands, after the replacement, at the number beside
 abbrev pub AreReplaced : Replacement → List Part → List (ℕ × ℕ) → Type 0

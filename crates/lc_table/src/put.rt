@@ -78,10 +78,10 @@ impl ReplacedNodes {
 
     // What a formula is replaced by, if that is remembered. Of one that compares terms it is not: it is replaced as soon as it
     // would be looked up.
-    pub(crate) fn formula(&self, occurrence: Occurrence, is_atom: bool) -> Option<u32>
+    pub(crate) fn formula(&self, occurrence: Occurrence) -> Option<u32>
         ensures { IfSome result (λ number. lookup (occurrence_eq occurrence) self.now.formulas.entries ≡ Some number) }
     {
-        if is_atom || self.formulas.is_empty() {
+        if self.formulas.is_empty() {
             return None;
         }
         self.formulas.get(&occurrence).copied()
@@ -104,19 +104,15 @@ impl ReplacedNodes {
         Ok(())
     }
 
-    // Remembers what a formula is replaced by, unless it is among the first, or compares terms.
+    // Remembers what a formula is replaced by, unless it is among the first.
     pub(crate) fn note_formula(
         &mut self,
         occurrence: Occurrence,
         number: u32,
-        is_atom: bool,
     ) -> Result<(), OutOfMemory>
         ensures formulas { OnOk result (Notes occurrence number self.old.formulas.entries self.new.formulas.entries) }
         ensures parts { self.new.parts ≡ self.old.parts }
     {
-        if is_atom {
-            return Ok(());
-        }
         if self.forgotten < FORGOTTEN {
             self.forgotten += 1;
         } else {

@@ -3,7 +3,7 @@ ghost use Rattle.std.specs.Prelude.{◌≡◌, suc, IfOk, IfSome, OnOk, map, sli
 ghost use Rattle.std.specs.Map.{lookup};
 ghost use Rattle.lc_term.specs.Chains.{is_store};
 ghost use Rattle.lc_table.specs.NodeChains.{stored_to};
-ghost use Rattle.lc_table.specs.NodeReplacement.{part_in, replaced_part};
+ghost use Rattle.lc_table.specs.NodeReplacement.{part_in, replaced_part, is_comparison};
 ghost use Rattle.lc_table.specs.Filling.{IsFilled, Stands};
 ghost use Rattle.lc_table.specs.Nodes.{term, column, is_term, part_of, PartFits, tree_of, TreeFits};
 ghost use Rattle.lc_table.specs.Put.{columns_put, columns_in, variables_put, replacement_of, occurrence_eq, Remembers};
@@ -530,20 +530,122 @@ impl Terms {
         ensures kept { Keeps self.old self.new }
         ensures done { OnOk result (Stands R.replacement self.new put.now done.new) }
     {
+        match *self.formula_node(formula) {
+            FormulaNode::Le(left, right) => {
+                self.replaced_le::<R>(alloc, put, done, formula, (left, right), depth)
+            }
+            FormulaNode::Eq(left, right) => {
+                self.replaced_eq::<R>(alloc, put, done, formula, (left, right), depth)
+            }
+            _ => self.replaced_connected::<R>(alloc, put, done, formula, depth),
+        }
+    }
+
+    // The two terms of a comparison, replaced.
+    #[tactic(auto, using(crate::proofs::Later::kept_on, crate::proofs::Later::term_later, crate::proofs::Later::term_still, crate::proofs::Later::is_term_still))]
+    fn replaced_sides<R: Filled>(
+        &mut self,
+        alloc: Global,
+        put: &Filling<'_>,
+        done: &mut ReplacedNodes,
+        sides: (TermId, TermId),
+        depth: u32,
+    ) -> Result<(TermId, TermId), OutOfMemory>
+        requires left { IsTerm self.old sides.0 }
+        requires right { IsTerm self.old sides.1 }
+        requires done { Stands R.replacement self.old put.now done.old }
+        ensures left { IfOk result (λ k. HasTerm self.new k.0 (replace_term (under_many depth R.replacement) (term_in self.old sides.0))) }
+        ensures right { IfOk result (λ k. HasTerm self.new k.1 (replace_term (under_many depth R.replacement) (term_in self.old sides.1))) }
+        ensures kept { Keeps self.old self.new }
+        ensures done { OnOk result (Stands R.replacement self.new put.now done.new) }
+    {
+        let left = self.replaced_term::<R>(alloc, put, done, sides.0, depth, LEVELS)?;
+        let right = self.replaced_term::<R>(alloc, put, done, sides.1, depth, LEVELS)?;
+        Ok((left, right))
+    }
+
+    // That one term is at most another, replaced: the formula itself where its terms stay.
+    #[tactic(auto, using(crate::proofs::Later::kept_on, crate::proofs::NodeReplacement::le_stays, crate::proofs::NodeReplacement::le_made))]
+    fn replaced_le<R: Filled>(
+        &mut self,
+        alloc: Global,
+        put: &Filling<'_>,
+        done: &mut ReplacedNodes,
+        formula: FormulaId,
+        sides: (TermId, TermId),
+        depth: u32,
+    ) -> Result<FormulaId, OutOfMemory>
+        requires there { IsFormula self.old formula }
+        requires left { IsTerm self.old sides.0 }
+        requires right { IsTerm self.old sides.1 }
+        requires tree { formula_in self.old formula ≡ S.Le (term_in self.old sides.0) (term_in self.old sides.1) }
+        requires done { Stands R.replacement self.old put.now done.old }
+        ensures id { IfOk result (λ k. HasFormula self.new k (replace (under_many depth R.replacement) (formula_in self.old formula))) }
+        ensures kept { Keeps self.old self.new }
+        ensures done { OnOk result (Stands R.replacement self.new put.now done.new) }
+    {
+        let (left, right) = self.replaced_sides::<R>(alloc, put, done, sides, depth)?;
+        if left == sides.0 && right == sides.1 {
+            return Ok(formula);
+        }
+        Ok(self.le(left, right)?)
+    }
+
+    // That two terms are equal, replaced: the formula itself where its terms stay.
+    #[tactic(auto, using(crate::proofs::Later::kept_on, crate::proofs::NodeReplacement::eq_stays, crate::proofs::NodeReplacement::eq_made))]
+    fn replaced_eq<R: Filled>(
+        &mut self,
+        alloc: Global,
+        put: &Filling<'_>,
+        done: &mut ReplacedNodes,
+        formula: FormulaId,
+        sides: (TermId, TermId),
+        depth: u32,
+    ) -> Result<FormulaId, OutOfMemory>
+        requires there { IsFormula self.old formula }
+        requires left { IsTerm self.old sides.0 }
+        requires right { IsTerm self.old sides.1 }
+        requires tree { formula_in self.old formula ≡ S.Eq (term_in self.old sides.0) (term_in self.old sides.1) }
+        requires done { Stands R.replacement self.old put.now done.old }
+        ensures id { IfOk result (λ k. HasFormula self.new k (replace (under_many depth R.replacement) (formula_in self.old formula))) }
+        ensures kept { Keeps self.old self.new }
+        ensures done { OnOk result (Stands R.replacement self.new put.now done.new) }
+    {
+        let (left, right) = self.replaced_sides::<R>(alloc, put, done, sides, depth)?;
+        if left == sides.0 && right == sides.1 {
+            return Ok(formula);
+        }
+        Ok(self.eq(left, right)?)
+    }
+
+    // A formula that compares no terms, replaced, unless that is remembered.
+    #[cycle(replaced_formula)]
+    #[tactic(auto, using(crate::proofs::Later::kept_on, crate::proofs::Later::is_formula_still))]
+    fn replaced_connected<R: Filled>(
+        &mut self,
+        alloc: Global,
+        put: &Filling<'_>,
+        done: &mut ReplacedNodes,
+        formula: FormulaId,
+        depth: u32,
+    ) -> Result<FormulaId, OutOfMemory>
+        requires there { IsFormula self.old formula }
+        requires connected { is_comparison (formula_in self.old formula) ≡ false }
+        requires done { Stands R.replacement self.old put.now done.old }
+        ensures id { IfOk result (λ k. HasFormula self.new k (replace (under_many depth R.replacement) (formula_in self.old formula))) }
+        ensures kept { Keeps self.old self.new }
+        ensures done { OnOk result (Stands R.replacement self.new put.now done.new) }
+    {
         let occurrence = Occurrence {
             number: formula.0,
             depth,
         };
-        let is_atom = matches!(
-            self.formula_node(formula),
-            FormulaNode::Le(..) | FormulaNode::Eq(..)
-        );
-        if let Some(number) = done.formula(occurrence, is_atom) {
+        if let Some(number) = done.formula(occurrence) {
             return Ok(FormulaId(number));
         }
         let node = self.replaced_node::<R>(alloc, put, done, formula, depth)?;
         let number = self.enter_changed_formula(formula, node)?;
-        done.note_formula(occurrence, number.0, is_atom)?;
+        done.note_formula(occurrence, number.0)?;
         Ok(number)
     }
 
@@ -565,7 +667,7 @@ impl Terms {
         Ok(FormulaId(self.enter_node(node)?))
     }
 
-    // The node of a formula that is not replaced yet, its parts replaced.
+    // The node of a formula that compares no terms and is not replaced yet, its parts replaced.
     #[cycle(replaced_formula)]
     #[tactic(auto, using(crate::proofs::Later::kept_on, crate::proofs::Later::keeps_itself, crate::proofs::Later::is_term_later, crate::proofs::Later::is_term_still, crate::proofs::Later::is_formula_later, crate::proofs::Later::is_formula_still))]
     fn replaced_node<R: Filled>(
@@ -577,6 +679,7 @@ impl Terms {
         depth: u32,
     ) -> Result<FormulaNode, OutOfMemory>
         requires there { IsFormula self.old formula }
+        requires connected { is_comparison (formula_in self.old formula) ≡ false }
         requires done { Stands R.replacement self.old put.now done.old }
         ensures fits { IfOk result (λ node. TreeFits (parts self.new) (formulas self.new) node) }
         ensures tree { IfOk result (λ node. tree_of (parts self.new) (formulas self.new) node ≡ replace (under_many depth R.replacement) (formula_in self.old formula)) }
@@ -584,16 +687,7 @@ impl Terms {
         ensures done { OnOk result (Stands R.replacement self.new put.now done.new) }
     {
         match *self.formula_node(formula) {
-            FormulaNode::Le(left, right) => {
-                let left = self.replaced_term::<R>(alloc, put, done, left, depth, LEVELS)?;
-                let right = self.replaced_term::<R>(alloc, put, done, right, depth, LEVELS)?;
-                Ok(FormulaNode::Le(left, right))
-            }
-            FormulaNode::Eq(left, right) => {
-                let left = self.replaced_term::<R>(alloc, put, done, left, depth, LEVELS)?;
-                let right = self.replaced_term::<R>(alloc, put, done, right, depth, LEVELS)?;
-                Ok(FormulaNode::Eq(left, right))
-            }
+            FormulaNode::Le(_, _) | FormulaNode::Eq(_, _) => unreachable!(),
             FormulaNode::Not(formula) => {
                 let formula = self.replaced_formula::<R>(alloc, put, done, formula, depth)?;
                 Ok(FormulaNode::Not(formula))

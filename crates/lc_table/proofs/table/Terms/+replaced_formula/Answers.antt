@@ -1,29 +1,28 @@
-use Rattle.std.proofs.Common.{rules, arith, ◌≡◌, ◌<◌, ◌++◌, ◌∷◌, [], length, subst, sym, refl, ap, ap₂, ◌∙◌, get_or, Some}
+use Rattle.std.proofs.Common.{rules, arith, ◌≡◌, ◌<◌, ◌++◌, ◌∷◌, [], length, subst, sym, ap, ap₂, ◌∙◌, get_or, Some}
 use Rattle.lc_term.specs.Syntax as S
 use Rattle.lc_table.specs.Nodes.{AllBelow}
 use Rattle.lc_term.specs.Replacement.{under_many, replace, replace_all}
-use Rattle.lc_table.specs.Tables.{term_in, formula_in, formulas_in, IsTerm, IsFormula, AreFormulas}
+use Rattle.lc_table.specs.Tables.{formula_in, formulas_in, IsFormula, AreFormulas}
 use Rattle.lc_table.proofs.Later.{kept_on, are_formulas_pushed, formulas_pushed, is_formula_still, formula_still}
 use Rattle.lc_table.proofs.Listed.{beyond-le, get-beyond, are_formulas-get}
-use Rattle.lc_table.proofs.NodeReplacement.{first_term, second_term}
 use Rattle.lc_table.proofs.Remembered.{stands_later, formula_remembered, formula_noted, first_formula, second_formula, replaced_parts, replaced_more}
 use Rattle.lc_table.proofs.table.Terms.+replaced_formula.Goals as goal
 
-pub replaced_formula-returns-in-Some-clause-id : goal.replaced_formula-returns-in-Some-clause-id
-replaced_formula-returns-in-Some-clause-id g t c =
+pub replaced_connected-returns-in-Some-clause-id : goal.replaced_connected-returns-in-Some-clause-id
+replaced_connected-returns-in-Some-clause-id g t c =
     formula_remembered g.R.Filled.replacement c.args.self.now c.args.done.now c.args.formula c.args.depth _ c.requires.done.remembers c.requires.there c.in-Some.ensures
 
-pub replaced_formula-enter_changed_formula-requires-clause-there : goal.replaced_formula-enter_changed_formula-requires-clause-there
-replaced_formula-enter_changed_formula-requires-clause-there g t c = is_formula_still _ _ c.args.formula c.requires.there c.in_ok-node.ensures.kept
+pub replaced_connected-enter_changed_formula-requires-clause-there : goal.replaced_connected-enter_changed_formula-requires-clause-there
+replaced_connected-enter_changed_formula-requires-clause-there g t c = is_formula_still _ _ c.args.formula c.requires.there c.in_ok-node.ensures.kept
 
-pub replaced_formula-enter_changed_formula-requires-clause-fits : goal.replaced_formula-enter_changed_formula-requires-clause-fits
-replaced_formula-enter_changed_formula-requires-clause-fits g t c = c.in_ok-node.ensures.fits
+pub replaced_connected-enter_changed_formula-requires-clause-fits : goal.replaced_connected-enter_changed_formula-requires-clause-fits
+replaced_connected-enter_changed_formula-requires-clause-fits g t c = c.in_ok-node.ensures.fits
 
-pub replaced_formula-returns-clause-id : goal.replaced_formula-returns-clause-id
-replaced_formula-returns-clause-id g t c = c.in_ok-number.ensures.id ∙ ap Some c.in_ok-node.ensures.tree
+pub replaced_connected-returns-clause-id : goal.replaced_connected-returns-clause-id
+replaced_connected-returns-clause-id g t c = c.in_ok-number.ensures.id ∙ ap Some c.in_ok-node.ensures.tree
 
-pub replaced_formula-returns-clause-done : goal.replaced_formula-returns-clause-done
-replaced_formula-returns-clause-done g t c =
+pub replaced_connected-returns-clause-done : goal.replaced_connected-returns-clause-done
+replaced_connected-returns-clause-done g t c =
     formula_noted g.R.Filled.replacement c.args.self.now c.enter_changed_formula.new.self c.args.put.now c.replaced_node.new.done c.note_formula.new.self c.args.formula c.in_ok-number.number c.args.depth c.requires.there
     (kept_on _ _ _ c.in_ok-node.ensures.kept c.in_ok-number.ensures.kept) (stands_later g.R.Filled.replacement c.args.put.now _ _ _ c.in_ok-node.ensures.done c.in_ok-number.ensures.kept)
     (c.in_ok-number.ensures.id ∙ ap Some c.in_ok-node.ensures.tree) c.in_ok-note_formula.ensures.formulas c.in_ok-note_formula.ensures.parts
@@ -43,30 +42,6 @@ replaced_node-replaced_formulas-requires-in-Or g t c =
     let parts_fit : AreFormulas c.args.self.now c.in-Or.parts.items = search rules in
     let least = beyond-le c.args.formula.0 c.deref-in-Or-2.result.now (subst (AllBelow c.args.formula.0) (sym same) parts_below) in
     λ κs lives. (omega arith, (lives, (subst (AreFormulas c.args.self.now) (sym same) parts_fit, c.requires.done)))
-
-pub replaced_node-returns-in_ok-right-in-Le-clause-tree : goal.replaced_node-returns-in_ok-right-in-Le-clause-tree
-replaced_node-returns-in_ok-right-in-Le-clause-tree g t c =
-    let t0 = c.args.self.now in
-    let r = under_many c.args.depth g.R.Filled.replacement in
-    let t1 = c.replaced_term.new.self in
-    let t2 = c.replaced_term-in-Le.new.self in
-    let there : formula_in t0 c.args.formula ≡ S.Le (term_in t0 c.in-Le.left) (term_in t0 c.in-Le.right) = search rules in
-    let is : IsTerm t0 c.in-Le.right = search rules in
-    let left = first_term r t0 t1 t2 c.in-Le.left c.in_ok-left-in-Le.left c.in_ok-right-in-Le.ensures.kept c.in_ok-left-in-Le.ensures.id in
-    let right = second_term r r t0 t1 t2 c.in-Le.right c.in_ok-right-in-Le.right refl is c.in_ok-left-in-Le.ensures.kept c.in_ok-right-in-Le.ensures.id in
-    ap₂ S.Le left right ∙ ap (replace r) (sym there)
-
-pub replaced_node-returns-in_ok-right-in-Eq-clause-tree : goal.replaced_node-returns-in_ok-right-in-Eq-clause-tree
-replaced_node-returns-in_ok-right-in-Eq-clause-tree g t c =
-    let t0 = c.args.self.now in
-    let r = under_many c.args.depth g.R.Filled.replacement in
-    let t1 = c.replaced_term-in-Eq.new.self in
-    let t2 = c.replaced_term-in-Eq-2.new.self in
-    let there : formula_in t0 c.args.formula ≡ S.Eq (term_in t0 c.in-Eq.left) (term_in t0 c.in-Eq.right) = search rules in
-    let is : IsTerm t0 c.in-Eq.right = search rules in
-    let left = first_term r t0 t1 t2 c.in-Eq.left c.in_ok-left-in-Eq.left c.in_ok-right-in-Eq.ensures.kept c.in_ok-left-in-Eq.ensures.id in
-    let right = second_term r r t0 t1 t2 c.in-Eq.right c.in_ok-right-in-Eq.right refl is c.in_ok-left-in-Eq.ensures.kept c.in_ok-right-in-Eq.ensures.id in
-    ap₂ S.Eq left right ∙ ap (replace r) (sym there)
 
 pub replaced_node-returns-in_ok-right-in-Implies-clause-tree : goal.replaced_node-returns-in_ok-right-in-Implies-clause-tree
 replaced_node-returns-in_ok-right-in-Implies-clause-tree g t c =

@@ -6,13 +6,16 @@ use Rattle.lc_table.proofs.Listed.{beyond}
 use Rattle.lc_table.proofs.table.Terms.+replaced_formula.Given as goal
 
 abbrev pub decreases-replaced_formula : goal.decreases-replaced_formula
-decreases-replaced_formula g l = 3 * l.formula.0 + 2
+decreases-replaced_formula g l = 4 * l.formula.0 + 3
+
+abbrev pub decreases-replaced_connected : goal.decreases-replaced_connected
+decreases-replaced_connected g l = 4 * l.formula.0 + 2
 
 abbrev pub decreases-replaced_node : goal.decreases-replaced_node
-decreases-replaced_node g l = 3 * l.formula.0 + 1
+decreases-replaced_node g l = 4 * l.formula.0 + 1
 
 abbrev pub decreases-replaced_formulas : goal.decreases-replaced_formulas
-decreases-replaced_formulas g l = 3 * beyond l.formulas.now
+decreases-replaced_formulas g l = 4 * beyond l.formulas.now
 
 -- the formulas so far are replaced
 abbrev pub invariant-replaced_formulas-loop-formula : goal.invariant-replaced_formulas-loop-formula
