@@ -1,6 +1,7 @@
 pub mod Copies
 pub mod Deep
 pub mod Filling
+pub mod Near
 pub mod NodeChains
 pub mod NodeClosed
 pub mod NodeReplacement

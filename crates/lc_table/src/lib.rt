@@ -8,6 +8,7 @@ mod copying;
 mod deep;
 mod entering;
 mod filling;
+mod near;
 mod node;
 mod node_closed;
 mod node_replacement;

@@ -541,7 +541,31 @@ impl Terms {
         }
     }
 
+    // A side of a comparison, replaced. A number, as one of them often is, stays.
+    #[inline(always)]
+    #[tactic(auto, using(crate::proofs::Later::keeps_itself, crate::proofs::NodeReplacement::term_at, crate::proofs::Copied::term_stands))]
+    fn replaced_side<R: Filled>(
+        &mut self,
+        alloc: Global,
+        put: &Filling<'_>,
+        done: &mut ReplacedNodes,
+        term: TermId,
+        depth: u32,
+    ) -> Result<TermId, OutOfMemory>
+        requires there { IsTerm self.old term }
+        requires done { Stands R.replacement self.old put.now done.old }
+        ensures id { IfOk result (λ k. HasTerm self.new k (replace_term (under_many depth R.replacement) (term_in self.old term))) }
+        ensures kept { Keeps self.old self.new }
+        ensures done { OnOk result (Stands R.replacement self.new put.now done.new) }
+    {
+        if let TermNode::Number(_) = self.part_node(term.0) {
+            return Ok(term);
+        }
+        Ok(self.replaced_term::<R>(alloc, put, done, term, depth, LEVELS)?)
+    }
+
     // The two terms of a comparison, replaced.
+    #[inline(always)]
     #[tactic(auto, using(crate::proofs::Later::kept_on, crate::proofs::Later::term_later, crate::proofs::Later::term_still, crate::proofs::Later::is_term_still))]
     fn replaced_sides<R: Filled>(
         &mut self,
@@ -559,8 +583,8 @@ impl Terms {
         ensures kept { Keeps self.old self.new }
         ensures done { OnOk result (Stands R.replacement self.new put.now done.new) }
     {
-        let left = self.replaced_term::<R>(alloc, put, done, sides.0, depth, LEVELS)?;
-        let right = self.replaced_term::<R>(alloc, put, done, sides.1, depth, LEVELS)?;
+        let left = self.replaced_side::<R>(alloc, put, done, sides.0, depth)?;
+        let right = self.replaced_side::<R>(alloc, put, done, sides.1, depth)?;
         Ok((left, right))
     }
 

@@ -6,10 +6,12 @@ ghost use Rattle.lc_table.specs.declared.node.FormulaId.{FormulaId};
 ghost use Rattle.lc_table.specs.Tables.{term_in, column_in, formula_in, IsTerm, IsColumn, IsFormula};
 
 use crate::again::Expected;
+use crate::near::NearHasher;
 use crate::node::{ColExprId, FormulaId, FormulaNode, TermId, TermNode};
 use indexmap::IndexSet;
 use lc_base::OutOfMemory;
 use std::alloc::Global;
+use std::hash::BuildHasherDefault;
 use std::marker::Model;
 
 /// So many places there are for numbers and variables.
@@ -20,8 +22,8 @@ const LEAF_PLACES: usize = 8;
 ///
 /// No call changes the tree of a number. A call that answers an error may leave more entries.
 pub struct Terms {
-    terms: IndexSet<TermNode>,
-    formulas: IndexSet<FormulaNode>,
+    terms: IndexSet<TermNode, BuildHasherDefault<NearHasher>>,
+    formulas: IndexSet<FormulaNode, BuildHasherDefault<NearHasher>>,
     /// Where the next formula is expected.
     next_formula: Expected,
     /// Where the next store is expected.
@@ -64,8 +66,8 @@ impl Terms {
         ensures formulas { formulas result ≡ [] }
     {
         Terms {
-            terms: IndexSet::new(alloc),
-            formulas: IndexSet::new(alloc),
+            terms: IndexSet::with_hasher(alloc, BuildHasherDefault::new()),
+            formulas: IndexSet::with_hasher(alloc, BuildHasherDefault::new()),
             next_formula: Expected::first(),
             next_store: Expected::first(),
             leaves: [0; LEAF_PLACES],
