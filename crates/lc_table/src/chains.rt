@@ -4,10 +4,10 @@ ghost use Rattle.lc_term.specs.Chains.{is_store};
 ghost use Rattle.lc_table.specs.NodeChains.{below_stores, AreStores};
 ghost use Rattle.lc_table.specs.Tables.{column_in, IsColumn};
 
+use crate::near::NearMap;
 use crate::node::{ColExprId, TermNode};
 use crate::put::{Occurrence, ReplacedNodes};
 use crate::table::Terms;
-use indexmap::IndexMap;
 use lc_base::OutOfMemory;
 use std::alloc::Global;
 
@@ -50,7 +50,7 @@ pub(crate) trait KnownParts {
         ensures { IfSome result (Becomes self.now part) };
 }
 
-impl KnownParts for IndexMap<u32, u32> {
+impl KnownParts for NearMap<u32, u32> {
     ghost use Rattle.std.specs.Prelude.{◌≡◌, Some, nat_eq};
     ghost use Rattle.std.specs.Map.{lookup};
 

@@ -8,16 +8,17 @@ ghost use Rattle.lc_table.specs.Tables.{parts, formulas, term_in, column_in, for
 ghost use Rattle.lc_table.specs.Copies.{Copies};
 
 use crate::chains::Waiting;
+use crate::near::NearMap;
 use crate::node::{ColExprId, FormulaId, FormulaNode, TermId, TermNode};
 use crate::table::Terms;
-use indexmap::IndexMap;
 use lc_base::OutOfMemory;
 use std::alloc::Global;
+use std::hash::BuildHasherDefault;
 
 // What is copied already: numbers of the other table, each with its number here.
 struct Copied {
-    parts: IndexMap<u32, u32>,
-    formulas: IndexMap<u32, u32>,
+    parts: NearMap<u32, u32>,
+    formulas: NearMap<u32, u32>,
 }
 
 impl Drop for Copied {
@@ -34,8 +35,8 @@ fn nothing_copied(alloc: Global) -> Copied
     ensures formulas { result.formulas.entries ≡ [] }
 {
     Copied {
-        parts: IndexMap::new(alloc),
-        formulas: IndexMap::new(alloc),
+        parts: NearMap::with_hasher(alloc, BuildHasherDefault::new()),
+        formulas: NearMap::with_hasher(alloc, BuildHasherDefault::new()),
     }
 }
 

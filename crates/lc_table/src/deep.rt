@@ -7,18 +7,19 @@ ghost use Rattle.lc_table.specs.NodeTables.{Table};
 ghost use Rattle.lc_table.specs.Tables.{IsTerm, IsColumn};
 
 use crate::chains::KnownParts;
+use crate::near::NearSet;
 use crate::node::{ColExprId, TermId, TermNode};
 use crate::table::Terms;
-use indexmap::IndexSet;
 use lc_base::OutOfMemory;
 use std::alloc::Global;
+use std::hash::BuildHasherDefault;
 
 /// How many levels a walk goes down at once.
 pub(crate) const LEVELS: u32 = 128;
 
 // What is found below a part: terms and column expressions by their numbers, and the terms among them.
 struct Found {
-    met: IndexSet<u32>,
+    met: NearSet<u32>,
     parts: Vec<u32>,
     terms: Vec<TermId>,
 }
@@ -50,7 +51,7 @@ fn nothing_found(alloc: Global) -> Found
     ensures { (ts : Table) (n : ℕ) → AreFound ts n result }
 {
     Found {
-        met: IndexSet::new(alloc),
+        met: NearSet::with_hasher(alloc, BuildHasherDefault::new()),
         parts: Vec::new(alloc),
         terms: Vec::new(alloc),
     }

@@ -2,7 +2,14 @@
 ghost use Rattle.std.specs.Prelude.{◌≡◌};
 ghost use Rattle.lc_table.specs.Near.{number_in, with_number};
 
-use std::hash::{FoldHasher, Hasher};
+use indexmap::{IndexMap, IndexSet};
+use std::hash::{BuildHasherDefault, FoldHasher, Hasher};
+
+/// A map whose keys are made of numbers.
+pub(crate) type NearMap<K, V> = IndexMap<K, V, BuildHasherDefault<NearHasher>>;
+
+/// A set of what is made of numbers.
+pub(crate) type NearSet<T> = IndexSet<T, BuildHasherDefault<NearHasher>>;
 
 /// So many numbers, one behind the other, differ in the last bits of their hashes alone.
 const NEAR: u64 = 64;

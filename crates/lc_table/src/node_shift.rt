@@ -12,11 +12,12 @@ ghost use Rattle.lc_term.specs.Substitution.{shifting, shifted_term};
 ghost use Rattle.lc_table.specs.Tables.{parts, term_in, column_in, IsTerm, IsColumn, HasTerm, HasColumn, Keeps};
 
 use crate::deep::LEVELS;
+use crate::near::NearMap;
 use crate::node::{ColExprId, TermId, TermNode};
 use crate::table::Terms;
-use indexmap::IndexMap;
 use lc_base::OutOfMemory;
 use std::alloc::{AllocFailed, Global};
+use std::hash::BuildHasherDefault;
 
 // Why nothing is moved below further quantifiers.
 #[derive(Clone, Copy)]
@@ -93,7 +94,7 @@ impl Terms {
         ensures kept { Keeps self.old self.new }
         ensures place { IfErr result (λ fault. fault ≡ NoPlace → term_passes (shift_fits added cutoff 0) (term_in self.old term) ≡ false) }
     {
-        let mut done = IndexMap::new(alloc);
+        let mut done = NearMap::with_hasher(alloc, BuildHasherDefault::new());
         self.shifted_term(term, added, cutoff, &mut done, LEVELS)
     }
 
@@ -110,7 +111,7 @@ impl Terms {
         ensures kept { Keeps self.old self.new }
         ensures place { IfErr result (λ fault. fault ≡ NoPlace → column_passes (shift_fits added cutoff 0) (column_in self.old column) ≡ false) }
     {
-        let mut done = IndexMap::new(alloc);
+        let mut done = NearMap::with_hasher(alloc, BuildHasherDefault::new());
         self.shifted_column(column, added, cutoff, &mut done, LEVELS)
     }
 
@@ -121,7 +122,7 @@ impl Terms {
         term: TermId,
         added: u32,
         cutoff: u32,
-        done: &mut IndexMap<u32, u32>,
+        done: &mut NearMap<u32, u32>,
         levels: u32,
     ) -> Result<TermId, Unmoved>
         requires there { IsTerm self.old term }
@@ -150,7 +151,7 @@ impl Terms {
         column: ColExprId,
         added: u32,
         cutoff: u32,
-        done: &mut IndexMap<u32, u32>,
+        done: &mut NearMap<u32, u32>,
         levels: u32,
     ) -> Result<ColExprId, Unmoved>
         requires there { IsColumn self.old column }
@@ -177,7 +178,7 @@ impl Terms {
         below: ColExprId,
         added: u32,
         cutoff: u32,
-        done: &mut IndexMap<u32, u32>,
+        done: &mut NearMap<u32, u32>,
         levels: u32,
     ) -> Result<ColExprId, Unmoved>
         requires there { IsColumn self.old store }
@@ -211,7 +212,7 @@ impl Terms {
         term: TermId,
         added: u32,
         cutoff: u32,
-        done: &mut IndexMap<u32, u32>,
+        done: &mut NearMap<u32, u32>,
     ) -> Result<(), OutOfMemory>
         requires there { IsTerm self.old term }
         requires done { AreReplaced (shifting added cutoff) (parts self.old) done.old.entries }
@@ -240,7 +241,7 @@ impl Terms {
         part: u32,
         added: u32,
         cutoff: u32,
-        done: &mut IndexMap<u32, u32>,
+        done: &mut NearMap<u32, u32>,
         levels: u32,
     ) -> Result<u32, Unmoved>
         requires there { is_some (slice_get (parts self.old) part) ≡ true }

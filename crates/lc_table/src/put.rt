@@ -5,10 +5,11 @@ ghost use Rattle.lc_table.specs.NodeTables.{Table};
 ghost use Rattle.lc_table.specs.Put.{occurrence_eq, Remembers, Notes};
 ghost use Rattle.lc_term.specs.Replacement.{Replacement};
 
-use indexmap::IndexMap;
+use crate::near::NearMap;
 use lc_base::{ColId, OutOfMemory};
 use lc_term::{ColExpr, Term};
 use std::alloc::Global;
+use std::hash::BuildHasherDefault;
 
 /// What is put in for each column.
 #[derive(Clone, Copy)]
@@ -46,8 +47,8 @@ pub(crate) struct Occurrence {
 /// What of a table is replaced already: it serves one `Put` and one table, which may grow, so that what formulas share is
 /// replaced once. After an error it is to be let go.
 pub struct ReplacedNodes {
-    pub(crate) parts: IndexMap<Occurrence, u32>,
-    pub(crate) formulas: IndexMap<Occurrence, u32>,
+    pub(crate) parts: NearMap<Occurrence, u32>,
+    pub(crate) formulas: NearMap<Occurrence, u32>,
     forgotten: u32,
 }
 
@@ -127,8 +128,8 @@ pub fn nothing_replaced(alloc: Global) -> ReplacedNodes
     ensures { (r : Replacement) (ts : Table) → Remembers r ts result }
 {
     ReplacedNodes {
-        parts: IndexMap::new(alloc),
-        formulas: IndexMap::new(alloc),
+        parts: NearMap::with_hasher(alloc, BuildHasherDefault::new()),
+        formulas: NearMap::with_hasher(alloc, BuildHasherDefault::new()),
         forgotten: 0,
     }
 }

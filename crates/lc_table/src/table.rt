@@ -6,9 +6,8 @@ ghost use Rattle.lc_table.specs.declared.node.FormulaId.{FormulaId};
 ghost use Rattle.lc_table.specs.Tables.{term_in, column_in, formula_in, IsTerm, IsColumn, IsFormula};
 
 use crate::again::Expected;
-use crate::near::NearHasher;
+use crate::near::NearSet;
 use crate::node::{ColExprId, FormulaId, FormulaNode, TermId, TermNode};
-use indexmap::IndexSet;
 use lc_base::OutOfMemory;
 use std::alloc::Global;
 use std::hash::BuildHasherDefault;
@@ -22,8 +21,8 @@ const LEAF_PLACES: usize = 8;
 ///
 /// No call changes the tree of a number. A call that answers an error may leave more entries.
 pub struct Terms {
-    terms: IndexSet<TermNode, BuildHasherDefault<NearHasher>>,
-    formulas: IndexSet<FormulaNode, BuildHasherDefault<NearHasher>>,
+    terms: NearSet<TermNode>,
+    formulas: NearSet<FormulaNode>,
     /// Where the next formula is expected.
     next_formula: Expected,
     /// Where the next store is expected.
@@ -66,8 +65,8 @@ impl Terms {
         ensures formulas { formulas result ≡ [] }
     {
         Terms {
-            terms: IndexSet::with_hasher(alloc, BuildHasherDefault::new()),
-            formulas: IndexSet::with_hasher(alloc, BuildHasherDefault::new()),
+            terms: NearSet::with_hasher(alloc, BuildHasherDefault::new()),
+            formulas: NearSet::with_hasher(alloc, BuildHasherDefault::new()),
             next_formula: Expected::first(),
             next_store: Expected::first(),
             leaves: [0; LEAF_PLACES],
