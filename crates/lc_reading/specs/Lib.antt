@@ -10,4 +10,5 @@ pub mod Listed
 pub mod Entries
 pub mod TableView
 pub mod Naming
+pub mod Near
 pub mod Files

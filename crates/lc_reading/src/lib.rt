@@ -8,6 +8,7 @@ mod flaw;
 mod lists;
 mod names;
 mod names_up_to;
+mod near;
 mod part;
 mod pass;
 mod reserved;

@@ -7,17 +7,18 @@ ghost use Rattle.lc_reading.specs.Entries.{name_at, names_at, are_within};
 ghost use Rattle.lc_reading.specs.Listed.{place_of};
 
 use crate::lists::{next_part, two};
+use crate::near::NameMap;
 use crate::part::Part;
-use indexmap::IndexMap;
 use lc_base::OutOfMemory;
 use lc_sexp::{Cursor, Item};
-use std::alloc::{AllocError, Global};
+use std::alloc::Global;
+use std::hash::BuildHasherDefault;
 
 /// Names in a row, and for each the place at which it stands first. The letters of a name that stands there more than once
 /// are held once, by the number of its entry.
 pub struct NameTable<'a> {
     numbers: Vec<u32>,
-    places: IndexMap<&'a str, u32>,
+    places: NameMap<'a, u32>,
     ghost within: { are_within places.entries numbers.items ≡ true },
     ghost placed: { (w : List ℕ) → lookup (λ name. is w name.now) places.entries ≡ place_of (names_at places.entries numbers.items) w },
 }
@@ -43,7 +44,7 @@ fn short(count: usize) -> Result<u32, OutOfMemory>
 
 /// The number of the entry of a name, which is entered with this place where it has none.
 fn entry_of<'a>(
-    places: &mut IndexMap<&'a str, u32>,
+    places: &mut NameMap<'a, u32>,
     name: &'a str,
     place: u32,
 ) -> Result<u32, OutOfMemory>
@@ -65,7 +66,7 @@ fn entry_of<'a>(
 /// Enters a name behind those of these parts of a table.
 fn enter_in<'a>(
     numbers: &mut Vec<u32>,
-    places: &mut IndexMap<&'a str, u32>,
+    places: &mut NameMap<'a, u32>,
     name: &'a str,
 ) -> Result<(), OutOfMemory>
     requires within { are_within places.old.entries numbers.old.items ≡ true }
@@ -78,19 +79,6 @@ fn enter_in<'a>(
     let number = entry_of(places, name, place)?;
     numbers.push(number)?;
     Ok(())
-}
-
-impl Clone for NameTable<'_> {
-    ghost use Rattle.std.specs.Prelude.{◌≡◌};
-    ghost use Rattle.lc_reading.specs.TableView.{listed};
-
-    ghost is_clone = { λ names copy. listed copy ≡ listed names };
-
-    fn clone(&self) -> Result<Self, AllocError> {
-        let numbers = self.numbers.clone()?;
-        let places = self.places.clone()?;
-        Ok(NameTable { numbers, places })
-    }
 }
 
 impl<'a> NameTable<'a> {
@@ -109,7 +97,7 @@ impl<'a> NameTable<'a> {
     {
         NameTable {
             numbers: Vec::new(alloc),
-            places: IndexMap::new(alloc),
+            places: NameMap::with_hasher(alloc, BuildHasherDefault::new()),
         }
     }
 
