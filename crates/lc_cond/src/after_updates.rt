@@ -26,6 +26,10 @@ fn entered_said(
     ensures id { IfOk result (λ k. HasTerm terms.new k (replace_term (replacing Base (term_at (map term_of variables.now))) (term_of term.now))) }
     ensures kept { Keeps terms.old terms.new }
 {
+    // A number stays, so no term of its own is made.
+    if let Term::Number(number) = term {
+        return terms.number(*number);
+    }
     let before = Before {
         columns: &[],
         variables,

@@ -1,8 +1,12 @@
 -- What waits, one part after the other.
-use Rattle.std.proofs.Common.{◌≡◌, ℕ, List, [], ◌∷◌, ◌++◌, append_assoc, append-nil, sym, ap, subst, ◌∙◌}
+use Rattle.std.proofs.Common.{◌≡◌, ℕ, List, [], ◌∷◌, ◌++◌, append_assoc, append-nil, refl, sym, ap, subst, ◌∙◌}
+use Rattle.lc_table.specs.declared.node.ColExprId.{ColExprId}
 use Rattle.lc_table.specs.NodeTables.{Table}
+use Rattle.lc_table.specs.Tables.{column_in, IsColumn}
+use Rattle.lc_text.specs.Spelled.{spelled_column}
 use Rattle.lc_text.specs.Spelling.{Spelled}
 use Rattle.lc_cond_text.specs.declared.term_text.Waiting.{Waiting}
+use Rattle.lc_cond_text.specs.declared.term_text.Waiting.TheVariants.{Column}
 use Rattle.lc_cond_text.specs.Waiting.{IsWaiting, AreWaiting, part_text, waiting_text, GoesOn}
 
 -- what waits above is written first
@@ -44,6 +48,22 @@ written by d ts out ws text new h e = record {
   waits = h;
   joined = ap (λ l. l ++ waiting_text by d ts ws) e ∙ append_assoc out text (waiting_text by d ts ws);
 }
+
+-- a word was written before
+pub behind_word : (by : Spelled) (d : ℕ) (ts : Table) (out : List ℕ) (ws : List Waiting) (word text mid new : List ℕ) (vs : List Waiting) → mid ≡ out ++ word → GoesOn by d ts mid ws text new vs
+    → GoesOn by d ts out ws (word ++ text) new vs
+behind_word by d ts out ws word text mid new vs e h = record {
+  waits = h.waits;
+  joined = h.joined ∙ ap (λ l. l ++ (text ++ waiting_text by d ts ws)) e ∙ grouped out word text (waiting_text by d ts ws);
+}
+  where
+    grouped : (o w t v : List ℕ) → (o ++ w) ++ (t ++ v) ≡ o ++ ((w ++ t) ++ v)
+    grouped o w t v = simp append_assoc
+
+-- a column expression waits above all, and nothing is written yet
+pub column_begun : (by : Spelled) (d : ℕ) (ts : Table) (out : List ℕ) (ws : List Waiting) (c : ColExprId) → AreWaiting ts ws → IsColumn ts c
+    → GoesOn by d ts out ws (spelled_column by d (column_in ts c)) out (ws ++ Column c ∷ [])
+column_begun by d ts out ws c h is = goes_on by d ts out ws (spelled_column by d (column_in ts c)) out (ws ++ Column c ∷ []) (Column c ∷ []) [] h (is, tt) (sym (append-nil out)) refl refl
 
 -- what waits above all is written
 pub one_more : (by : Spelled) (d : ℕ) (ts : Table) (out : List ℕ) (ws vs us xs : List Waiting) (w : Waiting) (text mid new : List ℕ) → GoesOn by d ts out ws text mid vs → vs ≡ us ++ w ∷ [] →

@@ -1,5 +1,5 @@
 //! The text of a table's formulas, from their nodes.
-ghost use Rattle.std.specs.Prelude.{◌≡◌, ◌++◌, OnOk, codes};
+ghost use Rattle.std.specs.Prelude.{◌≡◌, ◌++◌, ◌<◌, OnOk, codes};
 ghost use Rattle.std.specs.Fmt.{decimal, signed_decimal};
 ghost use Rattle.lc_term.specs.Syntax.{formulas};
 ghost use Rattle.lc_table.specs.Tables.{formula_in, formulas_in, IsFormula, AreFormulas};
@@ -37,10 +37,23 @@ pub(crate) fn push_end(out: &mut Vec<u8>) -> Result<(), OutOfMemory>
     Ok(())
 }
 
+// A number of one digit, as most are, behind what is there.
+#[tactic(auto, using(std::proofs::lemmas::Fmt::decimal_digit))]
+fn push_digit(out: &mut Vec<u8>, digit: u8) -> Result<(), OutOfMemory>
+    requires { digit < 10 }
+    ensures { OnOk result (out.new.items ≡ out.old.items ++ decimal digit) }
+{
+    out.push(b'0' + digit)?;
+    Ok(())
+}
+
 // A number behind what is there.
 pub(crate) fn push_number(out: &mut Vec<u8>, number: u64) -> Result<(), OutOfMemory>
     ensures { OnOk result (out.new.items ≡ out.old.items ++ decimal number) }
 {
+    if number < 10 {
+        return push_digit(out, number as u8);
+    }
     let mut digits = Buffer::new();
     push_text(out, digits.format(number))
 }
@@ -48,6 +61,9 @@ pub(crate) fn push_number(out: &mut Vec<u8>, number: u64) -> Result<(), OutOfMem
 pub(crate) fn push_integer(out: &mut Vec<u8>, number: i64) -> Result<(), OutOfMemory>
     ensures { OnOk result (out.new.items ≡ out.old.items ++ signed_decimal number) }
 {
+    if 0 <= number && number < 10 {
+        return push_digit(out, number as u8);
+    }
     let mut digits = Buffer::new();
     push_text(out, digits.format(number))
 }

@@ -1,7 +1,9 @@
-use Rattle.std.proofs.Common.{◌∷◌, [], sym, subst, OnOk}
+use Rattle.std.proofs.Common.{◌∷◌, [], sym, subst, codes, OnOk}
+use Rattle.std.proofs.lemmas.Result.{on_ok_weaker}
 use Rattle.lc_outline.specs.DevelopmentView.{development_shown}
 use Rattle.lc_cond_text.specs.ConditionText.{spelled}
-use Rattle.lc_cond_text.specs.Waiting.{waiting_text, GoesOn}
+use Rattle.lc_cond_text.specs.Waiting.{part_text, waiting_text, GoesOn}
+use Rattle.lc_cond_text.proofs.Waiting.{behind_word}
 use Rattle.lc_cond_text.proofs.term_text.go_on.Goals as goal
 
 pub returns-in-Column : goal.returns-in-Column
@@ -11,3 +13,15 @@ returns-in-Column c =
     let d = c.args.depth in
     subst (λ w. OnOk c.begin_column.result (GoesOn by d ts c.args.out.now.items c.args.waiting.now.items (waiting_text by d ts (w ∷ [])) c.begin_column.new.out.items c.begin_column.new.waiting.items)) (sym c.in-Column.is)
     (c.begin_column.ensures d)
+
+pub returns-in_ok-push_space-in-Spaced : goal.returns-in_ok-push_space-in-Spaced
+returns-in_ok-push_space-in-Spaced c =
+    let ts = c.args.terms.now in
+    let by = spelled (development_shown c.args.development.now) in
+    let d = c.args.depth in
+    let out = c.args.out.now.items in
+    let ws = c.args.waiting.now.items in
+    let new = c.begin_term-in-Spaced.new.out.items in
+    let vs = c.begin_term-in-Spaced.new.waiting.items in
+    subst (λ w. OnOk c.begin_term-in-Spaced.result (GoesOn by d ts out ws (part_text by d ts w) new vs)) (sym c.in-Spaced.is)
+    (on_ok_weaker c.begin_term-in-Spaced.result (λ h. behind_word by d ts out ws (codes " ") _ _ new vs c.in_ok-push_space-in-Spaced.ensures h) (c.begin_term-in-Spaced.ensures (development_shown c.args.development.now)))

@@ -7,17 +7,21 @@ use Rattle.lc_cond_text.specs.Waiting.{AreWaiting, GoesOn}
 use Rattle.lc_cond_text.proofs.Waiting.{last_waits, one_more, all_written}
 use Rattle.lc_cond_text.proofs.term_text.push_term.Goals as goal
 
-pub begin_term-requires-clause-waiting : goal.begin_term-requires-clause-waiting
-begin_term-requires-clause-waiting c =
+pub begin_parts-requires-clause-waiting : goal.begin_parts-requires-clause-waiting
+begin_parts-requires-clause-waiting c =
     let none : c.new-waiting.result.items ≡ [] = search rules in
     subst (AreWaiting c.args.terms.now) (sym none) tt
 
 pub loop-init : goal.loop-init
 loop-init c =
+    let ts = c.args.terms.now in
     let by = spelled (development_shown c.args.development.now) in
+    let d = c.args.depth in
     let none : c.new-waiting.result.items ≡ [] = search rules in
-    subst (λ ws. GoesOn by c.args.depth c.args.terms.now c.args.out.now.items ws (spelled_term by c.args.depth (term_in c.args.terms.now c.args.term)) c.begin_term.new.out.items c.begin_term.new.waiting.items)
-    none c.in_ok-begin_term.ensures
+    let nothing : c.push_simple.new.out.items ≡ c.args.out.now.items = search rules in
+    let text = spelled_term by d (term_in ts c.args.term) in
+    subst (λ out. GoesOn by d ts out [] text c.begin_parts.new.out.items c.begin_parts.new.waiting.items) nothing
+    (subst (λ ws. GoesOn by d ts c.push_simple.new.out.items ws text c.begin_parts.new.out.items c.begin_parts.new.waiting.items) none (c.in_ok-begin_parts.ensures by d))
 
 pub returns-in_default : goal.returns-in_default
 returns-in_default c =
