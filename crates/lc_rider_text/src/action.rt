@@ -57,6 +57,7 @@ fn read_effect<S: Scope>(
     ensures { IsReading effect_seen (effect_reading (known_seen known.entry) (S.names scope.now) (place_of guard.entry) (tree_of guard.entry) (number_of updates.entry) (rest_of updates.entry)) result }
 {
     let guard = read_formula(alloc, scope, guard);
+    let known = known.expecting(updates);
     both(guard, read_each(alloc, &Updates { known, scope }, updates))
 }
 

@@ -11,5 +11,7 @@ pub struct Columns<'a, 'b> {
     pub(crate) names: &'b NameTable<'a>,
     /// The place of the first column that is auxiliary.
     pub(crate) auxiliaries: u32,
+    /// The place of the column that is asked for next, as far as that is guessed.
+    pub(crate) likely: usize,
     ghost few: { length (listed names.now) + 12 ≤ 2 ^ 32 },
 }

@@ -1,7 +1,8 @@
 //! What the reader of riders knows of the rest of the file.
 use crate::columns::Columns;
+use lc_object_text::{first_text, within_first};
 use lc_reading::{NameTable, Part};
-use lc_sexp::Item;
+use lc_sexp::{Cursor, Item};
 
 /// How an operation goes, by its text: so many branches; or so many choices.
 pub struct Ways<'a> {
@@ -53,6 +54,15 @@ impl<'a, 'b> Known<'a, 'b> {
     ghost use Rattle.lc_reading.specs.Parts.{tree_of};
     ghost use Rattle.lc_rider_text.specs.KnownView.{known_seen, ways_there};
     ghost use Rattle.lc_rider_text.specs.Riders.{ways_named};
+
+    /// The same, where the column of the first of these updates is asked for next, as in most lists all are of one column.
+    pub(crate) fn expecting(self, updates: Cursor<'_>) -> Known<'a, 'b>
+        ensures { known_seen result ≡ known_seen self.entry }
+    {
+        let mut known = self;
+        known.columns = self.columns.expecting(first_text(&within_first(updates)));
+        known
+    }
 
     /// How the operation goes that an item names, if it names one.
     pub(crate) fn ways_named(self, part: Part<'_>) -> Option<&'b Ways<'a>>

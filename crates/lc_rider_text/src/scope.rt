@@ -52,7 +52,21 @@ impl<'a, 'b> Columns<'a, 'b> {
         if names.len() > (u32::MAX - SYSTEM_COUNT) as usize {
             return Err(OutOfMemory);
         }
-        Ok(Columns { names, auxiliaries })
+        Ok(Columns {
+            names,
+            auxiliaries,
+            likely: 0,
+        })
+    }
+
+    /// The same, where this name is asked for next.
+    pub(crate) fn expecting(self, name: &str) -> Columns<'a, 'b>
+        ensures names { columns_listed result ≡ columns_listed self.entry }
+        ensures auxiliaries { result.auxiliaries ≡ self.entry.auxiliaries }
+    {
+        let mut columns = self;
+        columns.likely = self.names.place(name).unwrap_or(0);
+        columns
     }
 
     /// The place of a column, declared or of the system.
@@ -60,7 +74,7 @@ impl<'a, 'b> Columns<'a, 'b> {
     pub(crate) fn place(&self, name: &str) -> Option<u32>
         ensures { result ≡ column_place (columns_listed self.now) name.now }
     {
-        match self.names.place(name) {
+        match self.names.place_from(self.likely, name) {
             Some(place) => Some(place as u32),
             None => match system_place(name) {
                 Some(place) => Some(self.names.len() as u32 + place),
