@@ -25,3 +25,19 @@ returns-in_ok-push_space-in-Spaced c =
     let vs = c.begin_term-in-Spaced.new.waiting.items in
     subst (λ w. OnOk c.begin_term-in-Spaced.result (GoesOn by d ts out ws (part_text by d ts w) new vs)) (sym c.in-Spaced.is)
     (on_ok_weaker c.begin_term-in-Spaced.result (λ h. behind_word by d ts out ws (codes " ") _ _ new vs c.in_ok-push_space-in-Spaced.ensures h) (c.begin_term-in-Spaced.ensures (development_shown c.args.development.now)))
+
+pub returns-in-Term : goal.returns-in-Term
+returns-in-Term c =
+    let ts = c.args.terms.now in
+    let by = spelled (development_shown c.args.development.now) in
+    let d = c.args.depth in
+    subst (λ w. OnOk c.begin_term.result (GoesOn by d ts c.args.out.now.items c.args.waiting.now.items (waiting_text by d ts (w ∷ [])) c.begin_term.new.out.items c.begin_term.new.waiting.items)) (sym c.in-Term.is)
+    (c.begin_term.ensures (development_shown c.args.development.now))
+
+pub returns-in-Stored : goal.returns-in-Stored
+returns-in-Stored c =
+    let ts = c.args.terms.now in
+    let by = spelled (development_shown c.args.development.now) in
+    let d = c.args.depth in
+    subst (λ w. OnOk c.begin_stored.result (GoesOn by d ts c.args.out.now.items c.args.waiting.now.items (waiting_text by d ts (w ∷ [])) c.begin_stored.new.out.items c.begin_stored.new.waiting.items)) (sym c.in-Stored.is)
+    (c.begin_stored.ensures (development_shown c.args.development.now))

@@ -1,4 +1,4 @@
-use Rattle.std.proofs.Common.{rules, ◌≡◌, [], sym, subst}
+use Rattle.std.proofs.Common.{rules, ◌≡◌, true, [], sym, subst}
 use Rattle.lc_table.specs.Tables.{term_in}
 use Rattle.lc_text.specs.Spelled.{spelled_term}
 use Rattle.lc_outline.specs.DevelopmentView.{development_shown}
@@ -38,3 +38,8 @@ pub loop-preserved : goal.loop-preserved
 loop-preserved c =
     one_more (spelled (development_shown c.args.development.now)) c.args.depth c.args.terms.now c.args.out.now.items [] c.loop.waiting.items c.pop.new.self.items c.go_on.new.waiting.items c.in-Some.next _
     c.loop.out.items c.go_on.new.out.items c.loop.invariant c.in-Some.ensures.items c.in_ok-go_on.ensures
+
+pub returns-then-branch : goal.returns-then-branch
+returns-then-branch c =
+    let simple : c.in_ok-push_simple.field-0 ≡ true = search rules in
+    c.in_ok-push_simple.ensures.written (development_shown c.args.development.now) simple
