@@ -1,5 +1,5 @@
 //! The columns in which something is stored, told from a text.
-ghost use Rattle.std.specs.Prelude.{◌≡◌, ◌++◌, [], option_map, take, length, IfOk};
+ghost use Rattle.std.specs.Prelude.{◌≡◌, ◌++◌, ℕ, List, [], option_map, take, length, IfOk};
 ghost use Rattle.lc_sexp.specs.Shown.{rest_of};
 ghost use Rattle.lc_action.specs.ActionView.{first_of};
 ghost use Rattle.lc_object.specs.View.{columns_of};
@@ -41,15 +41,28 @@ pub(crate) fn system_behind(columns: &NameTable<'_>) -> Result<SystemColumns, Ou
     }
 }
 
-/// These columns, with the one of a name behind them, if there is one.
-pub(crate) fn push_column(
+/// The column of a name, if there is one, where that of the name before is this one. Most names are the one before.
+fn column_behind(
     columns: &NameTable<'_>,
+    before: &str,
+    column: Option<ColId>,
     name: &str,
-    mut stored: Vec<ColId>,
-) -> Result<Vec<ColId>, OutOfMemory>
-    ensures { IfOk result (λ all. columns_of all.items ≡ columns_of stored.items ++ column_named (listed columns.now) name.now) }
+) -> Result<Option<ColId>, OutOfMemory>
+    requires { option_map (λ c. c.0) column ≡ column_place (listed columns.now) before.now }
+    ensures { IfOk result (λ column. option_map (λ c. c.0) column ≡ column_place (listed columns.now) name.now) }
 {
-    if let Some(column) = column_of(columns, name)? {
+    if name == before {
+        return Ok(column);
+    }
+    column_of(columns, name)
+}
+
+/// These columns, with this one behind them, if there is one.
+fn push_found(column: Option<ColId>, mut stored: Vec<ColId>) -> Result<Vec<ColId>, OutOfMemory>
+    ensures { (columns : List (List ℕ)) (name : List ℕ) → option_map (λ c. c.0) column ≡ column_place columns name →
+        IfOk result (λ all. columns_of all.items ≡ columns_of stored.items ++ column_named columns name) }
+{
+    if let Some(column) = column {
         stored.push(column)?;
     }
     Ok(stored)
@@ -65,11 +78,16 @@ pub(crate) fn push_stored(
 {
     let mut all = stored;
     let mut rest = list;
+    let mut name = "";
+    let mut column = column_of(columns, name)?;
     'updates: loop {
         let Ok(update) = next_part(&mut rest) else {
             return Ok(all);
         };
-        all = push_column(columns, code_word(update), all)?;
+        let next = code_word(update);
+        column = column_behind(columns, name, column, next)?;
+        name = next;
+        all = push_found(column, all)?;
     }
 }
 
