@@ -248,7 +248,47 @@ fn go_on(
     }
 }
 
-// A term. No list of what waits is made where it has no parts.
+// Whether a term has no parts.
+fn is_simple(terms: &Terms, term: TermId) -> bool
+    requires { IsTerm terms.now term }
+    ensures { result ≡ is_simple (term_in terms.now term) }
+{
+    matches!(
+        terms.term_node(term),
+        TermNode::Number(_) | TermNode::Variable(_) | TermNode::Bound(_)
+    )
+}
+
+// Writes a term that is what a column has at an index without parts, as most reads are; whether it is.
+fn push_read(
+    out: &mut Vec<u8>,
+    terms: &Terms,
+    development: &Development,
+    depth: u64,
+    term: TermId,
+) -> Result<bool, OutOfMemory>
+    requires { IsTerm terms.now term }
+    ensures written { IfOk result (λ read. read ≡ true → out.new.items ≡ out.old.items ++ spelled_term (spelled (development_shown development.now)) depth (term_in terms.now term)) }
+    ensures nothing { IfOk result (λ read. read ≡ false → out.new.items ≡ out.old.items) }
+{
+    let TermNode::Read(column, index) = terms.term_node(term) else {
+        return Ok(false);
+    };
+    let TermNode::Base(base) = terms.column_node(column) else {
+        return Ok(false);
+    };
+    if !is_simple(terms, index) {
+        return Ok(false);
+    }
+    push_text(out, "(rd ")?;
+    push_text(out, column_name(development, base))?;
+    push_space(out)?;
+    push_simple(out, terms, depth, index)?;
+    push_end(out)?;
+    Ok(true)
+}
+
+// A term. No list of what waits is made where it has no parts, or is read of a column.
 fn push_term(
     out: &mut Vec<u8>,
     terms: &Terms,
@@ -260,6 +300,9 @@ fn push_term(
     ensures { OnOk result (out.new.items ≡ out.old.items ++ spelled_term (spelled (development_shown development.now)) depth (term_in terms.now term)) }
 {
     if push_simple(out, terms, depth, term)? {
+        return Ok(());
+    }
+    if push_read(out, terms, development, depth, term)? {
         return Ok(());
     }
     let mut waiting = Vec::new(*out.allocator());

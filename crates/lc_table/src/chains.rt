@@ -76,10 +76,11 @@ impl KnownParts for ReplacedBelow<'_> {
     ghost Becomes = { λ below part number. lookup (occurrence_eq (record { number = part; depth = below.depth })) below.done.now.parts.entries ≡ Some number };
 
     fn known(&self, part: u32) -> Option<u32> {
-        self.done.part(Occurrence {
+        let occurrence = Occurrence {
             number: part,
             depth: self.depth,
-        })
+        };
+        self.done.part(occurrence, false)
     }
 }
 

@@ -67,11 +67,11 @@ impl Drop for ReplacedNodes {
 }
 
 impl ReplacedNodes {
-    // What a part is replaced by, if that is remembered.
-    pub(crate) fn part(&self, occurrence: Occurrence) -> Option<u32>
+    // What a part is replaced by, if that is remembered. A small one is not: it is replaced as soon as it would be looked up.
+    pub(crate) fn part(&self, occurrence: Occurrence, is_small: bool) -> Option<u32>
         ensures { IfSome result (λ number. lookup (occurrence_eq occurrence) self.now.parts.entries ≡ Some number) }
     {
-        if self.parts.is_empty() {
+        if is_small || self.parts.is_empty() {
             return None;
         }
         self.parts.get(&occurrence).copied()
@@ -88,15 +88,19 @@ impl ReplacedNodes {
         self.formulas.get(&occurrence).copied()
     }
 
-    // Remembers what a part is replaced by, unless it is among the first.
+    // Remembers what a part is replaced by, unless it is small or among the first.
     pub(crate) fn note_part(
         &mut self,
         occurrence: Occurrence,
         number: u32,
+        is_small: bool,
     ) -> Result<(), OutOfMemory>
         ensures parts { OnOk result (Notes occurrence number self.old.parts.entries self.new.parts.entries) }
         ensures formulas { self.new.formulas ≡ self.old.formulas }
     {
+        if is_small {
+            return Ok(());
+        }
         if self.forgotten < FORGOTTEN {
             self.forgotten += 1;
         } else {

@@ -248,6 +248,33 @@ impl Terms {
         }
     }
 
+    // Whether a term has parts, and these have none.
+    fn is_small(&self, node: TermNode) -> bool {
+        match node {
+            TermNode::Add(left, right) | TermNode::Subtract(left, right) => {
+                self.is_leaf(left.0) && self.is_leaf(right.0)
+            }
+            TermNode::Multiply(_, term) => self.is_leaf(term.0),
+            TermNode::Read(column, index) => self.is_leaf(column.0) && self.is_leaf(index.0),
+            _ => false,
+        }
+    }
+
+    // Whether a term or a column expression has no parts.
+    fn is_leaf(&self, part: u32) -> bool {
+        match self.part_at(part) {
+            Some(node) => matches!(
+                node,
+                TermNode::Number(_)
+                    | TermNode::Variable(_)
+                    | TermNode::Bound(_)
+                    | TermNode::Base(_)
+                    | TermNode::Affine(_, _)
+            ),
+            None => false,
+        }
+    }
+
     #[cycle(replaced_part)]
     #[tactic(auto, using(crate::proofs::NodeReplacement::term_at, crate::proofs::Copied::term_stands))]
     pub(crate) fn replaced_term<R: Filled>(
@@ -266,14 +293,16 @@ impl Terms {
         ensures done { OnOk result (Stands R.replacement self.new put.now done.new) }
     {
         // A number stays, whatever is put in.
-        if let TermNode::Number(_) = self.part_node(term.0) {
+        let node = self.part_node(term.0);
+        if let TermNode::Number(_) = node {
             return Ok(term);
         }
+        let is_small = self.is_small(node);
         let occurrence = Occurrence {
             number: term.0,
             depth,
         };
-        if let Some(number) = done.part(occurrence) {
+        if let Some(number) = done.part(occurrence, is_small) {
             return Ok(TermId(number));
         }
         let Some(levels) = levels.checked_sub(1) else {
@@ -281,7 +310,7 @@ impl Terms {
             return self.replaced_term::<R>(alloc, put, done, term, depth, LEVELS);
         };
         let number = self.replaced_part::<R>(alloc, put, done, term.0, depth, levels)?;
-        done.note_part(occurrence, number)?;
+        done.note_part(occurrence, number, is_small)?;
         Ok(TermId(number))
     }
 
@@ -355,7 +384,7 @@ impl Terms {
             number: base.0,
             depth,
         };
-        done.note_part(occurrence, number.0)?;
+        done.note_part(occurrence, number.0, false)?;
         Ok(number)
     }
 
@@ -413,7 +442,7 @@ impl Terms {
                     number: store.0,
                     depth,
                 };
-                done.note_part(occurrence, number)?;
+                done.note_part(occurrence, number, false)?;
                 Ok(ColExprId(number))
             }
             _ => unreachable!(),

@@ -1,4 +1,4 @@
-use Rattle.std.proofs.Common.{rules, ◌≡◌, true, [], sym, subst}
+use Rattle.std.proofs.Common.{rules, ◌≡◌, ◌++◌, ◌∙◌, ap, true, [], sym, subst}
 use Rattle.lc_table.specs.Tables.{term_in}
 use Rattle.lc_text.specs.Spelled.{spelled_term}
 use Rattle.lc_outline.specs.DevelopmentView.{development_shown}
@@ -18,10 +18,10 @@ loop-init c =
     let by = spelled (development_shown c.args.development.now) in
     let d = c.args.depth in
     let none : c.new-waiting.result.items ≡ [] = search rules in
-    let nothing : c.push_simple.new.out.items ≡ c.args.out.now.items = search rules in
+    let nothing : c.push_read.new.out.items ≡ c.args.out.now.items = search rules in
     let text = spelled_term by d (term_in ts c.args.term) in
     subst (λ out. GoesOn by d ts out [] text c.begin_parts.new.out.items c.begin_parts.new.waiting.items) nothing
-    (subst (λ ws. GoesOn by d ts c.push_simple.new.out.items ws text c.begin_parts.new.out.items c.begin_parts.new.waiting.items) none (c.in_ok-begin_parts.ensures by d))
+    (subst (λ ws. GoesOn by d ts c.push_read.new.out.items ws text c.begin_parts.new.out.items c.begin_parts.new.waiting.items) none (c.in_ok-begin_parts.ensures by d))
 
 pub returns-in_default : goal.returns-in_default
 returns-in_default c =
@@ -43,3 +43,10 @@ pub returns-then-branch : goal.returns-then-branch
 returns-then-branch c =
     let simple : c.in_ok-push_simple.field-0 ≡ true = search rules in
     c.in_ok-push_simple.ensures.written (development_shown c.args.development.now) simple
+
+pub returns-then-branch-2 : goal.returns-then-branch-2
+returns-then-branch-2 c =
+    let by = spelled (development_shown c.args.development.now) in
+    let read : c.in_ok-push_read.field-0 ≡ true = search rules in
+    let nothing : c.push_simple.new.out.items ≡ c.args.out.now.items = search rules in
+    c.in_ok-push_read.ensures.written read ∙ ap (λ l. l ++ spelled_term by c.args.depth (term_in c.args.terms.now c.args.term)) nothing
