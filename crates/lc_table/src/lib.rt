@@ -4,6 +4,7 @@
 mod again;
 mod building;
 mod chains;
+mod comparing;
 mod copying;
 mod deep;
 mod entering;
