@@ -1,4 +1,4 @@
-//! The texts of the combining, as they stand in `examples/library`: change those, and then run `bench/library`.
+//! The texts of the combining, as they stand in `examples/library`: change those, and then run `tools/library`.
 
 /// `examples/library/combining.lc`
 pub(crate) const DEVELOPMENT: &[u8] =

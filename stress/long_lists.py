@@ -1,4 +1,4 @@
-"""The files that bench/abuse gives to the program: each is large along one list of a grammar, or nested as deep as a file
+"""The files that stress/abuse gives to the program: each is large along one list of a grammar, or nested as deep as a file
 may be.
 
 Each entry of ABUSES answers commands, as words in which DEV, CERT, FILE and HISTORY stand for the files, and the bytes of
