@@ -1,0 +1,5 @@
+//! What the calls of derivations and proofs promise: each promise again, over the call that keeps it. The planted bugs of these
+//! calls are here: bodies that answer wrongly where the call answers right.
+#![tactic(auto)]
+
+pub mod derivations;
