@@ -38,6 +38,8 @@ class Condition:
             return f"(+ (* {number(column[1])} {index}) {number(column[2])})"
         _, base, stored, value = column
         there = self.term(stored, bound)
+        if there == index:
+            return self.term(value, bound)
         return f"(ite (= {index} {there}) {self.term(value, bound)} {self.cell(base, index, bound)})"
 
     def term(self, it, bound):
