@@ -3,6 +3,8 @@
 #![tactic(auto)]
 
 pub mod actions;
+pub mod developments;
 pub mod machines;
 pub mod objects;
 pub mod riders;
+pub mod rides;
