@@ -1,0 +1,10 @@
+pub mod Places
+pub mod Crux
+pub mod Rosters
+pub mod Entering
+pub mod Trying
+pub mod Behind
+pub mod Reading
+pub mod First
+pub mod Fronts
+pub mod Refuted

@@ -1,0 +1,10 @@
+pub mod Completion
+pub mod Decided
+pub mod Expanded
+pub mod Layers
+pub mod Listed
+pub mod Nodes
+pub mod Reading
+pub mod Refuted
+pub mod Rosters
+pub mod Steps

@@ -1,0 +1,16 @@
+//! Orders that linearize histories: an order is searched, or it is shown that there is none.
+#![tactic(auto)]
+
+mod asking;
+mod deciding;
+mod expanding;
+mod finding;
+pub mod laws;
+mod nodes;
+mod refuting;
+mod roster;
+mod searchable;
+
+pub use deciding::{Decision, decide};
+pub use refuting::{Refutation, refute};
+pub use searchable::{Listed, Searchable, Stepped};
