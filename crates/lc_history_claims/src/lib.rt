@@ -3,4 +3,5 @@
 #![tactic(auto)]
 
 pub mod histories;
+pub mod native;
 pub mod specifications;

@@ -1,5 +1,5 @@
 //! Specifications and the code of objects.
-ghost use Rattle.std.specs.Prelude.{◌≡◌};
+ghost use Rattle.std.specs.Prelude.{◌≡◌, ◌++◌};
 ghost use Rattle.lc_object.specs.View.{instruction_of, names_of};
 ghost use Rattle.lc_object_text.specs.Answers.{IsAnswerOf};
 ghost use Rattle.lc_object_text.specs.Counts.{count_reading};
@@ -8,6 +8,7 @@ ghost use Rattle.lc_object_text.specs.Instructions.{instruction_reading};
 ghost use Rattle.lc_object_text.specs.Sections.{sections_at};
 ghost use Rattle.lc_object_text.specs.Seen.{items_of, sections_seen};
 ghost use Rattle.lc_reading.specs.Files.{IsAnswerTo};
+ghost use Rattle.lc_reading.specs.Listed.{names_among, place_of as listed_place};
 ghost use Rattle.lc_reading.specs.Parts.{tree_of, place_of};
 ghost use Rattle.lc_reading.specs.Results.{IsReading};
 ghost use Rattle.lc_reading.specs.TableView.{listed};
@@ -19,7 +20,8 @@ ghost use Rattle.lc_spec_text.specs.Specifications.{first_reading, specification
 use lc_base::{Fault, Name};
 use lc_object::{Instr, Object};
 use lc_object_text::{
-    CodeScope, Names, Sections, find_sections, object_of, read_count, read_instruction, read_names,
+    Body, CodeScope, Names, Sections, find_sections, object_of, read_count, read_instruction,
+    read_names,
 };
 use lc_reading::{NameTable, Part, ReadFault};
 use lc_seq::TextSpec;
@@ -87,4 +89,11 @@ pub fn finding_sections<'a>(forms: Cursor<'a>) -> Sections<'a>
     ensures { sections_seen result ≡ sections_at (items_of forms.entry) }
 {
     find_sections(forms)
+}
+
+/// A variable of a body is one of its arguments or, behind these, of its locals.
+pub fn finding_a_variable(body: &Body<'_>, name: &str) -> Option<usize>
+    ensures { result ≡ listed_place (names_among (rest_of body.now.arguments) ++ listed body.now.locals) name.now }
+{
+    body.variable(name)
 }
