@@ -21,7 +21,7 @@ ghost use Rattle.lc_sound.specs.Order.{order};
 ghost use Rattle.lc_steps.specs.StepView.{GoesOn};
 
 use lc_base::OpId;
-use lc_run::{Called, Progress, RunFault, RunLog, Runner, Seat, Shared, Unfinished, Why};
+use lc_run::{Called, Progress, RunFault, RunLog, Runner, Seat, Shared, Unfinished};
 use std::sync::Wait;
 use std::sync::ledger::Ledger;
 
