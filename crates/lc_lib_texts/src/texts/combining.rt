@@ -1,4 +1,4 @@
-//! The texts of the combining, as they stand in `examples/library`: change those, and then run `tools/library`.
+//! The texts of the combining, as they stand in `examples/library`: change those, and then run `bench/library`.
 
 /// `examples/library/combining.lc`
 pub(crate) const DEVELOPMENT: &[u8] =

@@ -1,4 +1,4 @@
-//! The texts of the pool-stack, as they stand in `examples/library`: change those, and then run `tools/library`.
+//! The texts of the pool-stack, as they stand in `examples/library`: change those, and then run `bench/library`.
 
 /// `examples/library/pool-stack.lc`
 pub(crate) const DEVELOPMENT: &[u8] =

@@ -1,4 +1,4 @@
-//! The texts of the queue, as they stand in `examples/library`: change those, and then run `tools/library`.
+//! The texts of the queue, as they stand in `examples/library`: change those, and then run `bench/library`.
 
 /// `examples/library/queue.lc`
 pub(crate) const DEVELOPMENT: &[u8] =

@@ -1,4 +1,4 @@
-//! The texts of the snapshot, as they stand in `examples/library`: change those, and then run `tools/library`.
+//! The texts of the snapshot, as they stand in `examples/library`: change those, and then run `bench/library`.
 
 /// `examples/library/snapshot.lc`
 pub(crate) const DEVELOPMENT: &[u8] =
