@@ -2,14 +2,23 @@
 #![tactic(auto)]
 
 mod around;
+mod brackets;
+mod declared;
 mod explaining;
 mod forms;
 mod json;
 mod kind;
 mod label;
 mod limits;
+mod lists;
 mod locating;
+mod nearness;
+mod operators;
+mod order;
+mod parts;
 mod place;
+mod pointed;
+mod reporting;
 mod sentence;
 mod spot;
 mod steps;
@@ -20,4 +29,6 @@ pub use json::{element_count, element_place};
 pub use kind::{FileKind, looks_like};
 pub use label::Label;
 pub use locating::located;
-pub use steps::{proof_place, step_place};
+pub use parts::{Part, part_place};
+pub use reporting::report;
+pub use steps::{entry_place, proof_place, step_place};

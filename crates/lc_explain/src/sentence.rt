@@ -1,5 +1,6 @@
 //! The sentences.
 use crate::kind::FileKind;
+use crate::order::Disorder;
 use crate::spot::legend_of;
 use std::fmt;
 
@@ -62,7 +63,35 @@ impl Spot<'_> {
     fn legend(&self) -> &'static str {
         match self {
             Spot::Due { part, .. } => legend_of(part),
+            Spot::Behind("(+ T T)") => "; a sum of three is written (+ (+ a b) c)",
             _ => "",
+        }
+    }
+}
+
+/// What may be meant by a name that is not declared.
+#[derive(Clone, Copy)]
+pub(crate) enum Meant<'a> {
+    /// Nothing that is known.
+    Unknown,
+    /// This name, which is near.
+    Near(&'a str),
+    /// The column of this name.
+    Column(&'a str),
+    /// This name, which is no column's.
+    NoColumn(&'a str),
+    /// An auxiliary column of this name, in a file that declares none.
+    Auxiliary(&'a str),
+}
+
+impl fmt::Display for Meant<'_> {
+    fn fmt<W: fmt::Write>(&self, f: &mut fmt::Formatter<W>) -> fmt::Result {
+        match self {
+            Meant::Unknown => Ok(()),
+            Meant::Near(name) => write!(f, "; did you mean {name}?"),
+            Meant::Column(name) => write!(f, "; {name} is a column: write (rd {name} T)"),
+            Meant::NoColumn(name) => write!(f, "; {name} is no column, and is written alone"),
+            Meant::Auxiliary(name) => write!(f, "; is a list (aux ({name} 0 0)) missing?"),
         }
     }
 }
@@ -106,6 +135,7 @@ pub(crate) enum Sentence<'a> {
     Undeclared {
         noun: &'static str,
         name: &'a str,
+        meant: Meant<'a>,
     },
     /// In a proof a name is not declared.
     UndeclaredInProof(&'a str),
@@ -132,6 +162,31 @@ pub(crate) enum Sentence<'a> {
     OtherObject(&'a str),
     /// A proof is of no condition that may come next.
     NoNextCondition(&'a str),
+    /// A character stands outside of comments, in an operator of another language, which is written so.
+    Sign {
+        sign: &'static str,
+        written: &'static str,
+    },
+    /// A comment of another language.
+    OtherComment,
+    /// A list begins with a word of another language, and is written so.
+    Operator {
+        word: &'a str,
+        written: &'static str,
+    },
+    /// A form of an object does not stand where it may.
+    OutOfOrder {
+        word: &'a str,
+        disorder: Disorder<'a>,
+    },
+    /// An action has another number of arguments.
+    Arguments {
+        action: &'a str,
+        due: usize,
+        given: usize,
+    },
+    /// An edge of this name stores, and has no `on`.
+    NeedsOn(&'static str),
 }
 
 impl fmt::Display for Sentence<'_> {
@@ -168,7 +223,9 @@ impl fmt::Display for Sentence<'_> {
                 f,
                 "this list is written {own}, and does not fit here, {spot}"
             ),
-            Sentence::Undeclared { noun, name } => write!(f, "{noun}{name} is not declared"),
+            Sentence::Undeclared { noun, name, meant } => {
+                write!(f, "{noun}{name} is not declared{meant}")
+            }
             Sentence::UndeclaredInProof(name) => write!(
                 f,
                 "the name {name} is not declared: proofs and hints write the variables ?0, ?1, .."
@@ -192,6 +249,27 @@ impl fmt::Display for Sentence<'_> {
             Sentence::NoNextCondition(number) => write!(
                 f,
                 "`{number}` is no number of a condition, or not above the one before"
+            ),
+            Sentence::Sign { sign, written } => {
+                write!(f, "there is no `{sign}`: write {written}")
+            }
+            Sentence::OtherComment => f.write_str("a comment begins with `;`"),
+            Sentence::Operator { word, written } => {
+                write!(f, "there is no `{word}`: write {written}")
+            }
+            Sentence::OutOfOrder { word, disorder } => {
+                write!(f, "({word} ..) does not fit here: {disorder}")
+            }
+            Sentence::Arguments { action, due, given } => {
+                let plural = if *due == 1 { "" } else { "s" };
+                write!(
+                    f,
+                    "the action {action} takes {due} argument{plural}, and {given} are given"
+                )
+            }
+            Sentence::NeedsOn(edge) => write!(
+                f,
+                "the edge `{edge}` stores, so it needs an `on`: (on {edge} (ACTION T ..) RIDER ..)"
             ),
         }
     }

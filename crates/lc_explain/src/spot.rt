@@ -115,6 +115,7 @@ pub(crate) fn note_of(word: &str, part: &str) -> &'static str {
         ("op", "(branch ..)") => ", or of (choice ..) for all of them,",
         ("set", "COLUMN") => ", which is auxiliary,",
         ("when", "RIDER") => ", which is no `when`,",
+        ("*", "NUMBER") => ", the number that a product has as its first part,",
         (_, "(NAME a b)") => ", a name and two numbers,",
         (_, "h") => ", the number of a hypothesis,",
         (_, "(h NUMBER)") => ", the number of a hypothesis and a factor,",

@@ -1,22 +1,8 @@
 //! Where proofs stand in a file, and their steps.
 use crate::around::{list_around, word_at};
 use crate::forms::{has_columns, is_step};
-use lc_place::{Place, byte_place, item_place};
-
-/// Whether a byte stands in a comment, where the one before it does or not.
-fn is_in_comment(byte: u8, before: bool) -> bool {
-    byte != b'\n' && (before || byte == b';')
-}
-
-/// The place of the item that begins at an offset.
-fn place_from(bytes: &[u8], offset: usize) -> Option<Place> {
-    let item = item_place(bytes.get(offset..)?, 0)?;
-    let place = byte_place(bytes, offset as u64)?;
-    Some(Place {
-        length: item.length,
-        ..place
-    })
-}
+use crate::lists::{is_in_comment, place_from};
+use lc_place::{Place, item_place};
 
 /// The word of the list with which these bytes begin.
 fn first_word_of(list: &[u8]) -> Option<&str> {
@@ -77,8 +63,15 @@ fn proof_in(list: &[u8], condition: Option<u64>) -> Option<usize> {
     Some(item_place(list, 3)?.offset)
 }
 
-/// The place of the proof of a condition in a certificate, or of the only proof of a formula file.
-pub fn proof_place(bytes: &[u8], condition: Option<u64>) -> Option<Place> {
+/// Where a list begins that has a proof in it, and where the proof does.
+#[derive(Clone, Copy)]
+struct Entry {
+    list: usize,
+    proof: usize,
+}
+
+/// The entry of a condition in a certificate, or the only one of a formula file.
+fn entry_of(bytes: &[u8], condition: Option<u64>) -> Option<Entry> {
     let mut depth = 0usize;
     let mut in_comment = false;
     for (at, byte) in bytes.iter().enumerate() {
@@ -94,10 +87,23 @@ pub fn proof_place(bytes: &[u8], condition: Option<u64>) -> Option<Place> {
         }
         if depth == 1 {
             if let Some(offset) = proof_in(&bytes[at..], condition) {
-                return place_from(bytes, at.checked_add(offset)?);
+                return Some(Entry {
+                    list: at,
+                    proof: at.checked_add(offset)?,
+                });
             }
         }
         depth = depth.saturating_add(1);
     }
     None
+}
+
+/// The place of the proof of a condition in a certificate, or of the only proof of a formula file.
+pub fn proof_place(bytes: &[u8], condition: Option<u64>) -> Option<Place> {
+    place_from(bytes, entry_of(bytes, condition)?.proof)
+}
+
+/// The place of the list in which a certificate has the proof of a condition.
+pub fn entry_place(bytes: &[u8], condition: u64) -> Option<Place> {
+    place_from(bytes, entry_of(bytes, Some(condition))?.list)
 }

@@ -1,9 +1,12 @@
 //! Which sentence is said of a refusal.
 use crate::around::{Around, first_word, list_around, list_count, top_count, word_at};
+use crate::declared::{Sort, has_list, is_column, seek};
 use crate::forms::{form_of, has_one, needs_of, noun_of};
 use crate::kind::{FileKind, looks_like};
 use crate::limits::{too_many_lists, too_many_names};
-use crate::sentence::{Sentence, Spot, What};
+use crate::operators::{begins_comment, is_other_comment, operator_at, written_for};
+use crate::order::disorder_of;
+use crate::sentence::{Meant, Sentence, Spot, What};
 use crate::spot::{Due, due_in, least_count, may_stand, note_of};
 use crate::steps::proof_place;
 use lc_base::{DEPTH_LIMIT, FILE_LIMIT, NAME_LIMIT, REPLY_LIMIT, Refusal, is_name};
@@ -22,6 +25,20 @@ struct Refused<'a> {
     outer: Around<'a>,
     /// And the list round that one.
     third: Around<'a>,
+}
+
+/// The sort of names that this noun speaks of.
+fn sort_of(noun: &str) -> Option<Sort> {
+    match noun {
+        "the column " => Some(Sort::Column),
+        "the array " => Some(Sort::Array),
+        "the point " => Some(Sort::Point),
+        "the action " => Some(Sort::Action),
+        "the operation " => Some(Sort::Operation),
+        "the choice " => Some(Sort::Choice),
+        "the name " => Some(Sort::Variable),
+        _ => None,
+    }
 }
 
 /// Where an item stands in a list that is written so.
@@ -113,10 +130,47 @@ impl<'a> Refused<'a> {
         }
     }
 
+    /// The action that it names has another number of arguments.
+    fn arguments(&self, word: &'a str) -> Option<Sentence<'a>> {
+        let action = seek(self.bytes, Sort::Action, word).declared()?;
+        let due = list_count(action.bytes, action.item(3)?);
+        let given = list_count(self.bytes, self.place).checked_sub(1)?;
+        if due == given {
+            return None;
+        }
+        Some(Sentence::Arguments {
+            action: word,
+            due,
+            given,
+        })
+    }
+
+    /// Why a list of this word does not fit, if that is a mistake that is often made.
+    fn known_mistake(&self, word: &'a str) -> Option<Sentence<'a>> {
+        let list = self.list;
+        if list.word == "on" && list.part == 2 {
+            return self.arguments(word);
+        }
+        if list.word == "object" {
+            let before = self.bytes.get(..self.place.offset)?;
+            let before = before.get(list.offset..)?.get(1..)?;
+            let disorder = disorder_of(before, word)?;
+            return Some(Sentence::OutOfOrder { word, disorder });
+        }
+        let written = written_for(word);
+        if written.is_empty() || form_of(word, list.word).is_some() {
+            return None;
+        }
+        Some(Sentence::Operator { word, written })
+    }
+
     /// Its shape is wrong.
     fn unfit(&self, kind: FileKind) -> Sentence<'a> {
         let spot = self.spot(kind);
         if let Some(word) = self.word() {
+            if begins_comment(word) {
+                return Sentence::OtherComment;
+            }
             let what = What::Atom(word);
             return Sentence::Unfit { what, spot };
         }
@@ -124,6 +178,9 @@ impl<'a> Refused<'a> {
         if word.is_empty() {
             let what = What::List;
             return Sentence::Unfit { what, spot };
+        }
+        if let Some(sentence) = self.known_mistake(word) {
+            return sentence;
         }
         match form_of(word, self.list.word) {
             Some(own) if fits_in(word, spot) => self.unfit_list(word, own, spot),
@@ -146,6 +203,30 @@ impl<'a> Refused<'a> {
         }
     }
 
+    /// What may be meant by a name that is not declared.
+    fn meant(&self, noun: &str, name: &'a str) -> Meant<'a> {
+        let Some(sort) = sort_of(noun) else {
+            return Meant::Unknown;
+        };
+        if sort == Sort::Variable && is_column(self.bytes, name) {
+            return Meant::Column(name);
+        }
+        let sought = seek(self.bytes, sort, name);
+        if let Some(near) = sought.nearest() {
+            return Meant::Near(near);
+        }
+        if sort != Sort::Column {
+            return Meant::Unknown;
+        }
+        if name == "self" || seek(self.bytes, Sort::Variable, name).declared().is_some() {
+            return Meant::NoColumn(name);
+        }
+        if has_list(self.bytes, "object") && !has_list(self.bytes, "aux") {
+            return Meant::Auxiliary(name);
+        }
+        Meant::Unknown
+    }
+
     /// It is a name that is not declared.
     fn undeclared(&self, kind: FileKind) -> Sentence<'a> {
         let name = self.text();
@@ -159,7 +240,8 @@ impl<'a> Refused<'a> {
         if noun == "the name " && self.is_in_proof(kind) {
             return Sentence::UndeclaredInProof(name);
         }
-        Sentence::Undeclared { noun, name }
+        let meant = self.meant(noun, name);
+        Sentence::Undeclared { noun, name, meant }
     }
 
     /// It is a name that may not be declared here.
@@ -240,6 +322,20 @@ fn is_long_number(word: &str) -> bool {
     most < digits.len() && digits.iter().all(|digit| digit.is_ascii_digit())
 }
 
+/// What is wrong with a character that stands outside of comments.
+fn misplaced_character(bytes: &[u8], place: Place) -> Sentence<'_> {
+    if is_other_comment(bytes, place.offset) {
+        return Sentence::OtherComment;
+    }
+    let sign = operator_at(bytes, place.offset);
+    let written = written_for(sign);
+    if written.is_empty() {
+        Sentence::Misplaced(word_at(bytes, place).unwrap_or(""))
+    } else {
+        Sentence::Sign { sign, written }
+    }
+}
+
 /// What is wrong with a byte of the text.
 fn misplaced<'a>(bytes: &'a [u8], offset: u64, place: Place) -> Sentence<'a> {
     if offset >= FILE_LIMIT {
@@ -261,9 +357,8 @@ fn misplaced<'a>(bytes: &'a [u8], offset: u64, place: Place) -> Sentence<'a> {
                 parts: "lists in one another",
             }
         }
-        Some(byte) if byte.is_ascii_graphic() => {
-            Sentence::Misplaced(word_at(bytes, place).unwrap_or(""))
-        }
+        Some(byte) if byte.is_ascii_graphic() => misplaced_character(bytes, place),
+        _ if is_other_comment(bytes, place.offset) => Sentence::OtherComment,
         _ => Sentence::OtherByte,
     }
 }
