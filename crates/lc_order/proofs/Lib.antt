@@ -8,3 +8,7 @@ pub mod Reading
 pub mod First
 pub mod Fronts
 pub mod Refuted
+pub mod Stores
+pub mod Starts
+pub mod Drafting
+pub mod Listing
