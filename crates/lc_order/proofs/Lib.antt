@@ -1,10 +1,14 @@
-pub mod Places
-pub mod Crux
-pub mod Rosters
-pub mod Entering
-pub mod Trying
-pub mod Behind
-pub mod Reading
-pub mod First
-pub mod Fronts
-pub mod Refuted
+mod Places
+mod Crux
+mod Rosters
+mod Entering
+mod Trying
+mod Behind
+mod Reading
+mod First
+mod Fronts
+mod Refuted
+mod Stores
+mod Starts
+mod Drafting
+mod Listing

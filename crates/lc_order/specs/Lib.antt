@@ -1,10 +1,14 @@
 pub mod Completion
 pub mod Decided
+pub mod Drafts
 pub mod Expanded
 pub mod Layers
 pub mod Listed
 pub mod Nodes
+pub mod Only
+pub mod Picks
 pub mod Reading
 pub mod Refuted
 pub mod Rosters
 pub mod Steps
+pub mod Written

@@ -2,7 +2,9 @@
 #![tactic(auto)]
 
 mod asking;
+mod choosing;
 mod deciding;
+mod draft;
 mod expanding;
 mod finding;
 pub mod laws;
@@ -10,7 +12,10 @@ mod nodes;
 mod refuting;
 mod roster;
 mod searchable;
+mod text;
+mod written;
 
 pub use deciding::{Decision, decide};
+pub use draft::TextDraft;
 pub use refuting::{Refutation, refute};
 pub use searchable::{Listed, Searchable, Stepped};
