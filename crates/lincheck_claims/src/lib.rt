@@ -22,7 +22,6 @@ ghost use Rattle.lincheck_claims.specs.Endings.{EndsWith};
 ghost use Rattle.lincheck_claims.specs.Folders.{file_at};
 
 mod files;
-pub mod words;
 
 pub use files::Folder;
 use lc_lib_texts::Lib;

@@ -1,4 +1,0 @@
-use Rattle.lc_outline_claims.proofs.conditions.choosing_conditions.Goals as goal
-
-pub returns : goal.returns
-returns c = c.chosen_conditions.ensures

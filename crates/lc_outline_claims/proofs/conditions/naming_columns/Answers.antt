@@ -1,4 +1,0 @@
-use Rattle.lc_outline_claims.proofs.conditions.naming_columns.Goals as goal
-
-pub returns : goal.returns
-returns c = c.column_names.ensures

@@ -1,7 +1,0 @@
-use Rattle.lc_verdict_claims.proofs.finding.carrying_proofs.Goals as goal
-
-pub returns-clause-exactly : goal.returns-clause-exactly
-returns-clause-exactly c = c.carried_entries.ensures.exactly
-
-pub returns-clause-few : goal.returns-clause-few
-returns-clause-few c = c.carried_entries.ensures.few
