@@ -6,7 +6,7 @@ Each function of CERTIFICATES answers the bytes of the two files.
 """
 import re
 
-# The two cases of a row read behind a store: the row that was stored, and another one.
+# The two cases of a row read after a store: the row that was stored, and another one.
 KEPT = "(split {h} {again}) (split {h} (trich 4 (trich 13 {pair}) (trich 13 {pair})))"
 # The first case is impossible, since the clients are two.
 SAME_CLIENT = "(trich 4 (sum ({e} 1) ({f} 1)) (sum ({e} -1) ({f} 1)))"
@@ -57,12 +57,12 @@ RETURN = ["(push 8 (split 9 (cases 10 (opposite 6 12) (opposite 7 12))))", "(opp
 
 
 def moved(proof, least, by):
-    """The proof where so many hypotheses more stand before the one of this number. No other number in it is as great."""
+    """The proof where this many hypotheses more are before the one of this number. No other number in it is as great."""
     return re.sub(r"\b\d+", lambda found: str(int(found[0]) + by) if int(found[0]) >= least else found[0], proof)
 
 
 def stable(actions, storing, width):
-    """The proofs of what is claimed at a point before the mark, and at that behind it; so many of the actions store."""
+    """The proofs of what is claimed at a point before the mark, and at that after it; this many of the actions store."""
     again, other, alone = "(opposite 17 13)", SAME_CLIENT, ["(opposite 9 13)"] * (actions - storing)
     before = [kept("pend", "?3", 2, 9, 14, other)] + [kept("pend", "?3", 1, 9, 16, "(opposite 19 13)", 11)] * storing + alone
     before += [kept("pend", "?3", 1, 9, 14, again), left(9, other)]
@@ -85,7 +85,7 @@ def proofs(points, actions, storing, width):
 
 
 def files(name, points, actions, storing, width):
-    """A development with so many loads and actions, of which so many store in `pend`, and its certificate."""
+    """A development with this many loads and actions, of which this many store in `pend`, and its certificate."""
     claim = "(assert (= (rd pend self) 1)" + "".join(f" (<= x (+ x {k}))" for k in range(1, width)) + ")"
     effects = ["(pend self 1)"] * storing + ["(d self 1)"] * (actions - storing)
     lines = [f"(point p{k} (load cell 0 (x) p{k + 1}) {claim})" for k in range(points - 1)]

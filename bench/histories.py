@@ -73,7 +73,7 @@ class Bank:
 
 
 def history(thing, calls, clients, seed=1):
-    """So many calls by so many clients, who call, take effect and return in any order."""
+    """This many calls by this many clients, who call, take effect and return in any order."""
     dice = random.Random(seed)
     events, order, pending, replies = [], [], {}, {}
     begun = returned = 0

@@ -1,5 +1,5 @@
 """Writes conditions, as `lincheck conditions` prints them, in SMT-LIB: each as its hypotheses and its negated goal, so that `unsat`
-says that it is valid. Columns are functions of whole numbers; what stands in a column that was stored in is written out as cases.
+says that it is valid. Columns are functions of whole numbers; what is in a column that was stored in is written out as cases.
 """
 
 
@@ -70,6 +70,6 @@ class Condition:
 
 
 def script(lines, limit):
-    """Asks for each condition among the lines, with so many seconds for each."""
+    """Asks for each condition among the lines, with this many seconds for each."""
     asked = [f"(push)\n{Condition(line).written()}\n(check-sat)\n(pop)" for line in lines if line.startswith("(condition ")]
     return "\n".join([f"(set-option :timeout {int(limit * 1000)})", *asked]) + "\n"

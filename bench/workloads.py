@@ -14,7 +14,7 @@ def formula(variables, columns, hypotheses, goal, proof):
 def in_branches(hypotheses, goal, branch, variables="x y", columns=""):
     """As many copies of a branch as fit: `cases` over one hypothesis, an `or` with a true part for each.
 
-    Hypothesis 0 is that `or`, and behind the others stand the negated goal and the true part of the branch.
+    Hypothesis 0 is that `or`, and after the others are the negated goal and the true part of the branch.
     """
     room = LIMIT - 1000 - len(hypotheses)
     copies = room // (len(branch) + len(" (and)\n"))

@@ -34,7 +34,7 @@ HISTORY = b'{"events":[],"order":[]}'
 
 
 def many(text, times=None, between=None):
-    """So many copies of a text, with their number in place of `@`, and with no more between them than has to be."""
+    """This many copies of a text, with their number in place of `@`, and with no more between them than has to be."""
     parts, numbers = text.split("@"), range(times or count)
     if between is None:
         between = "" if text.endswith(")") else " "
@@ -113,7 +113,7 @@ def nested(begin, middle, end, depth):
 
 
 def balanced(term, leaves, operation="+"):
-    """The sum, or the difference, of so many copies of a term, as flat as it can be."""
+    """The sum, or the difference, of this many copies of a term, as flat as it can be."""
     if leaves == 1:
         return term
     return f"({operation} {balanced(term, leaves // 2, operation)} {balanced(term, leaves - leaves // 2, operation)})"
@@ -144,13 +144,13 @@ def heavy_sum():
 def deep_steps():
     """Conjunctions that are nested as deep as they may be, taken apart by as deep a proof."""
     depth = NESTING - 4
-    # The negated goal is 1, and each step appends one formula behind it.
+    # The negated goal is 1, and each step appends one formula after it.
     steps = "(split 0 " + "".join(f"(split {2 + i} " for i in range(depth - 1))
     return formula(nested("(and ", "(<= 1 0)", ")", depth), "(or)", f"{steps}(sum ({1 + depth} 1)){')' * depth}")
 
 
 def conjuncts(times):
-    """So many conjuncts at a point that no code leads to, each with its three proofs. The conditions are not printed, since
+    """This many conjuncts at a point that no code leads to, each with its three proofs. The conditions are not printed, since
     each has all conjuncts for hypotheses."""
     points = f"(point p0 (load cell 0 (x) p0) (assert)) (point p1 (load cell 0 (x) p0) (assert {many('(and)', times)}))"
     return development(

@@ -26,7 +26,7 @@ pub puts_more : (σ : ℕ → S.Column) (τ : List S.Term) (us : List Update) (i
 puts_more σ τ us i u stored h is =
     ap (λ vs. puts stored (map (said σ τ) (updates_of vs))) (drop_more us i u h ∙ ap (λ x. x ∷ drop (i + 1) us) (sym is))
 
--- one more store: in place of an entry, or behind all
+-- one more store: in place of an entry, or after all of them
 pub store_in_place : (cs : List (ColId × ColExpr)) (k : ℕ) (p new : ColId × ColExpr) (c : ℕ) (i v : S.Term) → k < length cs → p ≡ get_or cs k p → (p.0.0 == c) ≡ true →
     IsAbsent c (map entry_of (take k cs)) → entry_of new ≡ (c, S.Store (column_of p.1) i v) →
     columns_in (slice_set cs k new) ≡ put (columns_in cs) (record { column = c; index = i; value = v })
@@ -42,7 +42,7 @@ pub store_behind : (cs : List (ColId × ColExpr)) (new : ColId × ColExpr) (c : 
 store_behind cs new c i v absent becomes =
     ap column_at (map-append entry_of cs (new ∷ []) ∙ ap (λ x. map entry_of cs ++ x ∷ []) becomes) ∙ put_behind c (map entry_of cs) i v absent
 
--- what stands at a place, whatever would stand for it elsewhere
+-- the element at a place, whatever would be taken for it elsewhere
 same_item : {A : Type 0} (xs : List A) (k : ℕ) (x y : A) → k < length xs → x ≡ get_or xs k x → y ≡ get_or xs k y → x ≡ y
 same_item [] k x y h a b = absurd (omega arith)
 same_item (z ∷ xs) zero x y h a b = a ∙ sym b

@@ -1,4 +1,4 @@
--- What is put in below quantifiers, and which formulas can be told.
+-- What is put in below quantifiers, and which formulas can be said.
 use Rattle.std.proofs.Common.{◌≡◌, ℕ, zero, suc, true, ◌&&◌, List, [], ◌∷◌, map, refl, ap, ap₂, ◌∙◌}
 use Rattle.std.specs.Prelude.{IsTrue}
 use Rattle.std.proofs.lemmas.Bool.{and_parts, and_from, false≢true}
@@ -103,7 +103,7 @@ listed_closed [] h k = refl
 listed_closed (t ∷ ts) h zero = h.0
 listed_closed (t ∷ ts) h (suc k) = listed_closed ts h.1 k
 
--- an actor and its arguments, behind the number of clients
+-- an actor and its arguments, after the number of clients
 pub acting_closed : (actor : T.Term) (ts : List T.Term) → IsTrue (is_closed (term_of actor)) → Every (λ (t : T.Term). IsTrue (is_closed (term_of t))) ts →
     AreClosed (Variable 0 ∷ term_of actor ∷ map term_of ts)
 acting_closed actor ts a h zero = refl

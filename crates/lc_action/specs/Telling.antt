@@ -13,7 +13,7 @@ use Rattle.lc_term.specs.declared.term.ColExpr.{ColExpr}
 abbrev pub telling : List (ColId × ColExpr) → List Term → Replacement
 telling columns variables = replacing (columns_in columns) (term_at (map term_of variables))
 
--- outside quantifiers anything; below them where what is put in has no bound variable
+-- outside quantifiers anything; below them if what is put in has no bound variable
 unfoldable pub tellable : List (ColId × ColExpr) → List Term → ℕ → Test
 tellable columns variables zero = record { columns = λ c. true; variables = λ k. true; bounds = λ k. true }
 tellable columns variables (suc n) = record {

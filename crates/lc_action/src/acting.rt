@@ -1,4 +1,4 @@
-//! An action by a client with its arguments: its guard, and the columns behind it.
+//! An action by a client with its arguments: its guard, and the columns after it.
 ghost use Rattle.std.specs.Prelude.{◌≡◌, IfOk, IsTrue, map};
 ghost use Rattle.lc_term.specs.Lists.{Every};
 ghost use Rattle.lc_term.specs.Places.{is_closed};
@@ -32,7 +32,7 @@ fn acting_variables(
 }
 
 /// The columns after an action by this client with these arguments, over the columns before: those in which it stores,
-/// each with what stands in it then.
+/// each with what it holds then.
 pub fn post_columns(
     alloc: Global,
     action: &Action,

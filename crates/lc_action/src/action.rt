@@ -16,7 +16,7 @@ use lc_base::{ColId, Name, OutOfMemory};
 use lc_term::{ColExpr, Formula, Term, Update};
 use std::alloc::Global;
 
-/// What a step may do to the columns: where the guard holds, the updates are taken together and stored in their order.
+/// What a step may do to the columns: if the guard holds, the updates are taken together and stored in their order.
 /// Variable 0 is the number of clients, variable 1 the client that acts, and the parameters follow.
 pub struct Action {
     pub name: Name,
@@ -25,7 +25,7 @@ pub struct Action {
     pub updates: Vec<Update>,
 }
 
-// Written out, so that a place where an action is let go has one call.
+// Written out, so that dropping an action is one call.
 impl Drop for Action {
     fn drop(self) {
         let Action {

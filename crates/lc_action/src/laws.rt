@@ -6,7 +6,7 @@ ghost use Rattle.lc_term.specs.Updates.{stored_all, writes_of, values_of, variab
 ghost use Rattle.lc_action.specs.Action.{Action, acting_variables, post_columns, guard_for};
 
 /// In every state the columns after an action are what its updates leave, all taken in that state and stored in their order;
-/// and its guard, said for a client and arguments, holds exactly where the action's guard holds for their numbers.
+/// and its guard, said for a client and arguments, holds exactly if the action's guard holds for their numbers.
 pub fn actions_do_their_updates()
     ensures columns { (s : State) (e : Env) (a : Action) (actor : Term) (arguments : List Term) (c : ℕ) →
         column s e outside (post_columns a actor arguments c)

@@ -12,7 +12,7 @@ use lc_term::{ColExpr, Term, Update, with_store};
 use std::alloc::Global;
 use std::mem;
 
-/// What stands in a column after stores.
+/// What a column holds after stores.
 pub fn column_after(
     alloc: Global,
     columns: &[(ColId, ColExpr)],
@@ -28,7 +28,7 @@ pub fn column_after(
     Ok(ColExpr::Base(column))
 }
 
-/// What stands in a cell of a column after stores.
+/// What a cell of a column holds after stores.
 pub fn read_after(
     alloc: Global,
     columns: &[(ColId, ColExpr)],

@@ -1,9 +1,9 @@
-//! The columns that each object has behind its own: the calls of clients, their arguments, their replies and their notes.
+//! The columns that each object has after its own: the calls of clients, their arguments, their replies and their notes.
 ghost use Rattle.std.specs.Prelude.{◌+◌, ◌≤◌, ◌^◌};
 
 use lc_base::ColId;
 
-/// The columns that each object has behind its own, which are indexed by clients: what stands there of their calls.
+/// The columns that each object has after its own, which are indexed by clients: what is recorded of their calls.
 #[derive(Clone, Copy)]
 pub struct SystemColumns {
     first: ColId,
@@ -15,7 +15,7 @@ impl SystemColumns {
     ghost use Rattle.lc_term.specs.SystemColumns.{pend, op_column, arg_columns, rep_columns, noted, note_columns, column_count};
     ghost use Rattle.lc_action.specs.ActionView.{first_of};
 
-    /// The system columns from this one on, if columns have so many numbers.
+    /// The system columns from `first` on, if there are numbers for so many columns.
     pub fn new(first: ColId) -> Option<SystemColumns>
         ensures some { IsSome result ↔ (column_count first.0 ≤ 2 ^ 32) }
         ensures value { IfSome result (λ system. first_of system ≡ first.0) }
@@ -27,7 +27,7 @@ impl SystemColumns {
         }
     }
 
-    /// 0 where a client has no call, 1 where its call is not settled, 2 where it is.
+    /// 0 if a client has no call, 1 if its call is not settled, 2 if it is.
     pub fn pend(self) -> ColId
         ensures { result.0 ≡ pend (first_of self) }
     {
@@ -57,7 +57,7 @@ impl SystemColumns {
         [ColId(first + 5), ColId(first + 6), ColId(first + 7)]
     }
 
-    /// 1 where replies of a client's call are noted.
+    /// 1 if replies of a client's call are noted.
     pub fn noted(self) -> ColId
         ensures { result.0 ≡ noted (first_of self) }
     {
@@ -72,7 +72,7 @@ impl SystemColumns {
         [ColId(first + 9), ColId(first + 10), ColId(first + 11)]
     }
 
-    /// Those in which something is stored where a call begins.
+    /// Those in which something is stored when a call begins.
     pub(crate) fn entered(self) -> [ColId; 6]
         ensures { map (λ c. c.0) result ≡ pend (first_of self) ∷ op_column (first_of self) ∷ arg_columns (first_of self) ++ noted (first_of self) ∷ [] }
     {

@@ -13,15 +13,15 @@ use lc_base::{ColId, OutOfMemory};
 use lc_term::{ColExpr, Formula, Term, chain_of, with_store};
 use std::alloc::Global;
 
-/// What a term speaks of, said of an earlier state: the columns, and the terms for its variables. A variable behind the
-/// last is 0.
+/// What a term uses, said in an earlier state: the columns, and the terms for its variables. A variable after the last
+/// is 0.
 #[derive(Clone, Copy)]
 pub struct Before<'a> {
     pub columns: &'a [(ColId, ColExpr)],
     pub variables: &'a [Term],
 }
 
-// The term that stands for a variable; 0 behind the last.
+// The term that stands for a variable; 0 after the last.
 fn variable_at(alloc: Global, variables: &[Term], number: u32) -> Result<Term, OutOfMemory>
     ensures { IfOk result (λ told. term_of told ≡ term_at (map term_of variables.now) number) }
 {
@@ -84,7 +84,7 @@ fn said_term(alloc: Global, term: &Term, before: Before<'_>) -> Result<Term, Out
     }
 }
 
-// The same in a box. It stands apart, so that each level of a term takes little of the stack.
+// The same in a box. It is a function of its own, so that each level of a term takes little of the stack.
 #[cycle(said_term)]
 #[inline(never)]
 fn boxed_term(alloc: Global, term: &Term, before: Before<'_>) -> Result<Box<Term>, OutOfMemory>

@@ -2,7 +2,7 @@
 use Rattle.std.specs.Prelude.{ℤ, [], ◌∷◌}
 use Rattle.lc_term.specs.Syntax.{Term, Number, Add, Multiply, Read, Column, Store, Affine, Formula, Eq, Not, And, Or, formulas}
 
--- after v is stored at i, which makes d of the column c, the cell at j has v where i and j are the same, and else what
+-- after v is stored at i, which makes d of the column c, the cell at j has v if i and j are the same, and else what
 -- it had
 abbrev pub written_to : Column → Column → Term → Term → Term → Formula
 written_to d c i v j = Or (formulas (

@@ -161,7 +161,7 @@ fn after_writing(
 }
 
 /// `(or (and (= i j) (= (rd (store C i v) j) v)) (and (not (= i j)) (= (rd (store C i v) j) (rd C j))))`, where the
-/// value `v` is stored in column `C` at the index `i`, and `j` is the other index: the cell at `j` has `v` where `i`
+/// value `v` is stored in column `C` at the index `i`, and `j` is the other index: the cell at `j` has `v` if `i`
 /// and `j` are the same, and else what it had.
 #[tactic(auto, using(lc_table::proofs::Later::is_column_later, lc_table::proofs::Later::is_term_still, crate::proofs::Still::is_column_still, lc_table::proofs::Later::keeps_itself, lc_table::proofs::Later::kept_on))]
 pub fn written_axiom(

@@ -5,7 +5,7 @@ use Rattle.std.specs.Prelude.{ℕ}
 abbrev pub file_limit : ℕ
 file_limit = 16777216
 
--- the most lists that stand in one another
+-- how deep lists may be nested
 abbrev pub depth_limit : ℕ
 depth_limit = 1000
 
@@ -65,7 +65,7 @@ condition_limit = 100000
 abbrev pub client_limit : ℕ
 client_limit = 1000000
 
--- the most clients of a run, each of which has a seat
+-- the most clients of a run, each with a seat
 abbrev pub seat_limit : ℕ
 seat_limit = 64
 

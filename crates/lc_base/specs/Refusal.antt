@@ -20,7 +20,7 @@ code_of (Large condition step) = 12
 code_of (HistoryShape item) = 13
 code_of (Order place reason) = 14
 
--- the numbers that are printed behind its code
+-- the numbers that are printed after its code
 abbrev pub numbers_of : Refusal → List ℕ
 numbers_of (Text offset) = offset ∷ []
 numbers_of (Shape item) = item ∷ []

@@ -1,4 +1,4 @@
-//! What every crate of lincheck stands on: names, refusals with their codes, and the line that a refusal prints.
+//! The base of all crates of lincheck: names, refusals with their codes, and the line that a refusal prints.
 #![tactic(auto)]
 
 mod ids;

@@ -4,7 +4,7 @@
 /// The most bytes of a file.
 pub const FILE_LIMIT: u64 = 16_777_216;
 
-/// The most lists that stand in one another.
+/// How deep lists may be nested.
 pub const DEPTH_LIMIT: usize = 1000;
 
 /// The most bytes of a name.
@@ -49,7 +49,7 @@ pub const CONDITION_LIMIT: u64 = 100_000;
 /// The greatest number of a client in a history.
 pub const CLIENT_LIMIT: u32 = 1_000_000;
 
-/// The most clients of a run, each of which has a seat.
+/// The most clients of a run, each with a seat.
 pub const SEAT_LIMIT: u32 = 64;
 
 /// The most labels of a run: one for each call, each instruction and each return.

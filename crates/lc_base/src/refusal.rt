@@ -21,7 +21,7 @@ pub enum Refusal {
     Repeated(u64),
     /// An item of object code reads an auxiliary, abstract or system column.
     Auxiliary(u64),
-    /// A number or a count, told at an item, is beyond a limit.
+    /// A number or a count is beyond a limit; it is reported at this item.
     Bound(u64),
     /// As `Text`, of a certificate.
     CertText(u64),
@@ -78,7 +78,7 @@ pub enum Fault {
     /// The input is refused.
     #[error("{0}")]
     Refused(Refusal),
-    /// An allocation was refused, so nothing is said of the input.
+    /// An allocation was refused, so nothing is said about the input.
     #[error("out of memory")]
     OutOfMemory,
 }

@@ -16,7 +16,7 @@ and_mapped : {A : Type 0} (f : A → Option ℕ) (o : Option A) → option_and_t
 and_mapped f None = refl
 and_mapped f (Some x) = refl
 
--- where the columns are those of the names, so is each
+-- if the columns are those of the names, so is each
 pub same_columns : (columns : List (Option ColId)) (names : List (List ℕ)) (place : List ℕ → Option ℕ) → map number_in columns ≡ map place names
     → column_for columns ≡ (λ (k : ℕ). option_and_then place (slice_get names k))
 same_columns columns names place h = λ i k. at k i

@@ -18,7 +18,7 @@ at_most true closes n i le = omega (arith, le)
 at_most false true n i le = omega (arith, le)
 at_most false false n i le = omega (arith, le)
 
--- a byte stands in at most so many brackets as there are bytes before it
+-- a byte has at most as many brackets around it as there are bytes before it
 pub depth_within : (n b i : ℕ) → n ≤ i → depth_behind n b ≤ i + 1
 depth_within n b i le = at_most (eqb b 40) (eqb b 41) n i le
 

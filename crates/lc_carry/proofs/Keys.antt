@@ -45,8 +45,8 @@ at_place v w vs k true o same later h = let zero_is : 0 ≡ k = cc in subst (λ 
 at_place v w vs k false None same later h = absurd (let none : None ≡ Some k = h in cc)
 at_place v w vs k false (Some j) same later h = let next : suc j ≡ k = cc in subst (λ i. slice_index_or (v ∷ vs) i [] ≡ w) next (later j refl)
 
--- a piece stands at its number
-piece_at : (kept : List (List ℕ)) (w : List ℕ) (k : ℕ) → place_of kept w ≡ Some k → slice_index_or kept k [] ≡ w
+-- a piece is at its number
+pub piece_at : (kept : List (List ℕ)) (w : List ℕ) (k : ℕ) → place_of kept w ≡ Some k → slice_index_or kept k [] ≡ w
 piece_at [] w k h = absurd (let none : None ≡ Some k = h in cc)
 piece_at (v ∷ vs) w k h = at_place v w vs k (is w v) (place_of vs w) (is-true w v) (piece_at vs w) h
 
@@ -88,7 +88,7 @@ text_of_key kept t key h = key-joined kept (pieces t) key h ∙ behind-joined 0 
 pub key_later : (kept now ws : List (List ℕ)) (key : List ℕ) → KeepsPieces kept now → key_of kept ws ≡ Some key → key_of now ws ≡ Some key
 key_later kept now ws key keeps h = ap (λ l. key_of l ws) keeps.1 ∙ key-kept kept keeps.0 ws key h
 
--- one piece more behind others
+-- one piece more after others
 key-push : (kept ws : List (List ℕ)) (w : List ℕ) (key : List ℕ) (k : ℕ) → key_of kept ws ≡ Some key → place_of kept w ≡ Some k → key_of kept (ws ++ w ∷ []) ≡ Some (key ++ k ∷ [])
 key-push kept [] w key k h here = let none : [] ≡ key = cc in ap (option_and_then (λ (j : ℕ). Some (j ∷ []))) here ∙ ap (λ l. Some (l ++ k ∷ [])) none
 key-push kept (v ∷ ws) w key k h here =
@@ -99,7 +99,7 @@ none_behind : (o : Option ℕ) → option_and_then (λ (k : ℕ). option_map (λ
 none_behind None = refl
 none_behind (Some k) = refl
 
--- where a piece is not kept, there is no key
+-- if a piece is not kept, there is no key
 key-none : (kept ws : List (List ℕ)) (w : List ℕ) (rest : List (List ℕ)) → place_of kept w ≡ None → key_of kept (ws ++ w ∷ rest) ≡ None
 key-none kept [] w rest none = ap (option_and_then (λ (k : ℕ). option_map (λ (ks : List ℕ). k ∷ ks) (key_of kept rest))) none
 key-none kept (v ∷ ws) w rest none = ap (λ os. option_and_then (λ (k : ℕ). option_map (λ (ks : List ℕ). k ∷ ks) os) (place_of kept v)) (key-none kept ws w rest none) ∙ none_behind (place_of kept v)
@@ -177,7 +177,7 @@ pub found_more : (keys : List (Vec ℕ Global)) (items : List (Bor (List ℕ))) 
 found_more keys items i d key now k place lt before found number is_now =
     key_more (kept_in keys) items i d key now k lt before (sym (position-place keys (get_or items i d).now) ∙ sym found ∙ ap Some (sym number)) is_now
 
--- where one is not found, the text has no key
+-- if one is not found, the text has no key
 pub none_more : (keys : List (Vec ℕ Global)) (items : List (Bor (List ℕ))) (i : ℕ) (d : Bor (List ℕ)) (ws : List (List ℕ)) → i < length items → map (λ (p : Bor (List ℕ)). p.now) items ≡ ws
     → None ≡ position (λ (v : Vec ℕ Global). is (get_or items i d).now v.items) keys → None ≡ key_of (kept_in keys) ws
 none_more keys items i d ws lt cut none =

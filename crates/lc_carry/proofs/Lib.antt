@@ -7,3 +7,4 @@ mod Chosen
 mod Keys
 mod Cuts
 mod Noted
+mod Derives

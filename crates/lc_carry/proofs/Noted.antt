@@ -1,4 +1,4 @@
--- Numbers that stand at keys stand at the texts of the keys.
+-- Numbers at keys are at the texts of the keys.
 use Rattle.std.proofs.Common.{◌≡◌, ℕ, Bool, true, false, cond, List, [], ◌∷◌, ◌++◌, Option, Some, None, refl, sym, ap, ap₂, ◌∙◌, subst, is_some}
 use Rattle.std.specs.Map.{lookup}
 use Rattle.std.specs.Option.{option_or}
@@ -12,7 +12,7 @@ use Rattle.lc_carry.proofs.Keys.{same_text, same_tests, text_of_key, key_later}
 use Rattle.lc_carry.specs.Pieces.{pieces, key_of, joined, KeepsPieces}
 use Rattle.lc_carry.specs.TextNumbers.{number_of, listed, AreKeys, noted}
 
--- two keys are the same where their texts are
+-- two keys are the same if their texts are
 same_key : (kept : List (List ℕ)) (t key other : List ℕ) → key_of kept (pieces t) ≡ Some key → key_of kept (pieces (joined kept other)) ≡ Some other → is key other ≡ is t (joined kept other)
 same_key kept t key other here there =
     same_tests (is key other) (is t (joined kept other))
@@ -23,7 +23,7 @@ same_key kept t key other here there =
     let one : key ≡ other = cc in
     ap (is key) (sym one) ∙ same_text key)
 
--- a text of which a piece is not kept is that of no key
+-- a text with a piece that is not kept is that of no key
 other_text : (kept : List (List ℕ)) (t other : List ℕ) (b : Bool) → key_of kept (pieces t) ≡ None → key_of kept (pieces (joined kept other)) ≡ Some other → is t (joined kept other) ≡ b → b ≡ false
 other_text kept t other false none there e = refl
 other_text kept t other true none there e =
@@ -64,7 +64,7 @@ listed-push : (kept : List (List ℕ)) (es : List (Vec ℕ Global × ℕ)) (key 
 listed-push kept [] key n = refl
 listed-push kept (e ∷ es) key n = ap (λ l. (joined kept e.0.items, e.1) ∷ l) (listed-push kept es key n)
 
--- a number that stands at a text already stays
+-- a number at a text already stays
 stays : (numbers : List (List ℕ × ℕ)) (text t : List ℕ) (n : ℕ) (b : Bool) → is t text ≡ b → is_some (number_of numbers text) ≡ true → number_of numbers t ≡ option_or (number_of numbers t) (cond b (Some n) None)
 stays numbers text t n false e there = or_none (number_of numbers t)
 stays numbers text t n true e there = there_already (number_of numbers t) (ap (λ l. is_some (number_of numbers l)) (is-true t text e) ∙ there)

@@ -36,6 +36,6 @@ module _ (E : Development) (proof_for : List ℕ → Option Proof) where
   pub all_carried : (es all : List Entry) (j : ℕ) (left : List Condition) → left ≡ [] → es ++ carried_from E proof_for j left ≡ all → es ≡ all
   all_carried es all j left none before = sym (append-nil es) ∙ ap (λ l. es ++ carried_from E proof_for j l) (sym none) ∙ before
 
--- the same proofs are carried where the same are found
+-- the same proofs are carried if the same are found
 pub same_carried : (E : Development) (f g : List ℕ → Option Proof) (k : ℕ) (cs : List Condition) → ((t : List ℕ) → f t ≡ g t) → carried_from E f k cs ≡ carried_from E g k cs
 same_carried E f g k cs same = let alike : f ≡ g = λ i t. same t i in ap (λ h. carried_from E h k cs) alike

@@ -23,7 +23,7 @@ can_carry to (Some p) = is_covered to p
 abbrev pub number_here : Development → List Entry → (ℕ → Option ℕ) → List ℕ → ℕ → Condition → Option ℕ
 number_here D es to t j c = if can_carry to (proof_at es j) && is t (statement_text D c) then Some j else None
 
--- the least of these conditions, the first of which has number j
+-- the least of these conditions, from number j on
 abbrev pub least_number : Development → List Entry → (ℕ → Option ℕ) → List ℕ → ℕ → List Condition → Option ℕ
 least_number D es to t j [] = None
 least_number D es to t j (c ∷ cs) = if can_carry to (proof_at es j) && is t (statement_text D c) then Some j else least_number D es to t (suc j) cs
@@ -42,7 +42,7 @@ abbrev pub entry_for : ℕ → Option Proof → List Entry
 entry_for k None = []
 entry_for k (Some p) = record { number = k; proof = p } ∷ []
 
--- the proofs that are carried to these conditions of E, the first of which has number k
+-- the proofs that are carried to these conditions of E, from number k on
 abbrev pub carried_from : Development → (List ℕ → Option Proof) → ℕ → List Condition → List Entry
 carried_from E proof_for k [] = []
 carried_from E proof_for k (c ∷ cs) = entry_for k (proof_for (statement_text E c)) ++ carried_from E proof_for (suc k) cs

@@ -1,10 +1,10 @@
--- Texts in pieces, of which each is kept once.
+-- Texts in pieces, each kept once.
 use Rattle.std.specs.Prelude.{◌≡◌, ℕ, suc, ◌-◌, Bool, ◌&&◌, ◌==◌, if◌then◌else◌, List, [], ◌∷◌, ◌++◌, map, Option, Some, option_map, option_and_then, slice_index_or, Vec}
 use Rattle.std.specs.List.{flat_map}
 use Rattle.std.specs.declared.alloc.Global.{Global}
 use Rattle.lc_reading.specs.Listed.{place_of}
 
--- in how many brackets the byte behind this one stands
+-- how many brackets are around the byte after this one
 abbrev pub depth_behind : ℕ → ℕ → ℕ
 depth_behind n b = if b == 40 then suc n else if b == 41 then n - 1 else n
 
@@ -12,7 +12,7 @@ depth_behind n b = if b == 40 then suc n else if b == 41 then n - 1 else n
 abbrev pub begins : ℕ → ℕ → Bool
 begins n b = (b == 40) && (n == 1)
 
--- the pieces of a text that stands in so many brackets, the first of which is begun
+-- the pieces of a text inside n brackets, the first of which is begun
 abbrev pub pieces_behind : ℕ → List ℕ → List ℕ → List (List ℕ)
 pieces_behind n w [] = w ∷ []
 pieces_behind n w (b ∷ t) = if begins n b then w ∷ pieces_behind (depth_behind n b) (b ∷ []) t else pieces_behind (depth_behind n b) (w ++ b ∷ []) t

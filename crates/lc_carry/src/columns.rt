@@ -13,7 +13,7 @@ use lc_outline::Development;
 use lc_reading::NameTable;
 use std::alloc::Global;
 
-/// The column of this name, if there is one. `OutOfMemory` is answered also where its number has more than 32 bits, as in no
+/// The column of this name, if there is one. `OutOfMemory` is returned also if its number has more than 32 bits, as in no
 /// development.
 fn column_named(names: &NameTable<'_>, name: &str) -> Result<Option<ColId>, OutOfMemory>
     ensures { IfOk result (λ column. option_map (λ c. c.0) column ≡ place_of (listed names.now) name.now) }

@@ -21,7 +21,7 @@ use lc_outline::Development;
 use lc_table::Terms;
 use std::alloc::Global;
 
-/// The entry of a proof, if there is one, behind the others.
+/// Appends the entry of a proof, if there is one, to the others.
 fn push_entry(
     entries: &mut Vec<Entry>,
     number: u64,
@@ -35,7 +35,7 @@ fn push_entry(
     Ok(())
 }
 
-/// The proof that is carried to a condition, if there is one, behind the others.
+/// Appends the proof that is carried to a condition, if there is one, to the others.
 fn push_carried(
     entries: &mut Vec<Entry>,
     proofs: &OldProofs<'_>,
@@ -58,7 +58,7 @@ fn push_carried(
     push_entry(entries, number, proof)
 }
 
-/// The proofs that are carried to the conditions of a part, of which the first has this number, behind the others.
+/// Appends the proofs that are carried to the conditions of a part, from this number on, to the others.
 fn push_part(
     entries: &mut Vec<Entry>,
     proofs: &OldProofs<'_>,

@@ -1,4 +1,5 @@
 //! What holds of the proofs that are carried. Each function is a law: it does nothing, and its contract is the law.
+ghost use Rattle.lc_carry.specs.CarriedDerives.{CarriedDerives};
 ghost use Rattle.lc_carry.specs.CarriedFrom.{CarriesLeast, CarriesNothingElse};
 
 /// To a condition the proof of the least old condition is carried that says the same, and whose proof names only columns that there
@@ -6,4 +7,9 @@ ghost use Rattle.lc_carry.specs.CarriedFrom.{CarriesLeast, CarriesNothingElse};
 pub fn the_least_is_carried()
     ensures least { CarriesLeast }
     ensures nothing_else { CarriesNothingElse }
+{}
+
+/// If no two columns of the old development have one name, a proof that is carried to the same condition derives it.
+pub fn carried_proofs_derive()
+    ensures { CarriedDerives }
 {}

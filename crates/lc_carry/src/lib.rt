@@ -1,4 +1,4 @@
-//! Proofs of an old development for a new one, where conditions of both say the same.
+//! Proofs of an old development for a new one, if conditions of both say the same.
 #![tactic(auto)]
 
 mod columns;

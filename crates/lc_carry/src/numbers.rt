@@ -64,7 +64,7 @@ fn note_condition(
     numbers.note(&text, number)
 }
 
-/// Notes the numbers of the conditions of a part, of which the first has this number.
+/// Notes the numbers of the conditions of a part, from this number on.
 fn note_part(
     numbers: &mut TextNumbers,
     old: &Old<'_>,

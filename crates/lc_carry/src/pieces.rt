@@ -1,4 +1,4 @@
-//! Texts in pieces, of which each is kept once.
+//! Texts in pieces, each kept once.
 ghost use Rattle.std.specs.Prelude.{◌≡◌, ◌+◌, ◌<◌, ◌^◌, List, ℕ, Some, IfOk, map, option_map};
 ghost use Rattle.std.specs.Borrow.{Bor};
 ghost use Rattle.lc_carry.specs.Pieces.{begins, depth_behind, key_of, kept_in, pieces, KeepsPieces};
@@ -8,14 +8,14 @@ use indexmap::IndexSet;
 use lc_base::OutOfMemory;
 use std::alloc::Global;
 
-/// Whether a piece begins with a byte that stands in so many brackets.
+/// Whether a piece begins with a byte inside `depth` brackets.
 fn begins(depth: usize, byte: u8) -> bool
     ensures { result ≡ begins depth byte }
 {
     byte == b'(' && depth == 1
 }
 
-/// In how many brackets the byte behind this one stands.
+/// How many brackets are around the byte after this one.
 fn depth_behind(depth: usize, byte: u8) -> usize
     requires { depth + 1 < 2 ^ 64 }
     ensures { result ≡ depth_behind depth byte }
@@ -27,7 +27,7 @@ fn depth_behind(depth: usize, byte: u8) -> usize
     }
 }
 
-/// A text in pieces. Each but the first begins with a bracket that stands in one other, as the formulas of a condition do.
+/// A text in pieces. Each but the first begins with a bracket inside one other, as the formulas of a condition do.
 fn cut(alloc: Global, text: &[u8]) -> Result<Vec<&[u8]>, OutOfMemory>
     ensures { IfOk result (λ cut. map (λ (piece : Bor (List ℕ)). piece.now) cut.items ≡ pieces text.entry.now) }
 {

@@ -1,4 +1,4 @@
-//! Numbers that stand at texts, in little memory: texts share their pieces, of which each is kept once.
+//! Numbers at texts, in little memory: texts share their pieces, and each piece is kept once.
 ghost use Rattle.std.specs.Prelude.{◌≡◌, OnErr, OnOk};
 ghost use Rattle.lc_carry.specs.TextNumbers.{noted};
 
@@ -8,7 +8,7 @@ use lc_base::OutOfMemory;
 use std::alloc::Global;
 use std::marker::Model;
 
-/// Numbers that stand at texts. A text is kept as the numbers of its pieces.
+/// Numbers at texts. A text is kept as the numbers of its pieces.
 pub(crate) struct TextNumbers {
     kept: IndexSet<Vec<u8>>,
     numbers: IndexMap<Vec<u32>, u64>,
@@ -26,7 +26,7 @@ impl Model for TextNumbers {
     ghost invariant = { λ t. AreKeys (kept_in t.kept.keys) t.numbers.entries };
 }
 
-// Written out and not derived, so that a place where a table is let go has one call.
+// Written out and not derived, so that dropping a table is one call.
 impl Drop for TextNumbers {
     fn drop(self) {
         let TextNumbers {
@@ -36,7 +36,7 @@ impl Drop for TextNumbers {
     }
 }
 
-/// Notes a number at a key, unless one stands there.
+/// Notes a number at a key, unless there is one already.
 fn note_key(
     numbers: &mut IndexMap<Vec<u32>, u64>,
     key: Vec<u32>,
@@ -72,7 +72,7 @@ impl TextNumbers {
         *self.kept.allocator()
     }
 
-    /// The number that stands at a text, if one does.
+    /// The number at a text, if there is one.
     pub(crate) fn number(&self, alloc: Global, text: &[u8]) -> Result<Option<u64>, OutOfMemory>
         ensures { IfOk result (λ number. number ≡ number_of self.now text.now) }
     {
@@ -82,7 +82,7 @@ impl TextNumbers {
         Ok(self.numbers.get(key.as_slice()).copied())
     }
 
-    /// Notes a number at a text, unless one stands there.
+    /// Notes a number at a text, unless there is one already.
     pub(crate) fn note(&mut self, text: &[u8], number: u64) -> Result<(), OutOfMemory>
         ensures { OnOk result ((t : List ℕ) → number_of self.new t ≡ option_or (number_of self.old t) (if is t text.now then Some number else None)) }
     {

@@ -6,7 +6,7 @@ use lc_spec_text::spec_of;
 use std::alloc::Global;
 use std::{io, str};
 
-/// Whether the order of a history linearizes it, or `None` where a number is beyond 64 bits; else the first refusal.
+/// Whether the order of a history linearizes it, or `None` if a number is beyond 64 bits; else the first refusal.
 fn judge_history(alloc: Global, development: &[u8], text: &[u8]) -> Result<Option<()>, Fault> {
     let spec = spec_of(alloc, development)?;
     let (history, order) = history_from_json(alloc, &spec, text)?;
@@ -35,7 +35,7 @@ fn rewrite(alloc: Global, development: &[u8], text: &[u8]) -> Result<Vec<u8>, Fa
     Ok(history_to_json(alloc, &spec, &history, &order)?)
 }
 
-/// Prints a history and its order again, behind a development and a tab.
+/// Prints a history and its order again, which come after a development and a tab.
 pub fn answer_rewritten(rt: &HostRuntime, name: &str, text: &str) -> anyhow::Result<()> {
     let (development, history) = text
         .split_once('\t')

@@ -13,7 +13,7 @@ use std::alloc::Global;
 /// which is hidden.
 #[derive(Clone, Copy)]
 pub struct Place {
-    /// Whether quantifiers, built columns and variables `?k` stand there.
+    /// Whether quantifiers, built columns and variables `?k` are allowed.
     pub everything: bool,
 }
 
@@ -57,7 +57,7 @@ impl Scope for Place {
     }
 }
 
-/// Variables as `?k`, and columns by their numbers behind a letter.
+/// Variables as `?k`, and columns by a letter and their numbers.
 #[derive(Clone, Copy)]
 struct Numbers;
 
@@ -82,7 +82,7 @@ impl Spelling for Numbers {
     }
 }
 
-/// What is due where an item stands.
+/// What is expected where an item is.
 #[derive(Clone, Copy)]
 enum Kind {
     Term,

@@ -24,7 +24,7 @@ before_is (suc n) h = ap Some (omega arith)
 pub not_given : (r : Reading Entry) (f : Flaw) → r ≡ flawed f → (e : Entry) → r ≢ fine e
 not_given r f h e is = let both : flawed f ≡ fine e = sym h ∙ is in cc
 
--- where nothing is given of a reading, it is none of an entry
+-- if nothing is given of a reading, it is none of an entry
 pub given_none : (r : Reading Entry) (given : Option Read) → ((x : Read) → given ≡ Some x → ⊥) → IsGiven r given → (e : Entry) → r ≢ fine e
 given_none r None h g = g
 given_none r (Some x) h g = absurd (h x refl)

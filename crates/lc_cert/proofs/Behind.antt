@@ -24,12 +24,12 @@ use Rattle.lc_cert.specs.EntryView.{entry_of, entries_of}
 use Rattle.lc_cert.specs.Readings.{entry_reading, last_behind, entries_reading, name_due, named_reading, form_reading, certificate_reading}
 use Rattle.lc_cert.specs.declared.entry.Entry.{Entry}
 
--- behind the item i the others are left, from m on
+-- after the item i, the others are left, from m on
 one_more_at : (names : Names) (last : Option ℕ) (n i m : ℕ) (t : Tree) (ts us : Trees) → i ≡ n → us ≡ t ▸ ts → m ≡ n + item_count t
     → entries_reading names last n us ≡ both (λ e es. e ∷ es) (entry_reading names last i t) (entries_reading names (last_behind last (entry_reading names last i t)) m ts)
 one_more_at names last n i m t ts us at rest number = rw (rest, at, number) refl
 
--- one entry behind those that are read
+-- one entry after those that are read
 pushed_at : (names : Names) (last after : Option ℕ) (whole : Reading (List S.Entry)) (r : Reading S.Entry) (m : ℕ) (ts : Trees)
     (values c : Result (Vec Entry Global) ReadFault) (a : Result Entry ReadFault)
     → IsReading entry_of r a → after ≡ last_told last a → IsPushed values a c
@@ -58,7 +58,7 @@ entry_pushed names last after whole l behind part values c a at next read is p h
     (subst (λ r. IsSoFar entry_of (λ e es. e ∷ es) whole r values)
     (one_more_at names last (number_of l) (place_of part) (number_of behind) (tree_of part) (rest_of behind) (rest_of l) at next.rest next.number) h)
 
--- the name, and the entries behind it
+-- the name, and the entries after it
 named_at : (columns : List (List ℕ)) (name : List ℕ) (n m i k : ℕ) (t : Tree) (ts us : Trees) (a : Result (Unit {0}) ReadFault) (b : Result (Vec Entry Global) ReadFault) (c : Result (Unit {0} × Vec Entry Global) ReadFault)
     → us ≡ t ▸ ts → i ≡ m → k ≡ m + item_count t
     → IsReading (λ (u : Unit {0}). u) (name_due name i t) a → IsReading (λ (es : Vec Entry Global). entries_of es.items) (entries_reading (names_with columns) None k ts) b → c ≡ both_results a b

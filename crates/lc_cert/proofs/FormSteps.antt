@@ -76,7 +76,7 @@ first_more ps p e = in_first_joined ps (p ∷ []) ∙ ap (λ f. joined_rows (in_
 pub first_same : (ps : List Part) (p : Part) → (p.form == 0) ≡ false → in_first (ps ++ (p ∷ [])) ≡ in_first ps
 first_same ps p e = in_first_joined ps (p ∷ []) ∙ ap (λ b. joined_rows (in_first ps) (cond b (p.sexp ▸ none) none)) e ∙ joined-none (in_first ps)
 
--- the parts of a file that stand in its first form
+-- the parts of a file that are in its first form
 in_first_list : (us : Trees) (i : ℕ) (ps : List Part) → in_first (parts_in 0 i us ++ ps) ≡ joined_rows us (in_first ps)
 in_first_list none i ps = refl
 in_first_list (t ▸ us) i ps = ap (λ x. t ▸ x) (in_first_list us (i + item_count t) ps)
@@ -136,7 +136,7 @@ form_step columns name parts p taken old mid new t n first is place same count s
       few_waiting = subst HaveFewSteps (sym (ap waiting_in same)) (few room h.few_waiting);
     }
 
--- the same where other parts of the file were read
+-- the same if other parts of the file were read
 form_other : (columns : List (List ℕ)) (name : List ℕ) (parts others : List Part) (taken : List Entry) (f : FormReader) → in_first others ≡ in_first parts → IsForm columns name parts taken f → IsForm columns name others taken f
 form_other columns name parts others taken f same h = record {
   number = h.number ∙ ap (λ us. 1 + item_count_of_all us) (sym same);

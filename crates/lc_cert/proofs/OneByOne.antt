@@ -32,7 +32,7 @@ piece_first file at k order =
     sym (take-append-drop (at (suc k) - at k) (drop (at k) file))
     ∙ ap (λ x. piece_at file at k ++ x) (drop-drop (at (suc k) - at k) (at k) file ∙ ap (λ i. drop i file) e)
 
--- The file from the k-th place up to the one behind the entries is pieces, which read as them.
+-- The file from the k-th place up to the one after the entries is pieces, which read as these entries.
 record AreGathered (names : Names) (file : List ℕ) (at items : ℕ → ℕ) (k : ℕ) (es : List Entry) : Type 0 where
   body : List ℕ
   trees : Trees
@@ -58,7 +58,7 @@ gathered names file at items k (e ∷ es) h =
           (subst (λ m. entries_reading names (number_before (suc k)) m rest.trees ≡ fine es) h.0.follows rest.read);
     }
 
--- what the form reads as, where its word and name are right
+-- what the form reads as, if its word and name are right
 form_reads : (D : Development) (word name : List ℕ) (ts : Trees) (es : List Entry) → is word (codes "certificate") ≡ true → is name D.object.name ≡ true
     → entries_reading (names_with (column_names D)) None 3 ts ≡ fine es → certificate_reading D (list (atom word ▸ (atom name ▸ ts)) ▸ none) ≡ fine es
 form_reads D word name ts es w n reads =

@@ -1,4 +1,4 @@
--- What is answered of a certificate that is read piece by piece.
+-- What is returned for a certificate that is read piece by piece.
 use Rattle.std.proofs.Common.{◌≡◌, ℕ, ◌+◌, inl, false, List, [], ◌++◌, length, Option, Some, None, refl, sym, ap, ◌∙◌, subst, append_assoc}
 use Rattle.std.specs.Prelude.{Result, Ok, Err, IfSome, IfNone}
 use Rattle.lc_base.specs.declared.refusal.Fault.{Fault}
@@ -68,7 +68,7 @@ form_named columns others name other parts taken f c n h = subst (λ x. IsForm c
 pub under_way_named : (columns others : List (List ℕ)) (name other fed : List ℕ) (taken : List Entry) (r : CertReader) → columns ≡ others → name ≡ other → IsUnderWay columns name fed taken r → IsUnderWay others other fed taken r
 under_way_named columns others name other fed taken r c n h = subst (λ x. IsUnderWay others x fed taken r) n (subst (λ x. IsUnderWay x name fed taken r) c h)
 
--- a refusal is told alike in pieces
+-- a refusal is the same in pieces
 refused_alike : (D : Development) (bytes : List ℕ) (es : List Entry) (fault : Fault) → IsAnswerTo D bytes (Err fault) → IsAnswerOf D bytes es (Err fault)
 refused_alike D bytes es (Refused refusal) h = h
 refused_alike D bytes es OutOfMemory h = h
@@ -77,7 +77,7 @@ refused_alike D bytes es OutOfMemory h = h
 pub text_answer : (D : Development) (fed : List ℕ) (parts : List Part) (es : List Entry) (fault : Fault) → IsAnswerWithout fed parts (Err fault) → IsAnswerOf D fed es (Err (text_told fault))
 text_answer D fed parts es fault h = refused_alike D fed es (text_told fault) (text_refused D fed fault h)
 
--- what is told of the file
+-- what is reported about the file
 abbrev pub answered : Result (Unit {0}) ReadFault → Result (Unit {0}) Fault
 answered (Ok u) = Ok u
 answered (Err fault) = Err (trees_told fault)
@@ -126,7 +126,7 @@ entries_first D fed more taken es r h (ts, reads, says) =
     let parts = taken_first fed more h.parts r.reader ts h.read reads in
     form_first (column_names D) D.object.name ts h.parts parts.0 taken es r.form parts.1 h.form says
 
--- in pieces and whole the same is answered
+-- in pieces and whole the same is returned
 pub pieces_same : (D : Development) (bytes : List ℕ) (es : List Entry) (whole : Result Certificate Fault) (told : Result (Unit {0}) Fault) → IsAnswerTo D bytes whole → IsAnswerOf D bytes es told → AreSame es whole told
 pieces_same D bytes es (Ok c) (Ok u) h k = says_one (certificate_reading D) bytes (entries_in c) es h k
 pieces_same D bytes es (Ok c) (Err (Refused s)) h k = not_read_and_refused D bytes (entries_in c) s h k

@@ -1,4 +1,4 @@
--- Where the proof of a number stands among numbers that rise.
+-- The place of the proof of a number among numbers that rise.
 use Rattle.std.proofs.Common.{◌≡◌, ℕ, zero, suc, ◌<◌, ◌≤◌, Bool, true, false, cond, List, [], ◌∷◌, length, get_or, Option, Some, None, refl, sym, ap, ◌∙◌, subst, arith}
 use Rattle.std.proofs.lemmas.Bool.{and_parts, ltb-true, ltb-false, cond-true, cond-false, eq-eqb, ne_eqb}
 use Rattle.std.proofs.lemmas.Option.{slice_get_read, slice_get_past}
@@ -50,7 +50,7 @@ first_at : (k : ℕ) (e : Entry) (es : List Entry) (same : Bool) → (e.number =
 first_at k e es true is not_below h = refl
 first_at k e es false is not_below h = none_at e.number k es h (ltb-false e.number k not_below)
 
--- the proof of a number is that of the entry behind all whose numbers are below
+-- the proof of a number is that of the entry after all those with lower numbers
 pub proof_behind : (last : Option ℕ) (k : ℕ) (es : List Entry) (place : ℕ) → is_rising last (entries_of es) ≡ true → place ≤ length es
     → AllWithin (λ (e : Entry). nat_lt e.number k ≡ true) es 0 place → AllWithin (λ (e : Entry). nat_lt e.number k ≡ false) es place (length es)
     → proof_at (entries_of es) k ≡ proof_if k (slice_get es place)
@@ -63,7 +63,7 @@ proof_behind last k (e ∷ es) (suc place) h le below others =
     ∙ proof_behind (Some e.number) k es place (behind_first last e es h) (omega arith)
     (λ i d low high. below (suc i) d (omega arith) (omega arith)) (λ i d low high. others (suc i) d (omega arith) (omega arith))
 
--- the same where the entries are seen as another list
+-- the same if the entries are seen as another list
 pub proof_looked_up : (k place : ℕ) (es xs : List Entry) → xs ≡ es → is_rising None (entries_of es) ≡ true → place ≤ length xs
     → AllWithin (λ (e : Entry). nat_lt e.number k ≡ true) xs 0 place × AllWithin (λ (e : Entry). nat_lt e.number k ≡ false) xs place (length xs)
     → proof_at (entries_of es) k ≡ proof_if k (slice_get es place)

@@ -1,4 +1,4 @@
--- The same of proofs.
+-- The same for proofs.
 use Rattle.std.proofs.Common.{◌≡◌, ℤ, true, List, [], ◌∷◌, refl, arith}
 use Rattle.lc_sexp.specs.Parts.{fits_i64}
 use Rattle.lc_sexp.specs.Printed.{HasAtoms, HaveAtoms}

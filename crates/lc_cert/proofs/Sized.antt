@@ -19,7 +19,7 @@ use Rattle.lc_cert.specs.ColumnNames.{names_with}
 use Rattle.lc_cert.specs.Files.{Certifies}
 use Rattle.lc_cert.specs.Readings.{place_reading, entry, parts_reading, entry_reading, last_behind, entries_reading, name_due, named_reading, form_reading, certificate_reading}
 
--- no more steps than so many items
+-- at most n steps
 abbrev pub IsSized : ℕ → Entry → Type 0
 IsSized n e = size e.proof ≤ n
 

@@ -17,7 +17,7 @@ use Rattle.lc_text.specs.Terms.{base_reading, used}
 use Rattle.lc_text.specs.declared.scope.ColumnUse.TheVariants.{Usable}
 use Rattle.lc_cert.specs.ColumnNames.{names_with, spelled_with}
 
--- a name stands at its first place
+-- a name is at its first place
 first_name : (v w : List ℕ) (vs : List (List ℕ)) (k : ℕ) (b : Bool) (o : Option ℕ) → is w v ≡ b → ((j : ℕ) → o ≡ Some j → slice_index_or vs j [] ≡ w)
     → cond b (Some 0) (option_map suc o) ≡ Some k → slice_index_or (v ∷ vs) k [] ≡ w
 first_name v w vs k true o same later e = let here : 0 ≡ k = cc in subst (λ i. slice_index_or (v ∷ vs) i [] ≡ w) here (sym (is-true w v same))

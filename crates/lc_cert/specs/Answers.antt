@@ -7,7 +7,7 @@ use Rattle.lc_reading.specs.declared.flaw.ReadFault.{ReadFault}
 use Rattle.lc_reading.specs.declared.flaw.ReadFault.TheVariants.{Flawed, OutOfMemory as NoMemory}
 use Rattle.lc_cert.specs.declared.entry.Entry.{Entry}
 
--- the last number behind what is read
+-- the last number after what is read
 abbrev pub last_told : Option ℕ → Result Entry ReadFault → Option ℕ
 last_told last (Ok e) = Some e.number
 last_told last (Err fault) = last
@@ -17,7 +17,7 @@ abbrev pub text_told : Fault → Fault
 text_told (Refused (Text offset)) = Refused (CertText offset)
 text_told fault = fault
 
--- a flaw is told by its least item
+-- a flaw is reported by its least item
 abbrev pub trees_told : ReadFault → Fault
 trees_told (Flawed f) = Refused (CertShape f.least)
 trees_told NoMemory = OutOfMemory

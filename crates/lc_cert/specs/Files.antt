@@ -31,7 +31,7 @@ IsTreeRefusal D bytes refusal = (ts : Trees) × (f : Flaw) × ReadsAs bytes ts �
 abbrev pub IsFirstRefusal : Development → List ℕ → Refusal → Type 0
 IsFirstRefusal D bytes refusal = IsTextRefusal bytes refusal ⊎ IsTreeRefusal D bytes refusal
 
--- the answer to the bytes of a certificate: its entries; else its first refusal, or want of memory
+-- the answer to the bytes of a certificate: its entries; else its first refusal, or out of memory
 abbrev pub IsAnswerTo : Development → List ℕ → Result Certificate Fault → Type 0
 IsAnswerTo D bytes (Ok certificate) = Certifies D bytes (entries_in certificate)
 IsAnswerTo D bytes (Err (Refused refusal)) = IsFirstRefusal D bytes refusal

@@ -27,8 +27,8 @@ number_before (suc k) = Some k
 abbrev pub piece_at : List ℕ → (ℕ → ℕ) → ℕ → List ℕ
 piece_at file at k = take (at (suc k) - at k) (drop (at k) file)
 
--- The k-th piece of a file that is cut at these places reads as this entry, which has number k: as the item that it is where the
--- pieces are these items, and behind the entry before it. The next piece is the item behind it.
+-- The k-th piece of a file that is cut at these places reads as this entry, which has number k: as its own item if the pieces are
+-- these items, and after the entry before it. The next piece is the item after it.
 pub record IsReadAlone (names : Names) (file : List ℕ) (at items : ℕ → ℕ) (k : ℕ) (e : Entry) : Type 0 where
   pub tree : Tree
   pub order : at k ≤ at (suc k)
@@ -42,7 +42,7 @@ abbrev pub AreReadAlone : Names → List ℕ → (ℕ → ℕ) → (ℕ → ℕ)
 AreReadAlone names file at items k [] = Unit {0}
 AreReadAlone names file at items k (e ∷ es) = IsReadAlone names file at items k e × AreReadAlone names file at items (suc k) es
 
--- What stands before the one place and behind the other is that of a certificate of this development around its entries.
+-- The bytes before the one place and after the other are those that a certificate of this development has around its entries.
 pub record IsFrame (D : Development) (file : List ℕ) (from to : ℕ) : Type 0 where
   pub word : List ℕ
   pub name : List ℕ
@@ -53,7 +53,7 @@ pub record IsFrame (D : Development) (file : List ℕ) (from to : ℕ) : Type 0 
   pub tail : IsTail (drop to file)
   pub size : length file ≤ file_limit
 
--- a file whose pieces read as these entries, in the frame of a certificate, where the first entry is item 3, is a certificate of them
+-- a file whose pieces read as these entries, in the frame of a certificate with the first entry as item 3, is a certificate of them
 abbrev pub ReadAloneIsReadWhole : Type 0
 ReadAloneIsReadWhole = (D : Development) (file : List ℕ) (at items : ℕ → ℕ) (es : List Entry) →
     IsFrame D file (at 0) (at (length es)) → items 0 ≡ 3 → AreReadAlone (names_with (column_names D)) file at items 0 es → Certifies D file es
@@ -62,18 +62,18 @@ ReadAloneIsReadWhole = (D : Development) (file : List ℕ) (at items : ℕ → �
 abbrev pub names_known : EntryReader → Names
 names_known r = names_with (listed r.columns)
 
--- what is answered of a reading: its entry, if it is fine
+-- what is returned for a reading: its entry, if it is fine
 abbrev pub IsGiven : Reading Entry → Option Read → Type 0
 IsGiven r None = (e : Entry) → r ≢ fine e
 IsGiven r (Some e) = r ≡ fine (entry_of e)
 
--- The text is a piece whose tree reads as this entry, of this number: as the item of the file that it is, behind the number before.
+-- The text is a piece whose tree reads as this entry, of this number: as the item of the file that it is, after the number before.
 pub record IsEntryText (names : Names) (text : List ℕ) (number item : ℕ) (t : Tree) (e : Entry) : Type 0 where
   pub piece : IsPieceOf t text
   pub reads : entry_reading names (number_before number) item t ≡ fine e
   pub number_is : e.number ≡ number
 
--- what is answered of a text: its entry and how many items it has, if it is one
+-- what is returned for a text: its entry and how many items it has, if it is one
 abbrev pub IsSingleRead : Names → List ℕ → ℕ → ℕ → Option Single → Type 0
 IsSingleRead names text number item None = (t : Tree) (e : Entry) → IsEntryText names text number item t e → ⊥
 IsSingleRead names text number item (Some s) = (t : Tree) × IsEntryText names text number item t (entry_of s.entry) × (s.items ≡ item_count t)

@@ -34,12 +34,12 @@ abbrev pub is_word : List ℕ → Tree → Bool
 is_word word (atom w) = is w word
 is_word word (list ts) = false
 
--- the item that begins the form, from m on, and those behind it
+-- the item that begins the form, from m on, and those after it
 abbrev pub word_reading : List (List ℕ) → List ℕ → ℕ → Trees → Reading (List Entry)
 word_reading columns name m none = wrong Shape 0
 word_reading columns name m (t ▸ ts) = if is_word (codes "certificate") t then named_reading columns name 0 (m + item_count t) ts else wrong Shape 0
 
--- the items of the form that are to come, from m on, by what is due
+-- the items of the form that are to come, from m on, by what is expected
 abbrev pub due_reading : List (List ℕ) → List ℕ → Due → ℕ → Trees → Reading (List Entry)
 due_reading columns name Word m ts = word_reading columns name m ts
 due_reading columns name Name m ts = named_reading columns name 0 m ts
@@ -70,14 +70,14 @@ IsNoted old Unread new = ⊥
 abbrev pub waiting_in : FormReader → List Entry
 waiting_in f = entries_of f.ready.items
 
--- what the form reads as of which these entries were taken: the items that were read, and those to come, from m on
+-- what the form reads as from which these entries were taken: the items that were read, and those to come, from m on
 abbrev pub form_due : List (List ℕ) → List ℕ → List Entry → FormReader → Due → ℕ → Trees → Reading (List Entry)
 form_due columns name taken f due m ts = both (λ es fs. es ++ fs) (read_so_far f.flaw (taken ++ waiting_in f)) (due_reading columns name due m ts)
 
 abbrev pub form_from : List (List ℕ) → List ℕ → List Entry → FormReader → ℕ → Trees → Reading (List Entry)
 form_from columns name taken f m ts = form_due columns name taken f f.due m ts
 
--- the items among these parts of a file that stand in its first form
+-- the items among these parts of a file that are in its first form
 abbrev pub in_first : List Part → Trees
 in_first [] = none
 in_first (p ∷ ps) = if p.form == 0 then (p.sexp ▸ in_first ps) else in_first ps
@@ -89,7 +89,7 @@ pub record IsForm (columns : List (List ℕ)) (name : List ℕ) (parts : List Pa
   pub few_taken : HaveFewSteps taken
   pub few_waiting : HaveFewSteps (waiting_in f)
 
--- what is told of a form that reads so, with these entries: an atom is wrong
+-- what is reported about a form that reads so, with these entries: an atom is wrong
 abbrev pub IsTold : Reading (List Entry) → List Entry → Tree → Result (Unit {0}) ReadFault → Type 0
 IsTold read es (atom w) told = told ≡ Err (Flawed (at Shape 0))
 IsTold read es (list ts) told = IsReading (λ (u : Unit {0}). es) read told
@@ -109,17 +109,18 @@ IsAfterTaking D fed taken r = IsUnderWay (column_names D) D.object.name fed take
 abbrev pub waiting : CertReader → List Entry
 waiting r = waiting_in r.form
 
--- an allocation was refused, so the reader answers nothing else any more
+-- it is out of memory, so the reader returns nothing else any more
 abbrev pub is_spent : CertReader → Bool
 is_spent r = r.out_of_memory
 
--- the answer to the bytes of a certificate of which these are the entries; else its first refusal, or want of memory
+-- the answer to the bytes of a certificate with these entries; else its first refusal, or out of memory
 abbrev pub IsAnswerOf : Development → List ℕ → List Entry → Result (Unit {0}) Fault → Type 0
 IsAnswerOf D bytes es (Ok u) = Certifies D bytes es
 IsAnswerOf D bytes es (Err (Refused refusal)) = IsFirstRefusal D bytes refusal
 IsAnswerOf D bytes es (Err OutOfMemory) = Unit {0}
 
--- A certificate that was read whole, and its answer in pieces with these entries, are alike: the same entries, or the same refusal, where memory sufficed.
+-- A certificate that was read whole, and its answer in pieces with these entries, are alike: the same entries, or the same refusal, if memory
+-- sufficed.
 abbrev pub AreSame : List Entry → Result Certificate Fault → Result (Unit {0}) Fault → Type 0
 AreSame es (Ok certificate) (Ok u) = entries_in certificate ≡ es
 AreSame es (Ok certificate) (Err (Refused refusal)) = ⊥

@@ -1,4 +1,4 @@
--- What a text reads as where a certificate is due.
+-- What a text reads as where a certificate is expected.
 use Rattle.std.specs.Prelude.{ℕ, ℤ, pos, negsuc, ◌+◌, codes, if◌then◌else◌, List, [], ◌∷◌, Option, Some, None}
 use Rattle.lc_sexp.specs.Trees.{Tree, Trees, atom, list, none, ◌▸◌, item_count, item_count_of_all}
 use Rattle.lc_kernel.specs.Proofs.{Proof}
@@ -36,7 +36,7 @@ parts_reading names last n m _ = wrong Shape n
 abbrev pub entry_reading : Names → Option ℕ → ℕ → Tree → Reading Entry
 entry_reading names last n t = behind_reading (codes "proof") (parts_reading names last) n t
 
--- the last number behind an item. Where the item is wrong, that is told before all that is wrong behind it
+-- the last number after an item. If the item is wrong, that is reported before everything that is wrong after it
 abbrev pub last_behind : Option ℕ → Reading Entry → Option ℕ
 last_behind last (fine e) = Some e.number
 last_behind last (flawed f) = last
@@ -47,7 +47,7 @@ entries_reading names last m none = fine []
 entries_reading names last m (t ▸ ts) =
     both (λ e es. e ∷ es) (entry_reading names last m t) (entries_reading names (last_behind last (entry_reading names last m t)) (m + item_count t) ts)
 
--- the item n where this name is due
+-- the item n, where this name is expected
 abbrev pub name_due : List ℕ → ℕ → Tree → Reading (Unit {0})
 name_due name n (atom w) = if is w name then fine tt else wrong Shape n
 name_due name n (list ts) = wrong Shape n
@@ -61,7 +61,7 @@ named_reading columns name n m (t ▸ ts) = both (λ u es. es) (name_due name m 
 abbrev pub form_reading : List (List ℕ) → List ℕ → ℕ → Tree → Reading (List Entry)
 form_reading columns name n t = behind_reading (codes "certificate") (named_reading columns name) n t
 
--- the form of the file, and no other. One that is missing is told at the number of items
+-- the form of the file, and no other. A missing one is reported at the number of items
 abbrev pub file_reading : List (List ℕ) → List ℕ → Trees → Reading (List Entry)
 file_reading columns name ts = only (form_reading columns name) (item_count_of_all ts) 0 ts
 

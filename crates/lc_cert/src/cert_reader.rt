@@ -10,8 +10,8 @@ use lc_reading::NameTable;
 use lc_sexp::{Part, Reader};
 use std::alloc::Global;
 
-/// Reads a certificate that comes in pieces, and hands out its proofs meanwhile. What is wrong is told at the end, as
-/// `certificate_of` tells it of the whole; after an allocation was refused it answers `OutOfMemory` from then on.
+/// Reads a certificate that comes in pieces, and hands out its proofs meanwhile. What is wrong is reported at the end, as
+/// `certificate_of` reports it for the whole; once out of memory it returns `OutOfMemory` from then on.
 ///
 /// Each call is given the same development. Only what was not taken is kept in memory.
 #[derive(Drop)]
@@ -80,7 +80,7 @@ impl CertReader {
         }
     }
 
-    /// Reads the parts that have ended. The names of columns are listed only where there is one.
+    /// Reads the parts that have ended. The names of columns are listed only if there is one.
     fn read_ready(&mut self, development: &Development) -> Result<(), OutOfMemory>
         ensures { OnOk result (is_reader_spent self.old.reader ≡ false → (fed : List ℕ) → (parts : List FilePart) → (taken : List Proved) →
             IsForm (column_names (development_shown development.now)) (development_shown development.now).object.name parts taken self.old.form →
@@ -99,7 +99,7 @@ impl CertReader {
         self.read_parts(&columns, name)
     }
 
-    /// Takes bytes that come behind what was fed.
+    /// Takes bytes that come after what was fed.
     fn feed_all(&mut self, development: &Development, piece: &[u8]) -> Result<(), OutOfMemory>
         ensures { OnOk result ((fed : List ℕ) → (taken : List Proved) → IsAfterTaking (development_shown development.now) fed taken self.old →
             IsAfterTaking (development_shown development.now) (fed ++ piece.now) taken self.new) }
@@ -123,8 +123,8 @@ impl CertReader {
         fed
     }
 
-    /// The next proof that has ended before anything that is wrong, and was not taken. `None` where there is none, and
-    /// after an allocation was refused.
+    /// The next proof that has ended before anything that is wrong, and was not taken. `None` if there is none, and once
+    /// out of memory.
     pub fn take(&mut self) -> Option<Entry>
         ensures entry { IfSome result (λ entry. (D : Shown) → (fed : List ℕ) → (taken : List Proved) →
             IsAfterTaking D fed taken self.old → IsAfterTaking D fed (taken ++ (entry_of entry ∷ [])) self.new) }

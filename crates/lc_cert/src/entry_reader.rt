@@ -98,7 +98,7 @@ impl<'a> EntryReader<'a> {
         Ok(EntryReader { columns })
     }
 
-    /// The entry of this number that the text is, read as this item of a file and behind the number before. Nothing where the
+    /// The entry of this number that the text is, read as this item of a file and after the number before. `None` if the
     /// text is no piece of a file, or its tree no such entry.
     pub fn read(
         &self,

@@ -16,7 +16,7 @@ use lc_sexp::{Cursor, Item, Sexp};
 use std::alloc::Global;
 use std::collections::VecDeque;
 
-/// What is due next in the form of a certificate.
+/// What is expected next in the form of a certificate.
 #[derive(Clone, Copy)]
 pub(crate) enum Due {
     /// The word that it begins with.
@@ -51,7 +51,7 @@ fn is_word(part: Part<'_>, word: &str) -> bool
     }
 }
 
-/// What is wrong in a form, and that another one stands behind it, at this item.
+/// What is wrong in a form, and that another form comes after it, at this item.
 fn ended_at(form: Result<(), ReadFault>, number: u64, others: Cursor<'_>) -> Result<(), ReadFault>
     ensures { result ≡ ended_result number (rest_of others.entry) form }
 {
@@ -76,7 +76,7 @@ impl FormReader {
     ghost use Rattle.lc_cert.specs.Pieces.{kept, form_due, form_from, waiting_in, IsNoted, IsForm, IsTold};
     ghost use Rattle.lc_cert.specs.declared.form_reader.Due.TheVariants.{Word, Name, Proofs};
 
-    /// A form of which nothing was read.
+    /// A form with nothing read yet.
     pub(crate) fn new(alloc: Global) -> FormReader
         ensures form { (columns : List (List ℕ)) → (name : List ℕ) → IsForm columns name [] [] result }
         ensures waiting { waiting_in result ≡ [] }
@@ -191,7 +191,7 @@ impl FormReader {
         }
     }
 
-    /// Reads the next item of the form. `OutOfMemory` is answered also of one with more items than a file has bytes.
+    /// Reads the next item of the form. `OutOfMemory` is returned also for one with more items than a file has bytes.
     pub(crate) fn read_item(
         &mut self,
         alloc: Global,
@@ -253,7 +253,7 @@ impl FormReader {
         }
     }
 
-    /// What is wrong in the file, whose forms are these without the items that stand in them.
+    /// What is wrong in the file, whose forms are these without their items.
     pub(crate) fn finish(&self, forms: Cursor<'_>) -> Result<(), ReadFault>
         ensures { (columns : List (List ℕ)) → (name : List ℕ) → (taken : List Proved) → (ts : Trees) → (n : ℕ) →
             IsForm columns name (parts_of ts) taken self.now → rest_of forms.entry ≡ without n ts → owner_of forms.entry ≡ item_count_of_all (rest_of forms.entry) →

@@ -31,7 +31,7 @@ pub fn printed_certificates_read_back()
 {}
 
 /// A certificate that is read in pieces, however it was cut, is what it is whole: the same proofs, or the same refusal.
-/// The proofs that were taken are the first of the whole, whatever comes behind what was fed; and none has more steps
+/// The proofs that were taken are the first of the whole, whatever comes after what was fed; and none has more steps
 /// than a file has bytes.
 pub fn a_certificate_in_pieces_is_the_whole()
     ensures same { (D : Development) (bytes : List ℕ) (es : List Entry) (whole : Result Certificate Fault) (told : Result (Unit {0}) Fault) → IsAnswerTo D bytes whole → IsAnswerOf D bytes es told → AreSame es whole told }
@@ -39,8 +39,8 @@ pub fn a_certificate_in_pieces_is_the_whole()
     ensures few_steps { (D : Development) (fed : List ℕ) (taken : List Entry) (r : CertReader) → IsAfterTaking D fed taken r → HaveFewSteps taken }
 {}
 
-/// A file that is cut into pieces, each of which reads as an entry by itself, with the number of the item that it is and behind
-/// the entry before it, is a certificate of these entries, where what stands before and behind them is that of one.
+/// A file that is cut into pieces, each of which reads as an entry by itself, with the number of its own item and after
+/// the entry before it, is a certificate of these entries, if what comes before and after them is that of one.
 pub fn entries_read_alone_are_read_whole()
     ensures { ReadAloneIsReadWhole }
 {}

@@ -51,7 +51,7 @@ fn write_entry(out: &mut String, columns: &[&str], entry: &Entry) -> Result<(), 
     Ok(())
 }
 
-/// Writes `(proof K P)*`, each behind a space.
+/// Writes `(proof K P)*`, each after a space.
 fn write_entries(out: &mut String, columns: &[&str], entries: &[Entry]) -> Result<(), OutOfMemory>
     ensures { OnOk result (string_bytes out.new ≡ string_bytes out.old ++ printed_others (entry_trees (spelled_with (names_in columns.now)) (entries_of entries.now))) }
 {

@@ -93,7 +93,7 @@ pub(crate) fn read_entry(
     read_parts(alloc, columns, last, list)
 }
 
-/// The last number behind what was read.
+/// The last number after what was read.
 fn last_behind(last: Option<u64>, entry: &Result<Entry, ReadFault>) -> Option<u64>
     ensures { result ≡ last_told last entry.now }
 {
@@ -124,7 +124,7 @@ fn read_entries(
     }
 }
 
-/// What is wrong in the item where this name is due.
+/// What is wrong in the item where this name is expected.
 pub(crate) fn read_due(name: &str, part: Part<'_>) -> Result<(), ReadFault>
     ensures { IsReading (λ u. u) (name_due name.now (place_of part.entry) (tree_of part.entry)) result }
 {
@@ -164,7 +164,7 @@ fn read_form(
     read_named(alloc, columns, name, list)
 }
 
-/// A certificate's form, which is all that is left in a list.
+/// A certificate's form, which must be the whole rest of a list.
 fn read_file(
     alloc: Global,
     columns: &NameTable<'_>,
@@ -200,8 +200,8 @@ pub(crate) fn trees_told(fault: ReadFault) -> Fault
 /// The certificate of a development that these bytes are: `(certificate NAME (proof K P)*)`, NAME the object's, each K a
 /// NUMBER from 0 on and above the one before it.
 ///
-/// Where they are none, `Refused` has the first refusal: `CertText` with the offset of the first text fault; else
-/// `CertShape` with the least item that is wrong, for whatever reason. `OutOfMemory` says nothing of the bytes.
+/// If they are none, `Refused` has the first refusal: `CertText` with the offset of the first text fault; else
+/// `CertShape` with the least item that is wrong, for whatever reason. `OutOfMemory` says nothing about the bytes.
 pub fn certificate_of(
     alloc: Global,
     development: &Development,

@@ -17,7 +17,7 @@ impl<'a, 'b> InCertificate<'a, 'b> {
     ghost use Rattle.std.specs.Prelude.{◌≡◌, IfOk};
     ghost use Rattle.lc_reading.specs.TableView.{listed};
 
-    /// The names of these columns. `OutOfMemory` is answered also where a column's number has more than 32 bits, as in no
+    /// The names of these columns. `OutOfMemory` is returned also if a column's number has more than 32 bits, as in no
     /// development.
     pub fn new(columns: &'b NameTable<'a>) -> Result<InCertificate<'a, 'b>, OutOfMemory>
         ensures { IfOk result (λ names. listed names.columns.now ≡ listed columns.now) }

@@ -55,7 +55,7 @@ counted_on D cert es (Err OutOfMemory) certifies h = tt
 pub count_derived : (D : Development) (cert : List ℕ) (n : ℕ) → AllUseTheirVariables D → IsCountOn D cert (Ok n) → AreDerived D
 count_derived D cert n uses h = counted_derived D h.1.0 n uses (h.0, h.1.2)
 
--- what is answered of a development that is known otherwise
+-- what is returned for a development that is known otherwise
 pub answered_of : (D E : Development) (cert : List ℕ) (r : CertReader) (p : Progress) (result : Result Accepted Fault) → D ≡ E → IsUpTo E cert r p → ((fed : List ℕ) → IsUpTo D fed r p → IsAnswerOn D fed result)
     → IsAnswerOn E cert result
 answered_of D E cert r p result e up f = subst (λ d. IsAnswerOn d cert result) e (f cert (subst (λ d. IsUpTo d cert r p) (sym e) up))

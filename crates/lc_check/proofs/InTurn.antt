@@ -1,4 +1,4 @@
--- Proofs that prove the first conditions, one for each, and those that come behind them.
+-- Proofs that prove the first conditions, one for each, and those that come after them.
 use Rattle.std.proofs.Common.{◌≡◌, ℕ, suc, ◌+◌, ◌<◌, ◌≤◌, inl, inr, true, List, [], ◌∷◌, ◌++◌, length, Option, Some, None, refl, sym, ◌∙◌, subst, arith, add-zero}
 use Rattle.std.proofs.lemmas.Bool.{and_parts, ltb-true}
 use Rattle.lc_base.specs.declared.refusal.Refusal.{Refusal}
@@ -25,7 +25,7 @@ skip_unproved e es n (c ∷ cs) r lt (inr (p, u)) =
 
 -- ---- the first of the conditions
 
--- those behind are proved too
+-- those that come after are proved too
 pub proved_behind : (k : ℕ) (es more : List Entry) (cs ds : List Condition) → ProveInTurn k es cs → AreProved more (k + length cs) ds → AreProved (es ++ more) k (cs ++ ds)
 proved_behind k [] more [] ds h g = subst (λ n. AreProved more n ds) (add-zero k) g
 proved_behind k [] more (c ∷ cs) ds h g = absurd h
@@ -37,7 +37,7 @@ proved_behind k (e ∷ es) more (c ∷ cs) ds h g =
       skip_proved e (es ++ more) (suc k) (cs ++ ds) (omega (arith, is)) (proved_behind (suc k) es more cs ds h.2 (subst (λ n. AreProved more n ds) later g)),
     )
 
--- one behind is the first that is not
+-- one that comes after is the first that is not
 pub unproved_behind : (k : ℕ) (es more : List Entry) (cs ds : List Condition) (r : Refusal) → ProveInTurn k es cs → IsFirstUnproved more (k + length cs) ds r → IsFirstUnproved (es ++ more) k (cs ++ ds) r
 unproved_behind k [] more [] ds r h g = subst (λ n. IsFirstUnproved more n ds r) (add-zero k) g
 unproved_behind k [] more (c ∷ cs) ds r h g = absurd h
@@ -50,7 +50,7 @@ unproved_behind k (e ∷ es) more (c ∷ cs) ds r h g =
       skip_unproved e (es ++ more) (suc k) (cs ++ ds) r (omega (arith, is)) (unproved_behind (suc k) es more cs ds r h.2 (subst (λ n. IsFirstUnproved more n ds r) later g)),
     )
 
--- an extra number stands behind
+-- an extra number comes after
 pub extra_behind : (k n : ℕ) (es more : List Entry) (cs : List Condition) (j : ℕ) → ProveInTurn k es cs → n ≡ k + length cs → IsExtra n (es ++ more) j → IsExtra n more j
 extra_behind k n [] more [] j h is x = x
 extra_behind k n [] more (c ∷ cs) j h is x = absurd h

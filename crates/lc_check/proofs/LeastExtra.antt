@@ -8,7 +8,7 @@ use Rattle.lc_kernel.specs.Proofs.{Proof}
 use Rattle.lc_cert.specs.Certificates.{Entry, is_above, is_rising, proof_at}
 use Rattle.lc_check.specs.Verdicts.{IsExtra, HasNoExtra, IsFirstExtra}
 
--- where the first entry has this number, and where it has another
+-- if the first entry has this number, and if it has another
 pub at_first : (e : Entry) (es : List Entry) (k : ℕ) → e.number ≡ k → proof_at (e ∷ es) k ≡ Some e.proof
 at_first e es k same = cond-true _ _ _ (eq-eqb e.number k same)
 

@@ -34,7 +34,7 @@ not_proved k c p (NotHolding step reason) h = (step, Bad reason, h, refl)
 not_proved k c p (TooLarge step) h = (step, Large, h, refl)
 not_proved k c p NoMore h = tt
 
--- ---- a refusal, whatever comes behind
+-- ---- a refusal, whatever comes after
 
 risen : (d : Development) (taken : List Entry) (p : Walk) (e : Entry) (more : List Entry) (h : IsInTurn d taken p) → is_rising None (taken ++ e ∷ more) ≡ true → (0 + length h.done ≤ e.number) × (is_rising (Some e.number) more ≡ true)
 risen d taken p e more h rises = rises_behind 0 None taken e more h.done h.proved (λ n above. omega arith) rises
@@ -91,7 +91,7 @@ certain_on d taken es r h more rises =
     let joined = append_assoc taken es more in
     subst (λ l. IsProofRefusal l (conditions d) r) (sym joined) (h (es ++ more) (subst (λ l. is_rising None l ≡ true) joined rises))
 
--- ---- nothing comes behind
+-- ---- nothing comes after
 
 pub certain_last : (d : Development) (taken : List Entry) (r : Refusal) → IsCertain d taken r → is_rising None taken ≡ true → IsProofRefusal taken (conditions d) r
 certain_last d taken r h rises =
@@ -123,7 +123,7 @@ all_in_turn d taken p h due =
       ),
     )
 
--- ---- what is told so far
+-- ---- what is reported so far
 
 pub none_of : (o : Option Refusal) → false ≡ is_some o → o ≡ None
 none_of None h = refl
@@ -146,7 +146,7 @@ still_told d taken es w (Some r) h told = certain_on d taken es r told
 pub told_on : (d : Development) (taken es : List Entry) (p : Progress) → true ≡ is_some p.told → IsProgress d taken p → IsProgress d (taken ++ es) p
 told_on d taken es p h told = still_told d taken es p.walk p.told h told
 
--- ---- where a condition is due
+-- ---- if a condition is expected
 
 pub missing_at : (d : Development) (taken : List Entry) (p : Walk) (e : Entry) → HasNext p → IsInTurn d taken p → (e.number ≡ p.next → ⊥) → IsCertain d (taken ++ e ∷ []) (Missing p.next)
 missing_at d taken p e lt h other =

@@ -1,4 +1,4 @@
--- Walks over the conditions of a development: what is done, what is due, and one proof more.
+-- Walks over the conditions of a development: what is done, what is expected, and one proof more.
 use Rattle.std.proofs.Common.{◌≡◌, zero, suc, ◌+◌, ◌<◌, ◌≤◌, List, [], ◌∷◌, ◌++◌, ℕ, map, drop, length, length-append, append_assoc, get_or, Some, refl, sym, ap, ap₂, ◌∙◌, subst, arith}
 use Rattle.std.proofs.lemmas.List.{drop_more}
 use Rattle.std.specs.Prelude.{Err, Vec}
@@ -59,16 +59,16 @@ past [] (suc i) le = refl
 past (x ∷ xs) zero le = absurd (omega (arith, le))
 past (x ∷ xs) (suc i) le = past xs i (omega (arith, le))
 
--- nothing is left of a part, so what is due stands behind it
+-- nothing is left of a part, so what is expected comes after it
 pub due_past : (d : Development) (p : Walk) → length p.part.items ≤ p.place → conditions_due d p ≡ conditions_left d p.stream
 due_past d p le = ap (λ l. map (condition_in p.terms) l ++ conditions_left d p.stream) (past p.part.items p.place le)
 
--- the part behind is at hand
+-- the next part is at hand
 pub due_in_part : (d : Development) (before : Walk) (ts : Table) (cs : List Condition) (stream : ConditionStream) → length before.part.items ≤ before.place
     → conditions_left d before.stream ≡ map (condition_in ts) cs ++ conditions_left d stream → map (condition_in ts) cs ++ conditions_left d stream ≡ conditions_due d before
 due_in_part d before ts cs stream le left = sym (due_past d before le ∙ left)
 
--- what is due behind it
+-- what is expected after it
 abbrev pub due_behind : Development → Table → List Condition → Walk → List S.Condition
 due_behind d ts rest p = map (condition_in ts) rest ++ conditions_left d p.stream
 
@@ -86,7 +86,7 @@ pub still_due : (d : Development) (old new : Walk) (rest : List Condition) → n
 still_due d old new rest stream is known kept =
     ap₂ (λ l s. l ++ conditions_left d s) (sym (ap (map (condition_in new.terms)) is ∙ still_seen old.terms new.terms rest known kept)) (sym stream)
 
--- ---- what is done and what is due
+-- ---- what is done and what is expected
 
 pub split : (d : Development) (taken : List Entry) (p : Walk) (cs : List S.Condition) (h : IsInTurn d taken p) → conditions_due d p ≡ cs → conditions d ≡ h.done ++ cs
 split d taken p cs h due = h.all ∙ ap (λ l. h.done ++ l) due
@@ -107,7 +107,7 @@ one_proved d taken old new c e h due at next p known =
       known = known;
     }
 
--- ---- where a condition is due
+-- ---- if a condition is expected
 
 pub some_left : (cs : List Condition) (i : ℕ) → i < length cs → (x : Condition) × (rest : List Condition) × (drop i cs ≡ x ∷ rest)
 some_left [] i lt = absurd (omega (arith, lt))

@@ -22,13 +22,13 @@ fault_of k (NotHolding step reason) = Refused (flaw_told k step (Bad reason))
 fault_of k (TooLarge step) = Refused (flaw_told k step Large)
 fault_of k NoMore = OutOfMemory
 
--- condition k is proved by this proof, or it is told why not; for want of memory nothing
+-- condition k is proved by this proof, or the reason is reported; nothing on `OutOfMemory`
 abbrev pub ProvesOne : ℕ → Condition → Proof → Result (Unit {0}) Fault → Type 0
 ProvesOne k c p (Ok u) = IsProved c (Some p)
 ProvesOne k c p (Err (Refused refusal)) = IsUnproved k c (Some p) refusal
 ProvesOne k c p (Err OutOfMemory) = Unit {0}
 
--- all conditions are proved, and so many they are, and there is no other proof; or it is told why not; for want of memory nothing
+-- all conditions are proved, n is their number, and there is no other proof; or the reason is reported; nothing on `OutOfMemory`
 abbrev pub CountsAll : List Entry → List Condition → Result ℕ Fault → Type 0
 CountsAll es cs (Ok n) = (n ≡ length cs) × ProvesAll es cs
 CountsAll es cs (Err (Refused refusal)) = IsProofRefusal es cs refusal

@@ -9,7 +9,7 @@ use Rattle.lc_check.specs.Walking.{IsInTurn}
 use Rattle.lc_check.specs.declared.progress.Progress.{Progress}
 use Rattle.lc_check.specs.declared.walk.Walk.{Walk}
 
--- whatever proofs come behind these with numbers that rise, this is their first refusal
+-- whatever proofs come after these with numbers that rise, this is their first refusal
 abbrev pub IsCertain : Development → List Entry → Refusal → Type 0
 IsCertain d taken refusal = (more : List Entry) → is_rising None (taken ++ more) ≡ true → IsProofRefusal (taken ++ more) (conditions d) refusal
 

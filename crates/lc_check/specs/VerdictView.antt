@@ -30,13 +30,13 @@ IfAccepted (Ok (Accepts accepted)) P = P (development_in accepted)
 IfAccepted (Ok (Refuses refusal)) P = Unit {0}
 IfAccepted (Err e) P = Unit {0}
 
--- what is accepted of a development and a certificate file; or it is told why not; for want of memory nothing
+-- what is accepted of a development and a certificate file; or the reason is reported; nothing on `OutOfMemory`
 abbrev pub IsAnswerOn : Development → List ℕ → Result Accepted Fault → Type 0
 IsAnswerOn D cert (Ok accepted) = (development_in accepted ≡ D) × IsProvenBy D cert
 IsAnswerOn D cert (Err (IsRefusedAs refusal)) = IsCertificateRefusal D cert refusal
 IsAnswerOn D cert (Err OutOfMemory) = Unit {0}
 
--- how many conditions a certificate file proves, if it is accepted; or it is told why not; for want of memory nothing
+-- how many conditions a certificate file proves, if it is accepted; or the reason is reported; nothing on `OutOfMemory`
 abbrev pub IsCountOn : Development → List ℕ → Result ℕ Fault → Type 0
 IsCountOn D cert (Ok n) = (n ≡ length (conditions D)) × IsProvenBy D cert
 IsCountOn D cert (Err (IsRefusedAs refusal)) = IsCertificateRefusal D cert refusal

@@ -45,7 +45,7 @@ IsFirstUnproved es k [] refusal = ⊥
 IsFirstUnproved es k (c ∷ cs) refusal =
     IsUnproved k c (proof_at es k) refusal ⊎ (IsProved c (proof_at es k) × IsFirstUnproved es (suc k) cs refusal)
 
--- ---- a certificate, where there are n conditions
+-- ---- a certificate, if there are n conditions
 
 -- there is a proof for number k, and no such condition
 pub record IsExtra (n : ℕ) (es : List Entry) (k : ℕ) : Type 0 where
@@ -56,7 +56,7 @@ pub record IsExtra (n : ℕ) (es : List Entry) (k : ℕ) : Type 0 where
 abbrev pub HasNoExtra : ℕ → List Entry → Type 0
 HasNoExtra n es = (k : ℕ) → IsExtra n es k → ⊥
 
--- the least extra number is told
+-- the least extra number is reported
 abbrev pub IsFirstExtra : ℕ → List Entry → Refusal → Type 0
 IsFirstExtra n es refusal = (k : ℕ) × IsExtra n es k × ((j : ℕ) → IsExtra n es j → k ≤ j) × (refusal ≡ Extra k)
 
@@ -78,7 +78,7 @@ IsProvenBy D cert = (es : List Entry) × Certifies D cert es × ProvesAll es (co
 abbrev pub IsAccepted : List ℕ → List ℕ → Development → Type 0
 IsAccepted dev cert D = Says file_reading dev D × IsProvenBy D cert
 
--- the first refusal of a file where a certificate of this development is due: of its text, of its items, of its proofs
+-- the first refusal of a file that should be a certificate of this development: of its text, of its items, of its proofs
 abbrev pub IsCertificateRefusal : Development → List ℕ → Refusal → Type 0
 IsCertificateRefusal D cert refusal = C.IsFirstRefusal D cert refusal ⊎ ((es : List Entry) × Certifies D cert es × IsProofRefusal es (conditions D) refusal)
 

@@ -19,7 +19,7 @@ ProveInTurn k [] (c ∷ cs) = ⊥
 ProveInTurn k (e ∷ es) [] = ⊥
 ProveInTurn k (e ∷ es) (c ∷ cs) = (e.number ≡ k) × IsProved c (Some e.proof) × ProveInTurn (suc k) es cs
 
--- the conditions that no proof has come for: of the part at hand, and of those behind it
+-- the conditions that no proof has come for: of the part at hand, and of those after it
 abbrev pub conditions_due : Development → Walk → List Condition
 conditions_due d w = map (condition_in w.terms) (drop w.place w.part.items) ++ conditions_left d w.stream
 
@@ -27,7 +27,7 @@ conditions_due d w = map (condition_in w.terms) (drop w.place w.part.items) ++ c
 abbrev pub IsKnown : Walk → Type 0
 IsKnown w = AreConditions w.terms (drop w.place w.part.items)
 
--- the next condition stands in the part at hand
+-- the next condition is in the part at hand
 abbrev pub HasNext : Walk → Type 0
 HasNext w = w.place < length w.part.items
 
@@ -39,18 +39,18 @@ pub record IsInTurn (d : Development) (taken : List Entry) (w : Walk) : Type 0 w
   pub count : w.next ≡ length done
   pub known : IsKnown w
 
--- the same conditions are due
+-- the same conditions are expected
 pub record IsAtDue (d : Development) (before after : Walk) : Type 0 where
   pub due : conditions_due d after ≡ conditions_due d before
   pub known : IsKnown before → IsKnown after
   pub next : after.next ≡ before.next
 
--- it stands at the first that is due, if there is one
+-- it is at the first that is expected, if there is one
 abbrev pub IsAdvanced : Development → Walk → Walk → Bool → Type 0
 IsAdvanced d before after true = IsAtDue d before after × HasNext after
 IsAdvanced d before after false = (conditions_due d before ≡ []) × (after.next ≡ before.next)
 
--- one proof more was taken, and one condition fewer is due
+-- one proof more was taken, and one condition fewer is expected
 pub record IsOneOn (d : Development) (e : Entry) (before after : Walk) : Type 0 where
   pub taken : (es : List Entry) → IsInTurn d es before → IsInTurn d (es ++ e ∷ []) after
   pub fewer : suc (length (conditions_due d after)) ≡ length (conditions_due d before)
@@ -59,7 +59,7 @@ pub record IsOneOn (d : Development) (e : Entry) (before after : Walk) : Type 0 
 abbrev pub IsNextUnproved : Development → Walk → Proof → Refusal → Type 0
 IsNextUnproved d w p refusal = (c : Condition) × (cs : List Condition) × (conditions_due d w ≡ c ∷ cs) × IsUnproved w.next c (Some p) refusal
 
--- the proof was taken; or it is told why not, and the same condition is next; for want of memory nothing
+-- the proof was taken; or the reason is reported, and the same condition is next; nothing on `OutOfMemory`
 abbrev pub IsProvenOn : Development → Proof → Walk → Walk → Result (Unit {0}) Fault → Type 0
 IsProvenOn d p before after (Ok u) = IsOneOn d (record { number = before.next; proof = p }) before after
 IsProvenOn d p before after (Err (Refused refusal)) = IsAtDue d before after × HasNext after × IsNextUnproved d before p refusal

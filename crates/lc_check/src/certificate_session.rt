@@ -37,9 +37,9 @@ impl Drop for Stage {
     }
 }
 
-/// A development, and a certificate of it that comes in pieces. Each proof is checked as soon as it has ended, and let go;
-/// the conditions are made part by part. What is wrong is told by `finish`, as `check_certificate` tells it of the whole,
-/// however the file was cut. After an allocation was refused it answers `OutOfMemory` from then on.
+/// A development, and a certificate of it that comes in pieces. Each proof is checked as soon as it has ended, and
+/// dropped; the conditions are made part by part. What is wrong is reported by `finish`, as `check_certificate` reports it
+/// for the whole, however the file was cut. Once out of memory it returns `OutOfMemory` from then on.
 #[derive(Drop)]
 pub struct CertificateSession {
     stage: Stage,
@@ -62,7 +62,7 @@ impl Model for CertificateSession {
     ghost invariant = { λ s. s.stage.out_of_memory ≡ false → (fed : List ℕ) × IsUpTo (development_shown s.stage.development) fed s.stage.reader s.stage.progress };
 }
 
-/// Where each condition of a development has a derivation, its object is linearizable by its specification.
+/// If each condition of a development has a derivation, its object is linearizable by its specification.
 pub(crate) fn derived_is_linearizable(development: &Development)
     requires { AreDerived (development_shown development.now) }
     ensures { IsLinearizableObject (development_shown development.now).specification (development_shown development.now).object }

@@ -20,10 +20,10 @@ use std::alloc::Global;
 
 /// The verdict on a development and a certificate file.
 ///
-/// They are accepted where the file is a certificate of the development with a derivation of each of its conditions and no
+/// They are accepted if the file is a certificate of the development with a derivation of each of its conditions and no
 /// other proof. Else they are refused so, for the first of these that is: `CertText` or `CertShape` of the file; of the least
 /// condition that has no proof `Missing`, or whose proof does not hold `Proof` or `Large` with the first step that does not;
-/// `Extra` with the least number of a proof that no condition has. `OutOfMemory` says nothing of the file.
+/// `Extra` with the least number of a proof that no condition has. `OutOfMemory` says nothing about the file.
 pub fn check_certificate(
     alloc: Global,
     development: Development,
@@ -39,11 +39,11 @@ pub fn check_certificate(
 
 /// The verdict on a development file and a certificate file.
 ///
-/// They are accepted where the one is a development, and the other a certificate of it with a derivation of each of its
+/// They are accepted if the one is a development, and the other a certificate of it with a derivation of each of its
 /// conditions and no other proof. Then the development that is accepted is the one that the file says, and for every number of
 /// clients and every list of single-access steps of its object the history of calls and returns is linearizable by its
 /// specification. Else they are refused: with the first refusal of the development file; else with that of the certificate
-/// file, as `check_certificate` says. `OutOfMemory` says nothing of the files.
+/// file, as `check_certificate` says. `OutOfMemory` says nothing about the files.
 pub fn check(alloc: Global, dev: &[u8], cert: &[u8]) -> Result<Verdict, OutOfMemory>
     ensures exactly { IfOk result (IsVerdict dev.now cert.now) }
     ensures linearizable { IfAccepted result (λ D. Says file_reading dev.now D × IsLinearizableObject D.specification D.object) }
@@ -53,15 +53,15 @@ pub fn check(alloc: Global, dev: &[u8], cert: &[u8]) -> Result<Verdict, OutOfMem
     session.finish()
 }
 
-/// How many conditions a development has, where a file is a certificate of it that is accepted; else the refusal that
-/// `check_certificate` tells. `OutOfMemory` says nothing of the file.
+/// How many conditions a development has, if a file is a certificate of it that is accepted; else the refusal that
+/// `check_certificate` tells. `OutOfMemory` says nothing about the file.
 pub fn proven_count(alloc: Global, development: &Development, cert: &[u8]) -> Result<u64, Fault>
     ensures { IsCountOn (development_shown development.now) cert.now result }
 {
     proven_count_by(alloc, development, &mut Alone, cert)
 }
 
-/// How many conditions a development has, where this prover finds each of them proved by a file; else the refusal that it finds.
+/// How many conditions a development has, if this prover finds each of them proved by a file; else the refusal that it finds.
 pub fn proven_count_by<P: Prover>(
     alloc: Global,
     development: &Development,
@@ -79,7 +79,7 @@ pub fn proven_count_by<P: Prover>(
     progress.answer(alloc, development)
 }
 
-// The verdict where no count is known for this reason.
+// The verdict if no count is known for this reason.
 fn refused_for(fault: Fault) -> Result<Verdict, OutOfMemory>
     ensures exactly { (D : Shown) → (cert : List ℕ) → IsCountOn D cert (Err fault) → IfOk result (IsVerdictOn D cert) }
     ensures linearizable { IfAccepted result (λ D. IsLinearizableObject D.specification D.object) }
@@ -90,7 +90,7 @@ fn refused_for(fault: Fault) -> Result<Verdict, OutOfMemory>
     }
 }
 
-/// The verdict on a development and a certificate file, of which it is known how many conditions are proved, or why not.
+/// The verdict on a development and a certificate file, given how many conditions are proved, or why not.
 pub fn verdict_by_count(
     development: Development,
     cert: &[u8],

@@ -13,7 +13,7 @@ pub fn two_files_have_one_verdict()
     ensures one_refusal { (dev cert : List ℕ) (r s : Refusal) → IsRefused dev cert r → IsRefused dev cert s → r ≡ s }
 {}
 
-/// Where two files are accepted, for every number of clients and every list of single-access steps of the development's
+/// If two files are accepted, then for every number of clients and every list of single-access steps of the development's
 /// object the history of calls and returns is linearizable by its specification.
 pub fn what_is_accepted_is_linearizable()
     ensures { (dev cert : List ℕ) (D : Development) → IsAccepted dev cert D → IsLinearizableObject D.specification D.object }

@@ -1,4 +1,4 @@
-//! The verdict on a development file and a certificate file: where they are accepted, the development's object is linearizable.
+//! The verdict on a development file and a certificate file: if they are accepted, the development's object is linearizable.
 #![tactic(auto)]
 
 mod certificate_session;

@@ -1,4 +1,4 @@
-//! The first refusal of proofs that come one after another, told as soon as it is certain.
+//! The first refusal of proofs that come one after another, reported as soon as it is certain.
 
 use crate::proving::Prover;
 use crate::walk::Walk;
@@ -11,7 +11,7 @@ use std::alloc::Global;
 /// How far the conditions of a development are proved, by proofs whose numbers rise. Each call is given the same development.
 pub(crate) struct Progress {
     walk: Walk,
-    /// Why the proofs are refused, whatever comes behind those that were taken.
+    /// Why the proofs are refused, whatever comes after those that were taken.
     told: Option<Refusal>,
 }
 
@@ -67,8 +67,8 @@ impl Progress {
         }
     }
 
-    /// Takes a proof, whose number is above those of all that were taken: it proves the next condition, or it is told why the
-    /// proofs are refused.
+    /// Takes a proof, whose number is above those of all that were taken: it proves the next condition, or the reason why the
+    /// proofs are refused is noted.
     pub(crate) fn take<P: Prover>(
         &mut self,
         alloc: Global,
@@ -95,7 +95,7 @@ impl Progress {
         self.prove_next(alloc, development, prover, &entry.proof)
     }
 
-    /// How many conditions there are, where those that were taken are all proofs, and each condition is proved, and there is no
+    /// How many conditions there are, if those that were taken are all proofs, and each condition is proved, and there is no
     /// other proof; else why they are refused.
     pub(crate) fn answer(&mut self, alloc: Global, development: &Development) -> Result<u64, Fault>
         ensures { (taken : List Proved) → IsProgress (development_shown development.now) taken self.old → is_rising None taken ≡ true →

@@ -12,9 +12,9 @@ enum State {
     UnderWay(CertificateSession),
 }
 
-/// A development file, and a certificate file that comes in pieces. What is wrong, of either, is told by `finish`, as `check`
-/// tells it of two whole files. That is one verdict for each pair of files (`two_files_have_one_verdict`), so it is the same
-/// however the certificate was cut. After an allocation was refused it answers `OutOfMemory` from then on.
+/// A development file, and a certificate file that comes in pieces. What is wrong, of either, is reported by `finish`, as
+/// `check` reports it for two whole files. That is one verdict for each pair of files (`two_files_have_one_verdict`), so it
+/// is the same however the certificate was cut. Once out of memory it returns `OutOfMemory` from then on.
 #[derive(Drop)]
 pub struct Session {
     state: State,
@@ -41,7 +41,7 @@ impl Session {
         Ok(Session { state })
     }
 
-    /// Takes the next piece of the certificate, which may be empty. Where the development is refused, nothing is read.
+    /// Takes the next piece of the certificate, which may be empty. If the development is refused, nothing is read.
     pub fn feed(&mut self, piece: &[u8]) -> Result<(), OutOfMemory>
         ensures fed { OnOk result ((dev fed : List ℕ) → IsFed dev fed self.old → IsFed dev (fed ++ piece.now) self.new) }
         ensures spent { is_spent self.new ≡ is_err result }
@@ -53,7 +53,7 @@ impl Session {
         }
     }
 
-    /// The verdict on the two files, of which the certificate ends here, as `check` says.
+    /// The verdict on the two files, when the certificate ends here, as `check` says.
     pub fn finish(self) -> Result<Verdict, OutOfMemory>
         ensures exactly { (dev cert : List ℕ) → IsFed dev cert self → IfOk result (IsVerdict dev cert) }
         ensures linearizable { IfAccepted result (λ D. ((dev cert : List ℕ) → IsFed dev cert self → Says file_reading dev D) × IsLinearizableObject D.specification D.object) }

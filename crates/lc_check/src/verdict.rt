@@ -32,7 +32,7 @@ impl Accepted {
     ghost use Rattle.lc_sound.specs.Derived.{AreDerived};
     ghost use Rattle.lc_check.specs.VerdictView.{development_in};
 
-    /// The development, each of whose conditions has a derivation, and which has so many.
+    /// The development, each of whose conditions has a derivation; `count` is their number.
     pub fn new(development: Development, count: u64) -> Accepted
         requires derived { ∥ AreDerived (development_shown development) ∥₁ }
         requires counted { count ≡ length (conditions (development_shown development)) }

@@ -20,12 +20,12 @@ pub struct Walk {
     stream: ConditionStream,
     /// The table of the part.
     pub terms: Terms,
-    /// With more entries than this, of which proofs made some, the table is begun anew before the next part is made. It is twice
-    /// what was entered for the largest part, so that what parts share, as the invariant, is not entered anew for each.
+    /// With more entries than this, some of them made by proofs, the table is begun anew before the next part is made. It is
+    /// twice what was entered for the largest part, so that what parts share, as the invariant, is not entered anew for each.
     most: usize,
     /// The conditions at hand.
     pub part: Vec<Condition>,
-    /// Where the next condition stands in the part.
+    /// Where the next condition is in the part.
     pub place: usize,
     /// The number of the next condition.
     pub next: u64,
@@ -84,7 +84,7 @@ impl Walk {
         })
     }
 
-    /// Goes on to the next condition, past parts of which none is left; whether there is one.
+    /// Goes on to the next condition, past parts with none left; whether there is one.
     pub fn advance(&mut self, alloc: Global, development: &Development) -> Result<bool, OutOfMemory>
         ensures { IfOk result (IsAdvanced (development_shown development.now) self.old self.new) }
     {
@@ -105,7 +105,7 @@ impl Walk {
         Ok(true)
     }
 
-    /// Whether a proof proves the next condition, which then is behind; else the refusal of the proof.
+    /// Whether a proof proves the next condition, so that the one after it is next; else the refusal of the proof.
     pub fn prove_next(
         &mut self,
         alloc: Global,

@@ -33,13 +33,13 @@ formulas_joined ts ks ls fs gs a b = record {
   trees = map-append (formula_in ts) ks ls ∙ ap₂ (λ x y. x ++ y) a.trees b.trees;
 }
 
--- some formulas, and others behind them that are entered later
+-- some formulas, and after them others that are entered later
 pub formulas_behind : (old new : Table) (ks ls now : List FormulaId) (fs gs : List Formula) → HasFormulas old ks fs → Keeps old new → HasFormulas new ls gs → now ≡ ks ++ ls → HasFormulas new now (fs ++ gs)
 formulas_behind old new ks ls now fs gs a kept b joins =
     (let P : List FormulaId → Type 0 = λ l. HasFormulas new l (fs ++ gs) in
     subst P (sym joins) (formulas_joined new ks ls fs gs (formulas_later old new ks fs a kept) b))
 
--- some formulas that are entered later, and others behind them
+-- some formulas that are entered later, and others after them
 pub formulas_ahead : (old new : Table) (ks ls now : List FormulaId) (fs gs : List Formula) → HasFormulas old ls gs → Keeps old new → HasFormulas new ks fs → now ≡ ks ++ ls → HasFormulas new now (fs ++ gs)
 formulas_ahead old new ks ls now fs gs b kept a joins =
     (let P : List FormulaId → Type 0 = λ l. HasFormulas new l (fs ++ gs) in
@@ -128,7 +128,7 @@ adds_both a b c ts xs ys h k = record {
   read = map-append (condition_in ts) h.added k.added ∙ ap₂ (λ x y. x ++ y) h.read k.read;
 }
 
--- some conditions, and others behind them
+-- some conditions, and others after them
 pub adds_on : (a b c : List Condition) (old new : Table) (xs ys : List S.Condition) → Adds a old b xs → Keeps old new → Adds b new c ys → Adds a new c (xs ++ ys)
 adds_on a b c old new xs ys h kept k = adds_both a b c new xs ys (adds_later a old new b xs h kept) k
 
@@ -142,7 +142,7 @@ adds_to_none ts now said h =
 pub formulas_are : (ts : Table) (ks : List FormulaId) → AreFormulas ts ks → HasFormulas ts ks (formulas_in ts ks)
 formulas_are ts ks h = record { are = h; trees = refl }
 
--- the first of them, so many
+-- the first n of them
 pub first_are : (ts : Table) (ks : List FormulaId) (n : ℕ) → AreFormulas ts ks → AreFormulas ts (take n ks)
 first_are ts ks zero h = tt
 first_are ts [] (suc n) h = tt

@@ -1,4 +1,4 @@
--- Variables below a count: the edges of an object's code, in which the variables of their operation stand alone.
+-- Variables below a count: the edges of an object's code, which have only the variables of their operation.
 use Rattle.std.proofs.Common.{◌≡◌, ℕ, zero, suc, ◌+◌, ◌&&◌, true, List, [], ◌∷◌, Some, IsTrue, refl, sym, subst, ap, ◌∙◌, arith}
 use Rattle.std.specs.Prelude.{nat_lt, slice_get}
 use Rattle.std.specs.List.{list_all}
@@ -141,7 +141,7 @@ edges_at-below object op k (If f l m) h =
     ))
 edges_at-below object op k (Return vs) h = ((refl, λ o is. record { facts = tt; values = tt; updates = tt }), tt)
 
--- in the body of the operation where the edge stands
+-- in the body of the operation that the edge is in
 abbrev pub StandsBelow : Object → Edge → Type 0
 StandsBelow object e = (point : Point) (o : Operation) → slice_get object.points e.point ≡ Some point → slice_get object.operations point.operation ≡ Some o → EdgeBelow (variable_count o) e
 

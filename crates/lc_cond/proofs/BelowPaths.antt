@@ -1,4 +1,4 @@
--- Variables below a count: the paths of riders. Whatever the riders and the branches say, they are told in variables below it.
+-- Variables below a count: the paths of riders. Whatever the riders and the branches say, they are said in variables below it.
 use Rattle.std.proofs.Common.{ℕ, suc, List, [], ◌∷◌, ◌++◌, map, take, Option, Some, None, IsTrue, refl}
 use Rattle.std.proofs.lemmas.Bool.{and_from}
 use Rattle.lc_term.specs.Lists.{Every}

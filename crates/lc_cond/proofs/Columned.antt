@@ -1,4 +1,4 @@
--- The conditions of columns, one after another, and what stands in columns by number.
+-- The conditions of columns, one after another, and what columns hold, by number.
 use Rattle.std.proofs.Common.{◌≡◌, ℕ, zero, suc, ◌+◌, ◌<◌, ◌&&◌, ◌==◌, List, [], ◌∷◌, ◌++◌, length, take, get_or, if◌then◌else◌, refl, sym, subst, ap, ap₂, ◌∙◌, arith, append_assoc, append-nil, add-zero, add-one, true, false}
 use Rattle.std.proofs.lemmas.Bool.Decides.{nat_tests}
 use Rattle.std.proofs.lemmas.List.{take_more}
@@ -44,7 +44,7 @@ pub none_more : (ps : List (ColId × ColExprId)) (i c : ℕ) (d : ColId × ColEx
 none_more ps i c d below other so_far =
     subst (HasNone c) (sym (take_more ps i d below)) (Every-append (λ (p : ColId × ColExprId). (p.0.0 == c) ≡ false) (take i ps) (get_or ps i d ∷ []) so_far (other, tt))
 
--- so the column itself stands in it
+-- so it holds the column itself
 pub none_stored : (ts : Table) (ps : List (ColId × ColExprId)) (c : ℕ) → HasNone c ps → columns_at ts ps c ≡ Base c
 none_stored ts [] c h = refl
 none_stored ts (p ∷ ps) c h = ap (λ b. if b then column_in ts p.1 else columns_at ts ps c) h.0 ∙ none_stored ts ps c h.1
@@ -61,7 +61,7 @@ column_absent h c hs ts ps qs σ π columns action left right before =
     let unwritten : (is_base c (σ c) && is_base c (π c)) ≡ true = ap₂ (λ x y. is_base c x && is_base c y) l r ∙ ap (λ b. b && b) (same_self c) in
     subst (λ b. Adds before ts before (if b then [] else condition_made h (OfColumn c) hs (same_column (σ c) (π c)) ∷ [])) (sym unwritten) (adds_nothing before ts)
 
--- the condition of what stands in it
+-- the condition for what it holds
 pub column_sides : (h : Head) (c : ℕ) (hs : List Formula) (before now : List M.Condition) (ts : Table) (x y : Column) (σ π : ℕ → Column) → x ≡ σ c → y ≡ π c →
     Adds before ts now (if is_base c x && is_base c y then [] else condition_made h (OfColumn c) hs (same_column x y) ∷ []) →
     Adds before ts now (if is_base c (σ c) && is_base c (π c) then [] else condition_made h (OfColumn c) hs (same_column (σ c) (π c)) ∷ [])

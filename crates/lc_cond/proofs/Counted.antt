@@ -1,4 +1,4 @@
--- Variables in order, and zeros behind them.
+-- Variables in order, and zeros after them.
 use Rattle.std.proofs.Common.{◌≡◌, ℕ, zero, suc, ◌+◌, List, [], ◌∷◌, ◌++◌, if◌then◌else◌, nat_lt, pos, map, refl, sym, ap, ◌∙◌, arith, add-zero, add-one, true, ◌<◌}
 use Rattle.std.proofs.lemmas.Bool.Decides.{nat_tests}
 use Rattle.lc_term.specs.Syntax.{Term, Number, Variable}

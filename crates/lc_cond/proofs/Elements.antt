@@ -42,7 +42,7 @@ pub Every-places : {A B : Type 0} (P : A → Type 0) (Q : B → Type 0) (f : ℕ
 Every-places P Q f k [] h p = tt
 Every-places P Q f k (x ∷ xs) h p = Every-append Q (f k x) (concat_places f (suc k) xs) (h k x p.0) (Every-places P Q f (suc k) xs h p.1)
 
--- and each element stands at its place
+-- and each element is at its place
 pub Every-placed : {A B : Type 0} (Q : B → Type 0) (f : ℕ → A → List B) (k : ℕ) (xs : List A) → ((j : ℕ) (x : A) → slice_get xs j ≡ Some x → Every Q (f (k + j) x)) → Every Q (concat_places f k xs)
 Every-placed Q f k [] h = tt
 Every-placed Q f k (x ∷ xs) h =

@@ -1,4 +1,4 @@
--- Conditions where a call begins.
+-- The conditions that are asked when a call begins.
 use Rattle.std.proofs.Common.{◌≡◌, ℕ, ◌+◌, Some, None, length, ap}
 use Rattle.lc_object.specs.View.{operation_of}
 use Rattle.lc_object.specs.declared.parts.Operation.{Operation}

@@ -32,7 +32,7 @@ use Rattle.lc_cond.proofs.Sized.{start_sized, stable_length, are_counted}
 
 -- ---- lists
 
--- where something stands that is seen so
+-- the place of something that is seen so
 pub seen_at : {A C : Type 0} (view : C → A) (xs : List C) (ys : List A) (i : ℕ) (x : C) → map view xs ≡ ys → i < length xs → x ≡ get_or xs i x → slice_get ys i ≡ Some (view x)
 seen_at view xs ys i x e below is = ap (λ l. slice_get l i) (sym e) ∙ slice_get-map view xs i ∙ ap (option_map view) (slice_get-get_or xs i x below ∙ ap Some (sym is))
 
@@ -77,7 +77,7 @@ limited_at object n (x ∷ os) h (suc k) o e =
 
 -- ---- the parts of the list
 
--- where a call begins in one of these operations
+-- when a call begins in one of these operations
 begun : (object : O.Object) (n : ℕ) (os : List O.Operation) (rest : List S.Part) → are_operations object n os ≡ true → ((j m : ℕ) (o : O.Operation) → slice_get rest j ≡ Some (S.Begin m o) → ⊥) →
     (k m : ℕ) (o : O.Operation) → slice_get (numbered S.Begin n os ++ rest) k ≡ Some (S.Begin m o) → has_limits o ≡ true
 begun object n [] rest h never k m o e = absurd (never k m o e)
@@ -242,7 +242,7 @@ module _ (D : Development) (h : is_resolved D ≡ true) (t : is_limited D ≡ tr
       by (Some point) at =
           (let f = found point (slice_get D.object.operations point.operation) (at_all (is_point D.object) D.object.points p point (right_true _ _ (resolved D h).object) at) in of point f.0 at f.1)
 
-  -- what is asserted at a point speaks of no more variables than code may have
+  -- what is asserted at a point uses no more variables than code may have
   pub asserts_below : (p : ℕ) → Every (IsBelow code_variable_limit) (asserts_at D p)
   asserts_below p = by (slice_get D.object.points p) refl
     where

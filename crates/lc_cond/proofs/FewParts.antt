@@ -87,7 +87,7 @@ edges_from_few object p (point ∷ points) =
 pub edges_few : (D : Development) → is_resolved D ≡ true → length (edges D.object) ≤ edge_limit
 edges_few D h = (let most = edges_from_few D.object 0 D.object.points in let points = points_few D h in omega (arith, most, points))
 
--- where a part stands
+-- the place of a part
 pub parts_few : (D : Development) → is_resolved D ≡ true → (es : List Edge) → length es ≤ edge_limit → (k : ℕ) (p : S.Part) → slice_get (parts_along D es) k ≡ Some p → k < part_limit
 parts_few D h es few k p e =
     (let stays = numbered S.Stay 0 D.object.points in

@@ -1,4 +1,4 @@
--- Terms that stand in the cells of a client, one after another.
+-- Terms that the cells of a client hold, one after another.
 use Rattle.std.proofs.Common.{◌≡◌, ℕ, ◌≤◌, List, [], ◌∷◌, ◌++◌, length, drop, map, refl, sym, ap, ◌∙◌, append-nil}
 use Rattle.std.proofs.Math.ListN.{drop_of_length-le}
 use Rattle.lc_base.specs.declared.ids.ColId.{ColId}

@@ -37,7 +37,7 @@ module _ {A B : Type 0} (f : A → List B) where
       let b = length-append (f q) (concat_map f (take k ps)) in
       omega (arith, a, b, rest)
 
-  -- none stands at this place or behind it
+  -- there is none at this place or after it
   pub all_ahead : (ps : List A) (k : ℕ) → slice_get ps k ≡ None → ahead ps k ≡ length (concat_map f ps)
   all_ahead [] zero h = refl
   all_ahead [] (suc k) h = refl
@@ -59,7 +59,7 @@ module _ {A B : Type 0} (f : A → List B) where
       let b = length-append (f q) (concat_map f ps) in
       omega (arith, a, b, rest)
 
-  -- what comes of one stands behind what comes of those before it
+  -- what comes of one is after what comes of those before it
   pub stands : (ps : List A) (k : ℕ) (p : A) (j : ℕ) (x : B) → slice_get ps k ≡ Some p → slice_get (f p) j ≡ Some x → slice_get (concat_map f ps) (ahead ps k + j) ≡ Some x
   stands [] k p j x h g = cc
   stands (q ∷ ps) zero p j x h g =
@@ -71,7 +71,7 @@ module _ {A B : Type 0} (f : A → List B) where
       let at : ahead (q ∷ ps) (suc k) + j ≡ length (f q) + (ahead ps k + j) = omega (arith, a) in
       ap (slice_get (f q ++ concat_map f ps)) at ∙ stands_behind (f q) (concat_map f ps) (ahead ps k + j) x (stands ps k p j x h g)
 
--- where something stands in a list
+-- the place of something in a list
 pub stands_within : {A : Type 0} (xs : List A) (k : ℕ) (x : A) → slice_get xs k ≡ Some x → k < length xs
 stands_within [] k x e = cc
 stands_within (y ∷ xs) zero x e = omega arith
@@ -102,7 +102,7 @@ module _ (D : Development) where
   pub first_at : (ns : List ℕ) (j n : ℕ) → AreFirsts D 0 ns → j < length ns → n ≡ get_or ns j n → n ≡ count_before D j
   first_at ns j n h lt is = (let a : 0 + j ≡ j = omega arith in first_got 0 ns j n h lt is ∙ ap (count_before D) a)
 
-  -- as many as there are stand before what stands behind all parts
+  -- as many as there are come before what comes after all parts
   pub all_before : (k : ℕ) → slice_get (parts D) k ≡ None → count_before D k ≡ length (conditions D)
   all_before k h = all_ahead (conditions_in D) (parts D) k h ∙ ap length (in_parts D)
 
@@ -163,7 +163,7 @@ module _ (D : Development) where
             (omega (arith, low, least, is, here, place_is), omega (arith, low, most, size, is, here, place_is)));
       }
 
-  -- where no part stands there is no such condition
+  -- if no part is there, there is no such condition
   pub none_stands : (ts : Table) (number place : ℕ) (part : NumberedPart) → part.first ≡ 0 → part.conditions.items ≡ [] → slice_get (parts D) place ≡ None
       → (number < length (conditions D) → place < length (parts D)) → IsPartWith D ts number part
   none_stands ts number place part first items at among = record {

@@ -1,4 +1,4 @@
--- Variables that stand for themselves: in a formula that speaks of no others they are as if none were put in.
+-- Variables that stand for themselves: in a formula that uses no others they are as if none were put in.
 use Rattle.std.proofs.Common.{◌≡◌, ℕ, zero, suc, ◌+◌, ◌<◌, ◌&&◌, Bool, true, List, [], ◌∷◌, map, IsTrue, refl, ap, ap₂, ◌∙◌, arith, zero-add}
 use Rattle.std.specs.Prelude.{nat_lt}
 use Rattle.std.proofs.lemmas.Bool.{and_parts}
@@ -64,7 +64,7 @@ module _ (n : ℕ) where
     formulas_alike r q a m (more f fs) h =
         let p = and_parts (passes (λ d. variables_below n) m f) (all_pass (λ d. variables_below n) m fs) h in ap₂ more (formula_alike r q a m f p.0) (formulas_alike r q a m fs p.1)
 
--- a variable of those from m on, so many
+-- a variable of the n from m on
 variable_at : (m n k : ℕ) → k < n → term_at (variables_from m n) k ≡ Variable (m + k)
 variable_at m zero k h = absurd (omega arith)
 variable_at m (suc n) zero h = ap Variable (omega arith)

@@ -1,4 +1,4 @@
--- Which part stands at a place, and what is left behind it.
+-- Which part is at a place, and what is left after it.
 use Rattle.std.proofs.Common.{◌≡◌, ℕ, zero, suc, ◌+◌, ◌-◌, ◌<◌, ◌≤◌, Some, None, List, [], ◌∷◌, ◌++◌, map, drop, length, get_or, slice_get, refl, sym, ap, ◌∙◌, arith, add-zero}
 use Rattle.std.proofs.lemmas.Option.{none-some, same_Some, slice_get_past}
 use Rattle.lc_term.specs.Lists.{numbered}
@@ -16,7 +16,7 @@ module _ {A B C : Type 0} (view : C → A) where
   mapped_at f (y ∷ xs) rest zero x below is = ap (λ z. Some (f (view z))) (sym is)
   mapped_at f (y ∷ xs) rest (suc k) x below is = mapped_at f xs rest k x (omega arith) is
 
-  -- one behind them
+  -- one after them
   pub numbered_behind : (f : ℕ → A → B) (n : ℕ) (xs : List C) (rest : List B) (k : ℕ) → length xs ≤ k → slice_get (numbered f n (map view xs) ++ rest) k ≡ slice_get rest (k - length xs)
   numbered_behind f n [] rest k past = let e : k ≡ k - 0 = omega arith in ap (slice_get rest) e
   numbered_behind f n (y ∷ xs) rest zero past = absurd (omega arith)
@@ -27,7 +27,7 @@ module _ {A B C : Type 0} (view : C → A) where
   mapped_behind f (y ∷ xs) rest zero past = absurd (omega arith)
   mapped_behind f (y ∷ xs) rest (suc k) past = let e : k - length xs ≡ suc k - length (y ∷ xs) = omega arith in mapped_behind f xs rest k (omega arith) ∙ ap (slice_get rest) e
 
--- what stands from a place on: what is at the place, and what stands behind it
+-- what is from a place on: what is at the place, and what comes after it
 pub drop_one : {A : Type 0} (xs : List A) (k : ℕ) (x : A) → slice_get xs k ≡ Some x → drop k xs ≡ x ∷ drop (suc k) xs
 drop_one [] k x at = absurd (none-some x at)
 drop_one (y ∷ xs) zero x at = ap (λ z. z ∷ xs) (same_Some y x at)
@@ -39,7 +39,7 @@ drop_past [] (suc k) at = refl
 drop_past (y ∷ xs) zero at = absurd (none-some y (sym at))
 drop_past (y ∷ xs) (suc k) at = drop_past xs k at
 
--- one behind the others, and none behind it
+-- one after the others, and none after it
 pub only_first : {A : Type 0} (x : A) (k n : ℕ) → k ≡ n → slice_get (x ∷ []) (k - n) ≡ Some x
 only_first x k n is = (let e : k - n ≡ 0 = omega (arith, is) in ap (slice_get (x ∷ [])) e)
 

@@ -85,7 +85,7 @@ reply_said s ts j hs σ ps vs k goals columns variables reply =
 
 -- ---- duties
 
--- the conditions of the first duties, so many, where these are the facts
+-- the conditions of the first j duties, if these are the facts
 abbrev pub DutiesBelow : Scene → ℕ → List FormulaId → List Duty → ℕ → List Condition → List Condition → Type 0
 DutiesBelow s j facts ds i before now =
     (ts : Table) (hs fs : List Formula) → HasFormulas ts s.hypotheses.items hs → HasFormulas ts facts fs → AreGoals ts ds → Adds before ts now (duty_conditions s j hs (map (duty_in fs) (map (owed_in ts) (take i ds))))
@@ -125,7 +125,7 @@ path_is ts ps i p below is are = subst (IsPath ts) (sym is) (found ps i below ar
     found (q ∷ qs) zero below h = h.0
     found (q ∷ qs) (suc k) below h = found qs k (omega arith) h.1
 
--- its columns likewise
+-- its columns in the same way
 pub columns_along : (ts : Table) (path : P.Path) (p : Path) (ps : List (ColId × ColExprId)) → HasPath ts path p → columns_at ts ps ≡ (path_in ts path).columns → (IsPath ts path → AreColumns ts ps) → HasColumns ts ps p.columns
 columns_along ts path p ps has columns are = record { are = are has.is; columns = columns ∙ ap (λ (q : Path). q.columns) has.path }
 
@@ -173,7 +173,7 @@ at_end-none first c o σ τ after is same column stored = stored
     ∙ ap₂ (λ (ρ : ℕ → Column) (n : ℕ). put ρ (record { column = n; index = Variable 1; value = Number (pos 0) })) same column
     ∙ ap (λ x. at_end first (option_map (λ (p : PointId). p.0) x) τ) (sym is)
 
--- ---- what stands beside an edge
+-- ---- what is beside an edge
 
 -- this one does
 pub on_some : (dev : D.Development) (e : Edge) (v j : ℕ) (hs : List Formula) (σ : ℕ → Column) (o : Option D.On) (x : List Term × A.Action) → acting_on dev o ≡ Some x → action_conditions dev e v j hs σ x.0 (Some x.1) ≡ on_conditions dev e v j hs σ o

@@ -76,7 +76,7 @@ more false e false false h = h
 
 -- ---- marks
 
--- of a note one is asked behind its branch
+-- for a note one is asked after its branch
 abbrev pub noting : Marking → ℕ
 noting Own = 0
 noting (Other t o) = 0
@@ -133,7 +133,7 @@ module _ (D : Development) (base : ℕ) (ends : List ℕ) where
   abbrev AllBelow : List ℕ → Type 0
   AllBelow cs = Every (λ c. c < column_count first) cs
 
-  -- the columns that are stored in on a path and behind it
+  -- the columns that are stored in on a path and after it
   abbrev Stores : Path → List ℕ → Type 0
   Stores p cs = (c : ℕ) → (is_base c (p.columns c) && not (stands c ends)) ≡ not (stands c cs)
 

@@ -24,7 +24,7 @@ pub not_either : (a b : Bool) → (not a && not b) ≡ not (a || b)
 not_either true b = refl
 not_either false b = refl
 
--- ---- what stands in a column after stores
+-- ---- what a column holds after stores
 
 put_base : (b : Bool) (c : ℕ) (x : Column) (t v : Term) (r : Bool) → (is_base c (if b then Store x t v else x) && not r) ≡ (is_base c x && not (b || r))
 put_base true c x t v r = sym (and_false (is_base c x))
@@ -67,9 +67,9 @@ columns_length made c (suc n) σ π =
     let one : List Condition = if b then [] else x ∷ [] in
     length-append one (column_conditions made (suc c) n σ π) ∙ ap₂ (λ k m. k + m) (one_length b x) (columns_length made (suc c) n σ π)
 
--- ---- numbers that stand in a list
+-- ---- numbers in a list
 
--- how many of the numbers from c on, n of them, stand there
+-- how many of the n numbers from c on are in the list
 abbrev within : ℕ → ℕ → List ℕ → ℕ
 within c zero zs = 0
 within c (suc n) zs = present (stands c zs) + within (suc c) n zs
@@ -131,7 +131,7 @@ different_within n (z ∷ zs) h =
     let low = h.0 in
     one_more z zs 0 n (omega arith) (omega (arith, low)) ∙ ap (λ m. absent (stands z zs) + m) (different_within n zs h.1)
 
--- those of so many columns that are changed are the different ones among those in which something is stored
+-- those of the first n columns that are changed are the different ones among those in which something is stored
 pub changed_different : (σ π : ℕ → Column) (xs ys : List ℕ) (n : ℕ) → ((c : ℕ) → is_base c (σ c) ≡ not (stands c xs)) → ((c : ℕ) → is_base c (π c) ≡ not (stands c ys)) → Every (λ c. c < n) (xs ++ ys) →
     changed 0 n σ π ≡ different (xs ++ ys)
 changed_different σ π xs ys n h g below = changed_within σ π xs ys h g 0 n ∙ different_within n (xs ++ ys) below

@@ -17,7 +17,7 @@ use Rattle.lc_cond.proofs.Parted.{drop_one, drop_past}
 abbrev pub left_from : Development → List S.Part → ℕ → List S.Condition
 left_from D ps k = concat_map (conditions_in D) (drop k ps)
 
--- a part that stands there was given
+-- a part that exists was given
 pub part_given : (D : Development) (ps : List S.Part) (k next : ℕ) (p : S.Part) (ts : Table) (now : List Condition) → slice_get ps k ≡ Some p → next ≡ suc k → Adds [] ts now (conditions_in D p) →
     AreConditions ts now × ((left_from D ps k ≡ map (condition_in ts) now ++ left_from D ps next) × (suc (length (drop next ps)) ≡ length (drop k ps)))
 part_given D ps k next p ts now at is adds =
@@ -25,7 +25,7 @@ part_given D ps k next p ts now at is adds =
     let all = adds_to_none ts now (conditions_in D p) adds in
     (all.0, (ap (concat_map (conditions_in D)) one ∙ ap (λ cs. cs ++ left_from D ps next) (sym all.1), sym (ap length one)))
 
--- no part stands there
+-- there is no part
 pub none_left : (D : Development) (ps : List S.Part) (k : ℕ) → slice_get ps k ≡ None → (left_from D ps k ≡ []) × (length (drop k ps) ≡ 0)
 none_left D ps k at =
     let past = drop_past ps k at in

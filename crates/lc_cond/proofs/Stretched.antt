@@ -1,4 +1,4 @@
--- Stretches of the conjuncts of which it is asked that they stay, and the conditions that come of them.
+-- Stretches of the conjuncts that are asked to stay, and the conditions that come of them.
 use Rattle.std.proofs.Common.{◌≡◌, ℕ, zero, suc, ◌+◌, ◌*◌, ◌-◌, ◌/◌, ◌<◌, ◌≤◌, Option, Some, None, List, [], ◌∷◌, ◌++◌, length, take, drop, slice_get, refl, sym, ap, ◌∙◌, subst, arith, add-zero, append_assoc}
 use Rattle.std.specs.Prelude.{min}
 use Rattle.std.proofs.Math.Nat.{lt-div-mul-add, div-mul-le_self, mul-le-mul_right, suc-mul, add-mul}
@@ -27,7 +27,7 @@ use Rattle.lc_cond.proofs.Sized.{stable_from_length, stable_length}
 
 -- ---- the stretch that has a place
 
--- where each of some has as many places, it is one of them that has a place
+-- if each of some has as many places, it is one of them that has a place
 pub conjunct_below : (place count each : ℕ) → place < count * each → place / each < count
 conjunct_below place count each lt = by (count - place / each) refl
   where
@@ -60,7 +60,7 @@ stretch_has count each place conjunct size more some least is below far =
 pub nothing_asked : {A : Type 0} (s : Stretch) (xs : List A) → s.from ≡ s.to → stretch_of s xs ≡ []
 nothing_asked s xs none = (let zero : s.to - s.from ≡ 0 = omega (arith, none) in ap (λ n. take n (drop s.from xs)) zero)
 
--- what comes of some, and of others behind them
+-- what comes of some, and of others after them
 places_both : {A B : Type 0} (f : ℕ → A → List B) (k : ℕ) (xs ys : List A) → concat_places f k (xs ++ ys) ≡ concat_places f k xs ++ concat_places f (k + length xs) ys
 places_both f k [] ys = ap (λ n. concat_places f n ys) (sym (add-zero k))
 places_both f k (x ∷ xs) ys =
@@ -88,7 +88,7 @@ module _ {A : Type 0} (xs : List A) (s : Stretch) (h : IsWithin (length xs) s) w
   stretch_length = (let d = length-drop s.from xs in let a = h.order in let b = h.few in length-take-le (s.to - s.from) (drop s.from xs) (omega (arith, d, a, b)))
 
   module _ {B : Type 0} (f : ℕ → A → List B) (each : ℕ) (alike : (k : ℕ) (l : List A) → length (concat_places f k l) ≡ length l * each) where
-    -- it stands behind what comes of those before it
+    -- it is after what comes of those before it
     stretch_at : (j : ℕ) (x : B) → slice_get (concat_places f s.from (stretch_of s xs)) j ≡ Some x → slice_get (concat_places f 0 xs) (s.from * each + j) ≡ Some x
     stretch_at j x at =
         let before = take s.from xs in
@@ -140,7 +140,7 @@ every_behind P (suc n) (x ∷ xs) h = every_behind P n xs h.1
 pub stretch_every : {A : Type 0} (P : A → Type 0) (s : Stretch) (xs : List A) → Every P xs → Every P (stretch_of s xs)
 stretch_every P s xs h = Every-take P (s.to - s.from) (drop s.from xs) (every_behind P s.from xs h)
 
--- of all conjuncts, so many
+-- of all conjuncts, `count` of them
 abbrev pub whole : ℕ → Stretch
 whole count = record { from = 0; to = count }
 

@@ -22,12 +22,12 @@ pub record HasTerms (ts : Table) (ks : List TermId) (us : List Term) : Type 0 wh
   pub are : AreTerms ts ks
   pub trees : terms_in ts ks ≡ us
 
--- the numbers of what stands in columns
+-- the numbers of what columns hold
 pub record HasColumns (ts : Table) (ps : List (ColId × ColExprId)) (σ : ℕ → Column) : Type 0 where
   pub are : AreColumns ts ps
   pub columns : columns_at ts ps ≡ σ
 
--- behind the conditions before stand others, which are these in a table
+-- the conditions before, followed by others, which are these in a table
 pub record Adds (before : List Condition) (ts : Table) (now : List Condition) (said : List S.Condition) : Type 0 where
   pub added : List Condition
   pub behind : now ≡ before ++ added

@@ -28,7 +28,7 @@ pub data Kind : Type 0 where
   ColumnKind : Kind
   Stable : Kind
 
--- what is passed: an edge, or an action of another client by its place, `enter` and `leave` being behind the declared ones
+-- what is passed: an edge, or an action of another client by its place, `enter` and `leave` coming after the declared ones
 pub data Passage : Type 0 where
   NoPassage : Passage
   ByEdge : EdgeKind → Passage
@@ -46,7 +46,7 @@ pub record Place : Type 0 where
   pub path : Option ℕ
   pub which : Which
 
--- where the hypotheses hold, so does the goal, whatever numbers so many variables have
+-- if the hypotheses hold, so does the goal, whatever numbers its variables have
 pub record Condition : Type 0 where
   pub kind : Kind
   pub place : Place
@@ -54,13 +54,13 @@ pub record Condition : Type 0 where
   pub hypotheses : List Formula
   pub goal : Formula
 
--- what conditions that are made together share: their kind, how many variables they have, and where the k-th stands
+-- what conditions that are made together share: their kind, how many variables they have, and where the k-th is
 pub record Head : Type 0 where
   pub kind : Kind
   pub variables : ℕ
   pub place : ℕ → Place
 
--- goals under the same hypotheses, the first of which is the k-th
+-- goals under the same hypotheses, from the k-th on
 abbrev pub conditions_from : Head → List Formula → ℕ → List Formula → List Condition
 conditions_from h hs k goals =
     numbered (λ j g. record { kind = h.kind; place = h.place j; variables = h.variables; hypotheses = hs; goal = g }) k goals
@@ -68,7 +68,7 @@ conditions_from h hs k goals =
 abbrev pub conditions_of : Head → List Formula → List Formula → List Condition
 conditions_of h hs goals = conditions_from h hs 0 goals
 
--- at the start; where a call begins; on a path of an edge
+-- at the start; when a call begins; on a path of an edge
 abbrev pub at_start : Kind → ℕ → Head
 at_start kind n = record { kind = kind; variables = n; place = λ k. record { point = None; passage = NoPassage; path = None; which = Numbered k } }
 
@@ -159,7 +159,7 @@ entry_conditions D o operation =
 
 -- ---- edges
 
--- a return stores `pend` 0 behind its riders
+-- a return stores `pend` 0 after its riders
 abbrev pub at_end : ℕ → Option ℕ → (ℕ → Column) → ℕ → Column
 at_end first (Some q) σ = σ
 at_end first None σ = put σ (record { column = pend first; index = Variable 1; value = Number (pos 0) })
@@ -176,7 +176,7 @@ is_base c (Affine a b) = false
 abbrev pub same_column : Column → Column → Formula
 same_column x y = Forall (Eq (Read (replace_column raising x) (Bound 0)) (Read (replace_column raising y) (Bound 0)))
 
--- of the columns from c on, so many; of each the condition that this head gives
+-- of the columns from c on, k of them; for each the condition that this head gives
 abbrev pub column_condition : Edge → ℕ → ℕ → List Formula → ℕ → Formula → Condition
 column_condition e v j hs c goal = record { kind = ColumnKind; place = path_place e j (OfColumn c); variables = v; hypotheses = hs; goal = goal }
 
@@ -271,7 +271,7 @@ conditions D =
     ++ (concat_places (point_stability D) 0 D.object.points
     ++ idle_stability D)))
 
--- ---- its parts, each of which can be made by itself
+-- ---- its parts, each can be made by itself
 
 pub data Part : Type 0 where
   Start : Part

@@ -108,7 +108,7 @@ racy_object = record {
       record { name = codes "q1"; operation = 1; instruction = Return (Variable 2 ∷ []) } ∷ [];
 }
 
--- and with what stands beside the counter's code: all is in order but its conditions
+-- and with what is beside the counter's code: everything is in order but its conditions
 abbrev pub racy : Development
 racy = record {
   specification = counter_specification;

@@ -73,13 +73,13 @@ MakesStable point k j crossings old new =
     (ts : Table) (D : Development) (n : ℕ) (hs asserts : List Formula) (actions : List Action) (f : Formula) → AreCrossings ts D n hs asserts actions crossings → slice_get asserts j ≡ Some f →
     Adds old ts new (numbered (stable_under D (option_map (λ p. p.0) point) n hs k f) 0 actions)
 
--- each of so many conjuncts does, for which the goals are, the first of them being the k-th
+-- each of `count` conjuncts does, with the goals for it, from the k-th on
 abbrev pub MakesAllStable : Option PointId → ℕ → ℕ → List Crossing → List Condition → List Condition → Type 0
 MakesAllStable point k count crossings old new =
     (ts : Table) (D : Development) (n : ℕ) (hs asserts : List Formula) (actions : List Action) → AreCrossings ts D n hs asserts actions crossings → length asserts ≡ count →
     Adds old ts new (concat_places (λ j f. numbered (stable_under D (option_map (λ p. p.0) point) n hs j f) 0 actions) k asserts)
 
--- each crossing has so many goals
+-- each crossing has `count` goals
 abbrev pub HaveGoals : ℕ → List Crossing → Type 0
 HaveGoals count [] = Unit {0}
 HaveGoals count (c ∷ cs) = (length c.goals.items ≡ count) × HaveGoals count cs

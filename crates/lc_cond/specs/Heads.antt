@@ -46,7 +46,7 @@ MakesTold h old new columns variables known ks before now =
     (σ : ℕ → Column) (τ : List Term) (hs fs : List Formula) → HasColumns old columns σ → HasTerms old variables τ → HasFormulas old known hs → HasFormulas old ks fs →
     Adds before new now (conditions_of (head_of h) hs (map (told σ τ) fs))
 
--- each of some is, and each of others behind them
+-- each of some is, and after them each of others
 abbrev pub MakesBothTold : Head → Head → Table → Table → List (ColId × ColExprId) → List TermId → List FormulaId → List FormulaId → List FormulaId → List Condition → List Condition → Type 0
 MakesBothTold h i old new columns variables known ks ls before now =
     (σ : ℕ → Column) (τ : List Term) (hs fs gs : List Formula) → HasColumns old columns σ → HasTerms old variables τ → HasFormulas old known hs → HasFormulas old ks fs → HasFormulas old ls gs →

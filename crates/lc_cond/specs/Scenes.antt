@@ -44,7 +44,7 @@ abbrev pub IsReply : Table → Option FormulaId → List Formula → Type 0
 IsReply ts None fs = fs ≡ []
 IsReply ts (Some k) fs = (f : Formula) × HasFormula ts k f × (fs ≡ f ∷ [])
 
--- the action that stands beside an edge, with its arguments
+-- the action that is beside an edge, with its arguments
 abbrev pub acting_on : D.Development → Option D.On → Option (List Term × Action)
 acting_on D None = None
 acting_on D (Some x) = option_map (λ a. (x.arguments, a)) (slice_get D.actions x.action)
@@ -101,12 +101,12 @@ outcome_conditions s j hs p =
 abbrev pub path_conditions_in : Scene → ℕ → List Formula → Path → List S.Condition
 path_conditions_in s j hs p = path_conditions (development_in s) (code_in s) s.count (on_in s) hs j p
 
--- the table has what the conditions behind a path are made of
+-- the table has what the conditions after a path are made of
 pub record IsOutcome (ts : Table) (o : Outcome) : Type 0 where
   pub scene : IsScene ts o.scene.now
   pub columns : AreColumns ts o.columns.now
 
--- what holds of what is known behind a path, and of the columns there
+-- what holds of what is known after a path, and of the columns there
 abbrev pub Behind : Table → Outcome → (List Formula → (ℕ → Column) → Type 0) → Type 0
 Behind ts o P = Under ts o.known.now (λ hs. Over ts o.columns.now (λ σ. P hs σ))
 

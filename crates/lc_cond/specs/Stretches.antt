@@ -1,4 +1,4 @@
--- Stretches of the conjuncts of which it is asked that they stay.
+-- Stretches of the conjuncts that are asked to stay.
 use Rattle.std.specs.Prelude.{ℕ, ◌-◌, ◌≤◌, List, ◌++◌, Option, Some, None, length, take, drop}
 use Rattle.lc_term.specs.Lists.{numbered, concat_places}
 use Rattle.lc_term.specs.Syntax.{Formula}
@@ -8,16 +8,16 @@ use Rattle.lc_outline.specs.Development.{Development, first_system, invariant_of
 use Rattle.lc_cond.specs.Conditions.{Condition, idle_frame, body_frame, stable_under}
 use Rattle.lc_cond.specs.declared.stretch.Stretch.{Stretch}
 
--- it is a stretch of so many
+-- it is a stretch of `count` conjuncts
 pub record IsWithin (count : ℕ) (s : Stretch) : Type 0 where
   pub order : s.from ≤ s.to
   pub few : s.to ≤ count
 
--- what stands there
+-- the conjuncts in it
 abbrev pub stretch_of : {A : Type 0} → Stretch → List A → List A
 stretch_of s xs = take (s.to - s.from) (drop s.from xs)
 
--- conjuncts, the first of which is the k-th, each under all actions
+-- conjuncts, from the k-th on, each under all actions
 abbrev pub stable_from : Development → Option ℕ → ℕ → List Formula → ℕ → List Formula → List Condition
 stable_from D point n hs k fs = concat_places (λ j f. numbered (stable_under D point n hs j f) 0 (all_actions D)) k fs
 

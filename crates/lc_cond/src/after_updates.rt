@@ -1,4 +1,4 @@
-//! What stands in columns behind updates, store by store by the numbers of a table, so that no tree of the stores is made.
+//! What columns hold after updates, store by store by the numbers of a table, so that no tree of the stores is made.
 ghost use Rattle.std.specs.Prelude.{◌≡◌, map, IfOk, OnOk};
 ghost use Rattle.lc_table.specs.PutNumbers.{columns_at, AreColumns};
 ghost use Rattle.lc_table.specs.Tables.{HasTerm, Keeps};

@@ -11,7 +11,7 @@ pub enum Kind {
     Init,
     /// What holds of idle clients holds of them at first.
     InitIdle,
-    /// The invariant holds where a call begins.
+    /// The invariant holds when a call begins.
     Entry,
     /// The assertions of a body's first point hold there.
     First,
@@ -19,15 +19,15 @@ pub enum Kind {
     Owed(Owing),
     /// The replies that are returned are those of the call.
     Reply,
-    /// The invariant holds behind an edge.
+    /// The invariant holds after an edge.
     Invariant,
-    /// What holds where an edge leads to holds behind it.
+    /// What holds where an edge leads to holds after it.
     Next,
     /// The guard of the action that an edge is.
     Guard,
     /// An edge and its action store the same in a column.
     Column,
-    /// What holds of a client stays where another one acts.
+    /// What holds of a client stays when another one acts.
     Stable,
 }
 
@@ -36,7 +36,7 @@ pub enum Kind {
 pub enum Passage {
     Nothing,
     Edge(EdgeKind),
-    /// An action of another client, by its place; `enter` and `leave` stand behind those that are declared.
+    /// An action of another client, by its place; `enter` and `leave` come after the declared ones.
     Action(usize),
 }
 
@@ -50,7 +50,7 @@ pub enum Which {
     Column(ColId),
 }
 
-/// Where a condition stands.
+/// Where a condition is.
 #[derive(Clone, Copy)]
 pub struct Place {
     pub point: Option<PointId>,
@@ -67,7 +67,7 @@ pub struct Condition {
     pub goal: Goal,
 }
 
-// Written out, so that a place where a condition is let go has one call.
+// Written out, so that dropping a condition is one call.
 impl Drop for Condition {
     fn drop(self) {
         let Condition {

@@ -21,7 +21,7 @@ use lc_rider::{Duty, Path, store_in};
 use lc_table::{ColExprId, FormulaId, PutNumbers, Terms, nothing_replaced};
 use std::alloc::Global;
 
-/// What a path of an edge comes to: its place among those of the edge, what stands in the columns behind it, and what is known
+/// What a path of an edge comes to: its place among those of the edge, what the columns hold after it, and what is known
 /// on it.
 #[derive(Clone, Copy)]
 pub(crate) struct Outcome<'a, 's> {
@@ -44,7 +44,7 @@ pub(crate) fn on_path(scene: &Scene<'_>, kind: Kind, number: usize) -> Head
     }
 }
 
-/// What is known on a path of these facts: they stand behind what is known before the edge.
+/// What is known on a path with these facts: they come after what is known before the edge.
 pub(crate) fn known_with(
     alloc: Global,
     scene: &Scene<'_>,
@@ -55,7 +55,7 @@ pub(crate) fn known_with(
     Hypotheses::new(joined(alloc, &scene.hypotheses, facts)?)
 }
 
-// What a mark asks for, where these are known.
+// What a mark asks for, if these are known.
 fn push_duty(
     scene: &Scene<'_>,
     number: usize,
@@ -70,7 +70,7 @@ fn push_duty(
     push_made(head, which, known, duty.goal, conditions)
 }
 
-/// What the marks of a path ask for, each under what is known before the edge and the first of the path's facts, so many.
+/// What the marks of a path ask for, each under what is known before the edge and those of the path's facts that are known at it.
 pub(crate) fn push_duties(
     scene: &Scene<'_>,
     number: usize,
@@ -149,7 +149,7 @@ pub(crate) fn push_next(
     )
 }
 
-/// The columns behind a path of a return, which stores that no call is pending.
+/// The columns after a path of a return, which stores that no call is pending.
 #[tactic(auto, using(lc_table::proofs::Later::kept_on))]
 pub(crate) fn at_return(
     alloc: Global,

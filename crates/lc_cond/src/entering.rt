@@ -56,7 +56,7 @@ pub(crate) fn entered_invariant(
     entered_conjuncts(alloc, terms, tie.conjuncts())
 }
 
-/// Some formulas, and others behind them.
+/// Some formulas, followed by others.
 pub(crate) fn joined(
     alloc: Global,
     first: &[FormulaId],
@@ -70,7 +70,7 @@ pub(crate) fn joined(
     Ok(all)
 }
 
-/// Some formulas, and others behind them, which are entered.
+/// Some formulas, followed by others, which are entered.
 pub(crate) fn entered_behind(
     alloc: Global,
     terms: &mut Terms,

@@ -1,4 +1,4 @@
-//! The conditions where a call begins.
+//! The conditions that are asked when a call begins.
 ghost use Rattle.std.specs.Prelude.{◌≡◌, ◌++◌, true, map, None, Some, IfOk, OnOk};
 ghost use Rattle.lc_term.specs.Said.{after, told};
 ghost use Rattle.lc_term.specs.Syntax.{Base};
@@ -30,7 +30,7 @@ use lc_outline::Development;
 use lc_table::{ColExprId, FormulaId, PutNumbers, TermId, Terms};
 use std::alloc::Global;
 
-// What the conditions of a kind where a call of this operation begins share.
+// What the conditions of a kind share that are asked when a call of this operation begins.
 fn at_entry(kind: Kind, variables: u32, body: &Operation) -> Head
     ensures { result ≡ record { kind = kind; variables = variables; point = Some body.now.entry; passage = Passage.Nothing; path = None } }
 {
@@ -43,7 +43,7 @@ fn at_entry(kind: Kind, variables: u32, body: &Operation) -> Head
     }
 }
 
-// The columns behind `enter`, where a call of this operation begins, entered.
+// The columns after `enter`, when a call of this operation begins, entered.
 fn entered_columns(
     alloc: Global,
     terms: &mut Terms,
@@ -59,7 +59,7 @@ fn entered_columns(
     entered_after(alloc, terms, &variables, &action.updates)
 }
 
-// The variables where a call of this operation begins, entered.
+// The variables when a call of this operation begins, entered.
 fn entered_variables(
     alloc: Global,
     terms: &mut Terms,
@@ -73,7 +73,7 @@ fn entered_variables(
     terms.enter_terms(alloc, &variables)
 }
 
-// The conditions where a call of this operation begins, in these columns, where the invariant is entered already.
+// The conditions when a call of this operation begins, in these columns, with the invariant entered already.
 #[tactic(auto, using(lc_table::proofs::Later::kept_on))]
 fn push_entered(
     alloc: Global,
@@ -111,8 +111,8 @@ fn push_entered(
     )
 }
 
-/// The conditions where a call of this operation begins. The invariant, which may be long, is entered once: it is known before
-/// the call, and is to hold where it has begun.
+/// The conditions that are asked when a call of this operation begins. The invariant, which may be long, is entered once: it
+/// is known before the call, and is to hold when it has begun.
 #[tactic(auto, using(lc_table::proofs::Later::kept_on))]
 pub(crate) fn push_entry(
     alloc: Global,

@@ -11,14 +11,14 @@ use lc_base::{ColId, OpId, OutOfMemory};
 use lc_term::{ColExpr, Formula, Term};
 use std::alloc::Global;
 
-// What stands in the cell of client 1.
+// What the cell of client 1 holds.
 fn own_cell(alloc: Global, column: ColId) -> Result<Term, OutOfMemory>
     ensures { IfOk result (λ t. term_of t ≡ Read (Base column.0) (Variable 1)) }
 {
     Term::read(alloc, ColExpr::Base(column), Term::Variable(1))
 }
 
-// This stands in the cell of client 1.
+// That the cell of client 1 holds this.
 fn is_cell(alloc: Global, column: ColId, value: Term) -> Result<Formula, OutOfMemory>
     ensures { IfOk result (λ f. formula_of f ≡ is_cell column.0 (term_of value)) }
 {
@@ -34,7 +34,7 @@ fn is_below_count(alloc: Global, variable: u32) -> Result<Formula, OutOfMemory>
     Ok(Formula::Le(Term::Add(client, one), Term::Variable(0)))
 }
 
-/// The variable is a client; behind other formulas.
+/// Appends that the variable is a client.
 pub(crate) fn push_range(
     alloc: Global,
     variable: u32,
@@ -83,7 +83,7 @@ fn in_call(
     Ok(formulas)
 }
 
-/// Client 1 is in a call of this operation, whose arguments, so many, are the variables from 2 on.
+/// Client 1 is in a call of this operation, whose `arguments` arguments are the variables from 2 on.
 pub(crate) fn body_frame(
     alloc: Global,
     system: SystemColumns,
@@ -109,7 +109,7 @@ pub(crate) fn body_frame(
     Ok(formulas)
 }
 
-// These cells of client 1 hold these terms, one each; behind other formulas.
+// Appends that these cells of client 1 hold these terms, one each.
 fn push_held(
     alloc: Global,
     columns: &[ColId],

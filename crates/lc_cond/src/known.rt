@@ -1,4 +1,4 @@
-//! What is known of a client at a point, and where it has no call.
+//! What is known of a client at a point, and when it has no call.
 ghost use Rattle.std.specs.Prelude.{◌≡◌, ◌++◌, List, length, IfOk};
 ghost use Rattle.lc_term.specs.Syntax as S;
 ghost use Rattle.lc_term.specs.Syntax.{Variable};
@@ -46,7 +46,7 @@ pub(crate) fn idle_frame(
     entered(alloc, terms, &formulas)
 }
 
-/// That client 1 is in a call of this operation with so many arguments, entered.
+/// That client 1 is in a call of this operation with `arguments` arguments, entered.
 pub(crate) fn body_frame(
     alloc: Global,
     terms: &mut Terms,
@@ -86,7 +86,7 @@ pub(crate) fn known_in_body(
     joined(alloc, &frame, &shared)
 }
 
-/// What is known of client 1 where it has no call: its frame, the invariant, which is entered already, and what holds of idle
+/// What is known of client 1 when it has no call: its frame, the invariant, which is entered already, and what holds of idle
 /// clients.
 #[tactic(auto, using(lc_table::proofs::Later::kept_on))]
 pub(crate) fn known_idle(
@@ -106,7 +106,7 @@ pub(crate) fn known_idle(
     joined(alloc, &frame, &shared)
 }
 
-/// Behind the range of client 1.
+/// After the range of client 1.
 pub(crate) fn in_range(
     alloc: Global,
     terms: &mut Terms,

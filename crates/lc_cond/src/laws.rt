@@ -21,7 +21,7 @@ pub fn conditions_use_their_variables(development: &Development)
 {}
 
 /// No condition of a development has more than 26 variables: the number of clients, a client, three arguments and 16 locals,
-/// and behind them another client and the parameters of its action.
+/// and after them another client and the parameters of its action.
 pub fn conditions_have_few_variables(development: &Development)
     ensures { AllHaveFewVariables (development_shown development.now) }
 {}

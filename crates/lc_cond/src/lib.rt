@@ -1,4 +1,4 @@
-//! The conditions of a development, as a list that is defined: where all of them are valid, its object is linearizable.
+//! The conditions of a development, as a list that is defined: if all of them are valid, its object is linearizable.
 #![tactic(auto)]
 
 mod after_updates;

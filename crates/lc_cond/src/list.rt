@@ -50,7 +50,7 @@ pub(crate) fn edges_of(alloc: Global, development: &Development) -> Result<Vec<E
     edges(alloc, &development.parts().object)
 }
 
-// The conditions where calls begin, operation by operation.
+// The conditions that are asked when calls begin, operation by operation.
 fn push_entries(
     alloc: Global,
     terms: &mut Terms,
@@ -264,7 +264,7 @@ fn push_code(
     push_idle(alloc, terms, development, conditions)
 }
 
-/// The conditions of a development, in their order: where all of them are valid, its object is linearizable. Their formulas
+/// The conditions of a development, in their order: if all of them are valid, its object is linearizable. Their formulas
 /// are entered in the table.
 #[tactic(auto, using(lc_table::proofs::Later::kept_on))]
 pub fn conditions(

@@ -1,4 +1,4 @@
-//! What stands in a development at a place.
+//! What a development has at a place.
 ghost use Rattle.std.specs.Prelude.{◌≡◌, length, map, option_map, slice_get, true, ◌+◌};
 ghost use Rattle.lc_term.specs.View.{formulas_of};
 ghost use Rattle.lc_action.specs.ActionView.{action_of, first_of};
@@ -15,7 +15,7 @@ use lc_outline::{ActionId, Development, On};
 use lc_rider::Rider;
 use lc_term::Formula;
 
-/// The system columns, behind the columns that are declared.
+/// The system columns, after the columns that are declared.
 #[tactic(auto, using(crate::proofs::Few::columns_few))]
 pub(crate) fn system_columns(development: &Development) -> SystemColumns
     ensures { first_of result ≡ first_system (development_shown development.now) }
@@ -36,7 +36,7 @@ pub(crate) fn asserts_at(development: &Development, point: PointId) -> &[Formula
     }
 }
 
-/// The assertions at the point that is reached, or what holds of idle clients where none is.
+/// The assertions at the point that is reached, or what holds of idle clients if none is.
 pub(crate) fn asserts_to(development: &Development, next: Option<PointId>) -> &[Formula]
     ensures { formulas_of result.now ≡ asserts_to (development_shown development.now) (option_map (λ p. p.0) next) }
 {
@@ -57,7 +57,7 @@ fn is_same_kind(left: EdgeKind, right: EdgeKind) -> bool
     }
 }
 
-// What stands at an edge of this kind, if anything does.
+// What is done at an edge of this kind, if anything is.
 fn on_for(ons: &[On], kind: EdgeKind) -> Option<&On>
     ensures { option_map (λ o. on_of o.now) result ≡ on_for (map on_of ons.now) kind }
 {
@@ -69,7 +69,7 @@ fn on_for(ons: &[On], kind: EdgeKind) -> Option<&On>
     None
 }
 
-/// What stands at the edge of this kind of a point, if anything does.
+/// What is done at the edge of this kind of a point, if anything is.
 pub fn on_at(development: &Development, point: PointId, kind: EdgeKind) -> Option<&On>
     ensures { option_map (λ o. on_of o.now) result ≡ on_at (development_shown development.now) point.0 kind }
 {
@@ -79,7 +79,7 @@ pub fn on_at(development: &Development, point: PointId, kind: EdgeKind) -> Optio
     }
 }
 
-/// The riders that stand there.
+/// The riders at this edge.
 pub(crate) fn riders_in(on: Option<&On>) -> &[Rider]
     ensures { riders_of result.now ≡ riders_in (option_map (λ o. on_of o.now) on.entry) }
 {
@@ -96,7 +96,7 @@ pub(crate) fn action_at(development: &Development, action: ActionId) -> Option<&
     development.parts().actions.get(action.0 as usize)
 }
 
-/// The operation in whose body a point stands, with its number, if there is one.
+/// The operation of this number, whose body a point may be in, if there is one.
 pub(crate) fn operation_at(development: &Development, operation: OpId) -> Option<&Operation>
     ensures { option_map (λ o. operation_of o.now) result ≡ slice_get (development_shown development.now).object.operations operation.0 }
 {
@@ -108,7 +108,7 @@ pub(crate) fn operation_at(development: &Development, operation: OpId) -> Option
         .get(operation.0 as usize)
 }
 
-/// The operation in whose body a point stands, if there is such a point.
+/// The operation whose body a point is in, if there is such a point.
 pub(crate) fn body_at(development: &Development, point: PointId) -> Option<OpId>
     ensures { option_map (λ o. o.0) result ≡ option_map (λ p. p.operation) (slice_get (development_shown development.now).object.points point.0) }
 {
@@ -135,7 +135,7 @@ pub(crate) fn argument_count(body: &Operation) -> usize
     body.arguments.len()
 }
 
-/// How many variables there are where a call of an operation begins: the number of clients, the client and the arguments.
+/// How many variables there are when a call of an operation begins: the number of clients, the client and the arguments.
 #[tactic(auto, using(crate::proofs::Few::arguments_few))]
 pub(crate) fn entry_count(body: &Operation) -> u32
     requires { has_limits (operation_of body.now) ≡ true }

@@ -7,7 +7,7 @@ use lc_base::{OutOfMemory, PointId};
 use lc_kernel::{Goal, Hypotheses};
 use lc_table::FormulaId;
 
-/// What conditions that are made together share: what they ask for, how many variables they have, and where they stand.
+/// What conditions that are made together share: what they ask for, how many variables they have, and where they are.
 #[derive(Clone, Copy)]
 pub(crate) struct Head {
     pub kind: Kind,

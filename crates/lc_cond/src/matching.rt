@@ -1,4 +1,4 @@
-//! The conditions that an edge is the action that stands beside it.
+//! The conditions that an edge is the action beside it.
 ghost use Rattle.std.specs.Prelude.{◌≡◌, ◌≤◌, ◌^◌, ◌&&◌, [], ◌∷◌, List, true, map, option_map, if◌then◌else◌, Some, IfOk, OnOk};
 ghost use Rattle.lc_table.specs.NodeTables.{Table};
 ghost use Rattle.lc_table.specs.PutNumbers.{columns_at, AreColumns};
@@ -32,10 +32,10 @@ use lc_table::{
 use lc_term::Term;
 use std::alloc::Global;
 
-/// The action that stands beside an edge, done by client 1, in a table that has its formulas.
+/// The action beside an edge, done by client 1, in a table that has its formulas.
 pub(crate) struct Acting {
     pub guard: FormulaId,
-    /// The columns in which it stores, each with what stands in it then.
+    /// The columns in which it stores, each with what it holds then.
     pub columns: Vec<(ColId, ColExprId)>,
 }
 
@@ -68,7 +68,7 @@ fn is_unwritten(terms: &Terms, left: ColExprId, right: ColExprId, column: ColId)
     is_base(terms, left, column) && is_base(terms, right, column)
 }
 
-// What stands in a cell of a column, where the cell is the variable of one more quantifier.
+// What a cell of a column holds, with the variable of one more quantifier as the cell.
 #[tactic(auto, using(lc_table::proofs::Later::kept_on))]
 fn raised_cell(alloc: Global, terms: &mut Terms, column: ColExprId) -> Result<TermId, OutOfMemory>
     requires { IsColumn terms.old column }
@@ -80,7 +80,7 @@ fn raised_cell(alloc: Global, terms: &mut Terms, column: ColExprId) -> Result<Te
     terms.read(raised, index)
 }
 
-// The same stands in each cell of two columns.
+// That two columns hold the same in each cell.
 #[tactic(auto, using(lc_table::proofs::Later::kept_on))]
 fn same_column(
     alloc: Global,
@@ -124,7 +124,7 @@ fn push_sides(
     push_one(head, Which::Column(column), known, goal, conditions)
 }
 
-// Whether a column has no entry, so that the column itself stands in it.
+// Whether a column has no entry, so that it holds itself.
 fn is_absent(columns: &[(ColId, ColExprId)], column: ColId) -> bool
     ensures { result ≡ true → (ts : Table) → columns_at ts columns.now column.0 ≡ Base column.0 }
 {
@@ -171,7 +171,7 @@ fn push_column(
     push_sides(alloc, terms, head, known, column, left, right, conditions)
 }
 
-// The conditions of the columns, so many.
+// The conditions of the first `count` columns.
 fn push_columns(
     alloc: Global,
     terms: &mut Terms,
@@ -243,7 +243,7 @@ pub(crate) fn entered_guard(
     terms.replace(alloc, &put, &mut done, guard)
 }
 
-/// The columns behind an action of the client that is this variable with these arguments, entered.
+/// The columns after an action of the client that is this variable with these arguments, entered.
 pub(crate) fn entered_post(
     alloc: Global,
     terms: &mut Terms,
@@ -275,7 +275,7 @@ fn entered_action(
     Ok(Acting { guard, columns })
 }
 
-/// The action that stands beside an edge, entered, if one does.
+/// The action beside an edge, entered, if there is one.
 pub(crate) fn entered_on(
     alloc: Global,
     terms: &mut Terms,
@@ -326,7 +326,7 @@ fn push_action(
     )
 }
 
-/// What is asked of an edge beside which an action stands, in these columns.
+/// What is asked of an edge with an action beside it, in these columns.
 pub(crate) fn push_on(
     alloc: Global,
     terms: &mut Terms,

@@ -24,11 +24,11 @@ use std::alloc::Global;
 #[derive(Drop)]
 pub struct Numbering {
     edges: Vec<Edge>,
-    /// The number of the first condition of each part, and behind them how many conditions there are.
+    /// The number of the first condition of each part, followed by the number of all conditions.
     firsts: Vec<u64>,
 }
 
-/// Conditions of a part that stand one behind another.
+/// Consecutive conditions of a part.
 #[derive(Drop)]
 pub struct NumberedPart {
     /// The number of the first.
@@ -52,7 +52,7 @@ fn stable_count(development: &Development, conjuncts: &[Formula]) -> u64
     (conjuncts.len() * action_count(development)) as u64
 }
 
-// How many conditions an edge has: they are made, and let go.
+// How many conditions an edge has: they are made, and dropped.
 fn edge_count(alloc: Global, development: &Development, edge: &Edge) -> Result<u64, OutOfMemory>
     ensures { IfOk result (λ n. n ≡ length (edge_conditions (development_shown development.now) (edge_of edge.now))) }
 {
@@ -133,7 +133,7 @@ impl Numbering {
         low
     }
 
-    /// Conditions that stand one behind another, with the one of this number, if there is one; entered in the table. They are those of
+    /// Consecutive conditions, with the one of this number, if there is one; entered in the table. They are those of
     /// the part that has it, but of a point with many conjuncts only those of a stretch.
     pub fn part_with(
         &self,

@@ -1,4 +1,4 @@
-//! The parts of the list, each of which can be made by itself: the start, a call that begins, an edge, a point, and idle.
+//! The parts of the list, each can be made by itself: the start, a call that begins, an edge, a point, and idle.
 ghost use Rattle.std.specs.Prelude.{◌≡◌, ◌+◌, ◌++◌, ◌∷◌, [], length, map, option_map, slice_get, IfOk, OnOk};
 ghost use Rattle.lc_term.specs.Lists.{numbered};
 ghost use Rattle.lc_table.specs.Tables.{Keeps};
@@ -36,7 +36,7 @@ pub(crate) enum Part<'a> {
     StayIdle,
 }
 
-// The part at this place from the first point on: a point, or idle behind the points.
+// The part at this place from the first point on: a point, or idle after the points.
 fn point_part(development: &Development, place: usize) -> Option<Part<'_>>
     ensures { let d = development_shown development.now in
         option_map part_of result ≡ slice_get (numbered S.Stay 0 d.object.points ++ S.StayIdle ∷ []) place }
@@ -75,7 +75,7 @@ fn entry_part<'a>(development: &'a Development, edges: &'a [Edge], place: usize)
     edge_part(development, edges, place - operations.len())
 }
 
-/// The part at this place, if there is one, where these are the edges.
+/// The part at this place, if there is one, with these as the edges.
 pub(crate) fn part_at<'a>(
     development: &'a Development,
     edges: &'a [Edge],
@@ -122,7 +122,7 @@ pub(crate) fn action_count(development: &Development) -> usize
     development.parts().actions.len() + 2
 }
 
-/// Which condition of a part is wanted: the one at this place of the part, where there are so many conditions in all.
+/// Which condition of a part is wanted: the one at this place of the part, with `all` conditions in all.
 #[derive(Clone, Copy)]
 pub(crate) struct Wanted {
     pub place: u64,
@@ -149,7 +149,7 @@ fn push_point_with(
     Ok((asked.from * each) as u64)
 }
 
-// The same of the conjuncts that hold of idle clients.
+// The same for the conjuncts that hold of idle clients.
 fn push_idle_with(
     alloc: Global,
     terms: &mut Terms,
@@ -167,7 +167,7 @@ fn push_idle_with(
     Ok((asked.from * each) as u64)
 }
 
-/// Conditions of a part that stand one behind another, with the one that is wanted, if there is one; answers the place of the
+/// Consecutive conditions of a part, with the one that is wanted, if there is one; returns the place of the
 /// first. Of a point with many conjuncts they are those of a stretch, so that workers can divide what is made; of another part
 /// they are all.
 pub(crate) fn push_with(

@@ -24,7 +24,7 @@ use lc_rider::{Path, paths};
 use lc_table::Terms;
 use std::alloc::Global;
 
-// What is asked in the columns behind a path: of what holds there, and of the action that stands beside the edge.
+// What is asked in the columns after a path: what holds there, and the action beside the edge.
 #[tactic(auto, using(lc_table::proofs::Later::kept_on))]
 fn push_behind(
     alloc: Global,
@@ -41,7 +41,7 @@ fn push_behind(
     push_on(alloc, terms, outcome, conditions)
 }
 
-// What is asked behind a path, besides what its marks ask for.
+// What is asked after a path, besides what its marks ask for.
 #[tactic(auto, using(lc_table::proofs::Later::kept_on))]
 fn push_outcome(
     alloc: Global,

@@ -35,7 +35,7 @@ pub(crate) struct Scene<'a> {
     pub code: &'a Edge,
     pub on: Option<&'a On>,
     pub system: SystemColumns,
-    /// How many variables there are before the edge, and what they are behind it.
+    /// How many variables there are before the edge, and what they are after it.
     pub count: u32,
     pub variables: Vec<TermId>,
     /// What is known before the edge.
@@ -45,7 +45,7 @@ pub(crate) struct Scene<'a> {
     pub next: Vec<FormulaId>,
     /// What a return asks for.
     pub reply: Option<FormulaId>,
-    /// The action that stands beside the edge.
+    /// The action beside the edge.
     pub acting: Option<Acting>,
 }
 
@@ -67,7 +67,7 @@ impl Drop for Scene<'_> {
     }
 }
 
-// The variables behind the edge, entered.
+// The variables after the edge, entered.
 fn entered_variables(
     alloc: Global,
     terms: &mut Terms,
@@ -81,7 +81,7 @@ fn entered_variables(
     terms.enter_terms(alloc, &variables)
 }
 
-// What a return of these replies asks for, entered; nothing where a point is reached.
+// What a return of these replies asks for, entered; nothing if a point is reached.
 fn entered_reply(
     alloc: Global,
     terms: &mut Terms,
@@ -111,7 +111,7 @@ fn entered_not(
     terms.not(entered)
 }
 
-// Formulas that are entered, and behind them what holds where an edge is gone.
+// Formulas that are entered, followed by what holds if an edge is taken.
 fn with_facts(
     alloc: Global,
     terms: &mut Terms,
@@ -161,7 +161,7 @@ fn edge_hypotheses(
 }
 
 /// The scene of an edge in the body of this operation. The invariant, which may be long, is entered once: it is known before
-/// the edge, and is to hold behind it.
+/// the edge, and has to hold after it.
 #[tactic(auto, using(lc_table::proofs::Later::kept_on))]
 pub(crate) fn set_scene<'a>(
     alloc: Global,

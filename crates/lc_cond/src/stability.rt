@@ -1,4 +1,4 @@
-//! The conditions that what holds of a client stays where another one acts.
+//! The conditions that what holds of a client stays when another one acts.
 ghost use Rattle.std.specs.Prelude.{◌≡◌, ◌+◌, ◌*◌, ◌<◌, ◌≤◌, ◌++◌, [], ◌∷◌, suc, true, length, map, option_map, IfOk, OnOk};
 ghost use Rattle.lc_base.specs.Limits.{condition_limit};
 ghost use Rattle.lc_term.specs.Lists.{Every};
@@ -37,12 +37,12 @@ use std::alloc::Global;
 // The most variables that the code of an operation has: the number of clients, the client, arguments and locals.
 const CODE_VARIABLE_LIMIT: u32 = (2 + ARGUMENT_LIMIT + LOCAL_LIMIT) as u32;
 
-/// Another client's action where something is known of a client: what is known then, and what is to hold behind it.
+/// Another client's action when something is known about a client: what is known then, and what has to hold after it.
 pub(crate) struct Crossing {
     /// How many variables there are: those of the client's code, the other client and its action's parameters.
     pub variables: u32,
     pub hypotheses: Hypotheses,
-    /// A goal for each conjunct of which it is asked that it stays.
+    /// A goal for each conjunct that is asked to stay.
     pub goals: Vec<FormulaId>,
 }
 
@@ -56,14 +56,14 @@ impl Drop for Crossing {
     }
 }
 
-/// What is asserted of a client, and of which conjuncts it is asked that they stay.
+/// What is asserted of a client, and which conjuncts are asked to stay.
 #[derive(Clone, Copy)]
 pub(crate) struct Asserted<'a> {
     pub conjuncts: &'a [Formula],
     pub asked: Stretch,
 }
 
-/// What is entered once where another client acts, whichever action it does.
+/// What is entered once when another client acts, whichever action it does.
 #[derive(Clone, Copy)]
 struct Given<'a> {
     /// The variable of the other client.
@@ -75,7 +75,7 @@ struct Given<'a> {
     /// What is known of the first client.
     known: &'a [FormulaId],
     invariant: &'a [FormulaId],
-    /// The conjuncts of which it is asked that they stay.
+    /// The conjuncts that are asked to stay.
     asserts: &'a [FormulaId],
 }
 
@@ -91,7 +91,7 @@ fn two_clients(alloc: Global, other: u32) -> Result<Vec<Formula>, OutOfMemory>
     Ok(formulas)
 }
 
-// Whether there is nothing of which it is asked what it is behind an action.
+// Whether nothing is asked about what holds after an action.
 fn tells_nothing(given: &Given<'_>) -> bool
     ensures invariant { result ≡ true → given.now.invariant.now ≡ [] }
     ensures asserts { result ≡ true → given.now.asserts.now ≡ [] }
@@ -125,7 +125,7 @@ fn told_in(
     Ok((invariant, asserts))
 }
 
-// The invariant, and the assertions, behind an action of the other client. Where there are none, no columns are made.
+// The invariant, and the assertions, after an action of the other client. If there are none, no columns are made.
 #[tactic(auto, using(lc_table::proofs::Later::kept_on))]
 fn told_behind(
     alloc: Global,
@@ -150,7 +150,7 @@ fn told_behind(
     told_in(alloc, terms, &columns, given)
 }
 
-// Two clients, what is known, the guard, and what holds behind the action.
+// Two clients, what is known, the guard, and what holds after the action.
 fn gathered(
     alloc: Global,
     clients: &[FormulaId],
@@ -168,7 +168,7 @@ fn gathered(
     Ok(all)
 }
 
-// The parameters of an action of the client that is this variable: the variables behind it.
+// The parameters of an action of the client that is this variable: the variables after it.
 fn parameters(alloc: Global, action: &Action, client: u32) -> Result<Vec<Term>, OutOfMemory>
     requires client { client ≤ code_variable_limit }
     requires action { TakesFew (action_of action.now) }
@@ -271,7 +271,7 @@ fn actions_of(development: &Development) -> &[Action]
     &development.parts().actions
 }
 
-// Those actions, and behind them this one.
+// Those actions, followed by this one.
 #[tactic(auto, using(lc_table::proofs::Later::kept_on))]
 fn with_crossing(
     alloc: Global,
@@ -334,7 +334,7 @@ fn asked_about(conjuncts: &[FormulaId], asked: Stretch) -> &[FormulaId]
     &conjuncts[asked.from..asked.to]
 }
 
-// All actions of the client that is this variable, where the other one has this frame and this is asserted of it.
+// All actions of the client that is this variable, if the other one has this frame and this is asserted of it.
 #[tactic(auto, using(lc_table::proofs::Later::kept_on))]
 fn entered_crossings(
     alloc: Global,
@@ -370,7 +370,7 @@ fn entered_crossings(
     all_crossings(alloc, terms, development, system, &given)
 }
 
-// A condition for each of these actions, of the conjunct of this number, whose goals stand at this place.
+// A condition for each of these actions and the conjunct of this number, with the goals at this place.
 fn push_conjunct(
     point: Option<PointId>,
     number: usize,
@@ -396,7 +396,7 @@ fn push_conjunct(
     Ok(())
 }
 
-// The same of each conjunct from the one of this number on, so many.
+// The same for each of `count` conjuncts from the one of this number on.
 fn push_conjuncts(
     point: Option<PointId>,
     first: usize,
@@ -416,7 +416,7 @@ fn push_conjuncts(
     Ok(())
 }
 
-/// The conditions that the conjuncts stay which are asked about, where a client has so many variables and this frame.
+/// The conditions that the conjuncts stay which are asked about, for a client with `variables` variables and this frame.
 #[tactic(auto, using(lc_table::proofs::Later::kept_on))]
 pub(crate) fn push_stable(
     alloc: Global,

@@ -12,7 +12,7 @@ use lc_outline::laws::developments_are_limited;
 use lc_table::Terms;
 use std::alloc::Global;
 
-/// The conditions of a development in their order, of which only one part at a time is kept. Each call is given the same
+/// The conditions of a development in their order, with only one part at a time kept. Each call is given the same
 /// development; the bounds that are kept hold of any, as each is within its limits.
 #[derive(Drop)]
 pub struct ConditionStream {
@@ -34,7 +34,7 @@ impl ConditionStream {
     ghost use Rattle.lc_cond.specs.Conditions.{conditions};
     ghost use Rattle.lc_cond.specs.Stream.{conditions_left, next_number, IsNextPart};
 
-    /// All conditions of a development, of which none was given.
+    /// All conditions of a development, with none given yet.
     pub fn new(alloc: Global, development: &Development) -> Result<ConditionStream, OutOfMemory>
         ensures left { let d = development_shown development.now in
             IfOk result (λ s. conditions_left d s ≡ conditions d) }
@@ -56,8 +56,8 @@ impl ConditionStream {
         self.given
     }
 
-    /// The conditions of the next part, whose formulas are entered in the table; nothing where no part is left. A part may have
-    /// no conditions. The table may be another one at each call. Where memory is refused the same part is left.
+    /// The conditions of the next part, whose formulas are entered in the table; nothing if no part is left. A part may have
+    /// no conditions. The table may be another one at each call. On `OutOfMemory` the same part is left.
     pub fn next_part(
         &mut self,
         development: &Development,

@@ -59,7 +59,7 @@ fn push_told(
     push_each(head, known, &goals, conditions)
 }
 
-/// A condition for each of some formulas, and for each of others behind them, with columns and variables put in by their
+/// A condition for each of some formulas, then for each of others, with columns and variables put in by their
 /// numbers.
 pub(crate) fn push_both_told(
     alloc: Global,

@@ -14,7 +14,7 @@ use lc_object::Operation;
 use lc_term::Term;
 use std::alloc::Global;
 
-/// The variables from this one on, so many.
+/// The `count` variables from `first` on.
 pub(crate) fn variables_from(
     alloc: Global,
     first: u32,
@@ -30,7 +30,7 @@ pub(crate) fn variables_from(
     Ok(terms)
 }
 
-// Terms, and so many times 0 behind them.
+// Terms, followed by `count` times 0.
 fn with_zeros(mut terms: Vec<Term>, count: usize) -> Result<Vec<Term>, OutOfMemory>
     ensures { IfOk result (λ ts. map term_of ts.items ≡ map term_of terms.items ++ replicate count (Number (pos 0))) }
 {
@@ -49,7 +49,7 @@ fn local_count(body: &Operation) -> usize
     body.locals.len()
 }
 
-/// The variables where a call of this operation begins: the number of clients, the client and the arguments stay, and each
+/// The variables when a call of this operation begins: the number of clients, the client and the arguments stay, and each
 /// local is 0.
 #[tactic(auto, using(crate::proofs::Few::arguments_few))]
 pub(crate) fn entry_variables(alloc: Global, body: &Operation) -> Result<Vec<Term>, OutOfMemory>
@@ -60,7 +60,7 @@ pub(crate) fn entry_variables(alloc: Global, body: &Operation) -> Result<Vec<Ter
     with_zeros(terms, local_count(body))
 }
 
-// The argument at this place, which is 0 where there are not so many.
+// The argument at this place, or 0 if there are no more than `count`.
 fn argument_or_zero(count: usize, place: u32) -> Term
     requires { place < argument_limit }
     ensures { term_of result ≡ (if nat_lt place count then Variable (2 + place) else Number (pos 0)) }
@@ -72,7 +72,7 @@ fn argument_or_zero(count: usize, place: u32) -> Term
     }
 }
 
-/// The variables of `enter`, where a call of this operation with so many arguments begins.
+/// The variables of `enter`, when a call of this operation with `count` arguments begins.
 pub(crate) fn enter_variables(
     alloc: Global,
     operation: OpId,

@@ -20,7 +20,7 @@ text_from-append d k cs ds =
     ∙ ap (λ n. lines_from d k cs ++ lines_from d (k + length cs) ds ++ total_line n) e
     ∙ append_assoc (lines_from d k cs) (lines_from d (k + length cs) ds) (total_line (k + length cs + length ds))
 
--- what was left before a part is its lines and what is left behind it
+-- what was left before a part is its lines and what is left after it
 pub part_passes : (d : Development) (n m : ℕ) (left cs rest : List Condition) (old new : List ℕ) → left ≡ cs ++ rest → m ≡ n + length cs → new ≡ old ++ lines_from d n cs
     → old ++ text_from d n left ≡ new ++ text_from d m rest
 part_passes d n m left cs rest old new is number written =

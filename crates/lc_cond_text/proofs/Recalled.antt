@@ -26,7 +26,7 @@ found_noted (x ∷ ps) zero (suc k) p q e = inr e
 found_noted (x ∷ ps) (suc j) zero p q e = inr e
 found_noted (x ∷ ps) (suc j) (suc k) p q e = elim (found_noted ps j k p q e) [ inl h ↦ inl (ap suc h.0, h.1) | inr h ↦ inr h ]
 
--- a text lies where it lay when more is written behind
+-- a text stays where it was when more is appended
 pub lies_still : (text bytes more : List ℕ) (p : Place) → LiesAt text bytes p → LiesAt text (bytes ++ more) p
 lies_still text bytes more p h =
     let ordered : p.start ≤ p.end = h.ordered in
@@ -37,7 +37,7 @@ lies_still text bytes more p h =
       is = ap (take (p.end - p.start)) (drop-append-le p.start bytes more (omega arith)) ∙ take-append-le (p.end - p.start) (drop p.start bytes) more (omega (arith, length-drop p.start bytes)) ∙ h.is;
     }
 
--- a text that is written behind others lies there
+-- a text that is appended to others is there
 pub lies_behind : (text bytes new : List ℕ) (p : Place) → new ≡ bytes ++ text → p.start ≡ length bytes → p.end ≡ length new → LiesAt text new p
 lies_behind text bytes new p is start end =
     let long : length new ≡ length bytes + length text = ap length is ∙ length-append bytes text in
@@ -51,7 +51,7 @@ same_number : (k j : FormulaId) → k.0 ≡ j.0 → k ≡ j
 same_number k j e = λ i. record { 0 = e i }
 
 module _ (There : FormulaId → Type 0) (text : FormulaId → List ℕ) where
-  -- a text more is recalled, which is written behind the others; what is found was there before
+  -- one more text is remembered, which is appended to the others; what is found was there before
   pub recalls_more : (bytes new : List ℕ) (old places after : List (Option Place)) (k : FormulaId) (p : Place) → AreRecalled There text bytes old
       → ((j : ℕ) (q : Place) → slice_get places j ≡ Some (Some q) → slice_get old j ≡ Some (Some q)) → There k → new ≡ bytes ++ text k → LiesAt (text k) new p → after ≡ set places k.0 (Some p)
       → AreRecalled There text new after

@@ -82,7 +82,7 @@ lines_from d k (c ∷ cs) = condition_text d k c ++ 10 ∷ lines_from d (suc k) 
 abbrev pub total_line : ℕ → List ℕ
 total_line n = codes "total " ++ decimal n ++ codes "\n"
 
--- the lines of conditions that are left, of which the first has this number, and that of how many there are together
+-- the lines of the remaining conditions, from this number on, and the line with the number of all conditions
 abbrev pub text_from : Development → ℕ → List Condition → List ℕ
 text_from d k cs = lines_from d k cs ++ total_line (k + length cs)
 

@@ -74,12 +74,12 @@ counter_lines =
 abbrev pub CounterIsPrinted : Type 0
 CounterIsPrinted = numbered (condition_text counter) 0 (conditions counter) ≡ counter_lines
 
--- where the counter's mark is made of another client's call, the condition number 8 asks which operation that client is in
+-- if the counter's mark is made of another client's call, the condition number 8 asks which operation that client is in
 abbrev pub HelpersAreNamed : Type 0
 HelpersAreNamed =
     (length (conditions (counter_by (Other (Variable 1) 0))) ≡ 60)
     × (option_map (λ (c : Condition). c.kind) (slice_get (conditions (counter_by (Other (Variable 1) 0))) 8) ≡ Some (Owed Named))
 
--- where it is a note, the condition number 9 asks that nothing is stored
+-- if it is a note, the condition number 9 asks that nothing is stored
 abbrev pub NotesObserve : Type 0
 NotesObserve = option_map (λ (c : Condition). c.kind) (slice_get (conditions (counter_by Note)) 9) ≡ Some (Owed Observing)

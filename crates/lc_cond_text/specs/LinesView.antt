@@ -12,7 +12,7 @@ use Rattle.lc_cond_text.specs.declared.lines.Left.{Left}
 use Rattle.lc_cond_text.specs.declared.lines.State.{State}
 use Rattle.lc_cond_text.specs.declared.lines.State.TheVariants.{Going, Ended, Failed}
 
--- what is left: its text, and how many pieces it may still come in; or memory was refused
+-- what is left: its text, and how many pieces it may still come in; or it is out of memory
 pub record LinesLeft : Type 0 where
   pub text : List ℕ
   pub pieces : ℕ
@@ -24,7 +24,7 @@ text_left l = l.text
 abbrev pub pieces_left : LinesLeft → ℕ
 pieces_left l = l.pieces
 
--- memory was refused, so they answer nothing else any more
+-- it is out of memory, so it returns nothing else any more
 abbrev pub is_spent : LinesLeft → Bool
 is_spent l = l.spent
 
@@ -54,12 +54,12 @@ left_in d Going l = record { text = text_unwritten d l; pieces = suc (steps_left
 left_in d Ended l = record { text = []; pieces = 0; spent = false }
 left_in d Failed l = record { text = []; pieces = 0; spent = true }
 
--- a piece is the beginning of what is left; there is none exactly where nothing is left
+-- a piece is the beginning of what is left; there is none exactly if nothing is left
 abbrev pub IsNextPiece : LinesLeft → LinesLeft → Option (Vec ℕ Global) → Type 0
 IsNextPiece before after None = (text_left before ≡ []) × (after ≡ before)
 IsNextPiece before after (Some piece) = (text_left before ≡ piece.items ++ text_left after) × (suc (pieces_left after) ≤ pieces_left before)
 
--- Something is written behind what was there, or a part is made; with what is left it is all that was left. Where there was no
+-- Something is appended, or a part is made; with what is left it is all that was left. If there was no
 -- more, the line of the count is written
 pub record GoesOn (d : Development) (old : List ℕ) (before : Left) (new : List ℕ) (after : Left) : Type 0 where
   pub text : old ++ text_unwritten d before ≡ new ++ text_unwritten d after

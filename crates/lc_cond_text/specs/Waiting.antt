@@ -28,7 +28,7 @@ abbrev pub AreWaiting : Table → List Waiting → Type 0
 AreWaiting ts [] = Unit {0}
 AreWaiting ts (w ∷ ws) = IsWaiting ts w × AreWaiting ts ws
 
--- what a store is written as behind what is stored to
+-- what a store is written as, after what is stored to
 abbrev pub stored_text : Spelled → ℕ → Table → TermId → TermId → List ℕ
 stored_text by d ts i v = spaced (spelled_term by d (term_in ts i)) ++ spaced (spelled_term by d (term_in ts v)) ++ codes ")"
 

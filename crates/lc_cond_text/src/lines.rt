@@ -16,7 +16,7 @@ use lc_table::Terms;
 use std::alloc::Global;
 use std::marker::Model;
 
-/// A piece is handed out once it has so many bytes.
+/// A piece is handed out once it has this many bytes.
 const PIECE: usize = 65_536;
 
 /// A table with no more entries than this is kept for the next part.
@@ -27,7 +27,7 @@ const FEW_ENTRIES: usize = 65_536;
 enum State {
     Going,
     Ended,
-    // Memory was refused.
+    // Out of memory.
     Failed,
 }
 
@@ -137,8 +137,8 @@ fn renew(alloc: Global, terms: &mut Terms, texts: &mut FormulaTexts, most: usize
     }
 }
 
-// The conditions of the next part, of which none is written; or, where nothing is left, the line of how many there are.
-// Whether there was a part.
+// The conditions of the next part, none of them written yet; or, if nothing is left, the line with the number of conditions.
+// Returns whether there was a part.
 fn make_part(
     alloc: Global,
     piece: &mut Vec<u8>,
@@ -230,8 +230,8 @@ impl<'d> ConditionLines<'d> {
         })
     }
 
-    /// The next piece of the lines, of 64 KiB and at most a line more unless it is the last; `None` where nothing is left.
-    /// After an allocation was refused it answers `OutOfMemory` from then on.
+    /// The next piece of the lines, of 64 KiB and at most a line more unless it is the last; `None` if nothing is left.
+    /// Once out of memory it returns `OutOfMemory` from then on.
     pub fn next_piece(&mut self) -> Result<Option<Vec<u8>>, OutOfMemory>
         ensures piece { IfOk result (IsNextPiece self.old self.new) }
         ensures spent { is_spent self.new ≡ is_err result }

@@ -1,4 +1,4 @@
-//! The names by which conditions are told.
+//! The names by which conditions are reported.
 ghost use Rattle.std.specs.Prelude.{◌≡◌, [], ◌∷◌, codes};
 ghost use Rattle.lc_outline.specs.DevelopmentView.{development_shown};
 ghost use Rattle.lc_naming.specs.ColumnNames.{name_at, column_names};
@@ -7,14 +7,14 @@ ghost use Rattle.lc_cond_text.specs.ConditionText.{point_names, action_names};
 use lc_base::{ColId, PointId};
 use lc_outline::Development;
 
-/// The name of a column; no text behind the last.
+/// The name of a column; an empty text after the last.
 pub(crate) fn column_name(development: &Development, column: ColId) -> &str
     ensures { result.now ≡ name_at (column_names (development_shown development.now)) column.0 }
 {
     lc_naming::column_name(development.parts(), column)
 }
 
-/// The name of a point; no text behind the last.
+/// The name of a point; an empty text after the last.
 pub(crate) fn point_name(development: &Development, point: PointId) -> &str
     ensures { result.now ≡ name_at (point_names (development_shown development.now)) point.0 }
 {
@@ -27,7 +27,7 @@ pub(crate) fn point_name(development: &Development, point: PointId) -> &str
     }
 }
 
-// The names of the actions that are not declared, by their places behind those.
+// The names of the actions that are not declared, by their places after the declared ones.
 fn built_in_name(place: usize) -> &'static str
     ensures { result.now ≡ name_at (codes "enter" ∷ codes "leave" ∷ []) place }
 {
@@ -38,7 +38,7 @@ fn built_in_name(place: usize) -> &'static str
     }
 }
 
-/// The name of an action; no text behind the last.
+/// The name of an action; an empty text after the last.
 pub(crate) fn action_name(development: &Development, place: usize) -> &str
     ensures { result.now ≡ name_at (action_names (development_shown development.now)) place }
 {

@@ -13,7 +13,7 @@ use lc_base::OutOfMemory;
 use lc_outline::Development;
 use lc_table::{FormulaId, FormulaNode, Terms};
 
-// A text behind what is there.
+// Appends a text.
 pub(crate) fn push_text(out: &mut Vec<u8>, text: &str) -> Result<(), OutOfMemory>
     ensures { OnOk result (out.new.items ≡ out.old.items ++ text.now) }
 {
@@ -37,7 +37,7 @@ pub(crate) fn push_end(out: &mut Vec<u8>) -> Result<(), OutOfMemory>
     Ok(())
 }
 
-// A number of one digit, as most are, behind what is there.
+// Appends a number of one digit, as most are.
 #[tactic(auto, using(std::proofs::lemmas::Fmt::decimal_digit))]
 fn push_digit(out: &mut Vec<u8>, digit: u8) -> Result<(), OutOfMemory>
     requires { digit < 10 }
@@ -47,7 +47,7 @@ fn push_digit(out: &mut Vec<u8>, digit: u8) -> Result<(), OutOfMemory>
     Ok(())
 }
 
-// A number behind what is there.
+// Appends a number.
 pub(crate) fn push_number(out: &mut Vec<u8>, number: u64) -> Result<(), OutOfMemory>
     ensures { OnOk result (out.new.items ≡ out.old.items ++ decimal number) }
 {
@@ -94,7 +94,7 @@ pub(crate) fn push_affine(out: &mut Vec<u8>, slope: i64, start: i64) -> Result<(
     push_end(out)
 }
 
-/// A formula, round which stand so many quantifiers, behind what is there.
+/// Appends a formula with `depth` quantifiers around it.
 #[cycle(push_formula)]
 pub(crate) fn push_formula(
     out: &mut Vec<u8>,
@@ -136,7 +136,7 @@ pub(crate) fn push_formula(
     }
 }
 
-// A quantifier, by its word, and what stands below it.
+// A quantifier, by its word, and what is below it.
 #[cycle(push_formula)]
 fn push_below(
     out: &mut Vec<u8>,

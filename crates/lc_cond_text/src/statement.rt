@@ -1,4 +1,4 @@
-//! What a condition says, without where it stands.
+//! What a condition says, without where it is.
 ghost use Rattle.std.specs.Prelude.{◌≡◌, ◌++◌, OnOk};
 ghost use Rattle.lc_cond.specs.ConditionView.{condition_in, IsCondition};
 ghost use Rattle.lc_cond_text.specs.ConditionText.{spelled, statement_text};
@@ -12,7 +12,7 @@ use lc_cond::Condition;
 use lc_outline::Development;
 use lc_table::Terms;
 
-/// What a condition says, behind what is there: ` (vars V) (hyps F ..) (goal F))`, with which its line ends. Texts of formulas
+/// Appends what a condition says: ` (vars V) (hyps F ..) (goal F))`, with which its line ends. Texts of formulas
 /// are those of this development and this table.
 pub fn push_statement(
     out: &mut Vec<u8>,

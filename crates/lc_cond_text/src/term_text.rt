@@ -1,4 +1,4 @@
-//! The text of a table's terms, from their nodes. What stands behind the part that is being written waits in a list, so that
+//! The text of a table's terms, from their nodes. What comes after the part that is being written waits in a list, so that
 //! a deep term takes nothing of the stack.
 ghost use Rattle.std.specs.Prelude.{◌≡◌, ◌++◌, ℕ, true, false, IfOk, OnOk, codes, [], ◌∷◌};
 ghost use Rattle.std.specs.Fmt.{signed_decimal};
@@ -21,14 +21,14 @@ use lc_base::OutOfMemory;
 use lc_outline::Development;
 use lc_table::{ColExprId, TermId, TermNode, Terms};
 
-// What is still to be written, behind what waits above it.
+// What is still to be written, after what waits above it.
 #[derive(Clone, Copy)]
 pub(crate) enum Waiting {
     Term(TermId),
-    // A term behind a space.
+    // A term after a space.
     Spaced(TermId),
     Column(ColExprId),
-    // The index and the value of a store, each behind a space, and the bracket that ends it.
+    // The index and the value of a store, each after a space, and the bracket that ends it.
     Stored(TermId, TermId),
     // The bracket that ends a part.
     End,
@@ -97,7 +97,7 @@ fn begin_term(
     begin_parts(out, waiting, terms, term)
 }
 
-// Two terms in brackets, behind a word.
+// Two terms in brackets, after a word.
 fn begin_pair(
     out: &mut Vec<u8>,
     waiting: &mut Vec<Waiting>,
@@ -195,7 +195,7 @@ fn begin_stored(
     push_end(out)
 }
 
-// Writes a column expression as far as what stands below all its stores. What they store waits.
+// Writes a column expression down to what is below all its stores. What they store waits.
 fn begin_column(
     out: &mut Vec<u8>,
     waiting: &mut Vec<Waiting>,
@@ -288,7 +288,7 @@ fn push_read(
     Ok(true)
 }
 
-// A term. No list of what waits is made where it has no parts, or is read of a column.
+// A term. No list of what waits is made if it has no parts, or is read of a column.
 fn push_term(
     out: &mut Vec<u8>,
     terms: &Terms,
@@ -316,7 +316,7 @@ fn push_term(
     Err(OutOfMemory)
 }
 
-/// Two terms in brackets, behind a word.
+/// Two terms in brackets, after a word.
 pub(crate) fn push_pair(
     out: &mut Vec<u8>,
     terms: &Terms,

@@ -52,7 +52,7 @@ pub fn kind_word(kind: Kind) -> &'static str
     }
 }
 
-// A word behind a space, behind what is there.
+// Appends a space and a word.
 fn push_spaced(out: &mut Vec<u8>, word: &str) -> Result<(), OutOfMemory>
     ensures { OnOk result (out.new.items ≡ out.old.items ++ spaced word.now) }
 {
@@ -60,7 +60,7 @@ fn push_spaced(out: &mut Vec<u8>, word: &str) -> Result<(), OutOfMemory>
     push_text(out, word)
 }
 
-// A number behind a space.
+// Appends a space and a number.
 fn push_spaced_number(out: &mut Vec<u8>, number: usize) -> Result<(), OutOfMemory>
     ensures { OnOk result (out.new.items ≡ out.old.items ++ spaced (decimal number)) }
 {
@@ -114,7 +114,7 @@ fn push_which(out: &mut Vec<u8>, development: &Development, which: Which) -> Res
     }
 }
 
-// Where a condition stands, word by word.
+// Where a condition is, word by word.
 fn push_place(
     out: &mut Vec<u8>,
     development: &Development,
@@ -130,7 +130,7 @@ fn push_place(
     push_which(out, development, place.which)
 }
 
-// The hypotheses of a condition, each behind a space.
+// The hypotheses of a condition, each after a space.
 fn push_hypotheses(
     out: &mut Vec<u8>,
     texts: &mut FormulaTexts,
@@ -150,7 +150,7 @@ fn push_hypotheses(
     Ok(())
 }
 
-// What a condition is, and where it stands.
+// What a condition is, and where it is.
 fn push_head(
     out: &mut Vec<u8>,
     development: &Development,
@@ -187,7 +187,7 @@ pub(crate) fn push_known(
     push_hypotheses(out, texts, terms, development, goal.hypotheses.as_slice())
 }
 
-/// What is to be proved, and the end of the line. The formula may stand in this line alone: its text is kept once it is met again.
+/// What is to be proved, and the end of the line. The formula may be in this line alone: its text is kept if it occurs again.
 pub(crate) fn push_claim(
     out: &mut Vec<u8>,
     texts: &mut FormulaTexts,
@@ -209,7 +209,7 @@ pub(crate) fn push_claim(
     push_text(out, "))")
 }
 
-/// The line of a condition, without a line feed, behind what is there. Texts of formulas are those of this development and
+/// Appends the line of a condition, without a line feed. Texts of formulas are those of this development and
 /// this table.
 pub(crate) fn push_condition(
     out: &mut Vec<u8>,

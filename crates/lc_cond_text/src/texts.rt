@@ -1,4 +1,4 @@
-//! The texts of formulas that stand in many lines: each is made once, and then copied.
+//! The texts of formulas that are in many lines: each is made once, and then copied.
 ghost use Rattle.std.specs.Prelude.{◌≡◌, ◌++◌, ◌<◌, ◌≤◌, ℕ, length, Some, slice_get, slice_range, IfOk, IfSome, OnOk};
 ghost use Rattle.lc_table.specs.NodeTables.{Table};
 ghost use Rattle.lc_table.specs.Tables.{formula_in, IsFormula};
@@ -22,11 +22,11 @@ struct Place {
 }
 
 /// Texts of formulas, by the formulas' numbers: they serve one development and one table, which may grow, so that what
-/// stands in many lines is spelled once. After an error they are to be let go.
+/// is in many lines is spelled once. After an error they have to be dropped.
 pub struct FormulaTexts {
     bytes: Vec<u8>,
     places: Vec<Option<Place>>,
-    // Whether a formula was met already that is kept only where it is met again.
+    // Whether a formula was met already that is kept only if it is met again.
     met: Vec<bool>,
 }
 
@@ -91,7 +91,7 @@ fn spell(
     Ok(place)
 }
 
-// The text that lies at a place, behind what is there.
+// Appends the text that is at a place.
 fn push_at(out: &mut Vec<u8>, texts: &FormulaTexts, place: Place) -> Result<(), OutOfMemory>
     requires ordered { place.start ≤ place.end }
     requires within { place.end ≤ length texts.now.bytes.items }
@@ -101,7 +101,7 @@ fn push_at(out: &mut Vec<u8>, texts: &FormulaTexts, place: Place) -> Result<(), 
     Ok(())
 }
 
-/// A formula that stands in many lines, behind what is there.
+/// Appends a formula that is in many lines.
 pub(crate) fn push_repeated(
     out: &mut Vec<u8>,
     texts: &mut FormulaTexts,

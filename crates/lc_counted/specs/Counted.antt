@@ -1,4 +1,4 @@
--- What is counted from a text, and what is told where it is beyond the limit.
+-- What is counted from a text, and what is reported if it is beyond the limit.
 use Rattle.std.specs.Prelude.{◌≡◌, ℕ, List}
 use Rattle.lc_base.specs.declared.refusal.Refusal.{Refusal}
 use Rattle.lc_base.specs.declared.refusal.Refusal.TheVariants.{Bound}
@@ -19,6 +19,6 @@ counted ts = condition_count (declarations_of ts) (sections_of ts)
 abbrev pub HasForms : List ℕ → Development → Type 0
 HasForms bytes D = (ts : Trees) × ReadsAs bytes ts × (forms_reading (declarations_of ts) (sections_of ts) 0 ts ≡ fine D)
 
--- there are too many conditions, which is told at the item 0
+-- there are too many conditions, which is reported at item 0
 abbrev pub too_many : Refusal
 too_many = Bound 0

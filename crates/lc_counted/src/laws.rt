@@ -14,8 +14,8 @@ pub fn conditions_are_counted_from_the_text()
     ensures { (bytes : List ℕ) (ts : Trees) (D : Development) → ReadsAs bytes ts → Says file_reading bytes D → length (conditions D) ≡ counted ts }
 {}
 
-/// A file says a development exactly where its forms are those of this development and there are not more conditions than their limit.
-/// Where there are more, the file is refused, and this is told at the item 0.
+/// A file says a development exactly if its forms are those of this development and it has no more conditions than the limit.
+/// If there are more, the file is refused, and this is reported at item 0.
 pub fn developments_are_within_the_limit()
     ensures formed { (bytes : List ℕ) (D : Development) → Says file_reading bytes D → HasForms bytes D }
     ensures few { (bytes : List ℕ) (D : Development) → Says file_reading bytes D → length (conditions D) ≤ condition_limit }

@@ -41,7 +41,7 @@ module _ {J : Type 0} where
   end-more [] (f ∷ ends) s e are is = absurd are
   end-more (t ∷ seats) [] s e are is = absurd are
 
-  -- where seats have their clients' labels, ends fit these
+  -- if seats have their clients' labels, ends fit these
   ends-fit : (labels : List Label) (seats : List (Seat J)) (ends : List Ended) → AreEndsOf seats ends → All (HasOwn labels) seats → All (EndsSo labels) ends
   ends-fit labels [] [] are own = λ k d h. absurd (omega (arith, h))
   ends-fit labels (s ∷ seats) (e ∷ ends) are own = by (ends-fit labels seats ends are.1 (λ k d h. own (suc k) d (omega (arith, h))))
@@ -55,7 +55,7 @@ module _ {J : Type 0} where
   ends-fit labels [] (f ∷ ends) are own = absurd are
   ends-fit labels (s ∷ seats) [] are own = absurd are
 
-  -- what has run, where all seats were handed in with their clients' ends
+  -- what has run, if all seats were handed in with their clients' ends
   pub ended : (D : Development) (n : ℕ) (ran : Ran) (seats : List (Seat J)) → ∥ ((w : World) × IsRun D n (labels_of ran.log.labels.items) w) ∥₁
       → events_in ran.log.history ≡ history (labels_of ran.log.labels.items) → entries_shown ran.log.order.items ≡ order (labels_of ran.log.labels.items)
       → ∥ Linearizes (text_step D.specification.operations) (start_of D.specification.columns) (events_in ran.log.history) (entries_shown ran.log.order.items) ∥₁

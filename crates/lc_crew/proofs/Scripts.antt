@@ -8,7 +8,7 @@ use Rattle.lc_sound.specs.Instrumented.{Label}
 use Rattle.lc_crew.specs.Playing.{HasMadeCalls, HasPlayed}
 use Rattle.lc_crew.specs.declared.halt.Halt.{Halt}
 
--- what is played behind a step whose calls all returned
+-- what is played after a step whose calls all returned
 step-first : (end : Option Halt) (k : S.Calls) (ks : List S.Calls) (c : ℕ) (before mid after : List Label) → HasMadeCalls None k c before mid → HasPlayed end ks c mid after → HasPlayed end (k ∷ ks) c before after
 step-first None k ks c before mid after made rest = (mid, made, rest)
 step-first (Some halt) k ks c before mid after made rest = inr (mid, made, rest)
@@ -25,7 +25,7 @@ all-made : (halt : Option Halt) (k : S.Calls) (c : ℕ) (before after : List Lab
 all-made None k c before after never made = made
 all-made (Some h) k c before after never made = absurd (never h refl)
 
--- a step behind which the script goes on
+-- a step after which the script goes on
 pub gone-on : (seen items : List Calls) (i : ℕ) (x : Calls) (halt : Option Halt) (c d : ℕ) (before mid : List Label) → seen ≡ items → i < length seen → x ≡ get_or seen i x → ((h : Halt) → halt ≡ Some h → ⊥) → d ≡ c
     → HasMadeCalls halt (calls_of x) d before mid → (end : Option Halt) (after : List Label) → HasPlayed end (map calls_of (drop (i + 1) items)) c mid after
     → HasPlayed end (map calls_of (drop i items)) c before after
@@ -36,7 +36,7 @@ gone-on seen items i x halt c d before mid same below is never client made end a
     (subst (λ ks. HasPlayed end (map calls_of ks) c before after) (sym (drop_more seen i x below ∙ ap (λ y. y ∷ drop (i + 1) seen) (sym is)))
     (step-first end (calls_of x) (map calls_of (drop (i + 1) seen)) c before mid after all behind))
 
--- behind the last step nothing is left
+-- after the last step nothing is left
 pub all-played : (seen items : List Calls) (i : ℕ) (c : ℕ) (now : List Label) → seen ≡ items → length seen ≤ i → HasPlayed None (map calls_of (drop i items)) c now now
 all-played seen items i c now same past =
     subst (λ its. HasPlayed None (map calls_of (drop i its)) c now now) same (subst (λ ks. HasPlayed None (map calls_of ks) c now now) (sym (drop_all i seen past)) refl)

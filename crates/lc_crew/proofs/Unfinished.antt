@@ -1,4 +1,4 @@
--- Whether a call is unfinished behind what calls leave.
+-- Whether a call is unfinished after what calls leave.
 use Rattle.std.proofs.Common.{◌≡◌, ℕ, suc, ◌+◌, ◌-◌, Bool, true, false, not, List, [], ◌∷◌, ◌++◌, ℤ, Option, Some, None, length, refl, sym, ap, subst, ◌∙◌, arith, append_assoc}
 use Rattle.std.specs.Option.{option_map_or}
 use Rattle.std.proofs.lemmas.List.{append-nil, length-append}
@@ -14,7 +14,7 @@ use Rattle.lc_crew.specs.Halts.{fits}
 use Rattle.lc_crew.specs.Playing.{HasReturned, HaveReturned, HasMadeOne, halt_behind}
 use Rattle.lc_crew.specs.declared.halt.Halt.{Halt}
 
--- behind a label a call is unfinished as the label says
+-- after a label a call is unfinished as the label says
 last-goes : (before : List Label) (l : Label) → is_unfinished (before ++ l ∷ []) ≡ goes_on l.what
 last-goes before l =
     ap (λ o. option_map_or (λ (x : Label). goes_on x.what) o false)
@@ -27,7 +27,7 @@ moves-go c before (m ∷ ms) goes each =
     ap is_unfinished (sym (append_assoc before (m ∷ []) ms))
     ∙ moves-go c (before ++ m ∷ []) ms (last-goes before m ∙ ap goes_on each.0.1.2) each.1
 
--- no call is unfinished behind one that returned
+-- no call is unfinished after one that returned
 returned-fits : (turns : ℕ) (call : Event) (c : ℕ) (before after : List Label) → HasReturned turns call c before after → is_unfinished after ≡ false
 returned-fits turns call c before after (numbers, (begun, k, last, first, moved, fewer, reply)) =
     ap is_unfinished reply.grown ∙ (last-goes last reply.label ∙ ap goes_on reply.what)

@@ -12,7 +12,7 @@ use Rattle.lc_sound.specs.Instrumented.{Label}
 use Rattle.lc_crew.specs.declared.halt.Halt.{Halt}
 use Rattle.lc_crew.specs.declared.halt.Halt.TheVariants.{Spent, Overflow, Full}
 
--- a call of so many turns at most was made, and returned
+-- a call of at most `turns` turns was made, and returned
 abbrev pub HasReturned : (turns : ℕ) (call : Event) (c : ℕ) (before after : List Label) → Type 0
 HasReturned turns call c before after = (numbers : Vec ℤ Global) × IsCalled (called.Returned numbers) turns call c before after
 
@@ -22,12 +22,12 @@ HasStopped Spent turns call c before after = IsCalled called.TurnsSpent turns ca
 HasStopped Overflow turns call c before after = IsLeft turns call c before after
 HasStopped Full turns call c before after = IsLeft turns call c before after
 
--- why no further call is made behind one that came to this
+-- why no further call is made after one that came to this
 abbrev pub halt_behind : Called → Option Halt
 halt_behind (called.Returned numbers) = None
 halt_behind called.TurnsSpent = Some Spent
 
--- behind these faults of a call its client makes no further one
+-- after these faults of a call its client makes no further one
 abbrev pub IsHaltAt : RunFault → Halt → Type 0
 IsHaltAt fault Spent = ⊥
 IsHaltAt fault Overflow = fault ≡ run.Overflow
@@ -38,7 +38,7 @@ abbrev pub HasMadeOne : Option Halt → (turns : ℕ) (call : Event) (c : ℕ) (
 HasMadeOne None turns call c before after = HasReturned turns call c before after
 HasMadeOne (Some halt) turns call c before after = HasStopped halt turns call c before after
 
--- so many such calls, one after another, each of which returned
+-- n such calls, one after another, each of which returned
 abbrev pub HaveReturned : ℕ → (turns : ℕ) (call : Event) (c : ℕ) (before after : List Label) → Type 0
 HaveReturned zero turns call c before after = after ≡ before
 HaveReturned (suc n) turns call c before after = (mid : List Label) × HaveReturned n turns call c before mid × HasReturned turns call c mid after

@@ -23,11 +23,11 @@ abbrev pub AreNumberedFrom : ℕ → List Ended → Type 0
 AreNumberedFrom c [] = Unit {0}
 AreNumberedFrom c (e ∷ es) = (e.client ≡ c) × AreNumberedFrom (suc c) es
 
--- of each of so many clients it is said once how it came to its end, by their numbers
+-- for each of n clients it is said once how it came to its end, by their numbers
 abbrev pub AreAllEnded : ℕ → List Ended → Type 0
 AreAllEnded n ends = (length ends ≡ n) × AreNumberedFrom 0 ends
 
--- the labels are a run of the development by so many clients, the order of the run linearizes its history, and its clients came to
+-- the labels are a run of the development by n clients, the order of the run linearizes its history, and its clients came to
 -- these ends
 pub record IsOrdered (D : Development) (n : ℕ) (labels : List Label) (ends : List Ended) : Type 0 where
   pub run : ∥ ((w : World) × IsRun D n labels w) ∥₁
@@ -35,7 +35,7 @@ pub record IsOrdered (D : Development) (n : ℕ) (labels : List Label) (ends : L
   pub each : All (EndsSo labels) ends
   pub all : AreAllEnded n ends
 
--- What has run of a development by so many clients: its history and its order are those of such a run
+-- What has run of a development by n clients: its history and its order are those of such a run
 pub record IsRunOf (D : Development) (n : ℕ) (ran : Ran) : Type 0 where
   pub ordered : IsOrdered D n (labels_of ran.log.labels.items) ran.ends.items
   pub events : events_in ran.log.history ≡ history (labels_of ran.log.labels.items)

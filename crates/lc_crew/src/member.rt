@@ -24,7 +24,7 @@ pub struct Member<J: Ledger> {
     ghost fit: { fits halt (is_unfinished (labels_made seat)) ≡ true },
 }
 
-// Why a client makes no further call behind this fault of one; or why there is nothing to hand out.
+// Why a client makes no further call after this fault of one; or why there is nothing to hand out.
 fn halt_at(fault: RunFault) -> Result<Halt, Stop>
     ensures { IfOk result (λ halt. IsHaltAt fault halt) }
 {
@@ -41,7 +41,7 @@ fn halt_at(fault: RunFault) -> Result<Halt, Stop>
     }
 }
 
-// Why no further call is made behind one that came to this.
+// Why no further call is made after one that came to this.
 fn halt_behind(called: &Called) -> Option<Halt>
     ensures { result ≡ halt_behind called.now }
 {
@@ -51,7 +51,7 @@ fn halt_behind(called: &Called) -> Option<Halt>
     }
 }
 
-// One call of so many turns; and why no further one is made, if it did not return.
+// One call of at most `turns` turns; and why no further one is made, if it did not return.
 fn make_call<J: Ledger, R: Wait>(
     rt: &R,
     runner: &Runner<J>,

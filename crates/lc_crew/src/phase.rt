@@ -33,7 +33,7 @@ pub(crate) fn play_phase<J: Ledger + Sync, R: Threads + Wait + Sync>(
     crew: &mut [Option<Member<J>>],
     phase: &[Script],
 ) -> Result<(), Stop> {
-    // A scope costs calls of the system, also where it has no thread.
+    // A scope costs calls of the system, also if it has no thread.
     if phase.is_empty() {
         return Ok(());
     }

@@ -47,7 +47,7 @@ struct Parted<J: Ledger> {
     ends: Vec<Ended>,
 }
 
-// Each client's seat, and its end, where so many clients are there, each at its place.
+// Each client's seat, and its end, if all clients are there, each at its place.
 fn parts_of<J: Ledger>(
     alloc: Global,
     crew: Vec<Option<Member<J>>>,
@@ -75,7 +75,7 @@ fn parts_of<J: Ledger>(
     Ok(Parted { seats, ends })
 }
 
-// What came of a plan, where all clients are there again.
+// What came of a plan, if all clients are there again.
 fn finished<J: Ledger>(
     alloc: Global,
     runner: Runner<J>,

@@ -58,7 +58,7 @@ pub(crate) struct Calls {
     pub(crate) bars: Vec<Bar>,
     /// For each event the call that it begins or ends.
     pub(crate) bar_of_event: Vec<usize>,
-    /// For each entry of the order its call, if its client has so many.
+    /// For each entry of the order its call, if its client has that many.
     pub(crate) bar_of_entry: Vec<Option<usize>>,
     lane_of_client: IndexMap<u32, usize>,
 }
@@ -86,7 +86,7 @@ impl Calls {
         }
     }
 
-    /// The lane of a client, which is a new one below the others where it has none.
+    /// The lane of a client, which is a new one below the others if it has none.
     fn lane_of(&mut self, alloc: Global, client: u32) -> Result<usize, OutOfMemory> {
         if let Some(lane) = self.lane_of_client.get(&client) {
             return Ok(*lane);

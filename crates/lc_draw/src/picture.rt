@@ -47,7 +47,7 @@ fn preceded_from(calls: &Calls, judged: Judged) -> u64 {
     bar.map_or(0, |bar| bar.begins)
 }
 
-/// Whether a bar is what makes the order no linearization: the entry's call; a call without an entry, where one is missing; or
+/// Whether a bar is what makes the order no linearization: the entry's call; a call without an entry, if one is missing; or
 /// the call of a later entry that returned before the entry's call began, which is there.
 fn is_at_fault(bar: &Bar, judged: Judged, preceded: u64) -> bool {
     let Judged::Fails { place, reason } = judged else {
@@ -79,9 +79,9 @@ fn push_drawing(
 }
 
 /// The drawing of a history with an order, as SVG text, without a script: a lane for each client, in which a bar goes from each
-/// call to its return, open at the right where it has not returned; and in the bars the entries of the order as marks with their
-/// places, from 0, joined by a line that goes to the right alone where no later entry's call precedes another. What makes the
-/// order no linearization of the history stands out, and the reason stands below.
+/// call to its return, open at the right if it has not returned; and in the bars the entries of the order as marks with their
+/// places, from 0, joined by a line that goes only to the right if no later entry's call precedes another. What makes the
+/// order no linearization of the history stands out, and the reason is below.
 pub fn drawing(
     alloc: Global,
     spec: &TextSpec,

@@ -1,9 +1,9 @@
-//! Where bars and marks stand, from left to right.
+//! Where bars and marks are, from left to right.
 use crate::calls::{Bar, Calls};
 use lc_base::OutOfMemory;
 use std::alloc::Global;
 
-/// How far an event stands behind the one before it, at least.
+/// How far an event is after the one before it, at least.
 const STEP: u64 = 24;
 
 /// The width of a character.
@@ -12,7 +12,7 @@ const CHARACTER: u64 = 8;
 /// What is left free in a bar, beside its text.
 const AROUND: u64 = 16;
 
-/// How far into a bar its mark stands, at least, and before its end.
+/// How far into a bar its mark is, at least, and before its end.
 const INTO: u64 = 8;
 
 /// An entry of the order, as it is drawn.
@@ -20,7 +20,7 @@ const INTO: u64 = 8;
 pub(crate) struct Mark {
     pub(crate) place: usize,
     pub(crate) lane: usize,
-    /// How far to the right it stands.
+    /// How far to the right it is.
     pub(crate) across: u64,
 }
 
@@ -31,7 +31,7 @@ fn width_of(bar: &Bar) -> u64 {
         .saturating_add(AROUND)
 }
 
-/// Puts the next event of a call behind what stands there up to now, and gives where it stands: an end leaves room for the text.
+/// Puts the next event of a call after what is there up to now, and returns where it is: an end leaves room for the text.
 fn put_event(bar: &mut Bar, behind: u64) -> u64 {
     let next = behind.saturating_add(STEP);
     if bar.begins == 0 {
@@ -43,7 +43,7 @@ fn put_event(bar: &mut Bar, behind: u64) -> u64 {
     bar.ends
 }
 
-/// Puts the bars where their events stand, in the order of the events, and gives where the drawing ends.
+/// Puts the bars where their events are, in the order of the events, and returns where the drawing ends.
 pub(crate) fn put_bars(calls: &mut Calls) -> u64 {
     let mut behind = 0;
     for number in &calls.bar_of_event {
@@ -63,7 +63,7 @@ pub(crate) fn put_bars(calls: &mut Calls) -> u64 {
     last
 }
 
-/// The marks of the entries: each as far to the right as the one before it, or farther, where its bar goes so far.
+/// The marks of the entries: each as far to the right as the one before it, or farther, if its bar goes so far.
 pub(crate) fn marks_of(alloc: Global, calls: &Calls) -> Result<Vec<Mark>, OutOfMemory> {
     let mut marks = Vec::new(alloc);
     let mut behind = 0;

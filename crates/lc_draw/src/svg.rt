@@ -4,13 +4,13 @@ use crate::picture::Judged;
 use crate::places::Mark;
 use lc_base::OutOfMemory;
 
-/// What stands left of all bars, for the names of the clients.
+/// The room left of all bars, for the names of the clients.
 const LEFT: u64 = 96;
 
-/// What stands right of them.
+/// The room right of them.
 const RIGHT: u64 = 24;
 
-/// What stands above the first lane, and below the last.
+/// The room above the first lane, and below the last.
 const ABOVE: u64 = 24;
 
 const BELOW: u64 = 48;
@@ -22,10 +22,10 @@ const BAR: u64 = 24;
 
 const BAR_FROM: u64 = 18;
 
-/// The least width of a drawing, so that what is told below it has room.
+/// The least width of a drawing, so that what is said below it has room.
 const LEAST: u64 = 640;
 
-/// Colours that are told apart also by those who see no red or green; what is at fault has another line, too.
+/// Colours that can be distinguished also by those who see no red or green; what is at fault has another line, too.
 static STYLE: &str = "\
 <style>\
 .sheet{fill:#ffffff}\
@@ -47,7 +47,7 @@ pub(crate) struct Sheet {
     height: u64,
 }
 
-/// Where a place stands, so far to the right.
+/// Where a place is, this far to the right.
 fn across_of(across: u64) -> u64 {
     across.saturating_add(LEFT)
 }
@@ -68,7 +68,7 @@ fn middle_of(lane: usize) -> u64 {
 }
 
 impl Sheet {
-    /// A sheet for so many lanes that go so far.
+    /// A sheet for `lanes` lanes that go this far.
     pub(crate) fn new(across: u64, lanes: usize) -> Sheet {
         let until = across_of(across);
         Sheet {
@@ -79,7 +79,7 @@ impl Sheet {
     }
 }
 
-/// Writes what stands before all elements.
+/// Writes what comes before all elements.
 pub(crate) fn begin_sheet(out: &mut String, sheet: Sheet) -> Result<(), OutOfMemory> {
     let Sheet { width, height, .. } = sheet;
     write!(
@@ -193,7 +193,7 @@ pub(crate) fn push_caption(
     Ok(())
 }
 
-/// Writes what stands behind all elements.
+/// Writes what comes after all elements.
 pub(crate) fn end_sheet(out: &mut String) -> Result<(), OutOfMemory> {
     out.push_str("</svg>\n")?;
     Ok(())

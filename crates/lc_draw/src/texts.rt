@@ -31,7 +31,7 @@ pub(crate) fn call_text(
     Ok(text)
 }
 
-/// Behind a call what it returned: ` = NUMBER, ..`, and nothing where it returned nothing.
+/// What a call returned, after the call: ` = NUMBER, ..`, and nothing if it returned nothing.
 pub(crate) fn push_reply(text: &mut String, numbers: &[i64]) -> Result<(), OutOfMemory> {
     if numbers.is_empty() {
         return Ok(());
@@ -40,7 +40,7 @@ pub(crate) fn push_reply(text: &mut String, numbers: &[i64]) -> Result<(), OutOf
     push_numbers(text, numbers)
 }
 
-/// Behind a call how its branch was chosen: ` by NAME(NUMBER, ..)`, and nothing where it was by order.
+/// How the branch of a call was chosen, after the call: ` by NAME(NUMBER, ..)`, and nothing if it was by order.
 pub(crate) fn push_choice(text: &mut String, choice: &Pick) -> Result<(), OutOfMemory> {
     let Pick::Named { name, numbers } = choice else {
         return Ok(());

@@ -23,7 +23,7 @@ said label sentence = codes ": " ++ word_of label ++ codes ": " ++ sentence ++ c
 abbrev pub blanks : List ℕ → List ℕ
 blanks digits = map (λ b. 32) digits
 
--- a line behind a margin, which has the number of the line or spaces
+-- a line after a margin, which holds the number of the line or spaces
 abbrev pub behind_margin : List ℕ → List ℕ → List ℕ
 behind_margin margin line = codes "    " ++ margin ++ codes " | " ++ line ++ codes "\n"
 

@@ -22,7 +22,7 @@ pub(crate) enum Suspect {
         list: Opened,
         line: usize,
     },
-    /// A bracket closes a list, and a line behind it is indented as a part of that.
+    /// A bracket closes a list, and a line after it is indented as a part of that.
     ClosedEarly {
         list: Opened,
         bracket: usize,
@@ -107,7 +107,7 @@ impl Layout {
         }
     }
 
-    /// Looks at the byte at an offset; answers what is wrong there, if anything is.
+    /// Looks at the byte at an offset; returns what is wrong there, if anything is.
     fn look_at(&mut self, offset: usize, byte: u8) -> Result<Option<Suspect>, OutOfMemory> {
         if byte == b'\n' {
             self.indent = 0;

@@ -2,6 +2,7 @@
 use crate::around::list_count;
 use crate::lists::{List, Lists};
 use crate::nearness::distance;
+use crate::table::{beside, is_among};
 
 /// What a name is the name of.
 #[derive(Clone, Copy, PartialEq, Eq)]
@@ -16,36 +17,50 @@ pub(crate) enum Sort {
     Variable,
 }
 
+impl Sort {
+    /// What a name of the sort is called, before the name.
+    pub(crate) fn noun(self) -> &'static str {
+        match self {
+            Sort::Column => "the column ",
+            Sort::Array => "the array ",
+            Sort::Point => "the point ",
+            Sort::Action => "the action ",
+            Sort::Operation => "the operation ",
+            Sort::Choice => "the choice ",
+            Sort::Variable => "the name ",
+        }
+    }
+}
+
 /// The columns that each object has beside its own.
-const SYSTEM_COLUMNS: [&str; 12] = [
+static SYSTEM_COLUMNS: [&str; 12] = [
     "pend", "op", "arg1", "arg2", "arg3", "rep1", "rep2", "rep3", "noted", "note1", "note2",
     "note3",
 ];
 
-/// The sort of the name that a list declares as its second item, by the word with which it begins.
-fn second_sort(word: &str) -> Option<Sort> {
-    match word {
-        "array" => Some(Sort::Array),
-        "point" => Some(Sort::Point),
-        "action" => Some(Sort::Action),
-        "op" => Some(Sort::Operation),
-        "choice" => Some(Sort::Choice),
-        "forall" | "exists" => Some(Sort::Variable),
-        _ => None,
-    }
-}
+/// The sorts of the names that lists declare as their second items, by the words with which they begin.
+static SECONDS: [(&str, Sort); 7] = [
+    ("array", Sort::Array),
+    ("point", Sort::Point),
+    ("action", Sort::Action),
+    ("op", Sort::Operation),
+    ("choice", Sort::Choice),
+    ("forall", Sort::Variable),
+    ("exists", Sort::Variable),
+];
 
-/// By which item the names begin that a list declares in a row, of which sort they are, and whether the item before is their list.
-fn row_of(word: &str) -> Option<(u64, Sort)> {
-    match word {
-        "action" | "op" | "choice" | "body" => Some((4, Sort::Variable)),
-        "vars" => Some((2, Sort::Variable)),
-        "cols" => Some((2, Sort::Column)),
-        _ => None,
-    }
-}
+/// The items with which the names begin that lists declare in a row, and the sort of these names.
+static ROWS: [(&str, (u64, Sort)); 6] = [
+    ("action", (4, Sort::Variable)),
+    ("op", (4, Sort::Variable)),
+    ("choice", (4, Sort::Variable)),
+    ("body", (4, Sort::Variable)),
+    ("vars", (2, Sort::Variable)),
+    ("cols", (2, Sort::Column)),
+];
 
 /// A name that is looked for, and what was found.
+#[derive(Clone, Copy)]
 pub(crate) struct Sought<'a> {
     name: &'a str,
     sort: Sort,
@@ -56,19 +71,7 @@ pub(crate) struct Sought<'a> {
     distance: usize,
 }
 
-impl Drop for Sought<'_> {
-    fn drop(self) {
-        let Sought {
-            name: _,
-            sort: _,
-            declared: _,
-            nearest: _,
-            distance: _,
-        } = self;
-    }
-}
-
-/// Names are near where fewer letters than so many make the difference.
+/// Names are near if the difference is fewer letters than this.
 const FAR: usize = 3;
 
 impl<'a> Sought<'a> {
@@ -124,15 +127,15 @@ impl<'a> Sought<'a> {
 
     /// Looks at all names that a list declares.
     fn look_in(&mut self, list: List<'a>) {
-        if let Some(sort) = second_sort(list.word) {
+        if let Some(sort) = beside(&SECONDS, list.word) {
             self.look_at(list, sort, list.atom(2));
         }
-        if let Some((first, sort)) = row_of(list.word) {
+        if let Some((first, sort)) = beside(&ROWS, list.word) {
             if sort == self.sort {
                 self.look_at_row(list, first, sort);
             }
         }
-        if matches!(list.outer, "array" | "aux" | "abstract") {
+        if is_among(&["array", "aux", "abstract"], list.outer) {
             self.look_at(list, Sort::Column, list.word);
         }
     }
@@ -167,7 +170,7 @@ pub(crate) fn seek<'a>(bytes: &'a [u8], sort: Sort, name: &'a str) -> Sought<'a>
 
 /// Whether a name is that of a column, as far as a file declares it.
 pub(crate) fn is_column(bytes: &[u8], name: &str) -> bool {
-    SYSTEM_COLUMNS.contains(&name) || seek(bytes, Sort::Column, name).declared().is_some()
+    is_among(&SYSTEM_COLUMNS, name) || seek(bytes, Sort::Column, name).declared().is_some()
 }
 
 /// Whether a file has a list that begins with this word.

@@ -10,7 +10,7 @@ use crate::wording::sentence_of;
 use lc_base::{OutOfMemory, Refusal};
 use std::alloc::Global;
 
-/// Where and why a file of s-expressions is refused, with its line, where the refusal tells an offset or an item of it: the codes 1
+/// Where and why a file of s-expressions is refused, with its line, if the refusal has an offset or an item of it: the codes 1
 /// to 8. `kind` is what the file is read as, and `path` how the user calls it.
 pub fn explanation(
     alloc: Global,

@@ -1,219 +1,282 @@
-//! How the lists of files are written, by the word with which they begin and the one of the list that they stand in.
+//! How the lists of files are written, by the word with which they begin and the one of the list that they are in.
+use crate::declared::Sort;
+use crate::spot::head_of;
+use crate::table::{is_among, text_beside};
 
 /// A specification's lists, and an object's but for its code.
-fn part_of_object(word: &str) -> Option<&'static str> {
-    match word {
-        "spec" => Some("(spec NAME (abstract COL ..) (op ..) ..)"),
-        "abstract" => Some("(abstract (NAME a b) ..)"),
-        "op" => Some("(op NAME (ARG ..) REPLIES (branch ..) ..)"),
-        "branch" => Some("(branch F ((COLUMN T T) ..) (T ..))"),
-        "choice" => Some("(choice NAME (PARAM ..) F ((COLUMN T T) ..) (T ..))"),
-        "object" => {
-            Some(
-                "(object NAME (array ..) .. (aux ..) (action ..) .. (invariant ..) (idle ..) (body ..) ..)",
-            )
-        }
-        "array" => Some("(array NAME (NAME a b) ..)"),
-        "aux" => Some("(aux (NAME a b) ..)"),
-        "action" => Some("(action NAME (PARAM ..) F (COLUMN T T) ..)"),
-        "invariant" => Some("(invariant (NAME F) ..)"),
-        "idle" => Some("(idle F ..)"),
-        "body" => Some("(body OP (LOCAL ..) (point ..) ..)"),
-        "point" => Some("(point NAME INSTRUCTION (assert F ..) (on ..) ..)"),
-        "assert" => Some("(assert F ..)"),
-        _ => None,
-    }
-}
+static PARTS: [&str; 15] = [
+    "(spec NAME (abstract COL ..) (op ..) ..)",
+    "(abstract (NAME a b) ..)",
+    "(op NAME (ARG ..) REPLIES (branch ..) ..)",
+    "(branch F ((COLUMN T T) ..) (T ..))",
+    "(choice NAME (PARAM ..) F ((COLUMN T T) ..) (T ..))",
+    "(object NAME (array ..) .. (aux ..) (action ..) .. (invariant ..) (idle ..) (body ..) ..)",
+    "(array NAME (NAME a b) ..)",
+    "(aux (NAME a b) ..)",
+    "(action NAME (PARAM ..) F (COLUMN T T) ..)",
+    "(invariant (NAME F) ..)",
+    "(idle F ..)",
+    "(body OP (LOCAL ..) (point ..) ..)",
+    "(point NAME INSTRUCTION (assert F ..) (on ..) ..)",
+    "(assert F ..)",
+    "(on EDGE (ACTION T ..) RIDER ..)",
+];
 
 /// Instructions.
-fn instruction(word: &str) -> Option<&'static str> {
-    match word {
-        "load" => Some("(load ARRAY T (LOCAL ..) POINT)"),
-        "store" => Some("(store ARRAY T (T ..) POINT)"),
-        "cas" => Some("(cas ARRAY T (T ..) (T ..) POINT POINT)"),
-        "faa" => Some("(faa ARRAY T (LOCAL ..) (T ..) POINT)"),
-        "set" => Some("(set ((LOCAL T) ..) POINT)"),
-        "if" => Some("(if F POINT POINT)"),
-        "return" => Some("(return T ..)"),
-        _ => None,
-    }
-}
+static INSTRUCTIONS: [&str; 7] = [
+    "(load ARRAY T (LOCAL ..) POINT)",
+    "(store ARRAY T (T ..) POINT)",
+    "(cas ARRAY T (T ..) (T ..) POINT POINT)",
+    "(faa ARRAY T (LOCAL ..) (T ..) POINT)",
+    "(set ((LOCAL T) ..) POINT)",
+    "(if F POINT POINT)",
+    "(return T ..)",
+];
 
-/// What stands beside the code at an edge.
-fn rider(word: &str) -> Option<&'static str> {
-    match word {
-        "on" => Some("(on EDGE (ACTION T ..) RIDER ..)"),
-        "set" => Some("(set COLUMN T T)"),
-        "lin" => Some("(lin)"),
-        "note" => Some("(note)"),
-        "lin-other" => Some("(lin-other T OP)"),
-        "lin-by" => Some("(lin-by CHOICE T ..)"),
-        "note-by" => Some("(note-by CHOICE T ..)"),
-        "lin-other-by" => Some("(lin-other-by T OP CHOICE T ..)"),
-        "when" => Some("(when F RIDER)"),
-        _ => None,
-    }
-}
+/// What is beside the code at an edge.
+static RIDERS: [&str; 8] = [
+    "(set COLUMN T T)",
+    "(lin)",
+    "(note)",
+    "(lin-other T OP)",
+    "(lin-by CHOICE T ..)",
+    "(note-by CHOICE T ..)",
+    "(lin-other-by T OP CHOICE T ..)",
+    "(when F RIDER)",
+];
 
 /// Terms, columns and formulas.
-fn formula(word: &str) -> Option<&'static str> {
-    match word {
-        "+" => Some("(+ T T)"),
-        "-" => Some("(- T T)"),
-        "*" => Some("(* NUMBER T)"),
-        "rd" => Some("(rd COLUMN T)"),
-        "<=" => Some("(<= T T)"),
-        "=" => Some("(= T T)"),
-        "not" => Some("(not F)"),
-        "and" => Some("(and F ..)"),
-        "or" => Some("(or F ..)"),
-        "=>" => Some("(=> F F)"),
-        "forall" => Some("(forall NAME F)"),
-        "exists" => Some("(exists NAME F)"),
-        _ => None,
-    }
-}
-
-/// Columns that are no names.
-fn column(word: &str) -> Option<&'static str> {
-    match word {
-        "store" => Some("(store COLUMN T T)"),
-        "affine" => Some("(affine NUMBER NUMBER)"),
-        _ => None,
-    }
-}
+static FORMULAS: [&str; 12] = [
+    "(+ T T)",
+    "(- T T)",
+    "(* NUMBER T)",
+    "(rd COLUMN T)",
+    "(<= T T)",
+    "(= T T)",
+    "(not F)",
+    "(and F ..)",
+    "(or F ..)",
+    "(=> F F)",
+    "(forall NAME F)",
+    "(exists NAME F)",
+];
 
 /// Steps of proofs.
-fn step(word: &str) -> Option<&'static str> {
-    match word {
-        "split" => Some("(split h P)"),
-        "cases" => Some("(cases h P ..)"),
-        "push" => Some("(push h P)"),
-        "inst" => Some("(inst h T P)"),
-        "fresh" => Some("(fresh h P)"),
-        "cut" => Some("(cut F P P)"),
-        "written" => Some("(written COLUMN T T T P)"),
-        "same" => Some("(same COLUMN T T P)"),
-        "affine" => Some("(affine NUMBER NUMBER T P)"),
-        "trich" => Some("(trich h P P)"),
-        "divide" => Some("(divide h NUMBER F P)"),
-        "sum" => Some("(sum (h NUMBER) ..)"),
-        "opposite" => Some("(opposite h h)"),
-        "open" => Some("(open)"),
-        _ => None,
-    }
-}
+static STEPS: [&str; 14] = [
+    "(split h P)",
+    "(cases h P ..)",
+    "(push h P)",
+    "(inst h T P)",
+    "(fresh h P)",
+    "(cut F P P)",
+    "(written COLUMN T T T P)",
+    "(same COLUMN T T P)",
+    "(affine NUMBER NUMBER T P)",
+    "(trich h P P)",
+    "(divide h NUMBER F P)",
+    "(sum (h NUMBER) ..)",
+    "(opposite h h)",
+    "(open)",
+];
 
 /// The lists of files that have proofs in them.
-fn file_part(word: &str) -> Option<&'static str> {
-    match word {
-        "formula" => Some("(formula (vars ..) (cols ..) (hyps ..) (goal F) (proof P))"),
-        "vars" => Some("(vars NAME ..)"),
-        "cols" => Some("(cols NAME ..)"),
-        "hyps" => Some("(hyps F ..)"),
-        "goal" => Some("(goal F)"),
-        "certificate" => Some("(certificate NAME (proof K P) ..)"),
-        "hints" => Some("(hints HINT ..)"),
-        "use" => Some("(use K T ..)"),
-        "by" => Some("(by K P)"),
-        _ => None,
-    }
-}
+static FILE_PARTS: [&str; 9] = [
+    "(formula (vars ..) (cols ..) (hyps ..) (goal F) (proof P))",
+    "(vars NAME ..)",
+    "(cols NAME ..)",
+    "(hyps F ..)",
+    "(goal F)",
+    "(certificate NAME (proof K P) ..)",
+    "(hints HINT ..)",
+    "(use K T ..)",
+    "(by K P)",
+];
 
 /// The lists of plans.
-fn plan(word: &str) -> Option<&'static str> {
-    match word {
-        "plan" => Some("(plan CLIENTS (phase (CLIENT STEP ..) ..) ..)"),
-        "phase" => Some("(phase (CLIENT STEP ..) ..)"),
-        "call" => Some("(call OP NUMBER ..)"),
-        "upto" => Some("(upto TURNS OP NUMBER ..)"),
-        "times" => Some("(times COUNT (call OP NUMBER ..))"),
-        _ => None,
+static PLANS: [&str; 5] = [
+    "(plan CLIENTS (phase (CLIENT STEP ..) ..) ..)",
+    "(phase (CLIENT STEP ..) ..)",
+    "(call OP NUMBER ..)",
+    "(upto TURNS OP NUMBER ..)",
+    "(times COUNT (call OP NUMBER ..))",
+];
+
+/// The lists whose form depends on the word of the list around them: that word, which is empty for all others, and the form.
+static SPECIAL_FORMS: [(&str, &str); 11] = [
+    ("point", "(store ARRAY T (T ..) POINT)"),
+    ("", "(store COLUMN T T)"),
+    ("on", "(set COLUMN T T)"),
+    ("when", "(set COLUMN T T)"),
+    ("hints", "(cut K F)"),
+    ("formula", "(proof P)"),
+    ("", "(proof K P)"),
+    ("rd", "(affine NUMBER NUMBER)"),
+    ("store", "(affine NUMBER NUMBER)"),
+    ("written", "(affine NUMBER NUMBER)"),
+    ("same", "(affine NUMBER NUMBER)"),
+];
+
+/// What has to hold of the list that begins with a word, besides its form.
+static NEEDS: [(&str, &str); 14] = [
+    ("op", ", or with (choice ..) for each branch"),
+    ("body", ", one for each operation, in their order"),
+    (
+        "point",
+        ", with an `on` of a declared action at each edge that stores or has a rider",
+    ),
+    ("on", ", one at most for each edge that the instruction has"),
+    ("return", ", with as many T as the operation has replies"),
+    ("lin", BRANCHES),
+    ("note", BRANCHES),
+    ("lin-other", BRANCHES),
+    ("lin-by", CHOICES),
+    ("note-by", CHOICES),
+    ("lin-other-by", CHOICES),
+    (
+        "rd",
+        ", of a column that may be read here; the code reads what is its own by load, cas and faa",
+    ),
+    ("call", ARGUMENTS),
+    ("upto", ARGUMENTS),
+];
+
+const BRANCHES: &str = ", where the operation has branches";
+
+const CHOICES: &str =
+    ", where the operation has choices, with as many T as the choice has parameters";
+
+const ARGUMENTS: &str = ", with as many NUMBER as the operation has arguments";
+
+/// An item of a list, by the word of the list and how many items come before it, and the sort of name that it is.
+type Named = (&'static str, usize, Sort);
+
+/// Items of lists of points.
+static NAMES_IN_POINTS: [Named; 3] = [
+    ("store", 1, Sort::Array),
+    ("store", 4, Sort::Point),
+    ("set", 1, Sort::Variable),
+];
+
+/// Items of other lists that name no variable.
+static NAMES: [Named; 23] = [
+    ("load", 1, Sort::Array),
+    ("cas", 1, Sort::Array),
+    ("faa", 1, Sort::Array),
+    ("rd", 1, Sort::Column),
+    ("set", 1, Sort::Column),
+    ("store", 1, Sort::Column),
+    ("written", 1, Sort::Column),
+    ("same", 1, Sort::Column),
+    ("body", 1, Sort::Operation),
+    ("call", 1, Sort::Operation),
+    ("lin-other", 2, Sort::Operation),
+    ("lin-other-by", 2, Sort::Operation),
+    ("upto", 2, Sort::Operation),
+    ("lin-by", 1, Sort::Choice),
+    ("note-by", 1, Sort::Choice),
+    ("lin-other-by", 3, Sort::Choice),
+    ("load", 4, Sort::Point),
+    ("cas", 5, Sort::Point),
+    ("cas", 6, Sort::Point),
+    ("faa", 5, Sort::Point),
+    ("set", 2, Sort::Point),
+    ("if", 2, Sort::Point),
+    ("if", 3, Sort::Point),
+];
+
+/// How the list is written that begins with this word, if it is one of these.
+fn written_in(forms: &[&'static str], word: &str) -> Option<&'static str> {
+    for form in forms {
+        if head_of(form) == word {
+            return Some(form);
+        }
     }
+    None
 }
 
 /// Whether this is the word of a step.
 pub(crate) fn is_step(word: &str) -> bool {
-    step(word).is_some()
+    written_in(&STEPS, word).is_some()
 }
 
 /// Whether this is the word of a term or a formula.
 pub(crate) fn is_formula(word: &str) -> bool {
-    formula(word).is_some()
+    written_in(&FORMULAS, word).is_some()
 }
 
 /// Whether this is the word of an instruction.
 pub(crate) fn is_instruction(word: &str) -> bool {
-    instruction(word).is_some()
+    written_in(&INSTRUCTIONS, word).is_some()
 }
 
 /// Whether this is the word of a rider.
 pub(crate) fn is_rider(word: &str) -> bool {
-    word != "on" && rider(word).is_some()
+    written_in(&RIDERS, word).is_some()
 }
 
-/// Whether this is the word of a list in which columns stand that are no names.
+/// Whether this is the word of a list with columns that are no names.
 pub(crate) fn has_columns(word: &str) -> bool {
-    matches!(word, "rd" | "store" | "written" | "same")
+    is_among(&["rd", "store", "written", "same"], word)
 }
 
-/// How the list is written that begins with this word and stands in one that begins with `outer`.
+/// The form of the list that begins with this word and is in one that begins with `outer`, if that is special.
+fn special_form(word: &str, outer: &str) -> Option<&'static str> {
+    for (around, form) in &SPECIAL_FORMS {
+        if (around.is_empty() || *around == outer) && head_of(form) == word {
+            return Some(form);
+        }
+    }
+    None
+}
+
+/// How the list is written that begins with this word.
+fn usual_form(word: &str) -> Option<&'static str> {
+    written_in(&PARTS, word)
+        .or(written_in(&INSTRUCTIONS, word))
+        .or(written_in(&RIDERS, word))
+        .or(written_in(&FORMULAS, word))
+        .or(written_in(&FILE_PARTS, word))
+        .or(written_in(&STEPS, word))
+        .or(written_in(&PLANS, word))
+}
+
+/// The form of the list that begins with this word and is in one that begins with `outer`.
 pub(crate) fn form_of(word: &str, outer: &str) -> Option<&'static str> {
-    match (word, outer) {
-        ("store", "point") => instruction(word),
-        ("store", _) => column(word),
-        ("set", "on" | "when") => rider(word),
-        ("cut", "hints") => Some("(cut K F)"),
-        ("proof", "formula") => Some("(proof P)"),
-        ("proof", _) => Some("(proof K P)"),
-        (_, "phase") => Some("(CLIENT STEP ..)"),
-        ("affine", _) if has_columns(outer) => column(word),
-        _ => part_of_object(word)
-            .or(instruction(word))
-            .or(rider(word))
-            .or(formula(word))
-            .or(file_part(word))
-            .or(step(word))
-            .or(plan(word)),
+    match special_form(word, outer) {
+        Some(form) => Some(form),
+        None if outer == "phase" => Some("(CLIENT STEP ..)"),
+        None => usual_form(word),
     }
 }
 
 /// What has to hold of the list that begins with this word, besides its form.
 pub(crate) fn needs_of(word: &str) -> &'static str {
-    match word {
-        "op" => ", or with (choice ..) for each branch",
-        "body" => ", one for each operation, in their order",
-        "point" => ", with an `on` of a declared action at each edge that stores or has a rider",
-        "on" => ", one at most for each edge that the instruction has",
-        "return" => ", with as many T as the operation has replies",
-        "lin" | "note" | "lin-other" => ", where the operation has branches",
-        "lin-by" | "note-by" | "lin-other-by" => {
-            ", where the operation has choices, with as many T as the choice has parameters"
-        }
-        "rd" => {
-            ", of a column that may be read here; the code reads what is its own by load, cas and faa"
-        }
-        "call" | "upto" => ", with as many NUMBER as the operation has arguments",
-        _ => "",
-    }
+    text_beside(&NEEDS, word)
 }
 
 /// Whether a list that begins with this word has one at least of its last parts.
 pub(crate) fn has_one(word: &str) -> bool {
-    matches!(word, "spec" | "op" | "array" | "body" | "use")
+    is_among(&["spec", "op", "array", "body", "use"], word)
 }
 
-/// What the item of a list names, by the word of the list and how many items stand before it, where that is known.
-pub(crate) fn noun_of(word: &str, outer: &str, part: usize) -> &'static str {
-    match (word, part) {
-        ("store", 1) if outer == "point" => "the array ",
-        ("store", 4) if outer == "point" => "the point ",
-        ("load" | "cas" | "faa", 1) => "the array ",
-        ("set", 1) if outer == "point" => "the name ",
-        ("rd" | "set" | "store" | "written" | "same", 1) => "the column ",
-        ("body" | "call", 1) | ("lin-other" | "lin-other-by" | "upto", 2) => "the operation ",
-        ("lin-by" | "note-by", 1) | ("lin-other-by", 3) => "the choice ",
-        ("load", 4) | ("cas", 5 | 6) | ("faa", 5) | ("set", 2) | ("if", 2 | 3) => "the point ",
-        _ => "the name ",
+/// What these items name, if it is one of them.
+fn named_in(items: &[Named], word: &str, part: usize) -> Option<Sort> {
+    for (own, number, sort) in items {
+        if *number == part && *own == word {
+            return Some(*sort);
+        }
     }
+    None
+}
+
+/// What the item of a list names, by the word of the list, that of the list around it, and how many items come before it.
+pub(crate) fn sort_at(word: &str, outer: &str, part: usize) -> Sort {
+    let special = if outer == "point" {
+        named_in(&NAMES_IN_POINTS, word, part)
+    } else {
+        None
+    };
+    special
+        .or(named_in(&NAMES, word, part))
+        .unwrap_or(Sort::Variable)
 }

@@ -1,4 +1,4 @@
-//! Where the elements of the arrays of a JSON text stand.
+//! Where the elements of the arrays of a JSON text are.
 use lc_place::{Place, byte_place};
 
 /// Whether the bytes that were walked end inside of a text in quotes.
@@ -14,7 +14,7 @@ impl Quotes {
         is_escaped: false,
     };
 
-    /// Goes on by a byte, and answers whether it stands outside of such texts and begins none.
+    /// Goes on by a byte, and returns whether it is outside of such texts and begins none.
     fn pass(&mut self, byte: u8) -> bool {
         if self.is_escaped {
             self.is_escaped = false;
@@ -30,24 +30,12 @@ impl Quotes {
     }
 }
 
-/// Without white space at the end.
-fn without_spaces_behind(bytes: &[u8]) -> &[u8] {
-    let spaces = bytes
-        .iter()
-        .rev()
-        .take_while(|byte| byte.is_ascii_whitespace())
-        .count();
-    bytes
-        .get(..bytes.len().saturating_sub(spaces))
-        .unwrap_or(bytes)
-}
-
 /// Whether a text ends with this key, in quotes, and a colon.
 fn ends_with_key(before: &[u8], key: &[u8]) -> bool {
-    let Some(before) = without_spaces_behind(before).strip_suffix(b":") else {
+    let Some(before) = before.trim_ascii_end().strip_suffix(b":") else {
         return false;
     };
-    let Some(before) = without_spaces_behind(before).strip_suffix(b"\"") else {
+    let Some(before) = before.trim_ascii_end().strip_suffix(b"\"") else {
         return false;
     };
     let Some(before) = before.strip_suffix(key) else {
@@ -56,7 +44,7 @@ fn ends_with_key(before: &[u8], key: &[u8]) -> bool {
     before.ends_with(b"\"")
 }
 
-/// Where the array under a key begins; where the key stands there twice, the last.
+/// Where the array under a key begins; the last one, if the key occurs twice.
 fn array_offset(bytes: &[u8], key: &[u8]) -> Option<usize> {
     let mut found = None;
     let mut quotes = Quotes::NONE;
@@ -108,20 +96,22 @@ fn element_span(array: &[u8], index: usize) -> Option<(usize, usize)> {
     None
 }
 
-/// Where an element stands of the array under a key of the object that a JSON text is, by its number from 0.
+/// Where an element of the array under a key of the object that a JSON text is begins, by its number from 0.
 pub fn element_place(bytes: &[u8], key: &str, index: usize) -> Option<Place> {
     let offset = array_offset(bytes, key.as_bytes())?;
     let array = bytes.get(offset..)?;
     let (from, to) = element_span(array, index)?;
-    let length = without_spaces_behind(array.get(from..to)?).len();
+    let length = array.get(from..to)?.trim_ascii_end().len();
     let place = byte_place(bytes, offset.saturating_add(from) as u64)?;
     Some(Place { length, ..place })
 }
 
 /// How many elements the array has under a key of the object that a JSON text is.
 pub fn element_count(bytes: &[u8], key: &str) -> usize {
-    let offset = array_offset(bytes, key.as_bytes());
-    let array = offset.and_then(|offset| bytes.get(offset..)).unwrap_or(&[]);
+    let Some(offset) = array_offset(bytes, key.as_bytes()) else {
+        return 0;
+    };
+    let array = bytes.get(offset..).unwrap_or(&[]);
     let mut quotes = Quotes::NONE;
     let mut depth = 0usize;
     let mut count = 0usize;

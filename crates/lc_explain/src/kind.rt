@@ -1,5 +1,6 @@
 //! Kinds of files.
 use crate::around::first_word;
+use crate::table::beside;
 use lc_place::item_place;
 
 /// What a file is read as.
@@ -56,26 +57,21 @@ impl FileKind {
     }
 }
 
-/// The first byte that is no white space.
-fn first_byte(bytes: &[u8]) -> Option<u8> {
-    bytes
-        .iter()
-        .copied()
-        .find(|byte| !byte.is_ascii_whitespace())
-}
+/// Kinds of files, by the words of their first forms.
+static FIRST_WORDS: [(&str, FileKind); 6] = [
+    ("formula", FileKind::Formula),
+    ("spec", FileKind::Development),
+    ("object", FileKind::Development),
+    ("certificate", FileKind::Certificate),
+    ("hints", FileKind::Hints),
+    ("plan", FileKind::Plan),
+];
 
 /// What a file looks like, by its first byte and the word of its first form.
 pub fn looks_like(bytes: &[u8]) -> Option<FileKind> {
-    if first_byte(bytes) == Some(b'{') {
+    if bytes.trim_ascii_start().first() == Some(&b'{') {
         return Some(FileKind::History);
     }
     let form = item_place(bytes, 0)?;
-    match first_word(bytes, form) {
-        "formula" => Some(FileKind::Formula),
-        "spec" | "object" => Some(FileKind::Development),
-        "certificate" => Some(FileKind::Certificate),
-        "hints" => Some(FileKind::Hints),
-        "plan" => Some(FileKind::Plan),
-        _ => None,
-    }
+    beside(&FIRST_WORDS, first_word(bytes, form))
 }

@@ -22,6 +22,7 @@ mod reporting;
 mod sentence;
 mod spot;
 mod steps;
+mod table;
 mod wording;
 
 pub use explaining::explanation;

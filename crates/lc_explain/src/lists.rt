@@ -8,7 +8,7 @@ const KNOWN_DEPTH: usize = 8;
 /// How many bytes of a list are looked at for the names in its first items, so that a file of many lists is not looked through for each.
 const WINDOW: usize = 1_024;
 
-/// Whether a byte stands in a comment, where the one before it does or not.
+/// Whether a byte is in a comment, by whether the one before it is.
 pub(crate) fn is_in_comment(byte: u8, before: bool) -> bool {
     byte != b'\n' && (before || byte == b';')
 }
@@ -23,19 +23,49 @@ pub(crate) fn place_from(bytes: &[u8], offset: usize) -> Option<Place> {
     })
 }
 
-/// The first item that begins at an offset of a text or behind it. Of its place the line and the column are not those of the text.
-pub(crate) fn part_behind(text: &[u8], at: usize) -> Option<Place> {
-    let part = item_place(text.get(at..)?, 0)?;
-    Some(Place {
-        offset: at.checked_add(part.offset)?,
-        ..part
-    })
+/// The items of a list or of a text that were not looked at.
+#[derive(Clone, Copy)]
+pub(crate) struct Parts<'a> {
+    /// The file up to the end of the last item.
+    text: &'a [u8],
+    at: usize,
+}
+
+impl<'a> Parts<'a> {
+    /// All items that begin at an offset of a text or after it.
+    pub(crate) fn new(text: &'a [u8], at: usize) -> Parts<'a> {
+        Parts { text, at }
+    }
+
+    /// All items between the brackets of a list.
+    pub(crate) fn of(bytes: &'a [u8], offset: usize, length: usize) -> Parts<'a> {
+        let end = offset.saturating_add(length).saturating_sub(1);
+        Parts::new(bytes.get(..end).unwrap_or(&[]), offset.saturating_add(1))
+    }
+
+    /// The item that comes next. Of its place the line and the column are not those of the file.
+    pub(crate) fn next(&mut self) -> Option<Place> {
+        let part = item_place(self.text.get(self.at..)?, 0)?;
+        let offset = self.at.saturating_add(part.offset);
+        self.at = offset.saturating_add(part.length);
+        Some(Place { offset, ..part })
+    }
+
+    /// How many they are.
+    pub(crate) fn count(mut self) -> usize {
+        for count in 0..self.text.len() {
+            if self.next().is_none() {
+                return count;
+            }
+        }
+        self.text.len()
+    }
 }
 
 /// A list of a file.
 #[derive(Clone, Copy)]
 pub(crate) struct List<'a> {
-    /// What stands in the file from its first bracket on.
+    /// The file from its first bracket on.
     pub bytes: &'a [u8],
     /// Where it begins.
     pub offset: usize,
@@ -47,7 +77,7 @@ pub(crate) struct List<'a> {
     pub outer: &'a str,
 }
 
-/// What stands in a file from an offset on.
+/// The file from an offset on.
 fn rest_of(bytes: &[u8], offset: usize) -> &[u8] {
     bytes.get(offset..).unwrap_or(&[])
 }
@@ -75,7 +105,7 @@ pub(crate) fn word_of_list(list: &[u8]) -> &str {
 }
 
 impl<'a> List<'a> {
-    /// The list that begins at an offset, of which no list around it is known.
+    /// The list that begins at an offset; no list around it is known.
     pub(crate) fn at(bytes: &'a [u8], offset: usize) -> List<'a> {
         let bytes = rest_of(bytes, offset);
         List {
@@ -87,36 +117,39 @@ impl<'a> List<'a> {
         }
     }
 
+    /// Its items, in the bytes of the file that it is a list of.
+    pub(crate) fn parts(&self, bytes: &'a [u8]) -> Parts<'a> {
+        let length = match self.item(0) {
+            Some(whole) => whole.length,
+            None => 0,
+        };
+        Parts::of(bytes, self.offset, length)
+    }
+
+    /// Whether it begins with this word, and its second item is this name, if one is given.
+    pub(crate) fn is_named(&self, word: &str, name: &str) -> bool {
+        self.word == word && (name.is_empty() || self.atom(2) == name)
+    }
+
     /// The place of an item, by its number in preorder from this list on; its offset counts from the list.
     pub(crate) fn item(&self, number: u64) -> Option<Place> {
         item_place(self.bytes, number)
     }
 
-    /// The atom that is the item of a number, if it stands near the beginning of the list; empty if there is none.
+    /// The atom that is the item of a number, if it is near the beginning of the list; empty if there is none.
     pub(crate) fn atom(&self, number: u64) -> &'a str {
         atom_in(window(self.bytes), number)
     }
 }
 
 /// The lists of a file that were not looked at.
+#[derive(Clone, Copy)]
 pub(crate) struct Lists<'a> {
     bytes: &'a [u8],
     at: usize,
     depth: usize,
     in_comment: bool,
     words: [&'a str; KNOWN_DEPTH],
-}
-
-impl Drop for Lists<'_> {
-    fn drop(self) {
-        let Lists {
-            bytes: _,
-            at: _,
-            depth: _,
-            in_comment: _,
-            words: _,
-        } = self;
-    }
 }
 
 impl<'a> Lists<'a> {

@@ -27,7 +27,7 @@ fn blanks(alloc: Global, digits: &[u8]) -> Result<Vec<u8>, OutOfMemory>
     Ok(text)
 }
 
-/// Puts the path, the line and the column of a place behind others.
+/// Appends the path, the line and the column of a place.
 fn push_position(
     alloc: Global,
     text: &mut Vec<u8>,
@@ -46,7 +46,7 @@ fn push_position(
     Ok(())
 }
 
-/// Puts a sentence behind others, with what it is before it.
+/// Appends a sentence, with its label before it.
 fn push_said(text: &mut Vec<u8>, label: Label, sentence: &str) -> Result<(), OutOfMemory>
     ensures { OnOk result (text.new.items ≡ text.old.items ++ said label sentence.now) }
 {
@@ -58,7 +58,7 @@ fn push_said(text: &mut Vec<u8>, label: Label, sentence: &str) -> Result<(), Out
     Ok(())
 }
 
-/// Puts a line behind others, with a margin before it.
+/// Appends a line, with a margin before it.
 fn push_behind_margin(text: &mut Vec<u8>, margin: &[u8], line: &[u8]) -> Result<(), OutOfMemory>
     ensures { OnOk result (text.new.items ≡ text.old.items ++ behind_margin margin.now line.now) }
 {

@@ -1,6 +1,6 @@
 //! How near two names are: by how many letters that are changed, left out, added, or swapped with the next.
 
-/// What is left of these bytes after so many of them.
+/// What is left of these bytes after the first `count`.
 fn behind(bytes: &[u8], count: usize) -> &[u8] {
     bytes.get(count..).unwrap_or(&[])
 }

@@ -1,22 +1,32 @@
 //! Words and signs of other languages, and how what they say is written here.
+use crate::table::text_beside;
 
-/// How a list is written that begins with a word of another language; empty where the word is none that is known.
+/// How lists are written that begin with a word of another language.
+static WRITTEN: [(&str, &str); 19] = [
+    ("<", "(<= (+ a 1) b)"),
+    (">", "(<= (+ b 1) a)"),
+    (">=", "(<= b a)"),
+    ("==", "(= a b)"),
+    ("!=", "(not (= a b))"),
+    ("<>", "(not (= a b))"),
+    ("/=", "(not (= a b))"),
+    ("&&", "(and F ..)"),
+    ("&", "(and F ..)"),
+    ("||", "(or F ..)"),
+    ("|", "(or F ..)"),
+    ("!", "(not F)"),
+    ("->", "(=> F F)"),
+    ("==>", "(=> F F)"),
+    ("implies", "(=> F F)"),
+    ("<=>", "(and (=> F F) (=> F F))"),
+    ("iff", "(and (=> F F) (=> F F))"),
+    ("select", "(rd COLUMN T)"),
+    ("ite", "(and (=> F F) (=> (not F) F))"),
+];
+
+/// How a list is written that begins with a word of another language; empty if the word is none that is known.
 pub(crate) fn written_for(word: &str) -> &'static str {
-    match word {
-        "<" => "(<= (+ a 1) b)",
-        ">" => "(<= (+ b 1) a)",
-        ">=" => "(<= b a)",
-        "==" => "(= a b)",
-        "!=" | "<>" | "/=" => "(not (= a b))",
-        "&&" | "&" => "(and F ..)",
-        "||" | "|" => "(or F ..)",
-        "!" => "(not F)",
-        "->" | "==>" | "implies" => "(=> F F)",
-        "<=>" | "iff" => "(and (=> F F) (=> F F))",
-        "select" => "(rd COLUMN T)",
-        "ite" => "(and (=> F F) (=> (not F) F))",
-        _ => "",
-    }
+    text_beside(&WRITTEN, word)
 }
 
 /// Whether a word begins a comment in other languages.
@@ -27,7 +37,7 @@ pub(crate) fn begins_comment(word: &str) -> bool {
         || word.starts_with("/*")
 }
 
-/// What stands in a file from where its line begins in which an offset stands.
+/// The file from the beginning of the line of an offset on.
 fn line_around(bytes: &[u8], offset: usize) -> &[u8] {
     let mut start = 0;
     for (at, byte) in bytes.iter().copied().enumerate() {
@@ -47,12 +57,12 @@ fn has_comment_sign(line: &[u8]) -> bool {
     line.starts_with(b"//") || line.starts_with(b"#") || line.starts_with(b"/*")
 }
 
-/// Whether the line in which an offset stands is a comment of another language.
+/// Whether the line of an offset is a comment of another language.
 pub(crate) fn is_other_comment(bytes: &[u8], offset: usize) -> bool {
     has_comment_sign(line_around(bytes, offset))
 }
 
-/// The operator of another language that stands at an offset; empty where none is known.
+/// The operator of another language that is at an offset; empty if none is known.
 pub(crate) fn operator_at(bytes: &[u8], offset: usize) -> &'static str {
     let rest = bytes.get(offset..).unwrap_or(&[]);
     if rest.starts_with(b"!=") {

@@ -1,5 +1,5 @@
-//! Where the parts of a development stand in its file.
-use crate::lists::{List, Lists, part_behind, place_from};
+//! Where the parts of a development are in its file.
+use crate::lists::{List, Lists, place_from};
 use lc_place::Place;
 
 /// A part of a development, by names, and by numbers from 0.
@@ -33,50 +33,41 @@ pub enum Part<'a> {
     },
 }
 
-/// The list of a word with this name that a file has first; of any name where this is empty.
+/// The list of a word with this name that a file has first; of any name if this is empty.
 fn list_named<'a>(bytes: &'a [u8], word: &str, name: &str) -> Option<List<'a>> {
     let mut lists = Lists::new(bytes);
     for _ in 0..bytes.len() {
         let list = lists.next()?;
-        if list.word == word && (name.is_empty() || list.atom(2) == name) {
+        if list.is_named(word, name) {
             return Some(list);
         }
     }
     None
 }
 
-/// The part of a list that stands in it behind so many others.
-fn part_at(bytes: &[u8], list: List<'_>, number: usize) -> Option<Place> {
-    let whole = list.item(0)?;
-    let end = list.offset.checked_add(whole.length)?.checked_sub(1)?;
-    let text = bytes.get(..end)?;
-    let mut at = list.offset.checked_add(1)?;
+/// The part of a list that has `number` parts before it.
+fn part_at<'a>(bytes: &'a [u8], list: List<'a>, number: usize) -> Option<Place> {
+    let mut parts = list.parts(bytes);
     for _ in 0..number {
-        let part = part_behind(text, at)?;
-        at = part.offset.checked_add(part.length)?;
+        parts.next()?;
     }
-    place_from(bytes, part_behind(text, at)?.offset)
+    place_from(bytes, parts.next()?.offset)
 }
 
 /// The first part of a list that begins with this word, and whose second item is this name, if one is given.
 fn part_named<'a>(bytes: &'a [u8], list: List<'a>, word: &str, name: &str) -> Option<List<'a>> {
-    let whole = list.item(0)?;
-    let end = list.offset.checked_add(whole.length)?.checked_sub(1)?;
-    let text = bytes.get(..end)?;
-    let mut at = list.offset.checked_add(1)?;
-    for _ in 0..whole.length {
-        let place = part_behind(text, at)?;
-        let part = List::at(bytes, place.offset);
-        if part.word == word && (name.is_empty() || part.atom(2) == name) {
+    let mut parts = list.parts(bytes);
+    for _ in 0..bytes.len() {
+        let part = List::at(bytes, parts.next()?.offset);
+        if part.is_named(word, name) {
             return Some(part);
         }
-        at = place.offset.checked_add(place.length)?;
     }
     None
 }
 
 /// The place from the beginning of a list to the end of one of its parts.
-fn up_to(bytes: &[u8], list: List<'_>, number: usize) -> Option<Place> {
+fn up_to<'a>(bytes: &'a [u8], list: List<'a>, number: usize) -> Option<Place> {
     let part = part_at(bytes, list, number)?;
     let begin = place_from(bytes, list.offset)?;
     let end = part.offset.checked_add(part.length)?;

@@ -22,7 +22,7 @@ fn bracket_of(list: Place) -> Place
     Place { length: 1, ..list }
 }
 
-/// The byte at an offset; where the file ends before it, the bracket that was never closed, or the end.
+/// The byte at an offset; if the file ends before it, the bracket that was never closed, or the end.
 fn fault_place(bytes: &[u8], offset: u64) -> Option<Place>
     ensures { MatchOption result ⊥ (IsFault bytes.now offset) }
 {
@@ -45,7 +45,7 @@ fn item_or_end(bytes: &[u8], item: u64) -> Option<Place>
     }
 }
 
-/// The place of which a refusal speaks, where it tells an offset or an item of this file.
+/// The place that a refusal is about, if the refusal has an offset or an item of this file.
 pub(crate) fn told_place(bytes: &[u8], refusal: &Refusal) -> Option<Place>
     ensures { MatchOption result (TellsNoPlace refusal.now) (IsTold bytes.now refusal.now) }
 {

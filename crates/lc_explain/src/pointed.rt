@@ -1,7 +1,8 @@
 //! The least wrong part of a point that does not fit.
 use crate::declared::{Sort, seek};
-use crate::lists::{List, part_behind, place_from};
+use crate::lists::{List, Parts, place_from};
 use crate::sentence::{Meant, Sentence};
+use crate::table::{is_among, text_beside};
 use lc_place::Place;
 
 /// What is wrong at a place.
@@ -11,18 +12,12 @@ pub(crate) struct Pointed<'a> {
     pub sentence: Sentence<'a>,
 }
 
-/// The edge at which an instruction of this word stores; empty where it does not.
-fn storing_edge(word: &str) -> &'static str {
-    match word {
-        "store" | "faa" => "next",
-        "cas" => "then",
-        _ => "",
-    }
-}
+/// The edges at which instructions store.
+static STORING_EDGES: [(&str, &str); 3] = [("store", "next"), ("faa", "next"), ("cas", "then")];
 
-/// Whether an action of this name may stand at an edge: it is declared, or each development has it.
+/// Whether an action of this name may be at an edge: it is declared, or each development has it.
 fn is_action(bytes: &[u8], name: &str) -> bool {
-    matches!(name, "skip" | "enter" | "leave")
+    is_among(&["skip", "enter", "leave"], name)
         || seek(bytes, Sort::Action, name).declared().is_some()
 }
 
@@ -38,14 +33,14 @@ fn wrong_action<'a>(bytes: &'a [u8], on: List<'a>) -> Option<Pointed<'a>> {
         Some(near) => Meant::Near(near),
         None => Meant::Unknown,
     };
-    let noun = "the action ";
+    let noun = Sort::Action.noun();
     Some(Pointed {
         place,
         sentence: Sentence::Undeclared { noun, name, meant },
     })
 }
 
-/// The instruction of a point, at an edge of which it stores without an `on`.
+/// The instruction of a point, if it stores at one of its edges without an `on`.
 fn without_on<'a>(bytes: &'a [u8], point: List<'a>, edge: &'static str) -> Option<Pointed<'a>> {
     let item = point.item(3)?;
     let place = place_from(bytes, point.offset.checked_add(item.offset)?)?;
@@ -62,24 +57,24 @@ pub(crate) fn wrong_part(bytes: &[u8], place: Place) -> Option<Pointed<'_>> {
     if point.word != "point" {
         return None;
     }
-    let end = place.offset.checked_add(place.length)?.checked_sub(1)?;
-    let text = bytes.get(..end)?;
     let instruction = point.item(3)?;
-    let edge = storing_edge(List::at(point.bytes, instruction.offset).word);
+    let edge = text_beside(
+        &STORING_EDGES,
+        List::at(point.bytes, instruction.offset).word,
+    );
     let mut has_on = edge.is_empty();
-    let mut at = place.offset.checked_add(1)?;
+    let mut parts = Parts::of(bytes, place.offset, place.length);
     for _ in 0..place.length {
-        let Some(part) = part_behind(text, at) else {
+        let Some(part) = parts.next() else {
             break;
         };
-        let list = List::at(text, part.offset);
+        let list = List::at(bytes, part.offset);
         if list.word == "on" {
-            if let Some(pointed) = wrong_action(bytes, List::at(bytes, part.offset)) {
+            if let Some(pointed) = wrong_action(bytes, list) {
                 return Some(pointed);
             }
             has_on = has_on || list.atom(2) == edge;
         }
-        at = part.offset.checked_add(part.length)?;
     }
     if has_on {
         return None;

@@ -6,12 +6,12 @@ use crate::kind::FileKind;
 use crate::label::Label;
 use crate::lists::List;
 use crate::locating::located;
-use crate::pointed::wrong_part;
+use crate::pointed::{Pointed, wrong_part};
 use lc_base::{OutOfMemory, Refusal};
-use lc_place::{Place, byte_place, item_place};
+use lc_place::{byte_place, item_place};
 use std::alloc::Global;
 
-/// A list in words: the word with which it begins, and a name behind that.
+/// A list in words: the word with which it begins, and a name after that.
 fn list_words(alloc: Global, bytes: &[u8], list: Opened) -> Result<String, OutOfMemory> {
     let list = List::at(bytes, list.offset);
     let word = list.word;
@@ -66,7 +66,7 @@ fn shown_at(suspect: Suspect) -> usize {
     }
 }
 
-/// What the indentation of lines says of brackets, behind others.
+/// Appends what the indentation of lines says of brackets.
 fn push_brackets(
     alloc: Global,
     text: &mut Vec<u8>,
@@ -85,7 +85,7 @@ fn push_brackets(
     Ok(())
 }
 
-/// Whether a file of this kind is laid out over lines, with what stands in a list indented further.
+/// Whether a file of this kind is laid out over lines, with the items of a list indented further.
 fn is_indented(kind: FileKind) -> bool {
     matches!(
         kind,
@@ -107,15 +107,15 @@ fn is_of_a_bracket(bytes: &[u8], refusal: &Refusal) -> bool {
     }
 }
 
-/// The place of the item whose shape is wrong.
-fn unfit_place(bytes: &[u8], refusal: &Refusal) -> Option<Place> {
+/// The least wrong part of the item whose shape is wrong, if it is known.
+fn unfit_part<'a>(bytes: &'a [u8], refusal: &Refusal) -> Option<Pointed<'a>> {
     match refusal {
-        Refusal::Shape(item) => item_place(bytes, *item),
+        Refusal::Shape(item) => wrong_part(bytes, item_place(bytes, *item)?),
         _ => None,
     }
 }
 
-/// Where and why a file of s-expressions is refused, as `explanation` has it; but where a list does not fit, of its least wrong part, if
+/// Where and why a file of s-expressions is refused, as `explanation` has it; but if a list does not fit, of its least wrong part, if
 /// that is known, and of a bracket with what the indentation of lines says of it.
 pub fn report(
     alloc: Global,
@@ -124,7 +124,7 @@ pub fn report(
     bytes: &[u8],
     refusal: &Refusal,
 ) -> Result<Option<Vec<u8>>, OutOfMemory> {
-    if let Some(pointed) = unfit_place(bytes, refusal).and_then(|place| wrong_part(bytes, place)) {
+    if let Some(pointed) = unfit_part(bytes, refusal) {
         let sentence = pointed.sentence;
         let sentence = format!(in alloc; "{sentence}")?;
         let text = located(alloc, path, bytes, pointed.place, Label::Error, &sentence)?;

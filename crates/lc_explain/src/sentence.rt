@@ -24,10 +24,10 @@ impl fmt::Display for What<'_> {
     }
 }
 
-/// Where an item stands, by the form of the list round it, or of the file.
+/// Where an item is, by the form of the list around it, or of the file.
 #[derive(Clone, Copy)]
 pub(crate) enum Spot<'a> {
-    /// Where this part is due, of which that is said.
+    /// This part is expected there, and that is said of it.
     Due {
         part: &'a str,
         note: &'static str,
@@ -42,24 +42,24 @@ pub(crate) enum Spot<'a> {
 
 impl fmt::Display for Spot<'_> {
     fn fmt<W: fmt::Write>(&self, f: &mut fmt::Formatter<W>) -> fmt::Result {
-        match self {
-            Spot::Due { part, note, form } => write!(f, "in the place of {part}{note} in {form}"),
-            Spot::Behind(form) => write!(f, "behind the last part of {form}"),
-            Spot::In(form) => write!(f, "in {form}"),
-            Spot::File(kind) => {
-                let forms = kind.forms();
-                write!(f, "in a file that is written {forms}")
+        let (where_it_is, form) = match self {
+            Spot::Due { part, note, form } => {
+                return write!(f, "in the place of {part}{note} in {form}");
             }
-            Spot::BehindFile(kind) => {
-                let forms = kind.forms();
-                write!(f, "behind the last form of a file that is written {forms}")
-            }
-        }
+            Spot::Behind(form) => ("behind the last part of", *form),
+            Spot::In(form) => ("in", *form),
+            Spot::File(kind) => ("in a file that is written", kind.forms()),
+            Spot::BehindFile(kind) => (
+                "behind the last form of a file that is written",
+                kind.forms(),
+            ),
+        };
+        write!(f, "{where_it_is} {form}")
     }
 }
 
 impl Spot<'_> {
-    /// How what is due there may be written.
+    /// How what is expected there may be written.
     fn legend(&self) -> &'static str {
         match self {
             Spot::Due { part, .. } => legend_of(part),
@@ -96,32 +96,73 @@ impl fmt::Display for Meant<'_> {
     }
 }
 
+/// A sentence around one word: what comes before the word, and what comes after it.
+pub(crate) struct Round(&'static str, &'static str);
+
+/// A bracket is never closed.
+pub(crate) static NEVER_CLOSED: Round = Round("this bracket is never closed", "");
+
+/// A bracket closes no list.
+pub(crate) static CLOSES_NOTHING: Round = Round("this bracket closes no list", "");
+
+/// A character outside of comments.
+pub(crate) static MISPLACED: Round = Round("the character `", "` may stand in a comment alone");
+
+/// A byte that is not shown, outside of comments.
+pub(crate) static OTHER_BYTE: Round = Round("this byte may stand in a comment alone", "");
+
+/// A comment of another language.
+pub(crate) static OTHER_COMMENT: Round = Round("a comment begins with `;`", "");
+
+/// The file lacks a form; around the forms that it has.
+static ENDS_HERE: Round = Round("the file ends here, and lacks a form: it is written ", "");
+
+/// A list lacks a part; round its form.
+pub(crate) static LACKS: Round = Round("this list lacks a part: it is written ", "");
+
+/// In a proof a name is not declared.
+pub(crate) static UNDECLARED_IN_PROOF: Round = Round(
+    "the name ",
+    " is not declared: proofs and hints write the variables ?0, ?1, ..",
+);
+
+/// A name is reserved.
+pub(crate) static RESERVED: Round = Round("the name ", " is reserved");
+
+/// The code reads this column.
+pub(crate) static NOT_ITS_OWN: Round = Round("the code reads a column that is not its own: ", "");
+
+/// A number is beyond its limit.
+pub(crate) static BEYOND: Round = Round("the number ", " is beyond its limit");
+
+/// Something is beyond a limit.
+static LIMIT: Round = Round("a number or a count is beyond a limit", "");
+
+/// A certificate is of an object that is named otherwise.
+pub(crate) static OTHER_OBJECT: Round = Round("the object is not named ", "");
+
+/// A proof is of no condition that may come next.
+pub(crate) static NO_NEXT_CONDITION: Round = Round(
+    "`",
+    "` is no number of a condition, or not above the one before",
+);
+
 /// Why a file is refused, with the words of the file.
 #[derive(Clone, Copy)]
 pub(crate) enum Sentence<'a> {
+    /// One of the above, around this word.
+    Said(&'static Round, &'a str),
     /// The file looks like one of another kind.
     OtherFile {
         seen: FileKind,
         due: FileKind,
     },
-    /// A bracket is never closed.
-    NeverClosed,
-    /// A bracket closes no list.
-    ClosesNothing,
-    /// A character stands outside of comments.
-    Misplaced(&'a str),
-    /// A byte that is not shown stands outside of comments.
-    OtherByte,
-    /// The file lacks a form.
-    EndsHere(FileKind),
     /// An item does not fit.
     Unfit {
         what: What<'a>,
         spot: Spot<'a>,
     },
-    /// A list lacks a part.
-    Lacks(&'static str),
-    /// A list that is itself written so, and of which that has to hold, does not fit.
+    /// A list that is itself written so, but does not meet this condition.
     Unmet {
         own: &'static str,
         needs: &'static str,
@@ -137,44 +178,23 @@ pub(crate) enum Sentence<'a> {
         name: &'a str,
         meant: Meant<'a>,
     },
-    /// In a proof a name is not declared.
-    UndeclaredInProof(&'a str),
-    /// A name is reserved.
-    Reserved(&'a str),
-    /// A name, or the number of a client, stands somewhere for the second time.
+    /// A name, or the number of a client, occurs somewhere for the second time.
     Twice {
         noun: &'static str,
         name: &'a str,
     },
-    /// The code reads this column.
-    NotItsOwn(&'a str),
-    /// A number is beyond its limit.
-    Beyond(&'a str),
     /// There are more of these than there may be.
     TooMany {
         owner: &'static str,
         limit: u64,
         parts: &'static str,
     },
-    /// Something is beyond a limit.
-    Limit,
-    /// A certificate is of an object that is named otherwise.
-    OtherObject(&'a str),
-    /// A proof is of no condition that may come next.
-    NoNextCondition(&'a str),
-    /// A character stands outside of comments, in an operator of another language, which is written so.
-    Sign {
-        sign: &'static str,
-        written: &'static str,
-    },
-    /// A comment of another language.
-    OtherComment,
-    /// A list begins with a word of another language, and is written so.
+    /// A list begins with a word of another language, or a sign of one, outside of comments, which is written so.
     Operator {
         word: &'a str,
         written: &'static str,
     },
-    /// A form of an object does not stand where it may.
+    /// A form of an object may not be where it is.
     OutOfOrder {
         word: &'a str,
         disorder: Disorder<'a>,
@@ -189,32 +209,30 @@ pub(crate) enum Sentence<'a> {
     NeedsOn(&'static str),
 }
 
+impl<'a> Sentence<'a> {
+    /// Something is beyond a limit.
+    pub(crate) fn limit() -> Sentence<'a> {
+        Sentence::Said(&LIMIT, "")
+    }
+
+    /// The file lacks a form.
+    pub(crate) fn ends_here(kind: FileKind) -> Sentence<'a> {
+        Sentence::Said(&ENDS_HERE, kind.forms())
+    }
+}
+
 impl fmt::Display for Sentence<'_> {
     fn fmt<W: fmt::Write>(&self, f: &mut fmt::Formatter<W>) -> fmt::Result {
         match self {
+            Sentence::Said(Round(before, behind), word) => write!(f, "{before}{word}{behind}"),
             Sentence::OtherFile { seen, due } => {
                 let (due, seen) = (due.name(), seen.name());
                 write!(f, "{due} is due here, and this looks like {seen}")
-            }
-            Sentence::NeverClosed => f.write_str("this bracket is never closed"),
-            Sentence::ClosesNothing => f.write_str("this bracket closes no list"),
-            Sentence::Misplaced(byte) => write!(
-                f,
-                "the character `{byte}` may stand in a comment alone"
-            ),
-            Sentence::OtherByte => f.write_str("this byte may stand in a comment alone"),
-            Sentence::EndsHere(kind) => {
-                let forms = kind.forms();
-                write!(
-                    f,
-                    "the file ends here, and lacks a form: it is written {forms}"
-                )
             }
             Sentence::Unfit { what, spot } => {
                 let legend = spot.legend();
                 write!(f, "{what} does not fit here, {spot}{legend}")
             }
-            Sentence::Lacks(own) => write!(f, "this list lacks a part: it is written {own}"),
             Sentence::Unmet { own, needs } => write!(
                 f,
                 "this list does not fit here: it is written {own}{needs}"
@@ -226,34 +244,14 @@ impl fmt::Display for Sentence<'_> {
             Sentence::Undeclared { noun, name, meant } => {
                 write!(f, "{noun}{name} is not declared{meant}")
             }
-            Sentence::UndeclaredInProof(name) => write!(
-                f,
-                "the name {name} is not declared: proofs and hints write the variables ?0, ?1, .."
-            ),
-            Sentence::Reserved(name) => write!(f, "the name {name} is reserved"),
             Sentence::Twice { noun, name } => {
                 write!(f, "the {noun} {name} stands here for the second time")
             }
-            Sentence::NotItsOwn(column) => write!(
-                f,
-                "the code reads a column that is not its own: {column}"
-            ),
-            Sentence::Beyond(number) => write!(f, "the number {number} is beyond its limit"),
             Sentence::TooMany {
                 owner,
                 limit,
                 parts,
             } => write!(f, "{owner} has at most {limit} {parts}"),
-            Sentence::Limit => f.write_str("a number or a count is beyond a limit"),
-            Sentence::OtherObject(name) => write!(f, "the object is not named {name}"),
-            Sentence::NoNextCondition(number) => write!(
-                f,
-                "`{number}` is no number of a condition, or not above the one before"
-            ),
-            Sentence::Sign { sign, written } => {
-                write!(f, "there is no `{sign}`: write {written}")
-            }
-            Sentence::OtherComment => f.write_str("a comment begins with `;`"),
             Sentence::Operator { word, written } => {
                 write!(f, "there is no `{word}`: write {written}")
             }

@@ -1,4 +1,4 @@
-//! Where proofs stand in a file, and their steps.
+//! Where proofs are in a file, and their steps.
 use crate::around::{list_around, word_at};
 use crate::forms::{has_columns, is_step};
 use crate::lists::{is_in_comment, place_from};
@@ -12,7 +12,7 @@ fn first_word_of(list: &[u8]) -> Option<&str> {
 
 /// Whether the list at an offset of a proof is a step, and no column that begins with the same word.
 fn begins_step(proof: &[u8], offset: usize) -> bool {
-    let Some(word) = proof.get(offset..).and_then(first_word_of) else {
+    let Some(word) = first_word_of(proof.get(offset..).unwrap_or(&[])) else {
         return false;
     };
     if word != "affine" {

@@ -1,25 +1,28 @@
 //! Which sentence is said of a refusal.
 use crate::around::{Around, first_word, list_around, list_count, top_count, word_at};
 use crate::declared::{Sort, has_list, is_column, seek};
-use crate::forms::{form_of, has_one, needs_of, noun_of};
+use crate::forms::{form_of, has_one, needs_of, sort_at};
 use crate::kind::{FileKind, looks_like};
 use crate::limits::{too_many_lists, too_many_names};
 use crate::operators::{begins_comment, is_other_comment, operator_at, written_for};
 use crate::order::disorder_of;
-use crate::sentence::{Meant, Sentence, Spot, What};
+use crate::sentence::{
+    BEYOND, CLOSES_NOTHING, LACKS, MISPLACED, Meant, NEVER_CLOSED, NO_NEXT_CONDITION, NOT_ITS_OWN,
+    OTHER_BYTE, OTHER_COMMENT, OTHER_OBJECT, RESERVED, Sentence, Spot, UNDECLARED_IN_PROOF, What,
+};
 use crate::spot::{Due, due_in, least_count, may_stand, note_of};
 use crate::steps::proof_place;
 use lc_base::{DEPTH_LIMIT, FILE_LIMIT, NAME_LIMIT, REPLY_LIMIT, Refusal, is_name};
 use lc_place::{Place, item_place};
 use lc_reading::is_reserved;
 
-/// An item that is refused, and where it stands.
+/// An item that is refused, and where it is.
 #[derive(Clone, Copy)]
 struct Refused<'a> {
     bytes: &'a [u8],
     number: u64,
     place: Place,
-    /// The list round it.
+    /// The list around it.
     list: Around<'a>,
     /// The list round that.
     outer: Around<'a>,
@@ -27,21 +30,7 @@ struct Refused<'a> {
     third: Around<'a>,
 }
 
-/// The sort of names that this noun speaks of.
-fn sort_of(noun: &str) -> Option<Sort> {
-    match noun {
-        "the column " => Some(Sort::Column),
-        "the array " => Some(Sort::Array),
-        "the point " => Some(Sort::Point),
-        "the action " => Some(Sort::Action),
-        "the operation " => Some(Sort::Operation),
-        "the choice " => Some(Sort::Choice),
-        "the name " => Some(Sort::Variable),
-        _ => None,
-    }
-}
-
-/// Where an item stands in a list that is written so.
+/// Where an item is in a list that is written so.
 fn spot_in<'a>(list: Around<'a>, form: &'static str) -> Spot<'a> {
     match due_in(form, list.part) {
         Due::Part(part) => Spot::Due {
@@ -54,7 +43,7 @@ fn spot_in<'a>(list: Around<'a>, form: &'static str) -> Spot<'a> {
     }
 }
 
-/// Whether a list that begins with a word may stand at a place.
+/// Whether a list that begins with a word may be at a place.
 fn fits_in(word: &str, spot: Spot<'_>) -> bool {
     match spot {
         Spot::Due { part, .. } => may_stand(word, part),
@@ -84,12 +73,12 @@ impl<'a> Refused<'a> {
         word_at(self.bytes, self.place)
     }
 
-    /// The atom that it is, which is empty where it is a list.
+    /// The atom that it is, which is empty if it is a list.
     fn text(&self) -> &'a str {
         self.word().unwrap_or("")
     }
 
-    /// Where it stands.
+    /// Where it is.
     fn spot(&self, kind: FileKind) -> Spot<'a> {
         for (list, outer) in [
             (self.list, self.outer),
@@ -112,7 +101,7 @@ impl<'a> Refused<'a> {
     /// A list of this word, which has a form of its own, does not fit.
     fn unfit_list(&self, word: &'a str, own: &'static str, spot: Spot<'a>) -> Sentence<'a> {
         if list_count(self.bytes, self.place) < least_count(own, has_one(word)) {
-            return Sentence::Lacks(own);
+            return Sentence::Said(&LACKS, own);
         }
         let needs = needs_of(word);
         if needs.is_empty() {
@@ -122,7 +111,7 @@ impl<'a> Refused<'a> {
         }
     }
 
-    /// Whether this part is due where it stands.
+    /// Whether this part is expected at its place.
     fn is_due(&self, due: &str) -> bool {
         match self.spot(FileKind::Certificate) {
             Spot::Due { part, .. } => part == due,
@@ -169,7 +158,7 @@ impl<'a> Refused<'a> {
         let spot = self.spot(kind);
         if let Some(word) = self.word() {
             if begins_comment(word) {
-                return Sentence::OtherComment;
+                return Sentence::Said(&OTHER_COMMENT, "");
             }
             let what = What::Atom(word);
             return Sentence::Unfit { what, spot };
@@ -191,7 +180,7 @@ impl<'a> Refused<'a> {
         }
     }
 
-    /// Whether it stands in a proof or in hints, where variables have no names.
+    /// Whether it is in a proof or in hints, where variables have no names.
     fn is_in_proof(&self, kind: FileKind) -> bool {
         match kind {
             FileKind::Certificate | FileKind::Hints => true,
@@ -204,10 +193,7 @@ impl<'a> Refused<'a> {
     }
 
     /// What may be meant by a name that is not declared.
-    fn meant(&self, noun: &str, name: &'a str) -> Meant<'a> {
-        let Some(sort) = sort_of(noun) else {
-            return Meant::Unknown;
-        };
+    fn meant(&self, sort: Sort, name: &'a str) -> Meant<'a> {
         if sort == Sort::Variable && is_column(self.bytes, name) {
             return Meant::Column(name);
         }
@@ -230,25 +216,28 @@ impl<'a> Refused<'a> {
     /// It is a name that is not declared.
     fn undeclared(&self, kind: FileKind) -> Sentence<'a> {
         let name = self.text();
-        let noun = match (self.list.part, self.outer.word, self.outer.part) {
-            (0, "on", 2) => "the action ",
-            (0, "action", _) => "the column ",
-            (0, "", _) if matches!(self.third.word, "branch" | "choice") => "the column ",
-            (0, _, _) => "the name ",
-            (part, outer, _) => noun_of(self.list.word, outer, part),
+        let sort = match (self.list.part, self.outer.word, self.outer.part) {
+            (0, "on", 2) => Sort::Action,
+            (0, "action", _) => Sort::Column,
+            (0, "", _) if matches!(self.third.word, "branch" | "choice") => Sort::Column,
+            (0, _, _) => Sort::Variable,
+            (part, outer, _) => sort_at(self.list.word, outer, part),
         };
-        if noun == "the name " && self.is_in_proof(kind) {
-            return Sentence::UndeclaredInProof(name);
+        if sort == Sort::Variable && self.is_in_proof(kind) {
+            return Sentence::Said(&UNDECLARED_IN_PROOF, name);
         }
-        let meant = self.meant(noun, name);
-        Sentence::Undeclared { noun, name, meant }
+        Sentence::Undeclared {
+            noun: sort.noun(),
+            name,
+            meant: self.meant(sort, name),
+        }
     }
 
     /// It is a name that may not be declared here.
     fn repeated(&self) -> Sentence<'a> {
         let name = self.text();
         if is_reserved(name) {
-            return Sentence::Reserved(name);
+            return Sentence::Said(&RESERVED, name);
         }
         let noun = if is_name(name.as_bytes()) {
             "name"
@@ -258,12 +247,15 @@ impl<'a> Refused<'a> {
         Sentence::Twice { noun, name }
     }
 
+    /// The column that it reads, if it is a term that reads one.
+    fn read_column(&self) -> Option<&'a str> {
+        let number = self.number.checked_add(2)?;
+        word_at(self.bytes, item_place(self.bytes, number)?)
+    }
+
     /// It reads a column that the code does not see.
     fn auxiliary(&self) -> Sentence<'a> {
-        let column = self.number.checked_add(2);
-        let place = column.and_then(|number| item_place(self.bytes, number));
-        let name = place.and_then(|place| word_at(self.bytes, place));
-        Sentence::NotItsOwn(name.unwrap_or(""))
+        Sentence::Said(&NOT_ITS_OWN, self.read_column().unwrap_or(""))
     }
 
     /// It is beyond a limit.
@@ -279,7 +271,7 @@ impl<'a> Refused<'a> {
             };
         }
         if !is_name(word.as_bytes()) {
-            return Sentence::Beyond(word);
+            return Sentence::Said(&BEYOND, word);
         }
         if word.len() > NAME_LIMIT {
             return Sentence::TooMany {
@@ -297,20 +289,33 @@ impl<'a> Refused<'a> {
             return self.unfit(FileKind::Certificate);
         };
         match (self.list.word, self.list.part) {
-            ("certificate", 1) => Sentence::OtherObject(word),
-            ("proof", 1) => Sentence::NoNextCondition(word),
+            ("certificate", 1) => Sentence::Said(&OTHER_OBJECT, word),
+            ("proof", 1) => Sentence::Said(&NO_NEXT_CONDITION, word),
             ("rd" | "written" | "same" | "store", 1) if is_name(word.as_bytes()) => {
                 self.undeclared(FileKind::Certificate)
             }
-            ("forall" | "exists", 1) if is_reserved(word) => Sentence::Reserved(word),
-            _ if is_long_number(word) => Sentence::Beyond(word),
-            _ if is_name(word.as_bytes()) && self.is_due("T") => Sentence::UndeclaredInProof(word),
+            ("forall" | "exists", 1) if is_reserved(word) => Sentence::Said(&RESERVED, word),
+            _ if is_long_number(word) => Sentence::Said(&BEYOND, word),
+            _ if is_name(word.as_bytes()) && self.is_due("T") => Sentence::Said(
+                &UNDECLARED_IN_PROOF,
+                word,
+            ),
             _ => self.unfit(FileKind::Certificate),
         }
     }
 }
 
-/// Whether an atom is a number, or that of a variable, with so many digits that it is beyond its limit.
+/// Whether these are digits alone.
+fn are_digits(text: &[u8]) -> bool {
+    for byte in text {
+        if !byte.is_ascii_digit() {
+            return false;
+        }
+    }
+    true
+}
+
+/// Whether an atom is a number, or that of a variable, with more digits than its limit has.
 fn is_long_number(word: &str) -> bool {
     let text = word.as_bytes();
     let (begin, most) = match text.first() {
@@ -319,20 +324,23 @@ fn is_long_number(word: &str) -> bool {
         _ => (0, 18),
     };
     let digits = text.get(begin..).unwrap_or(&[]);
-    most < digits.len() && digits.iter().all(|digit| digit.is_ascii_digit())
+    most < digits.len() && are_digits(digits)
 }
 
-/// What is wrong with a character that stands outside of comments.
+/// What is wrong with a character outside of comments.
 fn misplaced_character(bytes: &[u8], place: Place) -> Sentence<'_> {
     if is_other_comment(bytes, place.offset) {
-        return Sentence::OtherComment;
+        return Sentence::Said(&OTHER_COMMENT, "");
     }
     let sign = operator_at(bytes, place.offset);
     let written = written_for(sign);
     if written.is_empty() {
-        Sentence::Misplaced(word_at(bytes, place).unwrap_or(""))
+        Sentence::Said(&MISPLACED, word_at(bytes, place).unwrap_or(""))
     } else {
-        Sentence::Sign { sign, written }
+        Sentence::Operator {
+            word: sign,
+            written,
+        }
     }
 }
 
@@ -346,10 +354,10 @@ fn misplaced<'a>(bytes: &'a [u8], offset: u64, place: Place) -> Sentence<'a> {
         };
     }
     if offset >= bytes.len() as u64 {
-        return Sentence::NeverClosed;
+        return Sentence::Said(&NEVER_CLOSED, "");
     }
     match bytes.get(place.offset).copied() {
-        Some(b')') => Sentence::ClosesNothing,
+        Some(b')') => Sentence::Said(&CLOSES_NOTHING, ""),
         Some(b'(') => {
             Sentence::TooMany {
                 owner: "a file",
@@ -358,8 +366,8 @@ fn misplaced<'a>(bytes: &'a [u8], offset: u64, place: Place) -> Sentence<'a> {
             }
         }
         Some(byte) if byte.is_ascii_graphic() => misplaced_character(bytes, place),
-        _ if is_other_comment(bytes, place.offset) => Sentence::OtherComment,
-        _ => Sentence::OtherByte,
+        _ if is_other_comment(bytes, place.offset) => Sentence::Said(&OTHER_COMMENT, ""),
+        _ => Sentence::Said(&OTHER_BYTE, ""),
     }
 }
 
@@ -381,13 +389,13 @@ pub(crate) fn sentence_of<'a>(
     }
     match refusal {
         Refusal::Text(offset) | Refusal::CertText(offset) => misplaced(bytes, *offset, place),
-        _ if place.offset >= bytes.len() => Sentence::EndsHere(kind),
+        _ if place.offset >= bytes.len() => Sentence::ends_here(kind),
         Refusal::Shape(item) => Refused::new(bytes, *item, place).unfit(kind),
         Refusal::Unknown(item) => Refused::new(bytes, *item, place).undeclared(kind),
         Refusal::Repeated(item) => Refused::new(bytes, *item, place).repeated(),
         Refusal::Auxiliary(item) => Refused::new(bytes, *item, place).auxiliary(),
         Refusal::Bound(item) => Refused::new(bytes, *item, place).beyond(),
         Refusal::CertShape(item) => Refused::new(bytes, *item, place).unfit_in_certificate(),
-        _ => Sentence::Limit,
+        _ => Sentence::limit(),
     }
 }

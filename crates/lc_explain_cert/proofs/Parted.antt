@@ -1,4 +1,4 @@
--- What is shown of the hypotheses that stand at a step: those of the goal come first.
+-- The hypotheses at a step as they are shown: those of the goal come first.
 use Rattle.std.proofs.Common.{◌≡◌, ℕ, zero, suc, ◌-◌, List, [], ◌∷◌, ◌++◌, take, drop, length, refl, sym, ap, ap₂, ◌∙◌, append_assoc, append-nil, arith}
 use Rattle.std.proofs.lemmas.List.{length-drop, map-append, take_all, take-map, drop-map}
 use Rattle.lc_kernel.specs.Proofs as P
@@ -49,12 +49,12 @@ in_groups by fs given behind before goal added t0 t1 t2 t3 next is count e1 e2 e
     let s3 : t3 ≡ t2 ++ d = e3 ∙ ap₂ (λ (n : ℕ) (l : List S.Formula). t2 ++ group ADDED.now by n l) place third in
     s3 ∙ ap (λ l. l ++ d) s2 ∙ append_assoc t1 b d ∙ ap (λ l. l ++ (b ++ d)) s1 ∙ append_assoc t0 a (b ++ d)
 
--- ---- what stands before the first step, and at each
+-- ---- the hypotheses before the first step, and at each
 
 pub with_negated : (fs all : List Formula) (negated : Formula) (H : List S.Formula) (g : S.Formula) → all ≡ fs ++ negated ∷ [] → formulas_of fs ≡ H → formula_of negated ≡ g → formulas_of all ≡ H ++ g ∷ []
 with_negated fs all negated H g is same last = ap formulas_of is ∙ map-append formula_of fs (negated ∷ []) ∙ ap₂ (λ xs y. xs ++ y ∷ []) same last
 
--- what stands at a step begins with what stands at first
+-- the hypotheses at a step begin with those at the first
 mutual
   grows : {v n u : ℕ} {H G : List S.Formula} {p q : P.Proof} → Stands v H p n u G q → (added : List S.Formula) × (G ≡ H ++ added)
   grows (stands_here {H = H}) = ([], sym (append-nil H))

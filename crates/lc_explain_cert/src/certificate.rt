@@ -28,7 +28,7 @@ fn condition_at<'a>(terms: &Terms, part: &'a NumberedPart, number: u64) -> Optio
     part.conditions.get(usize::try_from(place).ok()?)
 }
 
-/// The number of the condition of which a refusal of a certificate speaks.
+/// The number of the condition that a refusal of a certificate is about.
 fn number_in(refusal: &Refusal) -> Option<u64> {
     match refusal {
         Refusal::Missing(number)
@@ -39,7 +39,7 @@ fn number_in(refusal: &Refusal) -> Option<u64> {
     }
 }
 
-/// Of which place in a certificate a refusal speaks.
+/// The place in a certificate that a refusal is about.
 fn place_in(bytes: &[u8], number: u64, refusal: &Refusal) -> Option<Place> {
     match (refusal, Flawed::of(refusal)) {
         (_, Some(flawed)) => flawed.place(bytes, Some(number)),
@@ -71,7 +71,7 @@ pub(crate) fn sentence_of<'a>(number: u64, refusal: &Refusal, words: &'a str) ->
     }
 }
 
-/// What stands at a step of the proof that a certificate has for a condition.
+/// What is at a step of the proof that a certificate has for a condition.
 fn state_at(
     alloc: Global,
     development: &Development,
@@ -102,7 +102,7 @@ fn state_at(
 /// What is said in place of hypotheses whose terms are too deep.
 const DEEP: &str = "  its terms are nested too deep to be shown\n";
 
-/// What stands where the proof of a condition is refused, or before it begins where there is none.
+/// What is at the place where the proof of a condition is refused, or before it begins if there is none.
 fn state_of(
     alloc: Global,
     development: &Development,
@@ -134,8 +134,8 @@ fn state_of(
     with_variables(&names, lines)
 }
 
-/// Where and why a certificate of a development is refused: what the condition asks, the step of its proof, and the hypotheses that
-/// stand there. Nothing is said where the refusal tells no condition.
+/// Where and why a certificate of a development is refused: what the condition asks, the step of its proof, and the hypotheses
+/// there. Nothing is said if the refusal has no condition.
 pub fn certificate_explanation(
     alloc: Global,
     path: &str,
@@ -160,7 +160,7 @@ pub fn certificate_explanation(
     said(alloc, path, bytes, place, sentence, lines)
 }
 
-/// The hypotheses of a condition of which no proof was found, and a state in which it fails, if a search ends in one.
+/// The hypotheses of a condition for which no proof was found, and a state in which it fails, if a search ends in one.
 fn unfound_lines(
     alloc: Global,
     development: &Development,
@@ -178,7 +178,7 @@ fn unfound_lines(
     Ok(text)
 }
 
-/// What the condition of a number asks of which no proof was found, and its hypotheses.
+/// What the condition of a number asks for which no proof was found, and its hypotheses.
 pub fn unfound_explanation(
     alloc: Global,
     development: &Development,

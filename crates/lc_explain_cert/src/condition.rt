@@ -7,7 +7,7 @@ use lc_outline::{Development, Parts};
 use lc_rider::Owing;
 use std::alloc::Global;
 
-/// A number by which a condition is told, or 0 where there is none.
+/// The number by which a condition is reported, or 0 if there is none.
 fn number_of(which: Which) -> usize {
     match which {
         Which::Numbered(number) => number,
@@ -103,7 +103,7 @@ fn push_claim(
     Ok(())
 }
 
-/// Where a condition stands.
+/// Where a condition is.
 fn push_passage(text: &mut String, parts: &Parts, place: &Place) -> Result<(), OutOfMemory> {
     match place.passage {
         Passage::Nothing => {}

@@ -1,5 +1,5 @@
-//! How deep the terms of a goal are nested. In a condition a term stands in another one that reads what it was written to, and that
-//! again in another, so that its terms can be far deeper than any in a file. Of these no trees are made.
+//! How deep the terms of a goal are nested. In a condition a term is in another one that reads what it was written to, and that
+//! again in another, so that its terms can be far deeper than any in a file. No trees are made of these.
 ghost use Rattle.std.specs.Prelude.{IfOk};
 ghost use Rattle.std.specs.List.{All};
 ghost use Rattle.lc_table.specs.Tables.{IsTerm, IsColumn, IsFormula, AreFormulas};
@@ -10,10 +10,10 @@ use lc_kernel::Goal;
 use lc_table::{ColExprId, FormulaId, FormulaNode, TermId, TermNode, Terms};
 use std::alloc::{AllocFailed, Global};
 
-/// How many levels terms have at most of which trees are made: as many as a text may have.
+/// How many levels terms may have of which trees are made: as many as a text may have.
 const LEVELS: u32 = DEPTH_LIMIT as u32;
 
-/// Why a height is not told.
+/// Why a height is not known.
 #[derive(Clone, Copy)]
 enum Untold {
     /// It is greater than the levels that are left.
@@ -33,7 +33,7 @@ impl<T: Drop> From<AllocFailed<T>> for Untold {
     }
 }
 
-/// A height, where as many levels are left.
+/// A height, if as many levels are left.
 fn within(height: u32, levels: u32) -> Result<u32, Untold> {
     if height <= levels {
         Ok(height)
@@ -42,12 +42,12 @@ fn within(height: u32, levels: u32) -> Result<u32, Untold> {
     }
 }
 
-/// How many levels a part has of which that is known; none of another one.
+/// How many levels a part has, if that is known; none for another one.
 fn known_height(heights: &IndexMap<u32, u32>, part: u32) -> u32 {
     heights.get(&part).copied().unwrap_or(0)
 }
 
-/// How many levels a term has, where as many are left.
+/// How many levels a term has, if as many are left.
 #[cycle(term_height)]
 fn term_height(
     terms: &Terms,
@@ -68,7 +68,7 @@ fn term_height(
     Ok(height)
 }
 
-/// How many levels the deepest part of a term has, likewise.
+/// How many levels the deepest part of a term has, if as many are left.
 #[cycle(term_height)]
 fn parts_height(
     terms: &Terms,
@@ -93,7 +93,7 @@ fn parts_height(
     }
 }
 
-/// How many levels the deepest term in a column expression has, likewise. Its stores are no levels.
+/// How many levels the deepest term in a column expression has, if as many are left. Its stores are no levels.
 #[cycle(term_height)]
 fn column_height(
     terms: &Terms,
@@ -136,7 +136,7 @@ fn unknown_stores(
     }
 }
 
-/// The height of a store, where that of what it stores to is known.
+/// The height of a store, if that of what it stores to is known.
 #[cycle(term_height)]
 fn store_height(
     terms: &Terms,
@@ -182,7 +182,7 @@ fn look_at(
     }
 }
 
-/// Looks at the terms in formulas, likewise.
+/// Looks at the terms in formulas, if as many levels are left.
 #[cycle(look_at)]
 fn look_at_all(
     terms: &Terms,
@@ -207,7 +207,7 @@ fn look_at_goal(alloc: Global, terms: &Terms, goal: &Goal) -> Result<(), Untold>
     look_at(terms, goal.goal, &mut heights)
 }
 
-/// Whether some term of a goal has more levels than the terms have of which trees are made.
+/// Whether some term of a goal has more levels than a term may have of which a tree is made.
 pub(crate) fn has_deep_terms(alloc: Global, terms: &Terms, goal: &Goal) -> Result<bool, OutOfMemory>
     requires hypotheses { AreFormulas terms.now goal.now.hypotheses }
     requires goal { IsFormula terms.now goal.now.goal }

@@ -26,7 +26,7 @@ fn whole_numbers(alloc: Global, numbers: &[Counted]) -> Result<Vec<Numbered>, Ou
     Ok(whole)
 }
 
-/// A term and its number, as the search told it, in a line.
+/// A term and its number, as the search reported it, in a line.
 fn push_counted(
     text: &mut String,
     names: &Names<'_>,
@@ -56,7 +56,7 @@ fn push_number(
     Ok(())
 }
 
-/// The numbers of the variables of a goal, so many, of those of its `forall`s and of the cells of a state.
+/// The numbers of the `variables` variables of a goal, of those of its `forall`s and of the cells of a state.
 fn push_told(
     alloc: Global,
     text: &mut String,
@@ -81,7 +81,7 @@ fn push_told(
     Ok(())
 }
 
-/// The numbers of a model of a goal: as a state, where the goal fails there, and else as the search told them.
+/// The numbers of a model of a goal: as a state, if the goal fails there, and else as the search reported them.
 fn model_text(
     alloc: Global,
     names: &Names<'_>,

@@ -1,4 +1,4 @@
-//! The step that a refusal speaks of.
+//! The step that a refusal is about.
 use crate::names::Names;
 use crate::sentence::Sentence;
 use lc_base::{OutOfMemory, Refusal};
@@ -32,7 +32,7 @@ pub(crate) struct Flawed {
 }
 
 impl Flawed {
-    /// The step that a refusal speaks of.
+    /// The step that a refusal is about.
     pub(crate) fn of(refusal: &Refusal) -> Option<Flawed> {
         match refusal {
             Refusal::Proof(_, step, code) => {
@@ -50,7 +50,7 @@ impl Flawed {
         }
     }
 
-    /// Where the step stands of the proof of a condition, or of the only proof of a file; else the first form.
+    /// The place of the step in the proof of a condition, or in the only proof of a file; else the first form.
     pub(crate) fn place(self, bytes: &[u8], condition: Option<u64>) -> Option<Place> {
         let proof = proof_place(bytes, condition);
         proof
@@ -60,7 +60,7 @@ impl Flawed {
     }
 }
 
-/// A sentence of a place, and these lines behind it.
+/// A sentence about a place, followed by these lines.
 pub(crate) fn said(
     alloc: Global,
     path: &str,
@@ -80,7 +80,7 @@ pub(crate) fn said(
     Ok(Some(text))
 }
 
-/// The names of the variables behind these lines, if there are any.
+/// These lines, followed by the names of the variables, if there are any.
 pub(crate) fn with_variables(
     names: &Names<'_>,
     lines: Option<String>,

@@ -8,7 +8,7 @@ use lc_proof_text::formula_of;
 use lc_sexp::{Cursor, Forms};
 use std::alloc::Global;
 
-/// The names that stand in a list.
+/// The names in a list.
 fn names_in<'a>(alloc: Global, list: Cursor<'a>) -> Result<Vec<&'a str>, OutOfMemory> {
     let mut names = Vec::new(alloc);
     let mut rest = list;
@@ -42,7 +42,7 @@ fn declared_names<'a>(alloc: Global, forms: Cursor<'a>) -> Result<Names<'a>, Out
     })
 }
 
-/// What stands at a step of the proof in a formula file of which these are the forms.
+/// What is at a step of the proof in a formula file with these forms.
 fn state_in(
     alloc: Global,
     bytes: &[u8],
@@ -70,7 +70,7 @@ fn state_in(
     with_variables(&names, lines)
 }
 
-/// What stands at a step of the proof in a formula file.
+/// What is at a step of the proof in a formula file.
 fn state_of(alloc: Global, bytes: &[u8], flawed: Flawed) -> Result<Option<String>, OutOfMemory> {
     match Forms::read(alloc, bytes) {
         Ok(forms) => state_in(alloc, bytes, &forms, flawed),
@@ -79,7 +79,7 @@ fn state_of(alloc: Global, bytes: &[u8], flawed: Flawed) -> Result<Option<String
     }
 }
 
-/// Where and why the proof in a formula file is refused. Nothing is said where the refusal tells no step.
+/// Where and why the proof in a formula file is refused. Nothing is said if the refusal names no step.
 pub fn proof_explanation(
     alloc: Global,
     path: &str,

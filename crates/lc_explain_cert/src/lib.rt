@@ -1,5 +1,5 @@
 //! Why a proof is refused, in words: what the condition asks and where, the step of the proof, what is wrong with it, and the hypotheses
-//! that stand there.
+//! there.
 #![tactic(auto)]
 
 mod certificate;

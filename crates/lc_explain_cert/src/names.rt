@@ -53,7 +53,7 @@ fn push_name<'a>(names: &mut Vec<&'a str>, name: &'a str) -> Result<(), OutOfMem
     Ok(())
 }
 
-/// These names behind the others.
+/// Appends these names to the others.
 fn push_names<'a>(names: &mut Vec<&'a str>, more: &'a [Name]) -> Result<(), OutOfMemory> {
     for name in more {
         push_name(names, name.as_str())?;
@@ -61,8 +61,8 @@ fn push_names<'a>(names: &mut Vec<&'a str>, more: &'a [Name]) -> Result<(), OutO
     Ok(())
 }
 
-/// The names of the variables of a condition: the number of clients and a client, arguments and locals of the body that it speaks of,
-/// and where another client acts that one and the parameters of its action.
+/// The names of the variables of a condition: the number of clients and a client, arguments and locals of the body that it is about,
+/// and, if another client acts, that one and the parameters of its action.
 fn variable_names<'a>(
     alloc: Global,
     parts: &'a Parts,
@@ -87,7 +87,7 @@ fn variable_names<'a>(
 }
 
 impl<'a> Names<'a> {
-    /// The names by which a condition of a development is shown: where it speaks of no client, it has no variable for one.
+    /// The names by which a condition of a development is shown: if it is about no client, it has no variable for one.
     pub(crate) fn of_condition(
         alloc: Global,
         parts: &'a Parts,
@@ -101,7 +101,7 @@ impl<'a> Names<'a> {
         })
     }
 
-    /// The names of variables, each with the number by which proofs speak of it.
+    /// The names of variables, each with the number that proofs use for it.
     pub(crate) fn push_variables(&self, text: &mut String) -> Result<(), OutOfMemory> {
         let mut begun = false;
         for (number, name) in self.variables.iter().enumerate() {

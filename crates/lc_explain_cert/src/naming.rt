@@ -1,4 +1,4 @@
-//! The names by which conditions are told.
+//! The names by which conditions are reported.
 use lc_base::PointId;
 use lc_cond::{Passage, Place, on_at};
 use lc_object::{EdgeKind, Instr, Point};
@@ -17,7 +17,7 @@ pub(crate) fn point_name(parts: &Parts, point: PointId) -> &str {
     }
 }
 
-/// The name of an action; `enter` and `leave` stand behind those that are declared.
+/// The name of an action; `enter` and `leave` come after the declared ones.
 pub(crate) fn action_name(parts: &Parts, place: usize) -> &str {
     if let Some(action) = parts.actions.get(place) {
         return action.name.as_str();
@@ -36,7 +36,7 @@ pub(crate) fn conjunct_name(parts: &Parts, place: usize) -> &str {
     }
 }
 
-/// The point to which an instruction goes by an edge; none where the call returns.
+/// The point to which an instruction goes by an edge; none if the call returns.
 fn target_of(instruction: &Instr, edge: EdgeKind) -> Option<PointId> {
     match (instruction, edge) {
         (Instr::Load { next, .. } | Instr::Store { next, .. }, _) => Some(*next),
@@ -49,7 +49,7 @@ fn target_of(instruction: &Instr, edge: EdgeKind) -> Option<PointId> {
     }
 }
 
-/// The name of the point to which the edge leads where a condition stands; `idle` where the call returns.
+/// The name of the point that the edge of a condition leads to; `idle` if the call returns.
 pub(crate) fn next_name<'a>(parts: &'a Parts, place: &Place) -> &'a str {
     let (Some(point), Passage::Edge(edge)) = (place.point, place.passage) else {
         return "idle";
@@ -60,7 +60,7 @@ pub(crate) fn next_name<'a>(parts: &'a Parts, place: &Place) -> &'a str {
     }
 }
 
-/// The name of the action that is written at the edge where a condition stands.
+/// The name of the action that is written at the edge of a condition.
 pub(crate) fn action_at_edge<'a>(development: &'a Development, place: &Place) -> &'a str {
     let (Some(point), Passage::Edge(edge)) = (place.point, place.passage) else {
         return "";

@@ -1,4 +1,4 @@
-//! Why a step does not hold, with its numbers and the hypotheses that it speaks of.
+//! Why a step does not hold, with its numbers and the hypotheses that it is about.
 use crate::names::Names;
 use lc_base::OutOfMemory;
 use lc_kernel::{Multiple, Reason, Step};
@@ -139,7 +139,7 @@ impl Saying<'_> {
         Ok(())
     }
 
-    /// Says that there is no hypothesis of a number, if there is none; answers whether that is said.
+    /// Says that there is no hypothesis of a number, if there is none; returns whether that is said.
     fn say_unknown(&mut self, number: i64) -> Result<bool, OutOfMemory> {
         if self.hypothesis(number).is_some() {
             return Ok(false);
@@ -194,7 +194,7 @@ impl Saying<'_> {
         Ok(())
     }
 
-    /// Says how many proofs stand below the step, and how many branches it opens.
+    /// Says how many proofs are below the step, and how many branches it opens.
     fn say_branches(&mut self, step: &Step, number: Option<i64>) -> Result<(), OutOfMemory> {
         let word = word_of(step);
         let formula = number.and_then(|it| self.hypothesis(it));
@@ -301,7 +301,7 @@ impl Saying<'_> {
     }
 }
 
-/// What is said of a step that does not hold for a reason, or whose arithmetic leaves 128 bits: the hypotheses that it speaks of, and
+/// What is said of a step that does not hold for a reason, or whose arithmetic leaves 128 bits: the hypotheses that it is about, and
 /// what it needs.
 pub(crate) fn reason_text(
     alloc: Global,

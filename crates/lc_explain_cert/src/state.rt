@@ -1,4 +1,4 @@
-//! The hypotheses that stand at a step, by their numbers.
+//! The hypotheses at a step, by their numbers.
 ghost use Rattle.std.specs.Prelude.{◌≡◌, ◌+◌, ◌++◌, ◌∷◌, [], ◌<◌, ◌^◌, ℕ, List, length, string_bytes, IfOk, OnOk};
 ghost use Rattle.lc_kernel.specs.Proofs as P;
 ghost use Rattle.lc_kernel.specs.Proofs.{size};
@@ -29,7 +29,7 @@ const NEGATED: &str = "  what is to be proved, negated:\n";
 /// Above what steps have added.
 const ADDED: &str = "  added by the steps before:\n";
 
-/// A formula behind what is there, in a line with its number.
+/// Appends a formula, in a line with its number.
 fn push_line(
     text: &mut String,
     names: &Names<'_>,
@@ -44,7 +44,7 @@ fn push_line(
     Ok(())
 }
 
-/// Formulas behind what is there, a line each, of which the first has this number.
+/// Appends formulas, a line each, numbered from this number on.
 fn push_lines(
     text: &mut String,
     names: &Names<'_>,
@@ -80,7 +80,7 @@ fn push_group(
     push_lines(text, names, first, formulas)
 }
 
-/// The hypotheses that stand at a step behind what is there, of which so many are those of the goal.
+/// Appends the hypotheses at a step; `given` of them are those of the goal.
 fn push_state(
     text: &mut String,
     names: &Names<'_>,
@@ -101,7 +101,7 @@ fn push_state(
     push_group(text, ADDED, names, behind, &all[behind..])
 }
 
-/// What stands at a step of the proof of a goal, where its steps are few enough.
+/// What is at a step of the proof of a goal, if its steps are few enough.
 fn standing_of<'a>(
     alloc: Global,
     terms: &Terms,
@@ -130,7 +130,7 @@ fn count_of(goal: &Goal) -> usize
     goal.hypotheses.as_slice().len()
 }
 
-/// What is shown of a step of the proof of a goal: why it does not hold, and the hypotheses that stand there.
+/// What is shown of a step of the proof of a goal: why it does not hold, and the hypotheses there.
 pub(crate) fn step_text(
     alloc: Global,
     names: &Names<'_>,

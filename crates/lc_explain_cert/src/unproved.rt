@@ -49,7 +49,7 @@ fn refusal_of(
     }
 }
 
-/// A sentence behind what is there, in a line of its own.
+/// Appends a sentence, in a line of its own.
 fn push_sentence(text: &mut String, sentence: Sentence<'_>) -> Result<(), OutOfMemory> {
     writeln!(text, "{sentence}")?;
     Ok(())

@@ -45,7 +45,7 @@ fn say_order(
 }
 
 /// Where and why a history, or its order, is refused that is read for a specification: sentences of events and entries, each with
-/// its line. It is empty where the refusal tells nothing of a history.
+/// its line. It is empty if the refusal says nothing about a history.
 pub fn history_explanation(
     alloc: Global,
     path: &str,

@@ -1,4 +1,4 @@
-//! Why a history or its order is refused, in words: the event or the entry, where it stands in the JSON text, and what it does not
+//! Why a history or its order is refused, in words: the event or the entry, where it is in the JSON text, and what it does not
 //! agree with.
 #![tactic(auto)]
 

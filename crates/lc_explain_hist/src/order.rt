@@ -108,7 +108,7 @@ impl Judged<'_> {
         told.say(Row::Order, place, Label::Error, sentence)
     }
 
-    /// A return before an event that is of the call of an entry from a place on: where it stands, and the place of the entry.
+    /// A return before an event, with the call of an entry from a place on: where the return is, and the place of the entry.
     fn preceding(
         &self,
         alloc: Global,

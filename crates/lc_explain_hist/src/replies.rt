@@ -35,7 +35,7 @@ fn reply_of<S: SeqObject>(
     }
 }
 
-/// What an object does at the last of these entries, behind the others.
+/// What an object does at the last of these entries, after the others.
 pub(crate) fn last_reply<S: SeqObject>(
     alloc: Global,
     object: &S,

@@ -75,7 +75,7 @@ fn say_element(
 }
 
 /// Says what is wrong with an item of a text that is no history for a specification: the whole text, an event from 1 on, or an entry
-/// behind the events.
+/// after the events.
 pub(crate) fn say_shape(
     alloc: Global,
     told: &mut Told<'_>,

@@ -39,7 +39,7 @@ impl Tally {
         self.counts.get(&client).copied().unwrap_or(0)
     }
 
-    /// Counts one more for a client, and answers how many there were.
+    /// Counts one more for a client, and returns how many there were.
     pub(crate) fn add(&mut self, client: u32) -> Result<usize, OutOfMemory> {
         let count = self.of(client);
         self.counts.insert(client, count.saturating_add(1))?;

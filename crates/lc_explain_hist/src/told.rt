@@ -87,7 +87,7 @@ impl<'a> Told<'a> {
         }
     }
 
-    /// Says a sentence of an event or an entry, or of the whole file where that is not found in the text.
+    /// Says a sentence of an event or an entry, or of the whole file if that is not found in the text.
     pub(crate) fn say(
         &mut self,
         row: Row,

@@ -12,7 +12,7 @@ pub(crate) enum Wrong<'a> {
     NoClient,
     NoOperation(&'a str),
     NoNumbers,
-    /// Other than so many numbers.
+    /// A count of numbers other than this one.
     OtherCount {
         kind: &'static str,
         operation: &'a str,
@@ -88,7 +88,7 @@ fn client_in(value: &Value) -> Option<u64> {
     }
 }
 
-/// The items of a value, none where it is no array.
+/// The items of a value, none if it is no array.
 fn items_of(value: &Value) -> &[Value] {
     match value.as_array() {
         Some(items) => items,
@@ -101,7 +101,7 @@ fn text_at(items: &[Value], place: usize) -> Option<&str> {
     items.get(place)?.as_str()
 }
 
-/// The operation in whose call a client is behind these events.
+/// The operation in whose call a client is after these events.
 fn open_call(events: &[Value], client: u64) -> Option<&str> {
     let mut open = None;
     for event in events {
@@ -116,7 +116,7 @@ fn open_call(events: &[Value], client: u64) -> Option<&str> {
     open
 }
 
-/// What is wrong with the numbers of a call or a reply of an operation, which has so many.
+/// What is wrong with the numbers of a call or a reply of an operation that has `count` of them.
 fn wrong_numbers<'a>(
     value: &Value,
     kind: &'static str,
@@ -155,7 +155,7 @@ fn wrong_call<'a>(spec: &TextSpec, client: u64, name: &'a Value, numbers: &'a Va
     }
 }
 
-/// What is wrong with a return of a client behind these events.
+/// What is wrong with a return of a client after these events.
 fn wrong_return<'a>(
     spec: &TextSpec,
     earlier: &'a [Value],
@@ -175,7 +175,7 @@ fn wrong_return<'a>(
     }
 }
 
-/// What is wrong with an event behind others, which are right.
+/// What is wrong with an event after others, which are right.
 pub(crate) fn wrong_event<'a>(
     spec: &TextSpec,
     earlier: &'a [Value],

@@ -4,7 +4,7 @@ use Rattle.lc_facts.specs.declared.nodes.taking.Due.TheVariants.{Term, Column}
 use Rattle.lc_table.specs.NodeTables.{Table}
 use Rattle.lc_table.specs.Tables.{IsTerm, IsColumn}
 
--- it stands in the table
+-- it is in the table
 abbrev pub IsDue : Table → Due → Type 0
 IsDue ts (Term t) = IsTerm ts t
 IsDue ts (Column c) = IsColumn ts c

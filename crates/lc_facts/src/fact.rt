@@ -39,7 +39,7 @@ pub struct Fact {
     pub is_axiom: bool,
 }
 
-/// So many times a fact.
+/// A multiple of a fact.
 #[derive(Clone, Copy)]
 pub struct Multiplier {
     pub fact: FactId,
@@ -49,7 +49,7 @@ pub struct Multiplier {
 /// A rule of derivations, as lc_kernel has it, with facts for hypotheses.
 #[derive(Clone, Copy)]
 pub enum Rule {
-    /// So many times these comparisons contradict each other; the numbers stand beside.
+    /// Multiples of these comparisons contradict each other; the multipliers are beside.
     Sum,
     /// The second is the negation of the first.
     Opposite(FactId, FactId),
@@ -68,7 +68,7 @@ pub enum Rule {
     Divide(FactId, i64, FormulaId),
 }
 
-/// A proof, which stands in an arena: a rule, and below it a proof for each branch, where the facts that the rule makes are known.
+/// A proof in an arena: a rule, and below it a proof for each branch, in which the facts that the rule makes are known.
 #[derive(Drop)]
 pub struct Made {
     pub rule: Rule,
@@ -82,7 +82,7 @@ pub struct Made {
     pub uses: Vec<FactId>,
 }
 
-/// A step that was taken or may be: a rule with its branches, some of which have proofs.
+/// A step that was taken or may be: a rule with its branches, some of them with proofs.
 #[derive(Drop)]
 pub struct Step {
     pub rule: Rule,
@@ -128,7 +128,7 @@ impl Step {
         }
     }
 
-    /// The first branch without a proof; the first of all where there is none.
+    /// The first branch without a proof; the first of all if there is none.
     pub fn first_open(&self) -> usize {
         for (place, side) in self.sides.iter().enumerate() {
             if side.is_none() {

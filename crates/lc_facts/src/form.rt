@@ -4,7 +4,7 @@ use lc_farkas::Stop;
 use lc_table::TermId;
 use std::alloc::Global;
 
-/// A linear form: a constant, and atoms, each so many times and none 0 times, sorted by number. Atoms are variables and whole reads.
+/// A linear form: a constant, and multiples of atoms, none 0 times, sorted by number. Atoms are variables and whole reads.
 #[derive(Drop)]
 pub struct Form {
     pub constant: i128,
@@ -40,7 +40,7 @@ impl Form {
         })
     }
 
-    /// How often an atom stands in it.
+    /// The coefficient of an atom in it.
     pub fn number_of(&self, atom: TermId) -> i128 {
         let place = self
             .summands
@@ -52,7 +52,7 @@ impl Form {
         }
     }
 
-    /// Whether no atom stands in it.
+    /// Whether no atom occurs in it.
     pub fn is_constant(&self) -> bool {
         self.summands.is_empty()
     }
@@ -68,7 +68,7 @@ impl Form {
         Ok(())
     }
 
-    /// Adds so many times an atom.
+    /// Adds `number` times an atom.
     pub fn add_atom(&mut self, atom: TermId, number: i128) -> Result<(), Stop> {
         if number == 0 {
             return Ok(());
@@ -99,7 +99,7 @@ impl Form {
         Ok(())
     }
 
-    /// Adds so many times another form.
+    /// Adds `factor` times another form.
     pub fn add(&mut self, factor: i128, other: &Form) -> Result<(), Stop> {
         self.add_number(factor.checked_mul(other.constant).ok_or(Stop::Large)?)?;
         for (atom, number) in &other.summands {

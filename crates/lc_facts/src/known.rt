@@ -20,6 +20,9 @@ pub use undoing::{Mark, Trial};
 /// How many pivots the tableau may do.
 const PIVOTS: u64 = 10_000_000;
 
+/// How many rows, summands and facts a search may look at, beside the steps that it may try.
+const WORK: u64 = 300_000_000;
+
 /// An index term of a column, with the least place of the facts that it stands in.
 #[derive(Clone, Copy)]
 pub struct Indexed {
@@ -39,7 +42,7 @@ pub struct Done {
 #[derive(Clone, Copy)]
 pub enum Probed {
     Closed(ProofId),
-    /// With so many parts open.
+    /// With this many parts open.
     Open(usize),
 }
 
@@ -53,7 +56,7 @@ pub enum Weighed {
     Split(Step),
 }
 
-/// A change of an index table: the entry at a place of a column's list, and its place before; none where it was new.
+/// A change of an index table: the entry at a place of a column's list, and its place before; none if it was new.
 #[derive(Clone, Copy)]
 struct IndexChange {
     column: ColId,
@@ -119,12 +122,14 @@ impl Drop for Known {
 }
 
 impl Known {
-    /// Nothing known of so many variables.
+    /// Nothing known about `variables` variables.
     pub fn new(alloc: Global, variables: u32, budget: u64) -> Known {
+        let mut tableau = Tableau::new(alloc, PIVOTS);
+        tableau.allow(WORK);
         Known {
             alloc,
             nodes: Nodes::new(alloc),
-            tableau: Tableau::new(alloc, PIVOTS),
+            tableau,
             facts: Vec::new(alloc),
             have: IndexMap::new(alloc),
             steps: Vec::new(alloc),

@@ -1,5 +1,6 @@
 //! What a search for a proof knows: facts and what follows from them without a choice, the steps that were taken, and proofs of what
-//! was closed. It has a table of nodes of its own, of which each read is total: nothing is promised of it but that it is safe and ends.
+//! was closed. It has a table of nodes of its own, in which each read is total: nothing is promised about it but that it is safe and
+//! ends.
 #![tactic(auto)]
 
 mod fact;

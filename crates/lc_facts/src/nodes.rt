@@ -23,7 +23,7 @@ pub use taking::Taken;
 /// How many stores of a column expression are followed for its indexes.
 pub(crate) const STORES: u32 = 4000;
 
-/// How large a node is, and how many quantifiers round it its bound variables ask for.
+/// How large a node is, and how many quantifiers around it its bound variables ask for.
 #[derive(Clone, Copy)]
 struct Shape {
     size: u32,
@@ -51,8 +51,8 @@ impl Shape {
     }
 }
 
-/// What stands in a node: its closed reads, the closed sides of its comparisons, and its free variables, each once and in the order
-/// in which they come.
+/// The parts of a node that matter: its closed reads, the closed sides of its comparisons, and its free variables, each once and in
+/// the order in which they come.
 struct Learnt {
     reads: IndexSet<TermId>,
     compared: IndexSet<TermId>,
@@ -178,17 +178,17 @@ impl Nodes {
         self.formula_shape(formula).size
     }
 
-    /// How many quantifiers round a term its bound variables ask for; 0 of one without.
+    /// How many quantifiers around a term its bound variables ask for; 0 for one without.
     pub fn term_loose(&self, term: TermId) -> u32 {
         self.part_shape(term.0).loose
     }
 
-    /// How many quantifiers round a column expression its bound variables ask for.
+    /// How many quantifiers around a column expression its bound variables ask for.
     pub fn column_loose(&self, column: ColExprId) -> u32 {
         self.part_shape(column.0).loose
     }
 
-    /// How many quantifiers round a formula its bound variables ask for, beside its own.
+    /// How many quantifiers around a formula its bound variables ask for, beside its own.
     pub fn formula_loose(&self, formula: FormulaId) -> u32 {
         self.formula_shape(formula).loose
     }

@@ -48,7 +48,7 @@ there s (w ∷ ws) apart =
       there next ws apart.1,
     )
 
--- the cells that are written where there was this content in each
+-- the cells that are written when there was this content in each
 pub written-is : (content : Content) (n : ℕ) (first s : State) (ws : List Write) → IsBlank content n first → AreApart ws → s ≡ stored_all first ws → IsOf content n s ws
 written-is content n first s ws blank apart is = record {
   shown = rw is (there first ws apart);

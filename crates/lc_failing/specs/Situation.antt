@@ -15,12 +15,12 @@ abbrev pub AreApart : List Write → Type 0
 AreApart [] = Unit {0}
 AreApart (w ∷ ws) = Every (IsElsewhere w.column w.index) ws × AreApart ws
 
--- cells of so many columns, each of which stands there once
+-- cells of the first `columns` columns, each of them once
 pub record AreCells (columns : ℕ) (cells : List Write) : Type 0 where
   pub within : AreWithin columns cells
   pub apart : AreApart cells
 
--- what a cell of a column has that does not stand among those of a state
+-- what a cell of a column has if it is not among those of a state
 abbrev pub content_of : Content → ℕ → ℤ → ℤ
 content_of Zero c i = pos 0
 content_of Spread c i = pos 101 *ℤ i +ℤ (pos c *ℤ pos 10007 +ℤ pos 5003)
@@ -30,12 +30,12 @@ abbrev pub numbers_of : Content → ℕ → ℤ × ℤ
 numbers_of Zero c = (pos 0, pos 0)
 numbers_of Spread c = (pos 101, pos c *ℤ pos 10007 +ℤ pos 5003)
 
--- these numbers of so many columns
+-- these numbers of `columns` columns
 pub record AreNumbers (content : Content) (columns : ℕ) (numbers : List (ℤ × ℤ)) : Type 0 where
   pub count : length numbers ≡ columns
   pub each : (c : ℕ) → c < columns → slice_index_or numbers c (pos 0, pos 0) ≡ numbers_of content c
 
--- so many columns of the state have this in each cell
+-- the first `columns` columns of the state have this in each cell
 abbrev pub IsBlank : Content → ℕ → State → Type 0
 IsBlank content columns s = (c : ℕ) (i : ℤ) → c < columns → s c i ≡ content_of content c i
 
@@ -43,7 +43,7 @@ IsBlank content columns s = (c : ℕ) (i : ℤ) → c < columns → s c i ≡ co
 abbrev pub IsThere : State → Write → Type 0
 IsThere s w = s w.column w.index ≡ w.value
 
--- the state has these numbers in these cells, and this content in each other cell of so many columns
+-- the state has these numbers in these cells, and this content in each other cell of the first `columns` columns
 pub record IsOf (content : Content) (columns : ℕ) (s : State) (cells : List Write) : Type 0 where
   pub shown : Every (IsThere s) cells
   pub others : (c : ℕ) (i : ℤ) → c < columns → Every (IsElsewhere c i) cells → s c i ≡ content_of content c i

@@ -1,4 +1,4 @@
--- What is told of a goal.
+-- What is reported about a goal.
 use Rattle.std.specs.Prelude.{◌≡◌, ◌↔◌, ℕ, List}
 use Rattle.lc_term.specs.State.{state_of}
 use Rattle.lc_term.specs.Syntax.{Formula}
@@ -9,8 +9,8 @@ use Rattle.lc_failing.specs.Failing.{Fails, FailsButForQuantifiers}
 use Rattle.lc_failing.specs.Instance.{instance_at}
 use Rattle.lc_failing.specs.Situation.{IsOf}
 
--- it is told that the goal fails exactly where it fails in the state and at the numbers that are told, and that it fails but for
--- quantifiers only where it does; the state has the cells that are told
+-- the report is that the goal fails exactly if it fails in the reported state at the reported numbers, and that it fails but for
+-- quantifiers only if it does so; the state has the reported cells
 pub record IsTold (columns : ℕ) (hypotheses : List Formula) (goal : Formula) (told : Told) : Type 0 where
   pub fails : told.failing ≡ F.Fails ↔ Fails told.situation.state told.situation.env hypotheses (instance_at told.numbers.items goal)
   pub but : told.failing ≡ F.FailsButForQuantifiers →

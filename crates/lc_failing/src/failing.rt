@@ -10,7 +10,7 @@ ghost use Rattle.lc_failing.specs.Failing.{Fails, FailsButForQuantifiers, IsRefu
 use lc_term::{Env, Formula, State, eval, formula_is_known, is_ground_of_quantifiers};
 
 /// What is known of a goal in a state.
-#[derive(Clone, Copy)]
+#[derive(Clone, Copy, PartialEq, Eq)]
 pub enum Failing {
     /// The hypotheses hold and the goal does not.
     Fails,
@@ -42,7 +42,7 @@ fn is_seen(formula: &Formula, state: &State, env: &Env) -> bool
 }
 
 /// Whether a formula is evaluated, and does not hold.
-fn is_refuted(formula: &Formula, state: &State, env: &Env) -> bool
+pub(crate) fn is_refuted(formula: &Formula, state: &State, env: &Env) -> bool
     ensures { IsTrue result ↔ IsRefuted state.now env.now (formula_of formula.now) }
 {
     if !can_be_evaluated(formula, state, env) {

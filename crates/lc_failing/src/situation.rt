@@ -19,7 +19,7 @@ pub struct Numbered {
     pub number: i64,
 }
 
-/// What each cell has that does not stand among those of a state.
+/// What each cell has that is not among those of a state.
 #[derive(Clone, Copy)]
 pub enum Content {
     /// 0.
@@ -28,7 +28,7 @@ pub enum Content {
     Spread,
 }
 
-/// A state and numbers of variables. Cells that do not stand among these have the content.
+/// A state and numbers of variables. Cells that are not among these have the content.
 #[derive(Drop)]
 pub struct Situation {
     pub state: State,
@@ -37,7 +37,7 @@ pub struct Situation {
     pub content: Content,
 }
 
-/// How many variables there are, where there are at least so many and each that has a number.
+/// How many variables there are, if there are at least `variables` and each that has a number.
 fn variable_count(variables: usize, numbers: &[Numbered]) -> usize {
     let mut count = variables;
     for numbered in numbers {
@@ -48,7 +48,7 @@ fn variable_count(variables: usize, numbers: &[Numbered]) -> usize {
     count
 }
 
-/// The numbers of so many variables, 0 for those of which nothing is told.
+/// The numbers of `count` variables, 0 for those about which nothing is said.
 fn variables_in(
     alloc: Global,
     count: usize,
@@ -68,7 +68,7 @@ fn variables_in(
     Ok(values)
 }
 
-/// The cell that a term reads of a column, and its number, if it can be told which.
+/// The cell that a term reads of a column, and its number, if it is known which cell that is.
 fn cell_of(numbered: &Numbered, state: &State, env: &Env) -> Option<Write>
     ensures { IfSome result (λ cell. cell.column.0 < column_count state.now) }
 {
@@ -90,8 +90,8 @@ fn cell_of(numbered: &Numbered, state: &State, env: &Env) -> Option<Write>
     })
 }
 
-/// Whether a cell stands among others.
-fn is_among(cell: Write, cells: &[Write]) -> bool
+/// Whether a cell is among others.
+pub(crate) fn is_among(cell: Write, cells: &[Write]) -> bool
     ensures { IsFalse result → Every (IsElsewhere cell.column.0 cell.index) (writes_shown cells.now) }
 {
     for other in cells {
@@ -102,7 +102,7 @@ fn is_among(cell: Write, cells: &[Write]) -> bool
     false
 }
 
-/// The cell that a term reads behind others, where this is the state, unless it stands among them.
+/// Appends the cell that a term reads to others, if this is the state, unless it is among them.
 fn push_cell(
     cells: &mut Vec<Write>,
     numbered: &Numbered,
@@ -122,7 +122,7 @@ fn push_cell(
     Ok(())
 }
 
-/// The cells that are read, where this is the state, each once with its first number.
+/// The cells that are read, if this is the state, each once with its first number.
 fn cells_in(
     alloc: Global,
     state: &State,
@@ -148,7 +148,7 @@ fn numbers_of(column: u32, content: Content) -> (i64, i64)
     }
 }
 
-/// These numbers of so many columns.
+/// These numbers of `columns` columns.
 fn initial_numbers(
     alloc: Global,
     columns: u32,
@@ -163,7 +163,7 @@ fn initial_numbers(
     Ok(numbers)
 }
 
-/// A state of so many columns in which nothing is written.
+/// A state of `columns` columns in which nothing is written.
 fn blank_state(alloc: Global, columns: u32, content: Content) -> Result<State, OutOfMemory>
     ensures columns { IfOk result (λ state. column_count state ≡ columns) }
     ensures cells { IfOk result (λ state. IsBlank content columns (state_of state)) }
@@ -172,8 +172,8 @@ fn blank_state(alloc: Global, columns: u32, content: Content) -> Result<State, O
     State::new(alloc, &numbers)
 }
 
-/// A state of so many columns in which these cells are written.
-fn state_with(
+/// A state of `columns` columns in which these cells are written.
+pub(crate) fn state_with(
     alloc: Global,
     columns: u32,
     content: Content,
@@ -188,8 +188,8 @@ fn state_with(
     Ok(state)
 }
 
-/// The state and the environment that numbers of terms describe; variables of which they do not tell have 0. That the terms have these
-/// numbers there is not promised: it is to be evaluated what holds.
+/// The state and the environment that numbers of terms describe; other variables have 0. That the terms have these
+/// numbers there is not promised: it has to be evaluated what holds.
 pub(crate) fn situation_of(
     alloc: Global,
     columns: u32,

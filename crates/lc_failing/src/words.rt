@@ -4,10 +4,10 @@ ghost use Rattle.std.specs.Prelude.{◌≡◌, ◌↔◌};
 use crate::failing::Failing;
 use crate::situation::Content;
 
-/// Said exactly where the hypotheses hold and the goal does not.
+/// Said exactly if the hypotheses hold and the goal does not.
 pub const FAILS: &str = "in this state the hypotheses hold and the goal does not";
 
-/// Said where so it is but for hypotheses that are not evaluated.
+/// Said if that is so but for hypotheses that are not evaluated.
 const FAILS_BUT: &str =
     "in this state the goal does not hold, and the hypotheses without quantifiers do; the others are not evaluated";
 
@@ -15,7 +15,7 @@ const FAILS_BUT: &str =
 const UNKNOWN: &str =
     "the search ended with these numbers, and no state that they describe was seen to break the condition";
 
-/// What is said where this is known of a goal in a state.
+/// What is said when this is known of a goal in a state.
 pub fn words_of(failing: Failing) -> &'static str
     ensures { result.now ≡ FAILS.now ↔ failing ≡ Failing.Fails }
 {
@@ -26,7 +26,7 @@ pub fn words_of(failing: Failing) -> &'static str
     }
 }
 
-/// What is said of the cells that do not stand among those of a state.
+/// What is said about the cells that are not among those of a state.
 pub fn content_words(content: Content) -> &'static str {
     match content {
         Content::Zero => "each other cell is 0",

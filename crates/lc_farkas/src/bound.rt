@@ -2,8 +2,8 @@
 
 use crate::rational::Rational;
 
-/// A bound of a variable, by a fact: the form of the fact, so many times, is the variable less the bound where it is an upper
-/// bound, and the bound less the variable where it is a lower one.
+/// A bound of a variable, by a fact: a multiple of the form of the fact is the variable less the bound for an upper bound,
+/// and the bound less the variable for a lower one.
 #[derive(Clone, Copy)]
 pub(crate) struct Bound {
     pub(crate) value: Rational,

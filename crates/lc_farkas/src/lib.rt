@@ -1,6 +1,6 @@
-//! Refutations of linear forms that are each to be at most 0: so many times each of them, added up, is a constant above 0.
-//! They are found by a simplex tableau over rational numbers, of which nothing is promised but that it is safe and ends:
-//! `refute` adds up what was found before it answers it.
+//! Refutations of linear forms that are each to be at most 0: multiples of them add up to a constant above 0. They are
+//! found by a simplex tableau over rational numbers, about which nothing is promised but that it is safe and ends:
+//! `refute` adds up what was found before it returns it.
 #![tactic(auto)]
 
 mod bound;

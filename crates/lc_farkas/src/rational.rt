@@ -52,7 +52,7 @@ impl Rational {
         }
     }
 
-    /// The quotient of two whole numbers. `Large` is answered also where the second is 0.
+    /// The quotient of two whole numbers. `Large` is returned also if the second is 0.
     pub fn ratio(numerator: i128, denominator: i128) -> Result<Rational, Stop> {
         if denominator == 1 {
             return Ok(Rational::whole(numerator));
@@ -132,7 +132,7 @@ impl Rational {
         )
     }
 
-    /// The quotient of two numbers. `Large` is answered also where the second is 0.
+    /// The quotient of two numbers. `Large` is returned also if the second is 0.
     pub fn over(self, other: Rational) -> Result<Rational, Stop> {
         Rational::ratio(
             product(self.numerator, other.denominator)?,

@@ -57,7 +57,7 @@ fn listed(alloc: Global, reasons: &[Reason]) -> Result<Option<Vec<(usize, i64)>>
     Ok(Some(list))
 }
 
-/// Whether the list refutes the forms. Where a number leaves 128 bits it is said not to.
+/// Whether the list refutes the forms. If a number leaves 128 bits it is said not to.
 fn refutes(alloc: Global, forms: &[LinForm], list: &[(usize, i64)]) -> Result<bool, OutOfMemory>
     ensures { IfOk result (λ yes'. OnTrue yes' (Refutes forms.now list.now)) }
 {
@@ -71,7 +71,7 @@ fn refutes(alloc: Global, forms: &[LinForm], list: &[(usize, i64)]) -> Result<bo
     }
 }
 
-/// Whether the place has one of so many forms, which is taken 0 times or more.
+/// Whether `place` is one of the first `count`, and its form is taken 0 times or more.
 fn is_allowed(count: usize, place: usize, number: i64) -> bool
     ensures { result ≡ is_allowed count (place, number) }
 {
@@ -90,7 +90,7 @@ fn are_allowed(forms: &[LinForm], list: &[(usize, i64)]) -> bool
     true
 }
 
-/// A form with so many times the form at a place.
+/// A form with a multiple of the form at a place added.
 fn added(sum: LinForm, forms: &[LinForm], entry: (usize, i64)) -> Result<LinForm, LinFault>
     ensures { IfOk result (λ new. HasNumbers new (added_at forms.now (numbers sum) entry)) }
 {
@@ -102,7 +102,7 @@ fn added(sum: LinForm, forms: &[LinForm], entry: (usize, i64)) -> Result<LinForm
     sum.add_scaled(i128::from(number), form)
 }
 
-/// The sum of so many times the forms at these places.
+/// The sum of multiples of the forms at these places.
 fn sum_of(alloc: Global, forms: &[LinForm], list: &[(usize, i64)]) -> Result<LinForm, LinFault>
     ensures { IfOk result (λ sum. HasNumbers sum (total forms.now list.now)) }
 {

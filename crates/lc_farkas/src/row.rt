@@ -4,7 +4,7 @@ use crate::rational::Rational;
 use crate::stop::Stop;
 use std::alloc::Global;
 
-/// So many times a variable.
+/// A multiple of a variable.
 #[derive(Clone, Copy)]
 pub(crate) struct Summand {
     pub(crate) variable: usize,
@@ -17,7 +17,7 @@ pub(crate) struct Row {
     pub(crate) summands: Vec<Summand>,
 }
 
-// Written out and not derived, so that a place where a row is let go has one call.
+// Written out and not derived, so that dropping a row is one call.
 impl Drop for Row {
     fn drop(self) {
         let Row {
@@ -36,7 +36,7 @@ impl Row {
         }
     }
 
-    /// How often a variable stands in it.
+    /// The coefficient of a variable in it.
     pub(crate) fn number_of(&self, variable: usize) -> Rational {
         let place = self
             .summands
@@ -48,7 +48,7 @@ impl Row {
         }
     }
 
-    /// Adds so many times a variable.
+    /// Adds `number` times a variable.
     pub(crate) fn add(&mut self, variable: usize, number: Rational) -> Result<(), Stop> {
         if number.is_zero() {
             return Ok(());
@@ -79,7 +79,7 @@ impl Row {
         Ok(())
     }
 
-    /// Adds so many times another row.
+    /// Adds `factor` times another row.
     pub(crate) fn add_row(&mut self, factor: Rational, other: &Row) -> Result<(), Stop> {
         for summand in &other.summands {
             self.add(summand.variable, factor.times(summand.number)?)?;

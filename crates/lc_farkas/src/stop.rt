@@ -8,7 +8,7 @@ use std::alloc::{AllocError, AllocFailed};
 pub enum Stop {
     /// A number does not fit 128 bits, or is a quotient by 0.
     Large,
-    /// The pivots that were allowed are spent.
+    /// The pivots that were allowed, or the work, are spent.
     Spent,
     /// An allocation was refused.
     OutOfMemory,

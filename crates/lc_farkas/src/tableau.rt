@@ -4,6 +4,7 @@ mod asserting;
 mod model;
 mod pivoting;
 mod spreading;
+mod wholes;
 
 use crate::bound::{Bound, Side};
 use crate::rational::Rational;
@@ -14,7 +15,7 @@ use lc_table::TermId;
 pub use model::Values;
 use std::alloc::Global;
 
-/// So many times a variable, in a sum.
+/// A multiple of a variable, in a sum.
 #[derive(Clone, Copy, PartialEq, Eq, Hash)]
 struct Coefficient {
     variable: usize,
@@ -29,7 +30,7 @@ struct Variable {
     upper: Option<Bound>,
     /// The row whose basic variable it is.
     row: Option<usize>,
-    /// The sum that it stands for; none where it stands for an atom.
+    /// The sum that it stands for; none if it stands for an atom.
     sum: Option<usize>,
 }
 
@@ -54,6 +55,8 @@ pub struct Tableau {
     trail: Vec<Change>,
     /// How many pivots are left.
     left: u64,
+    /// How many rows and summands may still be looked at.
+    work: u64,
     /// What the next choice of `spread` is made of.
     seed: u64,
 }
@@ -68,13 +71,14 @@ impl Drop for Tableau {
             sums: _,
             trail: _,
             left: _,
+            work: _,
             seed: _,
         } = self;
     }
 }
 
 impl Tableau {
-    /// No bounds. So many pivots are allowed in all.
+    /// No bounds. `pivots` pivots are allowed in all.
     pub fn new(alloc: Global, pivots: u64) -> Tableau {
         Tableau {
             alloc,
@@ -84,8 +88,30 @@ impl Tableau {
             sums: IndexMap::new(alloc),
             trail: Vec::new(alloc),
             left: pivots,
+            work: u64::MAX,
             seed: 12345,
         }
+    }
+
+    /// Allows this much work from now on: a unit is a row, or a summand of one, that is looked at.
+    pub fn allow(&mut self, work: u64) {
+        self.work = work;
+    }
+
+    /// Counts units of work. `Spent` if fewer are left.
+    pub fn spend(&mut self, units: usize) -> Result<(), Stop> {
+        self.work = self.work.checked_sub(units as u64).ok_or(Stop::Spent)?;
+        Ok(())
+    }
+
+    fn row_count(&self) -> usize {
+        self.rows.len()
+    }
+
+    /// Counts a look at each row.
+    fn spend_rows(&mut self) -> Result<(), Stop> {
+        let rows = self.row_count();
+        self.spend(rows)
     }
 
     /// Where `undo` goes back to: the bounds as they stand.

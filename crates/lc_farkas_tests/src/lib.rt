@@ -5,3 +5,5 @@
 mod refutation_tests;
 #[cfg(test)]
 mod tableau_tests;
+#[cfg(test)]
+mod whole_tests;

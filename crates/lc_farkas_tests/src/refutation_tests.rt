@@ -6,7 +6,7 @@ use std::alloc::Global;
 use std::test::Fail;
 
 /// So many times a variable.
-fn multiple(
+pub(crate) fn multiple(
     alloc: Global,
     terms: &mut Terms,
     variable: u32,
@@ -17,7 +17,7 @@ fn multiple(
     LinForm::zero(alloc).add_scaled(times, &form)
 }
 
-/// So many times a variable, so many times another one, and a number, added up.
+/// Multiples of two variables and a number, added up.
 pub(crate) fn sum(
     alloc: Global,
     terms: &mut Terms,
@@ -72,7 +72,7 @@ fn forms_are_refuted_or_not(rt: HostRuntime) -> Result<(), Fail> {
     Ok(())
 }
 
-/// `x0 - x1 + 1`, `x1 - x2 + 1` and so on, the last of which comes back to `x0`.
+/// `x0 - x1 + 1`, `x1 - x2 + 1` and so on, the last one coming back to `x0`.
 fn circle(alloc: Global, size: u32) -> Result<Vec<LinForm>, LinFault> {
     let mut terms = Terms::new(alloc);
     let mut forms = Vec::new(alloc);

@@ -1,5 +1,5 @@
 -- The certificate of proofs that were taken, or why none is given.
-use Rattle.std.proofs.Common.{◌≡◌, ℕ, ◌+◌, ◌<◌, inl, inr, List, [], ◌∷◌, ◌++◌, length, append-nil, None, Some, sym, ◌∙◌, subst, arith}
+use Rattle.std.proofs.Common.{◌≡◌, ℕ, ◌+◌, inl, inr, List, [], ◌∷◌, ◌++◌, length, append-nil, None, Some, take, sym, ◌∙◌, subst, arith}
 use Rattle.std.specs.Prelude.{Result, Ok, Err, IfOk, IfErr, true}
 use Rattle.lc_term.specs.Lists.{Every}
 use Rattle.lc_outline.specs.Development.{Development}
@@ -16,8 +16,8 @@ use Rattle.lc_check.specs.Walking.{ProveInTurn}
 use Rattle.lc_find.proofs.FirstHints.{takes_first, hints_prove, hints_are, all_hints, hinted_each, hints_read}
 use Rattle.lc_find.proofs.Passing.{rising_all}
 use Rattle.lc_find.specs.Faults.{IsInRange, IsOkOrNoMemory}
-use Rattle.lc_find.specs.Found.{TakesFirst, IsNoCertificate, IsByHints, Finds, ArePassed, IsUnfound, IsGivenBack}
-use Rattle.lc_find.specs.Hinted.{by_entries, IsHinted, IsFirstHint}
+use Rattle.lc_find.specs.Found.{TakesFirst, IsNoCertificate, IsByHints, Finds, ArePassed, IsFirstWithout, NamesFirst, IsUnfound, IsGivenBack}
+use Rattle.lc_find.specs.Hinted.{by_entries, IsFirstHint}
 use Rattle.lc_find.specs.declared.fault.FindFault.{FindFault}
 use Rattle.lc_find.specs.declared.fault.FindFault.TheVariants.{NotFound, Budget, Large, OutOfMemory}
 
@@ -56,6 +56,13 @@ range_back D es (Err (Budget k)) h = h.0
 range_back D es (Err (Large k)) h = absurd h
 range_back D es (Err OutOfMemory) h = tt
 
+without_back : (D : Development) (hs es : List Entry) (budget : ℕ) (result : Result Certificate FindFault) → ArePassed D hs budget es → IsGivenBack D es result → IfErr result (NamesFirst D hs budget)
+without_back D hs es budget (Ok c) passed h = tt
+without_back D hs es budget (Err (NotFound k)) passed h = absurd h
+without_back D hs es budget (Err (Budget k)) passed h = inr (es, passed, h.1)
+without_back D hs es budget (Err (Large k)) passed h = absurd h
+without_back D hs es budget (Err OutOfMemory) passed h = tt
+
 first_back : (D : Development) (hs es : List Entry) (budget : ℕ) (result : Result Certificate FindFault) → ArePassed D hs budget es → IsGivenBack D es result → IfOk result (λ c. TakesFirst D hs (entries_in c))
 first_back D hs es budget (Ok c) passed h = subst (TakesFirst D hs) (sym h.0) (takes_first D hs es passed.in_turn passed.first)
 first_back D hs es budget (Err fault) passed h = tt
@@ -86,38 +93,48 @@ pub given_back : (D : Development) (hs es : List Entry) (budget : ℕ) (result :
 given_back D hs es budget result made passed h = record {
   accepted = accepted_back D es result h;
   range = range_back D es result h;
+  without = without_back D hs es budget result passed h;
   first = first_back D hs es budget result passed h;
   by = by_back D hs es budget result made passed h;
   unbudgeted = λ zero. unbudgeted_back D hs es result passed.in_turn (passed.hinted zero) h;
 }
 
--- ---- what `find` answers where a condition has no proof
+-- ---- what `find` answers when a condition has no proof
 
 range_unfound : (D : Development) (hs : List Entry) (budget : ℕ) (fault : FindFault) → IsUnfound D hs budget fault → IsInRange (length (conditions D)) fault
-range_unfound D hs budget (NotFound k) h = h.0
-range_unfound D hs budget (Budget k) h = h.0
-range_unfound D hs budget (Large k) h = h.0
+range_unfound D hs budget (NotFound k) h = h.0.range
+range_unfound D hs budget (Budget k) h = h.range
+range_unfound D hs budget (Large k) h = h.0.range
 range_unfound D hs budget OutOfMemory h = tt
 
-not_all : (D : Development) (hs : List Entry) (k : ℕ) → k < length (conditions D) → (IsHinted D hs k → ⊥) → AreProved hs 0 (conditions D) → ⊥
-not_all D hs k lt not proved = not (hinted_each D hs k lt proved)
+without_unfound : (D : Development) (hs : List Entry) (budget : ℕ) (fault : FindFault) → IsUnfound D hs budget fault → NamesFirst D hs budget fault
+without_unfound D hs budget (NotFound k) h = h.0
+without_unfound D hs budget (Budget k) h = inl h
+without_unfound D hs budget (Large k) h = h.0
+without_unfound D hs budget OutOfMemory h = tt
+
+not_all : (D : Development) (hs : List Entry) (budget k : ℕ) → IsFirstWithout D hs budget k → AreProved hs 0 (conditions D) → ⊥
+not_all D hs budget k h proved = h.unhinted (hinted_each D hs k h.range proved)
 
 by_unfound : (A : Type 0) (D : Development) (hs : List Entry) (budget : ℕ) (fault : FindFault) → IsUnfound D hs budget fault → AreProved hs 0 (conditions D) → IsOkOrNoMemory {A = A} (Err fault)
-by_unfound A D hs budget (NotFound k) h proved = not_all D hs k h.0 h.1 proved
-by_unfound A D hs budget (Budget k) h proved = not_all D hs k h.0 h.1 proved
-by_unfound A D hs budget (Large k) h proved = not_all D hs k h.0 h.1 proved
+by_unfound A D hs budget (NotFound k) h proved = not_all D hs budget k h.0 proved
+by_unfound A D hs budget (Budget k) h proved = not_all D hs budget k h proved
+by_unfound A D hs budget (Large k) h proved = not_all D hs budget k h.0 proved
 by_unfound A D hs budget OutOfMemory h proved = tt
 
 unbudgeted_unfound : (D : Development) (hs : List Entry) (budget : ℕ) (fault : FindFault) → IsUnfound D hs budget fault → budget ≡ 0 → IsByHints D hs (Err fault)
-unbudgeted_unfound D hs budget (NotFound k) h zero = h.2 zero
-unbudgeted_unfound D hs budget (Budget k) h zero = inl (h.2 zero, h.1)
-unbudgeted_unfound D hs budget (Large k) h zero = h.2 zero
+unbudgeted_unfound D hs budget (NotFound k) h zero = h.1 zero
+unbudgeted_unfound D hs budget (Budget k) h zero =
+    let (es, passed) = h.below in
+    inl (hints_prove hs es 0 (take k (conditions D)) passed.in_turn (passed.hinted zero), h.unhinted)
+unbudgeted_unfound D hs budget (Large k) h zero = h.1 zero
 unbudgeted_unfound D hs budget OutOfMemory h zero = tt
 
 pub unfound : (D : Development) (hs : List Entry) (budget : ℕ) (fault : FindFault) → IsUnfound D hs budget fault → Finds D hs budget (Err fault)
 unfound D hs budget fault h = record {
   accepted = tt;
   range = range_unfound D hs budget fault h;
+  without = without_unfound D hs budget fault h;
   first = tt;
   by = λ read proved fits. by_unfound Certificate D hs budget fault h proved;
   unbudgeted = unbudgeted_unfound D hs budget fault h;

@@ -87,7 +87,7 @@ hints_are hs (e ∷ es) n (c ∷ cs) h hints =
     let at = subst (λ k. proof_at hs k ≡ Some e.proof) h.0 hints.0 in
     ap (λ o. entries_by n o ++ by_entries hs (suc n) cs) at ∙ ap₂ (λ k l. record { number = k; proof = e.proof } ∷ l) (sym h.0) (hints_are hs es (suc n) cs h.2 hints.1)
 
--- where the hints prove all, they are taken
+-- if the hints prove all, they are taken
 all_from : (D : Development) (hs es : List Entry) (n : ℕ) (cs : List Condition) → ProveInTurn n es cs → AreProved hs n cs
     → ((j : ℕ) (c : Condition) → slice_get cs j ≡ Some c → slice_get (conditions D) (n + j) ≡ Some c) → Every (IsFirstTaken D hs) es → Every (IsFirstHint hs) es
 all_from D hs [] n cs h proved there taken = tt
@@ -101,14 +101,14 @@ all_from D hs (e ∷ es) n (c ∷ cs) h proved there taken =
 pub all_hints : (D : Development) (hs es : List Entry) → ProveInTurn 0 es (conditions D) → AreProved hs 0 (conditions D) → Every (IsFirstTaken D hs) es → Every (IsFirstHint hs) es
 all_hints D hs es h proved taken = all_from D hs es 0 (conditions D) h proved (λ j c at. subst (λ k. slice_get (conditions D) k ≡ Some c) (sym (zero-add j)) at) taken
 
--- they prove the conditions that are done
-pub hinted_below : (D : Development) (hs taken : List Entry) (w : Walk) → IsInTurn D taken w → Every (IsFirstHint hs) taken → AreProved hs 0 (take w.next (conditions D))
-hinted_below D hs taken w h hints =
+-- the proofs that were taken prove the conditions below the next one
+pub taken_below : (D : Development) (taken : List Entry) (w : Walk) → IsInTurn D taken w → ProveInTurn 0 taken (take w.next (conditions D))
+taken_below D taken w h =
     let seam = take-append_seam h.done (conditions_due D w) in
     let done : take w.next (conditions D) ≡ h.done = ap₂ (λ n l. take n l) h.count h.all ∙ seam in
-    subst (AreProved hs 0) (sym done) (hints_prove hs taken 0 h.done h.proved hints)
+    subst (ProveInTurn 0 taken) (sym done) h.proved
 
--- where they prove all, they prove each
+-- if they prove all, they prove each
 proved_from : (hs : List Entry) (n j : ℕ) (cs : List Condition) (c : Condition) → AreProved hs n cs → slice_get cs j ≡ Some c → IsProved c (proof_at hs (n + j))
 proved_from hs n j [] c h at = absurd (let none : None ≡ Some c = at in cc)
 proved_from hs n zero (d ∷ cs) c h at = let is : Some d ≡ Some c = at in let same : d ≡ c = cc in subst (λ x. IsProved x (proof_at hs (n + 0))) same (subst (λ k. IsProved d (proof_at hs k)) (sym (add-zero n)) h.0)
@@ -119,10 +119,13 @@ some_at [] k lt = absurd (omega (arith, lt))
 some_at (c ∷ cs) zero lt = (c, refl)
 some_at (c ∷ cs) (suc k) lt = some_at cs k (omega (arith, lt))
 
+pub proved_at : (D : Development) (hs : List Entry) (k : ℕ) (c : Condition) → AreProved hs 0 (conditions D) → slice_get (conditions D) k ≡ Some c → IsProved c (proof_at hs k)
+proved_at D hs k c h at = subst (λ n. IsProved c (proof_at hs n)) (zero-add k) (proved_from hs 0 k (conditions D) c h at)
+
 pub hinted_each : (D : Development) (hs : List Entry) (k : ℕ) → k < length (conditions D) → AreProved hs 0 (conditions D) → IsHinted D hs k
 hinted_each D hs k lt h =
     let (c, at) = some_at (conditions D) k lt in
-    (c, at, subst (λ n. IsProved c (proof_at hs n)) (zero-add k) (proved_from hs 0 k (conditions D) c h at))
+    (c, at, proved_at D hs k c h at)
 
 -- ---- what holds of each proof
 

@@ -3,3 +3,4 @@ mod FirstHints
 mod Passing
 mod Taken
 mod Ending
+mod CarriedHold

@@ -11,19 +11,18 @@ use Rattle.lc_cond.specs.Conditions as S
 use Rattle.lc_cond.specs.Conditions.{conditions}
 use Rattle.lc_cond.specs.ConditionView.{condition_in}
 use Rattle.lc_check.proofs.Walking.{split, went_on, some_left, due_behind, next_due}
-use Rattle.lc_check.specs.Verdicts.{AreProved}
 use Rattle.lc_check.specs.Walking.{ProveInTurn, conditions_due, HasNext, IsInTurn, IsAtDue, IsOneOn}
 use Rattle.lc_check.specs.declared.walk.Walk.{Walk}
-use Rattle.lc_find.proofs.FirstHints.{hinted_below}
-use Rattle.lc_find.specs.Found.{IsUnfound}
-use Rattle.lc_find.specs.Hinted.{IsHinted, IsFirstHint}
+use Rattle.lc_find.proofs.FirstHints.{taken_below}
+use Rattle.lc_find.specs.Found.{IsFirstWithout, IsUnfound}
+use Rattle.lc_find.specs.Hinted.{IsHinted, IsFirstHint, IsFirstTaken}
 use Rattle.lc_find.specs.Taken.{IsTaken}
 use Rattle.lc_find.specs.declared.fault.FindFault.{FindFault}
 use Rattle.lc_find.specs.declared.fault.FindFault.TheVariants.{NotFound, Budget, Large, OutOfMemory}
 
 -- ---- one proof more
 
--- from where the same conditions are due
+-- from a walk with the same conditions expected
 pub one_on_after : (D : Development) (e : Entry) (old mid new : Walk) → IsAtDue D old mid → IsOneOn D e mid new → IsOneOn D e old new
 one_on_after D e old mid new at one =
     let same = ap length at.due in
@@ -39,18 +38,24 @@ next_in_range D taken w lt h =
     let before = h.count in
     omega (arith, all, size, before)
 
+-- it is the first without a proof
+first_without : (D : Development) (hs taken : List Entry) (budget k : ℕ) (w : Walk) → IsInTurn D taken w → HasNext w → Every (IsFirstTaken D hs) taken → (budget ≡ 0 → Every (IsFirstHint hs) taken)
+    → k ≡ w.next → (IsHinted D hs w.next → ⊥) → IsFirstWithout D hs budget k
+first_without D hs taken budget k w h lt first hints is not =
+    let range = next_in_range D taken w lt h in
+    record {
+      range = omega (arith, is, range);
+      unhinted = λ x. not (subst (λ n. IsHinted D hs n) is x);
+      below = (taken, record { in_turn = subst (λ n. ProveInTurn 0 taken (take n (conditions D))) (sym is) (taken_below D taken w h); first = first; hinted = hints });
+    }
+
 -- no proof was taken of it
-pub none_taken : (D : Development) (hs taken : List Entry) (budget : ℕ) (w new : Walk) (fault : FindFault) → IsInTurn D taken w → HasNext w → (budget ≡ 0 → Every (IsFirstHint hs) taken) → IsTaken D hs budget w new (Err fault)
-    → IsUnfound D hs budget fault
-none_taken D hs taken budget w new (NotFound k) h lt hints (is, not, some) = let range = next_in_range D taken w lt h in (omega (arith, is, range), λ x. not (subst (λ n. IsHinted D hs n) is x), some)
-none_taken D hs taken budget w new (Large k) h lt hints (is, not, some) = let range = next_in_range D taken w lt h in (omega (arith, is, range), λ x. not (subst (λ n. IsHinted D hs n) is x), some)
-none_taken D hs taken budget w new (Budget k) h lt hints (is, not) =
-    let range = next_in_range D taken w lt h in (
-      omega (arith, is, range),
-      λ x. not (subst (λ n. IsHinted D hs n) is x),
-      λ zero. subst (λ n. AreProved hs 0 (take n (conditions D))) (sym is) (hinted_below D hs taken w h (hints zero)),
-    )
-none_taken D hs taken budget w new OutOfMemory h lt hints taken' = tt
+pub none_taken : (D : Development) (hs taken : List Entry) (budget : ℕ) (w new : Walk) (fault : FindFault) → IsInTurn D taken w → HasNext w → Every (IsFirstTaken D hs) taken → (budget ≡ 0 → Every (IsFirstHint hs) taken)
+    → IsTaken D hs budget w new (Err fault) → IsUnfound D hs budget fault
+none_taken D hs taken budget w new (NotFound k) h lt first hints (is, not, some) = (first_without D hs taken budget k w h lt first hints is not, some)
+none_taken D hs taken budget w new (Large k) h lt first hints (is, not, some) = (first_without D hs taken budget k w h lt first hints is not, some)
+none_taken D hs taken budget w new (Budget k) h lt first hints (is, not) = first_without D hs taken budget k w h lt first hints is not
+none_taken D hs taken budget w new OutOfMemory h lt first hints taken' = tt
 
 -- ---- all proofs
 

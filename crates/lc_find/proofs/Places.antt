@@ -1,5 +1,5 @@
--- Where proofs stand first.
-use Rattle.std.proofs.Common.{◌≡◌, ◌≢◌, ℕ, zero, suc, ◌+◌, ◌⊎◌, inl, inr, Bool, true, false, cond, List, [], ◌∷◌, ◌++◌, Option, Some, None, option_map, slice_get, refl, sym, ap, subst, ◌∙◌, arith}
+-- The first places of proofs.
+use Rattle.std.proofs.Common.{◌≡◌, ◌≢◌, ℕ, suc, ◌+◌, ◌⊎◌, inl, inr, Bool, true, false, cond, List, [], ◌∷◌, ◌++◌, Option, Some, None, option_map, slice_get, refl, sym, ap, ◌∙◌, arith}
 use Rattle.std.proofs.lemmas.Bool.Decides.{eqb_tells}
 use Rattle.std.specs.Prelude.{◌==◌}
 use Rattle.std.specs.Option.{option_or}
@@ -23,7 +23,7 @@ by_first e es n (inl (here, same)) h = ap (λ b. proof_of_place (e ∷ es) (cond
 by_first e es n (inr (there, other)) h =
     ap (λ b. proof_of_place (e ∷ es) (cond b (Some 0) (option_map suc (place_at es n)))) there ∙ one_later e es (place_at es n) ∙ h ∙ sym (at_other e es n (λ same. other (sym same)))
 
--- the first proof of a number stands at the place where the number stands first
+-- the first proof of a number is at the first place of the number
 pub at_place : (es : List Entry) (n : ℕ) → proof_of_place es (place_at es n) ≡ proof_at es n
 at_place [] n = refl
 at_place (e ∷ es) n = by_first e es n (eqb_tells n e.number) (at_place es n)
@@ -48,7 +48,7 @@ first_of_two : (here : Bool) (p : Proof) (o r : Option Proof) → cond here (Som
 first_of_two true p o r = refl
 first_of_two false p o r = refl
 
--- the first proof of a number among these, and else among those behind them
+-- the first proof of a number among these, and else among those after them
 pub proof_at-append : (es fs : List Entry) (n : ℕ) → proof_at (es ++ fs) n ≡ option_or (proof_at es n) (proof_at fs n)
 proof_at-append [] fs n = refl
 proof_at-append (e ∷ es) fs n = ap (cond (e.number == n) (Some e.proof)) (proof_at-append es fs n) ∙ first_of_two (e.number == n) e.proof (proof_at es n) (proof_at fs n)

@@ -12,7 +12,7 @@ use Rattle.lc_find.specs.Taken.{IsHintTaken, IsSought, IsTaken}
 use Rattle.lc_find.specs.declared.fault.FindFault.{FindFault}
 use Rattle.lc_find.specs.declared.fault.FindFault.TheVariants.{NotFound, Budget, Large, OutOfMemory}
 
--- what was sought, where the first hint does not hold
+-- what was sought, if the first hint does not hold
 pub sought_taken : (D : Development) (hs : List Proved) (budget : ℕ) (old mid new : Walk) (result : Result Entry FindFault) → IsHintTaken D hs old mid None → IsSought D budget mid new result → IsTaken D hs budget old new result
 sought_taken D hs budget old mid new (Ok e) (at, stands, not) (one, number, some) =
     (one_on_after D (entry_of e) old mid new at one, other_taken D hs (entry_of e) old.next (number ∙ at.next) not, λ zero. absurd (some zero))

@@ -18,7 +18,7 @@ IsHinted D hs k = IsProvedAt D k (proof_at hs k)
 abbrev pub IsFirstHint : List Entry → Entry → Type 0
 IsFirstHint hs e = proof_at hs e.number ≡ Some e.proof
 
--- the first that the hints have is taken, where it holds
+-- the first that the hints have is taken, if it holds
 abbrev pub IsFirstTaken : Development → List Entry → Entry → Type 0
 IsFirstTaken D hs e = IsHinted D hs e.number → IsFirstHint hs e
 

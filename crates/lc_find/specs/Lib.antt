@@ -5,3 +5,4 @@ pub mod FirstProofs
 pub mod FirstView
 pub mod Taken
 pub mod Found
+pub mod GetsCarried

@@ -15,7 +15,7 @@ abbrev pub IsHintTaken : Development → List Proved → Walk → Walk → Optio
 IsHintTaken D hs before after (Some e) = IsOneOn D (entry_of e) before after × IsFirstHint hs (entry_of e)
 IsHintTaken D hs before after None = IsAtDue D before after × HasNext after × (IsHinted D hs before.next → ⊥)
 
--- a proof was found, by some budget; or it is told of the next condition why none was
+-- a proof was found, by some budget; or the reason why none was found for the next condition
 abbrev pub IsSought : Development → ℕ → Walk → Walk → Result Entry FindFault → Type 0
 IsSought D budget before after (Ok e) = IsOneOn D (entry_of e) before after × (e.number ≡ before.next) × (budget ≡ 0 → ⊥)
 IsSought D budget before after (Err (NotFound k)) = (k ≡ before.next) × (budget ≡ 0 → ⊥)
@@ -23,7 +23,8 @@ IsSought D budget before after (Err (Budget k)) = k ≡ before.next
 IsSought D budget before after (Err (Large k)) = (k ≡ before.next) × (budget ≡ 0 → ⊥)
 IsSought D budget before after (Err OutOfMemory) = Unit {0}
 
--- a proof was taken, the first hint where that holds, and without budget only that; or it is told of the next condition, whose first hint does not hold, why none was
+-- a proof was taken, the first hint if that holds, and without budget only that; or, for the next condition, whose first hint does not hold, the
+-- reason why none was
 abbrev pub IsTaken : Development → List Proved → ℕ → Walk → Walk → Result Entry FindFault → Type 0
 IsTaken D hs budget before after (Ok e) = IsOneOn D (entry_of e) before after × IsFirstTaken D hs (entry_of e) × (budget ≡ 0 → IsFirstHint hs (entry_of e))
 IsTaken D hs budget before after (Err (NotFound k)) = (k ≡ before.next) × (IsHinted D hs before.next → ⊥) × (budget ≡ 0 → ⊥)

@@ -5,7 +5,7 @@ use lc_cert::Entry;
 use lc_kernel::Proof;
 use std::alloc::Global;
 
-/// Proofs that are given, and behind them those of the hints.
+/// Proofs that are given, followed by those of the hints.
 pub(crate) struct Candidates<'a> {
     given: FirstProofs<'a>,
     hinted: FirstProofs<'a>,

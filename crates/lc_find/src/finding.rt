@@ -38,7 +38,15 @@ fn found_entries<P: Progress>(
             return Ok(entries);
         }
         progress.reached(walk.next);
-        let entry = match next_entry(alloc, development, &mut walk, &first, hints, budget) {
+        let entry = match next_entry(
+            alloc,
+            development,
+            &mut walk,
+            &first,
+            hints,
+            budget,
+            progress,
+        ) {
             Ok(entry) => entry,
             Err(fault) => return Err(fault),
         };
@@ -46,13 +54,13 @@ fn found_entries<P: Progress>(
     }
 }
 
-/// Finds a certificate of a development. Each condition gets the first proof that the hints have for it, where that holds; for
-/// the others a proof is sought, in at most so many steps each.
+/// Finds a certificate of a development. Each condition gets the first proof that the hints have for it, if that holds; for
+/// the others a proof is sought, in at most `budget` steps each.
 ///
-/// `certificate_text` of what is found is accepted by `check`, with any text of the development. Where no certificate is
-/// found, the fault names the first condition without a proof. `Budget` is also told of a condition whose proof makes the
-/// text too large or too deep. Where the first hint of each condition holds and the text is within the limits of a file, no
-/// fault is told but want of memory. With budget 0 nothing is sought.
+/// `certificate_text` of what is found is accepted by `check`, with any text of the development. If no certificate is
+/// found, the fault names the first condition without a proof. `Budget` is also reported of a condition whose proof makes the
+/// text too large or too deep. If the first hint of each condition holds and the text is within the limits of a file, no
+/// fault is reported but `OutOfMemory`. With budget 0 nothing is sought.
 pub fn find(
     alloc: Global,
     development: &Development,
@@ -77,7 +85,7 @@ pub fn find_with<P: Progress>(
     find_beside(alloc, development, &[], hints, budget, progress)
 }
 
-/// As `find_with`, where some proofs are given beside the hints, and stand before those of the hints.
+/// As `find_with`, with some proofs given beside the hints; they come before those of the hints.
 pub(crate) fn find_beside<P: Progress>(
     alloc: Global,
     development: &Development,

@@ -11,7 +11,7 @@ use lc_cert::Entry;
 use lc_kernel::Proof;
 use std::alloc::Global;
 
-/// Proofs in the order of their file, and for each number the place at which it stands first.
+/// Proofs in the order of their file, and for each number its first place.
 pub(crate) struct FirstProofs<'a> {
     entries: &'a [Entry],
     places: IndexMap<u64, usize>,
@@ -27,7 +27,7 @@ impl Drop for FirstProofs<'_> {
     }
 }
 
-/// Notes the place of a number, unless it stands at one already.
+/// Notes the place of a number, unless it has one already.
 fn note_place(
     places: &mut IndexMap<u64, usize>,
     number: u64,

@@ -3,11 +3,11 @@ ghost use Rattle.std.specs.Prelude.{◌<◌};
 
 use lc_base::{DEPTH_LIMIT, FILE_LIMIT};
 
-/// The bytes behind the last proof: a bracket and the end of the line.
+/// The bytes after the last proof: a bracket and the end of the line.
 const LAST_BYTES: u64 = 2;
 
 /// The least number of a proof with which a certificate's text, whose proofs are numbered from 0, is too large or too deep;
-/// of the last one where none is.
+/// of the last one if none is.
 pub(crate) fn number_beyond(text: &[u8], count: u64) -> u64
     requires { 0 < count }
     ensures { result < count }

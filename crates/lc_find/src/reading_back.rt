@@ -19,7 +19,7 @@ use lc_check::proven_count;
 use lc_outline::Development;
 use std::alloc::Global;
 
-/// Where a development has no conditions, the certificate without proofs is accepted.
+/// If a development has no conditions, the certificate without proofs is accepted.
 fn an_empty_certificate_reads_back(development: &Development)
     ensures { let D = development_shown development.now in Certifies D (certificate_line D []) [] }
 {

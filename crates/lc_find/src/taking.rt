@@ -8,6 +8,7 @@ ghost use Rattle.lc_find.specs.Taken.{IsHintTaken, IsSought, IsTaken};
 
 use crate::candidates::Candidates;
 use crate::fault::FindFault;
+use crate::progress::Progress;
 use lc_base::{FILE_LIMIT, Fault, OutOfMemory};
 use lc_cert::Entry;
 use lc_check::Walk;
@@ -54,13 +55,14 @@ fn sought(alloc: Global, walk: &Walk, hints: &Hints, budget: u64) -> Result<End,
     Ok(searched.end)
 }
 
-/// A proof of the next condition that is sought, in at most so many steps.
-fn sought_entry(
+/// A proof of the next condition that is sought, in at most `budget` steps; reports the model in which the search ended, if it did.
+fn sought_entry<P: Progress>(
     alloc: Global,
     development: &Development,
     walk: &mut Walk,
     hints: &Hints,
     budget: u64,
+    progress: &mut P,
 ) -> Result<Entry, FindFault>
     requires in_turn { (taken : List Proved) × IsInTurn (development_shown development.now) taken walk.old }
     requires stands { HasNext walk.old }
@@ -72,7 +74,10 @@ fn sought_entry(
     }
     let proof = match sought(alloc, walk, hints, budget)? {
         End::Found(proof) => proof,
-        End::NotFound(_) => return Err(FindFault::NotFound(number)),
+        End::NotFound(model) => {
+            progress.ended(model);
+            return Err(FindFault::NotFound(number));
+        }
         End::Spent => return Err(FindFault::Budget(number)),
         End::Large => return Err(FindFault::Large(number)),
     };
@@ -87,13 +92,14 @@ fn sought_entry(
 }
 
 /// A proof of the next condition.
-pub(crate) fn next_entry(
+pub(crate) fn next_entry<P: Progress>(
     alloc: Global,
     development: &Development,
     walk: &mut Walk,
     first: &Candidates<'_>,
     hints: &Hints,
     budget: u64,
+    progress: &mut P,
 ) -> Result<Entry, FindFault>
     requires in_turn { (taken : List Proved) × IsInTurn (development_shown development.now) taken walk.old }
     requires stands { HasNext walk.old }
@@ -102,7 +108,7 @@ pub(crate) fn next_entry(
 {
     match hinted_entry(alloc, development, walk, first) {
         Ok(Some(entry)) => Ok(entry),
-        Ok(None) => sought_entry(alloc, development, walk, hints, budget),
+        Ok(None) => sought_entry(alloc, development, walk, hints, budget, progress),
         Err(OutOfMemory) => Err(FindFault::OutOfMemory),
     }
 }

@@ -1,4 +1,4 @@
--- What is answered of a file of hints.
+-- What is returned for a file of hints.
 use Rattle.std.proofs.Common.{◌≡◌, ℕ, List, Ok, Err, refl, ◌∙◌}
 use Rattle.std.specs.Prelude.{Result}
 use Rattle.std.specs.Result.{IsErrAnd}

@@ -6,7 +6,7 @@ use Rattle.lc_term.specs.Lists.{Every, concat_map}
 use Rattle.lc_term.proofs.Stores.{Every-append}
 use Rattle.lc_hints.specs.HintView.{items_of}
 
--- what the last of a list makes stands last
+-- what the last element of a list gives is last
 pub joined_last : {A B : Type 0} (f : A → List B) (xs : List A) (x : A) → concat_map f (xs ++ x ∷ []) ≡ concat_map f xs ++ f x
 joined_last f [] x = append-nil (f x)
 joined_last f (y ∷ xs) x = ap (λ r. f y ++ r) (joined_last f xs x) ∙ sym (append_assoc (f y) (concat_map f xs) (f x))
@@ -21,7 +21,7 @@ pub no_more : {A : Type 0} (b : Bool) (xs : List A) → xs ≡ xs ++ cond b [] [
 no_more true xs = sym (append-nil xs)
 no_more false xs = sym (append-nil xs)
 
--- what is found for a number, where more was added for one
+-- what is found for a number, if more was added for one
 pub at_added : {T : Type 0} (b : Bool) (all more : Vec T Global) (first old mid new : Option (Vec T Global)) → (b ≡ true → old ≡ first) → all.items ≡ items_of first ++ more.items
     → mid ≡ cond b None old → new ≡ cond b (Some all) mid → items_of new ≡ items_of old ++ cond b more.items []
 at_added true all more first old mid new same joined taken put = ap items_of put ∙ joined ∙ ap (λ o. items_of o ++ more.items) (sym (same refl))

@@ -32,7 +32,7 @@ use Rattle.lc_hints.specs.Readings.{use_hint, cut_hint, by_hint, head_of, terms_
 use Rattle.lc_hints.specs.declared.reading.Head.{Head}
 use Rattle.lc_hints.specs.declared.reading.Head.TheVariants as H
 
--- what holds of each item that is read, of no more items than so many
+-- what holds of each item that is read, with at most `most` items
 each_fine : {X : Type 0} (P : X → Type 0) (most : ℕ) (read : ℕ → Tree → Reading X) (m : ℕ) (ts : Trees) → ((n : ℕ) (t : Tree) → item_count t ≤ most → IfFine (read n t) P)
     → item_count_of_all ts ≤ most → IfFine (each_reading read m ts) (Every P)
 each_fine P most read m none one few = tt

@@ -9,7 +9,7 @@ use Rattle.lc_hints.specs.HintView.{HasHints}
 use Rattle.lc_hints.specs.Readings.{hints_reading}
 use Rattle.lc_hints.specs.declared.hints.Hints.{Hints}
 
--- the answer to the bytes of hints for this development: the hints that they say; else their first refusal, or want of memory
+-- the answer to the bytes of hints for this development: the hints that they say; else their first refusal, or out of memory
 abbrev pub IsAnswerTo : Development → List ℕ → Result Hints Fault → Type 0
 IsAnswerTo D bytes (Ok hints) = (hs : List Hint) × Says (hints_reading D) bytes hs × HasHints hs hints
 IsAnswerTo D bytes (Err (Refused refusal)) = IsFirstRefusal (hints_reading D) bytes refusal

@@ -1,4 +1,4 @@
--- What a text reads as where hints are due.
+-- What a text reads as where hints are expected.
 use Rattle.std.specs.Prelude.{ℕ, ℤ, ◌+◌, codes, if◌then◌else◌, List, [], Option, Some, None}
 use Rattle.lc_sexp.specs.Trees.{Tree, Trees, atom, list, none, ◌▸◌, item_count, item_count_of_all}
 use Rattle.lc_reading.specs.Readings.{Reading, wrong, mapped, both, two_of, behind_reading}
@@ -69,7 +69,7 @@ hint_with names n m ts (Some H.Use) = use_reading names n m ts
 hint_with names n m ts (Some H.Cut) = cut_reading names n m ts
 hint_with names n m ts (Some H.By) = by_reading names n m ts
 
--- the item n where a hint is due
+-- the item n, where a hint is expected
 abbrev pub hint_reading : Names → ℕ → Tree → Reading Hint
 hint_reading names n (list (atom w ▸ ts)) = hint_with names n (n + 2) ts (head_of w)
 hint_reading names n _ = wrong Shape n
@@ -78,7 +78,7 @@ hint_reading names n _ = wrong Shape n
 abbrev pub form_reading : Names → ℕ → Tree → Reading (List Hint)
 form_reading names n t = behind_reading (codes "hints") (λ n m ts. each_reading (hint_reading names) m ts) n t
 
--- the form of the file, and no other. One that is missing is told at the number of items
+-- the form of the file, and no other. A missing one is reported at the number of items
 abbrev pub file_reading : Names → Trees → Reading (List Hint)
 file_reading names ts = only (form_reading names) (item_count_of_all ts) 0 ts
 

@@ -17,7 +17,7 @@ impl<T: Drop> Drop for ByNumber<T> {
     }
 }
 
-/// These behind the first ones, if there are any.
+/// The first ones, if there are any, followed by these.
 fn joined<T: Drop>(first: Option<Vec<T>>, more: Vec<T>) -> Result<Vec<T>, OutOfMemory>
     ensures { IfOk result (λ all. all.items ≡ items_of first ++ more.items) }
 {
@@ -52,7 +52,7 @@ impl<T: Drop> ByNumber<T> {
         }
     }
 
-    /// Puts these behind those of this number.
+    /// Appends these to those of this number.
     pub(crate) fn add(&mut self, number: u64, items: Vec<T>) -> Result<(), OutOfMemory>
         ensures { OnOk result ((k : ℕ) → items_at self.new k ≡ items_at self.old k ++ (if number == k then items.items else [])) }
     {

@@ -13,7 +13,7 @@ pub(crate) enum Advice {
     By(Proof),
 }
 
-/// A hint, and the number of the condition that it is for, where there is one of that number.
+/// A hint, and the number of the condition that it is for, if there is one of that number.
 #[derive(Drop)]
 pub(crate) struct Hint {
     pub(crate) number: i64,

@@ -134,7 +134,7 @@ fn read_by<S: Scope>(alloc: Global, scope: &S, list: Cursor<'_>) -> Result<Hint,
     }
 }
 
-/// What stands in a list behind this word.
+/// What a list has after this word.
 fn read_headed<S: Scope>(
     alloc: Global,
     scope: &S,
@@ -193,7 +193,7 @@ fn read_form<S: Scope>(alloc: Global, scope: &S, part: Part<'_>) -> Result<Vec<H
     read_each(alloc, &Each(scope), list)
 }
 
-/// The form of a file of hints, which is all that is left in a list.
+/// The form of a file of hints, which must be the whole rest of a list.
 fn read_file(
     alloc: Global,
     columns: &NameTable<'_>,
@@ -206,7 +206,7 @@ fn read_file(
     ended(read_form(alloc, &scope, form), rest)
 }
 
-/// The hints for a development in the file of which these are the forms. Where they are none, `Refused` has the first refusal,
+/// The hints for a development in the file with these forms. If they are none, `Refused` has the first refusal,
 /// as in `hints_of`.
 pub fn hints_in(alloc: Global, development: &Development, forms: Forms) -> Result<Hints, Fault>
     requires { (bytes : List ℕ) × ReadsAs bytes forms }
@@ -223,11 +223,11 @@ pub fn hints_in(alloc: Global, development: &Development, forms: Forms) -> Resul
 }
 
 /// The hints for a development that these bytes are: `(hints ((use K T+) | (cut K F) | (by K P))*)`, each K a NUMBER. A
-/// hint for no condition is let go, or never asked for.
+/// hint for no condition is dropped, or never asked for.
 ///
-/// Where they are none, `Refused` has the first refusal, as of a formula file: `Text` with the offset of the first text
+/// If they are none, `Refused` has the first refusal, as of a formula file: `Text` with the offset of the first text
 /// fault; else of `Shape`, `Unknown`, `Repeated`, `Auxiliary` and `Bound`, in this order, the first for which an item is
-/// wrong, with the least such item. `OutOfMemory` says nothing of the bytes.
+/// wrong, with the least such item. `OutOfMemory` says nothing about the bytes.
 pub fn hints_of(alloc: Global, development: &Development, bytes: &[u8]) -> Result<Hints, Fault>
     ensures answer { IsAnswerTo (development_shown development.now) bytes.now result }
     ensures back { IfOk result (λ hints. Every (EntryReadsBack (development_shown development.now)) (proofs_in hints)) }

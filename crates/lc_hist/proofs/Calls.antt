@@ -1,4 +1,4 @@
--- A client's entries are its returned calls with their replies, with or without its pending call, exactly where they
+-- A client's entries are its returned calls with their replies, with or without its pending call, exactly if they
 -- match its calls and its replies one by one.
 use Rattle.std.proofs.Common.{◌≡◌, ℕ, zero, suc, ◌+◌, ◌≤◌, Bool, true, false, ◌==◌, cond, ◌⊎◌, List, [], ◌∷◌, ◌++◌, ℤ, Option, Some, None, take, slice_get, length, refl, ap, inl, inr, arith}
 use Rattle.lc_seq.specs.Sequential.{Call}
@@ -30,7 +30,7 @@ Matches (x ∷ xs) [] rs = ⊥
 Matches (x ∷ xs) (c ∷ cs) [] = (x.0 ≡ c) × Matches xs cs []
 Matches (x ∷ xs) (c ∷ cs) (r ∷ rs) = (x.0 ≡ c) × (x.1 ≡ r) × Matches xs cs rs
 
--- where n calls of c are open before, its calls and returns take turns
+-- if n calls of c are open before, its calls and returns take turns
 pub record TakesTurns (c n : ℕ) (h : List Event) : Type 0 where
   pub calls : (i : ℕ) (call : Call) → slice_get h i ≡ Some (Called c call) → n + count (is_call c) (take i h) ≡ count (is_return c) (take i h)
   pub returns : (i : ℕ) (reply : List ℤ) → slice_get h i ≡ Some (Replied c reply) → n + count (is_call c) (take i h) ≡ suc (count (is_return c) (take i h))

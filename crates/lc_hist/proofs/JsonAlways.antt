@@ -11,10 +11,12 @@ use Rattle.serde_json.specs.Read.{read}
 use Rattle.lc_seq.specs.Specification.{Operation}
 use Rattle.lc_hist.specs.History.{Event, Entry}
 use Rattle.lc_hist.specs.JsonHistories.{Parts, parts_in, HasParts, IsNext, AreEvents, AreEntries, IsFirstWrongEvent, IsFirstWrongEntry, IsWrongItem, SaysHistory}
+use Rattle.lc_hist.specs.JsonRecorded.{recorded_in, HasRecorded, IsWrongRecordedItem, SaysRecorded}
 use Rattle.lc_hist.specs.JsonSeen.{may_follow}
 use Rattle.lc_hist.specs.JsonValues.{all_in, event_in, entry_in}
 use Rattle.lc_hist.specs.WellFormed.{client_of}
 use Rattle.lc_hist.proofs.JsonAnswers.{no_form}
+use Rattle.lc_hist.proofs.JsonOnce.{SaysBy, IsWrongBy}
 use Rattle.lc_hist.proofs.JsonEvents.{AreOpen, table_by, table_next, next_event, take_front, open_next, follows, is_next, is_no_next, within_limit}
 
 -- ---- events
@@ -39,7 +41,7 @@ wrong_behind operations front d ds before are wrong = inr (
   },
 )
 
--- what is left behind a front of right events is right, or has a first wrong one
+-- what is left after a front of right events is right, or has a first wrong one
 abbrev Onward : List Operation → List Data → Type 0
 Onward operations ds = (front : List Data) (before : List Event) → AreEvents operations front before → AreOpen before (table_by before) → AreRightOrWrong operations (front ++ ds)
 
@@ -90,35 +92,68 @@ entries_or_wrong operations (d ∷ ds) = entry_or_wrong operations d ds (entries
 
 -- ---- the whole
 
-abbrev HasSome : List ℕ → Type 0
-HasSome bytes = ((parts : Parts) × HasParts bytes parts) ⊎ ((parts : Parts) → HasParts bytes parts → ⊥)
+-- a text has parts, by a function of its value, or has none
+abbrev HasSome : (Data → Option Parts) → List ℕ → Type 0
+HasSome parts_by bytes =
+    ((parts : Parts) × (length bytes ≤ file_limit) × IsUtf8 bytes × (option_and_then parts_by (read bytes) ≡ Some parts))
+    ⊎ ((parts : Parts) → length bytes ≤ file_limit → IsUtf8 bytes → option_and_then parts_by (read bytes) ≡ Some parts → ⊥)
 
-read_or_not : (bytes : List ℕ) → length bytes ≤ file_limit → IsUtf8 bytes → (said : Option Parts) → option_and_then parts_in (read bytes) ≡ said → HasSome bytes
-read_or_not bytes limit utf8 None is = inr (λ parts has. let reads = has.reads in absurd (cc (is, reads)))
-read_or_not bytes limit utf8 (Some parts) is = inl (parts, record { limit = limit; utf8 = utf8; reads = is })
+read_or_not : (parts_by : Data → Option Parts) (bytes : List ℕ) → length bytes ≤ file_limit → IsUtf8 bytes → (said : Option Parts) → option_and_then parts_by (read bytes) ≡ said → HasSome parts_by bytes
+read_or_not parts_by bytes limit utf8 None is = inr (λ parts le text reads. absurd (cc (is, reads)))
+read_or_not parts_by bytes limit utf8 (Some parts) is = inl (parts, limit, utf8, is)
 
-text_or_not : (bytes : List ℕ) → length bytes ≤ file_limit → (b : Bool) → is_utf8 bytes ≡ b → HasSome bytes
-text_or_not bytes limit true is = read_or_not bytes limit (IsUtf8-from_is_utf8 bytes is) (option_and_then parts_in (read bytes)) refl
-text_or_not bytes limit false is = inr (λ parts has. let yes = is_utf8-from_IsUtf8 bytes has.utf8 in absurd (cc (is, yes)))
+text_or_not : (parts_by : Data → Option Parts) (bytes : List ℕ) → length bytes ≤ file_limit → (b : Bool) → is_utf8 bytes ≡ b → HasSome parts_by bytes
+text_or_not parts_by bytes limit true is = read_or_not parts_by bytes limit (IsUtf8-from_is_utf8 bytes is) (option_and_then parts_by (read bytes)) refl
+text_or_not parts_by bytes limit false is = inr (λ parts le text reads. let yes = is_utf8-from_IsUtf8 bytes text in absurd (cc (is, yes)))
 
-within_or_not : (bytes : List ℕ) (b : Bool) → nat_le (length bytes) file_limit ≡ b → HasSome bytes
-within_or_not bytes true is = text_or_not bytes (let le = leb-true (length bytes) file_limit is in omega (arith, le)) (is_utf8 bytes) refl
-within_or_not bytes false is = inr (λ parts has. let le = has.limit in let lt = leb-false (length bytes) file_limit is in absurd (omega (arith, le, lt)))
+within_or_not : (parts_by : Data → Option Parts) (bytes : List ℕ) (b : Bool) → nat_le (length bytes) file_limit ≡ b → HasSome parts_by bytes
+within_or_not parts_by bytes true is = text_or_not parts_by bytes (let le = leb-true (length bytes) file_limit is in omega (arith, le)) (is_utf8 bytes) refl
+within_or_not parts_by bytes false is = inr (λ parts le text reads. let lt = leb-false (length bytes) file_limit is in absurd (omega (arith, le, lt)))
+
+has_some : (parts_by : Data → Option Parts) (bytes : List ℕ) → HasSome parts_by bytes
+has_some parts_by bytes = within_or_not parts_by bytes (nat_le (length bytes) file_limit) refl
+
+abbrev SaidOrWrongBy : (Parts → Type 0) → List Operation → Type 0
+SaidOrWrongBy Has operations = ((events : List Event) × (order : List Entry) × SaysBy Has operations events order) ⊎ ((item : ℕ) × IsWrongBy Has operations item)
+
+in_order : (Has : Parts → Type 0) (operations : List Operation) (parts : Parts) → Has parts → (events : List Event) → AreEvents operations parts.events events → AreSaidOrWrong operations parts.order → SaidOrWrongBy Has operations
+in_order Has operations parts has events are (inl (order, said)) = inl (events, order, (parts, has, are, said))
+in_order Has operations parts has events are (inr (place, wrong)) = inr (1 + length parts.events + place, inr (parts, has, inr (events, place, are, wrong, refl)))
+
+in_parts : (Has : Parts → Type 0) (operations : List Operation) (parts : Parts) → Has parts → AreRightOrWrong operations parts.events → SaidOrWrongBy Has operations
+in_parts Has operations parts has (inl (events, are)) = in_order Has operations parts has events are (entries_or_wrong operations parts.order)
+in_parts Has operations parts has (inr (place, wrong)) = inr (1 + place, inr (parts, has, inl (place, wrong, refl)))
+
+by_parts : (Has : Parts → Type 0) (operations : List Operation) → ((parts : Parts) × Has parts) ⊎ ((parts : Parts) → Has parts → ⊥) → SaidOrWrongBy Has operations
+by_parts Has operations (inl (parts, has)) = in_parts Has operations parts has (events_or_wrong operations parts.events)
+by_parts Has operations (inr none) = inr (0, inl (refl, none))
+
+-- a history with its order
+parts_or_not : (bytes : List ℕ) → HasSome parts_in bytes → ((parts : Parts) × HasParts bytes parts) ⊎ ((parts : Parts) → HasParts bytes parts → ⊥)
+parts_or_not bytes (inl (parts, limit, utf8, reads)) = inl (parts, record { limit = limit; utf8 = utf8; reads = reads })
+parts_or_not bytes (inr none) = inr (λ parts has. none parts has.limit has.utf8 has.reads)
 
 abbrev pub IsSaidOrWrong : List Operation → List ℕ → Type 0
 IsSaidOrWrong operations bytes = ((events : List Event) × (order : List Entry) × SaysHistory operations bytes events order) ⊎ ((item : ℕ) × IsWrongItem operations bytes item)
 
-in_order : (operations : List Operation) (bytes : List ℕ) (parts : Parts) → HasParts bytes parts → (events : List Event) → AreEvents operations parts.events events → AreSaidOrWrong operations parts.order → IsSaidOrWrong operations bytes
-in_order operations bytes parts has events are (inl (order, said)) = inl (events, order, record { parts = parts; text = has; events = are; order = said })
-in_order operations bytes parts has events are (inr (place, wrong)) = inr (1 + length parts.events + place, inr (parts, has, inr (events, place, are, wrong, refl)))
-
-in_parts : (operations : List Operation) (bytes : List ℕ) (parts : Parts) → HasParts bytes parts → AreRightOrWrong operations parts.events → IsSaidOrWrong operations bytes
-in_parts operations bytes parts has (inl (events, are)) = in_order operations bytes parts has events are (entries_or_wrong operations parts.order)
-in_parts operations bytes parts has (inr (place, wrong)) = inr (1 + place, inr (parts, has, inl (place, wrong, refl)))
-
-in_bytes : (operations : List Operation) (bytes : List ℕ) → HasSome bytes → IsSaidOrWrong operations bytes
-in_bytes operations bytes (inl (parts, has)) = in_parts operations bytes parts has (events_or_wrong operations parts.events)
-in_bytes operations bytes (inr none) = inr (0, inl (refl, none))
+history_or_wrong : (operations : List Operation) (bytes : List ℕ) → SaidOrWrongBy (HasParts bytes) operations → IsSaidOrWrong operations bytes
+history_or_wrong operations bytes (inl (events, order, (parts, has, are, said))) = inl (events, order, record { parts = parts; text = has; events = are; order = said })
+history_or_wrong operations bytes (inr wrong) = inr wrong
 
 pub said_or_wrong : (operations : List Operation) (bytes : List ℕ) → IsSaidOrWrong operations bytes
-said_or_wrong operations bytes = in_bytes operations bytes (within_or_not bytes (nat_le (length bytes) file_limit) refl)
+said_or_wrong operations bytes = history_or_wrong operations bytes (by_parts (HasParts bytes) operations (parts_or_not bytes (has_some parts_in bytes)))
+
+-- a recorded history
+recorded_or_not : (bytes : List ℕ) → HasSome recorded_in bytes → ((parts : Parts) × HasRecorded bytes parts) ⊎ ((parts : Parts) → HasRecorded bytes parts → ⊥)
+recorded_or_not bytes (inl (parts, limit, utf8, reads)) = inl (parts, record { limit = limit; utf8 = utf8; reads = reads })
+recorded_or_not bytes (inr none) = inr (λ parts has. none parts has.limit has.utf8 has.reads)
+
+abbrev pub IsRecordedOrWrong : List Operation → List ℕ → Type 0
+IsRecordedOrWrong operations bytes = ((events : List Event) × (order : List Entry) × SaysRecorded operations bytes events order) ⊎ ((item : ℕ) × IsWrongRecordedItem operations bytes item)
+
+recorded_said : (operations : List Operation) (bytes : List ℕ) → SaidOrWrongBy (HasRecorded bytes) operations → IsRecordedOrWrong operations bytes
+recorded_said operations bytes (inl (events, order, (parts, has, are, said))) = inl (events, order, record { parts = parts; text = has; events = are; order = said })
+recorded_said operations bytes (inr wrong) = inr wrong
+
+pub recorded_or_wrong : (operations : List Operation) (bytes : List ℕ) → IsRecordedOrWrong operations bytes
+recorded_or_wrong operations bytes = recorded_said operations bytes (by_parts (HasRecorded bytes) operations (recorded_or_not bytes (has_some recorded_in bytes)))

@@ -16,7 +16,7 @@ use Rattle.lc_hist.specs.WellFormed.{client_of, begins, IsInTurn}
 use Rattle.lc_hist.proofs.Turns.{AreBusy, is_in_turn, is_out_of_turn, flip, busy_next}
 use Rattle.lc_hist.proofs.JsonLists.{both_parts}
 
--- behind these events each client is in a call of the operation in the table
+-- after these events each client is in a call of the operation in the table
 pub record AreOpen (events : List Event) (table : ℕ → Option ℕ) : Type 0 where
   pub pending : (c : ℕ) → option_map (λ call. call.op) (pending_of c None events) ≡ table c
   pub busy : AreBusy events (λ c. is_some (table c))
@@ -83,7 +83,7 @@ follows operations None (Replied c reply) h = absurd cc
 follows operations (Some op) (Called c call) h = absurd cc
 follows operations (Some op) (Replied c reply) h = refl
 
--- the table behind one event more
+-- the table after one event more
 pub open_next : (events : List Event) (table next : ℕ → Option ℕ) (e : Event) → AreOpen events table → is_some (table (client_of e)) ≡ not (begins e)
     → ((c : ℕ) → next c ≡ cond (c == client_of e) (opened e) (table c)) → AreOpen (events ++ e ∷ []) next
 open_next events table next e are turn nexts = record {

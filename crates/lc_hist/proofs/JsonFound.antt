@@ -10,7 +10,7 @@ use Rattle.json.proofs.Found.{items_close, items_go_on, Some_inj}
 use Rattle.json.proofs.Grammar.{closed_array, value-begin_array}
 use Rattle.json.proofs.Printed.Trees.{value-json_tokens}
 use Rattle.json.proofs.Unique.Spelling.{value-json_tokens_back}
-use Rattle.serde_json.specs.Data.{Num, Data, null, boolean, number, string, array, object, Items, no_items, item, no_members}
+use Rattle.serde_json.specs.Data.{Num, Data, null, boolean, number, string, array, object, Items, item, no_members}
 use Rattle.serde_json.specs.Find.{as_number, as_str, as_array, as_object}
 use Rattle.serde_json.specs.Read.{number_of, of_json, of_items, of_members}
 use Rattle.lc_hist.specs.JsonItems.{begun_at, data_at, IsData, listed_at, values_at, AreData}
@@ -48,7 +48,7 @@ found_in : (ts : List Token) (o : Option (json.Json × List Token)) (d : Data) �
 found_in ts None d e is = absurd cc
 found_in ts (Some p) d e is = (p.0, (length ts, p.1, e), is)
 
--- where there is data, a value begins that says it
+-- if there is data, a value begins that says it
 pub found : (ts : List Token) → IsData ts → (j : json.Json) × BeginsWith ts j × (of_json j ≡ Some (data_at ts))
 found ts is = found_in ts _ (data_at ts) refl is
 
@@ -109,7 +109,7 @@ listed_in : (ts : List Token) (o : Option (json.Items × List Token)) (ds : List
 listed_in ts None ds e is = absurd cc
 listed_in ts (Some p) ds e is = (p.0, (length ts, length ts, p.1, e), is)
 
--- where there is data, values are listed that say it
+-- if there is data, values are listed that say it
 pub found_items : (ts : List Token) → AreData ts → (js : json.Items) × InItems ts js × (option_map values_in (of_items js) ≡ Some (values_at ts))
 found_items ts are = listed_in ts _ (values_at ts) refl are
 
@@ -145,7 +145,7 @@ none_left old new are next =
 
 -- ---- what a value is
 
--- what stands under a constructor
+-- what is under a constructor
 pub mapped : {A : Type 0} (f : A → Data) (o : Option A) (d : Data) → option_map f o ≡ Some d → (a : A) × (d ≡ f a) × (o ≡ Some a)
 mapped f None d e = absurd cc
 mapped f (Some a) d e = (a, cc, refl)

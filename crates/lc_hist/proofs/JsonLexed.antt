@@ -185,7 +185,7 @@ ends_there : (x : ℕ) (xs : List ℕ) → Ends x → ends_word (x ∷ xs) ≡ t
 ends_there x xs (inl e) = rw e refl
 ends_there x xs (inr e) = rw e refl
 
--- what stands behind a number without a sign
+-- what comes after a number without a sign
 abbrev after_rest : List ℕ → Option (List ℕ)
 after_rest text = option_and_then after_exponent (option_and_then after_fraction (after_whole text))
 
@@ -203,7 +203,7 @@ after_natural d ds x xs are some over =
     let found : after_whole (d ∷ (ds ++ x ∷ xs)) ≡ Some (x ∷ xs) = rw (ne_eqb d 48 some) (after_some d ds x xs are some over) in
     ap (λ o. option_and_then after_exponent (option_and_then after_fraction o)) found ∙ after_end x xs over
 
--- what stands behind digits, of which the first is no 0 but where it stands alone
+-- what comes after digits, the first being 0 only if it is alone
 after_short : (d : ℕ) (ds : List ℕ) (x : ℕ) (xs : List ℕ) (b : Bool) → (d == 48) ≡ b → AllDigits 10 (d ∷ ds) → (d ≡ 48 → length ds ≡ 0) → Ends x → after_rest (d ∷ (ds ++ x ∷ xs)) ≡ Some (x ∷ xs)
 after_short d ds x xs true is are lead over =
     let first = eqb-true d 48 is in
@@ -220,7 +220,7 @@ word_short d ds x xs is after over =
     rw (ne_eqb d 116 (λ e. omega arith), ne_eqb d 102 (λ e. omega arith), ne_eqb d 110 (λ e. omega arith))
     (ap (number_before t) behind ∙ rw (ends_there x xs over) (ap Token.number (take_digits (d ∷ ds) (x ∷ xs))))
 
--- digits behind a minus sign
+-- digits after a minus sign
 word_below : (ds : List ℕ) (x : ℕ) (xs : List ℕ) → after_rest (ds ++ x ∷ xs) ≡ Some (x ∷ xs) → Ends x → word (45 ∷ (ds ++ x ∷ xs)) ≡ Token.number (45 ∷ ds)
 unfolding word after_number
 word_below ds x xs after over = ap (number_before (45 ∷ (ds ++ x ∷ xs))) after ∙ rw (ends_there x xs over) (ap Token.number (take_digits (45 ∷ ds) (x ∷ xs)))
@@ -258,7 +258,7 @@ pub natural_of : (ds : List ℕ) → AllDigits 10 ds → 0 < length ds → (get_
 natural_of ds are some lead small =
     ap number_of (sym (decimal-digits_value (numerals_by_value (AllDigits 10) tells_digits) ds are some lead small)) ∙ number_of-decimal (digits_value 10 ds) small
 
--- behind a minus sign, where they are not 0
+-- after a minus sign, if they are not 0
 pub below_of : (ds : List ℕ) (z : ℤ) → AllDigits 10 ds → 0 < length ds → (get_or ds 0 0 ≡ 48 → length ds ≡ 1) → 0 < digits_value 10 ds → digits_value 10 ds < 2 ^ 63 → z ≡ neg_ℤ (pos (digits_value 10 ds)) → number_of (45 ∷ ds) ≡ Some (negative z)
 below_of ds z are some lead more small is =
     let written = decimal-digits_value (numerals_by_value (AllDigits 10) tells_digits) ds are some lead (omega arith) in
@@ -268,7 +268,7 @@ below_of ds z are some lead more small is =
     below_value ds zero z written more small is = absurd (omega arith)
     below_value ds (suc n) z written more small is = ap (λ s. number_of (45 ∷ s)) written ∙ number_of-negative n (omega arith) ∙ ap (λ k. Some (negative k)) (sym is)
 
--- what is computed of a number behind a minus sign
+-- what is computed of a number after a minus sign
 pub given_of : (n : ℕ) (z : ℤ) → n < 2 ^ 63 → as_i64 (unsigned n) ≡ Some z → z ≡ pos n
 given_of n z small is = let same = rw (lt-ltb n (2 ^ 63) small) at is in cc (same)
 

@@ -43,7 +43,7 @@ each_last : {A : Type 0} (P : A → Type 0) (x : A) → P x → (j : ℕ) (y : A
 each_last P x here zero y at = let same : x ≡ y = cc in subst P same here
 each_last P x here (suc j) y at = absurd cc
 
--- one element more of which it holds
+-- it holds of one element more
 pub each-next : {A : Type 0} (P : A → Type 0) (xs : List A) (i : ℕ) (x : A) → Each P (take i xs) → slice_get xs i ≡ Some x → P x
     → (j : ℕ) (y : A) → slice_get (take (suc i) xs) j ≡ Some y → P y
 each-next P [] i x each at here j y found = absurd cc
@@ -71,7 +71,7 @@ all_in-length says (x ∷ xs) ys all =
     let parts = both_parts (λ y zs. y ∷ zs) (says x) (all_in says xs) ys all in
     ap suc (all_in-length says xs parts.1 parts.3) ∙ ap length parts.4
 
--- the element behind those that are read
+-- the element after those that are read
 pub stands_behind : {A : Type 0} (xs : List A) (y : A) (zs all : List A) → xs ++ y ∷ zs ≡ all → slice_get all (length xs) ≡ Some y
 stands_behind [] y zs all is = rw (← is) refl
 stands_behind (x ∷ xs) y zs all is = rw (← is) (stands_behind xs y zs (xs ++ y ∷ zs) refl)

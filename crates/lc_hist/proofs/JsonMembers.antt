@@ -1,5 +1,5 @@
 -- An object that has another name beside `events` and `order` has no parts.
-use Rattle.std.proofs.Common.{◌≡◌, ℕ, List, Bool, true, false, true≢false, ◌==◌, eqb-true, Option, Some, None, is_some, option_map, option_and_then, Ordering, Less, Equal, Greater, nat_cmp, is_eq, bytes_eq, inl, inr, refl, sym, ap, subst, ◌∙◌, arith}
+use Rattle.std.proofs.Common.{◌≡◌, ℕ, List, [], Bool, true, false, true≢false, ◌==◌, eqb-true, Option, Some, None, is_some, option_map, option_and_then, Ordering, Less, Equal, Greater, nat_cmp, is_eq, bytes_eq, inl, inr, refl, sym, ap, subst, ◌∙◌, arith}
 use Rattle.std.specs.Prelude.{◌⊎◌, if◌then◌else◌, codes}
 use Rattle.std.specs.Ordering.{match_ordering}
 use Rattle.std.specs.Cmp.Lexicographic.{slice_cmp}
@@ -13,9 +13,11 @@ use Rattle.serde_json.specs.Find.{get_member, as_array}
 use Rattle.serde_json.specs.Read.{of_json, of_members}
 use Rattle.serde_json.proofs.Views.{get_member-put, get_member-put_other}
 use Rattle.lc_hist.specs.JsonHistories.{Parts, parts_in}
+use Rattle.lc_hist.specs.JsonRecorded.{recorded_in}
+use Rattle.lc_hist.specs.JsonSeen.{HasNoParts}
 use Rattle.lc_hist.specs.JsonValues.{values_in}
 
--- another name is looked for behind a member
+-- another name is looked for after a member
 skipped : (o : Ordering) (a b : Option Data) → is_eq o ≡ false → match_ordering o a b a ≡ a
 skipped Less a b e = refl
 skipped Equal a b e = absurd (true≢false e)
@@ -79,6 +81,29 @@ third_name all q v other another third = go (members_len all == 2) refl (get_mem
     go true is (Some x) events None order = none_behind true (listed (Some x))
     go true is (Some x) events (Some y) order = absurd (not_three all q x y v (eqb-true _ _ is) other another events order third)
 
+-- ---- if the order may be left out
+
+one_of_one : (q k : List ℕ) (d v : Data) → get_member q (member k d no_members) ≡ Some v → q ≡ k
+one_of_one q k d v found = elim (here_or_behind q k d no_members (bytes_eq q k) refl) [ inl same ↦ same | inr none ↦ not_found v (sym none ∙ found) ]
+
+not_two : (all : Members) (q : List ℕ) (x v : Data) → members_len all ≡ 1 → (q ≡ codes "events" → ⊥) → get_member (codes "events") all ≡ Some x → get_member q all ≡ Some v → ⊥
+not_two no_members q x v one other events found = not_found x events
+not_two (member k d no_members) q x v one other events found = other (one_of_one q k d v found ∙ sym (one_of_one (codes "events") k d x events))
+not_two (member k d (member l e ms)) q x v one other events found = omega (arith, one)
+
+-- the events alone, if an object has one member, and else its parts
+abbrev one_or_two : Bool → Option (List Data) → Option Parts → Option Parts
+one_or_two one events both = if one then option_map (λ e. record { events = e; order = [] }) events else both
+
+-- nor has it any if the order may be left out
+third_recorded : (all : Members) (q : List ℕ) (v : Data) → (q ≡ codes "events" → ⊥) → (q ≡ codes "order" → ⊥) → get_member q all ≡ Some v → recorded_in (object all) ≡ None
+third_recorded all q v other another third = go (members_len all == 1) refl (get_member (codes "events") all) refl
+  where
+    go : (one : Bool) → (members_len all == 1) ≡ one → (e : Option Data) → get_member (codes "events") all ≡ e → one_or_two one (listed e) (parts_in (object all)) ≡ None
+    go false is e events = third_name all q v other another third
+    go true is None events = refl
+    go true is (Some x) events = absurd (not_two all q x v (eqb-true _ _ is) other events third)
+
 -- ---- a name that was put stays
 
 put_keeps : (q k : List ℕ) (d : Data) (before : Members) (b : Bool) → bytes_eq q k ≡ b → is_some (get_member q before) ≡ true → is_some (get_member q (put k d before)) ≡ true
@@ -93,10 +118,10 @@ name_stays (json.member k j ms) before all q e some = go (λ d h. name_stays ms 
     go rest None h = absurd cc
     go rest (Some d) h = rest d h
 
--- an object into which another name was put has no parts
-pub third_key : (ms : json.Members) (before all : Members) (k : List ℕ) (d : Data) → (k ≡ codes "events" → ⊥) → (k ≡ codes "order" → ⊥) → of_members ms (put k d before) ≡ Some all → parts_in (object all) ≡ None
+-- an object into which another name was put has no parts, nor if the order may be left out
+pub third_key : (ms : json.Members) (before all : Members) (k : List ℕ) (d : Data) → (k ≡ codes "events" → ⊥) → (k ≡ codes "order" → ⊥) → of_members ms (put k d before) ≡ Some all → HasNoParts (object all)
 third_key ms before all k d other another made = go (get_member k all) refl (name_stays ms (put k d before) all k made (ap is_some (get_member-put k d before)))
   where
-    go : (o : Option Data) → get_member k all ≡ o → is_some o ≡ true → parts_in (object all) ≡ None
+    go : (o : Option Data) → get_member k all ≡ o → is_some o ≡ true → HasNoParts (object all)
     go None is none = absurd (true≢false (sym none))
-    go (Some v) is some = third_name all k v other another is
+    go (Some v) is some = (third_name all k v other another is, third_recorded all k v other another is)

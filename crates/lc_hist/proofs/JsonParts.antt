@@ -1,33 +1,24 @@
--- What an object says by its members, of which some are still to come.
-use Rattle.std.proofs.Common.{◌≡◌, ℕ, List, Option, Some, None, option_map, option_and_then, codes, refl, sym, ap, ap₂, subst, ◌∙◌}
+-- What an object says by its members, some of which are still to come.
+use Rattle.std.proofs.Common.{◌≡◌, ℕ, List, Option, Some, None, option_map, option_and_then, codes, refl, sym, ap, subst, ◌∙◌}
 use Rattle.json.specs.Token.{Token}
 use Rattle.json.specs.Json as json
 use Rattle.json.specs.Find.{BeginsWith, InMembers, NextMember}
 use Rattle.json.specs.Find as find
-use Rattle.serde_json.specs.Data.{Data, object, Members, no_members, member, put}
-use Rattle.serde_json.specs.Find.{as_array}
+use Rattle.serde_json.specs.Data.{Data, object, Members, no_members, put}
 use Rattle.serde_json.specs.Read.{of_json, of_members}
 use Rattle.lc_hist.specs.JsonItems.{data_at, IsData}
-use Rattle.lc_hist.specs.JsonHistories.{Parts, parts_of, parts_in}
-use Rattle.lc_hist.specs.JsonValues.{values_in}
+use Rattle.lc_hist.specs.JsonHistories.{parts_of}
+use Rattle.lc_hist.specs.JsonRecorded.{recorded_of}
+use Rattle.lc_hist.specs.JsonSeen.{members_with, HasNoParts}
 use Rattle.lc_hist.proofs.JsonFound.{found, is_data, members_said, mapped}
 use Rattle.lc_hist.proofs.JsonMembers.{third_key}
 
-abbrev pub with_order : Option Data → Members
-with_order None = no_members
-with_order (Some o) = member (codes "order") o no_members
-
--- the members that were found so far
-abbrev pub held : Option Data → Option Data → Members
-held None order = with_order order
-held (Some e) order = member (codes "events") e (with_order order)
-
-events_put : (d : Data) (events order : Option Data) → put (codes "events") d (held events order) ≡ held (Some d) order
+events_put : (d : Data) (events order : Option Data) → put (codes "events") d (members_with events order) ≡ members_with (Some d) order
 events_put d None None = refl
 events_put d None (Some o) = refl
 events_put d (Some e) order = refl
 
-order_put : (d : Data) (events order : Option Data) → put (codes "order") d (held events order) ≡ held events (Some d)
+order_put : (d : Data) (events order : Option Data) → put (codes "order") d (members_with events order) ≡ members_with events (Some d)
 order_put d None None = refl
 order_put d None (Some o) = refl
 order_put d (Some e) None = refl
@@ -38,13 +29,13 @@ abbrev pub Behind : List Token → Members → List Token → Type 0
 Behind members before value = (ms : json.Members) × InMembers members ms × (option_map object (of_members ms before) ≡ Some (data_at value))
 
 abbrev pub Left : List Token → Option (List Token) → Option (List Token) → List Token → Type 0
-Left members events order value = Behind members (held (option_map data_at events) (option_map data_at order)) value
+Left members events order value = Behind members (members_with (option_map data_at events) (option_map data_at order)) value
 
-pub no_object : (value : List Token) → IsData value → ((j : json.Json) → BeginsWith value j → find.as_object j ≡ None) → None ≡ parts_in (data_at value)
+pub no_object : (value : List Token) → IsData value → ((j : json.Json) → BeginsWith value j → find.as_object j ≡ None) → HasNoParts (data_at value)
 no_object value is none =
     let f = found value is in
     let said = members_said f.0 (data_at value) f.2 ∙ ap (option_and_then (λ ms. of_members ms no_members)) (none f.0 f.1) in
-    sym (ap (option_and_then (parts_of (data_at value))) said)
+    (ap (option_and_then (parts_of (data_at value))) said, ap (option_and_then (recorded_of (data_at value))) said)
 
 -- at first all members are still to come
 pub all_left : (value members : List Token) → IsData value → ((j : json.Json) → BeginsWith value j → (ms : json.Members) × (j ≡ json.object ms) × InMembers members ms) → Left members None None value
@@ -74,59 +65,32 @@ module _ (old ts new value : List Token) (k : List ℕ) (events order : Option (
   pub value_next : IsData ts
   value_next = (taken old ts new value k _ left next).0
 
-  -- it is the last of the events so far, where the key is that
+  -- it is the last of the events so far, if the key is that
   pub events_next : k ≡ codes "events" → Left new (Some ts) order value
   events_next is =
       let t = (taken old ts new value k _ left next).1 in
-      let put_in = ap (λ q. put q (data_at ts) (held (option_map data_at events) (option_map data_at order))) is ∙ events_put (data_at ts) (option_map data_at events) (option_map data_at order) in
+      let put_in = ap (λ q. put q (data_at ts) (members_with (option_map data_at events) (option_map data_at order))) is ∙ events_put (data_at ts) (option_map data_at events) (option_map data_at order) in
       subst (λ before. Behind new before value) put_in t
 
   pub order_next : k ≡ codes "order" → Left new events (Some ts) value
   order_next is =
       let t = (taken old ts new value k _ left next).1 in
-      let put_in = ap (λ q. put q (data_at ts) (held (option_map data_at events) (option_map data_at order))) is ∙ order_put (data_at ts) (option_map data_at events) (option_map data_at order) in
+      let put_in = ap (λ q. put q (data_at ts) (members_with (option_map data_at events) (option_map data_at order))) is ∙ order_put (data_at ts) (option_map data_at events) (option_map data_at order) in
       subst (λ before. Behind new before value) put_in t
 
-  -- and there are no parts, where the key is another
-  pub third_next : (k ≡ codes "events" → ⊥) → (k ≡ codes "order" → ⊥) → None ≡ parts_in (data_at value)
+  -- and there are no parts, if the key is another
+  pub third_next : (k ≡ codes "events" → ⊥) → (k ≡ codes "order" → ⊥) → HasNoParts (data_at value)
   third_next other another =
-      let before = held (option_map data_at events) (option_map data_at order) in
+      let before = members_with (option_map data_at events) (option_map data_at order) in
       let t = (taken old ts new value k before left next).1 in
       let m = mapped object (of_members t.0 (put k (data_at ts) before)) (data_at value) t.2 in
-      sym (ap parts_in m.1 ∙ third_key t.0 before m.0 k (data_at ts) other another m.2)
+      subst HasNoParts (sym m.1) (third_key t.0 before m.0 k (data_at ts) other another m.2)
 
--- where none is left, the value is an object of those that were found
-pub all_found : (old new value : List Token) (events order e o : Option (List Token)) → Left old events order value → NextMember old None new → events ≡ e → order ≡ o
-    → parts_in (object (held (option_map data_at e) (option_map data_at o))) ≡ parts_in (data_at value)
-all_found old new value events order e o left next these those =
-    let before = held (option_map data_at events) (option_map data_at order) in
+-- if none is left, the value is an object of those that were found
+pub all_found : (old new value : List Token) (events order : Option (List Token)) → Left old events order value → NextMember old None new
+    → data_at value ≡ object (members_with (option_map data_at events) (option_map data_at order))
+all_found old new value events order left next =
+    let before = members_with (option_map data_at events) (option_map data_at order) in
     let said : Some (object before) ≡ Some (data_at value) = ap (λ ms. option_map object (of_members ms before)) (sym (next left.0 left.1)) ∙ left.2 in
-    let same : object before ≡ data_at value = cc in
-    ap₂ (λ x y. parts_in (object (held (option_map data_at x) (option_map data_at y)))) (sym these) (sym those) ∙ ap parts_in same
-
--- ---- the parts of what was found
-
-abbrev array_in : Data → Option (List Data)
-array_in d = option_map values_in (as_array d)
-
-pub no_events : (order : Option Data) → None ≡ parts_in (object (held None order))
-no_events None = refl
-no_events (Some o) = refl
-
-pub no_order : (events : Option Data) → None ≡ parts_in (object (held events None))
-no_order None = refl
-no_order (Some e) = refl
-
-pub events_no_array : (e : Data) (order : Option Data) → None ≡ array_in e → None ≡ parts_in (object (held (Some e) order))
-events_no_array e None none = refl
-events_no_array e (Some o) none = rw (← none) refl
-
-nothing : (o : Option (List Data)) → None ≡ option_and_then {U = Parts} (λ events. None) o
-nothing None = refl
-nothing (Some es) = refl
-
-pub order_no_array : (e o : Data) → None ≡ array_in o → None ≡ parts_in (object (held (Some e) (Some o)))
-order_no_array e o none = rw (← none) (nothing (array_in e))
-
-pub two_arrays : (e o : Data) (es os : List Data) → Some es ≡ array_in e → Some os ≡ array_in o → Some (record { events = es; order = os }) ≡ parts_in (object (held (Some e) (Some o)))
-two_arrays e o es os these those = rw (← these, ← those) refl
+    let same : data_at value ≡ object before = cc in
+    same

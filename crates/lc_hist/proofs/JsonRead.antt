@@ -64,7 +64,7 @@ said : (o : Option Data) → is_some o ≡ true → (d : Data) × (o ≡ Some d)
 said None e = absurd (true≢false (sym e))
 said (Some d) e = (d, refl)
 
--- where a value begins that fits, there is data
+-- if a value begins that fits, there is data
 pub fits_data : (ts : List Token) → find.HasValue ts → ((j : json.Json) → BeginsWith ts j → true ≡ fits_json j 127) → IsData ts
 fits_data ts j fits =
     let right = both (is_some (of_json j.0)) (nat_le (depth j.0) 127) (sym (fits j.0 j.1)) in

@@ -5,7 +5,7 @@ use Rattle.json.specs.Json.{after_end_array}
 use Rattle.serde_json.specs.Data.{Data, array}
 use Rattle.serde_json.specs.Find.{as_str}
 use Rattle.serde_json.specs.View.{items_of}
-use Rattle.lc_seq.specs.Sequential.{Call, Choice, InOrder, ByName}
+use Rattle.lc_seq.specs.Sequential.{Call, Choice, ByName}
 use Rattle.lc_seq.specs.Specification.{Operation}
 use Rattle.lc_hist.specs.History.{Event, Called, Replied}
 use Rattle.lc_hist.specs.JsonTokens.{Begins, BeginAll, Says, SayCall, SayDeed, SayPick, said_alone}

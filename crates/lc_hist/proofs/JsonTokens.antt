@@ -1,4 +1,4 @@
--- How values stand in the tokens of a text.
+-- How values occur in the tokens of a text.
 use Rattle.std.proofs.Common.{◌≡◌, ℕ, suc, ◌-◌, ◌<◌, ◌≤◌, List, [], ◌∷◌, ◌++◌, length, Option, Some, None, option_map, option_and_then, refl, sym, ap, subst, ◌∙◌, arith, ℤ, IfSome}
 use Rattle.std.proofs.lemmas.List.{append-nil, append_assoc}
 use Rattle.json.specs.Token.{Token}
@@ -7,12 +7,11 @@ use Rattle.json.specs.Json as json
 use Rattle.json.specs.Json.{parse_map, after_end_array, read_key, items, members, value, if_last}
 use Rattle.json.proofs.Grammar.{value_is, value-begin_array, items_end, items_more, skip_value-shorter}
 use Rattle.serde_json.specs.Data.{Num, negative, Data, number, string, array, Items, no_items, item}
-use Rattle.serde_json.specs.Find.{as_str, as_i64, as_u64}
+use Rattle.serde_json.specs.Find.{as_i64, as_u64}
 use Rattle.serde_json.specs.Read.{number_of, of_json, of_items, converted}
 use Rattle.serde_json.specs.View.{items_of}
-use Rattle.lc_seq.specs.Specification.{Operation, takes}
 use Rattle.lc_hist.specs.JsonTokens.{Begins, BeginAll, Says}
-use Rattle.lc_hist.specs.JsonValues.{all_in, number_in, numbers_in, client_in, client_within, operation_of, call_with, call_in}
+use Rattle.lc_hist.specs.JsonValues.{all_in, number_in, numbers_in, client_in, client_within}
 use Rattle.lc_hist.proofs.JsonLists.{values_in-items_of}
 
 -- ---- one value
@@ -69,7 +68,7 @@ abbrev items_before : List Data → Items → Items
 items_before [] rest = rest
 items_before (d ∷ ds) rest = item d (items_before ds rest)
 
--- these values stand in the row that the tokens begin with, and these tokens behind them in it
+-- the row that the tokens begin with has these values, and these tokens after them in it
 pub record BeginsRow (levels : ℕ) (tokens : List Token) (ds : List Data) (rest : List Token) : Type 0 where
   pub reads : (depth : ℕ) → levels ≤ depth
       → (n : ℕ) × (length rest ≤ n) × (converted of_items (items (value depth) (length tokens) tokens) ≡ parse_map (items_before ds) (converted of_items (items (value depth) n rest)))

@@ -1,4 +1,4 @@
--- Operations whose names differ stand apart.
+-- Operations whose names differ are distinct.
 use Rattle.std.proofs.Common.{◌≡◌, ℕ, zero, suc, Bool, true, false, ◌||◌, List, [], ◌∷◌, Some, not, refl, sym, ap, ◌∙◌}
 use Rattle.std.specs.Prelude.{slice_get, bytes_eq}
 use Rattle.std.specs.List.{list_any}
@@ -7,7 +7,7 @@ use Rattle.std.proofs.lemmas.Slice.Eq.{bytes_eq-Decides}
 use Rattle.lc_seq.specs.Specification.{Operation, names_differ}
 use Rattle.lc_term.proofs.Tests.{left_true, right_true}
 
--- operations of one name stand at one place
+-- operations with one name are at one place
 abbrev pub NamesDiffer : List Operation → Type 0
 NamesDiffer operations = (i j : ℕ) (o p : Operation) → slice_get operations i ≡ Some o → slice_get operations j ≡ Some p → o.name ≡ p.name → i ≡ j
 
@@ -28,7 +28,7 @@ not_both : (b : Bool) → b ≡ true → not b ≡ true → ⊥
 not_both true e f = cc
 not_both false e f = cc
 
--- an operation of this name does not stand behind
+-- an operation of this name does not come after
 behind : (o : Operation) (others : List Operation) (j : ℕ) (p : Operation) → not (list_any (λ (q : Operation). bytes_eq o.name q.name) others) ≡ true → slice_get others j ≡ Some p → o.name ≡ p.name → ⊥
 behind o others j p none at same =
     not_both (list_any (λ (q : Operation). bytes_eq o.name q.name) others) (any_at (λ (q : Operation). bytes_eq o.name q.name) others j p at ((bytes_eq-Decides o.name p.name).1 same)) none

@@ -1,4 +1,4 @@
--- Where the calls stand that entries name, and which precede which.
+-- Where the calls are that entries name, and which precede which.
 use Rattle.std.proofs.Common.{◌≡◌, ℕ, zero, suc, ◌+◌, ◌<◌, Bool, true, false, cond, List, [], ◌∷◌, ℤ, Option, Some, None, option_map, take, slice_get, length, refl, ap, sym, subst, ◌∙◌, arith}
 use Rattle.lc_seq.specs.Sequential.{Call}
 use Rattle.lc_hist.specs.Checked.{called_in, replied_in, call_at, reply_at, AreNames}
@@ -155,7 +155,7 @@ parts h c k s e = parts_there h c k s (slice_get (places_from (is_call c) 0 h) k
 entry_of_span : (order : List Entry) (spans : List (Option Span)) (p : ℕ) (s : Option Span) → length spans ≡ length order → slice_get spans p ≡ Some s → (e : Entry) × (slice_get order p ≡ Some e)
 entry_of_span order spans p s size at = let lt = slice_get_within spans p s at in element order p (omega arith)
 
--- a place that is told as preceded is
+-- a place that is reported as preceded is
 pub told_preceded : (h : List Event) (order : List Entry) (spans : List (Option Span)) (flags : List Bool) → AreNames h order spans flags → (p : ℕ) → is_preceded spans p ≡ true → IsUnpreceded h order p → ⊥
 told_preceded h order spans flags names p told free =
     let l = late spans p told in
@@ -173,7 +173,7 @@ told_preceded h order spans flags names p told free =
       earlier = l.before;
     })
 
--- and a place that is not told as preceded is not
+-- and a place that is not reported as preceded is not
 pub told_free : (h : List Event) (order : List Entry) (spans : List (Option Span)) (flags : List Bool) → AreNames h order spans flags → (p : ℕ) → is_preceded spans p ≡ false → IsUnpreceded h order p
 told_free h order spans flags names p told e d q at is lt pr =
     let k = named order p e in

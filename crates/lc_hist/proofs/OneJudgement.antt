@@ -1,4 +1,4 @@
--- An order has one judgement, but for want of memory.
+-- An order has one judgement, but for `OutOfMemory`.
 use Rattle.std.proofs.Common.{◌≡◌, ℕ, suc, ◌<◌, List, Ok, Err, Result, take, length, refl, sym, ap, ap₂, subst, ◌∙◌, inl, inr, arith}
 use Rattle.std.specs.Prelude.{◌==◌, if◌then◌else◌}
 use Rattle.std.proofs.lemmas.Bool.{cases_order}
@@ -24,7 +24,7 @@ ranked MissingCall = refl
 ranked NoStep = refl
 ranked Preceded = refl
 
--- two first failures stand at one place
+-- two first failures are at one place
 one_place : {A : Type 0} (step : Sequential A) (start : A) (h : List Event) (order : List Entry) (p q : ℕ) (r s : Reason) →
     IsFirstFailure step start h order p r → IsFirstFailure step start h order q s → p ≡ q
 one_place step start h order p q r s a b =
@@ -51,7 +51,7 @@ one_failure step start h order p q r s a b =
     let rank_same = one_rank step start h order p r s a (subst (λ n. IsFirstFailure step start h order n s) (sym place) b) in
     ap₂ Order place (sym (ranked r) ∙ ap by_rank rank_same ∙ ranked s)
 
--- where the numbers fit, there is no overflow
+-- if the numbers fit, there is no overflow
 fits_whole : {A : Type 0} (step : Sequential A) (Fits : A → ℕ → Call → Choice → Type 0) (start : A) (h : List Event) (order : List Entry) (p : ℕ) →
     FitsAlong step Fits start order → IsOverflow step Fits start h order p → ⊥
 fits_whole step Fits start h order p fits o =

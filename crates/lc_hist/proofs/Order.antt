@@ -1,4 +1,4 @@
--- An order linearizes a history exactly where it passes each test.
+-- An order linearizes a history exactly if it passes each test.
 use Rattle.std.proofs.Common.{◌≡◌, ℕ, zero, suc, ◌<◌, true, ◌==◌, cond, List, [], ◌∷◌, ℤ, Some, None, take, slice_get, length, refl, ap, sym, subst, ◌∙◌, inl, inr, arith}
 use Rattle.std.proofs.lemmas.Bool.{cases_order}
 use Rattle.std.proofs.Math.Seq.{take-length}
@@ -84,7 +84,7 @@ reply_at h order c j x r replies s at =
     subst (λ z. IsReplyOf h z (named order s.place s.element) r) (sym same) (subst (λ n. IsReplyOf h c n r) (sym number) (reply_of_picked h c j r at)) in
     sym (ap (λ y. y.1) s.value) ∙ replies s.place (within order s.place s.element s.stands) s.element s.stands r is
 
--- the calls of a client are kept where the tests of its entries are passed
+-- the calls of a client are kept if the tests of its entries are passed
 pub are_calls : (h : List Event) (order : List Entry) → IsWellFormed h
     → ((p : ℕ) → p < length order → NamesItsCall h order p) → ((p : ℕ) → p < length order → HasItsReply h order p) → IsComplete h order
     → (c : ℕ) → AreCalls c None h (entries_of c order)
@@ -95,7 +95,7 @@ are_calls h order w names replies complete c =
     (λ j x r at is. reply_at h order c j x r replies (owner order c j x at) is)
     (let enough = complete c in omega (arith, length-entries c order, length-picked (is_return c) reply_in h)))
 
--- a call returns behind its beginning
+-- a call returns after its beginning
 pub returns_behind : (h : List Event) → IsWellFormed h → (c k i j : ℕ) → IsPlace (is_return c) k h i → IsPlace (is_call c) k h j → i < j → ⊥
 returns_behind h w c k i j r b lt =
     let e : Event = r.element in
@@ -127,7 +127,7 @@ one_place h order w c k d m p pr P Q =
     let own = moved h c k d m c k c k refl refl client number pr in
     returns_behind h w c k own.returns own.begins own.returned own.begun own.earlier
 
--- places of two entries of calls of which one precedes the other
+-- places of two entries of calls, one of which precedes the other
 pub in_order : (h : List Event) (order : List Entry) → IsWellFormed h → ((p : ℕ) → p < length order → IsUnpreceded h order p)
     → (c k d m p q : ℕ) → Precedes h c k d m → IsPlace (is_of c) k order p → IsPlace (is_of d) m order q → p < q
 in_order h order w free c k d m p q pr P Q =
@@ -140,7 +140,7 @@ in_order h order w free c k d m p q pr P Q =
           (moved h c k d m P.element.client (named order p P.element) Q.element.client (named order q Q.element) (sym of-c.0) (sym of-c.1) (sym of-d.0) (sym of-d.1) pr))
     ]
 
--- an order is legal where each of its fronts is
+-- an order is legal if each of its fronts is
 whole_legal : {A : Type 0} (step : Sequential A) (s : A) (order : List Entry) → ((p : ℕ) → p < length order → IsLegal step s (take (suc p) order)) → IsLegal step s order
 whole_legal step s [] fronts = tt
 whole_legal step s (e ∷ es) fronts = rw (take-length es) at (fronts (length es) (omega arith))

@@ -23,7 +23,7 @@ fewer test (x ∷ xs) (suc m) = step (test x) (fewer test xs m)
     step true h = omega arith
     step false h = h
 
--- a front that ends behind the k-th has more than k
+-- a front that ends after the k-th has more than k
 pub behind : {A : Type 0} (test : A → Bool) (xs : List A) (i n : ℕ) (x : A) → slice_get xs i ≡ Some x → test x ≡ true → i < n → count test (take i xs) < count test (take n xs)
 behind test [] i n x at is lt = absurd cc
 behind test (y ∷ xs) i zero x at is lt = absurd (omega arith)

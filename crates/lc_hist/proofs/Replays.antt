@@ -65,7 +65,7 @@ fits_next step Fits s u (d ∷ es) (suc p) e at l fits here =
     let rest = fits_next step Fits l.0 u es p e at l.2 (fits.1 l.0 l.1) here in
     (fits.0, λ t taken. subst (λ z. FitsAlong step Fits z (take (suc p) es)) (one_state step s l.0 t d l.1 taken) rest)
 
--- where numbers fit up to a place, they fit at an earlier one
+-- if numbers fit up to a place, they fit at an earlier one
 pub fits_at : {A : Type 0} (step : Sequential A) (Fits : A → ℕ → Call → Choice → Type 0) (s u : A) (order : List Entry) (n p : ℕ) (e : Entry) → p < n → slice_get order p ≡ Some e → Leads step s (take p order) u
     → FitsAlong step Fits s (take n order) → Fits u e.client e.call e.choice
 fits_at step Fits s u [] n p e lt at l fits = absurd cc
@@ -209,7 +209,7 @@ failing_fits step Fits start h order p e span flag s t MissingCall leads fits at
 failing_fits step Fits start h order p e span flag s t NoStep leads fits at checked = fits_next step Fits start s order p e at leads fits checked.2
 failing_fits step Fits start h order p e span flag s t Preceded leads fits at checked = fits_next step Fits start s order p e at leads fits checked.2
 
--- a number does not fit where an entry's call is applied
+-- a number does not fit when an entry's call is applied
 pub overflowing : {A : Type 0} (step : Sequential A) (Fits : A → ℕ → Call → Choice → Type 0) (start : A) (h : List Event) (order : List Entry) (spans : List (Option Span)) (flags : List Bool) (p : ℕ) (e : Entry) (span : Option Span) (flag : Bool) (s t : A)
     → AreNames h order spans flags → PassesBefore step start h order p → Leads step start (take p order) s → FitsAlong step Fits start (take p order) → slice_get order p ≡ Some e → slice_get spans p ≡ Some span → slice_get flags p ≡ Some flag
     → IsChecked step Fits h span flag e s t (Err Overflow) → IsOverflow step Fits start h order p
@@ -253,7 +253,7 @@ pub handed_on : {A : Type 0} (step : Sequential A) (Fits : A → ℕ → Call �
 handed_on step Fits start h order (Ok x) fault e known = absurd e
 handed_on step Fits start h order (Err y) fault e known = subst (λ z. IsReplayed step Fits start h order (Err z)) (sym e) known
 
--- what is answered of the entries is what is answered of the order, where a fault stands
+-- the judgement of the entries is the judgement of the order, if there is a fault
 pub judged_so : {A : Type 0} (step : Sequential A) (Fits : A → ℕ → Call → Choice → Type 0) (start : A) (h : List Event) (order : List Entry) (r : Result (Unit {0}) JudgeFault) (fault : JudgeFault)
     → IsWellFormed h → IsErrAnd r (λ y. y ≡ fault) → IsReplayed step Fits start h order (Err fault) → IsJudged step Fits start h order r
 judged_so step Fits start h order (Ok x) fault w e known = absurd e
@@ -290,7 +290,7 @@ each_complete h order clients are seen whole c d lt =
     let enough = whole c in
     omega (arith, ap length its, length-places_from (is_return c) 0 h, seen c client at, enough)
 
--- where the entries pass and each returned call has one, each test is passed
+-- if the entries pass and each returned call has one, each test is passed
 pub passes_each : {A : Type 0} (step : Sequential A) (start : A) (h : List Event) (order : List Entry) → PassesBefore step start h order (length order) → IsComplete h order → PassesEach step start h order
 passes_each step start h order before whole OtherCall p tested = before p OtherCall tested tested
 passes_each step start h order before whole OtherReply p tested = before p OtherReply tested tested
@@ -298,7 +298,7 @@ passes_each step start h order before whole MissingCall p tested = whole
 passes_each step start h order before whole NoStep p tested = before p NoStep tested tested
 passes_each step start h order before whole Preceded p tested = before p Preceded tested tested
 
--- where only a returned call is missing
+-- if only a returned call is missing
 pub missing : {A : Type 0} (step : Sequential A) (start : A) (h : List Event) (order : List Entry) (place : ℕ) → place ≡ length order → PassesBefore step start h order (length order) → (IsComplete h order → ⊥)
     → IsFirstFailure step start h order place MissingCall
 missing step start h order place last before lacks = record {
@@ -318,7 +318,7 @@ missing step start h order place last before lacks = record {
 pub seam : {A : Type 0} (n : ℕ) (xs ys : List A) → n ≡ length xs → take n (xs ++ ys) ≡ xs
 seam n xs ys e = ap (λ k. take k (xs ++ ys)) e ∙ take-append_seam xs ys
 
--- what is answered where the entries pass and the clients are complete
+-- what is returned if the entries pass and the clients are complete
 pub all_pass : {A : Type 0} (step : Sequential A) (Fits : A → ℕ → Call → Choice → Type 0) (start : A) (h : List Event) (order : List Entry) (clients : List Client)
     → IsWellFormed h → AreClients h clients → HaveSeen (λ c. count (is_of c) order) clients → PassesBefore step start h order (length order) × FitsAlong step Fits start order
     → All (λ client. length client.returns.items ≤ client.entries) clients → Linearizes step start h order × FitsAlong step Fits start order
@@ -327,7 +327,7 @@ all_pass step Fits start h order clients w are seen known all = (
   known.1,
 )
 
--- what is answered where the entries pass and the clients are not complete
+-- what is returned if the entries pass and the clients are not complete
 pub some_missing : {A : Type 0} (step : Sequential A) (Fits : A → ℕ → Call → Choice → Type 0) (start : A) (h : List Event) (order : List Entry) (clients : List Client) (place : ℕ)
     → IsWellFormed h → AreClients h clients → HaveSeen (λ c. count (is_of c) order) clients → PassesBefore step start h order (length order) × FitsAlong step Fits start order
     → (All (λ client. length client.returns.items ≤ client.entries) clients → ⊥) → place ≡ length order

@@ -1,4 +1,4 @@
--- Where calls stand in a history.
+-- Where calls are in a history.
 use Rattle.std.proofs.Common.{◌≡◌, ◌≢◌, ℕ, zero, suc, ◌+◌, ◌<◌, ◌≤◌, Bool, true, false, not, ◌==◌, cond, List, [], ◌∷◌, ◌++◌, ℤ, Option, Some, None, option_map, take, slice_get, get_or, set, length, refl, ap, sym, subst, ◌∙◌, inl, inr, add-one, append-nil, arith}
 use Rattle.std.proofs.lemmas.Bool.{cases_order}
 use Rattle.std.proofs.lemmas.Bool.Decides.{eqb_tells}
@@ -132,7 +132,7 @@ clients_next h n e clients old new are at known lt calls returns =
       returns = returns_next h n e clients old new are at known lt returns;
     })
 
--- a client of which the same number of entries was seen
+-- a client with the same number of entries seen
 pub seen_same : (n : ℕ → ℕ) (clients : List Client) (d : ℕ) (old new : Client) → HaveSeen n clients → slice_get clients d ≡ Some old → d < length clients → new.entries ≡ old.entries
     → HaveSeen n (set clients d new)
 seen_same n clients d old new seen known lt same c client at =
@@ -187,7 +187,7 @@ pub span_beyond : (h : List Event) (clients : List Client) (d k : ℕ) → AreCl
 span_beyond h clients d k are le =
     ap (λ z. span_at z (places_from (is_return d) 0 h) k) (sym (ap calls_of (slice_get_past clients d le)) ∙ are.calls d)
 
--- what is above the clients of n events is above those of one more, where it rises above the next one's
+-- what is above the clients of n events is above those of one more, if it rises above the next one's
 pub above_next : (h : List Event) (n : ℕ) (x : Event) (old new : ℕ) → ((i : ℕ) (e : Event) → i < n → slice_get h i ≡ Some e → client_of e < old)
     → slice_get h n ≡ Some x → old ≤ new → client_of x < new → (i : ℕ) (e : Event) → i < n + 1 → slice_get h i ≡ Some e → client_of e < new
 above_next h n x old new above at le lt i e less is =

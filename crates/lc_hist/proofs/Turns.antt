@@ -1,4 +1,4 @@
--- Events in turn, and which clients are in a call behind them.
+-- Events in turn, and which clients are in a call after them.
 use Rattle.std.proofs.Common.{◌≡◌, ℕ, zero, suc, ◌+◌, ◌<◌, ◌≤◌, Bool, true, false, not, ◌==◌, option_map, add-one, cond, List, [], ◌∷◌, Some, take, slice_get, length, get_or, refl, ap, sym, subst, ◌∙◌, inl, inr, arith}
 use mathlib.Core.Bool.{beq}
 use Rattle.std.proofs.lemmas.Bool.{cases_order}
@@ -33,7 +33,7 @@ count-take_suc test (y ∷ xs) (suc i) x at = step (test y) (test x) (count-take
     step false true h = h
     step false false h = h
 
--- these clients are in a call behind the events
+-- these clients are in a call after the events
 abbrev pub AreBusy : List Event → (ℕ → Bool) → Type 0
 AreBusy h busy = (c : ℕ) → count (is_call c) h ≡ cond (busy c) (suc (count (is_return c) h)) (count (is_return c) h)
 

@@ -1,4 +1,4 @@
--- What is tested of one entry of an order, by where its call stands.
+-- What is tested of one entry of an order, by where its call is.
 use Rattle.std.specs.Prelude.{◌≡◌, ◌<◌, ℕ, Bool, true, false, List, ℤ, Option, Some, None, IfSome, Result, Ok, Err, length, take, slice_get}
 use Rattle.lc_seq.specs.Sequential.{Call, Sequential, Step, Choice}
 use Rattle.lc_seq.specs.declared.fault.SeqFault.{SeqFault}
@@ -51,7 +51,7 @@ IsNamed h span call = call_at h span ≡ Some call
 abbrev pub IsReplied : List Event → Option Span → List ℤ → Type 0
 IsReplied h span reply = (given : List ℤ) → reply_at h span ≡ Some given → reply ≡ given
 
--- whether a step with this reply is taken, where the numbers that are reached fit
+-- whether a step with this reply is taken, if the numbers that are reached fit
 abbrev pub IsTaken : {A : Type 0} → Sequential A → (A → ℕ → Call → Choice → Type 0) → A → A → Entry → Result Bool SeqFault → Type 0
 IsTaken step Fits old new e (Ok true) = Fits old e.client e.call e.choice × Step step old e.client e.call e.choice new e.reply
 IsTaken {A} step Fits old new e (Ok false) = Fits old e.client e.call e.choice × ((t : A) → Step step old e.client e.call e.choice t e.reply → ⊥)
@@ -72,7 +72,7 @@ IsChecked step Fits h span preceded e old new (Ok (Some MissingCall)) = ⊥
 IsChecked step Fits h span preceded e old new (Err Overflow) = IsNamed h span e.call × IsReplied h span e.reply × (Fits old e.client e.call e.choice → ⊥)
 IsChecked step Fits h span preceded e old new (Err OutOfMemory) = Unit {0}
 
--- it is known where the calls stand that the entries name, and which places are preceded
+-- it is known where the calls are that the entries name, and which places are preceded
 pub record AreNames (h : List Event) (order : List Entry) (spans : List (Option Span)) (preceded : List Bool) : Type 0 where
   pub well_formed : IsWellFormed h
   pub found : (p : ℕ) (e : Entry) → slice_get order p ≡ Some e → slice_get spans p ≡ Some (span_of h e.client (named order p e))
@@ -80,7 +80,7 @@ pub record AreNames (h : List Event) (order : List Entry) (spans : List (Option 
   pub told : (p : ℕ) → p < length spans → slice_get preceded p ≡ Some (is_preceded spans p)
   pub flags : length preceded ≡ length spans
 
--- what is answered of the entries
+-- what is returned for the entries
 abbrev pub IsReplayed : {A : Type 0} → Sequential A → (A → ℕ → Call → Choice → Type 0) → A → List Event → List Entry → Result (Unit {0}) F.JudgeFault → Type 0
 IsReplayed step Fits start h order (Ok done) = PassesBefore step start h order (length order) × FitsAlong step Fits start order
 IsReplayed step Fits start h order (Err (V.Order place reason)) = IsFirstFailure step start h order place reason × FitsAlong step Fits start (take (applied reason place) order)

@@ -11,7 +11,7 @@ use Rattle.lc_hist.specs.declared.history.HistoryFault.TheVariants.{OutOfTurn, O
 abbrev pub events_in : History → List H.Event
 events_in history = events_of history.events.items
 
--- what is answered to events that are to be a history: the history of these, or the first event out of turn
+-- what is returned for events that are to be a history: the history of these, or the first event out of turn
 abbrev pub IsHistory : List H.Event → Result History HistoryFault → Type 0
 IsHistory events (Ok history) = events_in history ≡ events
 IsHistory events (Err (OutOfTurn place)) = IsFirstOutOfTurn events place

@@ -14,7 +14,7 @@ pub record Entry : Type 0 where
   pub choice : Choice
   pub reply : List ℤ
 
--- the order replays from this state under the choices that stand in it, with exactly these replies
+-- the order replays from this state under the choices that it has, with exactly these replies
 abbrev pub IsLegal : {A : Type 0} → Sequential A → A → List Entry → Type 0
 IsLegal step s [] = Unit {0}
 IsLegal {A} step s (e ∷ es) = (t : A) × Step step s e.client e.call e.choice t e.reply × IsLegal step t es
@@ -38,7 +38,7 @@ abbrev pub count : {A : Type 0} → (A → Bool) → List A → ℕ
 count test [] = 0
 count test (x ∷ xs) = cond (test x) (suc (count test xs)) (count test xs)
 
--- at `i` stands the k-th element, from 0, that passes the test: it passes, and k before it do
+-- the k-th element, from 0, that passes the test is at `i`: it passes, and k before it do
 pub record IsPlace {A : Type 0} (test : A → Bool) (k : ℕ) (xs : List A) (i : ℕ) : Type 0 where
   pub element : A
   pub stands : slice_get xs i ≡ Some element
@@ -58,7 +58,7 @@ abbrev pub entries_of : ℕ → List Entry → List (Call × List ℤ)
 entries_of c [] = []
 entries_of c (e ∷ es) = cond (e.client == c) ((e.call, e.reply) ∷ entries_of c es) (entries_of c es)
 
--- a call, where there is one, with its reply
+-- a call, if there is one, with its reply
 abbrev pub answered : Option Call → List ℤ → List (Call × List ℤ) → List (Call × List ℤ)
 answered None reply rest = rest
 answered (Some call) reply rest = (call, reply) ∷ rest
@@ -86,7 +86,7 @@ pub record Linearizes {A : Type 0} (step : Sequential A) (start : A) (history : 
   pub legal : IsLegal step start order
   -- each client's order is kept, and each reply
   pub calls : (c : ℕ) → AreCalls c None history (entries_of c order)
-  -- where one call precedes another, it stands earlier
+  -- if one call precedes another, it comes earlier
   pub precedence : (c k d m p q : ℕ) → Precedes history c k d m → IsPlace (is_of c) k order p → IsPlace (is_of d) m order q → p < q
 
 -- some order linearizes the history

@@ -1,4 +1,4 @@
--- Where a reader of a text stands, and the tokens that it has still to read.
+-- Where a reader of a text is, and the tokens that it has still to read.
 use Rattle.std.specs.Prelude.{◌≡◌, ℕ, ◌+◌, ◌<◌, ◌≤◌, ◌^◌, ◌⊎◌, List, [], ◌∷◌, ◌++◌, Bool, true, false, length, drop, slice_index_or, ⊤}
 use Rattle.std.specs.Str.Parse.{AllDigits, digits_value}
 use Rattle.json.specs.Token.{Token}
@@ -36,14 +36,14 @@ ArePlain (x ∷ xs) = IsPlain x × ArePlain xs
 abbrev pub Ends : ℕ → Type 0
 Ends x = (x ≡ 44) ⊎ (x ≡ 93)
 
--- from one place to another stand plain bytes
+-- there are plain bytes from one place to another
 pub record ArePlainBetween (text : List ℕ) (from end : ℕ) : Type 0 where
   pub bytes : List ℕ
   pub plain : ArePlain bytes
   pub count : from + length bytes ≡ end
   pub stand : drop from text ≡ bytes ++ drop end text
 
--- from one place to another stands a number in as few digits as it can be written, and an item ends behind it
+-- from one place to another there is a number in as few digits as it can be written, and an item ends after it
 pub record IsNumeralBetween (text : List ℕ) (from number end : ℕ) : Type 0 where
   pub digits : List ℕ
   pub are : AllDigits 10 digits

@@ -1,4 +1,4 @@
--- What a JSON text says as a history and an order, and what is answered to one.
+-- What a JSON text says as a history and an order, and what is returned for one.
 use Rattle.std.specs.Prelude.{◌≡◌, ◌≤◌, ◌+◌, ◌==◌, ◌⊎◌, ℕ, true, List, [], ◌∷◌, ◌++◌, ℤ, Option, Some, None, IsSome, Result, Ok, Err, option_map, option_and_then, if◌then◌else◌, codes, length, map, take, slice_get, IsUtf8, Vec}
 use Rattle.std.specs.declared.alloc.Global.{Global}
 use Rattle.serde_json.specs.Data.{Data, Members}
@@ -27,13 +27,13 @@ abbrev pub IsCounted : List Operation → List Event → Event → Type 0
 IsCounted operations before (Called c call) = Unit {0}
 IsCounted operations before (Replied c reply) = (call : Call) → pending_of c None before ≡ Some call → has_replies (slice_get operations call.op) (length reply) ≡ true
 
--- behind these events the value is this one: it is of the form, in turn, and a return has its count of numbers
+-- after these events the value is this one: it is of the form, in turn, and a return has its count of numbers
 pub record IsNext (operations : List Operation) (before : List Event) (d : Data) (event : Event) : Type 0 where
   pub form : event_in operations d ≡ Some event
   pub turn : IsInTurn before event
   pub count : IsCounted operations before event
 
--- behind the events `before` the values are further events, each behind those before it, and `all` are all of them
+-- after the events `before` the values are further events, each after those before it, and `all` are all of them
 abbrev pub AreNext : List Operation → List Event → List Data → List Event → Type 0
 AreNext operations before [] all = before ≡ all
 AreNext operations before (d ∷ ds) all = (event : Event) × IsNext operations before d event × AreNext operations (before ++ event ∷ []) ds all
@@ -42,7 +42,7 @@ AreNext operations before (d ∷ ds) all = (event : Event) × IsNext operations 
 abbrev pub AreEvents : List Operation → List Data → List Event → Type 0
 AreEvents operations ds events = AreNext operations [] ds events
 
--- the value at this place is the first that is no event behind those before it
+-- the value at this place is the first that is no event after those before it
 pub record IsFirstWrongEvent (operations : List Operation) (ds : List Data) (place : ℕ) : Type 0 where
   pub value : Data
   pub stands : slice_get ds place ≡ Some value
@@ -94,7 +94,7 @@ pub record SaysHistory (operations : List Operation) (bytes : List ℕ) (said : 
   pub events : AreEvents operations parts.events said
   pub order : AreEntries operations parts.order entries
 
--- Item 0 is the whole text; then come the events, and behind them the entries of the order.
+-- Item 0 is the whole text; then come the events, and after them the entries of the order.
 -- the events are right, and the item is the first wrong entry
 abbrev pub IsWrongInOrder : List Operation → Parts → ℕ → Type 0
 IsWrongInOrder operations parts item =
@@ -118,13 +118,13 @@ entry_seen done = entry_of text_call_of choice_of (λ reply. reply.items) done
 abbrev pub entries_seen : List (Done TextCall Pick (Vec ℤ Global)) → List Entry
 entries_seen order = map entry_seen order
 
--- a refusal at an item of which this is known, or want of memory
+-- a refusal at an item about which this is known, or `OutOfMemory`
 abbrev pub IsRefusedAt : (ℕ → Type 0) → Fault → Type 0
 IsRefusedAt IsWrong (Refused (HistoryShape item)) = IsWrong item
 IsRefusedAt IsWrong (Refused refusal) = ⊥
 IsRefusedAt IsWrong OutOfMemory = Unit {0}
 
--- What is answered to a text: the history and the order that it says, else the first item that is wrong, or want of memory
+-- The answer to a text: the history and the order that it says, else the first item that is wrong, or `OutOfMemory`
 abbrev pub IsHistoryOf : List Operation → List ℕ → Result (History × Vec (Done TextCall Pick (Vec ℤ Global)) Global) Fault → Type 0
 IsHistoryOf operations bytes (Ok answer) = SaysHistory operations bytes (events_in answer.0) (entries_seen answer.1.items)
 IsHistoryOf operations bytes (Err fault) = IsRefusedAt (IsWrongItem operations bytes) fault

@@ -9,9 +9,10 @@ use Rattle.lc_seq.specs.Sequential.{Call, Choice}
 use Rattle.lc_seq.specs.Specification.{Operation}
 use Rattle.lc_hist.specs.History.{Event, Entry}
 use Rattle.lc_hist.specs.JsonHistories.{Parts, parts_in, AreEvents, AreEntries}
+use Rattle.lc_hist.specs.JsonRecorded.{recorded_in}
 use Rattle.lc_hist.specs.JsonValues.{client_in, call_in, event_from, pick_in}
 
--- the tokens begin with this value, in which at most so many lists nest, and these stand behind it
+-- the tokens begin with this value, in which at most `levels` lists nest, and these come after it
 pub record Begins (levels : ℕ) (tokens : List Token) (d : Data) (rest : List Token) : Type 0 where
   pub reads : (depth : ℕ) → levels ≤ depth → converted of_json (value depth tokens) ≡ Some (d, rest)
 
@@ -28,7 +29,7 @@ Says levels says tokens x rest = (d : Data) × (says d ≡ Some x) × Begins lev
 abbrev pub SayCall : List Operation → List Token → Call → List Token → Type 0
 SayCall operations tokens call rest = (name : Data) × (numbers : Data) × (call_in operations name numbers ≡ Some call) × BeginAll 1 tokens (name ∷ numbers ∷ []) rest
 
--- they begin with what is said of an event behind its client
+-- they begin with the rest of an event, after its client
 abbrev pub SayDeed : List Operation → ℕ → List Token → Event → List Token → Type 0
 SayDeed operations client tokens event rest = (ds : List Data) × ((d : Data) → client_in d ≡ Some client → event_from operations (d ∷ ds) ≡ Some event) × BeginAll 1 tokens ds rest
 
@@ -50,12 +51,24 @@ SayEvents operations tokens events rest = (ds : List Data) × AreEvents operatio
 abbrev pub SayEntries : List Operation → List Token → List Entry → List Token → Type 0
 SayEntries operations tokens entries rest = (ds : List Data) × AreEntries operations ds entries × Begins 4 tokens (array (items_of ds)) rest
 
--- they are the members `events` and `order` of an object, with these events and these entries, and the end of the text
-abbrev pub AreMembers : List Operation → List Token → List Event → List Entry → Type 0
-AreMembers operations tokens events entries =
-    (first : List Token) × (second : List Token) × (third : List Token) × (read_key tokens ≡ Some (Some (codes "events"), first)) × SayEvents operations first events second
-    × (read_key second ≡ Some (Some (codes "order"), third)) × SayEntries operations third entries (Token.end_object ∷ [])
+-- they are the member `order` of an object, with these entries, and the end of the text
+abbrev pub AreLast : List Operation → List Token → List Entry → Type 0
+AreLast operations tokens entries =
+    (between : List Token) × (read_key tokens ≡ Some (Some (codes "order"), between)) × SayEntries operations between entries (Token.end_object ∷ [])
 
--- a text is JSON of an object with arrays of these events and these entries
-abbrev pub AreSaid : List Operation → List ℕ → List Event → List Entry → Type 0
-AreSaid operations text events entries = (parts : Parts) × (option_and_then parts_in (read text) ≡ Some parts) × AreEvents operations parts.events events × AreEntries operations parts.order entries
+-- after the events there is the end of the text, or the order and the end
+abbrev pub AreBehind : List Operation → List Token → Option (List Entry) → Type 0
+AreBehind operations tokens None = tokens ≡ Token.end_object ∷ []
+AreBehind operations tokens (Some entries) = AreLast operations tokens entries
+
+-- they are the member `events` of an object, with these events, and the member `order`, if there is an order, and the end of the text
+abbrev pub AreMembers : List Operation → List Token → List Event → Option (List Entry) → Type 0
+AreMembers operations tokens events order =
+    (first : List Token) × (second : List Token) × (read_key tokens ≡ Some (Some (codes "events"), first)) × SayEvents operations first events second × AreBehind operations second order
+
+-- a text is JSON of an object with arrays of these events and these entries, or of these events alone
+abbrev pub AreSaid : List Operation → List ℕ → List Event → Option (List Entry) → Type 0
+AreSaid operations text events None =
+    (ds : List Data) × (option_and_then recorded_in (read text) ≡ Some (record { events = ds; order = [] })) × AreEvents operations ds events
+AreSaid operations text events (Some entries) =
+    (parts : Parts) × (option_and_then parts_in (read text) ≡ Some parts) × AreEvents operations parts.events events × AreEntries operations parts.order entries

@@ -60,7 +60,7 @@ abbrev pub call_in : List Operation → Data → Data → Option Call
 call_in operations name numbers =
     option_and_then (λ op. option_and_then (call_with operations op) (numbers_in numbers)) (option_and_then (operation_of operations) (as_str name))
 
--- the operation replies so many numbers
+-- the operation replies n numbers
 abbrev pub has_replies : Option Operation → ℕ → Bool
 has_replies None n = false
 has_replies (Some o) n = o.replies == n
@@ -79,7 +79,7 @@ event_from operations (client ∷ word ∷ name ∷ numbers ∷ []) = if is_word
 event_from operations (client ∷ word ∷ numbers ∷ []) = if is_word (codes "return") word then respond_from client numbers else None
 event_from operations ds = None
 
--- an event, whatever stands before it
+-- an event, whatever comes before it
 abbrev pub event_in : List Operation → Data → Option Event
 event_in operations d = option_and_then (λ ds. event_from operations (values_in ds)) (as_array d)
 
@@ -88,7 +88,7 @@ abbrev pub choice_from : List Data → Option Choice
 choice_from (name ∷ numbers ∷ []) = option_and_then (λ text. option_map (ByName text) (numbers_in numbers)) (as_str name)
 choice_from ds = None
 
--- how a branch is chosen: in order, where nothing says it
+-- how a branch is chosen: in order, if nothing says it
 abbrev pub choice_in : Option Data → Option Choice
 choice_in None = Some InOrder
 choice_in (Some d) = option_and_then (λ ds. choice_from (values_in ds)) (as_array d)
@@ -117,7 +117,7 @@ done_from operations client name numbers reply said =
     option_and_then (λ c. option_and_then (λ call. option_and_then (λ choice. option_and_then (entry_with operations c call choice) (numbers_in reply))
     (pick_in operations call.op said)) (call_in operations name numbers)) (client_in client)
 
--- `[CLIENT,NAME,[NUMBER,..],[NUMBER,..]]`, and behind these `["NAME",[NUMBER,..]]` where the operation has choices
+-- `[CLIENT,NAME,[NUMBER,..],[NUMBER,..]]`, and after these `["NAME",[NUMBER,..]]` if the operation has choices
 abbrev pub entry_from : List Operation → List Data → Option Entry
 entry_from operations (client ∷ name ∷ numbers ∷ reply ∷ []) = done_from operations client name numbers reply None
 entry_from operations (client ∷ name ∷ numbers ∷ reply ∷ choice ∷ []) = done_from operations client name numbers reply (Some choice)

@@ -21,7 +21,7 @@ number_data z = number (of_integer z)
 abbrev pub numbers_data : List ℤ → Data
 numbers_data zs = list_data (map number_data zs)
 
--- the name of an operation, and `null` where there is none
+-- the name of an operation, and `null` if there is none
 abbrev pub name_of : Option Operation → Data
 name_of None = null
 name_of (Some o) = string o.name
@@ -35,12 +35,12 @@ abbrev pub event_data : List Operation → Event → Data
 event_data operations (Called c call) = list_data (number (unsigned c) ∷ string (codes "call") ∷ name_data operations call.op ∷ numbers_data call.numbers ∷ [])
 event_data operations (Replied c reply) = list_data (number (unsigned c) ∷ string (codes "return") ∷ numbers_data reply ∷ [])
 
--- `["NAME",[NUMBER,..]]`, where a branch is chosen by its name
+-- `["NAME",[NUMBER,..]]`, if a branch is chosen by its name
 abbrev pub choice_data : Choice → List Data
 choice_data InOrder = []
 choice_data (ByName name numbers) = list_data (string name ∷ numbers_data numbers ∷ []) ∷ []
 
--- `[CLIENT,NAME,[NUMBER,..],[NUMBER,..]]`, and behind these the choice
+-- `[CLIENT,NAME,[NUMBER,..],[NUMBER,..]]`, and after these the choice
 abbrev pub entry_data : List Operation → Entry → Data
 entry_data operations e =
     list_data (number (unsigned e.client) ∷ name_data operations e.call.op ∷ numbers_data e.call.numbers ∷ numbers_data e.reply ∷ choice_data e.choice)

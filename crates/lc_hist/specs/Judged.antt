@@ -25,12 +25,12 @@ abbrev pub Leads : {A : Type 0} → Sequential A → A → List Entry → A → 
 Leads step s [] t = s ≡ t
 Leads {A} step s (e ∷ es) t = (u : A) × Step step s e.client e.call e.choice u e.reply × Leads step u es t
 
--- the numbers that are reached fit where the calls of entries are applied one after the other
+-- the numbers that are reached fit when the calls of entries are applied one after the other
 abbrev pub FitsAlong : {A : Type 0} → Sequential A → (A → ℕ → Call → Choice → Type 0) → A → List Entry → Type 0
 FitsAlong step Fits s [] = Unit {0}
 FitsAlong {A} step Fits s (e ∷ es) = Fits s e.client e.call e.choice × ((t : A) → Step step s e.client e.call e.choice t e.reply → FitsAlong step Fits t es)
 
--- how many calls are applied up to a test: the call of its own place only where the test speaks of its step
+-- how many calls are applied up to a test: the call of its own place only if the test is about its step
 abbrev pub applied : Reason → ℕ → ℕ
 applied OtherCall place = place
 applied OtherReply place = place
@@ -38,7 +38,8 @@ applied MissingCall place = place
 applied NoStep place = suc place
 applied Preceded place = suc place
 
--- the numbers fit up to this place, the entry is its client's call with its reply, and a number leaves what the object computes with where that call is applied
+-- the numbers fit up to this place, the entry is its client's call with its reply, and a number leaves what the object computes with when that call
+-- is applied
 pub record IsOverflow {A : Type 0} (step : Sequential A) (Fits : A → ℕ → Call → Choice → Type 0) (start : A) (history : List Event) (order : List Entry) (place : ℕ) : Type 0 where
   pub entry : Entry
   pub state : A
@@ -50,7 +51,7 @@ pub record IsOverflow {A : Type 0} (step : Sequential A) (Fits : A → ℕ → C
   pub fits : FitsAlong step Fits start (take place order)
   pub overflows : Fits state entry.client entry.call entry.choice → ⊥
 
--- what is answered of an order: whether it linearizes the history, and that the numbers fit that were reached; or that they do not
+-- what is returned for an order: whether it linearizes the history, and that the numbers fit that were reached; or that they do not
 abbrev pub IsJudged : {A : Type 0} → Sequential A → (A → ℕ → Call → Choice → Type 0) → A → List Event → List Entry → Result (Unit {0}) JudgeFault → Type 0
 IsJudged step Fits start history order (Ok done) = Linearizes step start history order × FitsAlong step Fits start order
 IsJudged step Fits start history order (Err (Order place reason)) =
@@ -58,7 +59,7 @@ IsJudged step Fits start history order (Err (Order place reason)) =
 IsJudged step Fits start history order (Err Overflow) = (place : ℕ) × IsOverflow step Fits start history order place
 IsJudged step Fits start history order (Err OutOfMemory) = Unit {0}
 
--- an answer that is none for want of memory
+-- an answer other than `OutOfMemory`
 abbrev pub IsTold : Result (Unit {0}) JudgeFault → Type 0
 IsTold (Ok done) = Unit {0}
 IsTold (Err (Order place reason)) = Unit {0}

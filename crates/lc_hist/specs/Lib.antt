@@ -7,6 +7,7 @@ pub mod JsonCursor
 pub mod JsonHistories
 pub mod JsonItems
 pub mod JsonKept
+pub mod JsonRecorded
 pub mod JsonSeen
 pub mod JsonTokens
 pub mod JsonValues

@@ -1,10 +1,10 @@
--- Where calls stand in a history.
+-- Where calls are in a history.
 use Rattle.std.specs.Prelude.{◌≡◌, ℕ, zero, suc, Bool, false, cond, min, nat_lt, ◌==◌, List, [], ◌∷◌, Option, Some, None, option_map, slice_get}
 use Rattle.lc_hist.specs.History.{Event, is_call, is_return}
 use Rattle.lc_hist.specs.declared.spans.Span.{Span}
 use Rattle.lc_hist.specs.declared.spans.Client.{Client}
 
--- the places of the elements that pass the test, in order, where the first element stands at n
+-- the places of the elements that pass the test, in order, with the first element at n
 abbrev pub places_from : {A : Type 0} → (A → Bool) → ℕ → List A → List ℕ
 places_from test n [] = []
 places_from test n (x ∷ xs) = cond (test x) (n ∷ places_from test (suc n) xs) (places_from test (suc n) xs)
@@ -17,7 +17,7 @@ place_of test k xs = slice_get (places_from test 0 xs) k
 abbrev pub span_at : List ℕ → List ℕ → ℕ → Option Span
 span_at calls returns k = option_map (λ i. record { called = i; returned = slice_get returns k }) (slice_get calls k)
 
--- where the k-th call of c stands in a history
+-- where the k-th call of c is in a history
 abbrev pub span_of : List Event → ℕ → ℕ → Option Span
 span_of h c k = span_at (places_from (is_call c) 0 h) (places_from (is_return c) 0 h) k
 
@@ -34,7 +34,7 @@ pub record AreClients (h : List Event) (clients : List Client) : Type 0 where
   pub calls : (c : ℕ) → calls_of (slice_get clients c) ≡ places_from (is_call c) 0 h
   pub returns : (c : ℕ) → returns_of (slice_get clients c) ≡ places_from (is_return c) 0 h
 
--- so many entries of each client were seen
+-- this many entries of each client were seen
 abbrev pub HaveSeen : (ℕ → ℕ) → List Client → Type 0
 HaveSeen n clients = (c : ℕ) (client : Client) → slice_get clients c ≡ Some client → client.entries ≡ n c
 
@@ -58,7 +58,7 @@ abbrev pub earliest_return : List (Option Span) → Option ℕ
 earliest_return [] = None
 earliest_return (span ∷ spans) = earlier (earliest_return spans) (return_of span)
 
--- a return stands before the beginning of a call
+-- a return comes before the beginning of a call
 abbrev pub is_before : Option ℕ → Option Span → Bool
 is_before None span = false
 is_before (Some r) None = false

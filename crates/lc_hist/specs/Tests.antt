@@ -25,7 +25,7 @@ named order place e = count (is_of e.client) (take place order)
 abbrev pub NamesItsCall : List Event → List Entry → ℕ → Type 0
 NamesItsCall history order p = (e : Entry) → slice_get order p ≡ Some e → IsCallOf history e.client (named order p e) e.call
 
--- where that call returned, it returned the entry's reply
+-- if that call returned, it returned the entry's reply
 abbrev pub HasItsReply : List Event → List Entry → ℕ → Type 0
 HasItsReply history order p = (e : Entry) → slice_get order p ≡ Some e → (reply : List ℤ) → IsReplyOf history e.client (named order p e) reply → e.reply ≡ reply
 
@@ -46,7 +46,7 @@ Passes step start history order MissingCall p = IsComplete history order
 Passes step start history order NoStep p = IsLegal step start (take (suc p) order)
 Passes step start history order Preceded p = IsUnpreceded history order p
 
--- the places at which a reason is tested: each place of the order, and a missing call only behind the last
+-- the places at which a reason is tested: each place of the order, and a missing call only after the last
 abbrev pub IsTested : ℕ → Reason → ℕ → Type 0
 IsTested n OtherCall p = p < n
 IsTested n OtherReply p = p < n

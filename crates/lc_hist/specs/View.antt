@@ -16,7 +16,7 @@ event_of (Respond client numbers) = Replied client numbers.items
 abbrev pub events_of : List Event → List H.Event
 events_of events = map event_of events
 
--- an entry, where it is known what its call, its choice and its reply stand for
+-- an entry, if it is known what its call, its choice and its reply stand for
 abbrev pub entry_of : {C H R : Type 0} → (C → Call) → (H → Choice) → (R → List ℤ) → Done C H R → Entry
 entry_of call choice numbers done = record { client = done.client; call = call done.call; choice = choice done.choice; reply = numbers done.reply }
 

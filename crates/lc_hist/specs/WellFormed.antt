@@ -14,7 +14,7 @@ abbrev pub begins : Event → Bool
 begins (Called c call) = true
 begins (Replied c reply) = false
 
--- behind these events this one is in turn: a call where each call of its client has returned, a return where one has not
+-- after these events this one is in turn: a call if each call of its client has returned, a return if one has not
 pub record IsInTurn (before : List Event) (event : Event) : Type 0 where
   pub called : (c : ℕ) (call : Call) → event ≡ Called c call → count (is_call c) before ≡ count (is_return c) before
   pub replied : (c : ℕ) (reply : List ℤ) → event ≡ Replied c reply → count (is_call c) before ≡ suc (count (is_return c) before)

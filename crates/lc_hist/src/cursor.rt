@@ -1,5 +1,5 @@
-//! The tokens of a text that is written as programs write it: spaces stand behind commas and colons alone, no text has
-//! escapes, and numbers are integers. Where a text is of another form nothing is found, and the values of the text tell what is
+//! The tokens of a text that is written as programs write it: spaces come after commas and colons alone, no text has
+//! escapes, and numbers are integers. If a text is of another form nothing is found, and the values of the text say what is
 //! wrong.
 ghost use Rattle.std.specs.Prelude.{◌≡◌, ◌+◌, ◌<◌, ◌≤◌, ℕ, ◌∷◌, ◌++◌, Some, IsTrue, IfSome, length, drop, slice_index, option_and_then};
 ghost use Rattle.json.specs.Align.{is_blank};
@@ -15,10 +15,10 @@ use crate::tokens::are_same;
 use lc_base::CLIENT_LIMIT;
 use std::marker::Model;
 
-/// Where the next token stands.
+/// Where the next token is.
 #[derive(Clone, Copy)]
 enum Place {
-    /// Behind a bracket that opens, or a colon.
+    /// After a bracket that opens, or a colon.
     Fresh,
     AfterValue,
     AfterComma,
@@ -38,7 +38,7 @@ impl Place {
     }
 }
 
-/// A text, and where in it the next token stands. A clause sees the tokens that are still to come.
+/// A text, and where in it the next token is. A clause sees the tokens that are still to come.
 #[derive(Drop)]
 pub(crate) struct Cursor<'a> {
     text: &'a [u8],
@@ -70,7 +70,7 @@ fn is_plain(byte: u8) -> bool
     byte >= b' ' && byte != b'"' && byte != b'\\'
 }
 
-/// Where the spaces end that stand from a place on.
+/// Where the spaces end that begin at a place.
 fn spaces_end(text: &[u8], from: usize) -> usize
     ensures { (p : Place) → tokens_at p (drop result text.now) ≡ tokens_at p (drop from text.now) }
 {
@@ -81,7 +81,7 @@ fn spaces_end(text: &[u8], from: usize) -> usize
     end
 }
 
-/// Where the plain bytes end that stand from a place on.
+/// Where the plain bytes end that begin at a place.
 fn plain_end(text: &[u8], from: usize) -> usize
     ensures { ArePlainBetween text.now from result }
 {
@@ -105,7 +105,7 @@ fn ends_item(text: &[u8], at: usize) -> bool
     text[at] == b']'
 }
 
-/// What stands behind a value that ends at a place, and behind its comma.
+/// What comes after a value that ends at a place, and after its comma.
 fn behind(text: &[u8], end: usize) -> (usize, Place)
     ensures { tokens_at result.1 (drop result.0 text.now) ≡ tokens_at AfterValue (drop end text.now) }
 {

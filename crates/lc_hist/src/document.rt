@@ -1,15 +1,17 @@
 //! The values of a JSON text, looked up in its tokens: no tree of them is made, so the memory that a text takes goes by its length,
-//! whatever stands in it.
+//! whatever it holds.
 ghost use Rattle.std.specs.Prelude.{◌≡◌, ℕ, List, [], true, false, ◌∷◌, ◌&&◌, ◌<◌, IfOk, OnSome, MatchOption, Some, None, length, nat_le, is_some, option_map};
 ghost use Rattle.json.specs.Json.{Json};
 ghost use Rattle.json.specs.Tree.{depth};
 ghost use Rattle.json.specs.Find.{BeginsWith};
+ghost use Rattle.serde_json.specs.Data.{object};
 ghost use Rattle.serde_json.specs.Find.{as_number, as_str, as_array};
 ghost use Rattle.serde_json.specs.Read.{of_json, number_of, number_from};
 ghost use Rattle.serde_json.specs.View.{number_view};
 ghost use Rattle.lc_hist.specs.JsonItems.{data_at, values_at, AreTokensOf};
 ghost use Rattle.lc_hist.specs.JsonHistories.{parts_in};
-ghost use Rattle.lc_hist.specs.JsonSeen.{parts_seen, HasValue, IsNoJson};
+ghost use Rattle.lc_hist.specs.JsonRecorded.{recorded_in};
+ghost use Rattle.lc_hist.specs.JsonSeen.{parts_seen, recorded_seen, members_with, HasNoParts, HasValue, IsNoJson};
 ghost use Rattle.lc_hist.specs.JsonValues.{values_in};
 
 use fast_float::Numeral;
@@ -22,7 +24,7 @@ use std::marker::Model;
 /// As deep as arrays and objects may nest.
 const MAX_DEPTH: usize = 127;
 
-/// A value, of which a clause sees the tokens from where it begins.
+/// A value; a clause sees the tokens from where it begins.
 #[derive(Drop)]
 pub(crate) struct Item<'t, 'a> {
     element: Element<'t, 'a>,
@@ -42,7 +44,7 @@ impl<'t, 'a> Model for Item<'t, 'a> {
     ghost invariant = { λ a. IsData a.element };
 }
 
-/// The values of an array that are still to come, of which a clause sees the tokens from where the next begins.
+/// The values of an array that are still to come; a clause sees the tokens from where the next begins.
 #[derive(Drop)]
 pub(crate) struct Items<'t, 'a> {
     items: json::Items<'t, 'a>,
@@ -69,6 +71,13 @@ pub(crate) struct Parts<'t, 'a> {
     pub(crate) order: Items<'t, 'a>,
 }
 
+/// The values of the events, and those of the order, if there is one.
+#[derive(Drop)]
+pub(crate) struct Recorded<'t, 'a> {
+    pub(crate) events: Items<'t, 'a>,
+    pub(crate) order: Option<Items<'t, 'a>>,
+}
+
 /// A number without a sign.
 fn unsigned(numeral: &Numeral<'_>) -> Option<Number>
     ensures { option_map number_view result ≡ number_from false numeral.now }
@@ -79,7 +88,7 @@ fn unsigned(numeral: &Numeral<'_>) -> Option<Number>
     }
 }
 
-/// A number behind its sign.
+/// A number after its sign.
 fn negative(numeral: &Numeral<'_>) -> Option<Number>
     ensures { option_map number_view result ≡ number_from true numeral.now }
 {
@@ -189,9 +198,9 @@ impl<'t, 'a> Item<'t, 'a> {
         })
     }
 
-    /// The values under the keys `events` and `order`, if these are arrays and there is no other key.
-    pub(crate) fn parts(&self) -> Option<Parts<'t, 'a>>
-        ensures { option_map parts_seen result ≡ parts_in (data_at self.now) }
+    /// Its values under the keys `events` and `order`, as far as it has these, if it is an object without another key.
+    fn keyed(&self) -> Option<(Option<Item<'t, 'a>>, Option<Item<'t, 'a>>)>
+        ensures { MatchOption result (HasNoParts (data_at self.now)) (λ keyed. data_at self.now ≡ object (members_with (option_map data_at keyed.0) (option_map data_at keyed.1))) }
     {
         let mut members = self.element.members()?;
         let mut events = None;
@@ -203,10 +212,36 @@ impl<'t, 'a> Item<'t, 'a> {
                 _ => return None,
             }
         }
+        Some((events, order))
+    }
+
+    /// The values under the keys `events` and `order`, if these are arrays and there is no other key.
+    pub(crate) fn parts(&self) -> Option<Parts<'t, 'a>>
+        ensures { option_map parts_seen result ≡ parts_in (data_at self.now) }
+    {
+        let (events, order) = self.keyed()?;
         Some(Parts {
             events: events?.items()?,
             order: order?.items()?,
         })
+    }
+
+    /// The same, if the key `order` may be left out.
+    pub(crate) fn recorded(&self) -> Option<Recorded<'t, 'a>>
+        ensures { option_map recorded_seen result ≡ recorded_in (data_at self.now) }
+    {
+        let (events, order) = self.keyed()?;
+        let events = events?.items()?;
+        match order {
+            None => Some(Recorded {
+                events,
+                order: None,
+            }),
+            Some(order) => Some(Recorded {
+                events,
+                order: Some(order.items()?),
+            }),
+        }
     }
 }
 

@@ -2,9 +2,10 @@
 ghost use Rattle.std.specs.Prelude.{◌≡◌, ◌≤◌, ◌^◌, IfOk, IfSome, MatchResult};
 ghost use Rattle.lc_seq.specs.TextView.{specification_of};
 ghost use Rattle.lc_hist.specs.Histories.{events_in};
-ghost use Rattle.lc_hist.specs.JsonHistories.{IsRefusedAt, IsHistoryOf, SaysHistory, AreEvents, AreEntries, entries_seen};
+ghost use Rattle.lc_hist.specs.JsonHistories.{Parts, IsRefusedAt, IsHistoryOf, AreEvents, AreEntries, entries_seen};
 ghost use Rattle.lc_hist.specs.JsonItems.{values_at};
-ghost use Rattle.lc_hist.specs.JsonSeen.{all_of, may_follow, number_of, IsWrongEventItem, IsWrongEntryItem};
+ghost use Rattle.lc_hist.specs.JsonRecorded.{IsRecordedOf, order_shown};
+ghost use Rattle.lc_hist.specs.JsonSeen.{all_of, order_seen, may_follow, number_of, AreInText, AreInParts, IsWrongInParts, IsWrongEventItem, IsWrongEntryItem};
 ghost use Rattle.lc_hist.specs.View.{event_of};
 
 use crate::document::{Items, root, tokens_of};
@@ -25,7 +26,7 @@ fn wrong(item: usize) -> Fault
     Fault::Refused(Refusal::HistoryShape(item as u64))
 }
 
-/// Whether an event is in turn where its client is in a call of this operation, or in none, and is a return with as
+/// Whether an event is in turn if its client is in a call of this operation, or in none, and is a return with as
 /// many numbers as the operation replies.
 pub(crate) fn may_follow(operations: &Operations<'_>, current: Option<OpId>, event: &Event) -> bool
     ensures { result ≡ may_follow (all_of operations.now) (number_of current) (event_of event.now) }
@@ -64,7 +65,7 @@ fn read_events(
     Ok(History::of_well_formed(events))
 }
 
-/// These entries, else the first that is wrong. So many items stand before them.
+/// These entries, else the first that is wrong. `before` items come before them.
 fn read_order(
     alloc: Global,
     operations: &Operations<'_>,
@@ -86,19 +87,40 @@ fn read_order(
     Ok(order)
 }
 
-/// The history and the order that these bytes say, where all of it is right and stands in the usual order. `None` says nothing
-/// of the bytes.
+/// The history that these bytes say, and the order, if they say one, provided all of it is right and in the usual order. `None`
+/// says nothing about the bytes.
 fn read_at_once(
     alloc: Global,
     operations: &Operations<'_>,
     bytes: &[u8],
-) -> Result<Option<(History, Vec<Done<TextCall, Pick, Vec<i64>>>)>, OutOfMemory>
-    ensures { IfOk result (λ found. IfSome found (λ answer. SaysHistory (all_of operations.now) bytes.now (events_in answer.0) (entries_seen answer.1.items))) }
+) -> Result<Option<(History, Option<Vec<Done<TextCall, Pick, Vec<i64>>>>)>, OutOfMemory>
+    ensures { IfOk result (λ found. IfSome found (λ answer. AreInText (all_of operations.now) bytes.now (events_in answer.0) (order_shown answer.1))) }
 {
     if bytes.len() as u64 > FILE_LIMIT || !simdutf8::is_utf8(bytes) {
         return Ok(None);
     }
     read_right(alloc, operations, bytes)
+}
+
+/// The history of these events, and these entries, none if there is no order; else the first item that is wrong.
+fn read_lists(
+    alloc: Global,
+    operations: &Operations<'_>,
+    events: Items<'_, '_>,
+    order: Option<Items<'_, '_>>,
+) -> Result<(History, Vec<Done<TextCall, Pick, Vec<i64>>>), Fault>
+    ensures { let parts : Parts = record { events = values_at events.entry; order = order_seen order.entry } in MatchResult result
+        (λ answer. AreInParts (all_of operations.now) parts (events_in answer.0) (entries_seen answer.1.items))
+        (IsRefusedAt (IsWrongInParts (all_of operations.now) parts)) }
+{
+    let history = read_events(alloc, operations, events)?;
+    match order {
+        Some(order) => {
+            let order = read_order(alloc, operations, order, 1 + history.events().len())?;
+            Ok((history, order))
+        }
+        None => Ok((history, Vec::new(alloc))),
+    }
 }
 
 /// The history and the order that these bytes say, by their values one after another; else the first item that is wrong.
@@ -119,19 +141,38 @@ fn read_values(
     let Some(parts) = value.parts() else {
         return Err(wrong(0));
     };
-    let history = read_events(alloc, operations, parts.events)?;
-    let order = read_order(alloc, operations, parts.order, 1 + history.events().len())?;
-    Ok((history, order))
+    read_lists(alloc, operations, parts.events, Some(parts.order))
+}
+
+/// The same, if the order may be left out.
+fn read_recorded(
+    alloc: Global,
+    operations: &Operations<'_>,
+    bytes: &[u8],
+) -> Result<(History, Vec<Done<TextCall, Pick, Vec<i64>>>), Fault>
+    ensures { IsRecordedOf (all_of operations.now) bytes.now result }
+{
+    let mut scratch = Scratch::new(alloc);
+    let Some(tape) = tokens_of(alloc, bytes, &mut scratch)? else {
+        return Err(wrong(0));
+    };
+    let Some(value) = root(&tape) else {
+        return Err(wrong(0));
+    };
+    let Some(parts) = value.recorded() else {
+        return Err(wrong(0));
+    };
+    read_lists(alloc, operations, parts.events, parts.order)
 }
 
 /// The history and the order that a JSON text says, of calls of a specification:
 /// `{"events":[E,..],"order":[D,..]}` without another key, where each E is `[CLIENT,"call",NAME,[NUMBER,..]]` or
 /// `[CLIENT,"return",[NUMBER,..]]`, and each D is `[CLIENT,NAME,[NUMBER,..],[NUMBER,..]]`, with a fifth item
-/// `["NAME",[NUMBER,..]]` exactly where the operation has choices.
+/// `["NAME",[NUMBER,..]]` exactly if the operation has choices.
 ///
-/// Else `HistoryShape` has the first item that is wrong: 0 where the bytes are beyond the limit of a file, no JSON, or
-/// no such object; then the events from 1, each of which is wrong where it is not of the form, out of turn, or a return
-/// with another count of numbers than its operation replies; then the entries. `OutOfMemory` says nothing of the text.
+/// Else `HistoryShape` has the first item that is wrong: 0 if the bytes are beyond the limit of a file, no JSON, or
+/// no such object; then the events from 1, each wrong if it is not of the form, out of turn, or a return
+/// with another count of numbers than its operation replies; then the entries. `OutOfMemory` says nothing about the text.
 pub fn history_from_json(
     alloc: Global,
     spec: &TextSpec,
@@ -140,8 +181,29 @@ pub fn history_from_json(
     ensures { IsHistoryOf (specification_of spec.now).operations bytes.now result }
 {
     let operations = Operations::new(alloc, spec.operations())?;
-    if let Some(answer) = read_at_once(alloc, &operations, bytes)? {
-        return Ok(answer);
+    if let Some((history, order)) = read_at_once(alloc, &operations, bytes)? {
+        if let Some(order) = order {
+            return Ok((history, order));
+        }
     }
     read_values(alloc, &operations, bytes)
+}
+
+/// The history that a JSON text says, as it was recorded, and an order, if the text has one: as `history_from_json`, but that the key
+/// `order` may be left out. Without it the order is empty.
+pub fn recorded_from_json(
+    alloc: Global,
+    spec: &TextSpec,
+    bytes: &[u8],
+) -> Result<(History, Vec<Done<TextCall, Pick, Vec<i64>>>), Fault>
+    ensures { IsRecordedOf (specification_of spec.now).operations bytes.now result }
+{
+    let operations = Operations::new(alloc, spec.operations())?;
+    let Some((history, order)) = read_at_once(alloc, &operations, bytes)? else {
+        return read_recorded(alloc, &operations, bytes);
+    };
+    match order {
+        Some(order) => Ok((history, order)),
+        None => Ok((history, Vec::new(alloc))),
+    }
 }

@@ -152,7 +152,7 @@ fn read_event_items(
     read_invoke(alloc, operations, &client, &third, &fourth)
 }
 
-/// The event that the value is, whatever stands before it.
+/// The event that the value is, whatever comes before it.
 pub(crate) fn read_event(
     alloc: Global,
     operations: &Operations<'_>,
@@ -193,7 +193,7 @@ fn read_named_pick(
     Ok(Some(Pick::Named { name, numbers }))
 }
 
-/// How the branch of a call of an operation is chosen, where a value says it, or none does.
+/// How the branch of a call of an operation is chosen, if a value says it, or none does.
 fn read_pick(
     alloc: Global,
     operations: &Operations<'_>,

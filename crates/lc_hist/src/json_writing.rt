@@ -37,7 +37,7 @@ fn numbers_value(alloc: Global, numbers: &[i64]) -> Result<Value, OutOfMemory>
     Ok(Value::from(values))
 }
 
-/// The name of an operation, and `null` where there is none.
+/// The name of an operation, and `null` if there is none.
 fn name_value(alloc: Global, operations: &[Operation], op: OpId) -> Result<Value, OutOfMemory>
     ensures { IfOk result (λ value. view value ≡ name_data (operations_of operations.now) op.0) }
 {

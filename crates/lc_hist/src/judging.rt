@@ -14,7 +14,7 @@ use lc_seq::{SeqFault, SeqObject};
 use std::alloc::Global;
 use thiserror::Error;
 
-/// Why an order is not told to linearize a history.
+/// Why an order is not judged to linearize a history.
 #[derive(Clone, Copy, Debug, PartialEq, Eq, Error)]
 pub enum JudgeFault {
     /// It does not: the first test that it does not pass, by the place in the order, from 0, and the reason.
@@ -53,10 +53,10 @@ impl From<SeqFault> for JudgeFault {
     }
 }
 
-/// Judges whether an order linearizes a history. `Ok` is answered only where it does, and `Order` only where it does
-/// not: it tells the first test that is not passed. At each place from 0 these are, in turn, `OtherCall`, `OtherReply`,
-/// `NoStep` and `Preceded`; behind the last place it is `MissingCall`. Either is answered only where the numbers fit that
-/// were reached up to there, and `Overflow` only where one does not; so an order has one answer, but for want of memory.
+/// Judges whether an order linearizes a history. `Ok` is returned only if it does, and `Order` only if it does
+/// not, with the first test that is not passed. At each place from 0 these are, in turn, `OtherCall`, `OtherReply`,
+/// `NoStep` and `Preceded`; after the last place it is `MissingCall`. Either is returned only if the numbers fit that
+/// were reached up to there, and `Overflow` only if one does not; so an order has one answer, but for `OutOfMemory`.
 pub fn judge<S: SeqObject>(
     alloc: Global,
     object: &S,
@@ -112,7 +112,7 @@ fn replay<S: SeqObject>(
     Ok(())
 }
 
-// The first test that an entry does not pass. Where it passes all, the state is the one behind it.
+// The first test that an entry does not pass. If it passes all, the state is the one after it.
 fn failure_of<S: SeqObject>(
     alloc: Global,
     object: &S,
@@ -189,7 +189,7 @@ fn are_equal(a: &[i64], b: &[i64]) -> bool
     a == b
 }
 
-// Applies an entry's call, and answers whether this gives the entry's reply.
+// Applies an entry's call, and returns whether this gives the entry's reply.
 fn takes_step<S: SeqObject>(
     alloc: Global,
     object: &S,

@@ -2,6 +2,7 @@
 ghost use Rattle.std.specs.Prelude.{◌≡◌, ◌↔◌, ◌⊎◌, ℕ, List, Result, length};
 ghost use Rattle.lc_hist.specs.History.{Event, Entry, Linearizes};
 ghost use Rattle.lc_hist.specs.JsonHistories.{SaysHistory, IsWrongItem};
+ghost use Rattle.lc_hist.specs.JsonRecorded.{SaysRecorded, IsWrongRecordedItem};
 ghost use Rattle.lc_seq.specs.Specification.{Operation};
 ghost use Rattle.lc_hist.specs.Shadowed.{with_choices};
 ghost use Rattle.lc_hist.specs.WellFormed.{IsWellFormed};
@@ -11,7 +12,7 @@ ghost use Rattle.lc_hist.specs.declared.judging.JudgeFault.{JudgeFault};
 
 use lc_seq::{SeqObject, Shadows};
 
-/// An order linearizes a history exactly where it passes each test.
+/// An order linearizes a history exactly if it passes each test.
 pub fn tests_are_exact<S: SeqObject>()
     ensures { (object : S) (history : List Event) (order : List Entry) → IsWellFormed history →
         Linearizes (S.step object) (S.start object) history order ↔ PassesEach (S.step object) (S.start object) history order }
@@ -28,7 +29,20 @@ pub fn a_text_is_read_in_one_way()
         SaysHistory operations bytes events order → IsWrongItem operations bytes item → ⊥ }
 {}
 
-/// Two answers of the judge to one order are the same, unless one is for want of memory.
+/// The same for a JSON text of a recorded history, whose order may be left out; and a text that says a history with an order says these
+/// as a recorded history.
+pub fn a_recorded_text_is_read_in_one_way()
+    ensures said_or_wrong { (operations : List Operation) (bytes : List ℕ) →
+        ((events : List Event) × (order : List Entry) × SaysRecorded operations bytes events order) ⊎ ((item : ℕ) × IsWrongRecordedItem operations bytes item) }
+    ensures one_history { (operations : List Operation) (bytes : List ℕ) (events said : List Event) (order entries : List Entry) →
+        SaysRecorded operations bytes events order → SaysRecorded operations bytes said entries → (events ≡ said) × (order ≡ entries) }
+    ensures one_item { (operations : List Operation) (bytes : List ℕ) (a b : ℕ) → IsWrongRecordedItem operations bytes a → IsWrongRecordedItem operations bytes b → a ≡ b }
+    ensures not_both { (operations : List Operation) (bytes : List ℕ) (events : List Event) (order : List Entry) (item : ℕ) →
+        SaysRecorded operations bytes events order → IsWrongRecordedItem operations bytes item → ⊥ }
+    ensures with_order { (operations : List Operation) (bytes : List ℕ) (events : List Event) (order : List Entry) → SaysHistory operations bytes events order → SaysRecorded operations bytes events order }
+{}
+
+/// Two answers of the judge to one order are the same, unless one is `OutOfMemory`.
 pub fn an_order_has_one_judgement<S: SeqObject>()
     ensures { (object : S) (history : List Event) (order : List Entry) (answer other : Result (Unit {0}) JudgeFault) →
         IsJudged (S.step object) (S.Fits object) (S.start object) history order answer → IsTold answer →

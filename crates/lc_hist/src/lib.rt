@@ -19,7 +19,7 @@ mod tokens;
 
 pub use event::{Done, Event};
 pub use history::{History, HistoryFault};
-pub use json_reading::history_from_json;
+pub use json_reading::{history_from_json, recorded_from_json};
 pub use json_writing::history_to_json;
 pub use judging::{JudgeFault, judge};
 pub use reason::Reason;

@@ -1,4 +1,4 @@
-//! In whose call each client is, behind a beginning of a history.
+//! Which call each client is in after a beginning of a history.
 ghost use Rattle.std.specs.Prelude.{◌≡◌};
 ghost use Rattle.lc_hist.specs.JsonSeen.{number_of, opened};
 ghost use Rattle.lc_hist.specs.View.{event_of};
@@ -7,7 +7,7 @@ use crate::event::Event;
 use lc_base::{OpId, OutOfMemory};
 use std::alloc::Global;
 
-/// In a call of which operation each client is.
+/// Which operation's call each client is in.
 #[derive(Drop)]
 pub(crate) struct OpenCalls {
     operations: Vec<Option<OpId>>,
@@ -49,7 +49,7 @@ impl OpenCalls {
     }
 }
 
-/// In whose call a client is behind its event.
+/// Which operation's call a client is in after its event.
 pub(crate) fn opened(event: &Event) -> Option<OpId>
     ensures { number_of result ≡ opened (event_of event.now) }
 {

@@ -21,7 +21,7 @@ const EARLY: usize = 4;
 /// The operations of a specification, which are found by their names.
 pub(crate) struct Operations<'a> {
     all: &'a [Operation],
-    /// For each name the place at which it stands first.
+    /// For each name the place of its first occurrence.
     places: IndexMap<&'a str, usize>,
     ghost placed: { (name : List ℕ) → lookup (λ key. bytes_eq name key.now) places.entries ≡ place_of (operations_of all.now) name },
 }
@@ -32,7 +32,7 @@ impl Drop for Operations<'_> {
     }
 }
 
-/// Notes the place of a name, unless it stands at one already.
+/// Notes the place of a name, unless it has one already.
 fn note_place<'a>(
     places: &mut IndexMap<&'a str, usize>,
     name: &'a str,
@@ -54,7 +54,7 @@ fn is_named(operation: &Operation, name: &[u8]) -> bool
     are_same(name, operation.name.as_str().as_bytes())
 }
 
-/// The place at which a name stands first, if it is one of the first few: there it is found sooner than in a table.
+/// The place at which a name occurs first, if it is one of the first few: there it is found sooner than in a table.
 #[tactic(auto, using(crate::proofs::JsonNames::counted_on))]
 fn early_place(all: &[Operation], name: &[u8]) -> Option<usize>
     ensures { IfSome result (λ place. place_of (operations_of all.now) name.now ≡ Some place) }
@@ -70,7 +70,7 @@ fn early_place(all: &[Operation], name: &[u8]) -> Option<usize>
     None
 }
 
-/// The name of a branch that has this name, and so many parameters.
+/// The name of a branch with the name `text`, and `count` parameters.
 fn named_branch(branches: &[Branch], text: &str, count: usize) -> Option<Name>
     ensures { MatchOption result (list_any (λ b. names b.label text.now count) (branches_of branches.now) ≡ false)
         (λ name. (bytes_of name ≡ text.now) × (list_any (λ b. names b.label text.now count) (branches_of branches.now) ≡ true)) }
@@ -137,7 +137,7 @@ impl<'a> Operations<'a> {
         }
     }
 
-    /// Whether an operation takes so many numbers.
+    /// Whether an operation takes `count` numbers.
     pub(crate) fn takes(&self, op: OpId, count: usize) -> bool
         ensures { result ≡ takes (slice_get (all_of self.now) op.0) count }
     {
@@ -147,7 +147,7 @@ impl<'a> Operations<'a> {
         }
     }
 
-    /// The name of the choice of an operation that has this name, and so many parameters.
+    /// The name of the choice of an operation with the name `text`, and `count` parameters.
     pub(crate) fn choice(&self, op: OpId, text: &str, count: usize) -> Option<Name>
         ensures { (given : List ℤ) → length given ≡ count →
             MatchOption result (has_choice (slice_get (all_of self.now) op.0) (ByName text.now given) ≡ false)
@@ -169,7 +169,7 @@ impl<'a> Operations<'a> {
         }
     }
 
-    /// Whether an operation replies so many numbers.
+    /// Whether an operation replies `count` numbers.
     pub(crate) fn has_replies(&self, op: OpId, count: usize) -> bool
         ensures { result ≡ has_replies (slice_get (all_of self.now) op.0) count }
     {

@@ -12,7 +12,7 @@ use lc_base::OutOfMemory;
 use lc_seq::SeqObject;
 use std::alloc::Global;
 
-// Where a call stands in a history.
+// Where a call is in a history.
 #[derive(Clone, Copy)]
 pub(crate) struct Span {
     pub(crate) called: usize,
@@ -54,7 +54,7 @@ impl Client {
         Ok(())
     }
 
-    // Where the call of its next entry stands.
+    // Where the call of its next entry is.
     fn next(&mut self) -> Option<Span>
         requires { self.old.entries < usize.MAX }
         ensures span { result ≡ span_at self.old.calls.items self.old.returns.items self.old.entries }
@@ -84,7 +84,7 @@ fn client_count(events: &[Event]) -> usize
     clients
 }
 
-// So many clients without calls.
+// `count` clients without calls.
 fn idle_clients(alloc: Global, count: usize) -> Result<Vec<Client>, OutOfMemory>
     ensures length { IfOk result (λ clients. length clients.items ≡ count) }
     ensures idle { IfOk result (λ clients. AreClients [] clients.items) }
@@ -113,7 +113,7 @@ pub(crate) fn clients_of(alloc: Global, events: &[Event]) -> Result<Vec<Client>,
     Ok(clients)
 }
 
-// Where the call of a client's next entry stands.
+// Where the call of a client's next entry is.
 fn next_span(clients: &mut [Client], client: u32) -> Option<Span>
     requires { (c : ℕ) (known : _) → slice_get clients.old c ≡ Some known → known.entries < usize.MAX }
     ensures span { (h : List _) (n : ℕ → ℕ) → AreClients h clients.old → HaveSeen n clients.old → result ≡ span_of h client (n client) }
@@ -127,7 +127,7 @@ fn next_span(clients: &mut [Client], client: u32) -> Option<Span>
     clients[place].next()
 }
 
-// Where the calls stand that the entries of an order name.
+// Where the calls are that the entries of an order name.
 pub(crate) fn spans_of<S: SeqObject>(
     alloc: Global,
     clients: &mut [Client],
@@ -157,7 +157,7 @@ fn earlier(a: Option<usize>, b: Option<usize>) -> Option<usize>
     }
 }
 
-// Whether there is a return, and it stands before the beginning of a call.
+// Whether there is a return, and it comes before the beginning of a call.
 fn is_before(returned: Option<usize>, span: Option<Span>) -> bool
     ensures { result ≡ is_before returned span }
 {

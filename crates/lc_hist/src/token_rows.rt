@@ -3,8 +3,9 @@ ghost use Rattle.std.specs.Prelude.{◌≡◌, Some, IfOk, IfSome};
 ghost use Rattle.lc_seq.specs.SpecView.{choice_of};
 ghost use Rattle.lc_hist.specs.Histories.{events_in};
 ghost use Rattle.lc_hist.specs.JsonHistories.{entry_seen, entries_seen};
+ghost use Rattle.lc_hist.specs.JsonRecorded.{order_shown};
 ghost use Rattle.lc_hist.specs.JsonSeen.{all_of};
-ghost use Rattle.lc_hist.specs.JsonTokens.{Says, SayDeed, SayPick, SayEvents, SayEntries, AreMembers, AreSaid};
+ghost use Rattle.lc_hist.specs.JsonTokens.{Says, SayDeed, SayPick, SayEvents, SayEntries, AreLast, AreMembers, AreSaid};
 ghost use Rattle.lc_hist.specs.JsonValues.{event_in, entry_in, pick_in};
 ghost use Rattle.lc_hist.specs.View.{event_of};
 
@@ -20,7 +21,7 @@ use lc_seq::{Pick, TextCall};
 use std::alloc::Global;
 use std::str;
 
-/// What is said of a client's event behind the client.
+/// The rest of a client's event, after the client.
 fn next_deed(
     alloc: Global,
     operations: &Operations<'_>,
@@ -204,20 +205,14 @@ fn next_order(
     Ok(Some(order))
 }
 
-/// The history under the key `events` and the order under the key `order`, which is all that is left of the text.
-fn next_parts(
+/// The order under the key `order`, which must be the whole rest of the text.
+fn next_last(
     alloc: Global,
     operations: &Operations<'_>,
     reader: &mut Cursor<'_>,
-) -> Result<Option<(History, Vec<Done<TextCall, Pick, Vec<i64>>>)>, OutOfMemory>
-    ensures { IfOk result (λ found. IfSome found (λ answer. AreMembers (all_of operations.now) reader.old (events_in answer.0) (entries_seen answer.1.items))) }
+) -> Result<Option<Vec<Done<TextCall, Pick, Vec<i64>>>>, OutOfMemory>
+    ensures { IfOk result (λ found. IfSome found (λ order. AreLast (all_of operations.now) reader.old (entries_seen order.items))) }
 {
-    if !reader.takes_key(b"events".as_slice()) {
-        return Ok(None);
-    }
-    let Some(history) = next_history(alloc, operations, reader)? else {
-        return Ok(None);
-    };
     if !reader.takes_key(b"order".as_slice()) {
         return Ok(None);
     }
@@ -227,17 +222,40 @@ fn next_parts(
     if !reader.is_over() {
         return Ok(None);
     }
-    Ok(Some((history, order)))
+    Ok(Some(order))
 }
 
-/// The history and the order that a text says, where it lists first the events and then the order, and all of them are
-/// right. `None` says nothing of the text.
+/// The history under the key `events` and the order under the key `order`, if there is one, which must be the whole rest of the text.
+fn next_parts(
+    alloc: Global,
+    operations: &Operations<'_>,
+    reader: &mut Cursor<'_>,
+) -> Result<Option<(History, Option<Vec<Done<TextCall, Pick, Vec<i64>>>>)>, OutOfMemory>
+    ensures { IfOk result (λ found. IfSome found (λ answer. AreMembers (all_of operations.now) reader.old (events_in answer.0) (order_shown answer.1))) }
+{
+    if !reader.takes_key(b"events".as_slice()) {
+        return Ok(None);
+    }
+    let Some(history) = next_history(alloc, operations, reader)? else {
+        return Ok(None);
+    };
+    if reader.is_over() {
+        return Ok(Some((history, None)));
+    }
+    match next_last(alloc, operations, reader)? {
+        Some(order) => Ok(Some((history, Some(order)))),
+        None => Ok(None),
+    }
+}
+
+/// The history that a text says, and its order, if it says one, provided it lists first the events and then the order, and all of
+/// them are right. `None` says nothing about the text.
 pub(crate) fn read_right(
     alloc: Global,
     operations: &Operations<'_>,
     text: &[u8],
-) -> Result<Option<(History, Vec<Done<TextCall, Pick, Vec<i64>>>)>, OutOfMemory>
-    ensures { IfOk result (λ found. IfSome found (λ answer. AreSaid (all_of operations.now) text.now (events_in answer.0) (entries_seen answer.1.items))) }
+) -> Result<Option<(History, Option<Vec<Done<TextCall, Pick, Vec<i64>>>>)>, OutOfMemory>
+    ensures { IfOk result (λ found. IfSome found (λ answer. AreSaid (all_of operations.now) text.now (events_in answer.0) (order_shown answer.1))) }
 {
     let mut reader = Cursor::new(text);
     if !reader.begins_object() {

@@ -1,4 +1,4 @@
-//! How numbers and calls of a history that is right are read from the tokens of its text. Where one is of another form nothing is
+//! How numbers and calls of a history that is right are read from the tokens of its text. If one is of another form nothing is
 //! said, and the values of the text tell what is wrong.
 ghost use Rattle.std.specs.Prelude.{◌≡◌, IsTrue, IfOk, IfSome, bytes_eq};
 ghost use Rattle.lc_seq.specs.SpecView.{text_call_of};
@@ -12,7 +12,7 @@ use lc_base::OutOfMemory;
 use lc_seq::TextCall;
 use std::alloc::Global;
 
-/// Whether these are the same bytes, one after another: where they are few, this is quicker than by several at once.
+/// Whether these are the same bytes, one after another: if they are few, this is quicker than by several at once.
 fn by_bytes(a: &[u8], b: &[u8]) -> bool
     ensures { result ≡ bytes_eq a.now b.now }
 {

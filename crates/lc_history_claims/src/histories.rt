@@ -14,14 +14,14 @@ use lc_hist::{
 use lc_seq::{Pick, SeqObject, TextCall, TextSpec};
 use std::alloc::Global;
 
-/// Events are a history where each is in turn; otherwise the first that is out of turn is reported.
+/// Events are a history if each is in turn; otherwise the first that is out of turn is reported.
 pub fn making_a_history(alloc: Global, events: Vec<Event>) -> Result<History, HistoryFault>
     ensures { IsHistory (events_of events.items) result }
 {
     History::new(alloc, events)
 }
 
-/// An order is accepted where it linearizes the history; otherwise the first test that it does not pass is reported.
+/// An order is accepted if it linearizes the history; otherwise the first test that it does not pass is reported.
 pub fn judging<S: SeqObject>(
     alloc: Global,
     object: &S,
@@ -33,7 +33,7 @@ pub fn judging<S: SeqObject>(
     judge(alloc, object, history, order)
 }
 
-/// A text is answered with the history and the order that it says, or with its first item that is wrong.
+/// For a text, the history and the order that it says are returned, or its first item that is wrong.
 pub fn reading_a_history(
     alloc: Global,
     spec: &TextSpec,

@@ -22,7 +22,7 @@ use lc_seq::{
 use lc_term::{Env, State};
 use std::alloc::Global;
 
-/// Parts are a specification exactly where each column and variable is declared, and names of operations differ.
+/// Parts are a specification exactly if each column and variable is declared, and names of operations differ.
 pub fn making_a_specification(
     name: Name,
     columns: Vec<Column>,
@@ -41,7 +41,7 @@ pub fn choosing(label: &Label, pick: &Pick) -> bool
     label.agrees(pick)
 }
 
-/// The variables of a branch are the client, the arguments, and the choice's numbers behind them.
+/// The variables of a branch are the client, the arguments, and the choice's numbers after them.
 pub fn binding(
     alloc: Global,
     client: u32,

@@ -124,7 +124,7 @@ next_left v H bs ps first next ts cs qs i p h g at left =
     subst (λ x. Left v H bs ps first next x (more (proof_of p) (proofs (proofs_of (drop (i + 1) qs))))) (branches_at ts cs i h)
     (subst (λ x. Left v H bs ps first next (drop i (branches_in ts cs)) x) (proofs_at qs i p g at) left)
 
--- the hypotheses of its proof, of which some are appended
+-- the hypotheses of its proof, some of which are appended
 pub next_hypotheses : (old now : Table) (given own xs : List FormulaId) (cs : Branches) (i : ℕ) → i < branch_count cs → xs ≡ own ++ branch_at cs i → AreFormulas old (given ++ own) → AreBranches old cs → Keeps old now →
     AreFormulas now (given ++ xs) × (formulas_in now (given ++ xs) ≡ formulas_in old (given ++ own) ++ formulas_in old (branch_at cs i))
 next_hypotheses old now given own xs cs i h is are opened kept =

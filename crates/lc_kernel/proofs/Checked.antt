@@ -44,7 +44,7 @@ opened v w H s bs ps first (Err (NotHolding step reason)) gives h = (suc h.0, le
 opened v w H s bs ps first (Err (TooLarge step)) gives h = (suc h.0, let e = h.1 in omega arith, fails_below gives h.2)
 opened v w H s bs ps first (Err NoMore) gives h = tt
 
--- a proof under hypotheses of which some are appended, by what its step comes to: it is flawed
+-- a proof under hypotheses some of which are appended, by what its step comes to: it is flawed
 pub root_flawed : (p : Proof) (old new : Table) (v n first : ℕ) (given own xs : List FormulaId) (fault : StepFault) (at : ProofFault) → xs ≡ own → n ≡ length (out-Proof p).branches.items → at ≡ fault_at first fault →
     Meets new (Gives v (formulas_in old (given ++ xs)) n (step_of (out-Proof p).step)) (Err fault) → Checks v (formulas_in old (given ++ own)) (proof_of p) first (Err at)
 root_flawed p old new v n first given own xs fault at same count is h =
@@ -67,7 +67,7 @@ root_checks p old new v w n first given own xs bs children r same count all are 
     let below = subst (λ G. ChecksEach w G bs ps (first + 1) r) (formulas_still old new (given ++ own) are kept) (subst (λ qs. ChecksEach w (formulas_in new (given ++ own)) bs (proofs (proofs_of qs)) (first + 1) r) all each) in
     subst (λ q. Checks v H q first r) (sym (proof_of-proof p)) (opened v w H s bs ps first r here below)
 
--- what is told of a proof of a contradiction from hypotheses and a negated goal is told of a proof of the goal
+-- what a flaw in a proof of a contradiction from hypotheses and a negated goal says of a proof of the goal
 pub proves_fault : (v : ℕ) (G H : List S.Formula) (g : S.Formula) (p : P.Proof) (fault : ProofFault) → G ≡ H ++ S.Not g ∷ [] → Checks v G p 0 (Err fault) → Proves v H g p (Err fault)
 proves_fault v G H g p (NotHolding step reason) same h =
     let here = h.1 in

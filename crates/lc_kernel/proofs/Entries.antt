@@ -11,7 +11,7 @@ use Rattle.lc_kernel.specs.Table.{hypothesis, entry_before, entries}
 use Rattle.lc_kernel.specs.View.{multiple_of}
 use Rattle.lc_kernel.specs.declared.proof.Multiple.{Multiple}
 
--- entries in front of others, where these are there
+-- entries in front of others, if these are there
 abbrev pub behind : List Entry → Option (List Entry) → Option (List Entry)
 behind es None = None
 behind es (Some fs) = Some (es ++ fs)

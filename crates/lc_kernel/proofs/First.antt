@@ -9,7 +9,7 @@ use Rattle.lc_kernel.specs.Proofs.{Step, Proof, proof, Proofs, none, more, proof
 use Rattle.lc_kernel.specs.Table.{Outcome, flawed, opens, Gives}
 use Rattle.lc_kernel.specs.declared.reason.Flaw.{Flaw}
 
--- ---- what a step comes to decides what stands below it
+-- ---- what a step comes to decides the rest of the proof
 
 flawed_or_opens : (v w : ℕ) (H : List Formula) (k : ℕ) (s : Step) (bs : List (List Formula)) (why : Flaw) → Gives v H k s (flawed why) → Gives v H k s (opens w bs) → ⊥
 flawed_or_opens v w H k s bs why g g' = let same : flawed why ≡ opens w bs = gives_once v H k s (flawed why) (opens w bs) g g' in cc

@@ -58,7 +58,7 @@ taking_opens w bs H h form n m next is =
 pub in_use_opens : (w : ℕ) (bs : List (List Formula)) (yes' : Bool) (next : Outcome → Type 0) → InUse yes' next (opens w bs) → IsTrue yes' × next (opens w bs)
 in_use_opens w bs yes' next is = testing_opens w bs yes' VariableNotInUse next is
 
--- the same where there are as many branches as proofs
+-- the same if there are as many branches as proofs
 pub branching_in_use : (w : ℕ) (bs : List (List Formula)) (n m : ℕ) (yes' : Bool) (next : Outcome → Type 0) → Branching n m (InUse yes' next) (opens w bs) →
     IsTrue yes' × next (opens w bs) × (n ≡ m)
 branching_in_use w bs n m yes' next is =
@@ -98,7 +98,7 @@ opposed v H n h g w bs is =
     let b = branching_opens w bs n 0 (Opens v []) t.1 in
     record { formula = f.0; stands = f.1; negation = f'.0; stands' = f'.1; opposite = t.0; counted = b.0; gives = b.1 }
 
--- no branches stand where a step is left open
+-- an open step opens no branches
 pub open_opens : (v : ℕ) (H : List Formula) (n w : ℕ) (bs : List (List Formula)) → Gives v H n S.Open (opens w bs) → ⊥
 open_opens v H n w bs is =
     let b = branching_opens w bs n 0 (λ o. o ≡ flawed (Bad IsOpen)) is in

@@ -1,4 +1,4 @@
--- A step takes at most one more variable into use, and opens as many branches as proofs stand below it.
+-- A step takes at most one more variable into use, and opens as many branches as there are proofs below it.
 use Rattle.std.proofs.Common.{◌≡◌, ℕ, suc, ◌≤◌, ◌&&◌, List, [], ◌∷◌, refl, sym, ap, ◌∙◌, arith}
 use Rattle.std.specs.Prelude.{length}
 use Rattle.lc_array.specs.Axioms.{written, same_index, affine_cell}

@@ -1,4 +1,4 @@
--- Variables in use stay in use: where there are more of them, and after a replacement that puts in no others.
+-- Variables in use stay in use: when there are more of them, and after a replacement that puts in no others.
 use Rattle.std.proofs.Common.{ℕ, zero, suc, ◌≤◌, Bool, ◌&&◌, List, [], ◌∷◌, ◌++◌, IsTrue, refl, arith}
 use Rattle.std.specs.Prelude.{nat_lt}
 use Rattle.std.proofs.lemmas.Bool.{and_parts, and_from}

@@ -158,7 +158,7 @@ kept_fresh v w bs f is h =
     let l = k.more in
     record { more = omega arith; all = k.all }
 
--- where the hypotheses have variables in use alone, so has what a step appends
+-- if the hypotheses have variables in use alone, so has what a step appends
 pub Gives-kept : (v w : ℕ) (H : List Formula) (n : ℕ) (s : Step) (bs : List (List Formula)) → Gives v H n s (opens w bs) → IsTrue (all_below v H) → Kept v w bs
 Gives-kept v w H n (S.Split h) bs is all =
     let t = taking_opens w bs H h conjuncts n (λ fs. 1) (λ fs. Opens v (fs ∷ [])) is in

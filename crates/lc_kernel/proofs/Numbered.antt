@@ -63,7 +63,7 @@ or_opened ts k n ps ks tree fits is same =
       ap pushed_inward all ∙ ap (λ fs. Some (S.And (S.formulas (negations fs)))) listed,
     )
 
--- what fails where a formula does is each negated conjunct
+-- what fails if a formula does is each negated conjunct
 pub failing_by : (f : S.Formula) (fs : List S.Formula) → conjuncts f ≡ Some fs → failing f ≡ Some (negations fs)
 failing_by (S.And gs) fs is = let same : S.parts gs ≡ fs = cc in ap (λ hs. Some (negations hs)) same
 failing_by _ fs is = cc
@@ -91,7 +91,7 @@ negations_more ts ks i k h is =
     ap negations (map_more (formula_in ts) ks i k h) ∙ map-append S.Not (formulas_in ts (take i ks)) (formula_in ts (get_or ks i k) ∷ []) ∙
     ap (λ x. negations (formulas_in ts (take i ks)) ++ S.Not (formula_in ts x) ∷ []) (sym is)
 
--- one formula more behind those that are given
+-- one formula more after the given ones
 pub given_and_one : (old new : Table) (given xs ks : List FormulaId) (k : FormulaId) (f : S.Formula) → xs ≡ given → ks ≡ k ∷ [] → AreFormulas old given → Keeps old new → HasFormula new k f →
     AreFormulas new (xs ++ ks) × (formulas_in new (xs ++ ks) ≡ formulas_in old given ++ f ∷ [])
 given_and_one old new given xs ks k f same one are kept at =

@@ -51,7 +51,7 @@ module _ (ts : Table) (t : Term) (k : ℤ) (form : LinForm) (is : IsFormIn ts fo
   pub not_divisible : (f : Formula) (claimed : Option LinForm) → HasForm t → GivesClaim ts (excess f) (Ok claimed) → (Divides k (numbers form) → ⊥) → TestsQuotient f t k (Err (Flawed (Bad NotDivisible)))
   not_divisible f claimed fits claim no' = (fits, can_compare ts (excess f) claimed claim, λ h. no' (divides_kept ts (numbers form) (numbers form) (form_of t) (form_of t) k is is h))
 
-  -- the claim is the quotient exactly where its form is the form divided
+  -- the claim is the quotient exactly if its form is the form divided
   quotient_claimed : (divided : LinForm) (claim : Option Term) (claimed : Option LinForm) → GivesClaim ts claim (Ok claimed) → IsDivided (numbers form) k (numbers divided) →
       IsClaimed (numbers divided) claimed → IsQuotient t k claim
   quotient_claimed divided (Some q) (Some c) claim h same =

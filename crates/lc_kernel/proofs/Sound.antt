@@ -89,7 +89,7 @@ module _ (s : State) (e : Env) where
   opposite_refuted : (f g : Formula) → IsTrue (formula_eq g (Not f)) → Holds s e outside f → Holds s e outside g → ⊥
   opposite_refuted f g same h k = (subst (Holds s e outside) ((Decides-formula_eq g (Not f)).0 same) k) h
 
-  -- where the branches that a step opens are refuted, so are its hypotheses
+  -- if the branches that a step opens are refuted, so are its hypotheses
   pub Gives-refuted : (v w : ℕ) (H : List Formula) (n : ℕ) (st : Step) (bs : List (List Formula)) → Gives v H n st (opens w bs) → IsTrue (all_below v H) → EachHolds s e H → BranchesRefuted v bs → ⊥
   Gives-refuted v w H n (S.Split h) bs is in_use' all no' =
       let t = taking_opens w bs H h conjuncts n (λ fs. 1) (λ fs. Opens v (fs ∷ [])) is in

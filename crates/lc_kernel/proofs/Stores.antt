@@ -10,14 +10,14 @@ use Rattle.lc_kernel.specs.Uses.{AreBelow, same_column}
 use Rattle.lc_kernel.specs.declared.uses.KnownBelow.{KnownBelow}
 use Rattle.std.specs.HashSet.{contains}
 
--- a variable that is not below the count stands in all that is stored round it
+-- a variable that is not below the count occurs in all that is stored around it
 pub not_below : (count : ℕ) (ts : Table) (n : ℕ) (c : S.Column) (ks : List ColExprId) → AreStores ts n c ks → column_below count (below_stores c ks) ≡ false → column_below count c ≡ false
 not_below count ts n c [] h above = above
 not_below count ts n (S.Base a) (k ∷ ks) h above = let never = h.0.3 in cc
 not_below count ts n (S.Store c i v) (k ∷ ks) h above = ap (λ b. b && term_below count i && term_below count v) (not_below count ts n c ks h.1 above)
 not_below count ts n (S.Affine a b) (k ∷ ks) h above = let never = h.0.3 in cc
 
--- where what is stored to has its variables below the count, the terms decide
+-- if what is stored to has its variables below the count, the terms decide
 pub store_below : (count : ℕ) (c d : S.Column) (i v : S.Term) → c ≡ S.Store d i v → column_below count (stored_to c) ≡ true → column_below count c ≡ (term_below count i && term_below count v)
 store_below count c d i v e h = ap (column_below count) e ∙ ap (λ b. b && term_below count i && term_below count v) (sym (ap (λ x. column_below count (stored_to x)) e) ∙ h)
 

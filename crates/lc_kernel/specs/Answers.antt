@@ -35,17 +35,17 @@ abbrev pub step_fault : LinFault → StepFault
 step_fault LargeForm = Flawed LargeFlaw
 step_fault NoMemory = OutOfMemory
 
--- what is opened, or what is wrong; for want of memory nothing
+-- what is opened, or what is wrong; nothing on `OutOfMemory`
 abbrev pub Meets : Table → (Outcome → Type 0) → Result Opened StepFault → Type 0
 Meets ts P (Ok opened) = AreBranches ts opened.branches × P (opens opened.variables (branches_in ts opened.branches))
 Meets ts P (Err (Flawed why)) = P (flawed why)
 Meets ts P (Err OutOfMemory) = Unit {0}
 
--- what a step comes to where this is its setting; its hypotheses stand in the one table, its branches in the other
+-- what a step comes to in this setting; its hypotheses are in the first table, its branches in the second
 abbrev pub StepMeets : Table → Table → Setting → Step → Result Opened StepFault → Type 0
 StepMeets old new at step result = Meets new (Gives at.variables (hypotheses_at old at) at.proofs step) result
 
--- a test that holds, or the reason that is told where it fails
+-- a test that holds, or the reason that is reported if it fails
 abbrev pub Tests : Bool → Reason → Result (Unit {0}) Flaw → Type 0
 Tests holds reason (Ok u) = holds ≡ true
 Tests holds reason (Err why) = (holds ≡ false) × (why ≡ Bad reason)
@@ -59,34 +59,34 @@ abbrev pub FindsNumber : List FormulaId → ℤ → Result FormulaId Flaw → Ty
 FindsNumber ks h (Ok k) = hypothesis_of ks h ≡ Some k
 FindsNumber ks h (Err why) = (hypothesis_of ks h ≡ None) × (why ≡ Bad NoHypothesis)
 
--- the number of the formula that there is, or the reason that is told where there is none
+-- the number of the formula that there is, or the reason that is reported if there is none
 abbrev pub FindsIn : Table → Option S.Formula → Reason → Result FormulaId Flaw → Type 0
 FindsIn ts found reason (Ok k) = IsFormula ts k × (found ≡ Some (formula_in ts k))
 FindsIn ts found reason (Err why) = (found ≡ None) × (why ≡ Bad reason)
 
--- the same of two terms
+-- the same for two terms
 abbrev pub FindsSides : Table → Option (S.Term × S.Term) → Reason → Result (TermId × TermId) Flaw → Type 0
 FindsSides ts found reason (Ok p) = IsTerm ts p.0 × IsTerm ts p.1 × (found ≡ Some (term_in ts p.0, term_in ts p.1))
 FindsSides ts found reason (Err why) = (found ≡ None) × (why ≡ Bad reason)
 
--- the same of two terms whose difference it is
+-- the same for two terms, with their difference found
 abbrev pub FindsExcess : Table → Option S.Term → Reason → Result (TermId × TermId) Flaw → Type 0
 FindsExcess ts found reason (Ok p) = IsTerm ts p.0 × IsTerm ts p.1 × (found ≡ Some (S.Subtract (term_in ts p.0) (term_in ts p.1)))
 FindsExcess ts found reason (Err why) = (found ≡ None) × (why ≡ Bad reason)
 
--- the same of a formula, where memory may be wanted
+-- the same for a formula; nothing on `OutOfMemory`
 abbrev pub MakesIn : Table → Option S.Formula → Reason → Result FormulaId StepFault → Type 0
 MakesIn ts made reason (Ok k) = IsFormula ts k × (made ≡ Some (formula_in ts k))
 MakesIn ts made reason (Err (Flawed why)) = (made ≡ None) × (why ≡ Bad reason)
 MakesIn ts made reason (Err OutOfMemory) = Unit {0}
 
--- the same of formulas
+-- the same for formulas
 abbrev pub MakesAllIn : Table → Option (List S.Formula) → Reason → Result (Vec FormulaId Global) StepFault → Type 0
 MakesAllIn ts made reason (Ok ks) = AreFormulas ts ks.items × (made ≡ Some (formulas_in ts ks.items))
 MakesAllIn ts made reason (Err (Flawed why)) = (made ≡ None) × (why ≡ Bad reason)
 MakesAllIn ts made reason (Err OutOfMemory) = Unit {0}
 
--- the same of the entries of a sum
+-- the same for the entries of a sum
 abbrev pub MakesEntriesIn : Table → Option (List Entry) → Reason → Result (Vec (FormulaId × ℤ) Global) StepFault → Type 0
 MakesEntriesIn ts made reason (Ok es) = AreEntries ts es.items × (made ≡ Some (entries_in ts es.items))
 MakesEntriesIn ts made reason (Err (Flawed why)) = (made ≡ None) × (why ≡ Bad reason)
@@ -111,7 +111,7 @@ abbrev pub IsClaimed : Form → Option LinForm → Type 0
 IsClaimed f (Some claimed) = HasNumbers claimed f
 IsClaimed f None = ⊥
 
--- the formula f is a `<=` of the form of t, divided by k; or it is told why not
+-- the formula f is a `<=` of the form of t, divided by k; or the reason why not
 abbrev pub TestsQuotient : S.Formula → S.Term → ℤ → Result (Unit {0}) StepFault → Type 0
 TestsQuotient f t k (Ok u) = HasForm t × CanCompare (excess f) × IsQuotient t k (excess f)
 TestsQuotient f t k (Err (Flawed LargeFlaw)) = HasForm t × CanCompare (excess f) → ⊥
@@ -120,14 +120,14 @@ TestsQuotient f t k (Err (Flawed (Bad WrongQuotient))) = HasForm t × CanCompare
 TestsQuotient f t k (Err (Flawed (Bad _))) = ⊥
 TestsQuotient f t k (Err OutOfMemory) = Unit {0}
 
--- the proof holds, and its steps are counted from the first; or it is told which is the first that does not
+-- the proof holds, and its steps are counted from the first; or its first step that does not hold is reported
 abbrev pub Checks : ℕ → List S.Formula → Proof → ℕ → Result ℕ ProofFault → Type 0
 Checks v H p first (Ok next) = (next ≡ first + size p) × Derives v H p
 Checks v H p first (Err (NotHolding step reason)) = (n : ℕ) × (step ≡ first + n) × Fails v H p n (Bad reason)
 Checks v H p first (Err (TooLarge step)) = (n : ℕ) × (step ≡ first + n) × Fails v H p n LargeFlaw
 Checks v H p first (Err NoMore) = Unit {0}
 
--- the same of the proofs of branches
+-- the same for the proofs of branches
 abbrev pub ChecksEach : ℕ → List S.Formula → List (List S.Formula) → Proofs → ℕ → Result ℕ ProofFault → Type 0
 ChecksEach v H bs ps first (Ok next) = (next ≡ first + size_of_all ps) × EachDerives v H bs ps
 ChecksEach v H bs ps first (Err (NotHolding step reason)) = (n : ℕ) × (step ≡ first + n) × SomeFails v H bs ps n (Bad reason)
@@ -140,7 +140,7 @@ fault_at step (Flawed (Bad reason)) = NotHolding step reason
 fault_at step (Flawed LargeFlaw) = TooLarge step
 fault_at step OutOfMemory = NoMore
 
--- the proof derives the goal from the hypotheses; or it is told which step is the first that does not hold
+-- the proof derives the goal from the hypotheses; or the first step that does not hold is reported
 abbrev pub Proves : ℕ → List S.Formula → S.Formula → Proof → Result (Unit {0}) ProofFault → Type 0
 Proves v H goal p (Ok u) = DerivesGoal v H goal p
 Proves v H goal p (Err (NotHolding step reason)) = FailsGoal v H goal p step (Bad reason)

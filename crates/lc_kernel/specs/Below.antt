@@ -12,14 +12,14 @@ below count = record { columns = λ c. true; variables = λ k. nat_lt k count; b
 abbrev pub term_below : ℕ → Term → Bool
 term_below count t = term_passes (below count) t
 
--- the same of a column expression
+-- the same for a column expression
 abbrev pub column_below : ℕ → Column → Bool
 column_below count c = column_passes (below count) c
 
--- the same of a formula
+-- the same for a formula
 abbrev pub formula_below : ℕ → Formula → Bool
 formula_below count f = passes (λ n. below count) 0 f
 
--- the same of each formula of a list
+-- the same for each formula of a list
 abbrev pub all_below : ℕ → List Formula → Bool
 all_below count fs = list_all (λ f. formula_below count f) fs

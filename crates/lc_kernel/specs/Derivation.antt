@@ -26,7 +26,7 @@ mutual
     fails_below : {v w : ℕ} {H : List Formula} {s : Step} {ps : Proofs} {bs : List (List Formula)} {n : ℕ} {why : Flaw} →
         Gives v H (proof_count ps) s (opens w bs) → SomeFails w H bs ps n why → Fails v H (proof s ps) (suc n) why
 
-  -- The same of the proofs of branches, whose steps are counted through
+  -- The same for the proofs of branches, with their steps counted on through all of them
   pub data SomeFails : ℕ → List Formula → List (List Formula) → Proofs → ℕ → Flaw → Type 0 where
     first_fails : {v : ℕ} {H : List Formula} {b : List Formula} {bs : List (List Formula)} {p : Proof} {ps : Proofs} {n : ℕ} {why : Flaw} →
         Fails v (H ++ b) p n why → SomeFails v H (b ∷ bs) (more p ps) n why

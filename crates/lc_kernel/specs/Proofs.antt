@@ -2,7 +2,7 @@
 use Rattle.std.specs.Prelude.{ℕ, suc, ◌+◌, ℤ, List, [], ◌∷◌}
 use Rattle.lc_term.specs.Syntax.{Term, Column, Formula}
 
--- a step. The first number is that of a hypothesis, where there is one
+-- a step. The first number is that of a hypothesis, if there is one
 pub data Step : Type 0 where
   Split : ℤ → Step
   Cases : ℤ → Step

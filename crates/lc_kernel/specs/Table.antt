@@ -33,13 +33,13 @@ conjuncts _ = None
 abbrev pub negations : List Formula → List Formula
 negations fs = map Not fs
 
--- one of which fails where the formula fails: of `(and F ..)` the parts
+-- one of which fails if the formula fails: the parts of `(and F ..)`
 abbrev pub failing : Formula → Option (List Formula)
 failing (And fs) = Some (negations (parts fs))
 failing _ = None
 
--- one of which holds where the formula holds: of `(or F ..)` the parts, of `(=> A B)` `(not A)` and `B`,
--- of `(not (and F ..))` each `(not F)`
+-- one of which holds if the formula holds: the parts of `(or F ..)`, `(not A)` and `B` of `(=> A B)`,
+-- each `(not F)` of `(not (and F ..))`
 abbrev pub alternatives : Formula → Option (List Formula)
 alternatives (Or fs) = Some (parts fs)
 alternatives (Implies f g) = Some (Not f ∷ g ∷ [])
@@ -95,7 +95,7 @@ abbrev pub hypothesis : List Formula → ℤ → Option Formula
 hypothesis H (pos n) = slice_get H n
 hypothesis H (negsuc n) = None
 
--- what is needed, or the reason that is told where it is not there
+-- what is needed, or the reason that is reported if it is missing
 abbrev pub Needing : {A : Type 0} → Option A → Reason → (A → Outcome → Type 0) → Outcome → Type 0
 Needing None reason next o = o ≡ flawed (Bad reason)
 Needing (Some a) reason next o = next a o
@@ -104,12 +104,12 @@ Needing (Some a) reason next o = next a o
 abbrev pub Taking : {A : Type 0} → List Formula → ℤ → (Formula → Option A) → (A → Outcome → Type 0) → Outcome → Type 0
 Taking H h form next o = Needing (hypothesis H h) NoHypothesis (λ f. Needing (form f) WrongForm next) o
 
--- a test, or the reason that is told where it fails
+-- a test, or the reason that is reported if it fails
 abbrev pub Testing : Bool → Reason → (Outcome → Type 0) → Outcome → Type 0
 Testing true reason next o = next o
 Testing false reason next o = o ≡ flawed (Bad reason)
 
--- m branches, where n proofs stand below the step
+-- m branches, if n proofs are below the step
 abbrev pub Branching : ℕ → ℕ → (Outcome → Type 0) → Outcome → Type 0
 Branching n m next o = Testing (n == m) WrongForm next o
 
@@ -133,7 +133,7 @@ Appends v f o = Opens v ((f ∷ []) ∷ []) o
 
 -- ---- sums and quotients
 
--- an entry in front of the others, where all are there
+-- an entry in front of the others, if all are there
 abbrev pub entry_before : Option Formula → ℤ → Option (List Entry) → Option (List Entry)
 entry_before (Some f) k (Some es) = Some ((f, k) ∷ es)
 entry_before _ k _ = None
@@ -178,7 +178,7 @@ QuotientGives v f t k (flawed (Bad _)) = ⊥
 
 -- ---- the table
 
--- What a step comes to, where v variables are in use, H are the hypotheses and n proofs stand below the step
+-- What a step comes to, if v variables are in use, H are the hypotheses and n proofs are below the step
 abbrev pub Gives : ℕ → List Formula → ℕ → Step → Outcome → Type 0
 Gives v H n (S.Split h) o = Taking H h conjuncts (λ fs. Branching n 1 (Opens v (fs ∷ []))) o
 Gives v H n (S.Cases h) o = Taking H h alternatives (λ fs. Branching n (length fs) (Opens v (each fs))) o

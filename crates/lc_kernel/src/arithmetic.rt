@@ -64,7 +64,7 @@ fn all_comparisons(terms: &Terms, entries: &[(FormulaId, i64)]) -> bool
     true
 }
 
-/// Whether comparisons, each so many times, contradict each other.
+/// Whether multiples of comparisons contradict each other.
 fn close(
     alloc: Global,
     terms: &Terms,

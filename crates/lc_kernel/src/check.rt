@@ -19,7 +19,7 @@ use crate::setting::Setting;
 use lc_table::{FormulaId, Terms};
 use std::alloc::Global;
 
-/// What a step opens in its setting, or what is wrong with it. It stands apart from `check`, so that each level of a proof takes
+/// What a step opens in its setting, or what is wrong with it. It is separate from `check`, so that each level of a proof takes
 /// little of the stack.
 #[inline(never)]
 #[tactic(auto, using(lc_table::proofs::Later::keeps_itself))]

@@ -121,8 +121,8 @@ fn copy_of_step(alloc: Global, step: &Step) -> Result<Step, OutOfMemory>
     }
 }
 
-/// Puts a proof behind others: the same step, with these branches. It stands apart from those who call one another, so that
-/// each level of a proof takes little of the stack.
+/// Appends a proof to others: the same step, with these branches. It is not one of the functions that call one another, so
+/// that each level of a proof takes little of the stack.
 #[inline(never)]
 fn push_with_step(
     alloc: Global,
@@ -137,7 +137,7 @@ fn push_with_step(
     Ok(())
 }
 
-/// Puts the same proof behind others, in memory of its own.
+/// Appends the same proof to others, in memory of its own.
 #[cycle(copy_proof)]
 fn push_copy(alloc: Global, proof: &Proof, copies: &mut Vec<Proof>) -> Result<(), OutOfMemory>
     ensures { OnOk result (proofs_of copies.new.items ≡ proofs_of copies.old.items ++ proof_of proof.now ∷ []) }

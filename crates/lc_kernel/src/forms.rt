@@ -14,7 +14,7 @@ use lc_base::OutOfMemory;
 use lc_table::{FormulaId, FormulaNode, TermId, Terms};
 use std::alloc::Global;
 
-// The number of the hypothesis that stands at this place.
+// The number of the hypothesis at this place.
 fn place_of(setting: Setting<'_>, number: i64) -> Result<FormulaId, Flaw>
     ensures { FindsNumber (numbers_at setting.entry) number result }
 {

@@ -9,7 +9,7 @@ use lc_base::OutOfMemory;
 use lc_table::{FormulaId, Terms};
 use std::alloc::Global;
 
-/// What a proof is to show: that a formula follows from hypotheses, which stand in one table.
+/// What a proof is to show: that a formula follows from hypotheses, which are all in one table.
 #[derive(Drop)]
 pub struct Goal {
     /// How many free variables there are: those with numbers below this.

@@ -4,7 +4,7 @@ use lc_table::FormulaId;
 use std::marker::Model;
 use std::sync::ArcSlice;
 
-/// Hypotheses, by their numbers in a table: the first ones of a list that stands in memory once, whichever goals have it.
+/// Hypotheses, by their numbers in a table: the first ones of a list that is stored once, for all goals that have it.
 #[derive(Drop)]
 pub struct Hypotheses {
     list: ArcSlice<FormulaId>,
@@ -42,7 +42,7 @@ impl Hypotheses {
         self.first(self.count)
     }
 
-    /// The first ones, so many, in the same memory.
+    /// The first `count`, in the same memory.
     pub fn first(&self, count: usize) -> Result<Hypotheses, OutOfMemory>
         requires { count ≤ length self.now }
         ensures { IfOk result (λ hypotheses. hypotheses ≡ take count self.now) }

@@ -8,7 +8,7 @@ ghost use Rattle.lc_kernel.specs.Proofs.{Step, Proof};
 ghost use Rattle.lc_kernel.specs.Table.{Outcome, opens, Gives};
 ghost use Rattle.lc_kernel.specs.declared.reason.Flaw.{Flaw};
 
-/// What has a derivation is true: where the hypotheses and the goal have no variables but those in use, the
+/// What has a derivation is true: if the hypotheses and the goal have no variables but those in use, the
 /// hypotheses imply the goal, in every state and for all numbers of the variables.
 pub fn derivations_are_valid()
     ensures { (v : ℕ) (hypotheses : List Formula) (goal : Formula) (p : Proof) →

@@ -41,7 +41,7 @@ pub(crate) fn count_branches(proofs: usize, branches: usize) -> Result<(), Flaw>
     }
 }
 
-/// The formulas of a branch, behind those that are appended.
+/// Appends the formulas of a branch.
 pub(crate) fn append_branch(
     appended: &mut Vec<FormulaId>,
     branches: &Branches,

@@ -7,8 +7,8 @@ use lc_term::{ColExpr, Formula, Term};
 
 /// A proof: a step, and below it a proof for each branch that the step opens.
 ///
-/// A step appends formulas to the hypotheses of each branch; hypotheses are numbered from 0, and what is shown
-/// stands last among them, negated.
+/// A step appends formulas to the hypotheses of each branch; hypotheses are numbered from 0, and the last of them is the
+/// negation of what is shown.
 #[derive(Drop)]
 pub struct Proof {
     pub step: Step,
@@ -28,8 +28,8 @@ impl Proof {
     }
 }
 
-/// A step of a proof. A hypothesis is given by its number. Terms and formulas stand in boxes, so that a list of steps that have
-/// none takes little.
+/// A step of a proof. A hypothesis is given by its number. Terms and formulas are in boxes, so that a list of steps without any
+/// takes little.
 pub enum Step {
     /// `(split h P)`: of `(and F ..)` one branch, with each F.
     Split {
@@ -81,7 +81,7 @@ pub enum Step {
         divisor: i64,
         quotient: Box<Formula>,
     },
-    /// `(sum (h k) ..)`: no branch; so many times these comparisons contradict each other.
+    /// `(sum (h k) ..)`: no branch; these multiples of comparisons contradict each other.
     Sum {
         multiples: Vec<Multiple>,
     },
@@ -94,7 +94,7 @@ pub enum Step {
     Open,
 }
 
-// Written out and not derived, so that a place where a step is let go has one call.
+// Written out and not derived, so that dropping a step is one call.
 impl Drop for Step {
     fn drop(self) {
         match self {
@@ -147,7 +147,7 @@ pub struct SameAccess {
     pub other: Term,
 }
 
-/// So many times a hypothesis.
+/// A multiple of a hypothesis.
 #[derive(Clone, Copy, PartialEq, Eq)]
 pub struct Multiple {
     pub hypothesis: i64,

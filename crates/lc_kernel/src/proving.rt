@@ -14,7 +14,7 @@ use crate::proof::Proof;
 use lc_table::Terms;
 use std::alloc::Global;
 
-// How many formulas there is room for behind the hypotheses of a goal: the negated goal, and what the first steps of a proof
+// The room for formulas after the hypotheses of a goal: the negated goal, and what the first steps of a proof
 // append. So most proofs are checked without a longer list.
 const ROOM: usize = 16;
 
@@ -22,7 +22,7 @@ const ROOM: usize = 16;
 /// them, the negated goal.
 ///
 /// The variables of the goal are below its count of variables, and that count and the number of the proof's steps
-/// are together at most 4,294,967,295. `Ok` is answered exactly for derivations, and then the hypotheses imply the
+/// are together at most 4,294,967,295. `Ok` is returned exactly for derivations, and then the hypotheses imply the
 /// goal; `Bad` and `Large` name the first step, in preorder, that does not hold. Formulas that steps make are entered
 /// in the table of the goal. Reads and appends of a step cost what they touch: branches share the hypotheses they have
 /// in common, and those of the goal are not copied. The stack that is needed grows with the nesting of the proof.

@@ -85,7 +85,7 @@ pub(crate) fn push(
     Ok(appending(alloc, terms, setting.variables, formula)?)
 }
 
-/// The body of a quantifier where its variable is a term.
+/// The body of a quantifier, with a term for its variable.
 #[tactic(auto, using(lc_table::proofs::Later::term_is, lc_table::proofs::Later::is_term_later, lc_table::proofs::Later::formula_still, lc_table::proofs::Later::is_formula_still, lc_table::proofs::Later::kept_on, lc_table::proofs::Later::keeps_itself))]
 fn with_term(
     alloc: Global,
@@ -102,7 +102,7 @@ fn with_term(
     terms.instantiate(alloc, body, put)
 }
 
-/// `(inst h T P)`: of `(forall x F)` one branch, with F where x is T. No quantifier stands round T, so a bound
+/// `(inst h T P)`: of `(forall x F)` one branch, with F where x is T. No quantifier is around T, so a bound
 /// variable in it is none that is in use.
 #[tactic(auto, using(lc_table::proofs::Later::formula_is, lc_table::proofs::Later::is_formula_later, lc_table::proofs::Later::keeps_itself))]
 pub(crate) fn instantiated(
@@ -396,7 +396,7 @@ pub(crate) fn opposite(
     })
 }
 
-/// `(open)`: never holds. Only where no proof stands below it is that what is wrong with it.
+/// `(open)`: never holds. That is reported only if no proof is below it.
 pub(crate) fn left_open(setting: Setting<'_>) -> Result<Opened, StepFault>
     ensures { (ts : Table) → StepMeets ts ts setting.entry S.Open result }
 {

@@ -1,8 +1,8 @@
 //! What a step of a proof finds.
 use lc_table::FormulaId;
 
-/// What a step finds: the hypotheses and, behind them, what the steps before it appended; how many variables are in use; and
-/// how many proofs stand below it.
+/// What a step finds: the hypotheses and, after them, what the steps before it appended; how many variables are in use; and
+/// how many proofs are below the step.
 #[derive(Clone, Copy)]
 pub(crate) struct Setting<'a> {
     pub(crate) given: &'a [FormulaId],

@@ -1,4 +1,4 @@
-//! Whether free variables have numbers below a count, told over the nodes of a table. What is shared is looked at once.
+//! Whether free variables have numbers below a count, computed over the nodes of a table. What is shared is looked at once.
 ghost use Rattle.std.specs.Prelude.{◌≡◌, ◌&&◌, ℕ, IfOk, OnOk, true};
 ghost use Rattle.lc_term.specs.Chains.{is_store};
 ghost use Rattle.lc_kernel.specs.Below.{term_below, column_below, formula_below, all_below};
@@ -163,7 +163,7 @@ fn stores_not_known(
     }
 }
 
-// Whether a store's variables are below the count, where those of what it stores to are.
+// Whether a store's variables are below the count, if those of what it stores to are.
 #[cycle(is_term_below)]
 #[tactic(auto, using(crate::proofs::Stores::store_below))]
 fn is_store_below(

@@ -20,13 +20,13 @@ is_later Head = true
 is_later Named = true
 is_later Below = true
 
--- something stands before the item
+-- something comes before the item
 abbrev pub is_gap : Gap → Bool
 is_gap Nothing = false
 is_gap Space = true
 is_gap Line = true
 
--- behind the item further items are not the first
+-- after the item further items are not the first
 pub record IsSound (first : Bool) (s : Spot) : Type 0 where
   pub later : is_later s.stage ≡ true
   pub gap : first ≡ true → is_gap s.gap ≡ true
@@ -80,7 +80,7 @@ at_no_word stage indent brackets (list ts) s x h =
     let inner : List ℕ = 40 ∷ laid_items (stage_within stage s.column brackets (list ts)) (right_of s.column 1) (indent_of s.column ts) brackets ts in
     ap begins_word (append_assoc (gap_text s.gap indent) inner x) ∙ gap_no_word s.gap indent (inner ++ x) h
 
--- what is left of a list begins no word, behind an item
+-- what is left of a list begins no word, after an item
 rest_no_word : (stage : Stage) (column indent brackets : ℕ) (ts : Trees) (x : List ℕ) → is_later stage ≡ true → begins_word (laid_items stage column indent brackets ts ++ x) ≡ false
 rest_no_word stage column indent brackets none x h =
     ap begins_word (append_assoc (gap_text (closing_gap stage brackets) indent) (41 ∷ []) x) ∙ gap_before_close (closing_gap stage brackets) indent x

@@ -55,7 +55,7 @@ steps_list r behind inner us ts around around' e f g h =
 close_parts : (out gap rest around : List ℕ) → ((out ++ gap) ++ (41 ∷ [])) ++ (rest ++ around) ≡ out ++ ((gap ++ (41 ∷ [])) ++ (rest ++ around))
 close_parts out gap rest around = simp append_assoc
 
--- a list ends that stands in another
+-- a list in another one ends
 pub told_close : (out out1 out2 : List ℕ) (r row : Row) (gap : Gap) (around around' : List Row) (o : Option Row) → out1 ≡ out ++ gap_text gap r.indent → out2 ≡ out1 ++ (41 ∷ [])
     → gap ≡ closing_gap r.stage r.brackets → rest_of r.rest ≡ none → around ≡ around' ++ option_to_list o → o ≡ Some row
     → out2 ++ (row_text row ++ around_text around') ≡ out ++ (row_text r ++ around_text around)

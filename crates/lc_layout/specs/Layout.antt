@@ -17,11 +17,11 @@ abbrev pub own_width : Tree → ℕ
 own_width (atom w) = length w
 own_width (list ts) = 2
 
--- the room that is left where so much of it is taken
+-- the room that is left when this much of it is taken
 abbrev pub room_left : ℕ → ℕ → Option ℕ
 room_left room taken = if nat_le taken room then Some (room - taken) else None
 
--- whether a tree that begins at a column ends within the 100 columns of a line, with so many brackets behind it
+-- whether a tree that begins at a column ends within the 100 columns of a line, with `brackets` brackets after it
 abbrev pub fits : ℕ → ℕ → Tree → Bool
 fits column brackets t = nat_le (column + width_of t + brackets) 100
 
@@ -39,33 +39,33 @@ abbrev pub is_short : Tree → Bool
 is_short (atom w) = true
 is_short (list ts) = are_atoms ts
 
--- where an item stands on the line of the item before it, and on a line of its own
+-- where an item is: on the line of the item before it, and on a line of its own
 abbrev pub on_line : Gap → ℕ → Stage → ℕ → Spot
 on_line gap column stage behind = record { gap = gap; column = column; stage = stage; behind = behind }
 
 abbrev pub on_its_own : ℕ → Spot
 on_its_own indent = record { gap = Line; column = indent; stage = Below; behind = 0 }
 
--- the column so many bytes behind another; beyond the line columns are not told apart
+-- the column `bytes` bytes after another; columns beyond the line are not distinguished
 abbrev pub right_of : ℕ → ℕ → ℕ
 right_of column bytes = min (column + bytes) 101
 
--- behind a list of atoms only atoms stay on the line
+-- after a list of atoms only atoms stay on the line
 abbrev pub stage_behind : Tree → Stage
 stage_behind (atom w) = Named
 stage_behind (list ts) = Head
 
--- behind the item before it, where it fits there
+-- after the item before it, if it fits there
 abbrev pub spot_behind : ℕ → ℕ → ℕ → Tree → Spot
 spot_behind column indent brackets t = if fits column brackets t then on_line Space column (stage_behind t) (column + width_of t) else on_its_own indent
 
--- the first item of a list that is broken: an atom stands behind the bracket, and so does a list unless that is too far
+-- the first item of a list that is broken: an atom comes after the bracket, and so does a list unless that is too far
 abbrev pub first_spot : ℕ → ℕ → Tree → Spot
 first_spot column indent (atom w) = on_line Nothing column Head (right_of column (length w))
 first_spot column indent (list ts) = if nat_le column 60 then on_line Nothing column Below 0 else on_its_own indent
 
--- Where the next item of a list stands: the list is laid out so far, its line goes up to this column, its items are indented so far, and so many
--- brackets stand right behind the item.
+-- Where the next item of a list is: the list is laid out so far, its line goes up to `column`, its items are indented by `indent`, and
+-- `brackets` brackets come right after the item.
 abbrev pub spot_of : Stage → ℕ → ℕ → ℕ → Tree → Spot
 spot_of Lead column indent brackets t = on_line Nothing 0 Flat 0
 spot_of Flat column indent brackets t = on_line Space 0 Flat 0
@@ -74,11 +74,11 @@ spot_of Head column indent brackets t = if is_atom_tree t then spot_behind (righ
 spot_of Named column indent brackets t = if is_short t then spot_behind (right_of column 1) indent brackets t else on_its_own indent
 spot_of Below column indent brackets t = on_its_own indent
 
--- a list that begins at a column stands on one line where it fits
+-- a list that begins at a column is on one line if it fits
 abbrev pub stage_at : ℕ → ℕ → Tree → Stage
 stage_at column brackets t = if fits column brackets t then Lead else Fresh
 
--- and so does one in a list that stands on one line
+-- and so is one in a list that is on one line
 abbrev pub stage_within : Stage → ℕ → ℕ → Tree → Stage
 stage_within Lead column brackets t = Lead
 stage_within Flat column brackets t = Lead
@@ -87,17 +87,18 @@ stage_within Head column brackets t = stage_at column brackets t
 stage_within Named column brackets t = stage_at column brackets t
 stage_within Below column brackets t = stage_at column brackets t
 
--- The indentation of a list's items, by the column of its bracket: 2 more, or 1 where it begins with a list, and 60 at most.
+-- The indentation of a list's items, by the column of its bracket: 2 more, or 1 if it begins with a list, and 60 at most.
 abbrev pub indent_of : ℕ → Trees → ℕ
 indent_of column none = min (column + 2) 60
 indent_of column (atom w ▸ ts) = min (column + 2) 60
 indent_of column (list us ▸ ts) = min (column + 1) 60
 
--- how many brackets stand right behind the last item of a list, before so many; where these are 30, the list's own stands on another line
+-- how many brackets come right after the last item of a list that has `brackets` brackets after it; if these are 30, the list's own is on
+-- another line
 abbrev pub brackets_more : ℕ → ℕ
 brackets_more brackets = if nat_le 30 brackets then 0 else brackets + 1
 
--- how many stand right behind an item, before these trees
+-- how many brackets come right after an item, before these trees
 abbrev pub brackets_behind : ℕ → Trees → ℕ
 brackets_behind brackets none = brackets_more brackets
 brackets_behind brackets (t ▸ ts) = 0
@@ -110,7 +111,7 @@ gap_text Line indent = 10 ∷ replicate indent 32
 abbrev pub own_line : ℕ → Gap
 own_line brackets = if nat_le 30 brackets then Line else Nothing
 
--- what stands before the bracket that closes a list: on one line nothing does
+-- what comes before the bracket that closes a list: on one line nothing
 abbrev pub closing_gap : Stage → ℕ → Gap
 closing_gap Lead brackets = Nothing
 closing_gap Flat brackets = Nothing
@@ -127,14 +128,14 @@ abbrev mutual
       laid_at stage indent (brackets_behind brackets ts) t (spot_of stage column indent (brackets_behind brackets ts) t)
       ++ laid_items (spot_of stage column indent (brackets_behind brackets ts) t).stage (spot_of stage column indent (brackets_behind brackets ts) t).behind indent brackets ts
 
-  -- an item at a spot of such a list, and what stands before it
+  -- an item at a spot of such a list, and what comes before it
   pub laid_at : Stage → ℕ → ℕ → Tree → Spot → List ℕ
   laid_at stage indent brackets (atom w) spot = gap_text spot.gap indent ++ w
   laid_at stage indent brackets (list ts) spot =
       gap_text spot.gap indent
       ++ (40 ∷ laid_items (stage_within stage spot.column brackets (list ts)) (right_of spot.column 1) (indent_of spot.column ts) brackets ts)
 
--- where a tree stands that begins a line
+-- where a tree is that begins a line
 abbrev pub line_start : Spot
 line_start = on_line Nothing 0 Below 0
 

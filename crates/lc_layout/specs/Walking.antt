@@ -10,7 +10,7 @@ use Rattle.lc_layout.specs.declared.walk.Walk.{Walk}
 abbrev pub row_text : Row → List ℕ
 row_text r = laid_items r.stage r.column r.indent r.brackets (rest_of r.rest)
 
--- the text behind the innermost row: the rest of the row around it, and so on
+-- the text after the innermost row: the rest of the row around it, and so on
 abbrev pub around_text : List Row → List ℕ
 around_text [] = []
 around_text (r ∷ rs) = around_text rs ++ row_text r
@@ -27,7 +27,7 @@ steps_around (r ∷ rs) = 2 * item_count_of_all (rest_of r.rest) + 1 + steps_aro
 abbrev pub steps_left : Walk → ℕ
 steps_left w = 2 * item_count_of_all (rest_of w.row.rest) + steps_around w.around.items
 
--- what is left where a walk goes on, and nothing where it has ended
+-- what is left if a walk goes on, and nothing if it has ended
 abbrev pub left_if : Bool → List ℕ → List ℕ
 left_if true s = s
 left_if false s = []

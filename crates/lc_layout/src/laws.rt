@@ -6,7 +6,7 @@ ghost use Rattle.lc_sexp.specs.Reads.{ReadsAs};
 ghost use Rattle.lc_sexp.specs.Printed.{HaveAtoms};
 ghost use Rattle.lc_layout.specs.Layout.{laid_out};
 
-/// What is laid out of trees reads as these trees, where their atoms are made of letters, they are nested within the limit, and
+/// What is laid out of trees reads as these trees, if their atoms are made of letters, they are nested within the limit, and
 /// the text is within the file limit.
 pub fn laid_out_reads_back()
     ensures { (ts : Trees) → HaveAtoms ts → depth_of_all ts ≤ depth_limit → length (laid_out ts) ≤ file_limit → ReadsAs (laid_out ts) ts }

@@ -10,7 +10,7 @@ use lc_base::OutOfMemory;
 use lc_sexp::{Cursor, Item};
 use std::alloc::Global;
 
-/// Lays out the items of a list that stands alone, behind its bracket.
+/// Lays out the items of a list by itself, after its bracket.
 fn lay_list(
     alloc: Global,
     text: &mut Vec<u8>,
@@ -24,7 +24,7 @@ fn lay_list(
     Ok(())
 }
 
-/// Lays out a form behind others.
+/// Appends a form, laid out.
 fn lay_form(alloc: Global, text: &mut Vec<u8>, form: Item<'_>) -> Result<(), OutOfMemory>
     ensures { OnOk result (text.new.items ≡ text.old.items ++ laid_at BelowStage 0 0 (item_tree form.entry) line_start) }
 {
@@ -41,9 +41,9 @@ fn lay_form(alloc: Global, text: &mut Vec<u8>, form: Item<'_>) -> Result<(), Out
     }
 }
 
-/// Lays out s-expressions over lines, each of which begins a line. A list that fits into the rest of a line of 100 columns stands
-/// on it. Of another the first items stay on the line of its bracket, its head with the atoms behind it, and each further item
-/// stands on a line of its own, indented by 2 more than the bracket, and by 60 at most.
+/// Lays out s-expressions over lines, each of which begins a line. A list that fits into the rest of a line of 100 columns is on
+/// it. Otherwise its first items stay on the line of its bracket, its head with the atoms after it, and each further item is on a
+/// line of its own, indented by 2 more than the bracket, and by 60 at most.
 ///
 /// The text is a function of the trees alone, and reads back as them. Nothing recurses along a list, nor along the nesting of the
 /// text.

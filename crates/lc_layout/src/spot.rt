@@ -6,13 +6,13 @@ use crate::stage::{Gap, Spot, Stage};
 use crate::width::{end_of, fits, is_short};
 use lc_sexp::{Cursor, Item};
 
-/// The column up to which a list may begin right behind a bracket, and up to which items are indented.
+/// The column up to which a list may begin right after a bracket, and up to which items are indented.
 const DEEPEST: usize = 60;
 
-/// The most brackets that stand behind an item.
+/// The most brackets that come after an item.
 const BRACKETS: usize = 30;
 
-/// The first column beyond a line. Those behind it are not told apart.
+/// The first column beyond a line. Those after it are not distinguished.
 const BEYOND: usize = 101;
 
 /// A spot on the line of the item before.
@@ -34,14 +34,14 @@ fn on_its_own(indent: usize) -> Spot
     on_line(Gap::Line, indent, Stage::Below, 0)
 }
 
-/// The column so many bytes behind another.
+/// The column `bytes` bytes after another.
 pub(crate) fn right_of(column: usize, bytes: usize) -> usize
     ensures { result ≡ right_of column bytes }
 {
     column.saturating_add(bytes).min(BEYOND)
 }
 
-/// How a list goes on behind an item on its line: behind a list only atoms stay there.
+/// How a list goes on after an item on its line: after a list only atoms stay there.
 fn stage_behind(item: Item<'_>) -> Stage
     ensures { result ≡ stage_behind (item_tree item.entry) }
 {
@@ -51,7 +51,7 @@ fn stage_behind(item: Item<'_>) -> Stage
     }
 }
 
-/// The spot of an item behind the one before it, at this column, where it fits there.
+/// The spot of an item after the one before it, at this column, if it fits there.
 fn spot_behind(column: usize, indent: usize, brackets: usize, item: Item<'_>) -> Spot
     ensures { result ≡ spot_behind column indent brackets (item_tree item.entry) }
 {
@@ -77,7 +77,7 @@ fn first_spot(column: usize, indent: usize, item: Item<'_>) -> Spot
     }
 }
 
-/// The spot of an item behind the head of a list, or behind a list of atoms: on the line for an atom that fits.
+/// The spot of an item after the head of a list, or after a list of atoms: on the line for an atom that fits.
 fn second_spot(column: usize, indent: usize, brackets: usize, item: Item<'_>) -> Spot
     ensures { result ≡ spot_of Stage.Head column indent brackets (item_tree item.entry) }
 {
@@ -87,7 +87,7 @@ fn second_spot(column: usize, indent: usize, brackets: usize, item: Item<'_>) ->
     }
 }
 
-/// The spot of an item behind two atoms or more: on their line for an atom or a list of atoms that fits.
+/// The spot of an item after two atoms or more: on their line for an atom or a list of atoms that fits.
 fn later_spot(column: usize, indent: usize, brackets: usize, item: Item<'_>) -> Spot
     ensures { result ≡ spot_of Stage.Named column indent brackets (item_tree item.entry) }
 {
@@ -98,8 +98,8 @@ fn later_spot(column: usize, indent: usize, brackets: usize, item: Item<'_>) -> 
     }
 }
 
-/// Where the next item of a list stands, which is laid out so far, whose line goes up to this column, and whose items are indented
-/// so far, where so many brackets stand right behind the item.
+/// Where the next item of a list is: the list is laid out so far, its line goes up to `column`, its items are indented by
+/// `indent`, and `brackets` brackets come right after the item.
 pub(crate) fn spot_of(
     stage: Stage,
     column: usize,
@@ -119,7 +119,7 @@ pub(crate) fn spot_of(
     }
 }
 
-/// How a list begins that begins at this column: on one line where it fits.
+/// How a list begins that begins at this column: on one line if it fits.
 fn stage_at(column: usize, brackets: usize, item: Item<'_>) -> Stage
     ensures { result ≡ stage_at column brackets (item_tree item.entry) }
 {
@@ -142,7 +142,7 @@ pub(crate) fn stage_within(stage: Stage, column: usize, brackets: usize, item: I
     }
 }
 
-/// How far the items of a list are indented whose bracket stands at this column.
+/// How far the items of a list are indented whose bracket is at this column.
 pub(crate) fn indent_of(column: usize, items: Cursor<'_>) -> usize
     ensures { result ≡ indent_of column (rest_of items.entry) }
 {
@@ -154,7 +154,7 @@ pub(crate) fn indent_of(column: usize, items: Cursor<'_>) -> usize
     }
 }
 
-/// How many brackets stand right behind the last item of a list, behind which so many stand.
+/// How many brackets come right after the last item of a list that has `brackets` brackets after it.
 fn brackets_more(brackets: usize) -> usize
     ensures { result ≡ brackets_more brackets }
 {
@@ -165,7 +165,7 @@ fn brackets_more(brackets: usize) -> usize
     }
 }
 
-/// How many brackets stand right behind an item of a list, before these items.
+/// How many brackets come right after an item of a list, before these items.
 pub(crate) fn brackets_behind(brackets: usize, items: Cursor<'_>) -> usize
     ensures { result ≡ brackets_behind brackets (rest_of items.entry) }
 {

@@ -1,21 +1,21 @@
 /// How far a list is laid out.
 #[derive(Clone, Copy)]
 pub(crate) enum Stage {
-    /// The list stands on one line, and no item of it is there yet.
+    /// The list is on one line, and no item of it is there yet.
     Lead,
-    /// The list stands on one line, and some items of it are there.
+    /// The list is on one line, and some items of it are there.
     Flat,
     /// The list is broken over lines, and no item of it is there yet.
     Fresh,
     /// The last item on the line of the bracket is the head, an atom, or a list of atoms.
     Head,
-    /// The last item on the line of the bracket is an atom behind the head.
+    /// The last item on the line of the bracket is an atom after the head.
     Named,
-    /// Each further item stands on a line of its own.
+    /// Each further item is on a line of its own.
     Below,
 }
 
-/// What stands before an item.
+/// What comes before an item.
 #[derive(Clone, Copy)]
 pub(crate) enum Gap {
     Nothing,
@@ -24,7 +24,7 @@ pub(crate) enum Gap {
     Line,
 }
 
-/// Where an item of a list stands.
+/// Where an item of a list is put.
 #[derive(Clone, Copy)]
 pub(crate) struct Spot {
     pub(crate) gap: Gap,
@@ -32,6 +32,6 @@ pub(crate) struct Spot {
     pub(crate) column: usize,
     /// How far the list is laid out with it.
     pub(crate) stage: Stage,
-    /// The column behind it, where a further item may stand on its line.
+    /// The column after it, where a further item may be on its line.
     pub(crate) behind: usize,
 }

@@ -7,7 +7,7 @@ use lc_base::OutOfMemory;
 use lc_sexp::{Cursor, Item};
 use std::alloc::Global;
 
-/// The brackets behind a list that is broken over lines from which on its own stands on a line of its own.
+/// If this many brackets come after a list that is broken over lines, its own bracket is on a line of its own.
 const BRACKETS: usize = 30;
 
 /// What is left of a list: its items, and how it is laid out so far.
@@ -15,11 +15,11 @@ const BRACKETS: usize = 30;
 pub(crate) struct Row<'a> {
     pub(crate) rest: Cursor<'a>,
     pub(crate) stage: Stage,
-    /// The column behind what stands on its line, where a further item may stand there.
+    /// The column after what is on its line, where a further item may be.
     pub(crate) column: usize,
     /// How far its items are indented.
     pub(crate) indent: usize,
-    /// How many brackets stand right behind its own.
+    /// How many brackets come right after its own.
     pub(crate) brackets: usize,
 }
 
@@ -30,7 +30,7 @@ pub(crate) struct Walk<'a> {
     around: Vec<Row<'a>>,
 }
 
-/// Puts so many spaces behind others.
+/// Appends `count` spaces.
 fn push_spaces(text: &mut Vec<u8>, count: usize) -> Result<(), OutOfMemory>
     ensures { OnOk result (text.new.items ≡ text.old.items ++ replicate count 32) }
 {
@@ -42,7 +42,7 @@ fn push_spaces(text: &mut Vec<u8>, count: usize) -> Result<(), OutOfMemory>
     Ok(())
 }
 
-/// Puts behind others what stands before an item.
+/// Appends what comes before an item.
 pub(crate) fn push_gap(text: &mut Vec<u8>, gap: Gap, indent: usize) -> Result<(), OutOfMemory>
     ensures { OnOk result (text.new.items ≡ text.old.items ++ gap_text gap indent) }
 {
@@ -59,7 +59,7 @@ pub(crate) fn push_gap(text: &mut Vec<u8>, gap: Gap, indent: usize) -> Result<()
     }
 }
 
-/// What stands before a bracket that closes a list which is broken, behind which so many stand.
+/// What comes before the bracket that closes a broken list, with `brackets` brackets after it.
 fn own_line(brackets: usize) -> Gap
     ensures { result ≡ own_line brackets }
 {
@@ -70,7 +70,7 @@ fn own_line(brackets: usize) -> Gap
     }
 }
 
-/// What stands before the bracket that closes a list, behind which so many stand.
+/// What comes before the bracket that closes a list, with `brackets` brackets after it.
 fn closing_gap(stage: Stage, brackets: usize) -> Gap
     ensures { result ≡ closing_gap stage brackets }
 {
@@ -86,7 +86,7 @@ impl<'a> Row<'a> {
     ghost use Rattle.lc_layout.specs.Layout.{laid_items, indent_of as indent_within, right_of as column_behind};
     ghost use Rattle.lc_layout.specs.Walking.{row_text};
 
-    /// The row of a list that begins at this stage, and whose bracket stands at this column.
+    /// The row of a list that begins at this stage, and whose bracket is at this column.
     fn of_list(items: Cursor<'a>, stage: Stage, column: usize, brackets: usize) -> Row<'a>
         ensures rest { result.rest ≡ items.entry }
         ensures text { row_text result ≡ laid_items stage (column_behind column 1) (indent_within column (rest_of items.entry)) brackets (rest_of items.entry) }
@@ -108,7 +108,7 @@ impl<'a> Walk<'a> {
     ghost use Rattle.lc_layout.specs.Layout.{laid_items, indent_of as indent_within, right_of as column_behind};
     ghost use Rattle.lc_layout.specs.Walking.{row_text, left_to_lay, steps_left, left_if};
 
-    /// A walk at the beginning of a list that stands alone.
+    /// A walk at the beginning of a list by itself.
     pub(crate) fn new(alloc: Global, items: Cursor<'a>, stage: Stage) -> Walk<'a>
         ensures { left_to_lay result ≡ laid_items stage (column_behind 0 1) (indent_within 0 (rest_of items.entry)) 0 (rest_of items.entry) }
     {
@@ -118,7 +118,7 @@ impl<'a> Walk<'a> {
         }
     }
 
-    /// Ends the innermost list. Answers whether it stands in another.
+    /// Ends the innermost list. Returns whether it is in another.
     fn close(&mut self, text: &mut Vec<u8>) -> Result<bool, OutOfMemory>
         requires { rest_of self.old.row.rest ≡ none }
         ensures told { IfOk result (λ more. text.new.items ++ left_if more (left_to_lay self.new) ≡ text.old.items ++ left_to_lay self.old) }
@@ -137,7 +137,7 @@ impl<'a> Walk<'a> {
         Ok(true)
     }
 
-    /// Puts an item of the innermost list, of which these are left behind it.
+    /// Puts an item of the innermost list, with these left after it.
     fn put(
         &mut self,
         text: &mut Vec<u8>,
@@ -174,7 +174,7 @@ impl<'a> Walk<'a> {
         Ok(())
     }
 
-    /// Puts an item, or ends the innermost list. Answers whether something is left.
+    /// Puts an item, or ends the innermost list. Returns whether something is left.
     pub(crate) fn step(&mut self, text: &mut Vec<u8>) -> Result<bool, OutOfMemory>
         ensures told { IfOk result (λ more. text.new.items ++ left_if more (left_to_lay self.new) ≡ text.old.items ++ left_to_lay self.old) }
         ensures fewer { IfOk result (λ more. more ≡ true → steps_left self.new < steps_left self.old) }

@@ -19,7 +19,7 @@ fn own_width(item: Item<'_>) -> usize
     }
 }
 
-/// The room that is left behind these items on one line, with one space between them. It looks no farther than the room goes, so
+/// The room left after these items on one line, with one space between them. It looks no farther than the room goes, so
 /// it recurses at most half as deep as there are columns.
 fn room_behind(items: Cursor<'_>, room: usize) -> Option<usize>
     ensures { result ≡ room_left room (length (printed_items (rest_of items.entry))) }
@@ -36,7 +36,7 @@ fn room_behind(items: Cursor<'_>, room: usize) -> Option<usize>
     Some(left)
 }
 
-/// The column behind an item that begins at a column, where it ends in the same line with so many brackets behind it.
+/// The column after an item that begins at `column`, if it ends in the same line with `brackets` brackets after it.
 pub(crate) fn end_of(item: Item<'_>, column: usize, brackets: usize) -> Option<usize>
     ensures { result ≡ (if fits column brackets (item_tree item.entry) then Some (column + width_of (item_tree item.entry)) else None) }
 {
@@ -47,7 +47,7 @@ pub(crate) fn end_of(item: Item<'_>, column: usize, brackets: usize) -> Option<u
     Some(LINE - brackets - left)
 }
 
-/// Whether an item that begins at a column ends in the same line, with so many brackets behind it.
+/// Whether an item that begins at `column` ends in the same line, with `brackets` brackets after it.
 pub(crate) fn fits(item: Item<'_>, column: usize, brackets: usize) -> bool
     ensures { result ≡ fits column brackets (item_tree item.entry) }
 {

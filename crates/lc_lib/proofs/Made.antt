@@ -1,4 +1,4 @@
--- What is answered where a certificate is asked for, step by step.
+-- What is returned when a certificate is asked for, step by step.
 use Rattle.std.proofs.Common.{◌≡◌, List, ℕ, IfOk, Result, Ok, Err, refl, sym, ap, ◌∙◌, subst, inl, inr}
 use Rattle.std.specs.Prelude.{Vec}
 use Rattle.std.specs.declared.alloc.Global.{Global}

@@ -1,4 +1,4 @@
--- What is answered where a certificate of an object of the library is asked for.
+-- What is returned when a certificate of an object of the library is asked for.
 use Rattle.std.specs.Prelude.{◌≡◌, ℕ, ◌⊎◌, List, Vec, Result, Ok, Err}
 use Rattle.std.specs.declared.alloc.Global.{Global}
 use Rattle.lc_base.specs.declared.refusal.Refusal.{Refusal}

@@ -1,4 +1,4 @@
--- The atoms that stand in a list of coefficients, by their places.
+-- The atoms in a list of coefficients, by their places.
 use Rattle.std.proofs.Common.{◌≡◌, ◌∙◌, ℕ, List, Option, Some, None, refl, sym, ap}
 use Rattle.std.specs.Prelude.{ℤ, pos, slice_get, option_map, unwrap_or}
 use Rattle.std.specs.Map.{keys_of, lookup}
@@ -9,7 +9,7 @@ use Rattle.lc_linear.specs.Numbered.{is_same, coefficient_in}
 use Rattle.lc_linear.proofs.Entries.{coefficient_in-lookup}
 use Rattle.lc_linear.proofs.Ids.{Decides-is_same}
 
--- the atom of an entry stands where the entry does
+-- an atom has the place of its entry
 pub atom_place : (es : List (TermId × ℤ)) (i : ℕ) (o : Option (TermId × ℤ)) → o ≡ slice_get es i → slice_get (keys_of es) i ≡ option_map (λ e. e.0) o
 atom_place es i o is = slice_get-map (λ e. e.0) es i ∙ ap (option_map (λ e. e.0)) (sym is)
 

@@ -23,7 +23,7 @@ pub coefficient_in-absent : (x : TermId) (es : List (TermId × ℤ)) → Absent 
 coefficient_in-absent x [] h = refl
 coefficient_in-absent x (e ∷ es) h = rw h.apart.0 (coefficient_in-absent x es (record { apart = h.apart.1 }))
 
--- an entry behind those of other atoms is found
+-- an entry after those of other atoms is found
 pub coefficient_in-middle : (es : List (TermId × ℤ)) (x : TermId) (n : ℤ) (rest : List (TermId × ℤ)) → Absent x es → coefficient_in (es ++ (x, n) ∷ rest) x ≡ n
 coefficient_in-middle [] x n rest h = rw ((Decides-is_same x x).1 refl) refl
 coefficient_in-middle (e ∷ es) x n rest h = rw h.apart.0 (coefficient_in-middle es x n rest (record { apart = h.apart.1 }))

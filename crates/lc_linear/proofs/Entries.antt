@@ -31,7 +31,7 @@ coefficient_in-lookup a (e ∷ es) =
     found (is_same a e.0) e.1 (lookup (λ k. is_same a k) es) ∙
     ap (λ n. if is_same a e.0 then e.1 else n) (coefficient_in-lookup a es)
 
--- an entry that is put in, then changed where it stands, is the changed entry put in
+-- an entry that is put in, then changed in place, is the changed entry put in
 placed : {K V : Type 0} (here : Bool) (i : ℕ) (e : K × V) (es old new : List (K × V)) (v w : V) → set_value_at old i w ≡ new →
     set_value_at (if here then (e.0, v) ∷ es else e ∷ old) (cond (not here) (1 + i) 0) w ≡ (if here then (e.0, w) ∷ es else e ∷ new)
 placed true i e es old new v w h = refl
@@ -43,7 +43,7 @@ set_value_at-insert_entry eq [] k v w = refl
 set_value_at-insert_entry eq (e ∷ es) k v w =
     placed (eq k e.0) (position_or_len (eq k) (keys_of es)) e es (insert_entry eq es k v) (insert_entry eq es k w) v w (set_value_at-insert_entry eq es k v w)
 
--- where the atoms are the same the new coefficient hides the old one, else their order is no matter
+-- if the atoms are the same the new coefficient hides the old one, else their order is no matter
 over : (t : Bool) (n w rest : ℤ) → (if t then w else rest) ≡ (if t then w else (if t then n else rest))
 over true n w rest = refl
 over false n w rest = refl
@@ -126,7 +126,7 @@ added_new m count n es new k o put is found none p =
     let zero_there : coefficient_in es k ≡ pos 0 = coefficient_in-found es k o found ∙ ap (λ q. unwrap_or q (pos 0)) none in
     listed-insert_entry m es new k n put p ∙ replaced_adds (listed m es) k n count (omega (arith, ints)) p
 
--- an atom that was there: its coefficient is changed where it stands
+-- an atom that was there: its coefficient is changed in place
 pub changed : (es new : List (TermId × ℤ)) (k : TermId) (i : ℕ) (v w : ℤ) → new ≡ insert_entry is_same es k v → i ≡ position_or_len (is_same k) (keys_of es) →
     set_value_at new i w ≡ insert_entry is_same es k w
 changed es new k i v w put at = ap₂ (λ l j. set_value_at l j w) put at ∙ set_value_at-insert_entry is_same es k v w

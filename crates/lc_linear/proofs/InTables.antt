@@ -117,7 +117,7 @@ Reads-same ts n m f g kept same h = record {
 pub number_read : (ts : Table) (n : ℤ) → Reads ts (N.number_form n) (T.number_form n)
 number_read ts n = record { constant = refl; terms = λ k is. refl; others = λ k not. refl; nowhere = λ a not. refl }
 
--- numbers of terms are the same where the terms are
+-- numbers of terms are the same if the terms are
 abbrev pub IsExact : Table → Type 0
 IsExact ts = (a b : TermId) → IsTerm ts a → IsTerm ts b → (a ≡ b) ↔ (term_in ts a ≡ term_in ts b)
 
@@ -132,7 +132,7 @@ atom_read ts exact x is_x = record {
       (λ h. absurd (not x is_x (sym ((Decides-term_eq a (term_in ts x)).0 h)))) (λ h. absurd (false≢true h)));
 }
 
--- what is answered, of another fact and of another form
+-- what is returned, for another fact and for another form
 pub Gives-map : (P Q : Type 0) (A B : LinForm → Type 0) (r : Result LinForm LinFault) → (P → Q) → (Q → P) → ((form : LinForm) → P → A form → B form) → Gives r P A → Gives r Q B
 Gives-map P Q A B (Ok form) to back same h = (to h.0, same form h.0 h.1)
 Gives-map P Q A B (Err Large) to back same h = λ q. h (back q)

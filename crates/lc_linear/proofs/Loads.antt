@@ -1,4 +1,4 @@
--- Weights that are known, and terms that are together so many times.
+-- Weights that are known, and sums of multiples of terms.
 use Rattle.std.proofs.Common.{◌≡◌, ℕ, zero, suc, ◌+◌, ◌*◌, ◌<◌, ◌^◌, max, length, take, get_or, ◌++◌, Bool, true, false, cond, List, [], ◌∷◌, Option, Some, None, refl, sym, ap, ap₂, subst, ◌∙◌, arith}
 use Rattle.std.specs.Prelude.{ℤ, pos, ◌+ℤ◌, ◌-ℤ◌, ◌*ℤ◌, unsigned_abs, if◌then◌else◌, IfSome}
 use Rattle.std.specs.Map.{lookup}
@@ -48,7 +48,7 @@ weights_more ts k w (e ∷ es) is are = put ts k w e es (insert_entry is_same es
 pub weights_put : (ts : Table) (k : TermId) (w : ℕ) (es new : List (TermId × ℕ)) → new ≡ insert_entry is_same es k w → w ≡ weight (term_in ts k) → AreWeights ts es → AreWeights ts new
 weights_put ts k w es new e is are = subst (AreWeights ts) (sym e) (weights_more ts k w es is are)
 
--- one more behind
+-- one more appended
 pub total_behind : (ts : Table) (ms : Multiples) (m : TermId × ℤ) (p : T.Place) → total ts (ms ++ (m ∷ [])) p ≡ total ts ms p +ℤ m.1 *ℤ form_of (term_in ts m.0) p
 total_behind ts [] m p = omega (arith, ints)
 total_behind ts (x ∷ ms) m p = let rest = total_behind ts ms m p in omega (arith, ints)
@@ -105,7 +105,7 @@ pub together_form : (ts : Table) (ms : Multiples) (t : Term) (form : LinForm) �
 together_form ts ms t form both h =
     (HasForm-weight t (subst (λ w. w < 2 ^ 127) both.heavy h.light), Reads-same ts (numbers form) (numbers form) _ (form_of t) (λ p. refl) both.form h.is_form)
 
--- the sides of a comparison, put behind
+-- the sides of a comparison, appended
 max_of : (k : ℤ) → max (unsigned_abs (pos 0 -ℤ k)) 1 ≡ max (unsigned_abs k) 1
 max_of k = omega (arith, ints)
 
@@ -146,7 +146,7 @@ number_nothing : (p : T.Place) → form_of (Number (pos 0)) p ≡ pos 0
 number_nothing None = refl
 number_nothing (Some a) = refl
 
--- nothing is put behind
+-- nothing is appended
 pub nothing_behind : (ts : Table) (old : Multiples) (k : ℤ) (g : Term) → g ≡ Number (pos 0) → Appends ts old old (λ p. k *ℤ form_of g p) (max (unsigned_abs k) 1 * weight g)
 nothing_behind ts old k g is = record {
   are_terms = λ are. are;

@@ -54,7 +54,7 @@ module _ (ts : Table) (f g : N.Form) (l r t : Term) (first : Reads ts f (form_of
       (read_by ts (λ m n. m -ℤ n) refl f g (form_of l) (form_of r) first second))
       h
 
--- so many times a form added to another one
+-- k times a form added to another one
 module _ (ts : Table) (z f : N.Form) (zt ft : T.Form) (k : ℤ) (first : Reads ts z zt) (second : Reads ts f ft) where
   scaled_read : Reads ts (added_scaled z k f) (added_scaled zt k ft)
   scaled_read = read_by ts (λ m n. m +ℤ k *ℤ n) (added_zero k) z f zt ft first second
@@ -65,7 +65,7 @@ module _ (ts : Table) (z f : N.Form) (zt ft : T.Form) (k : ℤ) (first : Reads t
   pub can_kept : CanAddScaled zt k ft → CanAddScaled z k f
   can_kept can = each_kept ts z f zt ft first second (λ m n. FitsSigned w128 (k *ℤ n) × FitsSigned w128 (m +ℤ k *ℤ n)) (zeros_add k) can
 
--- a product of a term whose form is made: so many times that form is added to the form that is 0
+-- a product with a term whose form is made: k times that form is added to the form that is 0
 pub product_given : (ts : Table) (z f : N.Form) (n k : ℤ) (l t : Term) (res : Result LinForm LinFault) → t ≡ Multiply n l → k ≡ n → ((p : N.Place) → z p ≡ N.number_form (pos 0) p) →
     Reads ts f (form_of l) → HasForm l → Gives res (CanAddScaled z k f) (λ form. HasNumbers form (added_scaled z k f)) → Gives res (HasForm t) (λ form. IsFormIn ts form (form_of t))
 product_given ts z f n k l t res is is_k zero second fits_l h =
@@ -122,7 +122,7 @@ atom_given ts exact x is atom form z zero has =
     Reads-same ts (N.atom_form x) (numbers form) (T.atom_form (term_in ts x)) (form_of (term_in ts x))
     (λ p. has p ∙ ap (λ y. y +ℤ pos 1 *ℤ N.atom_form x p) (zero p ∙ number_form-zero p) ∙ one_more (N.atom_form x p)) atom.alone (atom_read ts exact x is)
 
--- so many times a term's form, added part by part
+-- k times a term's form, added part by part
 module _ (ts : Table) (old new : LinForm) (t : Term) (k k' : ℤ) (is_k : k' ≡ k) where
   pub adds_number : (n m : ℤ) → t ≡ Number n → m ≡ k' *ℤ n → HasNumbers new (λ p. numbers old p +ℤ N.number_form m p) → AddsIn ts old new (λ p. k *ℤ form_of t p)
   adds_number n m is is_m has f h =

@@ -1,4 +1,4 @@
--- So many times a term's form, added part by part to a number that is kept.
+-- A multiple of a term's form, added part by part to a number that is kept.
 use Rattle.std.proofs.Common.{◌≡◌, arith}
 use Rattle.std.specs.Prelude.{ℤ, pos, ◌+ℤ◌, ◌-ℤ◌, ◌*ℤ◌}
 use Rattle.std.proofs.lemmas.Int.{ints}

@@ -19,7 +19,7 @@ widened n m fits is = omega (arith, ints)
 pub number_kept : (n : ℤ) → FitsSigned w64 n → to_z w64 (of_z w64 n) ≡ n
 number_kept n fits = to_z-of_z w64 n fits
 
--- a product of two numbers of 128 bits, and what is passed on of it where it fits
+-- a product of two numbers of 128 bits, and what is passed on of it if it fits
 pub product_bits : (k n : ℤ) → FitsSigned w128 k → FitsSigned w128 n → to_z w128 (of_z w128 k) *ℤ to_z w128 (of_z w128 n) ≡ k *ℤ n
 product_bits k n f g = ap₂ ◌*ℤ◌ (kept k f) (kept n g)
 

@@ -26,7 +26,7 @@ pub number_form-zero : (p : Place) → number_form (pos 0) p ≡ pos 0
 number_form-zero None = refl
 number_form-zero (Some a) = refl
 
--- a product's form is that of 0 with so many times its factor's form added
+-- a product's form is that of 0 with k times its factor's form added
 module _ (zero factor : Form) (n k : ℤ) (t u : S.Term) (is : u ≡ S.Multiply n t) (is_n : k ≡ n) (nothing : (p : Place) → zero p ≡ number_form (pos 0) p) (form : (p : Place) → factor p ≡ form_of t p) where
   product : (p : Place) → k *ℤ factor p ≡ n *ℤ form_of t p
   product p = ap₂ ◌*ℤ◌ is_n (form p)

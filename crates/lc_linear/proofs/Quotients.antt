@@ -1,4 +1,4 @@
--- Coefficients divided one after another, where they stand.
+-- Coefficients divided one after another, in place.
 use Rattle.std.proofs.Common.{◌≡◌, ℕ, zero, suc, ◌+◌, ◌<◌, ◌≤◌, ◌⊎◌, inl, inr, Bool, true, false, List, [], ◌∷◌, ◌++◌, length, Some, refl, sym, ap, ap₂, subst, ◌∙◌, append_assoc, append-nil, arith}
 use Rattle.std.specs.Prelude.{ℤ, ◌*ℤ◌, FitsSigned, if◌then◌else◌, slice_get}
 use Rattle.std.specs.Int.{w128}
@@ -87,7 +87,7 @@ value-middle : (ds rest : List (TermId × ℤ)) (x : TermId) (c : ℤ) → slice
 value-middle [] rest x c = refl
 value-middle (d ∷ ds) rest x c = value-middle ds rest x c
 
--- the next entry, and those behind it
+-- the next entry, and those after it
 pub record NextEntry (k : ℤ) (old now : List (TermId × ℤ)) (i : ℕ) (coefficient : ℤ) : Type 0 where
   pub before : List (TermId × ℤ)
   pub front : List (TermId × ℤ)

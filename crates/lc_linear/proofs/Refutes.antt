@@ -87,7 +87,7 @@ module _ (s : State) (e b : Env) where
       let high = c.positive in
       omega (arith, ints)
 
-  -- where an inequality holds, so does each one whose gap has the divided form
+  -- if an inequality holds, so does each one whose gap has the divided form
   pub divided_holds : (t u t' u' : Term) (k : ℤ) → IsDivided (form_of (Subtract t u)) k (form_of (Subtract t' u')) → Holds s e b (Le t u) → Holds s e b (Le t' u')
   divided_holds t u t' u' k d h =
       let v = value s e b (Subtract t u) in

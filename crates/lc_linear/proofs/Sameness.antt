@@ -1,4 +1,4 @@
--- Forms of which each has the coefficients that the other lists.
+-- Two forms, each with the coefficients that the other lists.
 use Rattle.std.proofs.Common.{◌≡◌, ◌⊎◌, inl, inr, Bool, true, false, List, [], ◌∷◌, ◌++◌, Some, None, refl, sym, ap, ◌∙◌}
 use Rattle.std.specs.Prelude.{ℤ, pos, if◌then◌else◌}
 use Rattle.lc_table.specs.declared.node.TermId.{TermId}

@@ -27,7 +27,7 @@ combined-more ts es i e h is =
     combined_from-append _ (entries_in ts (take i es)) ((formula_in ts (get_or es i e).0, (get_or es i e).1) ∷ []) ∙
     ap (λ (x : FormulaId × ℤ). Add (combined (entries_in ts (take i es))) (Multiply x.1 (gap (formula_in ts x.0)))) (sym is)
 
--- where the form of a whole sum can be made, so can that of each sum on the way
+-- if the form of a whole sum can be made, so can that of each sum on the way
 HasForm-start : (t : S.Term) (es : List Entry) → HasForm (combined_from t es) → HasForm t
 HasForm-start t [] h = h
 HasForm-start t (e ∷ es) h = (HasForm-start (Add t (Multiply e.1 (gap e.0))) es h).0

@@ -1,4 +1,4 @@
--- A term's weight bounds each number of its form, so where it fits the form can be made.
+-- A term's weight bounds each number of its form, so if it fits the form can be made.
 use Rattle.std.proofs.Common.{◌≡◌, ℕ, Option, ◌+◌, ◌*◌, ◌^◌, ◌<◌, ◌≤◌, max, Bool, true, false, Some, None, arith, subst}
 use Rattle.std.specs.Prelude.{ℤ, pos, ◌+ℤ◌, ◌-ℤ◌, ◌*ℤ◌, unsigned_abs, IfSome, IsSomeAnd, if◌then◌else◌}
 use Rattle.std.specs.Int.{w128}

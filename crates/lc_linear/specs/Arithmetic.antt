@@ -4,7 +4,7 @@ use Rattle.std.specs.Int.{w128}
 use Rattle.lc_linear.specs.declared.fault.LinFault.{LinFault}
 use Rattle.lc_linear.specs.declared.fault.LinFault.TheVariants.{Large, OutOfMemory}
 
--- the number n where it fits, and Large where it does not
+-- the number n if it fits, and Large if it does not
 abbrev pub GivesNumber : Result ℤ LinFault → ℤ → Type 0
 GivesNumber (Ok m) n = FitsSigned w128 n × (m ≡ n)
 GivesNumber (Err Large) n = FitsSigned w128 n → ⊥

@@ -12,7 +12,7 @@ use Rattle.lc_linear.specs.Form.{form_of, HasForm}
 abbrev pub Entry : Type 0
 Entry = S.Formula × ℤ
 
--- the entries of the code, formulas being read in a table, where all of them are
+-- the entries of the code, formulas being read in a table, if all of them are in it
 abbrev pub entries_in : Table → List (FormulaId × ℤ) → List Entry
 entries_in ts es = map (λ e. (formula_in ts e.0, e.1)) es
 
@@ -34,7 +34,7 @@ is_allowed _ k = false
 abbrev pub are_allowed : List Entry → Bool
 are_allowed es = list_all (λ e. is_allowed e.0 e.1) es
 
--- a term, and so many times the gap of each formula, added from the left
+-- a term, and the multiple of each formula's gap, added from the left
 abbrev pub combined_from : Term → List Entry → Term
 combined_from t [] = t
 combined_from t (e ∷ es) = combined_from (Add t (Multiply e.1 (gap e.0))) es
@@ -42,7 +42,7 @@ combined_from t (e ∷ es) = combined_from (Add t (Multiply e.1 (gap e.0))) es
 abbrev pub combined : List Entry → Term
 combined es = combined_from (Number (pos 0)) es
 
--- where all formulas hold their gaps are at most 0, so is each sum of them that is allowed; but this one is a
+-- if all formulas hold their gaps are at most 0, so is each sum of them that is allowed; but this one is a
 -- constant above 0, and each number on the way to it fits 128 bits
 pub record Closes (es : List Entry) : Type 0 where
   pub allowed : IsTrue (are_allowed es)

@@ -31,7 +31,7 @@ HasNumbers form f = (p : Place) → numbers form p ≡ f p
 abbrev pub IsNowhere : Table → Term → Type 0
 IsNowhere ts a = (k : TermId) → IsTerm ts k → term_in ts k ≡ a → ⊥
 
--- the numbers n are those of the form f, its atoms being read in a table: what stands at the number of a term is the
+-- the numbers n are those of the form f, its atoms being read in a table: the entry at the number of a term is the
 -- coefficient of that term, and there are no other coefficients but 0 on either side
 pub record Reads (ts : Table) (n : Form) (f : T.Form) : Type 0 where
   pub constant : n None ≡ f None
@@ -47,7 +47,7 @@ IsFormIn ts form f = Reads ts (numbers form) f
 abbrev pub AddsIn : Table → LinForm → LinForm → T.Form → Type 0
 AddsIn ts old new g = (f : T.Form) → IsFormIn ts old f → IsFormIn ts new (λ p. f p +ℤ g p)
 
--- a form with Q where P holds, and Large where it does not; for want of memory neither
+-- a form with Q if P holds, and Large if it does not; neither on `OutOfMemory`
 abbrev pub Gives : Result LinForm LinFault → Type 0 → (LinForm → Type 0) → Type 0
 Gives (Ok form) P Q = P × Q form
 Gives (Err Large) P Q = P → ⊥

@@ -4,7 +4,7 @@ use Rattle.lc_term.specs.Syntax.{Term}
 use Rattle.lc_term.specs.Equal.{term_eq}
 use Rattle.lc_linear.specs.Form.{Form}
 
--- the coefficient listed for an atom, 0 where there is none
+-- the coefficient listed for an atom, 0 if there is none
 abbrev pub coefficient_in : List (Term × ℤ) → Term → ℤ
 coefficient_in [] a = pos 0
 coefficient_in (e ∷ es) a = if term_eq a e.0 then e.1 else coefficient_in es a

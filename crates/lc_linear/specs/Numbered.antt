@@ -25,7 +25,7 @@ abbrev pub atom_form : TermId → Form
 atom_form x None = pos 0
 atom_form x (Some a) = if is_same a x then pos 1 else pos 0
 
--- the coefficient listed for an atom, 0 where there is none
+-- the coefficient listed for an atom, 0 if there is none
 abbrev pub coefficient_in : List (TermId × ℤ) → TermId → ℤ
 coefficient_in [] a = pos 0
 coefficient_in (e ∷ es) a = if is_same a e.0 then e.1 else coefficient_in es a

@@ -17,7 +17,7 @@ abbrev pub multiples : Table → N.Form → ℕ → T.Form
 multiples ts n zero p = pos 0
 multiples ts n (suc k) p = multiples ts n k p +ℤ n (Some (record { 0 = k })) *ℤ form_of (term_in ts (record { 0 = k })) p
 
--- the forms of all nodes of a table, likewise
+-- the forms of all nodes of a table, in the same way
 abbrev pub owed_in : Table → N.Form → T.Form
 owed_in ts n p = multiples ts n (length (parts ts)) p
 
@@ -35,19 +35,19 @@ StaysTogether ts form rest new_form new_rest = (h : T.Form) → IsTogether ts fo
 abbrev pub AreWeights : Table → List (TermId × ℕ) → Type 0
 AreWeights ts es = AllByRecursion (λ e. e.1 ≡ weight (term_in ts e.0)) es
 
--- terms of a table, each so many times
+-- terms of a table, each with its multiplier
 abbrev pub Multiples : Type 0
 Multiples = List (TermId × ℤ)
 
 abbrev pub AreOfTerms : Table → Multiples → Type 0
 AreOfTerms ts ms = AllByRecursion (λ m. IsTerm ts m.0) ms
 
--- their forms, each so many times, added up
+-- the multiples of their forms, added up
 abbrev pub total : Table → Multiples → T.Form
 total ts [] p = pos 0
 total ts (m ∷ ms) p = m.1 *ℤ form_of (term_in ts m.0) p +ℤ total ts ms p
 
--- their weights, each so many times and at least once, added up
+-- the multiples of their weights, each at least once, added up
 abbrev pub load : Table → Multiples → ℕ
 load ts [] = 0
 load ts (m ∷ ms) = max (unsigned_abs m.1) 1 * weight (term_in ts m.0) + load ts ms
@@ -63,7 +63,7 @@ pub record AreTogether (ts : Table) (ms : Multiples) (t : Term) : Type 0 where
   pub form : (p : T.Place) → total ts ms p ≡ form_of t p
   pub heavy : load ts ms ≡ weight t
 
--- from the one list to the other, terms are put behind that have this form and this weight together
+-- the second list is the first with terms appended that together have this form and this weight
 pub record Appends (ts : Table) (old new : Multiples) (g : T.Form) (w : ℕ) : Type 0 where
   pub are_terms : AreOfTerms ts old → AreOfTerms ts new
   pub form : (p : T.Place) → total ts new p ≡ total ts old p +ℤ g p

@@ -8,7 +8,7 @@ use Rattle.lc_linear.specs.Form.{form_of, HasForm}
 use Rattle.lc_linear.specs.LinForm.{IsFormIn}
 use Rattle.lc_linear.specs.declared.form.LinForm.{LinForm}
 
--- the form of a term; none where it has none in 128 bits
+-- the form of a term; none if it has none in 128 bits
 abbrev pub IsMade : Table → TermId → Option LinForm → Type 0
 IsMade ts k (Some form) = HasForm (term_in ts k) × IsFormIn ts form (form_of (term_in ts k))
 IsMade ts k None = HasForm (term_in ts k) → ⊥

@@ -2,7 +2,7 @@
 use Rattle.std.specs.Prelude.{ℕ, ◌+◌, ◌*◌, max, unsigned_abs}
 use Rattle.lc_term.specs.Syntax.{Term, Number, Variable, Bound, Add, Subtract, Multiply, Read}
 
--- the sum of the sizes of all numbers that stand in the form, multiplied out
+-- the sum of the sizes of all numbers that occur in the form, multiplied out
 abbrev pub weight : Term → ℕ
 weight (Number n) = unsigned_abs n
 weight (Variable k) = 1

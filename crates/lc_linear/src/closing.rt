@@ -15,12 +15,12 @@ use lc_base::OutOfMemory;
 use lc_table::{FormulaId, FormulaNode, TermId, Terms};
 use std::alloc::Global;
 
-/// Whether comparisons contradict each other: their forms, each so many times, add up to a constant above 0. The form
+/// Whether comparisons contradict each other: the multiples of their forms add up to a constant above 0. The form
 /// of `a <= b` and of `a = b` is that of `a - b`. An inequality may be taken 0 times or more, an equation any number of
 /// times. A list with a formula that is no comparison does not close.
 ///
-/// The multipliers are looked at before any arithmetic. `Large` is answered exactly where they are allowed and a
-/// number on the way does not fit 128 bits: entry by entry, that is the form of the difference, also where it is
+/// The multipliers are looked at before any arithmetic. `Large` is returned exactly if they are allowed and a
+/// number on the way does not fit 128 bits: entry by entry, that is the form of the difference, also if it is
 /// taken 0 times, its product by the multiplier, and the sum so far.
 pub fn closes(terms: &Terms, alloc: Global, entries: &[(FormulaId, i64)]) -> Result<bool, LinFault>
     requires { AreEntries terms.now entries.now }
@@ -73,7 +73,7 @@ fn sum_of(terms: &Terms, alloc: Global, entries: &[(FormulaId, i64)]) -> Result<
     }
 }
 
-// Puts the sides of a comparison into the list, the first so many times, and the second as often taken away.
+// Appends the sides of a comparison to the list, the first with the multiplier, and the second with its negative.
 fn push_gap(
     multiples: &mut Vec<(TermId, i128)>,
     terms: &Terms,
@@ -94,7 +94,7 @@ fn push_gap(
     }
 }
 
-// The sides of the comparisons, each so many times as it stands in their sum.
+// The sides of the comparisons, each with its multiplier in their sum.
 fn multiples_of(
     terms: &Terms,
     alloc: Global,
@@ -110,7 +110,7 @@ fn multiples_of(
     Ok(multiples)
 }
 
-// The sum where it has many nodes, or large numbers.
+// The sum if it has many nodes, or large numbers.
 fn large_sum(
     terms: &Terms,
     alloc: Global,
@@ -149,7 +149,7 @@ fn sum_weight(terms: &Terms, entries: &[(FormulaId, i64)]) -> Option<u128>
     Some(sum)
 }
 
-// Adds so many times the form of a comparison. That a number leaves 128 bits says nothing of the comparison.
+// Adds the multiple of the form of a comparison. If a number leaves 128 bits, that says nothing about the comparison.
 fn add_gap(
     form: &mut LinForm,
     terms: &Terms,

@@ -1,8 +1,8 @@
-//! Forms made part by part, each part's form before the sum, difference or product that it stands in. `Large` is
-//! answered exactly where one of them does not fit.
+//! Forms made part by part, each part's form before the sum, difference or product that it is in. `Large` is
+//! returned exactly if one of them does not fit.
 //!
 //! The parts of a node have smaller numbers than it, so forms are made in the order of the nodes' numbers: what is shared in
-//! a table is made once, and a deep term takes nothing of the stack. Where a part is used for the last time its form is
+//! a table is made once, and a deep term takes nothing of the stack. When a part is used for the last time its form is
 //! taken, and before that a copy of it, so that no forms pile up.
 ghost use Rattle.std.specs.Prelude.{◌≡◌, IfOk, IfSome};
 ghost use Rattle.std.specs.List.{All};

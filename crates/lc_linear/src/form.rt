@@ -10,14 +10,14 @@ use lc_table::TermId;
 use std::alloc::Global;
 
 /// A linear form: a constant, and a coefficient for each of its atoms. The atoms are numbers of terms in a table, of
-/// variables and reads that stand in the terms that the form was made of.
+/// variables and reads that occur in the terms that the form was made of.
 pub struct LinForm {
     constant: i128,
     coefficients: IndexMap<TermId, i128>,
     ghost fits: { AllFit coefficients.entries },
 }
 
-// Written out and not derived, so that a place where a form is let go has one call.
+// Written out and not derived, so that dropping a form is one call.
 impl Drop for LinForm {
     fn drop(self) {
         let LinForm {
@@ -51,7 +51,7 @@ impl LinForm {
         self.constant
     }
 
-    /// Its coefficient of an atom, 0 where there is none.
+    /// Its coefficient of an atom, 0 if there is none.
     pub fn coefficient(&self, atom: TermId) -> i128
         ensures { result ≡ numbers self.now (Some atom) }
     {
@@ -67,7 +67,7 @@ impl LinForm {
         self.coefficients.len()
     }
 
-    /// The atom that it lists at a place, with its coefficient; none behind the last one.
+    /// The atom at a place of the list, with its coefficient; none after the last one.
     pub fn atom_at(&self, place: usize) -> Option<(TermId, i128)>
         ensures { result ≡ option_map (λ a. (a, numbers self.now (Some a))) (slice_get (atoms self.now) place) }
     {

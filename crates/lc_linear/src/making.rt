@@ -15,8 +15,8 @@ use std::alloc::Global;
 
 /// The linear form of a term. Its atoms are variables and whole reads, equal only if they are the same term.
 ///
-/// `Large` is answered exactly where a coefficient or constant of the form, or of a sum, difference or product that
-/// the term is made of, does not fit 128 bits. Each part's form is made before the part that it stands in, and a
+/// `Large` is returned exactly if a coefficient or constant of the form, or of a sum, difference or product that
+/// the term is made of, does not fit 128 bits. Each part's form is made before the part that it is in, and a
 /// difference is taken directly.
 pub fn form_of(terms: &Terms, alloc: Global, term: TermId) -> Result<LinForm, LinFault>
     requires { IsTerm terms.now term }
@@ -46,7 +46,7 @@ pub fn form_of_difference(
     }
 }
 
-// The form of a term, where a bound shows that no number on the way leaves 128 bits.
+// The form of a term, if a bound shows that no number on the way leaves 128 bits.
 fn bounded_form(terms: &Terms, alloc: Global, term: TermId) -> Result<Option<LinForm>, OutOfMemory>
     requires { IsTerm terms.now term }
     ensures { let t = term_in terms.now term in IfOk result (λ found. IfSome found (λ form. HasForm t × IsFormIn terms.now form (form_of t))) }
@@ -61,7 +61,7 @@ fn bounded_form(terms: &Terms, alloc: Global, term: TermId) -> Result<Option<Lin
     }
 }
 
-// The form of a difference, where a bound shows likewise that no number leaves 128 bits.
+// The form of a difference, if a bound shows that no number leaves 128 bits.
 fn bounded_difference(
     terms: &Terms,
     alloc: Global,

@@ -37,7 +37,7 @@ pub(crate) fn negated(number: i64) -> i128
     -i128::from(number)
 }
 
-// The quotient, where there is no remainder.
+// The quotient, if there is no remainder.
 pub(crate) fn exact_quotient(number: i128, divisor: i128) -> Option<i128>
     requires { pos 1 ≤ℤ divisor }
     ensures found { IsSome result ↔ ((n : ℤ) × (number ≡ divisor *ℤ n)) }

@@ -1,10 +1,10 @@
-//! Forms made in one pass over the terms, where no number can leave 128 bits.
+//! Forms made in one pass over the terms, if no number can leave 128 bits.
 //!
 //! A term's weight, the sum of the sizes of all numbers in it multiplied out, bounds each number of its form and of
-//! the forms of its parts. Where the weight fits, all of these fit, and need not be made one by one: each atom is added
-//! to one form, as often as the factors around it say. Where it does not, as in a number of 64 bits multiplied by two
+//! the forms of its parts. If the weight fits, all of these fit, and need not be made one by one: each atom is added
+//! to one form, as often as the factors around it say. If it does not, as in a number of 64 bits multiplied by two
 //! others, the form is made part by part (`exact`), which alone finds out whether a number leaves 128 bits, in time up
-//! to the size of the term times its depth. Where a term has many nodes, each part is looked at once (`shared`).
+//! to the size of the term times its depth. If a term has many nodes, each part is looked at once (`shared`).
 ghost use Rattle.std.specs.Prelude.{◌≡◌, ◌*ℤ◌, ◌^◌, ◌<◌, IsTrue, IfSome, IsSomeAnd, IfOk, OnOk};
 ghost use Rattle.lc_term.specs.Syntax as S;
 ghost use Rattle.lc_table.specs.Tables.{term_in, IsTerm};
@@ -18,10 +18,10 @@ use lc_base::DEPTH_LIMIT;
 use lc_table::{TermId, TermNode, Terms, numbers_are_exact};
 use std::alloc::Global;
 
-// How many nodes of a term are walked over before its parts are taken each once, in place of each time that they stand there.
+// How many nodes of a term are walked over before each of its parts is taken once, in place of each time that it occurs.
 const WALK_LIMIT: u32 = 4096;
 
-// A bound of all numbers of the form and of the forms of its parts; none where the bound leaves 128 bits, or where the
+// A bound of all numbers of the form and of the forms of its parts; none if the bound leaves 128 bits, or if the
 // term has more nodes than steps are left, or more levels. A walk goes down as many levels as a text may have, and leaves a
 // deeper term to a loop over the parts.
 fn walked(terms: &Terms, term: TermId, steps: &mut u32, levels: usize) -> Option<u128>
@@ -44,7 +44,7 @@ fn walked(terms: &Terms, term: TermId, steps: &mut u32, levels: usize) -> Option
     }
 }
 
-// The bound for a term; none also where the term is large as a tree.
+// The bound for a term; none also if the term is large as a tree.
 pub(crate) fn weight(terms: &Terms, term: TermId) -> Option<u128>
     requires { IsTerm terms.now term }
     ensures { IfSome result (λ w. w ≡ weight (term_in terms.now term)) }
@@ -53,7 +53,7 @@ pub(crate) fn weight(terms: &Terms, term: TermId) -> Option<u128>
     walked(terms, term, &mut steps, DEPTH_LIMIT)
 }
 
-// The bound for a difference, likewise.
+// The bound for a difference; none also if one of its sides is large as a tree.
 pub(crate) fn difference_weight(terms: &Terms, left: TermId, right: TermId) -> Option<u128>
     requires left { IsTerm terms.now left }
     requires right { IsTerm terms.now right }
@@ -69,7 +69,7 @@ pub(crate) fn is_light(weight: Option<u128>) -> bool
     weight.is_some_and(|weight| weight <= i128::MAX as u128)
 }
 
-// Adds so many times the form of a term. Where it answers `Large`, that says nothing of the term.
+// Adds `count` times the form of a term. If it returns `Large`, that says nothing about the term.
 pub(crate) fn add_term(
     form: &mut LinForm,
     terms: &Terms,
@@ -107,7 +107,7 @@ pub(crate) fn add_term(
     }
 }
 
-// Adds so many times the form of a difference, likewise.
+// Adds `count` times the form of a difference. If it returns `Large`, that says nothing about the terms.
 pub(crate) fn add_difference(
     form: &mut LinForm,
     terms: &Terms,
@@ -125,7 +125,7 @@ pub(crate) fn add_difference(
     Ok(())
 }
 
-// The form of a term, likewise.
+// The form of a term. If it returns `Large`, that says nothing about the term.
 pub(crate) fn quick_form(terms: &Terms, alloc: Global, term: TermId) -> Result<LinForm, LinFault>
     requires { IsTerm terms.now term }
     ensures { IfOk result (λ form. IsFormIn terms.now form (form_of (term_in terms.now term))) }
@@ -135,7 +135,7 @@ pub(crate) fn quick_form(terms: &Terms, alloc: Global, term: TermId) -> Result<L
     Ok(form)
 }
 
-// The form of a difference, likewise.
+// The form of a difference. If it returns `Large`, that says nothing about the terms.
 pub(crate) fn quick_difference(
     terms: &Terms,
     alloc: Global,

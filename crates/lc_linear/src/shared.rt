@@ -1,6 +1,6 @@
 //! Forms made of terms whose parts are shared, each part once.
 //!
-//! Where a term is put in at many places of another one, the tree has as many copies of it, and the table has one node.
+//! If a term is put in at many places of another one, the tree has as many copies of it, and the table has one node.
 //! So what is owed to a form is kept as multiples of nodes, and taken to their parts from the largest number down: the
 //! parts of a node have smaller numbers than it, so all that is owed of a node has come together when its turn comes.
 ghost use Rattle.std.specs.Prelude.{◌≡◌, IfOk, IfSome, OnOk};
@@ -18,7 +18,7 @@ use lc_base::OutOfMemory;
 use lc_table::{TermId, TermNode, Terms, numbers_are_exact};
 use std::alloc::Global;
 
-/// The form of terms, each so many times, together. None where a number on the way may leave 128 bits.
+/// The sum of the multiples of the terms' forms. None if a number on the way may leave 128 bits.
 pub(crate) fn shared_form(
     terms: &Terms,
     alloc: Global,
@@ -73,7 +73,7 @@ fn note(
     Ok(())
 }
 
-// The terms in the list and those that stand in their sums, differences and products, by their numbers.
+// The terms in the list and those that occur in their sums, differences and products, by their numbers.
 pub(crate) fn summands_of(
     terms: &Terms,
     alloc: Global,
@@ -110,7 +110,7 @@ fn known_weight(terms: &Terms, weights: &IndexMap<TermId, u128>, term: TermId) -
     weights.get(&term).copied()
 }
 
-// The weight of a node by those of its parts; none where one of them is not known, or where it leaves 128 bits.
+// The weight of a node by those of its parts; none if one of them is not known, or if it leaves 128 bits.
 fn weight_by(terms: &Terms, weights: &IndexMap<TermId, u128>, node: TermId) -> Option<u128>
     requires node { IsTerm terms.now node }
     requires weights { AreWeights terms.now weights.now.entries }
@@ -131,7 +131,7 @@ fn weight_by(terms: &Terms, weights: &IndexMap<TermId, u128>, node: TermId) -> O
     }
 }
 
-// Puts the weight of a node into the list, if it can be told.
+// Puts the weight of a node into the list, if it can be computed.
 fn put_weight(
     terms: &Terms,
     weights: &mut IndexMap<TermId, u128>,
@@ -164,7 +164,7 @@ fn weights_of(
     Ok(weights)
 }
 
-// A bound of all numbers that go into the form of terms, each so many times.
+// A bound of all numbers that go into the sum of the multiples of the terms' forms.
 fn load_of(
     terms: &Terms,
     weights: &IndexMap<TermId, u128>,
@@ -181,7 +181,7 @@ fn load_of(
     Some(sum)
 }
 
-// What is owed where nothing is added up yet.
+// What is owed when nothing is added up yet.
 fn owed_of(terms: &Terms, alloc: Global, multiples: &[(TermId, i128)]) -> Result<LinForm, LinFault>
     requires { AreOfTerms terms.now multiples.now }
     ensures { IfOk result (λ owed. (p : _) → owed_in terms.now (numbers owed) p ≡ total terms.now multiples.now p) }
@@ -194,7 +194,7 @@ fn owed_of(terms: &Terms, alloc: Global, multiples: &[(TermId, i128)]) -> Result
     Ok(owed)
 }
 
-// Takes what is owed of a node to its parts, or to the form where it has none.
+// Takes what is owed of a node to its parts, or to the form if it has none.
 fn settle(
     form: &mut LinForm,
     owed: &mut LinForm,
@@ -234,7 +234,7 @@ fn settle(
     }
 }
 
-// The form of terms, each so many times. Where it answers `Large`, that says nothing of the form.
+// The sum of the multiples of the terms' forms. If it returns `Large`, that says nothing about the form.
 fn light_form(
     terms: &Terms,
     alloc: Global,

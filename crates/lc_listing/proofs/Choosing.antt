@@ -13,7 +13,7 @@ use Rattle.lc_table.specs.NodeTables.{Table}
 use Rattle.lc_listing.specs.Chosen.{chosen_count, chosen_from, is_chosen}
 use Rattle.std.proofs.lemmas.List.{length-map}
 
--- ---- lists, one behind the other
+-- ---- lists, one after the other
 
 from_step : (point kind : Option (List ℕ)) (D : Development) (k n : ℕ) (x : S.Condition) (xs ys : List S.Condition) (t : Bool)
     → chosen_from point kind D (suc k) (xs ++ ys) ≡ chosen_from point kind D (suc k) xs ++ chosen_from point kind D n ys

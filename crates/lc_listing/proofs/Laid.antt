@@ -18,7 +18,7 @@ pub laid_forms : (line seen : List ℕ) (forms rest : Trees) (r : Result (Vec �
 laid_forms line seen forms rest (Err memory) reads same all is = tt
 laid_forms line seen forms rest (Ok text) reads same all is = inl (forms, subst (λ b. ReadsAs b forms) same reads, is ∙ ap laid_out all)
 
--- where its text is wrong, it has none
+-- if its text is wrong, it has none
 pub no_forms : (line seen : List ℕ) (refusal : Refusal) → IsTextFault (Refused refusal) (IsFirstFault seen) → seen ≡ line → (forms : Trees) → ReadsAs line forms → ⊥
 no_forms line seen (R.Text offset) fault same = λ forms reads. no_fault_lem line forms offset reads (subst (λ b. IsFirstFault b offset) same fault)
 no_forms line seen _ fault same = absurd fault

@@ -15,7 +15,7 @@ is_asked (Some asked) word = bytes_eq word asked
 abbrev pub is_chosen : (point kind : Option (List ℕ)) → Development → Condition → Bool
 is_chosen point kind D c = is_asked point (or_hyphen (name_at (point_names D)) c.place.point) && is_asked kind (kind_word c.kind)
 
--- the lines of those that are chosen among conditions, of which the first has this number
+-- the lines of those that are chosen among conditions, from this number on
 abbrev pub chosen_from : (point kind : Option (List ℕ)) → Development → ℕ → List Condition → List ℕ
 chosen_from point kind D k [] = []
 chosen_from point kind D k (c ∷ cs) =

@@ -12,12 +12,12 @@ use Rattle.lc_sexp.specs.Trees.{Trees}
 abbrev pub line_at : Development → ℕ → Option (List ℕ)
 line_at D k = option_map (condition_text D k) (slice_get (conditions D) k)
 
--- The line laid out over lines; or, where it reads as no forms, being nested too deep or too long for a file, as it stands
+-- The line laid out over lines; or as it is, if it reads as no forms, being nested too deep or too long for a file
 abbrev pub IsLaidLine : List ℕ → List ℕ → Type 0
 IsLaidLine line text =
     ((forms : Trees) × ReadsAs line forms × (text ≡ laid_out forms)) ⊎ (((forms : Trees) → ReadsAs line forms → ⊥) × (text ≡ line ++ 10 ∷ []))
 
--- the text is the line, laid out; there is none where there is no line
+-- the text is the line, laid out; there is none if there is no line
 abbrev pub IsLaid : Option (List ℕ) → Option (Vec ℕ Global) → Type 0
 IsLaid None None = Unit {0}
 IsLaid (Some line) (Some text) = IsLaidLine line text.items

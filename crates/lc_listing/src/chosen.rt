@@ -13,7 +13,7 @@ use lc_outline::Development;
 use lc_table::Terms;
 use std::alloc::Global;
 
-/// The words that a line has to have, where they are asked for.
+/// The words that a line has to have, if they are asked for.
 #[derive(Clone, Copy)]
 struct Words<'a> {
     point: Option<&'a str>,
@@ -44,7 +44,7 @@ fn is_chosen(
         && is_asked(words.kind, kind_word(condition.kind))
 }
 
-/// The line of a condition behind what is there.
+/// Appends the line of a condition.
 fn push_line(
     text: &mut Vec<u8>,
     development: &Development,
@@ -68,8 +68,8 @@ fn next(number: u64) -> Result<u64, OutOfMemory>
     number.checked_add(1).ok_or(OutOfMemory)
 }
 
-/// The lines of the conditions of a part that are chosen, behind what is there, of which the first has this number; answers how many
-/// there are then, where there were so many.
+/// Appends the lines of the chosen conditions of a part, the first condition having the number `first`; returns how many are
+/// chosen so far, `before` of them before this part.
 fn push_part(
     text: &mut Vec<u8>,
     words: Words<'_>,
@@ -95,7 +95,7 @@ fn push_part(
     Ok(count)
 }
 
-/// The lines of the conditions that have this POINT and this KIND, where these are given, and `total` with their number.
+/// The lines of the conditions that have this POINT and this KIND, if these are given, and `total` with their number.
 pub fn chosen_conditions(
     alloc: Global,
     development: &Development,

@@ -7,7 +7,7 @@ ghost use Rattle.lc_outline.specs.DevelopmentView.{development_shown};
 use lc_base::PointId;
 use lc_outline::Development;
 
-/// The name of a point; where there is none, a hyphen.
+/// The name of a point; if there is none, a hyphen.
 pub(crate) fn point_word(development: &Development, point: Option<PointId>) -> &str
     ensures { result.now ≡ or_hyphen (name_at (point_names (development_shown development.now))) (option_map (λ p. p.0) point) }
 {

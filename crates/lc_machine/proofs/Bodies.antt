@@ -98,7 +98,7 @@ module _ (object : Object) (op : ℕ) (o : Operation) (s : State) (vs : List ℤ
 
 -- ---- concrete columns alone are written
 
--- a column of the specification, or one behind the object's
+-- a column of the specification, or one after the object's
 abbrev pub IsOutside : Object → ℕ → Type 0
 IsOutside object d = (d < length object.abstracts) ⊎ (length object.abstracts + length object.concretes ≤ d)
 

@@ -119,7 +119,7 @@ module _ (object : Object) (well : is_object object ≡ true) (s t : State) (agr
   does_over (Return us) k s' out h (ke, e, is) =
       (t, (ke, refl, is ∙ ap Answers (numbers_same us (right_true _ _ h))), λ c own. (λ j. e j c) ∙ agree c own)
 
--- the same of a whole step: over another world with the same clients it can be taken too
+-- the same for a whole step: it can also be taken over another world with the same clients
 pub record IsStepOver (object : Object) (b : World) (c : ℕ) (what : Event) (w' : World) : Type 0 where
   pub to : World
   pub steps : Steps object b c what to

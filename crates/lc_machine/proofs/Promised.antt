@@ -106,7 +106,7 @@ point_may_run object well point n (Some o) e h k =
     subst (λ m. MayRun object m point.instruction) (same_Some (variable_count o) n k)
     (instruction_may_run object well point.operation o e (left_true _ _ h) point.instruction (right_true (has_limits o) _ h))
 
--- the instruction at a point may run where there are as many variables as there
+-- the instruction at a point may run if there are as many variables as there
 pub may_run : (object : Object) → is_object object ≡ true → (p : ℕ) (point : Point) (n : ℕ) → slice_get object.points p ≡ Some point → variables_at object p ≡ Some n → MayRun object n point.instruction
 may_run object well p point n e k =
     point_may_run object well point n (slice_get object.operations point.operation) refl (at_all (is_point object) object.points p point (points_pass object well) e) (ap (variables_in object) (sym e) ∙ k)
@@ -115,7 +115,7 @@ placed_at : (object : Object) (p n : ℕ) (found : Option Point) → slice_get o
 placed_at object p n None e h = cc
 placed_at object p n (Some point) e h = slice_get_within object.points p point e
 
--- where there are variables there is a point
+-- if there are variables there is a point
 pub placed : (object : Object) (p n : ℕ) → variables_at object p ≡ Some n → p < length object.points
 placed object p n h = placed_at object p n (slice_get object.points p) refl h
 

@@ -31,7 +31,7 @@ point_at : (object : Object) (p n : ℕ) (found : Option Point) → slice_get ob
 point_at object p n None e h = cc
 point_at object p n (Some point) e h = (point, e)
 
--- a client that is placed stands at a point
+-- a client that is placed is at a point
 pub placed_point : (object : Object) (p : ℕ) (variables : List ℤ) → is_placed object (In p variables) ≡ true → (point : Point) × (slice_get object.points p ≡ Some point)
 placed_point object p variables h = point_at object p (length variables) (slice_get object.points p) refl (counted (variables_at object p) (length variables) h)
 
@@ -47,7 +47,7 @@ placed_at_place : (object : Object) (k : Client) (place : Place) → k ≡ In pl
     (point : Point) × (slice_get object.points place.point.0 ≡ Some point)
 placed_at_place object k place e h = placed_point object place.point.0 (variables_of place) (ap (is_placed object) (sym e) ∙ h)
 
--- the effect of the instruction where the client stands
+-- the effect of the instruction at the client's point
 pub the_effect : (object : Object) (s : State) (place : Place) (k : Client) (r : Result Effect StepFault) → k ≡ In place.point.0 (variables_of place) → is_placed object k ≡ true → IsEffectAt object s place r →
     (point : Point) × IsAt object k place.point.0 (variables_of place) point.instruction × IsEffect object point.instruction s (variables_of place) r
 the_effect object s place k r e h x =
@@ -116,7 +116,7 @@ stepped_err object s s' place k k' f answer at h gives x e g =
     let known = the_effect object s place k (Err f) at h x in
     rw gives (stepped_fault object s s' k k' place.point.0 (variables_of place) known.0.instruction f known.1 known.2 e g)
 
--- an effect that is not stored, for want of memory
+-- an effect that is not stored, since memory ran out
 pub stepped_unstored : (object : Object) (s s' : State) (place : Place) (k k' : Client) (e : Effect) (answer : Result Moved StepFault) → k ≡ In place.point.0 (variables_of place) → is_placed object k ≡ true →
     answer ≡ Err OutOfMemory → IsEffectAt object s place (Ok e) → s' ≡ s → k' ≡ k → IsStepped object s k s' k' answer
 stepped_unstored object s s' place k k' e answer at h gives x stays same =

@@ -23,7 +23,7 @@ use Rattle.lc_machine.proofs.ArrayColumns.{viewed_at}
 
 -- ---- lists
 
--- the element that stands there again
+-- an element is set to itself
 pub set_again : {A : Type 0} (xs : List A) (i : ℕ) (x : A) → slice_get xs i ≡ Some x → set xs i x ≡ xs
 set_again [] i x e = cc
 set_again (y ∷ ys) zero x e = ap (λ z. z ∷ ys) (sym (same_Some y x e))

@@ -34,7 +34,7 @@ abbrev pub IsReached : Object → Outcome → Type 0
 IsReached object (S.Goes point variables) = variables_at object point ≡ Some (length variables)
 IsReached object (S.Answers numbers) = length numbers ≤ reply_limit
 
--- the effect of an instruction: its step, where each number that is reached fits; or why there is none
+-- the effect of an instruction: its step, if each number that is reached fits; or why there is none
 abbrev pub IsEffect : Object → Instr → State → List ℤ → Result Effect StepFault → Type 0
 IsEffect object i s variables (Ok effect) =
     InstructionFits object s variables i

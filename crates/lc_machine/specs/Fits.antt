@@ -25,7 +25,7 @@ abbrev pub NumbersFit : List ℤ → Type 0
 NumbersFit [] = Unit {0}
 NumbersFit (n ∷ ns) = FitsSigned w64 n × NumbersFit ns
 
--- the index, and what is read or written there; of `cas` the new row only where the row is the old one
+-- the index, and what is read or written there; of `cas` the new row only if the row is the old one
 abbrev pub InstructionFits : Object → State → List ℤ → Instr → Type 0
 InstructionFits object s variables (Load a t rs l) =
     TermFits s (variable variables) t × RowFits s (array_columns object a) (number s variables t)

@@ -18,7 +18,7 @@ variables_at object p = variables_in object (slice_get object.points p)
 abbrev pub HasRow : Object → ℕ → ℕ → Type 0
 HasRow object a width = (a < length object.arrays) × (length (array_columns object a) ≡ width) × (width ≤ width_limit)
 
--- arrays, variables and labels are there, where there are n variables
+-- arrays, variables and labels are there, if there are n variables
 abbrev pub MayRun : Object → ℕ → Instr → Type 0
 MayRun object n (Load a t rs l) = HasRow object a (length rs) × (is_code_term n t ≡ true) × AreBelow n rs × (variables_at object l ≡ Some n)
 MayRun object n (Store a t vs l) =

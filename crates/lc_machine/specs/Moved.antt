@@ -1,4 +1,4 @@
--- What is answered where a client takes a step, or is to begin a call.
+-- What is returned when a client takes a step, or is to begin a call.
 use Rattle.std.specs.Prelude.{◌≡◌, ℕ, ℤ, ◌≤◌, List, length, slice_get, Some, Result, Ok, Err}
 use Rattle.lc_base.specs.Limits.{reply_limit}
 use Rattle.lc_term.specs.Meaning.{State}
@@ -13,7 +13,7 @@ use Rattle.lc_machine.specs.declared.client.Moved.TheVariants.{Went, Returned}
 use Rattle.lc_machine.specs.declared.fault.StepFault.{StepFault}
 use Rattle.lc_machine.specs.declared.fault.StepFault.TheVariants.{NoClient, Busy, Idle, NoOp, Arity, Overflow, OutOfMemory}
 
--- a client is at the point p with these variables, and this instruction stands there
+-- a client is at the point p with these variables, whose instruction is this one
 pub record IsAt (object : Object) (client : Client) (p : ℕ) (variables : List ℤ) (instruction : Instr) : Type 0 where
   pub client_is : client ≡ In p variables
   pub code : (point : Point) × (slice_get object.points p ≡ Some point) × (point.instruction ≡ instruction)

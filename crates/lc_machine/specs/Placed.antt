@@ -1,16 +1,16 @@
--- Clients that stand where the object has code.
+-- Clients at places where the object has code.
 use Rattle.std.specs.Prelude.{ℕ, Bool, true, false, ◌==◌, List, length, Option, Some, None}
 use Rattle.std.specs.List.{list_all}
 use Rattle.lc_object.specs.Syntax.{Object}
 use Rattle.lc_machine.specs.World.{Client, Idle, In}
 use Rattle.lc_machine.specs.MayRun.{variables_at}
 
--- there are so many
+-- there is a count, and it is n
 abbrev pub is_count : Option ℕ → ℕ → Bool
 is_count None n = false
 is_count (Some m) n = m == n
 
--- a client in a call stands at a point, and has the variables of that place
+-- a client in a call is at a point, and has the variables of that place
 abbrev pub is_placed : Object → Client → Bool
 is_placed object Idle = true
 is_placed object (In p variables) = is_count (variables_at object p) (length variables)

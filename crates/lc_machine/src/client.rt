@@ -27,7 +27,7 @@ pub enum Client {
 /// What became of a client that took a step of its call.
 #[derive(Drop)]
 pub enum Moved {
-    /// It went by this edge, and stands at this point.
+    /// It went by this edge, and is at this point.
     Went { point: PointId, edge: EdgeKind },
     /// Its call returned these numbers.
     Returned(Vec<i64>),

@@ -108,7 +108,7 @@ pub(crate) fn answering(alloc: Global, numbers: &[i64]) -> Result<Effect, OutOfM
     })
 }
 
-/// Does what an effect says to the columns, and answers what becomes of the client. Where memory is refused the columns
+/// Does what an effect says to the columns, and returns what becomes of the client. On `OutOfMemory` the columns
 /// stay as they were.
 pub fn commit(alloc: Global, state: &mut State, effect: Effect) -> Result<Fate, OutOfMemory>
     requires { AreWithin (column_count state.old) (writes_in effect) }

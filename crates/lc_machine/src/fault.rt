@@ -3,7 +3,7 @@ use lc_base::OutOfMemory;
 use lc_term::EvalFault;
 use thiserror::Error;
 
-/// Why a client takes no step. Where several faults apply, the first in this order is answered. The machine is as
+/// Why a client takes no step. If several faults apply, the first in this order is returned. The machine is as
 /// it was.
 #[derive(Clone, Copy, Debug, PartialEq, Eq, Error)]
 pub enum StepFault {

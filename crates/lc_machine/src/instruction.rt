@@ -101,7 +101,7 @@ fn faa_effect(
     Ok(effect)
 }
 
-// The points behind an instruction of two edges.
+// The points after an instruction of two edges.
 #[derive(Clone, Copy)]
 struct Labels {
     then: PointId,
@@ -275,10 +275,10 @@ fn effect_of(
     }
 }
 
-/// What the instruction at a client's place does. It reads the columns and changes nothing. `Overflow` is answered
-/// exactly where a number that is reached leaves 64 bits.
+/// What the instruction at a client's place does. It reads the columns and changes nothing. `Overflow` is returned
+/// exactly if a number that is reached leaves 64 bits.
 ///
-/// The state has the object's columns, and may have more behind them.
+/// The state has the object's columns, and may have more after them.
 pub fn effect(
     alloc: Global,
     object: &Object,

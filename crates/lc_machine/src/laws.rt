@@ -9,7 +9,7 @@ ghost use Rattle.lc_machine.specs.Step.{Does, Outcome, Steps};
 ghost use Rattle.lc_machine.specs.World.{World};
 ghost use Rattle.lc_machine.specs.EdgeSteps.{GoesBySome};
 
-/// What the instruction at a point does is what the table of edges says: it goes by an edge of a kind exactly where
+/// What the instruction at a point does is what the table of edges says: it goes by an edge of a kind exactly if
 /// the facts of such an edge hold, and does what that edge does.
 pub fn edges_give_the_steps()
     ensures { (object : Object) → is_object object ≡ true → (p : ℕ) (point : Point) → slice_get object.points p ≡ Some point →

@@ -17,7 +17,7 @@ use arrayvec::ArrayVec;
 use lc_base::{ColId, WIDTH_LIMIT};
 use lc_term::{EvalFault, State, Write};
 
-/// The numbers in a row: of each column what stands in this cell.
+/// The numbers in a row: what this cell of each column holds.
 pub(crate) fn read_row(state: &State, columns: &[ColId], index: i64) -> Result<Numbers, EvalFault>
     requires few { length columns.now ≤ local_limit }
     requires there { AreBelow (column_count state.now) (columns_of columns.now) }
@@ -32,7 +32,7 @@ pub(crate) fn read_row(state: &State, columns: &[ColId], index: i64) -> Result<N
     Ok(numbers)
 }
 
-/// Whether these numbers stand in a row. The columns are read up to the first that differs.
+/// Whether a row holds these numbers. The columns are read up to the first that differs.
 pub(crate) fn is_row(
     state: &State,
     columns: &[ColId],

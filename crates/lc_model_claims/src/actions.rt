@@ -1,4 +1,4 @@
-//! Actions, the columns after them, and what stands in the columns at first.
+//! Actions, the columns after them, and what the columns hold at first.
 ghost use Rattle.std.specs.Prelude.{◌≡◌, ℕ, pos, map, slice_index_or, IfOk, IsTrue};
 ghost use Rattle.lc_action.specs.Action as A;
 ghost use Rattle.lc_action.specs.ActionView.{action_of, first_of};
@@ -72,7 +72,7 @@ pub fn storing_together(
     store_more(alloc, before, stored, updates)
 }
 
-/// A tie says what stands in each column at first.
+/// A tie says what each column holds at first.
 pub fn beginning_columns(tie: &Tie, alloc: Global) -> Result<Vec<ColExpr>, OutOfMemory>
     ensures listed { IfOk result (λ columns. map column_of columns.items ≡ map affine_of (numbers_in tie.now)) }
     ensures each { IfOk result (λ columns. (c : ℕ) → slice_index_or (map column_of columns.items) c (Affine (pos 0) (pos 0)) ≡ start_column (numbers_in tie.now) c) }

@@ -10,7 +10,7 @@ use lc_base::OutOfMemory;
 use lc_object::{Edge, Object, Parts, edges};
 use std::alloc::Global;
 
-/// Parts are an object exactly where they are well-formed.
+/// Parts are an object exactly if they are well-formed.
 pub fn making_an_object(parts: Parts) -> Option<Object>
     ensures { MatchOption result (is_object (parts_of parts) ≡ false) (λ object. object_shown object ≡ parts_of parts) }
 {

@@ -21,7 +21,7 @@ use lc_table::{ColExprId, TermId, Terms};
 use lc_term::Formula;
 use std::alloc::Global;
 
-/// A formula is a rider's condition exactly where it has no quantifier.
+/// A formula is a rider's condition exactly if it has no quantifier.
 pub fn conditioning(formula: Formula) -> Option<When>
     ensures some { IsSome result ↔ (is_ground (formula_of formula) ≡ true) }
     ensures value { IfSome result (λ when. formula_in when ≡ formula_of formula) }

@@ -1,4 +1,4 @@
--- The names of lists, one behind another.
+-- The names of lists, one after another.
 use Rattle.std.proofs.Common.{◌≡◌, ℕ, zero, suc, ◌<◌, List, [], ◌∷◌, ◌++◌, Ok, Err, map, length, get_or, ap, sym, ◌∙◌, arith, append_assoc, append-nil}
 use Rattle.std.specs.Prelude.{Result, Vec, IfOk}
 use Rattle.std.specs.Borrow.{Bor}

@@ -76,7 +76,7 @@ fn system_name(place: usize) -> &'static str
     }
 }
 
-/// The name of an auxiliary column, or of a system column behind them.
+/// The name of an auxiliary column, or of a system column after them.
 fn late_name(parts: &Parts, place: usize) -> &str
     ensures { result.now ≡ name_at (map (λ (c : Q.Column). c.name) (parts_shown parts.now).auxiliaries ++ system_columns) place }
 {
@@ -88,7 +88,7 @@ fn late_name(parts: &Parts, place: usize) -> &str
     }
 }
 
-/// The name of a column of the object, or of one behind them.
+/// The name of a column of the object, or of one after them.
 fn later_name(parts: &Parts, place: usize) -> &str
     ensures { let D = parts_shown parts.now in
         result.now ≡ name_at (map (λ (c : O.Column). c.name) D.object.concretes ++ (map (λ (c : Q.Column). c.name) D.auxiliaries ++ system_columns)) place }
@@ -101,7 +101,7 @@ fn later_name(parts: &Parts, place: usize) -> &str
     }
 }
 
-/// The name of a column; no text behind the last.
+/// The name of a column; an empty text after the last.
 pub fn column_name(parts: &Parts, column: ColId) -> &str
     ensures { result.now ≡ name_at (column_names (parts_shown parts.now)) column.0 }
 {

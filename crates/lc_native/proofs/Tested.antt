@@ -31,7 +31,7 @@ operations-tested test given operations wanted forms is are tested =
     let kept = ap operation_forms_of are in
     (λ holds. sym said ∙ tested.0 holds ∙ kept, λ same. tested.1 (said ∙ same ∙ sym kept))
 
--- where the columns are the same, the operations decide
+-- if the columns are the same, the operations decide
 pub form-tested : (s : Specification) (f : Form) (columns operations : Bool) → (columns ≡ true) ↔ (map numbers_of s.columns ≡ f.columns) → (operations ≡ true) ↔ (map operation_form s.operations ≡ f.operations)
     → columns ≡ true → (operations ≡ true) ↔ (form_of_specification s ≡ f)
 form-tested s f columns operations first second is = (

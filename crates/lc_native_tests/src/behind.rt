@@ -1,4 +1,4 @@
-//! The state of a native object behind calls of the object that it follows.
+//! The state of a native object after calls of the object that it follows.
 use lc_seq::{SeqFault, SeqObject, Shadows};
 use std::alloc::Global;
 
@@ -10,7 +10,7 @@ pub(crate) struct Made<C, H> {
     pub(crate) choice: H,
 }
 
-/// The state, of an object that follows another, that stands for where the other is behind these calls; none where it does
+/// The state of an object that follows another, after these calls of the other; none if the other does
 /// not answer each of them.
 pub(crate) fn shadow_behind<A: SeqObject, B: Shadows<A>>(
     alloc: Global,

@@ -86,7 +86,7 @@ fn a_stack_of_five(rt: HostRuntime) -> Result<(), Fail> {
     Ok(())
 }
 
-/// The numbers of the native stack that stands for a stack in text behind a push of 5; none where not even that is read.
+/// The numbers of the native stack that stands for a stack in text after a push of 5; none if not even that is read.
 fn numbers_behind(alloc: Global) -> Result<Option<Vec<i64>>, SeqFault> {
     let Ok(spec) = spec_of(alloc, STACK.as_bytes()) else {
         return Ok(None);
@@ -106,7 +106,7 @@ fn numbers_behind(alloc: Global) -> Result<Option<Vec<i64>>, SeqFault> {
     shadow_behind(alloc, &NatStack, &spec, &calls)
 }
 
-/// With any one allocation refused: want of memory, or the state with ample memory.
+/// With any one allocation refused: `OutOfMemory`, or the state with ample memory.
 #[test]
 fn memory_refused(rt: HostRuntime) {
     let is_right = match numbers_behind(rt.alloc()) {

@@ -12,7 +12,7 @@ pub data Instr : Type 0 where
   If : (condition : Formula) (holds fails : ℕ) → Instr
   Return : (values : List Term) → Instr
 
--- a concrete column: its name, and its two numbers a and b, where a * i + b stands in cell i at first
+-- a concrete column: its name, and its two numbers a and b, with a * i + b in cell i at first
 pub record Column : Type 0 where
   pub name : List ℕ
   pub slope : ℤ
@@ -32,7 +32,7 @@ pub record Operation : Type 0 where
   pub locals : List (List ℕ)
   pub entry : ℕ
 
--- a point's name, the number of the operation in whose body it stands, and its instruction
+-- a point's name, the number of the operation whose body it is in, and its instruction
 pub record Point : Type 0 where
   pub name : List ℕ
   pub operation : ℕ

@@ -46,7 +46,7 @@ abbrev mutual
   are_code_formulas variables none = true
   are_code_formulas variables (more f fs) = is_code_formula variables f && are_code_formulas variables fs
 
--- no number stands twice
+-- no number occurs twice
 abbrev pub are_distinct : List ℕ → Bool
 are_distinct [] = true
 are_distinct (n ∷ ns) = not (list_any (λ m. m == n) ns) && are_distinct ns
@@ -55,20 +55,20 @@ are_distinct (n ∷ ns) = not (list_any (λ m. m == n) ns) && are_distinct ns
 abbrev pub are_targets : Operation → List ℕ → Bool
 are_targets o rs = nat_le (length rs) local_limit && list_all (λ r. nat_le (2 + length o.arguments) r && nat_lt r (variable_count o)) rs && are_distinct rs
 
--- an element that passes stands at this place
+-- an element that passes is at this place
 abbrev pub passes_at : {A : Type 0} → (A → Bool) → Option A → Bool
 passes_at test None = false
 passes_at test (Some x) = test x
 
--- the array of this number has so many columns
+-- the array of this number has `width` columns
 abbrev pub has_width : Object → ℕ → ℕ → Bool
 has_width object a width = passes_at (λ array. length array.columns == width) (slice_get object.arrays a)
 
--- the point of this number stands in the body of this operation
+-- the point of this number is in the body of this operation
 abbrev pub is_label : Object → ℕ → ℕ → Bool
 is_label object op l = passes_at (λ point. point.operation == op) (slice_get object.points l)
 
--- an instruction in the body of an operation, which has the number op, names what is there
+-- an instruction in the body of operation `op` names only what exists
 abbrev pub is_instruction : Object → ℕ → Operation → Instr → Bool
 is_instruction object op o (Load a t rs l) =
     has_width object a (length rs) && is_code_term (variable_count o) t && are_targets o rs && is_label object op l
@@ -85,16 +85,16 @@ is_instruction object op o (Faa a t rs ds l) =
 is_instruction object op o (If f l m) = is_code_formula (variable_count o) f && is_label object op l && is_label object op m
 is_instruction object op o (Return vs) = length vs == o.replies && are_code_terms (variable_count o) vs
 
--- a point stands in a declared operation's body
+-- a point is in a declared operation's body
 abbrev pub is_point : Object → Point → Bool
 is_point object p = passes_at (λ o. has_limits o && is_instruction object p.operation o p.instruction) (slice_get object.operations p.operation)
 
--- the numbers from this one on, so many
+-- the k numbers from n on
 abbrev pub numbers_from : ℕ → ℕ → List ℕ
 numbers_from n zero = []
 numbers_from n (suc k) = n ∷ numbers_from (suc n) k
 
--- of the points of an operation's body the first stands at this place
+-- the first of the points of an operation's body is at this place
 abbrev pub is_first : List Point → ℕ → ℕ → Bool
 is_first [] op l = false
 is_first (p ∷ ps) op zero = p.operation == op
@@ -115,7 +115,7 @@ is_array object a =
     is_width (length a.columns) && are_distinct a.columns
     && list_all (λ c. nat_le (length object.abstracts) c && nat_lt (c - length object.abstracts) (length object.concretes)) a.columns
 
--- a column of this number stands in one of these arrays
+-- a column of this number is in one of these arrays
 abbrev pub stands_in : List Array → ℕ → Bool
 stands_in arrays c = list_any (λ a. list_any (λ d. d == c) a.columns) arrays
 
@@ -124,6 +124,6 @@ abbrev pub are_apart : List Array → Bool
 are_apart [] = true
 are_apart (a ∷ others) = not (list_any (stands_in others) a.columns) && are_apart others
 
--- arrays, operations and points name what is there
+-- arrays, operations and points name only what exists
 abbrev pub is_object : Object → Bool
 is_object object = are_apart object.arrays && nat_le (length object.operations) operation_limit && nat_le (length object.points) point_limit && list_all (is_array object) object.arrays && are_operations object 0 object.operations && list_all (is_point object) object.points

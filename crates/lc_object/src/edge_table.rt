@@ -1,4 +1,4 @@
-//! The edges of an object's code: what holds where an edge is gone, what it does, and where it leads.
+//! The edges of an object's code: what holds if an edge is taken, what it does, and where it leads.
 ghost use Rattle.std.specs.Arc.{arc_value};
 ghost use Rattle.std.specs.Prelude.{◌≡◌, ◌++◌, ◌∷◌, [], map, option_map, IfOk, OnOk};
 ghost use Rattle.lc_term.specs.Syntax.{Read, Base};
@@ -16,18 +16,18 @@ use lc_term::{ColExpr, Formula, Term, Update};
 use std::alloc::Global;
 use std::sync::Arc;
 
-/// What holds where an edge is gone.
+/// What holds if an edge is taken.
 #[derive(Drop)]
 pub enum Facts {
     /// Each of these.
     Each(Vec<Formula>),
     /// The condition of a test, in the memory in which the object has it.
     Holds(Arc<Formula>),
-    /// That the condition of a test does not hold, likewise.
+    /// That the condition of a test does not hold.
     Fails(Arc<Formula>),
 }
 
-/// An edge of the instruction at a point: what holds where it is gone, what it does, and what comes next.
+/// An edge of the instruction at a point: what holds if it is taken, what it does, and what comes next.
 #[derive(Drop)]
 pub struct Edge {
     /// The point that is left.
@@ -39,7 +39,7 @@ pub struct Edge {
     pub values: Vec<Term>,
     /// What is stored. Indexes and values are taken in the state before.
     pub updates: Vec<Update>,
-    /// The point that is reached; none where the call returns.
+    /// The point that is reached; none if the call returns.
     pub next: Option<PointId>,
     /// The numbers that are returned.
     pub replies: Vec<Term>,
@@ -78,7 +78,7 @@ fn read(alloc: Global, column: ColId, index: &Term) -> Result<Term, OutOfMemory>
     Term::read(alloc, ColExpr::Base(column), index.try_clone(alloc)?)
 }
 
-// What stands in a cell of these columns.
+// What a cell of these columns holds.
 fn reads(alloc: Global, columns: &[ColId], index: &Term) -> Result<Vec<Term>, OutOfMemory>
     ensures { IfOk result (λ ts. terms_of ts.items ≡ reads (columns_of columns.now) (term_of index.now)) }
 {
@@ -112,7 +112,7 @@ fn row_updates(
     Ok(updates)
 }
 
-// What stands in a cell of these columns, with these terms added to it, one to each.
+// What a cell of these columns holds, with these terms added to it, one to each.
 fn row_sums(
     alloc: Global,
     columns: &[ColId],
@@ -133,7 +133,7 @@ fn row_sums(
     Ok(sums)
 }
 
-// These terms stand in a cell, one in each column.
+// That a cell holds these terms, one in each column.
 fn row_facts(
     alloc: Global,
     columns: &[ColId],
@@ -307,7 +307,7 @@ fn return_edge(
     Ok(edge)
 }
 
-// Two edges, behind these.
+// Appends two edges to these.
 fn push_both(both: (Edge, Edge), edges: &mut Vec<Edge>) -> Result<(), OutOfMemory>
     ensures { OnOk result (map edge_of edges.new.items ≡ map edge_of edges.old.items ++ (edge_of both.0 ∷ edge_of both.1 ∷ [])) }
 {
@@ -317,7 +317,7 @@ fn push_both(both: (Edge, Edge), edges: &mut Vec<Edge>) -> Result<(), OutOfMemor
     Ok(())
 }
 
-// The edges of the instruction at a point, behind these.
+// Appends the edges of the instruction at a point to these.
 fn push_edges(
     alloc: Global,
     object: &Object,

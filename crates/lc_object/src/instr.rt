@@ -17,9 +17,9 @@ pub struct LocalId(pub u32);
 pub enum EdgeKind {
     /// The one edge of `load`, `store`, `set`, `faa` and `return`.
     Next,
-    /// `cas` where the row is the old one, and `if` where the formula holds.
+    /// `cas` if the row is the old one, and `if` if the formula holds.
     Then,
-    /// `cas` where the row is another one, and `if` where the formula does not hold.
+    /// `cas` if the row is another one, and `if` if the formula does not hold.
     Else,
 }
 

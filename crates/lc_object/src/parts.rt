@@ -2,7 +2,7 @@
 use crate::instr::Instr;
 use lc_base::{ColId, Name, OpId, PointId};
 
-/// A concrete column. At first `slope * i + start` stands in its cell i.
+/// A concrete column. At first its cell i holds `slope * i + start`.
 #[derive(Clone, Copy)]
 pub struct Column {
     pub name: Name,

@@ -156,7 +156,7 @@ fn is_label(parts: &Parts, operation: OpId, label: PointId) -> bool
     }
 }
 
-// Whether a load in an operation's body names what is there.
+// Whether a load in an operation's body names only what exists.
 fn is_load(
     parts: &Parts,
     number: OpId,
@@ -175,7 +175,7 @@ fn is_load(
         && is_label(parts, number, next)
 }
 
-// Whether a store in an operation's body names what is there.
+// Whether a store in an operation's body names only what exists.
 fn is_store(
     parts: &Parts,
     number: OpId,
@@ -195,7 +195,7 @@ fn is_store(
         && is_label(parts, number, next)
 }
 
-// Whether a compare-and-swap in an operation's body names what is there.
+// Whether a compare-and-swap in an operation's body names only what exists.
 fn is_cas(
     parts: &Parts,
     number: OpId,
@@ -220,7 +220,7 @@ fn is_cas(
         && is_label(parts, number, different)
 }
 
-// Whether an assignment in an operation's body names what is there.
+// Whether an assignment in an operation's body names only what exists.
 fn is_set(
     parts: &Parts,
     number: OpId,
@@ -238,7 +238,7 @@ fn is_set(
         && is_label(parts, number, next)
 }
 
-// Whether a fetch-and-add in an operation's body names what is there.
+// Whether a fetch-and-add in an operation's body names only what exists.
 fn is_faa(
     parts: &Parts,
     number: OpId,
@@ -261,7 +261,7 @@ fn is_faa(
         && is_label(parts, number, next)
 }
 
-// Whether a test in an operation's body names what is there.
+// Whether a test in an operation's body names only what exists.
 fn is_if(
     parts: &Parts,
     number: OpId,
@@ -278,7 +278,7 @@ fn is_if(
         && is_label(parts, number, fails)
 }
 
-// Whether a return in an operation's body has the operation's replies, and names what is there.
+// Whether a return in an operation's body has the operation's replies, and names only what exists.
 fn is_return(parts: &Parts, number: OpId, operation: &Operation, values: &[Term]) -> bool
     requires { has_limits (operation_of operation.now) ≡ true }
     ensures { result ≡ is_instruction (parts_of parts.now) number.0 (operation_of operation.now) (S.Return (terms_of values.now)) }
@@ -286,7 +286,7 @@ fn is_return(parts: &Parts, number: OpId, operation: &Operation, values: &[Term]
     values.len() == operation.replies as usize && are_code_terms(values, variable_count(operation))
 }
 
-// Whether an instruction in an operation's body names what is there.
+// Whether an instruction in an operation's body names only what exists.
 fn is_instruction(parts: &Parts, number: OpId, operation: &Operation, instruction: &Instr) -> bool
     requires { has_limits (operation_of operation.now) ≡ true }
     ensures { result ≡ is_instruction (parts_of parts.now) number.0 (operation_of operation.now) (instruction_of instruction.now) }
@@ -367,7 +367,7 @@ fn is_array(parts: &Parts, array: &Array) -> bool
         && are_concrete(&array.columns, parts.abstracts.len(), parts.concretes.len())
 }
 
-// Whether a column of this number stands in one of these arrays.
+// Whether a column of this number is in one of these arrays.
 fn stands_in(arrays: &[Array], column: ColId) -> bool
     ensures { result ≡ stands_in (map array_of arrays.now) column.0 }
 {
@@ -424,7 +424,7 @@ fn are_points(parts: &Parts) -> bool
     all_are_points(parts)
 }
 
-// Whether of the points of the operation's body the first stands at this place.
+// Whether the first of the points of the operation's body is at this place.
 fn is_first(points: &[Point], operation: OpId, place: usize) -> bool
     ensures { result ≡ is_first (map point_of points.now) operation.0 place }
 {
@@ -452,7 +452,7 @@ fn are_operations(parts: &Parts, first: u32, operations: &[Operation]) -> bool
     }
 }
 
-// Whether the parts of an object name what is there.
+// Whether the parts of an object name only what exists.
 pub(crate) fn is_object(parts: &Parts) -> bool
     ensures { result ≡ is_object (parts_of parts.now) }
 {

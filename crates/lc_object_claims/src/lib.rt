@@ -1,5 +1,6 @@
-//! What the calls that read specifications, objects and what stands beside their code promise: each promise again, over the
-//! call that keeps it. The planted bugs of these calls stand here: bodies that answer wrongly where the call answers right.
+//! What the calls that read specifications, objects and the riders beside their code promise: each promise again, over the
+//! call that keeps it. The planted bugs of these calls are here: bodies that return something wrong where the call returns
+//! what is right.
 #![tactic(auto)]
 
 pub mod objects;

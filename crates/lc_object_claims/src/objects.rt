@@ -30,7 +30,7 @@ use lc_spec_text::{read_specification, spec_of};
 use lc_text::Scope;
 use std::alloc::Global;
 
-/// A file is answered with the specification that its first form is, or with its first refusal.
+/// For a file, the specification that its first form is is returned, or its first refusal.
 pub fn reading_a_specification(alloc: Global, bytes: &[u8]) -> Result<TextSpec, Fault>
     ensures { IsAnswerTo specification_of first_reading bytes.now result }
 {
@@ -48,7 +48,7 @@ pub fn reading_beside<'a>(
     read_specification(alloc, others, part)
 }
 
-/// The forms of a file are answered with their object, or with their first refusal.
+/// For the forms of a file, their object is returned, or their first refusal.
 pub fn reading_an_object(alloc: Global, forms: &[Sexp]) -> Result<Object, Fault>
     ensures { IsAnswerOf (row forms.now) result }
 {
@@ -66,7 +66,7 @@ pub fn reading_an_instruction<S: Scope + CodeScope>(
     read_instruction(alloc, scope, part)
 }
 
-/// A row has as many items as are due.
+/// A row has as many items as are expected.
 pub fn counting(due: Option<u64>, list: Cursor<'_>) -> Result<(), ReadFault>
     ensures { IsReading (λ u. u) (count_reading due (owner_of list.entry) (number_of list.entry) (rest_of list.entry)) result }
 {
@@ -84,14 +84,14 @@ pub fn reading_names(
     read_names(alloc, reader, part)
 }
 
-/// The sections of a file begin where they are told to, whatever is wrong in it.
+/// The sections of a file begin where they are defined to, whatever is wrong in the file.
 pub fn finding_sections<'a>(forms: Cursor<'a>) -> Sections<'a>
     ensures { sections_seen result ≡ sections_at (items_of forms.entry) }
 {
     find_sections(forms)
 }
 
-/// A variable of a body is one of its arguments or, behind these, of its locals.
+/// A variable of a body is one of its arguments or, after these, of its locals.
 pub fn finding_a_variable(body: &Body<'_>, name: &str) -> Option<usize>
     ensures { result ≡ listed_place (names_among (rest_of body.now.arguments) ++ listed body.now.locals) name.now }
 {

@@ -1,4 +1,4 @@
-//! What stands beside the code of an object: actions, riders, and what is done at edges.
+//! What is beside the code of an object: actions, riders, and what is done at edges.
 ghost use Rattle.std.specs.Prelude.{◌≡◌, map, min};
 ghost use Rattle.lc_action.specs.ActionView.{action_of};
 ghost use Rattle.lc_outline.specs.PartsView.{on_of};
@@ -6,7 +6,7 @@ ghost use Rattle.lc_reading.specs.Parts.{tree_of, place_of};
 ghost use Rattle.lc_reading.specs.Results.{IsReading};
 ghost use Rattle.lc_rider.specs.RiderView.{rider_of};
 ghost use Rattle.lc_rider_text.specs.Actions.{action_reading};
-ghost use Rattle.lc_rider_text.specs.KnownView.{known_seen, ways_there};
+ghost use Rattle.lc_rider_text.specs.KnownView.{known_seen, names_beside, ways_there};
 ghost use Rattle.lc_rider_text.specs.Ons.{on_reading, ons_reading, path_cap};
 ghost use Rattle.lc_rider_text.specs.Paths.{path_count};
 ghost use Rattle.lc_rider_text.specs.Riders.{rider_reading};
@@ -17,7 +17,9 @@ use lc_object_text::ReadsPlaced;
 use lc_outline::On;
 use lc_reading::{Part, ReadFault};
 use lc_rider::Rider;
-use lc_rider_text::{Actions, Edges, Known, Ways, path_count, read_on, read_ons, read_rider};
+use lc_rider_text::{
+    Actions, Beside, Edges, Known, Ways, path_count, read_on, read_ons, read_rider,
+};
 use lc_sexp::Cursor;
 use lc_text::Scope;
 use std::alloc::Global;
@@ -80,4 +82,11 @@ pub fn counting_paths(known: Known<'_, '_>, own: Option<&Ways<'_>>, list: Cursor
     ensures { result ≡ min path_cap (path_count (known_seen known.entry) (ways_there own.entry) (rest_of list.entry)) }
 {
     path_count(known, own, list)
+}
+
+/// A variable beside the code is the number of clients, the client, or of what its names list, in their order.
+pub fn finding_a_variable(beside: &Beside<'_, '_>, name: &str) -> Option<u32>
+    ensures { result ≡ (names_beside beside.now).variable name.now }
+{
+    beside.variable(name)
 }

@@ -47,6 +47,6 @@ counter_steps_by_calls n call m reply e = is_by_code n call.op call.numbers (m, 
 pub calls_differ : increment ≡ get → ⊥
 calls_differ e = omega (arith, ap (λ call. call.op) e)
 
--- replies are equal where their numbers are
+-- replies are equal if their numbers are
 pub replies_are_equal : (a b : ℤ) → (int_eq a b ≡ true) ↔ (the_number a ≡ the_number b)
 replies_are_equal a b = (λ e. ap the_number ((Decides-int_eq a b).0 e), λ e. (Decides-int_eq a b).1 (cc e))

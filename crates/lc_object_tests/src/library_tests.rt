@@ -7,7 +7,7 @@ use lc_sexp::read;
 use std::alloc::Global;
 use std::test::Fail;
 
-/// More steps than a call takes where no other one comes between.
+/// More steps than a call takes if no other one comes between.
 const STEPS: u32 = 64;
 
 /// Whether the call of a client returns these numbers, if only this client goes on.

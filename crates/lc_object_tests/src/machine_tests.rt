@@ -19,7 +19,7 @@ const COUNTER: &str = "(spec counter (abstract (v)) (op inc () 1) (op get () 1))
         (point q0 (load cell 0 (y) q1) (assert))
         (point q1 (return y) (assert))))";
 
-/// A counter that stands at the greatest number.
+/// A counter at the greatest number.
 const FULL_COUNTER: &str = "(spec counter (abstract) (op inc () 1))
     (object counter (array cell (c 0 9223372036854775807)) (aux) (invariant) (idle)
       (body inc (x)
@@ -52,7 +52,7 @@ const EXCHANGE: &str = "(spec pair (abstract) (op swap () 0))
         (point test (if (<= x y) first d) (assert))
         (point d (return) (assert))))";
 
-/// A ticket and a sum, of which a client takes both and adds to each; the second client's sum leaves 64 bits.
+/// A ticket and a sum; a client takes both and adds to each; the second client's sum leaves 64 bits.
 const TICKETS: &str = "(spec tickets (abstract) (op take () 1))
     (object tickets (array row (t 0 5) (s 0 9223372036854775806)) (aux) (invariant) (idle)
       (body take (x y)
@@ -172,7 +172,7 @@ enum Scene {
     Tickets,
 }
 
-/// Whether a scene is as it should be, with so many clients on the object of a text.
+/// Whether a scene is as it should be, with `clients` clients on the object of a text.
 fn is_played(alloc: Global, scene: Scene, text: &str, clients: u32) -> Result<bool, Fail> {
     let object = object(alloc, text)?;
     let mut bare = Bare::new(alloc, &object, clients)?;

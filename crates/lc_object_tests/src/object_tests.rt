@@ -7,7 +7,7 @@ use lc_term::{ColExpr, Term};
 use std::alloc::Global;
 use std::test::Fail;
 
-/// The entry, and behind it the return of 7.
+/// The entry, followed by the return of 7.
 fn points(alloc: Global, name: Name, entry: Instr) -> Result<Vec<Point>, OutOfMemory> {
     let first = Point {
         name,

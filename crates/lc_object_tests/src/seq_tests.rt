@@ -18,7 +18,7 @@ const COUNTER: &str = "(spec counter (abstract (v 0 5))
 const NEARLY_FULL: &str = "(spec counter (abstract (v 0 9223372036854775806))
   (op add () 1 (branch (and) ((v 0 (+ (rd v 0) 1))) ((rd v 0)))))";
 
-/// By client 2 it adds 10; else it adds 100 where the argument is 5.
+/// By client 2 it adds 10; else it adds 100 if the argument is 5.
 const GUARDED: &str = "(spec counter (abstract (v 0 0))
   (op add (x) 1
     (branch (= self 2) ((v 0 (+ (rd v 0) 10))) ((rd v 0)))

@@ -34,7 +34,7 @@ column_holds names base i n (list (t ▸ ts)) =
 abbrev pub IsWidth : ℕ → Type 0
 IsWidth n = (1 ≤ n) × (n ≤ width_limit)
 
--- as many columns as stand there
+-- as many columns as the text has
 abbrev pub HasColumns : Trees → ArrayText → Type 0
 HasColumns us a = (length a.columns ≡ tree_count (later us)) × IsWidth (tree_count (later us))
 

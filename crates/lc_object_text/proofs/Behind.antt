@@ -15,7 +15,7 @@ use Rattle.lc_reading.specs.Readings.{Reading, behind_reading}
 use Rattle.lc_reading.specs.Results.{IsReading}
 use Rattle.lc_reading.proofs.Sections.{behind_reading-is, behind_reading-other}
 
--- what stands behind the word
+-- what comes after the word
 pub behind_read : {T X : Type 0} (view : T → X) (word : List ℕ) (read : ℕ → ℕ → Trees → Reading X) (part : Part) (c : Cursor) (result : Result T ReadFault) → IsBehindWord word part (Ok c)
     → IsReading view (read (owner_of c) (number_of c) (rest_of c)) result → IsReading view (behind_reading word read (place_of part) (tree_of part)) result
 behind_read view word read part c result h k = subst (λ r. IsReading view r result) (sym (behind_reading-is word read part c h)) k

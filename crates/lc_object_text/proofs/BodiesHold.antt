@@ -83,7 +83,7 @@ abbrev pub ArePointsOf : Declared → Body → ℕ → List Point → Type 0
 ArePointsOf d b k [] = Unit {0}
 ArePointsOf d b k (q ∷ qs) = IsPointOf d b k q × ArePointsOf d b k qs
 
--- the points of a body and of those behind it, where its own are the first
+-- the points of a body and of those after it, its own being the first
 pub record BodyPoints (d : Declared) (b : Body) (k p : ℕ) (qs own others : List Point) : Type 0 where
   pub split : qs ≡ own ++ others
   pub first : b.first ≡ p
@@ -91,7 +91,7 @@ pub record BodyPoints (d : Declared) (b : Body) (k p : ℕ) (qs own others : Lis
   pub some : 1 ≤ length own
   pub fit : ArePointsOf d b k own
 
--- the points of bodies, the first of which is the k-th and has the p-th point first
+-- the points of bodies, from the k-th body and the p-th point on
 abbrev pub ArePoints : Declared → ℕ → ℕ → List Body → List Point → Type 0
 ArePoints d k p [] qs = (qs ≡ []) × (p ≤ point_limit)
 ArePoints d k p (b ∷ bs) qs = (own : List Point) × (others : List Point) × BodyPoints d b k p qs own others × ArePoints d (k + 1) (p + length own) bs others
@@ -113,7 +113,7 @@ points_few d b k i (t ▸ ts) (q ∷ qs) few h =
 points_counted : (us : Trees) → AllForms (codes "point") (later (later us)) → length (points_in us) ≡ tree_count (later (later us))
 points_counted us forms = ap length (some_forms (codes "point") (later (later us)) forms) ∙ parts_counted (codes "point") (later (later us))
 
--- the call of the operation that a body names, which stands at the body's own place
+-- the call of the operation that a body names, which is at the body's own place
 call_due : (names before behind : List (List ℕ)) (calls calls_before calls_behind : List Call) (k : ℕ) (w v : List ℕ) (call : Call)
     → names ≡ before ++ w ∷ behind → calls ≡ calls_before ++ call ∷ calls_behind → length before ≡ k → length calls_before ≡ k → list_any (is w) (take k names) ≡ false → v ≡ name_or (slice_get names k)
     → call_at calls (place_of names v) ≡ call

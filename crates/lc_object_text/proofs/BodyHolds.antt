@@ -154,7 +154,7 @@ IsPoint d b k i t q = (form_fit (codes "point") t ≡ fits (parts_in (codes "poi
 point_holds : (d : Declared) (b : Body) (k i n : ℕ) (t : Tree) → Holds (IsPoint d b k i t) (point_reading d b code_alone k i n t)
 point_holds d b k i n t = form_holds (λ ts q. IsPlaced d b k i q) (codes "point") (point_parts d b code_alone k i) n t (point_parts_hold d b k i)
 
--- the points of a body, of which there is one at least
+-- the points of a body, at least one
 abbrev pub ArePoints : Declared → Body → ℕ → Trees → List Point → Type 0
 ArePoints d b k ts qs = (1 ≤ tree_count ts) × Each (IsPoint d b k) 0 ts qs
 
@@ -164,7 +164,7 @@ points_hold d b k n m (t ▸ ts) =
     weaker (Each (IsPoint d b k) 0 (t ▸ ts)) (ArePoints d b k (t ▸ ts)) (points_reading d b code_alone k n m (t ▸ ts)) (λ qs h. (omega arith, h))
     (placed_holds (IsPoint d b k) (point_reading d b code_alone k) (point_holds d b k) 0 m (t ▸ ts))
 
--- a body of the operation that is due
+-- a body of the expected operation
 not_another : (a b : Bool) → a ≡ true → (a && not b) ≡ false → b ≡ true
 not_another true true h g = refl
 not_another true false h g = cc

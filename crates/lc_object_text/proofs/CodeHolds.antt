@@ -32,7 +32,7 @@ use Rattle.lc_object_text.specs.Instructions.{place_reading, labels_reading, loa
 use Rattle.lc_object_text.specs.declared.words.Head.{Head}
 use Rattle.lc_object_text.specs.declared.words.Head.TheVariants as H
 
--- terms and formulas over so many variables
+-- terms and formulas over `count` variables
 abbrev pub IsTerm : ℕ → Term → Type 0
 IsTerm count t = is_code_term count t ≡ true
 
@@ -107,7 +107,7 @@ array_holds code n (atom w) =
       of_row (Some row) e a h =
           let same : row.0 ≡ a = cc in (row.1, ap (λ o. option_map (λ (r : ℕ × ℕ). r.1) o) e, (w, e ∙ ap (λ b. Some (b, row.1)) same))
 
--- as wide as a row of so many parts
+-- as wide as a row of n parts
 row_of : (code : CodeNames) (t : Tree) (a n : ℕ) → IsArray code t a → Counted (row_width code t) n → IsRow code a n
 row_of code t a n (width, wide, row) h =
     let same : n ≡ width = subst (λ o. Counted o n) wide h in subst (IsRow code a) (sym same) row

@@ -1,4 +1,4 @@
--- Lists that end behind so many parts.
+-- Lists that end after k parts.
 use Rattle.std.proofs.Common.{◌≡◌, ℕ, zero, suc, ◌+◌, refl, sym, subst, ◌∙◌}
 use Rattle.std.specs.Prelude.{Result, Ok, Err}
 use Rattle.lc_sexp.specs.Trees.{Tree, Trees, none, ◌▸◌, item_count}
@@ -23,7 +23,7 @@ use Rattle.lc_object_text.specs.Own.{IsLeft, IsShort}
 left_at : {X : Type 0} (m n : ℕ) (ts us : Trees) (r : Reading X) → n ≡ m → us ≡ ts → ended m ts r ≡ ended n us r
 left_at m n ts us r at same = rw (at, same) refl
 
--- behind the parts
+-- after the parts
 pub left_ended : {X : Type 0} (k m : ℕ) (ts : Trees) (rest : Cursor) (r : Reading X) → IsLeft k m ts rest → ended_behind k m ts r ≡ ended (number_of rest) (rest_of rest) r
 left_ended zero m ts rest r (at, same) = left_at m (number_of rest) ts (rest_of rest) r at same
 left_ended (suc k) m none rest r h = absurd h
@@ -48,7 +48,7 @@ pub none_ended : {X : Type 0} (k m n : ℕ) (ts : Trees) (r : Reading X) → ts 
 none_ended zero m n ts r e = rw e refl
 none_ended (suc k) m n ts r e = rw e refl
 
--- so many parts, and no other
+-- k parts, and no other
 pub parts_ended : {T X : Type 0} (view : T → X) (k m : ℕ) (ts : Trees) (rest : Cursor) (r : Reading X) (a e : Result T ReadFault) → IsLeft k m ts rest → IsReading view r a
     → e ≡ ended_result (number_of rest) (rest_of rest) a → IsReading view (ended_behind k m ts r) e
 parts_ended view k m ts rest r a e left h end =

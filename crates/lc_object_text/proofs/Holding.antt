@@ -96,7 +96,7 @@ pub parts_counted : (word : List ℕ) (ts : Trees) → length (parts_of_all word
 parts_counted word none = refl
 parts_counted word (t ▸ ts) = ap suc (parts_counted word ts)
 
--- as many parts as are due, where it is known how many
+-- as many parts as are expected, if their number is known
 abbrev pub Counted : Option ℕ → ℕ → Type 0
 Counted None n = Unit {0}
 Counted (Some m) n = n ≡ m
@@ -124,7 +124,7 @@ row_holds P due R read n (atom w) h f = tt
 row_holds P due R read n (list ts) h f =
     both_holds (λ (u : Unit {0}). Counted due (tree_count ts)) (P ts) R second (count_reading due n (n + 1) ts) (read (n + 1) ts) (counted_holds due n (n + 1) ts) (h (n + 1) ts) (λ u x c p. f ts x c p)
 
--- so many parts, and no other
+-- k parts, and no other
 pub behind_holds : {X : Type 0} (P : X → Type 0) (k m : ℕ) (ts : Trees) (r : Reading X) → Holds P r → Holds P (ended_behind k m ts r)
 behind_holds P zero m ts r h = ended_holds P m ts r h
 behind_holds P (suc k) m none r h = h

@@ -50,7 +50,7 @@ counted_of : (o : Option ℕ) (m n : ℕ) → Counted o n → o ≡ Some m → n
 counted_of None m n h e = cc
 counted_of (Some k) m n h e = let same : k ≡ m = cc in h ∙ same
 
--- an instruction whose names are declared, where arrays and points are as declared
+-- an instruction whose names are declared, if arrays and points are as declared
 instruction_is : (object : Object) (op : ℕ) (o : Operation) (code : CodeNames) → ((a width : ℕ) → IsRow code a width → has_width object a width ≡ true) → ((l : ℕ) → IsLabel code l → is_label object op l ≡ true)
     → code.replies ≡ Some o.replies → length o.locals ≤ local_limit → (i : Instr) → Fits code (2 + length o.arguments) (variable_count o) i → is_instruction object op o i ≡ true
 instruction_is object op o code rows labels replies few (Load a t rs l) h =
@@ -107,7 +107,7 @@ columns_are a c n (suc k) h g =
 width_is : (n : ℕ) → 1 ≤ n → n ≤ width_limit → is_width n ≡ true
 width_is n low high = grind (arith, nat_tests)
 
--- arrays that have their spans, where there are as many concrete columns as they have
+-- arrays that have their spans, if there are as many concrete columns as they have
 pub arrays_are : (object : Object) (k : ℕ) (forms : List Trees) (arrays : List Array) → HaveSpans (spans_from k forms) arrays → length object.abstracts ≤ k
     → k + columns_count forms ≤ length object.abstracts + length object.concretes → list_all (is_array object) arrays ≡ true
 arrays_are object k [] [] h low high = refl
@@ -127,7 +127,7 @@ arrays_are object k (ts ∷ forms) (array ∷ arrays) h low high =
 either_false : (a b : Bool) → a ≡ false → b ≡ false → (a || b) ≡ false
 either_false a b h g = cc
 
--- no column before those of arrays in a row stands in them
+-- no column before those of arrays in a row is in them
 before_spans : (k j : ℕ) (forms : List Trees) (arrays : List Array) → HaveSpans (spans_from k forms) arrays → j < k → stands_in arrays j ≡ false
 before_spans k j [] [] h low = refl
 before_spans k j [] (array ∷ arrays) h low = absurd h
@@ -201,7 +201,7 @@ both_early d b k before own h g =
     list_all-append (λ (q : Point). nat_lt q.operation (k + 1)) before own
     ∙ and_true (list_all (λ (q : Point). nat_lt q.operation (k + 1)) before) (list_all (λ (q : Point). nat_lt q.operation (k + 1)) own) (still_early k before h) (own_early d b k own g)
 
--- the first point behind those of earlier bodies is the first of its own
+-- the first point after those of earlier bodies is the first of its own
 first_behind : (k : ℕ) (before rest : List Point) (q : Point) → AreEarly k before → q.operation ≡ k → is_first (before ++ q ∷ rest) k (length before) ≡ true
 first_behind k [] rest q h e = is_equal q.operation k e
 first_behind k (p ∷ before) rest q h e =

@@ -24,7 +24,7 @@ use Rattle.lc_object_text.specs.Points.{BodyText, code_alone}
 use Rattle.lc_object_text.specs.Rows.{lists_reading}
 use Rattle.lc_object_text.specs.Sections.{parts_in, Sections, items_of_fit, items_in, behind_item, behind_first, sections_of}
 
--- what is read of a specification and of an object, where these are the sections
+-- what is read of a specification and of an object with these sections
 pub record SpecificationFits (d : Declared) (s : Sections) (text : SpecificationText) : Type 0 where
   pub abstracts : length text.abstracts ≡ length (abstracts_in s)
   pub operations : AreOperations d s.operations.trees text.signatures

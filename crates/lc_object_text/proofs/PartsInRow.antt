@@ -35,7 +35,7 @@ cas_from : (names : Names) (code : CodeNames) (n m i j k h p q : ℕ) (width : O
     → cas_reading names code n m us ≡ both cas_of (place_reading names code i a j t) (exchange_reading names code width k old h new p e q d)
 cas_from names code n m i j k h p q width a t old new e d ts us same first second third fourth fifth sixth wide = rw (same, first, second, third, fourth, fifth, sixth, wide) refl
 
--- the six parts of `cas`, and what is left behind them
+-- the six parts of `cas`, and the rest after them
 pub cas_read : (names : Names) (code : CodeNames) (l l₁ l₂ l₃ l₄ l₅ l₆ : Cursor) (a t old new e d : Part) (width : Option ℕ) (result : Result Instr ReadFault)
     → IsNext l (Ok a) l₁ → IsNext l₁ (Ok t) l₂ → IsNext l₂ (Ok old) l₃ → IsNext l₃ (Ok new) l₄ → IsNext l₄ (Ok e) l₅ → IsNext l₅ (Ok d) l₆ → width ≡ row_width code (tree_of a)
     → IsReading instruction_of (both cas_of (place_reading names code (place_of a) (tree_of a) (place_of t) (tree_of t))
@@ -67,7 +67,7 @@ faa_from : (names : Names) (code : CodeNames) (n m i j k h p : ℕ) (width : Opt
     → faa_reading names code n m us ≡ both faa_of (place_reading names code i a j t) (adding_reading names code width k r h d p e)
 faa_from names code n m i j k h p width a t r d e ts us same first second third fourth fifth wide = rw (same, first, second, third, fourth, fifth, wide) refl
 
--- the five parts of `faa`, and what is left behind them
+-- the five parts of `faa`, and the rest after them
 pub faa_read : (names : Names) (code : CodeNames) (l l₁ l₂ l₃ l₄ l₅ : Cursor) (a t r d e : Part) (width : Option ℕ) (result : Result Instr ReadFault)
     → IsNext l (Ok a) l₁ → IsNext l₁ (Ok t) l₂ → IsNext l₂ (Ok r) l₃ → IsNext l₃ (Ok d) l₄ → IsNext l₄ (Ok e) l₅ → width ≡ row_width code (tree_of a)
     → IsReading instruction_of (both faa_of (place_reading names code (place_of a) (tree_of a) (place_of t) (tree_of t))
@@ -91,7 +91,7 @@ set_from : (names : Names) (code : CodeNames) (n m i j : ℕ) (t u : Tree) (ts u
     → set_reading names code n m us ≡ both set_of (assignments_reading names code i t) (label_reading code j u)
 set_from names code n m i j t u ts us same first second = rw (same, first, second) refl
 
--- the two parts of `set`, and what is left behind them
+-- the two parts of `set`, and the rest after them
 pub set_read : (names : Names) (code : CodeNames) (l rest : Cursor) (cells label : Part) (result : Result Instr ReadFault) → IsTwo l (Ok (cells, label, rest))
     → IsReading instruction_of (both set_of (assignments_reading names code (place_of cells) (tree_of cells)) (label_reading code (place_of label) (tree_of label))) result
     → IsReading instruction_of (set_reading names code (owner_of l) (number_of l) (rest_of l)) result × IsLeft 2 (number_of l) (rest_of l) rest
@@ -107,7 +107,7 @@ if_from : (names : Names) (code : CodeNames) (n m i j k : ℕ) (t u v : Tree) (t
     → if_reading names code n m us ≡ both if_of (formula_reading names [] i t) (labels_reading code j u k v)
 if_from names code n m i j k t u v ts us same first second third = rw (same, first, second, third) refl
 
--- the three parts of `if`, and what is left behind them
+-- the three parts of `if`, and the rest after them
 pub if_read : (names : Names) (code : CodeNames) (l rest : Cursor) (condition then otherwise : Part) (result : Result Instr ReadFault) → IsThree l (Ok (condition, then, otherwise, rest))
     → IsReading instruction_of (both if_of (formula_reading names [] (place_of condition) (tree_of condition)) (labels_reading code (place_of then) (tree_of then) (place_of otherwise) (tree_of otherwise))) result
     → IsReading instruction_of (if_reading names code (owner_of l) (number_of l) (rest_of l)) result × IsLeft 3 (number_of l) (rest_of l) rest

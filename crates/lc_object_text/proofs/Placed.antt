@@ -1,4 +1,4 @@
--- Names that stand before a place.
+-- Names that come before a place.
 use Rattle.std.proofs.Common.{◌≡◌, ℕ, suc, zero, ◌+◌, Bool, true, false, List, [], ◌∷◌, ◌++◌, length, Option, Some, None, take, refl, sym, ap, ◌∙◌, cond, arith}
 use Rattle.std.proofs.Math.Seq.{take-append-add}
 use Rattle.std.proofs.lemmas.List.Folds.{list_any-append}
@@ -29,7 +29,7 @@ step true b k o e = first k
 step false b k None e = e
 step false b k (Some p) e = e ∙ later p k
 
--- a name stands among the first of names exactly where its first place is before
+-- a name is among the first of names exactly if its first place is before
 pub stands_before : (vs : List (List ℕ)) (w : List ℕ) (k : ℕ) → list_any (is w) (take k vs) ≡ is_before k (place_of vs w)
 stands_before [] w zero = refl
 stands_before [] w (suc k) = refl
@@ -42,7 +42,7 @@ not_placed vs w k e = sym (stands_before vs w k ∙ ap (is_before k) e)
 pub placed : (vs : List (List ℕ)) (w : List ℕ) (k p : ℕ) → place_of vs w ≡ Some p → nat_lt p k ≡ list_any (is w) (take k vs)
 placed vs w k p e = sym (stands_before vs w k ∙ ap (is_before k) e)
 
--- a name stands among names and the first of those behind them exactly where it stands among either
+-- a name is among names and the first of those after them exactly if it is among either
 pub stands_behind : (us vs : List (List ℕ)) (w : List ℕ) (k : ℕ) → (list_any (is w) us || list_any (is w) (take k vs)) ≡ list_any (is w) (take (length us + k) (us ++ vs))
 stands_behind us vs w k = sym (ap (list_any (is w)) (take-append-add us vs k) ∙ list_any-append (is w) us (take k vs))
 
@@ -56,7 +56,7 @@ one_more false n (Some q) p = refl
 one_more false n None None = refl
 one_more false n None (Some k) = ap Some (omega arith)
 
--- the place of a name among names and those behind them
+-- the place of a name among names and those after them
 pub place_behind : (us vs : List (List ℕ)) (w : List ℕ) → place_of (us ++ vs) w ≡ option_or (place_of us w) (option_map (λ k. length us + k) (place_of vs w))
 place_behind [] vs w = no_more (place_of vs w)
 place_behind (u ∷ us) vs w = ap (λ p. cond (is w u) (Some 0) (option_map suc p)) (place_behind us vs w) ∙ one_more (is w u) (length us) (place_of us w) (place_of vs w)

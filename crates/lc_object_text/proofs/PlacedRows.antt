@@ -14,7 +14,7 @@ placed_at : {X : Type 0} (read : ℕ → ℕ → Tree → Reading X) (i j n m p 
     → placed_reading read i n us ≡ both cons (read i p t) (placed_reading read j m ts)
 placed_at read i j n m p t ts us rest at number next = rw (rest, at, number, next) refl
 
--- behind one item the others are left
+-- after one item, the others are left
 pub placed_more : {X : Type 0} (read : ℕ → ℕ → Tree → Reading X) (i j : ℕ) (l behind : Cursor) (part : Part) → place_of part ≡ number_of l → IsBehind l (tree_of part) behind → j ≡ i + 1
     → placed_reading read i (number_of l) (rest_of l) ≡ both cons (read i (place_of part) (tree_of part)) (placed_reading read j (number_of behind) (rest_of behind))
 placed_more read i j l behind part at next later =
@@ -43,7 +43,7 @@ pub lists_more : {X : Type 0} (word : List ℕ) (read : ℕ → ℕ → Tree →
 lists_more word read i j l behind part test at next later =
     lists_at word read i j (number_of l) (number_of behind) (place_of part) (tree_of part) (rest_of behind) (rest_of l) next.rest at next.number later test
 
--- no such list stands next
+-- the next item is no such list
 pub lists_stop : {X : Type 0} (word : List ℕ) (read : ℕ → ℕ → Tree → Reading X) (i n : ℕ) (ts : Trees) → begins_form word ts ≡ false → lists_reading word read i n ts ≡ fine []
 lists_stop word read i n none test = refl
 lists_stop word read i n (t ▸ ts) test = rw (sym (same_test word t ts) ∙ test) refl

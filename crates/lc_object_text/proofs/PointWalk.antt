@@ -1,4 +1,4 @@
--- A point with what stands beside its code.
+-- A point with the riders beside its code.
 use Rattle.std.proofs.Common.{◌≡◌, ℕ, ◌+◌, Bool, refl, sym, ap, ◌∙◌, subst}
 use Rattle.std.specs.Prelude.{Result, Ok, Err}
 use Rattle.std.specs.Result.{IsErrAnd}
@@ -22,7 +22,7 @@ point_from : {X : Type 0} (d : Declared) (b : Body) (beside : Beside X) (operati
     ≡ beside o code shaped (both (point_of operation) (point_name_reading d before n q name) (instruction_reading (code_names d b) (body_names d b) p code)) k ts
 point_from d b beside operation i n o m q p k before shaped name code ts us rest owner first second third place shape = rw (rest, owner, first, shape, second, third, place) refl
 
--- a point is read as its name, its instruction and what stands beside them
+-- a point is read as its name, its instruction and what is beside them
 pub point_read : {T X : Type 0} (view : T → X) (d : Declared) (b : Body) (beside : Beside X) (operation i before : ℕ) (shaped : Bool) (l l₁ l₂ : Cursor) (name code : Part) (result : Result T ReadFault)
     → place_of name ≡ number_of l → IsBehind l (tree_of name) l₁ → place_of code ≡ number_of l₁ → IsBehind l₁ (tree_of code) l₂ → before ≡ b.first + i
     → shaped ≡ is_shaped (instruction_reading (code_names d b) (body_names d b) (place_of code) (tree_of code))

@@ -27,7 +27,7 @@ taken_from : (c c' : Cursor) (item : Item) (ts : Trees) → IsPart any_fit Shows
 taken_from c c' item none h = absurd (let e : Ok item ≡ Err _ = h.0 in cc)
 taken_from c c' item (t ▸ ts) h = omega (arith, size_shown (number_of c) t item h.0, ap item_count_of_all h.1.rest)
 
--- what is left behind an item
+-- the rest after an item
 taken : (c c' : Cursor) (item : Item) → GivesPart any_fit ShowsItem c (Ok item) c' → size_of item + item_count_of_all (rest_of c') ≡ item_count_of_all (rest_of c)
 taken c c' item h = taken_from c c' item (rest_of c) h
 
@@ -37,7 +37,7 @@ passed_from word c c' item none e h = cc
 passed_from word c c' item (t ▸ ts) e h =
     ap (λ b. cond b (behind_lists word (number_of c + item_count t) ts) (record { number = number_of c; trees = t ▸ ts })) e ∙ ap₂ (behind_lists word) (sym h.1.number) (sym h.1.rest)
 
--- behind a list that begins with the word
+-- after a list that begins with the word
 pub passed_form : (word : List ℕ) (c c' : Cursor) (item : Item) → begins_form word (rest_of c) ≡ true → GivesPart any_fit ShowsItem c (Ok item) c' →
     behind_forms word (items_of c) ≡ behind_forms word (items_of c')
 passed_form word c c' item e h = passed_from word c c' item (rest_of c) e h
@@ -62,7 +62,7 @@ columns_from : (c c' : Cursor) (item : Item) (ts : Trees) → IsPart any_fit Sho
 columns_from c c' item none h = absurd (let e : Ok item ≡ Err _ = h.0 in cc)
 columns_from c c' item (t ▸ ts) h = ap (λ us. first_text (items_within t) ∷ names_of_columns us) (sym h.1.rest)
 
--- the name of a column, and those behind it
+-- the name of a column, and those after it
 pub columns_more : (c c' : Cursor) (item : Item) (names more : List (List ℕ)) (name : List ℕ) → GivesPart any_fit ShowsItem c (Ok item) c' → name ≡ first_text (within_first (rest_of c)) →
     more ≡ names ++ name ∷ [] → names ++ names_of_columns (rest_of c) ≡ more ++ names_of_columns (rest_of c')
 columns_more c c' item names more name h is e =
@@ -74,7 +74,7 @@ pub columns_counted : (ts : Trees) → length (names_of_columns ts) ≡ tree_cou
 columns_counted none = refl
 columns_counted (t ▸ ts) = omega (arith, columns_counted ts)
 
--- one more array, and those behind it
+-- one more array, and those after it
 pub array_columns : (word : List ℕ) (old new parts : Cursor) (xs more : List (List ℕ)) → IsNextForm false word old (Some parts) new → more ≡ xs ++ names_of_columns (later (rest_of parts)) →
     more ++ columns_of_arrays (forms_in word (rest_of new)) ≡ xs ++ columns_of_arrays (forms_in word (rest_of old))
 array_columns word old new parts xs more h e =
@@ -116,7 +116,7 @@ body_from names calls k p n c c' item none h = absurd (let e : Ok item ≡ Err _
 body_from names calls k p n c c' item (t ▸ ts) h =
     ap (λ us. body_of names calls k p (parts_in (codes "body") t) ∷ bodies_from names calls (k + 1) (p + length (points_in (parts_in (codes "body") t))) n us) (sym h.1.rest)
 
--- one more body, and those behind it
+-- one more body, and those after it
 pub bodies_more : (names : List (List ℕ)) (calls : List Call) (k p p' m n : ℕ) (c c' : Cursor) (item : Item) (parts : Trees) (body : Body) (xs more : List Body) → GivesPart any_fit ShowsItem c (Ok item) c' →
     parts ≡ parts_in_first (codes "body") (rest_of c) → body ≡ body_of names calls k p parts → more ≡ xs ++ body ∷ [] → p' ≡ p + length (points_in parts) → m ≡ suc n →
     more ++ bodies_from names calls (k + 1) p' n (rest_of c') ≡ xs ++ bodies_from names calls k p m (rest_of c)
@@ -135,7 +135,7 @@ bodies_end : (names : List (List ℕ)) (calls : List Call) (k p n : ℕ) (c c' :
 bodies_end names calls k p n c c' m none h = no_bodies names calls k p n
 bodies_end names calls k p n c c' m (t ▸ ts) h = absurd h
 
--- no item is left, or no body is due
+-- no item is left, or no body is expected
 pub bodies_ended : (names : List (List ℕ)) (calls : List Call) (k p n : ℕ) (c c' : Cursor) (m : Misfit) (xs whole : List Body) → GivesPart any_fit ShowsItem c (Err m) c' →
     xs ++ bodies_from names calls k p n (rest_of c) ≡ whole → xs ≡ whole
 bodies_ended names calls k p n c c' m xs whole h e = sym (append-nil xs) ∙ ap (λ ys. xs ++ ys) (sym (bodies_end names calls k p n c c' m (rest_of c) h)) ∙ e

@@ -1,4 +1,4 @@
--- What is answered to the forms of a development file, as far as its object's code goes.
+-- What is returned for the forms of a development file, as far as its object's code goes.
 use Rattle.std.specs.Prelude.{◌≡◌, Result, Ok, Err}
 use Rattle.lc_base.specs.declared.refusal.Fault.{Fault}
 use Rattle.lc_base.specs.declared.refusal.Fault.TheVariants.{Refused, OutOfMemory}
@@ -20,7 +20,7 @@ Says ts object = file_reading ts ≡ fine object
 abbrev pub IsFirstRefusal : Trees → Refusal → Type 0
 IsFirstRefusal ts refusal = (f : Flaw) × (file_reading ts ≡ flawed f) × (refusal ≡ refusal_of f)
 
--- The object that they say, else the first refusal, or want of memory
+-- The object that they say, else the first refusal, or out of memory
 abbrev pub IsAnswerOf : Trees → Result Object Fault → Type 0
 IsAnswerOf ts (Ok object) = Says ts (object_shown object)
 IsAnswerOf ts (Err (Refused refusal)) = IsFirstRefusal ts refusal

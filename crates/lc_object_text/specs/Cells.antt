@@ -1,4 +1,4 @@
--- What a text reads as where a part of an instruction is due.
+-- What a text reads as where a part of an instruction is expected.
 use Rattle.std.specs.Prelude.{ℕ, ◌+◌, Bool, true, false, List, [], Option, Some, None, option_map}
 use Rattle.std.specs.List.{list_any}
 use Rattle.lc_sexp.specs.Trees.{Tree, Trees, atom, list, ◌▸◌, item_count}
@@ -32,7 +32,7 @@ written n w repeated None = wrong Unknown n
 written n w true (Some k) = wrong Repeated n
 written n w false (Some k) = within n w k
 
--- the name of a local that is written, behind these
+-- the name of a local that is written, after these
 abbrev pub target_reading : CodeNames → List (List ℕ) → ℕ → Tree → Reading ℕ
 target_reading code before n t = spelled_reading (λ w. written n w (list_any (is w) before) (code.target w)) n t
 

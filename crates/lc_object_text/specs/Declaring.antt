@@ -11,16 +11,16 @@ use Rattle.lc_object_text.specs.Rows.{placed_reading}
 abbrev pub kth_name_reading : List (List ℕ) → ℕ → ℕ → Tree → Reading (List ℕ)
 kth_name_reading names k n t = name_reading None (take k names) n t
 
--- the i-th name in a list, of which so many may stand there, behind as many others of these
+-- the i-th name in a list with at most `limit` names, which comes after `base` + i others of these
 abbrev pub listed_name_reading : ℕ → List (List ℕ) → ℕ → ℕ → ℕ → Tree → Reading (List ℕ)
 listed_name_reading limit names base i n t = limited (nat_le limit i) n (kth_name_reading names (base + i) n t)
 
--- the item n, where a list of so many of these names is due, behind as many others
+-- the item n, where a list of at most `limit` of these names is expected, which come after `base` others
 abbrev pub names_reading : ℕ → List (List ℕ) → ℕ → ℕ → Tree → Reading (List (List ℕ))
 names_reading limit names base n (atom w) = wrong Shape n
 names_reading limit names base n (list ts) = placed_reading (listed_name_reading limit names base) 0 (n + 1) ts
 
--- (NAME ..): the i-th column of a section, behind as many others
+-- (NAME ..): the i-th column of a section, after `base` others
 abbrev pub column_name_reading : List (List ℕ) → ℕ → ℕ → ℕ → Tree → Reading (List ℕ)
 column_name_reading names base i n (list (t ▸ ts)) = limited (nat_le column_limit (base + i)) n (kth_name_reading names (base + i) (n + 1) t)
 column_name_reading names base i n _ = wrong Shape n

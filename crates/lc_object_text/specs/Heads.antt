@@ -1,4 +1,4 @@
--- What the first word of an instruction says, where it is any but `return`.
+-- What the first word of an instruction says, if it is any but `return`.
 use Rattle.std.specs.Prelude.{ℕ, if◌then◌else◌, codes, List, Option, Some, None}
 use Rattle.lc_reading.specs.Words.{is}
 use Rattle.lc_object_text.specs.declared.words.Head.{Head}
@@ -15,7 +15,7 @@ head_of w =
     else (if is w (codes "if") then Some If
     else None)))))
 
--- how many parts stand behind the word
+-- how many parts come after the word
 abbrev pub own_parts : Head → ℕ
 own_parts Load = 4
 own_parts Store = 4

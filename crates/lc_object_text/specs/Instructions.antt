@@ -1,4 +1,4 @@
--- What a text reads as where an instruction is due.
+-- What a text reads as where an instruction is expected.
 use Rattle.std.specs.Prelude.{ℕ, ◌+◌, codes, List, [], map, Option, Some, None, if◌then◌else◌}
 use Rattle.lc_sexp.specs.Trees.{Tree, Trees, atom, list, ◌▸◌, item_count}
 use Rattle.lc_term.specs.Syntax.{Term, Formula}
@@ -105,7 +105,7 @@ if_reading names code n m (f ▸ l ▸ k ▸ ts) =
     both if_of (formula_reading names [] m f) (labels_reading code (m + item_count f) l (m + item_count f + item_count l) k)
 if_reading names code n m _ = wrong Shape n
 
--- the parts that stand behind this word
+-- the parts that come after this word
 abbrev pub own_reading : Names → CodeNames → Head → ℕ → ℕ → Trees → Reading Instr
 own_reading names code H.Load = load_reading names code
 own_reading names code H.Store = store_reading names code
@@ -129,7 +129,7 @@ return_of u values = S.Return values
 abbrev pub return_reading : Names → CodeNames → ℕ → ℕ → Trees → Reading Instr
 return_reading names code n m ts = both return_of (count_reading code.replies n m ts) (each_reading (term_reading names []) m ts)
 
--- the item n where an instruction is due
+-- the item n, where an instruction is expected
 abbrev pub instruction_reading : Names → CodeNames → ℕ → Tree → Reading Instr
 instruction_reading names code n (list (atom w ▸ ts)) =
     if is w (codes "return") then return_reading names code n (n + 2) ts else code_reading names code n (n + 2) ts (head_of w)

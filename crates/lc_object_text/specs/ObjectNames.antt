@@ -27,12 +27,12 @@ abbrev pub within_first : Trees → Trees
 within_first none = none
 within_first (t ▸ ts) = items_within t
 
--- the items behind the first
+-- the items after the first
 abbrev pub later : Trees → Trees
 later none = none
 later (t ▸ ts) = ts
 
--- what stands behind the word in the first of these, if it begins with this word
+-- what comes after the word in the first of these, if it begins with this word
 abbrev pub parts_in_first : List ℕ → Trees → Trees
 parts_in_first word none = none
 parts_in_first word (t ▸ ts) = parts_in word t
@@ -42,7 +42,7 @@ abbrev pub names_of_columns : Trees → List (List ℕ)
 names_of_columns none = []
 names_of_columns (t ▸ ts) = first_text (items_within t) ∷ names_of_columns ts
 
--- the columns of arrays, each of which is NAME (NAME ..) (NAME ..) ..
+-- the columns of arrays, each of the form NAME (NAME ..) (NAME ..) ..
 abbrev pub columns_of_arrays : List Trees → List (List ℕ)
 columns_of_arrays [] = []
 columns_of_arrays (ts ∷ arrays) = names_of_columns (later ts) ++ columns_of_arrays arrays
@@ -56,7 +56,7 @@ pub record Span : Type 0 where
 abbrev pub span_of : ℕ → Trees → Span
 span_of k ts = record { first = k; width = tree_count (later ts) }
 
--- those of arrays, the first of which begins at this column
+-- those of arrays, the first one beginning at this column
 abbrev pub spans_from : ℕ → List Trees → List Span
 spans_from k [] = []
 spans_from k (ts ∷ arrays) = span_of k ts ∷ spans_from (k + tree_count (later ts)) arrays
@@ -81,7 +81,7 @@ pub record Call : Type 0 where
 abbrev pub call_of : Trees → Call
 call_of ts = record { arguments = names_among (within_first (later ts)); replies = reply_count (later (later ts)) }
 
--- What a body declares and is given: the name of the operation that is due, the number of its first point, the arguments
+-- What a body declares and is given: the name of the expected operation, the number of its first point, the arguments
 -- and replies of the operation that it names, and the names of its locals and points
 pub record Body : Type 0 where
   pub operation : List ℕ
@@ -123,14 +123,14 @@ abbrev pub body_of : List (List ℕ) → List Call → ℕ → ℕ → Trees →
 body_of names calls k p ts =
     record { operation = name_at names k; first = p; call = call_named names calls (first_text ts); locals = names_among (within_first (later ts)); labels = map first_text (points_in ts) }
 
--- so many bodies, from the k-th on, whose first point has the number p
+-- n bodies, from the k-th on, with the first point of number p
 abbrev pub bodies_from : List (List ℕ) → List Call → ℕ → ℕ → ℕ → Trees → List Body
 bodies_from names calls k p zero ts = []
 bodies_from names calls k p (suc n) none = []
 bodies_from names calls k p (suc n) (t ▸ ts) =
     body_of names calls k p (parts_in (codes "body") t) ∷ bodies_from names calls (k + 1) (p + length (points_in (parts_in (codes "body") t))) n ts
 
--- how many bodies are due: one for each operation, of which there is one at least
+-- how many bodies are expected: one for each operation, and at least one
 abbrev pub bodies_due : ℕ → ℕ
 bodies_due zero = 1
 bodies_due (suc n) = suc n
@@ -195,7 +195,7 @@ column_use a c system None = if system then Hidden else Undeclared
 abbrev pub variable_of : Body → List ℕ → Option ℕ
 variable_of b w = if is w (codes "self") then Some 1 else option_map (λ k. 2 + k) (place_of (b.call.arguments ++ b.locals) w)
 
--- In instructions terms use the client, arguments and locals, and read no column; no quantifier stands there
+-- In instructions terms use the client, arguments and locals, and read no column; there is no quantifier
 abbrev pub code_names : Declared → Body → Names
 code_names d b = record {
   variable = variable_of b;

@@ -1,4 +1,4 @@
--- What a text reads as where the arrays, the operations and the bodies of an object are due, and as a whole file.
+-- What a text reads as where the arrays, the operations and the bodies of an object are expected, and as a whole file.
 use Rattle.std.specs.Prelude.{ℕ, ◌+◌, ℤ, pos, negsuc, Bool, false, ◌==◌, nat_lt, nat_le, if◌then◌else◌, codes, List, [], ◌∷◌, ◌++◌, length, slice_get, Option, Some, None}
 use Rattle.lc_base.specs.Limits.{argument_limit, column_limit, operation_limit, reply_limit, width_limit}
 use Rattle.lc_sexp.specs.Trees.{Tree, Trees, atom, list, none, ◌▸◌, item_count}
@@ -18,7 +18,7 @@ use Rattle.lc_object_text.specs.Points.{Beside, BodyText, body_reading, code_alo
 use Rattle.lc_object_text.specs.Rows.{placed_reading, lists_reading}
 use Rattle.lc_object_text.specs.Sections.{Sections, sections_of}
 
--- the name of the i-th column of an array, behind as many others, in the item n
+-- the name of the i-th column of an array, after `base` + i others, in the item n
 abbrev pub own_name_reading : List (List ℕ) → ℕ → ℕ → ℕ → ℕ → Tree → Reading (List ℕ)
 own_name_reading names base i n m t = limited (nat_le width_limit i) n (limited (nat_le column_limit (base + i)) n (kth_name_reading names (base + i) m t))
 
@@ -71,7 +71,7 @@ pub record Signature : Type 0 where
 abbrev pub signature_of : List ℕ → List (List ℕ) × ℕ → Signature
 signature_of name call = record { name = name; arguments = call.0; replies = call.1 }
 
--- a minus stands before the number
+-- a minus comes before the number
 abbrev pub has_minus : List ℕ → Bool
 has_minus [] = false
 has_minus (b ∷ w) = b == 45
@@ -87,7 +87,7 @@ abbrev pub replies_reading : ℕ → Tree → Reading ℕ
 replies_reading n (atom w) = if has_minus w then wrong Shape n else few_replies n (integer_fit (atom w))
 replies_reading n (list ts) = wrong Shape n
 
--- (ARG ..) REPLIES: arguments, the names of which these are
+-- (ARG ..) REPLIES: arguments, with these names
 abbrev pub call_reading : List (List ℕ) → ℕ → Tree → ℕ → Tree → Reading (List (List ℕ) × ℕ)
 call_reading arguments i t j u = both pair (names_reading argument_limit arguments 0 i t) (replies_reading j u)
 
@@ -158,12 +158,12 @@ arrays_reading d s n =
 abbrev pub neither : Unit {0} → Unit {0} → Unit {0}
 neither u v = tt
 
--- (invariant ..) (idle ..) ..: lists of which only the first words are looked at
+-- (invariant ..) (idle ..) ..: lists with only the first words looked at
 abbrev pub conditions_reading : ℕ → ℕ → Trees → Reading (Unit {0})
 conditions_reading n m (t ▸ u ▸ ts) = both neither (headed_reading (codes "invariant") m t) (headed_reading (codes "idle") (m + item_count t) u)
 conditions_reading n m _ = wrong Shape n
 
--- (aux (NAME ..) ..), and what stands between it and the bodies
+-- (aux (NAME ..) ..), and what is between it and the bodies
 abbrev pub auxiliaries_reading : Declared → Sections → ℕ → Reading (List (List ℕ))
 auxiliaries_reading d s n =
     both second (conditions_reading n s.invariant.number s.invariant.trees)
@@ -172,7 +172,7 @@ auxiliaries_reading d s n =
 abbrev pub tables_reading : Declared → Sections → ℕ → Reading Tables
 tables_reading d s n = both tables_of (arrays_reading d s n) (auxiliaries_reading d s n)
 
--- the item n where this body is due, of the operation of this number, if one is
+-- the item n where this body is expected, of the operation of this number, if one is
 abbrev pub due_body_reading : {X : Type 0} → Declared → Beside X → Option Body → ℕ → ℕ → Tree → Reading (BodyText X)
 due_body_reading d beside None operation n t = wrong Shape n
 due_body_reading d beside (Some b) operation n t = body_reading d b beside operation n t
@@ -194,12 +194,12 @@ abbrev pub concretes_of : List ArrayText → List Column
 concretes_of [] = []
 concretes_of (a ∷ others) = a.columns ++ concretes_of others
 
--- arrays, the first of which begins at this column
+-- arrays, the first one beginning at this column
 abbrev pub arrays_from : ℕ → List ArrayText → List Array
 arrays_from k [] = []
 arrays_from k (a ∷ others) = record { name = a.name; columns = numbers_from k (length a.columns) } ∷ arrays_from (k + length a.columns) others
 
--- operations with their bodies, the first of which begins at this point
+-- operations with their bodies, the first one beginning at this point
 abbrev pub operations_from : ℕ → List Signature → List (BodyText Point) → List Operation
 operations_from e (s ∷ ss) (b ∷ bs) =
     record { name = s.name; arguments = s.arguments; replies = s.replies; locals = b.locals; entry = e } ∷ operations_from (e + length b.points) ss bs
@@ -226,7 +226,7 @@ abbrev pub second_form_reading : Declared → Sections → ℕ → Trees → Rea
 second_form_reading d s n none = wrong Shape n
 second_form_reading d s n (t ▸ ts) = ended (n + item_count t) ts (object_reading d s code_alone n)
 
--- SPEC OBJECT: the forms from n on. A form that is missing is told at the number of items
+-- SPEC OBJECT: the forms from n on. A missing form is reported at the number of items
 abbrev pub forms_reading : Declared → Sections → ℕ → Trees → Reading Object
 forms_reading d s n none = wrong Shape n
 forms_reading d s n (t ▸ ts) = both object_of (specification_reading d n t) (second_form_reading d s (n + item_count t) ts)

@@ -1,4 +1,4 @@
--- What an instruction has behind its word.
+-- What an instruction has after its word.
 use Rattle.std.specs.Prelude.{◌≡◌, ℕ, zero, suc, ◌+◌, List, map, Vec, Result, Ok, Err}
 use Rattle.std.specs.declared.alloc.Global.{Global}
 use Rattle.lc_base.specs.declared.ids.PointId.{PointId}
@@ -20,7 +20,7 @@ use Rattle.lc_reading.specs.Results.{IsReading}
 use Rattle.lc_reading.specs.declared.flaw.ReadFault.{ReadFault}
 use Rattle.lc_reading.specs.declared.pass.Pass.TheVariants.{Shape}
 
--- this is left behind so many parts
+-- this is the rest after k parts
 abbrev pub IsLeft : ℕ → ℕ → Trees → Cursor → Type 0
 IsLeft zero m ts rest = (number_of rest ≡ m) × (rest_of rest ≡ ts)
 IsLeft (suc k) m none rest = ⊥
@@ -32,7 +32,7 @@ IsShort zero ts = ⊥
 IsShort (suc k) none = Unit {0}
 IsShort (suc k) (t ▸ ts) = IsShort k ts
 
--- the instruction that so many parts read as, and what is left behind them
+-- the instruction that k parts read as, and the rest after them
 abbrev pub IsOwn : Reading S.Instr → ℕ → Cursor → Result (Result Instr ReadFault × Cursor) Misfit → Type 0
 IsOwn read k l (Ok r) = IsReading instruction_of read r.0 × IsLeft k (number_of l) (rest_of l) r.1
 IsOwn read k l (Err misfit) = (misfit ≡ Misshapen (owner_of l)) × (read ≡ wrong Shape (owner_of l)) × IsShort k (rest_of l)

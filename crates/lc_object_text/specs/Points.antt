@@ -1,4 +1,4 @@
--- What a text reads as where a point or a body is due.
+-- What a text reads as where a point or a body is expected.
 use Rattle.std.specs.Prelude.{◌≡◌, Result, Ok, Err, ℕ, ◌+◌, nat_le, ◌&&◌, Bool, true, false, not, if◌then◌else◌, codes, List, ◌++◌, length}
 use Rattle.std.specs.List.{list_any}
 use Rattle.lc_base.specs.Limits.{local_limit, point_limit}
@@ -27,13 +27,13 @@ abbrev pub is_shaped : {X : Type 0} → Reading X → Bool
 is_shaped (fine x) = true
 is_shaped (flawed f) = not (is_shape f.pass)
 
--- what is answered of it
+-- what is returned for it
 abbrev pub IsShape : Reading Instr → Result Bool ReadFault → Type 0
 IsShape r (Ok b) = b ≡ is_shaped r
 IsShape r (Err fault) = fault ≡ OutOfMemory
 
--- how a point n reads with what stands beside its code, given its instruction and whether that is shaped, by what the point
--- itself reads as and by what is left behind its instruction
+-- how a point n reads with what is beside its code, given its instruction and whether that is shaped, by what the point itself
+-- reads as and by the rest after its instruction
 abbrev pub Beside : Type 0 → Type 0
 Beside X = ℕ → Tree → Bool → Reading Point → ℕ → Trees → Reading X
 
@@ -79,12 +79,12 @@ abbrev pub locals_reading : Declared → Body → ℕ → Tree → ℕ → Tree 
 locals_reading d b i t j u =
     both behind_name (use_reading d.operations i t) (names_reading local_limit (b.call.arguments ++ b.locals) (length b.call.arguments) j u)
 
--- the name of an operation, and of another than the one that is due
+-- the name of an operation, but not of the expected one
 abbrev pub is_of_another : List (List ℕ) → List ℕ → Tree → Bool
 is_of_another names due (atom w) = list_any (is w) names && not (is w due)
 is_of_another names due (list ts) = false
 
--- OP (LOCAL ..) POINT ..: the parts of the body n, which is wrong as a whole where it is of another operation than the one due
+-- OP (LOCAL ..) POINT ..: the parts of the body n, which is wrong as a whole if it is of another operation than the expected one
 abbrev pub body_parts : {X : Type 0} → Declared → Body → Beside X → ℕ → ℕ → ℕ → Trees → Reading (BodyText X)
 body_parts d b beside operation n m (op ▸ locals ▸ ts) =
     if is_of_another d.operations b.operation op then wrong Shape n
@@ -95,14 +95,14 @@ body_parts d b beside operation n m _ = wrong Shape n
 abbrev pub body_reading : {X : Type 0} → Declared → Body → Beside X → ℕ → ℕ → Tree → Reading (BodyText X)
 body_reading d b beside operation n t = behind_reading (codes "body") (body_parts d b beside operation) n t
 
--- of a point and what stands beside its code the point
+-- of a point and what is beside its code, the point
 abbrev pub point_alone : Point → Unit {0} → Point
 point_alone point u = point
 
 abbrev pub nothing_of : Unit {0} → List (Unit {0}) → Unit {0}
 nothing_of u us = tt
 
--- (assert ..) (on ..) ..: lists of which only the first words are looked at
+-- (assert ..) (on ..) ..: lists with only the first words looked at
 abbrev pub sides_reading : ℕ → ℕ → Trees → Reading (Unit {0})
 sides_reading n m none = wrong Shape n
 sides_reading n m (t ▸ ts) = both nothing_of (headed_reading (codes "assert") m t) (each_reading (headed_reading (codes "on")) (m + item_count t) ts)

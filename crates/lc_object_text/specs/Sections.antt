@@ -3,7 +3,7 @@ use Rattle.std.specs.Prelude.{ℕ, ◌+◌, Bool, codes, List, [], ◌∷◌, if
 use Rattle.lc_sexp.specs.Trees.{Tree, Trees, none, ◌▸◌, item_count}
 use Rattle.lc_sexp.specs.Parts.{Fit, fits, misshapen, beyond, form_fit, is_fitting}
 
--- items in a row, and the number of the first of them, or of what stands behind them
+-- items in a row, and the number of the first of them, or of what comes after them
 pub record Items : Type 0 where
   pub number : ℕ
   pub trees : Trees
@@ -12,7 +12,7 @@ pub record Items : Type 0 where
 abbrev pub begins : List ℕ → Tree → Bool
 begins word t = is_fitting (form_fit word t)
 
--- what stands behind the word, if the item is such a list
+-- what comes after the word, if the item is such a list
 abbrev pub parts_of_fit : Fit Trees → Trees
 parts_of_fit (fits ts) = ts
 parts_of_fit misshapen = none
@@ -21,7 +21,7 @@ parts_of_fit beyond = none
 abbrev pub parts_in : List ℕ → Tree → Trees
 parts_in word t = parts_of_fit (form_fit word t)
 
--- the same of the item n, with the number of the first of them
+-- the same for the item n, with the number of the first of them
 abbrev pub items_of_fit : ℕ → Fit Trees → Items
 items_of_fit n (fits ts) = record { number = n + 2; trees = ts }
 items_of_fit n misshapen = record { number = 0; trees = none }
@@ -30,12 +30,12 @@ items_of_fit n beyond = record { number = 0; trees = none }
 abbrev pub items_in : List ℕ → ℕ → Tree → Items
 items_in word n t = items_of_fit n (form_fit word t)
 
--- the same of the first of these items
+-- the same for the first of these items
 abbrev pub items_in_first : List ℕ → ℕ → Trees → Items
 items_in_first word n none = record { number = 0; trees = none }
 items_in_first word n (t ▸ ts) = items_in word n t
 
--- the items behind the first
+-- the items after the first
 abbrev pub behind_item : ℕ → Trees → Items
 behind_item n none = record { number = n; trees = none }
 behind_item n (t ▸ ts) = record { number = n + item_count t; trees = ts }
@@ -43,7 +43,7 @@ behind_item n (t ▸ ts) = record { number = n + item_count t; trees = ts }
 abbrev pub behind_first : Items → Items
 behind_first items = behind_item items.number items.trees
 
--- the items behind the lists at the beginning that begin with this word
+-- the items after the lists at the beginning that begin with this word
 abbrev pub behind_lists : List ℕ → ℕ → Trees → Items
 behind_lists word n none = record { number = n; trees = none }
 behind_lists word n (t ▸ ts) = if begins word t then behind_lists word (n + item_count t) ts else record { number = n; trees = t ▸ ts }
@@ -51,7 +51,7 @@ behind_lists word n (t ▸ ts) = if begins word t then behind_lists word (n + it
 abbrev pub behind_forms : List ℕ → Items → Items
 behind_forms word items = behind_lists word items.number items.trees
 
--- what stands behind the word in each of those lists
+-- what comes after the word in each of those lists
 abbrev pub before_others : Fit Trees → List Trees → List Trees
 before_others (fits ts) forms = ts ∷ forms
 before_others misshapen forms = []
@@ -61,7 +61,7 @@ abbrev pub forms_in : List ℕ → Trees → List Trees
 forms_in word none = []
 forms_in word (t ▸ ts) = before_others (form_fit word t) (forms_in word ts)
 
--- the same where the first item is taken for such a list, whatever it is
+-- the same if the first item is taken for such a list, whatever it is
 abbrev pub some_forms_in : List ℕ → Trees → List Trees
 some_forms_in word none = []
 some_forms_in word (t ▸ ts) = parts_in word t ∷ forms_in word ts
@@ -77,15 +77,15 @@ pub record Sections : Type 0 where
   pub invariant : Items
   pub bodies : Items
 
--- behind the arrays, in what stands behind the word `object`
+-- after the arrays, in what comes after the word `object`
 abbrev pub at_auxiliaries : Items → Items
 at_auxiliaries o = behind_forms (codes "array") (behind_first o)
 
--- behind the actions
+-- after the actions
 abbrev pub at_invariant : Items → Items
 at_invariant o = behind_forms (codes "action") (behind_first (at_auxiliaries o))
 
--- the sections of what stands behind the words `spec` and `object`
+-- the sections of what comes after the words `spec` and `object`
 abbrev pub sections_from : Items → Items → Sections
 sections_from s o = record {
   abstracts = behind_first s;

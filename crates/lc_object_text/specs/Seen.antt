@@ -25,12 +25,12 @@ sections_seen s = record {
 abbrev pub size : Cursor → ℕ
 size c = item_count_of_all (rest_of c)
 
--- the lists that begin with this word; where some are due the first item is taken for one
+-- the lists that begin with this word; if some are expected, the first item is taken for one
 abbrev pub forms_left : Bool → List ℕ → Trees → List Trees
 forms_left true word ts = some_forms_in word ts
 forms_left false word ts = forms_in word ts
 
--- the parts of the next such list, behind which the cursor stands; or there is none
+-- the parts of the next such list, with the cursor after it; or there is none
 abbrev pub IsNextForm : Bool → List ℕ → Cursor → Option Cursor → Cursor → Type 0
 IsNextForm some word old (Some parts) new = (forms_left some word (rest_of old) ≡ rest_of parts ∷ forms_in word (rest_of new)) × (size parts + size new < size old)
 IsNextForm some word old None new = forms_left some word (rest_of old) ≡ []

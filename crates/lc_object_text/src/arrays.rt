@@ -27,14 +27,14 @@ pub struct ArrayText {
     pub columns: Vec<Column>,
 }
 
-/// The columns of an array, behind as many others of an object.
+/// The columns of an array, after those of earlier arrays of an object.
 #[derive(Clone, Copy)]
 struct Columns<'a, 'b> {
     names: &'b NameTable<'a>,
     base: u32,
 }
 
-/// The name of a column, before which so many stand in its array.
+/// The name of a column, with `place` columns of its array before it.
 fn read_own_name(
     reader: &Columns<'_, '_>,
     place: u32,

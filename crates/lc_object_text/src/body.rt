@@ -65,7 +65,7 @@ fn read_locals(
     }
 }
 
-/// Whether an item names an operation that is not due.
+/// Whether an item names an operation other than the expected one.
 fn is_of_another(names: &NameTable<'_>, due: &str, part: Part<'_>) -> bool
     ensures { result ≡ is_of_another (listed names.now) due.now (tree_of part.entry) }
 {
@@ -111,7 +111,7 @@ pub fn read_body<B: ReadsBeside>(
     read_body_parts(alloc, reader, parts)
 }
 
-/// Reads the bodies of an object, each with its points and what stands beside their code.
+/// Reads the bodies of an object, each with its points and what is beside their code.
 #[derive(Drop)]
 pub struct Bodies<'a, 'b, 's, B> {
     pub declared: &'b Declared<'a>,

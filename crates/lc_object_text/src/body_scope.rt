@@ -17,7 +17,7 @@ pub struct InBody<'a, 'b> {
     pub body: &'b Body<'a>,
 }
 
-/// What the column at this place is to code, or of no place, where concrete ones stand between these places.
+/// What the column at this place, or a name without a place, is to code; the concrete columns are those from `first` up to `end`.
 fn column_use(first: u32, end: u32, is_system: bool, place: Option<usize>) -> ColumnUse
     ensures { result ≡ column_use first end is_system place }
 {

@@ -103,7 +103,7 @@ impl<S: CodeScope> Declares for Targets<'_, S> {
     }
 }
 
-/// `(r ..)`: so many locals, each once.
+/// `(r ..)`: as many locals as are expected, each once.
 pub(crate) fn read_targets<S: CodeScope>(
     alloc: Global,
     scope: &S,
@@ -124,7 +124,7 @@ pub(crate) fn read_targets<S: CodeScope>(
     }
 }
 
-/// `(T ..)`: so many terms.
+/// `(T ..)`: as many terms as are expected.
 pub(crate) fn read_values<S: Scope>(
     alloc: Global,
     scope: &S,
@@ -144,7 +144,7 @@ pub(crate) fn read_values<S: Scope>(
     }
 }
 
-/// `r T`: a local and its value, which are all that is left in a list.
+/// `r T`: a local and its value, which must be the whole rest of a list.
 fn read_assignment_parts<S: Scope + CodeScope>(
     alloc: Global,
     scope: &S,

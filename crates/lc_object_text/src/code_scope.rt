@@ -12,7 +12,7 @@ pub struct Row {
     pub width: u64,
 }
 
-/// How the names of an instruction are read where it stands, beside those of terms and columns.
+/// How the names of an instruction are read at its place, beside those of terms and columns.
 pub trait CodeScope {
     ghost use Rattle.lc_object_text.specs.CodeNames.{CodeNames};
 

@@ -1,4 +1,4 @@
-//! Whether as many parts are left in a list as are due.
+//! Whether as many parts are left in a list as are expected.
 ghost use Rattle.std.specs.Prelude.{◌≡◌};
 ghost use Rattle.lc_sexp.specs.Shown.{rest_of, number_of, owner_of};
 ghost use Rattle.lc_reading.specs.Readings.{Reading, ended};
@@ -8,7 +8,7 @@ ghost use Rattle.lc_object_text.specs.Counts.{ended_behind, count_reading};
 use lc_reading::{Pass, ReadFault, ended, next_part, wrong};
 use lc_sexp::Cursor;
 
-/// What is left of a list behind so many parts.
+/// The rest of a list after `parts` parts.
 fn behind(list: Cursor<'_>, parts: u64) -> Cursor<'_>
     ensures { (r : Reading (Unit {0})) → ended_behind parts (number_of list.entry) (rest_of list.entry) r ≡ ended (number_of result) (rest_of result) r }
 {
@@ -27,7 +27,7 @@ fn behind(list: Cursor<'_>, parts: u64) -> Cursor<'_>
     }
 }
 
-/// What is wrong where so many parts are due in what is left of a list, if it is known how many.
+/// What is wrong with the rest of a list if `due` parts are expected in it; nothing if their number is not known.
 pub fn read_count(due: Option<u64>, list: Cursor<'_>) -> Result<(), ReadFault>
     ensures { IsReading (λ u. u) (count_reading due (owner_of list.entry) (number_of list.entry) (rest_of list.entry)) result }
 {

@@ -43,7 +43,7 @@ pub struct Operations<'a> {
 /// What a body declares and is given.
 #[derive(Drop)]
 pub struct Body<'a> {
-    /// The name of the operation that is due.
+    /// The name of the expected operation.
     pub operation: &'a str,
     /// The number of its first point.
     pub first: u32,
@@ -72,7 +72,7 @@ impl Body<'_> {
         self.argument_names.len() as u32
     }
 
-    /// The place at which a name stands first among the arguments, and then the locals.
+    /// The place at which a name occurs first among the arguments, and then the locals.
     pub fn variable(&self, name: &str) -> Option<usize>
         ensures { result ≡ place_of (names_among (rest_of self.now.arguments) ++ listed self.now.locals) name.now }
     {

@@ -18,10 +18,10 @@ use lc_sexp::{Cursor, Misfit};
 use std::alloc::Global;
 use std::rc::Rc;
 
-/// So many variables an operation may have, the number of clients and the client not counted.
+/// How many variables an operation may have, the number of clients and the client not counted.
 const VARIABLE_LIMIT: usize = 4_294_967_293;
 
-/// A count of names, whose places have 32 bits. More than that stand in no file, and are answered by `OutOfMemory`.
+/// A count of names, whose places have 32 bits. No file has more; more are refused with `OutOfMemory`.
 fn short(count: usize) -> Result<u32, OutOfMemory>
     ensures { IfOk result (λ n. n ≡ count) }
 {
@@ -48,7 +48,7 @@ fn enter_columns<'a>(
     }
 }
 
-/// The names of columns and of arrays, and where the columns of each array stand.
+/// The names of columns and of arrays, and where the columns of each array are.
 #[derive(Drop)]
 struct Arrays<'a> {
     columns: NameTable<'a>,
@@ -81,7 +81,7 @@ fn enter_array<'a>(arrays: Arrays<'a>, parts: Cursor<'a>) -> Result<Arrays<'a>, 
     })
 }
 
-/// The arrays at the beginning of a list, whose columns come behind these.
+/// The arrays at the beginning of a list, whose columns come after these.
 fn read_arrays<'a>(
     alloc: Global,
     columns: NameTable<'a>,
@@ -105,7 +105,7 @@ fn read_arrays<'a>(
     }
 }
 
-/// The number of replies that stands next, if one does.
+/// The number of replies that comes next, if one does.
 pub(crate) fn reply_count(mut list: Cursor<'_>) -> Option<u64>
     ensures { result ≡ reply_count (rest_of list.entry) }
 {
@@ -193,7 +193,7 @@ fn operation_name<'a>(operations: &Operations<'a>, number: usize) -> &'a str
     }
 }
 
-/// The arguments of a call, and how many numbers it returns; where there is no call no arguments.
+/// The arguments of a call, and how many numbers it returns; if there is no call no arguments.
 fn call_parts<'a>(call: Option<&Call<'a>>) -> (Cursor<'a>, Option<u64>)
     ensures arguments { (call_found call.entry).arguments ≡ names_among (rest_of result.0) }
     ensures replies { (call_found call.entry).replies ≡ result.1 }
@@ -204,7 +204,7 @@ fn call_parts<'a>(call: Option<&Call<'a>>) -> (Cursor<'a>, Option<u64>)
     }
 }
 
-/// The names of the arguments of a call, in the table that it has already; where there is no call none.
+/// The names of the arguments of a call, in the table that it has already; if there is no call none.
 fn argument_names<'a>(
     alloc: Global,
     call: Option<&Call<'a>>,
@@ -280,7 +280,7 @@ struct Bodies<'a> {
     bodies: Vec<Body<'a>>,
 }
 
-/// So many bodies at the beginning of a list, or as many as there are.
+/// As many bodies at the beginning of a list as are expected, or as many as there are.
 fn read_bodies<'a>(
     alloc: Global,
     operations: &Operations<'a>,
@@ -308,7 +308,7 @@ fn read_bodies<'a>(
     Ok(Bodies { points, bodies })
 }
 
-/// How many bodies are due for so many operations.
+/// How many bodies are expected for `operations` operations.
 pub fn bodies_due(operations: usize) -> usize
     ensures { result ≡ N.bodies_due operations }
 {

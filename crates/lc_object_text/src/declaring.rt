@@ -1,4 +1,4 @@
-//! How the names are read that a file declares, each of which stands in its table already.
+//! How the names are read that a file declares, when each of them is in its table already.
 ghost use Rattle.std.specs.Prelude.{◌≡◌, ◌+◌, ◌++◌, ◌||◌, true, length, take, if◌then◌else◌};
 ghost use Rattle.std.specs.List.{list_any};
 ghost use Rattle.lc_base.specs.Limits.{local_limit};
@@ -26,7 +26,7 @@ use lc_reading::{
 use lc_sexp::{Atom, Cursor, Item};
 use std::alloc::Global;
 
-/// Whether a name stands among the first of these.
+/// Whether a name is among the first `count` of these.
 fn stands_before(names: &NameTable<'_>, count: u64, text: &str) -> bool
     ensures { result ≡ list_any (is text.now) (take count (listed names.now)) }
 {
@@ -36,7 +36,7 @@ fn stands_before(names: &NameTable<'_>, count: u64, text: &str) -> bool
     }
 }
 
-/// The name that an atom declares, which stands already among those before it or does not.
+/// The name that an atom declares, which is already among those before it or not.
 fn declared_name(name: Atom<'_>, is_repeated: bool) -> Result<Name, ReadFault>
     requires { is_name (text_of name) ≡ true }
     ensures { IsReading bytes_of (if is_reserved (text_of name.entry) || is_repeated then wrong Repeated (atom_number name.entry)
@@ -51,7 +51,7 @@ fn declared_name(name: Atom<'_>, is_repeated: bool) -> Result<Name, ReadFault>
     }
 }
 
-/// The name that an item declares, which is one of these, behind so many of them.
+/// The name that an item declares, which is one of these, after the first `place` of them.
 pub fn read_kth_name(names: &NameTable<'_>, place: u64, part: Part<'_>) -> Result<Name, ReadFault>
     ensures { IsReading bytes_of (kth_name_reading (listed names.now) place (place_of part.entry) (tree_of part.entry)) result }
 {
@@ -59,7 +59,7 @@ pub fn read_kth_name(names: &NameTable<'_>, place: u64, part: Part<'_>) -> Resul
     declared_name(name, stands_before(names, place, name.text()))
 }
 
-/// Names in a list, of which so many may stand there, behind as many others of these.
+/// Names in a list, at most `limit`, which come after `base` others of these.
 #[derive(Clone, Copy)]
 pub struct Names<'a, 'b> {
     pub limit: u64,
@@ -88,7 +88,7 @@ impl ReadsPlaced for Names<'_, '_> {
     }
 }
 
-/// The names in an item, where a list of these is due.
+/// The names in an item, where a list of these is expected.
 pub fn read_names(
     alloc: Global,
     reader: &Names<'_, '_>,
@@ -102,18 +102,18 @@ pub fn read_names(
     }
 }
 
-/// The locals of a body in a list, which stand behind the arguments of its operation.
+/// The locals of a body in a list; they come after the arguments of its operation.
 #[derive(Clone, Copy)]
 struct Locals<'a, 'b>(&'b Body<'a>);
 
-/// Whether a name stands among the arguments, or among the first of the locals.
+/// Whether a name is among the arguments, or among the first `count` of the locals.
 fn stands_before_local(body: &Body<'_>, count: u64, text: &str) -> bool
     ensures { result ≡ list_any (is text.now) (take (length (names_among (rest_of body.now.arguments)) + count) (names_among (rest_of body.now.arguments) ++ listed body.now.locals)) }
 {
     body.argument_names.contains(text) || stands_before(&body.locals, count, text)
 }
 
-/// The name that an item declares, which is one of the locals, behind so many of them.
+/// The name that an item declares, which is one of the locals, after the first `place` of them.
 fn read_local_name(body: &Body<'_>, place: u64, part: Part<'_>) -> Result<Name, ReadFault>
     ensures { IsReading bytes_of (kth_name_reading (names_among (rest_of body.now.arguments) ++ listed body.now.locals) (length (names_among (rest_of body.now.arguments)) + place)
         (place_of part.entry) (tree_of part.entry)) result }
@@ -146,7 +146,7 @@ impl ReadsPlaced for Locals<'_, '_> {
     }
 }
 
-/// The locals in an item, where a list of those of this body is due.
+/// The locals in an item, where a list of those of this body is expected.
 pub(crate) fn read_local_names(
     alloc: Global,
     body: &Body<'_>,
@@ -161,7 +161,7 @@ pub(crate) fn read_local_names(
     }
 }
 
-/// Lists whose first items name columns, behind as many others.
+/// Lists whose first items name columns, after those of earlier lists.
 #[derive(Clone, Copy)]
 pub(crate) struct ColumnNames<'a, 'b> {
     pub(crate) names: &'b NameTable<'a>,

@@ -111,9 +111,9 @@ fn read_file(alloc: Global, forms: Cursor<'_>) -> Result<Parts, ReadFault>
 /// auxiliary columns, and the locals, points and instructions of each body. Actions, `invariant`, `idle`, `assert` and
 /// `on` only have to be lists that begin with their word.
 ///
-/// Where they say no object, `Refused` has the first refusal: of `Shape`, `Unknown`, `Repeated`, `Auxiliary` and
-/// `Bound`, in this order, the first for which an item is wrong, with the least such item. `OutOfMemory` says nothing of
-/// the file.
+/// If they say no object, `Refused` has the first refusal: of `Shape`, `Unknown`, `Repeated`, `Auxiliary` and `Bound`,
+/// in this order, the first for which an item is wrong, with the least such item. `OutOfMemory` says nothing about the
+/// file.
 pub fn object_at(alloc: Global, forms: Cursor<'_>) -> Result<Object, Fault>
     requires start { number_of forms ≡ 0 }
     ensures { IsAnswerOf (rest_of forms.entry) result }

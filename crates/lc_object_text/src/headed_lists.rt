@@ -1,4 +1,4 @@
-//! Lists of which only the first word is looked at.
+//! Lists with only the first word looked at.
 ghost use Rattle.lc_reading.specs.Parts.{tree_of, place_of};
 ghost use Rattle.lc_reading.specs.Results.{IsReading};
 ghost use Rattle.lc_object_text.specs.Headed.{headed_reading};
@@ -10,7 +10,7 @@ use std::alloc::Global;
 #[derive(Clone, Copy)]
 pub(crate) struct Headed<'b>(pub(crate) &'b str);
 
-/// What is wrong in an item where a list that begins with a word is due.
+/// What is wrong in an item where a list that begins with a word is expected.
 pub(crate) fn read_headed(part: Part<'_>, word: &str) -> Result<(), ReadFault>
     ensures { IsReading (λ u. u) (headed_reading word.now (place_of part.entry) (tree_of part.entry)) result }
 {

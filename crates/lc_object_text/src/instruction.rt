@@ -357,7 +357,7 @@ fn read_if<'a, S: Scope + CodeScope>(
     Ok((made_if(alloc, condition, labels), rest))
 }
 
-/// The instruction that begins so, and what is left behind its parts.
+/// The instruction that begins so, and the rest after its parts.
 fn read_own<'a, S: Scope + CodeScope>(
     alloc: Global,
     scope: &S,

@@ -1,5 +1,5 @@
-//! The text of objects: how it is read, in one walk, as an object or its first refusal. The readings of its parts stand by
-//! themselves, so that other files read the same forms.
+//! The text of objects: how it is read, in one walk, as an object or its first refusal. The readings of its parts are
+//! public by themselves, so that other files read the same forms.
 #![tactic(auto)]
 
 mod arrays;

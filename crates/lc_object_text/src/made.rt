@@ -26,7 +26,7 @@ fn column_numbers(alloc: Global, first: u32, end: u32) -> Result<Vec<ColId>, Out
     Ok(columns)
 }
 
-/// The number behind so many others, from this one on.
+/// The number `count` after `first`.
 fn behind(first: u32, count: usize) -> Result<u32, OutOfMemory>
     ensures { IfOk result (λ end. end ≡ first + count) }
 {
@@ -39,7 +39,7 @@ fn behind(first: u32, count: usize) -> Result<u32, OutOfMemory>
     }
 }
 
-/// The arrays, the first of which begins at this column, and all their columns.
+/// The arrays, the first one beginning at this column, and all their columns.
 fn made_arrays(
     alloc: Global,
     first: u32,

@@ -1,4 +1,4 @@
-//! How a point is read, with what may stand beside its instruction.
+//! How a point is read, with what may be beside its instruction.
 ghost use Rattle.std.specs.Prelude.{◌+◌, ℕ, List, map};
 ghost use Rattle.lc_base.specs.Name.{bytes_of};
 ghost use Rattle.lc_sexp.specs.Shown.{rest_of, number_of, owner_of};
@@ -22,7 +22,7 @@ use lc_reading::{Part, Pass, ReadFault, behind_word, both, limited, next_part, r
 use lc_sexp::Cursor;
 use std::alloc::Global;
 
-/// A way to read a point with what stands beside its code.
+/// A way to read a point with what is beside its code.
 pub trait ReadsBeside {
     ghost use Rattle.lc_sexp.specs.Shown.{rest_of, number_of, owner_of};
     ghost use Rattle.lc_object.specs.Syntax as S;
@@ -43,8 +43,8 @@ pub trait ReadsBeside {
     /// What a point reads as, by what its name and its instruction read as.
     ghost reading: { Self → Beside Meaning };
 
-    /// The point of this name and instruction with what is left in its list behind them. The instruction's item, and
-    /// whether nothing is misshapen in it, tell which edges it has.
+    /// The point of this name and instruction with the rest of its list after them. The instruction's item, and
+    /// whether nothing is misshapen in it, determine which edges it has.
     fn read(
         &self,
         alloc: Global,
@@ -94,7 +94,7 @@ pub struct Points<'a, 'b, 's, B> {
     pub beside: &'s B,
 }
 
-/// The name of a point, before which so many stand in its body.
+/// The name of a point, with `place` points of its body before it.
 fn read_point_name(
     scope: InBody<'_, '_>,
     number: u64,
@@ -161,7 +161,7 @@ pub(crate) fn read_points<B: ReadsBeside>(
     read_placed(alloc, reader, list)
 }
 
-/// Of what stands beside the code of a point only the first words are looked at: `(assert ..) (on ..) ..`.
+/// Only the first words are looked at of what is beside the code of a point: `(assert ..) (on ..) ..`.
 #[derive(Clone, Copy)]
 pub struct CodeAlone;
 

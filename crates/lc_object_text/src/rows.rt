@@ -24,10 +24,10 @@ pub trait ReadsPlaced {
 
     ghost meaning: { Self.Value → Meaning };
 
-    /// What the item of this number reads as, before which so many stand.
+    /// What the item of this number reads as, by how many come before it.
     ghost reading: { Self → ℕ → ℕ → Tree → Reading Meaning };
 
-    /// The value that an item reads as, before which so many stand.
+    /// The value that an item reads as, with `place` items before it.
     fn read(&self, alloc: Global, place: u32, part: Part<'_>) -> Result<Self::Value, ReadFault>
         ensures { IsReading meaning (reading self.now place (place_of part.entry) (tree_of part.entry)) result };
 }
@@ -56,7 +56,7 @@ pub fn read_placed<R: ReadsPlaced>(
     }
 }
 
-/// The values that the lists read as that stand at the beginning of what is left and begin with a word, by their places.
+/// The values of the lists at the beginning of the rest that begin with a word, by their places.
 pub fn read_lists<R: ReadsPlaced>(
     alloc: Global,
     reader: &R,

@@ -8,7 +8,7 @@ ghost use Rattle.lc_object_text.specs.Seen.{items_of, sections_seen, size, IsNex
 use crate::sections::Sections;
 use lc_sexp::{Cursor, Item};
 
-/// The items of a list behind the first.
+/// The items of a list after the first.
 pub fn behind_first<'a>(list: Cursor<'a>) -> Cursor<'a>
     ensures items { items_of result ≡ behind_first (items_of list.entry) }
     ensures rest { rest_of result ≡ later (rest_of list.entry) }
@@ -19,7 +19,7 @@ pub fn behind_first<'a>(list: Cursor<'a>) -> Cursor<'a>
     rest
 }
 
-/// What stands behind the word in the next item, if that is a list that begins with this word.
+/// What comes after the word in the next item, if that is a list that begins with this word.
 pub fn items_in_first<'a>(mut list: Cursor<'a>, word: &str) -> Cursor<'a>
     ensures items { items_of result ≡ items_in_first word.now (number_of list.entry) (rest_of list.entry) }
     ensures rest { rest_of result ≡ parts_in_first word.now (rest_of list.entry) }
@@ -31,7 +31,7 @@ pub fn items_in_first<'a>(mut list: Cursor<'a>, word: &str) -> Cursor<'a>
     items
 }
 
-/// What stands behind the lists at the beginning that begin with a word.
+/// What comes after the lists at the beginning that begin with a word.
 fn behind_forms<'a>(list: Cursor<'a>, word: &str) -> Cursor<'a>
     ensures items { items_of result ≡ behind_forms word.now (items_of list.entry) }
     ensures size { size result ≤ size list.entry }
@@ -47,7 +47,7 @@ fn behind_forms<'a>(list: Cursor<'a>, word: &str) -> Cursor<'a>
     }
 }
 
-/// The sections of the file of these forms. Where one is missing nothing is left in it.
+/// The sections of the file of these forms. If one is missing nothing is left in it.
 pub fn find_sections<'a>(forms: Cursor<'a>) -> Sections<'a>
     ensures { sections_seen result ≡ sections_at (items_of forms.entry) }
 {
@@ -90,8 +90,8 @@ pub fn within_first<'a>(mut list: Cursor<'a>) -> Cursor<'a>
     items
 }
 
-/// The parts of the next list that begins with a word, behind the word. Where some are due the next item is taken for
-/// one, whatever it is.
+/// The parts of the next list that begins with a word, after the word. If some are expected, the next item is taken
+/// for one, whatever it is.
 pub fn next_form<'a>(list: &mut Cursor<'a>, word: &str, some: bool) -> Option<Cursor<'a>>
     ensures { IsNextForm some word.now list.old result list.new }
 {

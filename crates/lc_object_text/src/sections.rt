@@ -6,11 +6,11 @@ use lc_sexp::Cursor;
 pub struct Sections<'a> {
     pub abstracts: Cursor<'a>,
     pub operations: Cursor<'a>,
-    /// The object's name, and all behind it.
+    /// The object's name, and everything after it.
     pub object: Cursor<'a>,
     pub arrays: Cursor<'a>,
     pub auxiliaries: Cursor<'a>,
-    /// The invariant, and what stands behind it.
+    /// The invariant, and what comes after it.
     pub invariant: Cursor<'a>,
     pub bodies: Cursor<'a>,
 }

@@ -99,7 +99,7 @@ fn read_call_of(
     }
 }
 
-/// The name of an operation, before which so many stand.
+/// The name of an operation, with `place` operations before it.
 fn read_operation_name(
     declared: &Declared<'_>,
     place: u32,

@@ -30,7 +30,7 @@ pub struct Tables {
     pub auxiliaries: Vec<Name>,
 }
 
-/// The name of the object of this number, which stands next.
+/// The name of the object of this number, which comes next.
 pub fn read_object_name(alloc: Global, object: u64, mut list: Cursor<'_>) -> Result<Name, ReadFault>
     ensures { IsReading bytes_of (first_reading (name_reading None []) object (number_of list.entry) (rest_of list.entry)) result }
 {
@@ -54,7 +54,7 @@ fn read_arrays(
     both(name, arrays)
 }
 
-/// `(invariant ..) (idle ..)` of the object of this number, of which only the first words are looked at.
+/// `(invariant ..) (idle ..)` of the object of this number, with only the first words looked at.
 fn read_conditions(object: u64, mut list: Cursor<'_>) -> Result<(), ReadFault>
     ensures { IsReading (λ u. u) (conditions_reading object (number_of list.entry) (rest_of list.entry)) result }
 {
@@ -70,7 +70,7 @@ fn read_conditions(object: u64, mut list: Cursor<'_>) -> Result<(), ReadFault>
     }
 }
 
-/// The names of the auxiliary columns, `(aux (NAME ..) ..)`, which stand next.
+/// The names of the auxiliary columns, `(aux (NAME ..) ..)`, which come next.
 fn read_auxiliary_names(
     alloc: Global,
     declared: &Declared<'_>,
@@ -89,7 +89,7 @@ fn read_auxiliary_names(
     }
 }
 
-/// The names of the auxiliary columns, and what stands between them and the bodies.
+/// The names of the auxiliary columns, and what is between them and the bodies.
 fn read_auxiliaries(
     alloc: Global,
     declared: &Declared<'_>,

@@ -2,7 +2,7 @@
 ghost use Rattle.std.specs.Prelude.{◌≡◌};
 ghost use Rattle.lc_object_text.specs.Heads.{head_of};
 
-/// What the first word of an instruction says, where it is any but `return`.
+/// What the first word of an instruction says, if it is any but `return`.
 #[derive(Clone, Copy)]
 pub(crate) enum Head {
     Load,

@@ -91,7 +91,7 @@ impl Roster {
     ghost use Rattle.std.specs.Prelude.{◌≡◌, ◌<◌, ◌++◌, ℕ, ◌==◌, ◌&&◌, not, [], ◌∷◌, cond, Some, OnOk, IfOk, length};
     ghost use Rattle.lc_order.specs.Rosters.{IsRoster, line_of, calls_of, returns_of};
 
-    // A line without calls for a client that has none. Answers its place.
+    // A line without calls for a client that has none. Returns its place.
     fn add_line(&mut self, alloc: Global, client: u32) -> Result<usize, OutOfMemory>
         requires roster { IsRoster self.old }
         requires none { line_of self.old client ≡ None }

@@ -18,7 +18,7 @@ use Rattle.lc_outline.proofs.PathTotal.{paths_total}
 few : (k limit : ℕ) → nat_le k limit ≡ true → k ≤ limit
 few k limit e = grind (arith, nat_tests)
 
--- the riders at an edge, where each `on` of its point is within the limits
+-- the riders at an edge, if each `on` of its point is within the limits
 riders_few : (operations : List Operation) (o : ℕ) (xs : List On) (kind : EdgeKind) → list_all (on_is_limited operations o) xs ≡ true → riders_are_limited operations o (riders_in (on_for xs kind)) ≡ true
 riders_few operations o [] kind h = refl
 riders_few operations o (x ∷ xs) kind h =

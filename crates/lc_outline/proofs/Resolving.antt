@@ -225,7 +225,7 @@ resolved D h =
       ons = λ e i. among (λ (x : Edge). IsOnResolved D (operation_at D.object x.point) x (on_at D x.point x.kind)) (edge_is_resolved D) (λ x. on D (operation_at D.object x.point) x (on_at D x.point x.kind)) (edges D.object) whole.edges e i;
     }
 
--- and speaks of what is in scope
+-- and uses only what is in scope
 pub all_scoped : (D : Development) → is_resolved D ≡ true → AreScoped D
 all_scoped D h =
     let whole = all D h in

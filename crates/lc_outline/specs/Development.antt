@@ -53,7 +53,7 @@ start_numbers D =
     map (λ (c : Q.Column). (c.slope, c.start)) D.specification.columns
     ++ (map (λ (c : O.Column). (c.slope, c.start)) D.object.concretes ++ map (λ (c : Q.Column). (c.slope, c.start)) D.auxiliaries)
 
--- nothing is written; system columns stand at 0
+-- nothing is written; system columns are 0
 abbrev pub start_columns : Development → State
 start_columns D = initial_state (start_numbers D)
 
@@ -101,7 +101,7 @@ abbrev pub in_operation : {A : Type 0} → (ℕ → O.Operation → List A) → 
 in_operation f o None = []
 in_operation f o (Some operation) = f o operation
 
--- what is made of the operation in whose body this point stands
+-- what is made of the operation whose body this point is in
 abbrev pub in_body : {A : Type 0} → Object → (ℕ → O.Operation → List A) → Option Point → List A
 in_body object f None = []
 in_body object f (Some p) = in_operation f p.operation (slice_get object.operations p.operation)

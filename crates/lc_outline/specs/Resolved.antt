@@ -114,7 +114,7 @@ condition_is_resolved (Some f) = is_ground f
 abbrev pub rider_is_resolved : Development → ℕ → Rider → Bool
 rider_is_resolved D o r = condition_is_resolved r.condition && deed_is_resolved D o r.deed
 
--- there is an action, and it has so many parameters
+-- there is an action, and it has n parameters
 abbrev pub takes : Option Action → ℕ → Bool
 takes None n = false
 takes (Some a) n = n == length a.parameters
@@ -136,7 +136,7 @@ code_is_resolved D =
     is_object D.object && list_all (operation_is_resolved (length D.specification.columns)) D.specification.operations
     && length D.object.abstracts == length D.specification.columns && are_matched D.object.operations D.specification.operations
 
--- what stands beside the code, but for the actions, speaks of what is in scope
+-- the riders, assertions and invariant, but not the actions, use only what is in scope
 abbrev pub sides_are_scoped : Development → Bool
 sides_are_scoped D =
     list_all (is_scoped (column_total D) 1) (invariant_of D) && list_all (is_scoped (column_total D) 2) D.idle

@@ -1,4 +1,4 @@
--- Scope: the columns and variables that the terms and formulas of a development may speak of.
+-- Scope: the columns and variables that the terms and formulas of a development may use.
 use Rattle.std.specs.Prelude.{◌≡◌, ℕ, ◌+◌, ◌<◌, Bool, true, false, ◌&&◌, nat_lt, List, [], ◌∷◌, Option, Some, None, length, slice_get}
 use Rattle.std.specs.List.{list_all}
 use Rattle.lc_term.specs.Lists.{Every}
@@ -15,15 +15,15 @@ use Rattle.lc_rider.specs.Rider.{Marking, Own, Other, Note, Deed, Assign, Marks,
 use Rattle.lc_action.specs.Action.{Action}
 use Rattle.lc_outline.specs.Development.{Development, On, Outline, first_system, invariant_of}
 
--- where so many columns and variables are in scope, and n quantifiers stand round: those, and the variables of these quantifiers
+-- with these numbers of columns and variables in scope, and n quantifiers around: those, and the variables of these quantifiers
 abbrev pub scope : ℕ → ℕ → ℕ → Test
 scope columns variables n = record { columns = λ c. nat_lt c columns; variables = λ k. nat_lt k variables; bounds = λ k. nat_lt k n }
 
--- a formula speaks of what is in scope
+-- a formula uses only what is in scope
 abbrev pub is_scoped : ℕ → ℕ → Formula → Bool
 is_scoped columns variables f = passes (scope columns variables) 0 f
 
--- so does a term, which stands below no quantifier
+-- so does a term, with no quantifier around it
 abbrev pub term_is_scoped : ℕ → ℕ → Term → Bool
 term_is_scoped columns variables t = term_passes (known columns variables) t
 
@@ -57,7 +57,7 @@ module _ (columns variables : ℕ) where
   abbrev pub IsRiderScoped : Rider → Type 0
   IsRiderScoped r = IsConditionScoped r.condition × IsDeedScoped r.deed
 
-  -- what stands at an edge
+  -- what is at an edge uses only what is in scope
   pub record IsOnScoped (x : On) : Type 0 where
     pub arguments : Every IsTermScoped x.arguments
     pub riders : Every IsRiderScoped x.riders
@@ -76,8 +76,8 @@ pub record IsActionScoped (columns : ℕ) (a : Action) : Type 0 where
 abbrev pub column_total : Development → ℕ
 column_total D = column_count (first_system D)
 
--- Every term and formula beside the code speaks of columns and variables that there are: the invariant of the number of clients, what
--- holds of an idle client also of that client, and what stands at a point of the variables of its operation
+-- Every term and formula beside the code uses only columns and variables that exist: the invariant the number of clients, what
+-- holds of an idle client also that client, and what is at a point the variables of its operation
 pub record AreScoped (D : Development) : Type 0 where
   pub invariant : Every (IsScoped (column_total D) 1) (invariant_of D)
   pub idle : Every (IsScoped (column_total D) 2) D.idle
@@ -122,7 +122,7 @@ abbrev pub variables_at : O.Object → Option O.Operation → ℕ
 variables_at object None = 0
 variables_at object (Some o) = variable_count o
 
--- there is one outline for each of these points, which speaks of the variables of the point's operation
+-- there is one outline for each of these points, which uses the variables of the point's operation
 abbrev pub outlines_are_scoped : Development → List O.Point → List Outline → Bool
 outlines_are_scoped D [] [] = true
 outlines_are_scoped D (point ∷ points) (x ∷ xs) =

@@ -18,7 +18,7 @@ use Rattle.lc_outline.specs.Development.{Development, On, first_system, invarian
 abbrev pub columns_of : List Update → List ℕ
 columns_of us = map (λ (u : Update). u.column) us
 
--- whether a number stands there
+-- whether a number is in the list
 abbrev pub stands : ℕ → List ℕ → Bool
 stands c cs = list_any (λ k. k == c) cs
 
@@ -62,7 +62,7 @@ rider_ways D o r = ways_where r.condition (deed_ways D o r.deed)
 
 -- ---- edges
 
--- how many conditions are asked behind each path, the columns in which the edge itself stores, the ways past each of its riders,
+-- how many conditions are asked after each path, the columns in which the edge itself stores, the ways past each of its riders,
 -- and the columns in which its action stores
 pub record EdgeSize : Type 0 where
   pub asked : ℕ
@@ -76,7 +76,7 @@ abbrev pub instance_count : Option (List ℕ) → List ℕ → ℕ
 instance_count None columns = 0
 instance_count (Some stored) columns = suc (different (columns ++ stored))
 
--- those of the paths that pass these riders, where so many conditions are asked and these columns stored in before
+-- those of the paths that pass these riders, with `asked` conditions asked and these columns stored in before
 abbrev pub way_count : Option (List ℕ) → List (List Way) → ℕ → List ℕ → ℕ
 way_count action [] asked columns = asked + instance_count action columns
 way_count action (ways ∷ riders) asked columns = sum_by (λ (way : Way). way_count action riders (asked + way.asked) (columns ++ way.columns)) ways

@@ -10,7 +10,7 @@ use lc_tie::Tie;
 #[derive(Clone, Copy)]
 pub struct ActionId(pub u32);
 
-/// What stands at an edge of an instruction: the action that its step is, with arguments, and what is done beside it.
+/// What an edge of an instruction has: the action that its step is, with arguments, and what is done beside it.
 #[derive(Drop)]
 pub struct On {
     pub edge: EdgeKind,
@@ -20,7 +20,7 @@ pub struct On {
     pub riders: Vec<Rider>,
 }
 
-/// What stands at a point beside its instruction: the assertions, and what is at its edges, as the file lists them.
+/// What a point has beside its instruction: the assertions, and what is at its edges, as the file lists them.
 #[derive(Drop)]
 pub struct Outline {
     pub asserts: Vec<Formula>,
@@ -36,7 +36,7 @@ pub struct Parts {
     pub auxiliaries: Vec<Column>,
     /// By their numbers.
     pub actions: Vec<Action>,
-    /// The invariant, and what stands at first in the columns that are declared.
+    /// The invariant, and what the declared columns hold at first.
     pub tie: Tie,
     /// What holds of a client that has no call.
     pub idle: Vec<Formula>,

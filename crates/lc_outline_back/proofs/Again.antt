@@ -1,4 +1,4 @@
--- Lists of what reads again behind a word; conjuncts and actions.
+-- Lists after a word that read back as printed; conjuncts and actions.
 use Rattle.std.proofs.Common.{◌≡◌, ℕ, ◌+◌, ◌≤◌, Bool, true, false, cond, List, map, refl, sym, ap, ◌∙◌, subst, arith}
 use Rattle.lc_sexp.specs.Trees.{Tree, Trees, atom, list, none, ◌▸◌, item_count, row}
 use Rattle.lc_reading.proofs.Fine.{IfFine, weaker}
@@ -15,7 +15,7 @@ pub with_reading : {X : Type 0} (P : X → Type 0) (r : Reading X) → IfFine r 
 with_reading P (fine x) h = (h, refl)
 with_reading P (flawed f) h = tt
 
--- ---- what stands in a list behind a word
+-- ---- what is in a list after a word
 
 module _ {X : Type 0} (tree : X → Tree) (read : ℕ → Tree → Reading X) (word : List ℕ) where
   pub record FormAgain (n : ℕ) (t : Tree) (xs : List X) : Type 0 where
@@ -37,7 +37,7 @@ module _ {X : Type 0} (tree : X → Tree) (read : ℕ → Tree → Reading X) (w
   form_again h n (list (list us ▸ ts)) small = tt
   form_again h n (list (atom w ▸ ts)) small = form_at n w ts (is w word) refl (each_again tree read h (n + 2) ts (omega arith))
 
-  -- the same behind the word again
+  -- the same after the word again
   pub form_reads : is word word ≡ true → (n : ℕ) (t : Tree) (xs : List X) → FormAgain n t xs → behind_reading word (λ n. each_reading read) n (list (atom word ▸ row (map tree xs))) ≡ fine xs
   form_reads own n t xs a = ap (λ b. cond b (each_reading read (n + 2) (row (map tree xs))) (wrong Shape n)) own ∙ a.again.reads
 

@@ -98,7 +98,7 @@ as_many (t ▸ ts) (u ▸ us) h = ap suc (as_many ts us h.1)
 as_many none (u ▸ us) h = absurd h
 as_many (t ▸ ts) none h = absurd h
 
--- ---- what is read of parts behind which none is left
+-- ---- what is read of parts, with none left after them
 
 pub flawed_fine : {X : Type 0} (Q : X → Type 0) (f : Flaw) (r : Reading X) → IfFine (flawed_too f r) Q
 flawed_fine Q f (fine x) = tt

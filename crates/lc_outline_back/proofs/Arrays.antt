@@ -114,7 +114,7 @@ pub array_names_are : (k : ℕ) (arrays : List ArrayText) → map first_text (pa
 array_names_are k [] = refl
 array_names_are k (a ∷ arrays) = ap (λ ws. a.name ∷ ws) (array_names_are (k + length a.columns) arrays)
 
--- what has a name stands at its place
+-- what has a name is at the name's place
 module _ {X : Type 0} (name : X → List ℕ) (named : Option X → List ℕ) (is_name : (x : X) → named (Some x) ≡ name x) where
   pub at_own : (xs ys : List X) (w : List ℕ) (k : ℕ) → place_of (map name xs) w ≡ Some k → named (slice_get (xs ++ ys) k) ≡ w
   at_own [] ys w k e = absurd (cc)

@@ -59,7 +59,7 @@ module _ (word : List ℕ) (R : Trees → Trees → Type 0) where
       subst (λ xs. PairsOf R xs (some_forms_in word us)) (sym (some_forms word ts (first_forms ts us h)))
       (subst (PairsOf R (parts_of_all word ts)) (sym (some_forms word us (second_forms ts us h))) (pairs_of ts us h))
 
--- what is told of each
+-- what is the same for each
 pub same_of_each : {X : Type 0} (R : Trees → Trees → Type 0) (f : Trees → X) → ((ts us : Trees) → R ts us → f ts ≡ f us) → (xs ys : List Trees) → PairsOf R xs ys → map f xs ≡ map f ys
 same_of_each R f k [] [] h = refl
 same_of_each R f k (ts ∷ xs) (us ∷ ys) h = ap₂ (λ x xs. x ∷ xs) (k ts us h.0) (same_of_each R f k xs ys h.1)
@@ -98,7 +98,7 @@ same_bodies names calls k p (suc n) (t ▸ ts) (u ▸ us) h =
 same_bodies names calls k p (suc n) none (u ▸ us) h = absurd h
 same_bodies names calls k p (suc n) (t ▸ ts) none h = absurd h
 
--- ---- conditions, where actions differ in their guards alone
+-- ---- conditions, if actions differ in their guards alone
 
 abbrev pub with_actions : Declarations → List Trees → Declarations
 with_actions d forms = record { declared = d.declared; actions = forms; operations = d.operations }

@@ -1,4 +1,4 @@
--- What stands in the heads of operations, points and bodies that are read.
+-- What the heads of operations, points and bodies have that are read.
 use Rattle.std.proofs.Common.{◌≡◌, ℕ, ◌+◌, Bool, true, false, ◌||◌, cond, List, [], ◌∷◌, ◌++◌, length, Option, Some, None, map, refl, sym, ap, ap₂, ◌∙◌}
 use Rattle.std.specs.List.{list_any}
 use Rattle.std.specs.Prelude.{codes, nat_le, nat_lt, slice_get, take}
@@ -63,7 +63,7 @@ neither : (a b : Bool) → (a || b) ≡ false → b ≡ false
 neither true b e = absurd (cc)
 neither false b e = e
 
--- a name that is declared stands not before
+-- a name that is declared does not occur before
 new_name : (before : List (List ℕ)) (n : ℕ) (w : List ℕ) → IfFine (declaration_reading None before n (atom w)) (λ u. list_any (is w) before ≡ false)
 new_name before n w =
     cond_fine (λ u. list_any (is w) before ≡ false) (is_name w) _ (wrong Shape n) (at (is_reserved w || list_any (is w) before) refl) tt
@@ -102,7 +102,7 @@ IsOperation d i t s = HasParts (IsSigned d i) (codes "op") (signature_parts d i)
 abbrev pub AreSigned : Declared → Trees → List Signature → Type 0
 AreSigned d ts ss = Each (IsOperation d) 0 ts ss
 
--- the operations of a specification, of which there is one at least
+-- the operations of a specification, at least one
 pub record HasOperations (d : Declared) (ts : Trees) (ss : List Signature) : Type 0 where
   pub signed : AreSigned d ts ss
   pub some : (ts ≡ none) → ⊥
@@ -233,7 +233,7 @@ due_read d i (Some b) e n t =
     (λ x h. record { body = b; due = e; parts = h.0; form = h.1; head = h.2 })
     (has_parts (BodyHead b.operation i) (codes "body") read (body_heads d.declared b (known_of d) (names_in d b) (own_ways d i) i) n t)
 
--- as many bodies as are due at least, each at its place
+-- at least as many bodies as are expected, each at its place
 pub record AreTexts (d : Declarations) (ts : Trees) (xs : List (BodyText (Point × Outline))) : Type 0 where
   pub each : Each (IsText d) 0 ts xs
   pub enough : nat_lt (tree_count ts) (bodies_due (length d.declared.operations)) ≡ false

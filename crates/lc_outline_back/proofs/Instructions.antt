@@ -110,7 +110,7 @@ module _ (names : Names) (code : CodeNames) (by : Spelled) (object : Object) (al
       weaker (IsRow cell_tree ts) (λ cells. list (assigned cells) ≡ list ts) (declared_reading (assignment_reading names code) first_name [] (n + 1) ts) (λ cells e. ap list (cells_are cells ∙ e))
       (declared_row cell_tree (assignment_reading names code) first_name assignment_stood [] (n + 1) ts)
 
-  -- ---- what stands behind a word
+  -- ---- what comes after a word
 
   abbrev IsPlace : Tree → Tree → ℕ × Term → Type 0
   IsPlace t u p = (atom (array_name object p.0) ≡ t) × (term_tree by 0 p.1 ≡ u)
@@ -221,7 +221,7 @@ module _ (names : Names) (code : CodeNames) (by : Spelled) (object : Object) (al
       (both_fine (λ x. formula_tree by 0 x ≡ f) (AreLabels l k) (IsAs (codes "if") (f ▸ l ▸ k ▸ none)) if_of _ _ (formula_stood names by all.spelled all.plain m f) (labels_stood (m + item_count f) l (m + item_count f + item_count l) k)
       (λ p q x y. ap (λ ts. list (atom (codes "if") ▸ ts)) (both_trees _ _ _ _ x (both_trees _ _ _ _ y.0 (both_trees _ _ _ _ y.1 refl)))))
 
-  -- behind this word, which is that one
+  -- after this word, which is that one
   as_word : (c w : List ℕ) (ts : Trees) (r : Reading Instr) → is w c ≡ true → IfFine r (IsAs c ts) → IfFine r (IsAs w ts)
   as_word c w ts r e h = subst (λ w. IfFine r (IsAs w ts)) (sym (is-true w c e)) h
 

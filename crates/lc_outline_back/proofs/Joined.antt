@@ -111,7 +111,7 @@ placed_at_seam (v ∷ before) behind w new =
     ap (λ b. cond b (Some 0) (option_map suc (place_of (before ++ w ∷ behind) w))) (or_parts (is w v) (list_any (is w) before) new).0
     ∙ ap (option_map suc) (placed_at_seam before behind w (or_parts (is w v) (list_any (is w) before) new).1)
 
--- that of the operation that it names, which stands at the body's own place
+-- that of the operation that it names, which is at the body's own place
 call_due : (names before behind : List (List ℕ)) (calls calls_before calls_behind : List Call) (k : ℕ) (w v : List ℕ) (call : Call) → names ≡ before ++ w ∷ behind → calls ≡ calls_before ++ call ∷ calls_behind
     → length before ≡ k → length calls_before ≡ k → list_any (is w) (take k names) ≡ false → v ≡ w → call_at calls (place_of names v) ≡ call
 call_due names before behind calls calls_before calls_behind k w v call e f long long_too new same =

@@ -1,4 +1,4 @@
--- What is printed of what is read: trees of the same shape that say the same of what is declared, and read as the same.
+-- What is printed of what is read: trees of the same shape that say the same about what is declared, and read as the same.
 use Rattle.std.proofs.Common.{◌≡◌, ℕ, ◌+◌, ◌≤◌, Bool, true, false, cond, List, [], ◌∷◌, map, refl, sym, ap, ap₂, ◌∙◌, subst, arith}
 use Rattle.lc_sexp.specs.Trees.{Tree, Trees, atom, list, none, ◌▸◌, item_count, item_count_of_all, row}
 use Rattle.lc_reading.proofs.Fine.{IfFine, both_fine, weaker}
@@ -18,7 +18,7 @@ Pairwise K (t ▸ ts) (u ▸ us) = K t u × Pairwise K ts us
 Pairwise K none (u ▸ us) = ⊥
 Pairwise K (t ▸ ts) none = ⊥
 
--- two lists behind a word
+-- two lists after a word
 pub record AreBehind (word : List ℕ) (R : Trees → Trees → Type 0) (t u : Tree) : Type 0 where
   pub first : Trees
   pub second : Trees
@@ -32,7 +32,7 @@ pub record Again {X : Type 0} (K : Tree → Tree → Type 0) (read : Tree → Re
   pub kin : K t u
   pub reads : read t ≡ fine x
 
--- the same of trees in a row
+-- the same for trees in a row
 pub record AllAgain {X : Type 0} (K : Trees → Trees → Type 0) (read : Trees → Reading X) (ts us : Trees) (x : X) : Type 0 where
   pub alike : AllAlike Readable ts us
   pub kin : K ts us
@@ -61,7 +61,7 @@ limited_again N K beyond n read tree u h =
       reads = ap (λ b. limited b n (read (tree x))) p.1 ∙ (p.0 named).reads;
     }) (limited_at (λ x. N x → Again K read (tree x) u x) beyond n (read u) h)
 
--- ---- behind a word
+-- ---- after a word
 
 module _ {X : Type 0} (N : X → Type 0) (R : Trees → Trees → Type 0) (word : List ℕ) (read : ℕ → ℕ → Trees → Reading X) (parts : X → Trees) where
   abbrev IsBehind : ℕ → Tree → X → Type 0
@@ -88,10 +88,10 @@ module _ {X : Type 0} (N : X → Type 0) (R : Trees → Trees → Type 0) (word 
   behind_again h n (list (list us ▸ ts)) small = tt
   behind_again h n (list (atom w ▸ ts)) small = behind_at n w ts (is w word) refl (h n (n + 2) ts (omega (arith, small)))
 
--- ---- rows, each item of which has a place
+-- ---- rows, each item with a place
 
 module _ {X : Type 0} (tree : ℕ → X → Tree) where
-  -- what is printed of these, the first of which is the i-th
+  -- what is printed of these, from the i-th on
   abbrev pub placed_trees : ℕ → List X → Trees
   placed_trees i [] = none
   placed_trees i (x ∷ xs) = tree i x ▸ placed_trees (i + 1) xs

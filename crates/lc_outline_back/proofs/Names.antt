@@ -30,7 +30,7 @@ names_stood limit names base n (list ts) =
     weaker (IsRow atom ts) (λ ws. list (name_trees ws) ≡ list ts) (placed_reading (listed_name_reading limit names base) 0 (n + 1) ts) (λ ws e. ap list e)
     (placed_row atom (listed_name_reading limit names base) (listed_stood limit names base) 0 (n + 1) ts)
 
--- ---- the name that is due
+-- ---- the expected name
 
 placed_any : (names : List (List ℕ)) (w : List ℕ) (k : ℕ) → place_of names w ≡ Some k → list_any (is w) names ≡ true
 placed_any [] w k e = absurd (cc)

@@ -66,7 +66,7 @@ point_with object actions by q = list (atom (codes "point") ▸ point_parts_of o
 abbrev pub body_parts_of : Object → List Action → Spelled → List ℕ → BodyText (Point × Outline) → Trees
 body_parts_of object actions by operation x = atom operation ▸ list (name_trees x.locals) ▸ row (map (point_with object actions by) x.points)
 
--- of the parts of two points all is the same but their assertions, of which there are as many
+-- all parts of two points are the same but their assertions, and of these there are as many
 abbrev pub SamePoint : Trees → Trees → Type 0
 SamePoint ts us =
     (first_text ts ≡ first_text us) × (within_first (later ts) ≡ within_first (later us)) × (assert_count ts ≡ assert_count us) × (later (later (later ts)) ≡ later (later (later us)))
@@ -74,12 +74,12 @@ SamePoint ts us =
 abbrev pub ArePoints : Trees → Trees → Type 0
 ArePoints ts us = Pairwise (AreBehind (codes "point") SamePoint) ts us
 
--- the same of the parts of bodies
+-- the same for the parts of bodies
 abbrev pub SameBody : Trees → Trees → Type 0
 SameBody ts us = (first_text ts ≡ first_text us) × (within_first (later ts) ≡ within_first (later us)) × ArePoints (later (later ts)) (later (later us))
 
 module _ (known : Known) (names : Names) (by : Spelled) (object : Object) (actions : List Action) (all : AreKnown known names by object actions) (free : AreUnbound names) where
-  -- ---- what stands beside the code
+  -- ---- what is beside the code
 
   abbrev IsAssert : ℕ → Tree → List Formula → Type 0
   IsAssert i t fs = FormAgain (formula_tree by 0) (formula_reading names []) (codes "assert") i t fs
@@ -268,7 +268,7 @@ pub record IsNamed (d : Declarations) (columns : List (List ℕ)) (object : Obje
   pub free : AreUnbound (names_in d b)
 
 module _ (d : Declarations) (columns : List (List ℕ)) (object : Object) (actions : List Action) where
-  -- the body that is due
+  -- the expected body
   abbrev pub due_tree : Option Body → BodyText (Point × Outline) → Tree
   due_tree None x = list none
   due_tree (Some b) x = list (atom (codes "body") ▸ body_parts_of object actions (spelled_in columns b) b.operation x)

@@ -461,7 +461,7 @@ module _ (x : File) (formed : IsFormed x) (v : Values) (are : AreValues (declare
       ap (λ m. formulas_in_reading (codes "idle") idle_names m (idle_tree D)) idle_place
       ∙ form_reads (formula_tree idle_by 0) (formula_reading idle_names []) (codes "idle") (same_word (codes "idle")) (idle_at x) x.idle v.idle idle_again
 
-  -- bodies, where what stands beside the code sees these names
+  -- bodies, where the riders beside the code see these names
   abbrev due_by : Known → Option Body → ℕ → ℕ → Tree → Reading (BodyText (O.Point × Outline))
   due_by known None o n t = wrong Shape n
   due_by known (Some b) o n t = body_reading d.declared b (beside known (names_in d b) (own_ways d o)) o n t

@@ -73,7 +73,7 @@ quiet_spelled names by spelled = record { variables = spelled.variables; columns
 -- ---- updates
 
 module _ (known : Known) (names : Names) (by : Spelled) (spelled : IsSpelledSo names by) (columns : (w : List ℕ) (k : ℕ) → column_place known.columns w ≡ Some k → by.column k ≡ w) where
-  -- the same readings, where the columns that may be stored in are told by a test
+  -- the same readings, with the columns that may be stored in given by a test
   abbrev stored_by : (ℕ → Bool) → ℕ → List ℕ → Option ℕ → Reading ℕ
   stored_by usable n w (Some k) = if usable k then within n w k else wrong Shape n
   stored_by usable n w None = wrong Unknown n

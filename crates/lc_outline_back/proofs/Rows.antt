@@ -93,7 +93,7 @@ pub declared_names : (ws : List (List ℕ)) → all_declared declared_by (row (m
 declared_names [] = refl
 declared_names (w ∷ ws) = ap (λ vs. w ∷ vs) (declared_names ws)
 
--- a name stands at its first place
+-- a name is at its first place
 first_place : (v w : List ℕ) (vs ys : List (List ℕ)) (k : ℕ) (b : Bool) (o : Option ℕ) → is w v ≡ b → ((j : ℕ) → o ≡ Some j → slice_index_or (vs ++ ys) j [] ≡ w)
     → cond b (Some 0) (option_map suc o) ≡ Some k → slice_index_or (v ∷ vs ++ ys) k [] ≡ w
 first_place v w vs ys k true o same later e = let here : 0 ≡ k = cc in subst (λ i. slice_index_or (v ∷ vs ++ ys) i [] ≡ w) here (sym (is-true w v same))
@@ -105,7 +105,7 @@ pub at_place : (xs ys : List (List ℕ)) (w : List ℕ) (k : ℕ) → place_of x
 at_place [] ys w k e = absurd (cc)
 at_place (v ∷ vs) ys w k e = first_place v w vs ys k (is w v) (place_of vs w) refl (λ j is. at_place vs ys w j is) e
 
--- the same behind others
+-- the same after others
 pub behind_place : (xs ys : List (List ℕ)) (w : List ℕ) (k : ℕ) → place_of ys w ≡ Some k → slice_index_or (xs ++ ys) (length xs + k) [] ≡ w
 behind_place [] ys w k e =
     let here : 0 + k ≡ k = omega arith in

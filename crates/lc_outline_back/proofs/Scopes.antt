@@ -15,7 +15,7 @@ use Rattle.lc_outline_back.specs.ReadsBack.{HaveNoBinder}
 use Rattle.lc_outline_back.specs.Spellings.{IsSpelledSo, AreUnbound}
 use Rattle.lc_outline_back.proofs.Rows.{at_place, behind_place}
 
--- a name stands at its place
+-- a name is at its place
 pub placed_name : (names : List (List ℕ)) (w : List ℕ) (k : ℕ) → place_of names w ≡ Some k → slice_index_or names k [] ≡ w
 placed_name names w k e = ap (λ l. slice_index_or l k []) (sym (append-nil names)) ∙ at_place names [] w k e
 

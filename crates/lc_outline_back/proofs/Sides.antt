@@ -71,7 +71,7 @@ heading_stood known i m t n u =
 
 module _ (known : Known) (names : Names) (by : Spelled) (spelled : IsSpelledSo names by) (free : AreUnbound names)
     (updates : (n : ℕ) (t : Tree) → IfFine (listed_update_reading known names n t) (λ u. update_tree by u ≡ t)) where
-  -- F UPDATE*, where the updates are printed as they stood
+  -- F UPDATE*, if the updates are printed as they stood
   abbrev pub EffectAgain : ℕ → Tree → ℕ → Trees → Formula × List Update → Type 0
   EffectAgain m f n us p =
       Alike Readable (formula_tree by 0 p.0) f × (update_trees by p.1 ≡ us) × (effect_reading known names m (formula_tree by 0 p.0) n us ≡ fine p)

@@ -44,7 +44,7 @@ use Rattle.lc_outline_back.proofs.Terms.{term_stood, formula_stood}
 
 -- ---- names
 
--- the columns' names stand before others
+-- the columns' names come before others
 abbrev pub StandFirst : List (List ℕ) → List (List ℕ) → Type 0
 StandFirst columns names = (rest : List (List ℕ)) × (names ≡ columns ++ rest)
 
@@ -156,7 +156,7 @@ parameters_are u ws e = ap parameters_in (sym e) ∙ declared_names ws
 -- ---- branches and choices of an operation of these arguments
 
 module _ (columns : Columns) (names : List (List ℕ)) (first : StandFirst columns.own names) (arguments : List (List ℕ)) where
-  -- the names of these variables behind the client
+  -- the names of these variables, which come after the client
   abbrev seen : List (List ℕ) → Names
   seen variables = branch_names columns.own (client ++ variables)
 
@@ -328,7 +328,7 @@ module _ (others names : List (List ℕ)) where
   form_stood n (list (list us ▸ ts)) = tt
   form_stood n (list (atom w ▸ ts)) = behind_spec w (is w (codes "spec")) n (n + 2) ts refl
 
-  -- where its columns' names are the first
+  -- if its columns' names are the first
   pub specification_stood : (n : ℕ) (t : Tree) → IfFine (specification_reading others n t) (λ s. StandFirst (names_of s.columns) names → specification_tree names s ≡ t)
   specification_stood n t =
       mapped_fine (λ p. StandFirst (names_of p.0.1) names → list (atom (codes "spec") ▸ spec_parts p) ≡ t) (λ s. StandFirst (names_of s.columns) names → specification_tree names s ≡ t) the_specification

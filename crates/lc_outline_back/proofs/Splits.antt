@@ -1,4 +1,4 @@
--- Rows, split behind the lists at their beginning that begin with a word.
+-- Rows, split after the lists at their beginning that begin with a word.
 use Rattle.std.proofs.Common.{◌≡◌, ℕ, ◌+◌, Bool, true, false, cond, List, [], ◌∷◌, refl, sym, ap, ap₂, ◌∙◌, subst, arith}
 use Rattle.std.proofs.lemmas.Bool.{and_from, eq-eqb}
 use Rattle.lc_sexp.specs.Parts.{fits, misshapen, form_fit, is_fitting}
@@ -100,7 +100,7 @@ no_forms : (word : List ℕ) (us : Trees) → IsStop word us → forms_in word u
 no_forms word none s = refl
 no_forms word (t ▸ ts) s = ap (λ f. before_others f (forms_in word ts)) (stopped word t s)
 
--- what stands behind the word in each
+-- what comes after the word in each
 abbrev pub parts_of_all : List ℕ → Trees → List Trees
 parts_of_all word none = []
 parts_of_all word (t ▸ ts) = parts_in word t ∷ parts_of_all word ts
@@ -131,7 +131,7 @@ module _ {X : Type 0} (word : List ℕ) (read : ℕ → ℕ → Tree → Reading
       ap (λ b. cond b (both cons (read i m t) (lists_reading word read (i + 1) (m + item_count t) (followed ts us))) (fine [])) (form_begins word t f.0)
       ∙ ap (both cons (read i m t)) (lists_placed (i + 1) (m + item_count t) ts us f.1 s)
 
--- what is fine where a list behind a word is due is such a list, and this holds of its parts
+-- where a list after a word is expected, what is fine is such a list, and this holds of its parts
 module _ {X : Type 0} (P : Trees → X → Type 0) (word : List ℕ) (read : ℕ → ℕ → Trees → Reading X) where
   abbrev pub HasParts : Tree → X → Type 0
   HasParts t x = (ts : Trees) × (t ≡ list (atom word ▸ ts)) × P ts x

@@ -38,12 +38,12 @@ use Rattle.lc_outline_back.proofs.Numerals.{integer_as_stood, number_as_stood}
 
 -- ---- words
 
--- one word of a chain of words, or what stands behind it
+-- one word of a chain of words, or what comes after it
 pub one_word : {A X : Type 0} (R : Option A → Reading X) (Q : X → Type 0) (b : Bool) (x : A) (o : Option A) → (b ≡ true → IfFine (R (Some x)) Q) → IfFine (R o) Q → IfFine (R (cond b (Some x) o)) Q
 one_word R Q true x o h g = h refl
 one_word R Q false x o h g = g
 
--- what stands only where it is allowed
+-- what is allowed only in some places
 where_allowed : {A X : Type 0} (R : Option A → Reading X) (Q : X → Type 0) (q : Bool) (x : A) → IfFine (R None) Q → (q ≡ true → IfFine (R (Some x)) Q) → IfFine (R (cond (not q) None (Some x))) Q
 where_allowed R Q true x g h = h refl
 where_allowed R Q false x g h = g
@@ -56,7 +56,7 @@ pub record AreAlike (P : List ℕ → List ℕ → Type 0) (names : Names) (by :
   pub unnumbered : names.allows NumberedVariables ≡ false
   pub unbuilt : names.allows BuiltColumns ≡ false
 
--- a word that is bound is like what is printed of it, where so many quantifiers stand round its place
+-- a bound word is like what is printed for it, with d quantifiers around its place
 abbrev pub IsLoose : (List ℕ → List ℕ → Type 0) → List (List ℕ) → ℕ → Type 0
 IsLoose P bound d = (d < 2 ^ 64) × ((k : ℕ) (w : List ℕ) → bound_index bound w ≡ Some k → P (binder (d - 1 - k)) w)
 
@@ -182,7 +182,7 @@ module _ (P : List ℕ → List ℕ → Type 0) (names : Names) (by : Spelled) (
         two_at (λ c. Alike P (column_tree by d c) t) (λ x. Alike P (term_tree by d x) u) (λ ts. IsAccess d (t ▸ u ▸ ts)) pair m t u ts _ _
         (column_alike bound d n m t) (term_alike bound d (m + item_count t) u loose) (λ x y a b. (a, (b, tt)))
 
-  -- ---- formulas, of which bound variables are alike where quantifiers stand
+  -- ---- formulas, with bound variables alike where quantifiers are allowed
 
   abbrev AreLoose : Type 0
   AreLoose = names.allows Quantifiers ≡ true → AreBinders P
@@ -199,7 +199,7 @@ module _ (P : List ℕ → List ℕ → Type 0) (names : Names) (by : Spelled) (
   abbrev IsBody : ℕ → Trees → Formula → Type 0
   IsBody d ts f = AllAlike P (atom (binder d) ▸ formula_tree by (one_deeper d) f ▸ none) ts
 
-  -- the word of a list, and what stands behind it
+  -- the word of a list, and what comes after it
   abbrev IsBehind : ℕ → List ℕ → Trees → Formula → Type 0
   IsBehind d w ts f = Alike P (formula_tree by d f) (list (atom w ▸ ts))
 
@@ -256,7 +256,7 @@ module _ (P : List ℕ → List ℕ → Type 0) (names : Names) (by : Spelled) (
     formulas_alike q bound d m (t ▸ ts) loose =
         both_fine (λ x. Alike P (formula_tree by d x) t) (AreAny d ts) (AreAny d (t ▸ ts)) S.more _ _ (formula_alike q bound d m t loose) (formulas_alike q bound d (m + item_count t) ts loose) (λ x y a b. (a, b))
 
--- ---- where no quantifier stands; and anywhere
+-- ---- where no quantifier is allowed; and anywhere
 
 are_same : (names : Names) (by : Spelled) → IsSpelledSo names by → AreAlike Same names by
 are_same names by spelled = record {

@@ -54,7 +54,7 @@ object_parts x = x.name ▸ followed x.arrays (x.auxiliaries ▸ behind_auxiliar
 abbrev pub forms_of_file : File → Trees
 forms_of_file x = x.spec ▸ list (atom (codes "object") ▸ object_parts x) ▸ none
 
--- its lists begin with the words that are due
+-- its lists begin with the expected words
 pub record IsFormed (x : File) : Type 0 where
   pub arrays : AreForms (codes "array") x.arrays
   pub auxiliaries : IsForm (codes "aux") x.auxiliaries

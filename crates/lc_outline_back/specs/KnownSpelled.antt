@@ -1,4 +1,4 @@
--- How the names are printed by which is read what stands beside the code.
+-- How the names are printed by which the riders beside the code are read.
 use Rattle.std.specs.Prelude.{◌≡◌, ℕ, List, Some}
 use Rattle.lc_reading.specs.Listed.{place_of}
 use Rattle.lc_text.specs.Names.{Names}

@@ -7,7 +7,7 @@ use Rattle.lc_text.specs.Spelling.{Spelled}
 use Rattle.lc_text.specs.declared.scope.ColumnUse.TheVariants.{Usable}
 use Rattle.lc_text.specs.declared.scope.Extra.TheVariants.{BuiltColumns, NumberedVariables}
 
--- Variables and columns are printed by the names by which they are read, and neither variables `?k` nor built columns stand there
+-- Variables and columns are printed by the names by which they are read, and there are neither variables `?k` nor built columns
 pub record IsSpelledSo (names : Names) (by : Spelled) : Type 0 where
   pub variables : (w : List ℕ) (k : ℕ) → names.variable w ≡ Some k → by.variable k ≡ w
   pub columns : (w : List ℕ) (c : ColId) → names.column w ≡ Usable c → by.column c.0 ≡ w

@@ -53,37 +53,37 @@ pub fn formulas_are_printed_as_they_stood()
         item_count (formula_tree by 0 f) ≡ item_count t }
 {}
 
-/// What is printed of a formula that is read reads as the same formula, where no variable is named as one of a quantifier is printed.
+/// What is printed of a formula that is read reads as the same formula, if no variable is named as one of a quantifier is printed.
 pub fn printed_formulas_read_back()
     ensures { (names : Names) (by : Spelled) (n : ℕ) (t : Tree) (f : Formula) → IsSpelledSo names by → AreUnbound names → item_count t ≤ 2 ^ 32 →
         formula_reading names [] n t ≡ fine f → formula_reading names [] n (formula_tree by 0 f) ≡ fine f }
 {}
 
-/// A specification is printed as it stood, where the names of its columns are the first of those that columns are printed by.
+/// A specification is printed as it stood, if the names of its columns are the first of those that columns are printed by.
 pub fn specifications_are_printed_as_they_stood()
     ensures { (others names rest : List (List ℕ)) (n : ℕ) (t : Tree) (s : Specification) → specification_reading others n t ≡ fine s →
         names ≡ map (λ (c : Column). c.name) s.columns ++ rest → specification_tree names s ≡ t }
 {}
 
-/// An instruction is printed as it stood, where its names are printed as they are read.
+/// An instruction is printed as it stood, if its names are printed as they are read.
 pub fn instructions_are_printed_as_they_stood()
     ensures { (names : Names) (code : CodeNames) (by : Spelled) (object : Object) (n : ℕ) (t : Tree) (i : Instr) → AreCodeNames names code by object →
         instruction_reading names code n t ≡ fine i → instruction_tree object by i ≡ t }
 {}
 
-/// What is done at the edges of a point is printed as it stood, where its names are printed as they are read.
+/// What is done at the edges of a point is printed as it stood, if its names are printed as they are read.
 pub fn edges_are_printed_as_they_stood()
     ensures { (known : Known) (names : Names) (by : Spelled) (object : Object) (actions : List Action) (own : Option Ways) (edges : Edges) (m : ℕ) (ts : Trees) (xs : List On) →
         AreKnown known names by object actions → ons_reading known names own edges m ts ≡ fine xs → row (map (on_tree object actions by) xs) ≡ ts }
 {}
 
-/// What is printed of a conjunct that is read reads as the same conjunct, where no variable is named as one of a quantifier is printed.
+/// What is printed of a conjunct that is read reads as the same conjunct, if no variable is named as one of a quantifier is printed.
 pub fn printed_conjuncts_read_back()
     ensures { (names : Names) (by : Spelled) (n : ℕ) (t : Tree) (c : Conjunct) → IsSpelledSo names by → AreUnbound names → item_count t ≤ 2 ^ 32 →
         conjunct_reading names n t ≡ fine c → conjunct_reading names n (list (atom c.name ▸ formula_tree by 0 c.formula ▸ none)) ≡ fine c }
 {}
 
-/// A list of formulas behind a word is printed so that it reads as the same formulas.
+/// A list of formulas after a word is printed so that it reads as the same formulas.
 pub fn printed_lists_of_formulas_read_back()
     ensures { (names : Names) (by : Spelled) (word : List ℕ) (n : ℕ) (t : Tree) (fs : List Formula) → IsSpelledSo names by → AreUnbound names → item_count t ≤ 2 ^ 32 → is word word ≡ true →
         behind_reading word (λ n. each_reading (formula_reading names [])) n t ≡ fine fs →
@@ -97,13 +97,13 @@ pub fn printed_effects_read_back()
         (update_trees by p.1 ≡ us) × (effect_reading known names m (formula_tree by 0 p.0) n us ≡ fine p) }
 {}
 
-/// What is printed of an action that is read reads as the same action, where no parameter is named as a variable of a quantifier is printed.
+/// What is printed of an action that is read reads as the same action, if no parameter is named as a variable of a quantifier is printed.
 pub fn printed_actions_read_back()
     ensures { (known : Known) (columns : List (List ℕ)) (i n : ℕ) (t : Tree) (a : Action) → columns ≡ known.columns ++ system_columns → item_count t ≤ 2 ^ 32 → HaveNoBinder a.parameters →
         action_reading known i n t ≡ fine a → action_reading known i n (action_tree columns a) ≡ fine a }
 {}
 
-/// A development that a file says is said by the text that is printed of it, where no argument, local or parameter is named as a
+/// A development that a file says is said by the text that is printed of it, if no argument, local or parameter is named as a
 /// variable of a quantifier is printed, and the text is within the limit of size.
 pub fn printed_developments_read_back()
     ensures { (bytes : List ℕ) (D : Development) → Says file_reading bytes D → IsPrintable D → Says file_reading (development_printed D) D }

@@ -21,7 +21,7 @@ use lc_kernel::Proof;
 use lc_outline::Development;
 use std::alloc::Global;
 
-/// A file is answered with its certificate, or with its first refusal.
+/// For a file, its certificate is returned, or its first refusal.
 pub fn reading_a_certificate(
     alloc: Global,
     development: &Development,
@@ -32,7 +32,7 @@ pub fn reading_a_certificate(
     certificate_of(alloc, development, bytes)
 }
 
-/// The proof of a number is answered where there is one.
+/// The proof of a number is returned if there is one.
 pub fn finding_a_proof<'a>(certificate: &'a Certificate, number: u64) -> Option<&'a Proof>
     ensures { option_map (λ p. proof_of p.now) result ≡ proof_at (entries_in certificate.now) number }
 {
@@ -58,7 +58,7 @@ pub fn taking_a_proof(reader: &mut CertReader) -> Option<Entry>
     reader.take()
 }
 
-/// At the end it is told whether all is a certificate with just these proofs.
+/// At the end it is reported whether everything is a certificate with just these proofs.
 pub fn finishing_a_certificate(reader: CertReader, development: &Development) -> Result<(), Fault>
     ensures { (fed : List ℕ) → (taken : List Proved) → IsAfterTaking (development_shown development.now) fed taken reader →
         IsAnswerOf (development_shown development.now) fed (taken ++ waiting reader) result }
@@ -66,7 +66,7 @@ pub fn finishing_a_certificate(reader: CertReader, development: &Development) ->
     reader.finish(development)
 }
 
-/// An entry that stands alone is answered where it is one of this number.
+/// An entry by itself is returned if it is one of this number.
 pub fn reading_an_entry(
     reader: &EntryReader<'_>,
     alloc: Global,
@@ -79,7 +79,7 @@ pub fn reading_an_entry(
     reader.read(alloc, text, number, item)
 }
 
-/// A file is answered with its hints, or with its first refusal.
+/// For a file, its hints are returned, or its first refusal.
 pub fn reading_hints(alloc: Global, development: &Development, bytes: &[u8]) -> Result<Hints, Fault>
     ensures { IsHintAnswerTo (development_shown development.now) bytes.now result }
 {

@@ -17,7 +17,7 @@ use lc_outline_text::development_of;
 use lc_table::Terms;
 use std::alloc::Global;
 
-/// A file is answered with its development, or with its first refusal.
+/// For a file, its development is returned, or its first refusal.
 pub fn reading_a_development(alloc: Global, bytes: &[u8]) -> Result<Development, Fault>
     ensures { IsAnswerTo development_shown file_reading bytes.now result }
 {
@@ -58,7 +58,7 @@ pub fn beginning_lines<'d>(
     ConditionLines::new(alloc, development)
 }
 
-/// The lines of conditions come in pieces, which join to the text of all; and it is told where memory was refused.
+/// The lines of conditions come in pieces, which join to the text of all; and running out of memory is reported.
 pub fn going_on(lines: &mut ConditionLines<'_>) -> Result<Option<Vec<u8>>, OutOfMemory>
     ensures piece { IfOk result (IsNextPiece lines.old lines.new) }
     ensures spent { is_spent lines.new ≡ is_err result }

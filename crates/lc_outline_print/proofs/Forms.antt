@@ -16,7 +16,7 @@ use Rattle.lc_outline_print.specs.Objects.{concrete_tree}
 use Rattle.lc_outline_print.specs.Parts.{column_tree}
 use Rattle.lc_outline_print.proofs.Printed.{followed_text}
 
--- a word, what is behind it, and a bracket
+-- a word, what comes after it, and a bracket
 written_list : (old head r a b d : List ℕ) → a ≡ old ++ head → b ≡ a ++ r → d ≡ b ++ codes ")" → d ≡ old ++ (head ++ ((r ++ codes ")") ++ []))
 written_list old head r a b d opened first closed =
     closed ∙ ap (λ w. w ++ codes ")") (first ∙ ap (λ w. w ++ r) opened ∙ append_assoc old head r)
@@ -31,7 +31,7 @@ invariant_text names columns cs ds old a b d named same opened first closed =
     (first ∙ ap (λ n. a ++ printed_others (row (map (conjunct_tree n) cs))) named ∙ ap (λ l. a ++ printed_others (row (map (conjunct_tree columns) l))) same)
     closed
 
--- trees, one tree behind them, and others
+-- trees, one tree after them, and others
 pub tables_text : (rs : Trees) (x : Tree) (ss : Trees) (old a b d : List ℕ) → a ≡ old ++ printed_others rs → b ≡ a ++ printed_others (x ▸ none) → d ≡ b ++ printed_others ss
     → d ≡ old ++ printed_others (followed rs (x ▸ ss))
 tables_text rs x ss old a b d first second third =
@@ -42,7 +42,7 @@ tables_text rs x ss old a b d first second third =
     ∙ append_assoc old (r ++ y) s
     ∙ ap (λ w. old ++ w) (append_assoc r y s ∙ ap (λ w. r ++ (32 ∷ (w ++ s))) (append-nil (printed_tree x)) ∙ sym (followed_text rs (x ▸ ss)))
 
--- a name, and trees behind it in two parts
+-- a name, and trees after it in two parts
 pub object_text : (given name : List ℕ) (ts us : Trees) (old a b p q d : List ℕ) → given ≡ name → a ≡ old ++ codes "(object " → b ≡ a ++ given → p ≡ b ++ printed_others ts → q ≡ p ++ printed_others us
     → d ≡ q ++ codes ")" → d ≡ old ++ printed_tree (list (atom (codes "object") ▸ atom name ▸ followed ts us))
 object_text given name ts us old a b p q d named opened first second third closed =

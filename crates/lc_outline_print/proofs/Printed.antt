@@ -13,7 +13,7 @@ use Rattle.lc_outline_print.specs.Objects.{concrete_tree}
 use Rattle.lc_outline_print.specs.Parts.{name_trees, column_tree}
 use Rattle.lc_outline_print.specs.Specifications.{labelled}
 
--- where no values are left, no local is assigned to
+-- if no values are left, no local is assigned to
 nothing_assigned : (by : Spelled) (rs : List ℕ) → assignment_trees by rs [] ≡ none
 nothing_assigned by [] = refl
 nothing_assigned by (r ∷ rs) = refl
@@ -22,7 +22,7 @@ pub all_assigned : (by : Spelled) (rs : List ℕ) (ts : List Term) (text all : L
 all_assigned by rs ts text all none_left is =
     sym (append-nil text) ∙ (ap (λ w. text ++ printed_others w) (sym (nothing_assigned by rs) ∙ ap (λ ts. assignment_trees by rs ts) (sym none_left)) ∙ is)
 
--- a word, two parts behind it, others, and a bracket
+-- a word, two parts after it, others, and a bracket
 pub written_mark : (old w t n r a b c d e : List ℕ) → a ≡ old ++ codes "(" ++ w → b ≡ a ++ codes " " ++ t → c ≡ b ++ codes " " ++ n → d ≡ c ++ r → e ≡ d ++ codes ")"
     → e ≡ old ++ (40 ∷ ((w ++ (32 ∷ (t ++ (32 ∷ (n ++ r))))) ++ codes ")"))
 written_mark old w t n r a b c d e opened first second third closed =
@@ -37,7 +37,7 @@ label_text (ByName name parameters) ts =
     ap (λ w. codes "choice " ++ (name ++ (32 ∷ w))) (ap (λ w. w ++ printed_others ts) (sym (append-nil p)))
     ∙ ap (λ w. codes "choice " ++ w) (sym (append_assoc name (32 ∷ (p ++ [])) (printed_others ts)))
 
--- a column, if there is one, and what is behind it
+-- a column, if there is one, and what comes after it
 pub concrete_text : (c : Option Column) (ts : Trees) → printed_others (concrete_tree c ts) ≡ printed_others (concrete_tree c none) ++ printed_others ts
 concrete_text None ts = refl
 concrete_text (Some c) ts =

@@ -1,4 +1,4 @@
--- What is printed of what stands beside the code: actions, the invariant, riders, and what is at the edges.
+-- What is printed for what is beside the code: actions, the invariant, riders, and what is at the edges.
 use Rattle.std.specs.Prelude.{ℕ, codes, List, [], ◌∷◌, ◌++◌, Option, Some, None, map}
 use Rattle.lc_sexp.specs.Trees.{Tree, Trees, atom, list, none, ◌▸◌, row}
 use Rattle.lc_term.specs.Syntax.{Term, Formula}

@@ -10,7 +10,7 @@ use Rattle.lc_outline_print.specs.Specifications.{declared_tree, specification_t
 use Rattle.lc_outline_print.specs.Beside.{action_tree, conjunct_tree}
 use Rattle.lc_outline_print.specs.Objects.{array_tree, body_trees}
 
--- these, and those behind them
+-- the first trees, followed by the others
 abbrev pub followed : Trees → Trees → Trees
 followed none us = us
 followed (t ▸ ts) us = t ▸ followed ts us

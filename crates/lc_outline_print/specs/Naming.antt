@@ -4,7 +4,7 @@ use Rattle.lc_text.specs.Spelling.{Spelled}
 use Rattle.lc_object.specs.Syntax as O
 use Rattle.lc_action.specs.Action.{Action}
 
--- the number of clients, the client, and these variables behind them
+-- the number of clients, the client, and then these variables
 abbrev pub with_client : List (List ℕ) → List (List ℕ)
 with_client names = codes "N" ∷ codes "self" ∷ names
 
@@ -12,7 +12,7 @@ with_client names = codes "N" ∷ codes "self" ∷ names
 abbrev pub named_by : List (List ℕ) → List (List ℕ) → Spelled
 named_by columns variables = record { variable = λ k. slice_index_or variables k []; column = λ k. slice_index_or columns k [] }
 
--- ---- the names of what stands at a place
+-- ---- the names of what is at a place
 
 abbrev pub name_of_array : Option O.Array → List ℕ
 name_of_array None = []

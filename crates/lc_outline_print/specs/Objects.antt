@@ -1,4 +1,4 @@
--- What is printed of an object, with what stands beside its code.
+-- What is printed of an object, with what is beside its code.
 use Rattle.std.specs.Prelude.{ℕ, suc, ◌-◌, ◌==◌, if◌then◌else◌, codes, List, [], ◌∷◌, ◌++◌, Option, Some, None, map, length, slice_get}
 use Rattle.lc_sexp.specs.Trees.{Tree, Trees, atom, list, none, ◌▸◌, row}
 use Rattle.lc_text.specs.Spelling.{Spelled}
@@ -10,7 +10,7 @@ use Rattle.lc_outline_print.specs.Parts.{name_trees, formula_trees, column_tree}
 use Rattle.lc_outline_print.specs.Beside.{on_tree}
 use Rattle.lc_outline_print.specs.Instructions.{instruction_tree}
 
--- (NAME a b), if there is this column, and these behind it
+-- (NAME a b), if there is this column, followed by these
 abbrev pub concrete_tree : Option Column → Trees → Trees
 concrete_tree None ts = ts
 concrete_tree (Some c) ts = column_tree c.name c.slope c.start ▸ ts

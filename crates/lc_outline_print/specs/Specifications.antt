@@ -17,7 +17,7 @@ declared_tree c = column_tree c.name c.slope c.start
 abbrev pub branch_parts : Spelled → Branch → Trees
 branch_parts by b = formula_tree by 0 b.guard ▸ list (update_trees by b.updates) ▸ list (term_trees by b.replies) ▸ none
 
--- these behind the word of a branch, or behind the word, the name and the parameters of a choice
+-- these, after the word of a branch, or after the word, the name and the parameters of a choice
 abbrev pub labelled : Chosen (List ℕ) → Trees → Trees
 labelled InOrder ts = atom (codes "branch") ▸ ts
 labelled (ByName name parameters) ts = atom (codes "choice") ▸ atom name ▸ list (name_trees parameters) ▸ ts

@@ -1,4 +1,4 @@
-//! How what stands beside the code is printed.
+//! How what is beside the code is printed.
 ghost use Rattle.std.specs.Prelude.{◌≡◌, ◌++◌, OnOk, codes, string_bytes, map};
 ghost use Rattle.lc_action.specs.ActionView.{action_of};
 ghost use Rattle.lc_object.specs.View.{parts_of};
@@ -28,7 +28,7 @@ use lc_text::Spelling;
 use lc_tie::Conjunct;
 use std::alloc::Global;
 
-/// Writes `(action NAME (PARAM*) F UPDATE*)` behind a space.
+/// Writes `(action NAME (PARAM*) F UPDATE*)` after a space.
 fn write_action(
     alloc: Global,
     out: &mut String,
@@ -51,7 +51,7 @@ fn write_action(
     Ok(())
 }
 
-/// Writes `ACTION*`, each behind a space.
+/// Writes `ACTION*`, each after a space.
 pub(crate) fn write_actions(
     alloc: Global,
     out: &mut String,
@@ -66,7 +66,7 @@ pub(crate) fn write_actions(
     Ok(())
 }
 
-/// Writes `(NAME F)` behind a space.
+/// Writes `(NAME F)` after a space.
 fn write_conjunct(
     out: &mut String,
     columns: &[&str],
@@ -85,7 +85,7 @@ fn write_conjunct(
     Ok(())
 }
 
-/// Writes `(NAME F)*`, each behind a space.
+/// Writes `(NAME F)*`, each after a space.
 pub(crate) fn write_conjuncts(
     out: &mut String,
     columns: &[&str],
@@ -111,7 +111,7 @@ fn write_mark_word(out: &mut String, word: &str, by: &Choosing) -> Result<(), Ou
     Ok(())
 }
 
-/// Writes `NAME T*`, of a choice that is named, each behind a space.
+/// Writes `NAME T*`, for a choice that is named, each after a space.
 fn write_choice<S: Spelling>(
     out: &mut String,
     spelling: &S,
@@ -191,7 +191,7 @@ fn write_deed<S: Spelling>(
     Ok(())
 }
 
-/// Writes `RIDER` behind a space.
+/// Writes `RIDER` after a space.
 fn write_rider<S: Spelling>(
     out: &mut String,
     object: &Parts,
@@ -216,7 +216,7 @@ fn write_rider<S: Spelling>(
     Ok(())
 }
 
-/// Writes `RIDER*`, each behind a space.
+/// Writes `RIDER*`, each after a space.
 fn write_riders<S: Spelling>(
     out: &mut String,
     object: &Parts,
@@ -231,7 +231,7 @@ fn write_riders<S: Spelling>(
     Ok(())
 }
 
-/// Writes `(on EDGE (ACTION T*) RIDER*)` behind a space.
+/// Writes `(on EDGE (ACTION T*) RIDER*)` after a space.
 fn write_on<S: Spelling>(
     out: &mut String,
     object: &Parts,
@@ -252,7 +252,7 @@ fn write_on<S: Spelling>(
     Ok(())
 }
 
-/// Writes `ON*`, each behind a space.
+/// Writes `ON*`, each after a space.
 pub(crate) fn write_ons<S: Spelling>(
     out: &mut String,
     object: &Parts,

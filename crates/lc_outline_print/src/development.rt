@@ -18,7 +18,7 @@ use lc_naming::column_names;
 use lc_outline::{Development, Parts};
 use std::alloc::Global;
 
-/// Writes `(aux COL*)` behind a space.
+/// Writes `(aux COL*)` after a space.
 fn write_auxiliaries(out: &mut String, parts: &Parts) -> Result<(), OutOfMemory>
     ensures { OnOk result (string_bytes out.new ≡ string_bytes out.old ++ printed_others (auxiliary_tree (parts_shown parts.now) ▸ none)) }
 {
@@ -28,7 +28,7 @@ fn write_auxiliaries(out: &mut String, parts: &Parts) -> Result<(), OutOfMemory>
     Ok(())
 }
 
-/// Writes `(invariant (NAME F)*)` behind a space.
+/// Writes `(invariant (NAME F)*)` after a space.
 fn write_invariant(out: &mut String, columns: &[&str], parts: &Parts) -> Result<(), OutOfMemory>
     requires { names_in columns.now ≡ column_names (parts_shown parts.now) }
     ensures { OnOk result (string_bytes out.new ≡ string_bytes out.old ++ printed_others (invariant_tree (parts_shown parts.now) ▸ none)) }
@@ -39,7 +39,7 @@ fn write_invariant(out: &mut String, columns: &[&str], parts: &Parts) -> Result<
     Ok(())
 }
 
-/// Writes `(idle F*)` behind a space.
+/// Writes `(idle F*)` after a space.
 fn write_idle(out: &mut String, columns: &[&str], parts: &Parts) -> Result<(), OutOfMemory>
     requires { names_in columns.now ≡ column_names (parts_shown parts.now) }
     ensures { OnOk result (string_bytes out.new ≡ string_bytes out.old ++ printed_others (idle_tree (parts_shown parts.now) ▸ none)) }
@@ -54,7 +54,7 @@ fn write_idle(out: &mut String, columns: &[&str], parts: &Parts) -> Result<(), O
     Ok(())
 }
 
-/// Writes `ARRAY* (aux COL*) ACTION*`, each behind a space.
+/// Writes `ARRAY* (aux COL*) ACTION*`, each after a space.
 #[tactic(auto, using(crate::proofs::Printed::followed_text))]
 fn write_tables(
     alloc: Global,
@@ -71,7 +71,7 @@ fn write_tables(
     write_actions(alloc, out, columns, &parts.actions)
 }
 
-/// Writes `(invariant (NAME F)*) (idle F*) BODY+`, each behind a space.
+/// Writes `(invariant (NAME F)*) (idle F*) BODY+`, each after a space.
 fn write_conditions_and_bodies(
     alloc: Global,
     out: &mut String,

@@ -16,7 +16,7 @@ use lc_object::{ArrayId, Instr, LocalId, Parts};
 use lc_term::{Formula, Term};
 use lc_text::Spelling;
 
-/// Writes the name of a point behind a space.
+/// Writes the name of a point after a space.
 fn write_label_part(out: &mut String, object: &Parts, point: PointId) -> Result<(), OutOfMemory>
     ensures { OnOk result (string_bytes out.new ≡ string_bytes out.old ++ codes " " ++ label (parts_of object.now) point.0) }
 {
@@ -24,7 +24,7 @@ fn write_label_part(out: &mut String, object: &Parts, point: PointId) -> Result<
     write_label(out, object, point)
 }
 
-/// Writes locals, each behind a space.
+/// Writes locals, each after a space.
 fn write_locals<S: Spelling>(
     out: &mut String,
     spelling: &S,
@@ -39,7 +39,7 @@ fn write_locals<S: Spelling>(
     Ok(())
 }
 
-/// Writes a list of locals behind a space.
+/// Writes a list of locals after a space.
 fn write_local_list<S: Spelling>(
     out: &mut String,
     spelling: &S,
@@ -72,7 +72,7 @@ fn write_assignment<S: Spelling>(
     Ok(())
 }
 
-/// Writes `(r T)` of each local and its value, each behind a space.
+/// Writes `(r T)` for each local and its value, each after a space.
 fn write_assignments<S: Spelling>(
     out: &mut String,
     spelling: &S,
@@ -93,7 +93,7 @@ fn write_assignments<S: Spelling>(
     Ok(())
 }
 
-/// Writes a list of `(r T)`, of each local and its value, behind a space.
+/// Writes a list of `(r T)`, for each local and its value, after a space.
 fn write_assignment_list<S: Spelling>(
     out: &mut String,
     spelling: &S,
@@ -168,7 +168,7 @@ fn write_store<S: Spelling>(
     Ok(())
 }
 
-/// Writes two labels, each behind a space.
+/// Writes two labels, each after a space.
 fn write_labels(
     out: &mut String,
     object: &Parts,
@@ -181,7 +181,7 @@ fn write_labels(
     write_label_part(out, object, second)
 }
 
-/// Writes two lists of terms, each behind a space.
+/// Writes two lists of terms, each after a space.
 fn write_rows<S: Spelling>(
     out: &mut String,
     spelling: &S,
@@ -194,7 +194,7 @@ fn write_rows<S: Spelling>(
     write_term_list(out, spelling, new)
 }
 
-/// Where a compare and swap goes: behind it where the row is the old one, and where it is not.
+/// Where a compare and swap goes: if the row is the old one, and if it is not.
 #[derive(Clone, Copy)]
 struct Exits {
     equal: PointId,
@@ -240,7 +240,7 @@ fn write_set<S: Spelling>(
     Ok(())
 }
 
-/// Writes a list of locals and one of terms, each behind a space.
+/// Writes a list of locals and one of terms, each after a space.
 fn write_exchange<S: Spelling>(
     out: &mut String,
     spelling: &S,

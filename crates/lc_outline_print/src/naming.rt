@@ -41,7 +41,7 @@ impl Spelling for Named<'_, '_, '_, '_> {
     }
 }
 
-/// These, and these names behind them.
+/// These, followed by these names.
 fn with_names<'a>(before: Vec<&'a str>, names: &'a [Name]) -> Result<Vec<&'a str>, OutOfMemory>
     ensures { IfOk result (λ all. names_in all.items ≡ names_in before.entry.items ++ map bytes_of names.now) }
 {
@@ -52,7 +52,7 @@ fn with_names<'a>(before: Vec<&'a str>, names: &'a [Name]) -> Result<Vec<&'a str
     Ok(all)
 }
 
-/// The number of clients, the client, and these variables behind them.
+/// The number of clients, the client, and then these variables.
 pub(crate) fn client_variables<'a>(
     alloc: Global,
     names: &'a [Name],
@@ -65,7 +65,7 @@ pub(crate) fn client_variables<'a>(
     with_names(all, names)
 }
 
-/// The number of clients, the client, arguments, and these variables behind them.
+/// The number of clients, the client, the arguments, and then these variables.
 pub(crate) fn variables_behind<'a>(
     alloc: Global,
     arguments: &'a [Name],
@@ -104,7 +104,7 @@ pub(crate) fn write_label(
     Ok(())
 }
 
-/// Writes the name of an operation behind a space.
+/// Writes the name of an operation after a space.
 pub(crate) fn write_operation_name(
     out: &mut String,
     object: &Parts,

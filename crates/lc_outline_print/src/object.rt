@@ -1,4 +1,4 @@
-//! How the object of a development is printed, with what stands beside its code.
+//! How the object of a development is printed, with what is beside its code.
 ghost use Rattle.std.specs.Prelude.{◌≡◌, ◌++◌, ◌-◌, OnOk, codes, string_bytes, length, map, option_map, slice_get};
 ghost use Rattle.lc_base.specs.Name.{bytes_of};
 ghost use Rattle.lc_object.specs.View.{column_shown, columns_of, array_of, point_of, operation_of, parts_of};
@@ -20,14 +20,14 @@ use lc_outline::{Outline, Parts};
 use lc_text::Spelling;
 use std::alloc::Global;
 
-/// Writes `(NAME a b)` behind a space.
+/// Writes `(NAME a b)` after a space.
 fn write_concrete_column(out: &mut String, column: &Column) -> Result<(), OutOfMemory>
     ensures { OnOk result (string_bytes out.new ≡ string_bytes out.old ++ codes " " ++ printed_tree (column_tree (bytes_of column.now.name) column.now.slope column.now.start)) }
 {
     write_column(out, &column.name, column.slope, column.start)
 }
 
-/// Writes `(NAME a b)`, of the concrete column of this number, behind a space.
+/// Writes `(NAME a b)`, for the concrete column of this number, after a space.
 fn write_concrete(
     out: &mut String,
     object: &lc_object::Parts,
@@ -42,7 +42,7 @@ fn write_concrete(
     Ok(())
 }
 
-/// Writes `COL+`, of the concrete columns of these numbers, each behind a space.
+/// Writes `COL+`, for the concrete columns of these numbers, each after a space.
 #[tactic(auto, using(crate::proofs::Printed::concrete_text))]
 fn write_concretes(
     out: &mut String,
@@ -57,7 +57,7 @@ fn write_concretes(
     Ok(())
 }
 
-/// Writes `(array NAME COL+)` behind a space.
+/// Writes `(array NAME COL+)` after a space.
 fn write_array(
     out: &mut String,
     object: &lc_object::Parts,
@@ -72,7 +72,7 @@ fn write_array(
     Ok(())
 }
 
-/// Writes `ARRAY*`, each behind a space.
+/// Writes `ARRAY*`, each after a space.
 pub(crate) fn write_arrays(
     out: &mut String,
     object: &lc_object::Parts,
@@ -86,7 +86,7 @@ pub(crate) fn write_arrays(
     Ok(())
 }
 
-/// Writes `(assert F*) ON*`, each behind a space.
+/// Writes `(assert F*) ON*`, each after a space.
 fn write_outline<S: Spelling>(
     out: &mut String,
     parts: &Parts,
@@ -113,7 +113,7 @@ fn write_outline<S: Spelling>(
     Ok(())
 }
 
-/// Writes `(point NAME INSTR (assert F*) ON*)`, with this outline, behind a space.
+/// Writes `(point NAME INSTR (assert F*) ON*)`, with this outline, after a space.
 fn write_point<S: Spelling>(
     out: &mut String,
     parts: &Parts,
@@ -132,14 +132,14 @@ fn write_point<S: Spelling>(
     Ok(())
 }
 
-/// What stands beside the code of the point of this number.
+/// What is beside the code of the point of this number.
 fn outline_at(parts: &Parts, number: usize) -> Option<&Outline>
     ensures { option_map (λ outline. outline_of outline.now) result ≡ slice_get (parts_shown parts.now).outlines number }
 {
     parts.outlines.get(number)
 }
 
-/// Writes `POINT+`, of the body of this operation, each behind a space.
+/// Writes `POINT+`, for the body of this operation, each after a space.
 fn write_points<S: Spelling>(
     out: &mut String,
     parts: &Parts,
@@ -157,7 +157,7 @@ fn write_points<S: Spelling>(
     Ok(())
 }
 
-/// Writes `(body OP (LOCAL*) POINT+)`, of the operation of this number, behind a space.
+/// Writes `(body OP (LOCAL*) POINT+)`, for the operation of this number, after a space.
 fn write_body_with<S: Spelling>(
     out: &mut String,
     parts: &Parts,
@@ -175,7 +175,7 @@ fn write_body_with<S: Spelling>(
     Ok(())
 }
 
-/// Writes the body of the operation of this number behind a space, with columns by these names.
+/// Writes the body of the operation of this number after a space, with columns by these names.
 fn write_body(
     alloc: Global,
     out: &mut String,
@@ -195,7 +195,7 @@ fn write_body(
     write_body_with(out, parts, &named, number, operation)
 }
 
-/// Writes `BODY+`, of these operations, each behind a space.
+/// Writes `BODY+`, for these operations, each after a space.
 pub(crate) fn write_bodies(
     alloc: Global,
     out: &mut String,

@@ -24,7 +24,7 @@ fn write_plain_term<S: Spelling>(
     write_term(out, spelling, 0, term)
 }
 
-/// Writes a term behind a space.
+/// Writes a term after a space.
 pub(crate) fn write_term_part<S: Spelling>(
     out: &mut String,
     spelling: &S,
@@ -36,7 +36,7 @@ pub(crate) fn write_term_part<S: Spelling>(
     write_plain_term(out, spelling, term)
 }
 
-/// Writes a formula behind a space.
+/// Writes a formula after a space.
 #[tactic(auto, using(lc_text::proofs::PrintedTrees::formula_text))]
 pub(crate) fn write_formula_part<S: Spelling>(
     out: &mut String,
@@ -49,7 +49,7 @@ pub(crate) fn write_formula_part<S: Spelling>(
     write_formula(out, spelling, 0, formula)
 }
 
-/// Writes names, each behind a space.
+/// Writes names, each after a space.
 pub(crate) fn write_names(out: &mut String, names: &[Name]) -> Result<(), OutOfMemory>
     ensures { OnOk result (string_bytes out.new ≡ string_bytes out.old ++ printed_others (name_trees (map bytes_of names.now))) }
 {
@@ -60,7 +60,7 @@ pub(crate) fn write_names(out: &mut String, names: &[Name]) -> Result<(), OutOfM
     Ok(())
 }
 
-/// Writes a list of names behind a space.
+/// Writes a list of names after a space.
 pub(crate) fn write_name_list(out: &mut String, names: &[Name]) -> Result<(), OutOfMemory>
     ensures { OnOk result (string_bytes out.new ≡ string_bytes out.old ++ codes " " ++ printed_tree (list (name_trees (map bytes_of names.now)))) }
 {
@@ -73,7 +73,7 @@ pub(crate) fn write_name_list(out: &mut String, names: &[Name]) -> Result<(), Ou
     Ok(())
 }
 
-/// Writes terms, each behind a space.
+/// Writes terms, each after a space.
 pub(crate) fn write_terms<S: Spelling>(
     out: &mut String,
     spelling: &S,
@@ -87,7 +87,7 @@ pub(crate) fn write_terms<S: Spelling>(
     Ok(())
 }
 
-/// Writes a list of terms behind a space.
+/// Writes a list of terms after a space.
 pub(crate) fn write_term_list<S: Spelling>(
     out: &mut String,
     spelling: &S,
@@ -104,7 +104,7 @@ pub(crate) fn write_term_list<S: Spelling>(
     Ok(())
 }
 
-/// Writes formulas, each behind a space.
+/// Writes formulas, each after a space.
 pub(crate) fn write_formulas<S: Spelling>(
     out: &mut String,
     spelling: &S,
@@ -145,7 +145,7 @@ pub(crate) fn write_update<S: Spelling>(
     Ok(())
 }
 
-/// Writes updates, each behind a space.
+/// Writes updates, each after a space.
 pub(crate) fn write_updates<S: Spelling>(
     out: &mut String,
     spelling: &S,
@@ -160,7 +160,7 @@ pub(crate) fn write_updates<S: Spelling>(
     Ok(())
 }
 
-/// Writes a list of updates behind a space.
+/// Writes a list of updates after a space.
 pub(crate) fn write_update_list<S: Spelling>(
     out: &mut String,
     spelling: &S,
@@ -177,7 +177,7 @@ pub(crate) fn write_update_list<S: Spelling>(
     Ok(())
 }
 
-/// Writes `(NAME a b)` behind a space.
+/// Writes `(NAME a b)` after a space.
 pub(crate) fn write_column(
     out: &mut String,
     name: &Name,

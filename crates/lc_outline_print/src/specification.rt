@@ -19,7 +19,7 @@ use lc_seq::{Branch, Column, Label, Operation, TextSpec};
 use lc_text::Spelling;
 use std::alloc::Global;
 
-/// Writes `COL*`, each behind a space.
+/// Writes `COL*`, each after a space.
 pub(crate) fn write_columns(out: &mut String, columns: &[Column]) -> Result<(), OutOfMemory>
     ensures { OnOk result (string_bytes out.new ≡ string_bytes out.old ++ printed_others (row (map declared_tree (map column_of columns.now)))) }
 {
@@ -39,7 +39,7 @@ fn parameters_of(label: &Label) -> &[Name]
     }
 }
 
-/// Writes how a branch begins, behind a space: `(branch`, or `(choice NAME (PARAM*)`.
+/// Writes how a branch begins, after a space: `(branch`, or `(choice NAME (PARAM*)`.
 fn write_label(out: &mut String, label: &Label) -> Result<(), OutOfMemory>
     ensures { OnOk result (string_bytes out.new ≡ string_bytes out.old ++ codes " (" ++ printed_items (labelled (label_of label.now) none)) }
 {
@@ -54,7 +54,7 @@ fn write_label(out: &mut String, label: &Label) -> Result<(), OutOfMemory>
     Ok(())
 }
 
-/// Writes `F (UPDATE*) (T*)`, each behind a space.
+/// Writes `F (UPDATE*) (T*)`, each after a space.
 fn write_branch_parts<S: Spelling>(
     out: &mut String,
     spelling: &S,
@@ -67,7 +67,7 @@ fn write_branch_parts<S: Spelling>(
     write_term_list(out, spelling, &branch.replies)
 }
 
-/// Writes `(branch F (UPDATE*) (T*))` or `(choice NAME (PARAM*) F (UPDATE*) (T*))` behind a space.
+/// Writes `(branch F (UPDATE*) (T*))` or `(choice NAME (PARAM*) F (UPDATE*) (T*))` after a space.
 #[tactic(auto, using(crate::proofs::Printed::label_text))]
 fn write_branch_with<S: Spelling>(
     out: &mut String,
@@ -82,7 +82,7 @@ fn write_branch_with<S: Spelling>(
     Ok(())
 }
 
-/// Writes a branch behind a space, of an operation of these arguments, with columns by these names.
+/// Writes a branch after a space, for an operation with these arguments, with columns by these names.
 fn write_branch(
     alloc: Global,
     out: &mut String,
@@ -100,7 +100,7 @@ fn write_branch(
     write_branch_with(out, &named, branch)
 }
 
-/// Writes `BRANCH+` or `CHOICE+`, each behind a space.
+/// Writes `BRANCH+` or `CHOICE+`, each after a space.
 fn write_branches(
     alloc: Global,
     out: &mut String,
@@ -116,7 +116,7 @@ fn write_branches(
     Ok(())
 }
 
-/// Writes a count behind a space.
+/// Writes a count after a space.
 fn write_count(out: &mut String, count: u32) -> Result<(), OutOfMemory>
     ensures { OnOk result (string_bytes out.new ≡ string_bytes out.old ++ codes " " ++ decimal count) }
 {
@@ -124,7 +124,7 @@ fn write_count(out: &mut String, count: u32) -> Result<(), OutOfMemory>
     Ok(())
 }
 
-/// Writes `(op NAME (ARG*) REPLIES BRANCH+)`, or with `CHOICE+`, behind a space, with columns by these names.
+/// Writes `(op NAME (ARG*) REPLIES BRANCH+)`, or with `CHOICE+`, after a space, with columns by these names.
 fn write_operation(
     alloc: Global,
     out: &mut String,
@@ -148,7 +148,7 @@ fn write_operation(
     Ok(())
 }
 
-/// Writes `OP+`, each behind a space.
+/// Writes `OP+`, each after a space.
 fn write_operations(
     alloc: Global,
     out: &mut String,

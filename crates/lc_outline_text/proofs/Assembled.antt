@@ -61,7 +61,7 @@ behind_two : (n : ℕ) (ts : Trees) → (behind_first (behind_item n ts)).trees 
 behind_two n none = refl
 behind_two n (t ▸ ts) = behind_one (n + item_count t) ts
 
--- where its operations stand
+-- where its operations are
 operations_there : (t u : Tree) (ts : Trees) → form_fit (codes "spec") t ≡ fits (parts_in (codes "spec") t) → (sections_of (t ▸ u ▸ ts)).operations.trees ≡ later (later (parts_in (codes "spec") t))
 operations_there t u ts fit = ap (λ f. (behind_first (behind_first (items_of_fit 0 f))).trees) fit ∙ behind_two 2 (parts_in (codes "spec") t)
 
@@ -224,7 +224,7 @@ pub forms_resolved : (ts : Trees) (D : Development) → forms_reading (declarati
 forms_resolved ts D read =
     development_is_resolved ts D read (held IsSpecified (forms_reading (declarations_of ts) (sections_of ts) 0 ts) D (specified (declarations_of ts) (sections_of ts) 0 ts) read)
 
--- the same of a file
+-- the same for a file
 pub says_resolved : (ts : Trees) (D : Development) → file_reading ts ≡ fine D → is_resolved D ≡ true
 says_resolved ts D e =
     let forms = forms_reading (declarations_of ts) (sections_of ts) 0 ts in

@@ -120,7 +120,7 @@ module _ (columns : Columns) (all : List (List ℕ)) (first : Leads columns.own 
 
 -- ---- operations
 
--- where the first form is no choice, each branch is that of its text; and each choice is that of its text, wherever it stands
+-- if the first form is no choice, each branch is that of its text; and each choice is that of its text, wherever it is
 abbrev pub AreBranchesOf : List (List ℕ) → Trees → List Branch → Type 0
 AreBranchesOf all ts bs = Along (λ t b. IsBranchOf all (parts_in (codes "branch") t) b) ts bs
 

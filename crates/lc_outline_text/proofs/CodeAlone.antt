@@ -101,7 +101,7 @@ point_code d b side h o i n m (name ▸ code ▸ ts) =
     let instruction = instruction_reading (code_names d b) (body_names d b) (m + item_count name) code in
     h n code (is_shaped instruction) (both (point_of o) (point_name_reading d (b.first + i) n m name) instruction) (m + item_count name + item_count code) ts
 
--- a list by its word, of which another reading of what stands behind the word tells
+-- a list by its word, when another reading of what comes after the word says how it reads
 by_word : {X Y : Type 0} (f : X → Y) (word : List ℕ) (read : ℕ → ℕ → Trees → Reading X) (other : ℕ → ℕ → Trees → Reading Y) → ((n m : ℕ) (ts : Trees) → Holds (λ x. other n m ts ≡ fine (f x)) (read n m ts)) → (n : ℕ) (t : Tree)
     → Holds (λ x. behind_reading word other n t ≡ fine (f x)) (behind_reading word read n t)
 by_word f word read other h n (atom w) = tt

@@ -1,4 +1,4 @@
--- There are few columns and few actions where a development is read.
+-- There are few columns and few actions in a development that is read.
 use Rattle.std.proofs.Common.{◌≡◌, ℕ, zero, suc, ◌+◌, ◌≤◌, ◌<◌, Bool, true, false, cond, Option, None, List, [], ◌∷◌, length, length-append, refl, ap, ◌∙◌, subst, arith}
 use Rattle.std.specs.Prelude.{codes, slice_get, nat_le}
 use Rattle.lc_base.specs.Limits.{action_limit, column_limit, width_limit}
@@ -26,7 +26,7 @@ use Rattle.lc_seq.specs.Specification.{Column}
 use Rattle.lc_outline_text.specs.Declarations.{Declarations}
 use Rattle.lc_outline_text.specs.Sides.{auxiliaries_reading}
 
--- items in a row, each of which is read within the limit, behind as many others
+-- items in a row, each read within the limit, after `base` + i others
 each_within : {X : Type 0} (P : ℕ → Tree → X → Type 0) (limit base : ℕ) → ((i : ℕ) (t : Tree) (x : X) → P i t x → base + i < limit) → (i : ℕ) (ts : Trees) (xs : List X) → base + i ≤ limit → Each P i ts xs
     → base + i + length xs ≤ limit
 each_within P limit base f i none [] few h = omega (arith, few)
@@ -85,7 +85,7 @@ column_few names base i n (list (t ▸ ts)) =
     both_holds (λ w. base + i < column_limit) (λ z. Unit {0}) (λ column. base + i < column_limit) column_of (own_name_reading names base i n (n + 1) t) (numbers_reading n (n + 1 + item_count t) ts)
     (own_name_few names base i n (n + 1) t) (anything (numbers_reading n (n + 1 + item_count t) ts)) (λ w z h u. h)
 
--- as many columns as stand there, which are within the limit behind so many others
+-- as many columns as the text has, which are within the limit after `base` others
 abbrev AreWithin : ℕ → Trees → List C.Column → Type 0
 AreWithin base ts columns = (length columns ≡ tree_count ts) × (base ≤ column_limit → base + length columns ≤ column_limit)
 
@@ -108,11 +108,11 @@ array_few d i n m (t ▸ ts) =
     both_holds (λ w. Unit {0}) (AreWithin base ts) (IsArrayWithin base (t ▸ ts)) array_of (kth_name_reading d.arrays i m t) (columns_reading d i n (m + item_count t) ts)
     (anything (kth_name_reading d.arrays i m t)) (columns_few d i n (m + item_count t) ts) (λ w columns u h. h)
 
--- the columns of all arrays, the first of which begins here
+-- the columns of all arrays, the first one beginning here
 abbrev pub HaveFew : ℕ → List ArrayText → Type 0
 HaveFew k arrays = k ≤ column_limit → k + length (concretes_of arrays) ≤ column_limit
 
--- from the i-th span on these stand
+-- these are the spans from the i-th on
 abbrev pub AreSpans : Declared → ℕ → List Span → Type 0
 AreSpans d i spans = (j : ℕ) → slice_get d.spans (i + j) ≡ slice_get spans j
 

@@ -17,7 +17,7 @@ counted_more n more own rest s next whole h g e k = omega arith
 pub few_counted : (n m : ℕ) → n ≡ capped m → n ≤ count_cap
 few_counted n m h = omega arith
 
--- a count up to the cap, so many times
+-- a count up to the cap, n times
 pub product_capped : (a n : ℕ) → capped (capped a * n) ≡ capped (a * n)
 product_capped a n = search rules
 

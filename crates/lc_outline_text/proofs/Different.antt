@@ -1,4 +1,4 @@
--- How many different numbers stand in a list is known by which stand there.
+-- How many different numbers are in a list depends only on which ones are in it.
 use Rattle.std.proofs.Common.{◌≡◌, ℕ, zero, suc, ◌+◌, ◌<◌, ◌≤◌, Bool, true, false, ◌||◌, ◌==◌, if◌then◌else◌, List, [], ◌∷◌, ◌++◌, refl, sym, ap, ap₂, ◌∙◌, arith}
 use Rattle.std.proofs.lemmas.Bool.Decides.{nat_tests}
 use Rattle.std.proofs.lemmas.List.Folds.{list_any-append}
@@ -14,7 +14,7 @@ absent b = if b then 0 else 1
 abbrev present : Bool → ℕ
 present b = if b then 1 else 0
 
--- how many of the numbers from c on, n of them, stand there
+-- how many of the n numbers from c on are in it
 abbrev within : ℕ → ℕ → (ℕ → Bool) → ℕ
 within c zero is = 0
 within c (suc n) is = present (is c) + within (suc c) n is
@@ -62,7 +62,7 @@ different_within n (z ∷ zs) h =
     let low = h.0 in
     one_more z zs 0 n (omega arith) (omega (arith, low)) ∙ ap (λ m. absent (stands zs z) + m) (different_within n zs h.1)
 
--- a number above all that stand there
+-- a number above all in the list
 abbrev bound : List ℕ → ℕ
 bound [] = 0
 bound (c ∷ cs) = suc c + bound cs
@@ -76,7 +76,7 @@ same_different xs ys h =
     let n = bound xs + bound ys in
     sym (different_within n xs (all_below n xs (omega arith))) ∙ ap (within 0 n) h ∙ different_within n ys (all_below n ys (omega arith))
 
--- ---- what stands in lists that are joined
+-- ---- what is in joined lists
 
 abbrev either : (ℕ → Bool) → (ℕ → Bool) → ℕ → Bool
 either f g k = f k || g k
@@ -109,7 +109,7 @@ or_none : (b : Bool) → (b || false) ≡ b
 or_none true = refl
 or_none false = refl
 
--- a number that stands there
+-- a number that is already in the list
 pub stands_again : (xs : List ℕ) (c : ℕ) → stands xs c ≡ true → stands (xs ++ c ∷ []) ≡ stands xs
 stands_again xs c h = fun_ext (λ k.
     list_any-append (λ j. j == k) xs (c ∷ []) ∙ ap (λ b. stands xs k || b) (or_none (c == k))

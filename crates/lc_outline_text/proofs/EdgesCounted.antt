@@ -122,7 +122,7 @@ module _ (d : Declarations) (D : Development) (n : Totals) (meets : Meets d D n)
   abbrev point_with : Trees → List ℕ → ℕ
   point_with ts w = cond (goes_next w) (kind_with ts w Next) 0 + cond (branches_off w) (kind_with ts w Then + kind_with ts w Else) 0
 
-  -- how many are asked behind an edge that leads to a point
+  -- how many are asked after an edge that leads to a point
   asked_behind_label : (w : List ℕ) (l : ℕ) → (body_names d.declared b).label w ≡ Some l → 0 + (length (invariant_of D) + length (asserts_at D l)) ≡ n.invariant + reached b asserts w
   asked_behind_label w l e =
       let behind = lead w l e in

@@ -1,4 +1,4 @@
--- What is told of a whole file.
+-- What is reported about a whole file.
 use Rattle.std.proofs.Common.{◌≡◌, ℕ, Bool, true, false, inr, List, Ok, Err, refl, ap, ◌∙◌, arith}
 use Rattle.std.proofs.lemmas.Bool.Decides.{nat_tests}
 use Rattle.std.specs.Prelude.{Result, not, nat_lt, IfOk}
@@ -27,7 +27,7 @@ use Rattle.lc_outline_text.specs.Developments.{forms_reading, file_reading}
 use Rattle.lc_outline_text.specs.Sizes.{condition_count}
 use Rattle.lc_outline_text.specs.Views.{capped, is_bound, is_told_before_limits, IsFileRead}
 
--- a flaw of an earlier pass is told before the item 0 is beyond a limit
+-- a flaw of an earlier pass is reported before item 0 is beyond a limit
 earlier : (p : Pass) (n l : ℕ) → not (is_bound p) ≡ true → refused_in p n ≡ refusal_of (lesser (record { pass = p; item = n; least = l }) (at Bound 0))
 earlier Shape n l h = refl
 earlier Unknown n l h = refl
@@ -44,7 +44,7 @@ told_first ts (Ok p) h e = absurd (cc)
 told_first ts (Err (Flawed f)) h e = told_too (nat_lt condition_limit (condition_count (declarations_of ts) (sections_of ts))) (forms_reading (declarations_of ts) (sections_of ts) 0 ts) f h e
 told_first ts (Err OutOfMemory) h e = tt
 
--- a count up to the cap is beyond the limit where the count is
+-- a count up to the cap is beyond the limit if the count is
 same_test : (n : ℕ) → nat_lt condition_limit (capped n) ≡ nat_lt condition_limit n
 same_test n = grind (arith, nat_tests)
 
@@ -60,7 +60,7 @@ told_limited ts parts result count h e is =
     let same = is ∙ ap (λ b. limited_result b 0 parts) (ap (nat_lt condition_limit) e ∙ same_test whole) in
     as_read ts result (rw same (limited_read parts_shown (nat_lt condition_limit whole) 0 (forms_reading (declarations_of ts) (sections_of ts) 0 ts) parts h))
 
--- what holds of a value that is read holds of it where a limit is told
+-- what holds of a value that is read also holds of it if a limit is reported
 pub still : (P : Parts → Type 0) (b : Bool) (parts result : Result Parts ReadFault) → result ≡ limited_result b 0 parts → IfOk parts P → IfOk result P
 still P true (Ok p) result e h = rw e tt
 still P true (Err f) result e h = rw e tt

@@ -1,4 +1,4 @@
--- What stands beside the code of a development fits the code.
+-- What is beside the code of a development fits the code.
 use Rattle.std.proofs.Common.{◌≡◌, ℕ, zero, suc, ◌+◌, ◌<◌, ◌≤◌, Bool, true, false, ◌&&◌, ◌==◌, cond, Option, List, [], ◌∷◌, ◌++◌, map, length, length-append, append_assoc, Some, refl, sym, ap, ap₂, ◌∙◌, subst, arith}
 use Rattle.std.proofs.lemmas.Bool.{eq-eqb}
 use Rattle.std.proofs.lemmas.Bool.Decides.{nat_tests}
@@ -36,7 +36,7 @@ use Rattle.lc_outline_text.proofs.Needed.{IsMet}
 use Rattle.lc_outline_text.proofs.Outlined.{IsAPoint}
 use Rattle.lc_outline_text.specs.Declarations.{Declarations, known_of, own_ways, parameter_count}
 
--- actions with so many parameters, which speak of what is in scope
+-- actions with these numbers of parameters, which use only what is in scope
 abbrev pub AreActionsOf : Known → List Trees → List Action → Type 0
 AreActionsOf known [] [] = Unit {0}
 AreActionsOf known [] (a ∷ actions) = ⊥
@@ -153,7 +153,7 @@ not_both : {P : Type 0} (b : Bool) → b ≡ true → b ≡ false → P
 not_both true h g = absurd (cc)
 not_both false h g = absurd (cc)
 
--- an edge of the point of this number, which stores nothing where it lacks an `on`
+-- an edge of the point of this number, which stores nothing if it lacks an `on`
 abbrev IsEdgeOf : ℕ → List On → Edge → Type 0
 IsEdgeOf k ons e = (e.point ≡ k) × (is_some (on_for ons e.kind) ≡ false → is_empty e.updates ≡ true)
 
@@ -166,7 +166,7 @@ edges_of_point object k (O.Set rs vs l) ons m = ((refl, λ n. refl), tt)
 edges_of_point object k (O.If c l r) ons m = ((refl, λ n. refl), ((refl, λ n. refl), tt))
 edges_of_point object k (O.Return vs) ons m = ((refl, λ n. refl), tt)
 
--- the edges of a point are those that stand at its number
+-- the edges of a point are those at its number
 abbrev AtPlace : Development → ℕ → ℕ → List On → Type 0
 AtPlace D k o ons = (operation_at D.object k ≡ o) × ((kind : EdgeKind) → on_at D k kind ≡ on_for ons kind)
 
@@ -180,7 +180,7 @@ placed_edges d D ps k o ons (e ∷ es) h b g at f =
 
 -- ---- points
 
--- what stands at the place of a point
+-- the code at the place of a point
 code_there : (before rest : List (Point × Outline)) (p : Point × Outline) → slice_get (map (λ q. q.0) (before ++ p ∷ rest)) (length before) ≡ Some p.0
 code_there [] rest p = refl
 code_there (q ∷ before) rest p = code_there before rest p
@@ -220,7 +220,7 @@ edges_good d D ps k p h (b, e, g) at =
     placed_edges d D ps k p.0.operation p.1.ons (edges_at D.object k p.0.instruction) h (within d D ps p b h e).own g.named (ap operation_in at.code, λ kind. ap (λ x. on_for (ons_in x) kind) at.outline)
     (edges_of_point D.object k p.0.instruction p.1.ons g.met)
 
--- what stands at a point speaks of what is in scope
+-- the outline of a point uses only what is in scope
 outline_good : (d : Declarations) (D : Development) (ps : List (Point × Outline)) (p : Point × Outline) → Fits d D ps → IsAPoint d p
     → outline_is_scoped (column_total D) (variables_at D.object (slice_get D.object.operations p.0.operation)) p.1 ≡ true
 outline_good d D ps p h (b, e, g) =
@@ -250,7 +250,7 @@ edges_resolved d D ps h = subst (λ qs. list_all (edge_is_resolved D) (edges_fro
 
 -- ---- limits
 
--- what stands at the edges of a point is within its limits
+-- what is done at the edges of a point is within its limits
 ons_few : (d : Declarations) (D : Development) (own : Option Ways) (o : ℕ) (ons : List On) → AreBranches (known_of d) D.specification.operations → Goes own (op_branches D.specification.operations o)
     → Every (IsOnLimited (known_of d) own) ons → list_all (on_is_limited D.specification.operations o) ons ≡ true
 ons_few d D own o [] agree goes h = refl

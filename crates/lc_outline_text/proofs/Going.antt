@@ -22,7 +22,7 @@ use Rattle.lc_spec_text.specs.Choices.{begin_with_choice, ways_reading}
 use Rattle.lc_spec_text.specs.Scopes.{Columns}
 use Rattle.lc_outline_text.specs.Declarations.{parameter_count}
 
--- the branches or choices of this text, of which there is one at least
+-- the branches or choices of this text, at least one
 pub record AreWaysOf (ts : Trees) (bs : List Branch) : Type 0 where
   pub count : length bs ≡ tree_count ts
   pub some : has_some bs ≡ true
@@ -40,14 +40,14 @@ ways_said columns variables count m t ts =
 
 -- ---- the choices of a text
 
--- what stands behind the word in each choice
+-- what comes after the word in each choice
 abbrev choices_of : Trees → List Trees
 choices_of ts = forms_in (codes "choice") ts
 
 abbrev ways_of : Trees → Ways
 ways_of ts = record { count = tree_count ts; choices = map first_text (choices_of ts); parameters = map parameter_count (choices_of ts) }
 
--- where the first form is none, there are none
+-- if the first form is none, there are none
 pub no_choices : (ts : Trees) → begin_with_choice ts ≡ false → forms_in (codes "choice") ts ≡ []
 no_choices none e = refl
 no_choices (atom w ▸ ts) e = refl
@@ -90,7 +90,7 @@ some_named : (ts : Trees) (bs : List Branch) → HaveLabels (choices_of ts) bs �
 some_named ts [] h some = absurd (cc)
 some_named ts (b ∷ bs) h some = let e = ap length h.0 in above (length (map first_text (choices_of ts))) (omega (arith, e))
 
--- where it goes by no choices, the first form is none
+-- if it goes by no choices, the first form is none
 pub none_first : (ts : Trees) (bs : List Branch) → AreWaysOf ts bs → has_choices (ways_of ts) ≡ false → begin_with_choice ts ≡ false
 none_first ts bs h e = by_test (begin_with_choice ts) refl where
   by_test : (b : Bool) → begin_with_choice ts ≡ b → begin_with_choice ts ≡ false

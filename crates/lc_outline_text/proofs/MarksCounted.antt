@@ -41,7 +41,7 @@ found_there (x ∷ xs) (suc k) few = found_there xs k (omega (arith, few))
 
 -- ---- an operation at its place
 
--- its text, of which its branches are
+-- its text, which its branches are read from
 record IsAt (all : List (List ℕ)) (fs : List Trees) (qs : List Operation) (k : ℕ) : Type 0 where
   form : Trees
   there : slice_get fs k ≡ Some form
@@ -70,7 +70,7 @@ not_true : (b : Bool) → not b ≡ true → b ≡ false
 not_true true e = absurd (cc)
 not_true false e = refl
 
--- all are left where no choice is named
+-- all are left if no choice is named
 all_left : (w : Ways) (bs : List Branch) → GoesSo w bs → (by : Chosen Term) → IsInOrder (Some w) by → (has_choices w ≡ false) × (chosen by bs ≡ bs)
 all_left w bs h InOrder (e, g) = let no = not_true (has_choices w) g in (no, h.in_order no)
 all_left w bs h (ByName name terms) (e, g) = absurd (cc)

@@ -125,7 +125,7 @@ edge_found : (n : ℕ) (o : Option EdgeKind) → Holds (λ kind. o ≡ Some kind
 edge_found n None = tt
 edge_found n (Some kind) = refl
 
--- it is at the edge that stands behind the word
+-- it is at the edge that comes after the word
 parts_at : (known : Known) (names : Names) (own : Option Ways) (edges : Edges) (n m : ℕ) (ts : Trees) → Holds (λ x. kind_of (first_text ts) ≡ Some x.edge) (on_parts_reading known names own edges n m ts)
 parts_at known names own edges n m none = tt
 parts_at known names own edges n m (t ▸ none) = tt

@@ -1,4 +1,4 @@
--- What holds of points with their outlines, where they are read.
+-- What holds of points with their outlines, if they are read.
 use Rattle.std.proofs.Common.{◌≡◌, ℕ, ◌+◌, Bool, true, false, cond, List, [], ◌∷◌, ◌++◌, map, Option, Some, None, length, refl, sym, ap, ◌∙◌, subst}
 use Rattle.std.proofs.lemmas.List.{map-append}
 use Rattle.std.specs.List.{list_all, list_any}
@@ -50,7 +50,7 @@ formulas_scoped word columns others n t =
 
 -- ---- a point
 
--- Its operation has this number, what stands there speaks of so many variables, what is done at its edges is known and within its limits,
+-- Its operation has this number, its outline uses only v variables, what is done at its edges is known and within its limits,
 -- and an edge that stores has an `on`
 pub record IsOutlined (known : Known) (own : Option Ways) (v o : ℕ) (p : Point × Outline) : Type 0 where
   pub operation : p.0.operation ≡ o

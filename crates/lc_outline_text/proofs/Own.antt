@@ -21,7 +21,7 @@ use Rattle.lc_rider_text.specs.Known.{entry_at}
 use Rattle.lc_outline_text.proofs.Fitting.{found}
 use Rattle.lc_outline_text.specs.Declarations.{declarations_in, known_of, ways_called, ways_of_body, own_ways}
 
--- a name that stands nowhere before has its place where it stands
+-- a name that occurs nowhere before has its first place here
 placed_first : (names : List (List ℕ)) (k : ℕ) (w : List ℕ) → slice_get names k ≡ Some w → list_any (is w) (take k names) ≡ false → place_of names w ≡ Some k
 placed_first [] k w e new = absurd (cc)
 placed_first (v ∷ names) zero w e new =
@@ -31,7 +31,7 @@ placed_first (v ∷ names) (suc k) w e new =
     let apart = or_parts (is w v) (list_any (is w) (take k names)) new in
     ap (λ b. cond b (Some 0) (option_map suc (place_of names w))) apart.0 ∙ ap (option_map suc) (placed_first names k w e apart.1)
 
--- the name of an operation that is read stands nowhere before
+-- the name of an operation that is read occurs nowhere before
 record IsNew (d : Declared) (names : List (List ℕ)) (i k : ℕ) : Type 0 where
   name : List ℕ
   there : slice_get names i ≡ Some name
@@ -47,7 +47,7 @@ new_there d k (suc i) (t ▸ os) (s ∷ ss) h few =
     let r = new_there d (k + 1) i os ss h.1 (omega (arith, few)) in
     record { name = r.name; there = r.there; new = subst (λ n. list_any (is r.name) (take n d.operations) ≡ false) (omega arith) r.new }
 
--- the operation of a body is due at its place
+-- the operation of a body is expected at its place
 record IsBodyThere (names : List (List ℕ)) (bodies : List Body) (i k : ℕ) : Type 0 where
   body : Body
   there : slice_get bodies i ≡ Some body

@@ -9,13 +9,13 @@ use Rattle.lc_outline.specs.Sizes.{Way, no_way, way_count}
 use Rattle.lc_outline_text.specs.Paths.{stands, way_kept, ways_kept, path_number, path_at, common_way, branching}
 use Rattle.lc_outline_text.proofs.Different.{same_different, stands_swapped, joined_alike}
 
--- ---- what stands in the columns is enough
+-- ---- it is enough to know what is in the columns
 
 -- the conditions of paths that go on by a way
 abbrev by_way : List ℕ → List (List Way) → ℕ → List ℕ → Way → ℕ
 by_way action riders asked columns way = way_count (Some action) riders (asked + way.asked) (columns ++ way.columns)
 
--- a list behind both, and the actions' behind it
+-- a list after both, and the actions' after it
 behind_both : (xs ys action acted us vs : List ℕ) → stands (xs ++ action) ≡ stands (ys ++ acted) → stands us ≡ stands vs → stands ((xs ++ us) ++ action) ≡ stands ((ys ++ vs) ++ acted)
 behind_both xs ys action acted us vs h g =
     moved xs us action ∙ joined_alike us vs (xs ++ action) (ys ++ acted) g h ∙ sym (moved ys vs acted) where

@@ -1,4 +1,4 @@
--- What is read where its parts stand.
+-- What is read where its parts are.
 use Rattle.std.proofs.Common.{◌≡◌, ℕ, ◌+◌, Bool, false, cond, List, [], ◌++◌, Option, Some, refl, sym, ap, ap₂, ◌∙◌}
 use Rattle.std.specs.Prelude.{codes, ◌&&◌}
 use Rattle.lc_sexp.specs.Trees.{Tree, Trees, ◌▸◌, item_count}
@@ -35,7 +35,7 @@ beside_at known names own n code shaped r m i k word t ts us same first second i
     ∙ ap (λ b. cond b (wrong Shape n) (outline word m (m + item_count t))) e
     ∙ ap₂ (outline word) (sym first) (sym second)
 
--- the body that is due
+-- the expected body
 pub due_at : (d : Declarations) (o : Option Body) (b : Body) (known : Known) (columns : List (List ℕ)) (others : Option (List (List ℕ))) (own : Option Ways) (place n : ℕ) (t : Tree) → Some b ≡ o → known ≡ known_of d
     → columns ≡ d.declared.columns → others ≡ Some (b.call.arguments ++ b.locals) → own ≡ own_ways d place
     → due_reading d o place n t ≡ body_reading d.declared b (beside known (beside_names columns others) own) place n t

@@ -256,7 +256,7 @@ module _ (d : Declarations) (o : ℕ) where
 
 -- ---- what is done at an edge
 
--- what stands behind EDGE, (ACTION ..) RIDER ..
+-- what comes after EDGE: (ACTION ..) RIDER ..
 abbrev IsActed : Declarations → ℕ → Trees → On → Type 0
 IsActed d o ts x = (place_of (map first_text d.actions) (first_text (within_first ts)) ≡ Some x.action) × HaveWays d o (later ts) x.riders
 

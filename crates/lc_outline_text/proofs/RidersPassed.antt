@@ -71,7 +71,7 @@ told_on listed columns more asked way n stored count h g k is =
     let same : different listed ≡ different ((columns ++ more) ++ []) = same_different listed (columns ++ more) h ∙ ap different (sym (append-nil (columns ++ more))) in
     omega (arith, g, k, is, same)
 
--- what is common to all paths is told apart from the riders that leave a choice
+-- what is common to all paths is counted apart from the riders that leave a choice
 pub told_apart : (action columns stored : List ℕ) (rs those : List (List Way)) (before asked : ℕ) → asked ≡ before + (common_way rs).asked → stands stored ≡ stands ((columns ++ action) ++ (common_way rs).columns) → those ≡ branching rs
     → way_count (Some []) those asked stored ≡ way_count (Some action) rs before columns
 told_apart action columns stored rs those before asked is h same =

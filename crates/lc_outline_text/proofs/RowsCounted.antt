@@ -17,7 +17,7 @@ Alike P [] (y ∷ ys) = ⊥
 Alike P (x ∷ xs) [] = ⊥
 Alike P (x ∷ xs) (y ∷ ys) = P x y × Alike P xs ys
 
--- what stands at a place of both
+-- elements at the same place of both lists
 pub record AreAt {X Y : Type 0} (P : X → Y → Type 0) (xs : List X) (ys : List Y) (k : ℕ) : Type 0 where
   pub left : X
   pub right : Y
@@ -84,7 +84,7 @@ counted_count read n zero m (t ▸ ts) = tt
 counted_count read n (suc k) m (t ▸ ts) =
     both_holds (λ x. Unit {0}) (λ xs. length xs ≡ tree_count ts) (λ xs. length xs ≡ suc (tree_count ts)) (λ x xs. x ∷ xs) (read m t) (counted_reading read n k (m + item_count t) ts) (any (read m t)) (counted_count read n k (m + item_count t) ts) (λ x xs u e. ap suc e)
 
--- lists that begin with a word, by what stands behind it
+-- lists that begin with a word, by what comes after the word
 abbrev pub IsForm : {X : Type 0} → List ℕ → (Trees → X → Type 0) → Tree → X → Type 0
 IsForm word P t x = (form_fit word t ≡ fits (parts_in word t)) × P (parts_in word t) x
 

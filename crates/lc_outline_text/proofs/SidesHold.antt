@@ -1,4 +1,4 @@
--- What holds of what stands in an object beside its code, where it is read.
+-- What holds of an object's sections beside its code, if they are read.
 use Rattle.std.proofs.Common.{◌≡◌, ℕ, ◌+◌, Bool, true, false, ◌&&◌, cond, List, [], ◌∷◌, length, Some, None, refl, sym, ◌∙◌}
 use Rattle.std.specs.List.{list_all}
 use Rattle.std.specs.Prelude.{codes}
@@ -78,7 +78,7 @@ formulas_too test (c ∷ cs) h = by_test (test c.formula) (formulas_too test cs)
   by_test true next h = next h
   by_test false next h = h
 
--- what is in scope beside the code, with so many variables
+-- what is in scope beside the code, with n variables
 abbrev pub is_said : Declarations → ℕ → Formula → Bool
 is_said d n f = is_scoped (column_total (known_of d)) n f
 

@@ -20,7 +20,7 @@ use Rattle.lc_outline_text.specs.Sizes.{mark_ways, text_at}
 use Rattle.lc_outline_text.specs.StoredView.{row_way, rows_kept, acted_kept, kept_at, marked_kept, marked_in, marked_at, both_kept, branch_parts, behind_parameters, by_branches, by_choices}
 use Rattle.lc_outline_text.specs.Views.{columns_marked}
 
--- so many conditions are asked on each way
+-- `asked` conditions are asked on each way
 abbrev pub with_asked : ℕ → (ℕ → Bool) → ℕ × (ℕ → Bool)
 with_asked asked kept = (asked, kept)
 
@@ -63,14 +63,14 @@ choices_at is_note columns operations None = refl
 choices_at is_note columns operations (Some k) =
     ap (marked_in is_note) (index_form (chosen_by columns) ([], []) refl operations k) ∙ both_in is_note columns (map behind_parameters (choices_in (form_at operations (Some k))))
 
--- what is kept of each list that is told of a form
+-- what is kept of each list that is read off a form
 pub chosen_each : (columns : List (List ℕ)) (operations : List Trees) → map (by_choices columns) (map choices_in operations) ≡ map (λ operation. by_choices columns (choices_in operation)) operations
 chosen_each columns [] = refl
 chosen_each columns (t ∷ ts) = ap (λ l. by_choices columns (choices_in t) ∷ l) (chosen_each columns ts)
 
 -- ---- the choice of a name
 
--- what stands at a place of a list that is another one seen
+-- an element of a list that is a view of another one
 seen_there : {X Y : Type 0} (f : X → Y) (xs : List X) (ys : List Y) (k : ℕ) (x : X) → map f xs ≡ ys → k < length xs → x ≡ get_or xs k x → slice_get ys k ≡ Some (f x)
 seen_there f xs ys k x e few at = ap (λ l. slice_get l k) (sym e) ∙ slice_get-map f xs k ∙ ap (option_map f) (slice_get_read xs (length xs) k x refl few at)
 
@@ -80,7 +80,7 @@ names_in (Some f) ways e =
     let same : ways_in f ≡ ways = cc in
     sym (ap (λ (w : K.Ways). w.choices) same)
 
--- the names of an operation's choices are those that are told of how it goes
+-- the names of an operation's choices are those in the ways in which it goes
 pub names_there : (operations : List Trees) (ways : List Ways) (k : ℕ) (w : Ways) → map ways_seen ways ≡ map ways_in operations → k < length ways → w ≡ get_or ways k w
     → listed w.choices ≡ map first_text (choices_in (form_at operations (Some k)))
 names_there operations ways k w counted few at = names_in (slice_get operations k) (ways_seen w) (sym (slice_get-map ways_in operations k) ∙ seen_there ways_seen ways (map ways_in operations) k w counted few at)
@@ -101,7 +101,7 @@ chosen_row asked g rows choices k e below =
     let one : k + 1 - k ≡ 1 = omega arith in
     ap (λ n. ways_kept (map (row_way asked) (take n (drop k rows)))) one ∙ one_row asked g rows choices k e below
 
--- no choice stands past the rows
+-- there is no choice beyond the rows
 pub no_choice : (g : Trees → ℕ → Bool) (rows : List (Vec ColId Global)) (choices : List Trees) (k : ℕ) → rows_kept rows ≡ map g (map behind_parameters choices) → length rows ≤ k → form_at choices (Some k) ≡ none
 no_choice g rows [] k e past = refl
 no_choice g [] (t ∷ ts) k e past = absurd (cc)

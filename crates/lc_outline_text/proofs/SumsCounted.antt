@@ -1,4 +1,4 @@
--- Sums over the points of a development, and what stands at their places.
+-- Sums over the points of a development, by their places.
 use Rattle.std.proofs.Common.{◌≡◌, ℕ, zero, suc, ◌+◌, List, [], ◌∷◌, ◌++◌, map, length, length-append, append_assoc, append-nil, Some, refl, sym, ap, ap₂, ◌∙◌, subst, arith}
 use Rattle.std.proofs.lemmas.List.Sums.{sum_by-append}
 use Rattle.std.specs.Prelude.{sum_by, slice_get}
@@ -10,7 +10,7 @@ use Rattle.lc_outline.specs.Sizes.{edge_count, edge_sizes}
 
 -- ---- sums
 
--- of each with its place, the first of which is p
+-- over each with its place, from p on
 abbrev pub over : {X : Type 0} → (ℕ → X → ℕ) → ℕ → List X → ℕ
 over F p [] = 0
 over F p (x ∷ xs) = F p x + over F (suc p) xs

@@ -35,7 +35,7 @@ IsColumn columns w k = column_named columns w ≡ k ∷ []
 -- ---- beside the code
 
 module _ (known : Known) (names : Names) where
-  -- the same readings, where the columns that may be stored in are told by a test
+  -- the same readings, with the columns that may be stored in given by a test
   abbrev stored_by_test : (ℕ → Bool) → ℕ → List ℕ → Option ℕ → Reading ℕ
   stored_by_test usable n w (Some k) = if usable k then within n w k else wrong Shape n
   stored_by_test usable n w None = wrong Unknown n
@@ -85,7 +85,7 @@ updates_said known names m (t ▸ ts) =
     both_holds (λ u. IsColumn known.columns (first_text (items_within t)) u.column) (λ us. columns_stored known.columns ts ≡ columns_of us) (λ us. columns_stored known.columns (t ▸ ts) ≡ columns_of us) (λ x xs. x ∷ xs)
     (listed_update_reading known names m t) (each_reading (listed_update_reading known names) (m + item_count t) ts) (listed_said known names m t) (updates_said known names (m + item_count t) ts) (λ u us h g. ap₂ (λ a b. a ++ b) h g)
 
--- ---- names that stand first among all
+-- ---- names that come first among all
 
 -- a place among these names is the column's
 abbrev pub Leads : List (List ℕ) → List (List ℕ) → Type 0

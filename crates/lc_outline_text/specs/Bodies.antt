@@ -1,4 +1,4 @@
--- What a text reads as where the bodies of a development's object are due.
+-- What a text reads as where the bodies of a development's object are expected.
 use Rattle.std.specs.Prelude.{ℕ, nat_lt, if◌then◌else◌, List, ◌++◌, length, slice_get, Option, Some, None}
 use Rattle.lc_sexp.specs.TreeCode.{tree_count}
 use Rattle.lc_sexp.specs.Trees.{Tree, Trees}
@@ -18,7 +18,7 @@ use Rattle.lc_outline_text.specs.Points.{beside}
 abbrev pub names_in : Declarations → Body → Names
 names_in d b = beside_names d.declared.columns (Some (b.call.arguments ++ b.locals))
 
--- the item n where this body is due, of the operation of this number, if one is
+-- the item n, where this body is expected, of the operation of this number, if one is
 abbrev pub due_reading : Declarations → Option Body → ℕ → ℕ → Tree → Reading (BodyText (Point × Outline))
 due_reading d None o n t = wrong Shape n
 due_reading d (Some b) o n t = body_reading d.declared b (beside (known_of d) (names_in d b) (own_ways d o)) o n t

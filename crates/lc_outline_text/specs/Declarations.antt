@@ -7,7 +7,7 @@ use Rattle.lc_object_text.specs.ObjectNames.{Declared, Body, first_text, within_
 use Rattle.lc_object_text.specs.Sections.{Sections, sections_of, forms_in, behind_first}
 use Rattle.lc_rider_text.specs.Known.{Known, Ways, entry_at}
 
--- The names, and what stands behind the word of each action, NAME (PARAM ..) F UPDATE .., and of each operation,
+-- The names, and what comes after the word of each action, NAME (PARAM ..) F UPDATE .., and of each operation,
 -- NAME (ARG ..) REPLIES, then BRANCH .. or CHOICE ..
 pub record Declarations : Type 0 where
   pub declared : Declared
@@ -32,8 +32,8 @@ branches_in ts = later (later (later ts))
 abbrev pub parameter_count : Trees → ℕ
 parameter_count ts = tree_count (within_first (later ts))
 
--- what stands behind the word of each choice of an operation, NAME (PARAM ..) F (UPDATE ..) (T ..); an operation of which the first
--- form is none has none
+-- what comes after the word of each choice of an operation, NAME (PARAM ..) F (UPDATE ..) (T ..); an operation whose first form is none
+-- has none
 abbrev pub choices_in : Trees → List Trees
 choices_in ts = forms_in (codes "choice") (branches_in ts)
 
@@ -45,7 +45,7 @@ ways_in ts = record {
   parameters = map parameter_count (choices_in ts);
 }
 
--- what stands beside the code sees of it the names, and these counts
+-- what the riders beside the code see of it: the names, and these counts
 abbrev pub known_of : Declarations → Known
 known_of d = record {
   columns = d.declared.columns;
@@ -56,7 +56,7 @@ known_of d = record {
   parameters = map parameter_count d.actions;
 }
 
--- what stands behind the word of the form at this place, if it stands at one
+-- what comes after the word of the form at this place, if there is one
 abbrev pub or_nothing : Option Trees → Trees
 or_nothing (Some ts) = ts
 or_nothing None = none
@@ -70,9 +70,9 @@ abbrev pub ways_called : Declarations → List ℕ → Option ℕ → Option Way
 ways_called d w None = None
 ways_called d w (Some replies) = entry_at (known_of d).ways (place_of d.declared.operations w)
 
--- How the operation goes that a body names; of one that is not declared nothing is known. Where the body names another than the one
--- that is due here it is refused as a whole, so the name of the due one serves; but two operations may be declared under this name, and
--- then the first is meant, by which the arguments and replies of the body go too
+-- How the operation goes that a body names; nothing is known about one that is not declared. If the body names another than the
+-- expected one, it is refused as a whole, so the name of the expected one serves; but two operations may be declared under this name,
+-- and then the first is meant, which the arguments and replies of the body follow too
 abbrev pub ways_of_body : Declarations → Option Body → Option Ways
 ways_of_body d None = None
 ways_of_body d (Some b) = ways_called d b.operation b.call.replies

@@ -1,4 +1,4 @@
--- What a file reads as where a development is due.
+-- What a file reads as where a development is expected.
 use Rattle.std.specs.Prelude.{ℕ, ◌+◌, nat_lt, List, [], ◌∷◌, ◌++◌, map}
 use Rattle.lc_base.specs.Limits.{condition_limit}
 use Rattle.lc_sexp.specs.Trees.{Tree, Trees, none, ◌▸◌, item_count}
@@ -23,11 +23,11 @@ use Rattle.lc_outline_text.specs.Sides.{Sides, sides_reading}
 abbrev pub specification_reading : Declarations → ℕ → Tree → Reading (SpecificationText × Specification)
 specification_reading d n t = both pair (O.specification_reading d.declared n t) (Q.specification_reading d.declared.columns n t)
 
--- an object's own tables, what stands beside its code, and its bodies with their outlines
+-- an object's own tables, what is beside its code, and its bodies with their outlines
 abbrev pub Parts : Type 0
 Parts = (O.Tables × Sides) × List (BodyText (Point × Outline))
 
--- what stands in the object n before its bodies
+-- what the object n has before its bodies
 abbrev pub tables_reading : Declarations → Sections → ℕ → Reading (O.Tables × Sides)
 tables_reading d s n = both pair (O.tables_reading d.declared s n) (sides_reading d s n)
 
@@ -59,11 +59,11 @@ abbrev pub second_form_reading : Declarations → Sections → ℕ → Trees →
 second_form_reading d s n none = wrong Shape n
 second_form_reading d s n (t ▸ ts) = ended (n + item_count t) ts (object_reading d s n)
 
--- SPEC OBJECT: the forms from n on. A form that is missing is told at the number of items
+-- SPEC OBJECT: the forms from n on. A missing form is reported at the number of items
 abbrev pub forms_reading : Declarations → Sections → ℕ → Trees → Reading Development
 forms_reading d s n none = wrong Shape n
 forms_reading d s n (t ▸ ts) = both development_of (specification_reading d n t) (second_form_reading d s (n + item_count t) ts)
 
--- What the file of these forms reads as. That there are too many conditions is told at the item 0
+-- What a file with these forms reads as. Too many conditions are reported at item 0
 abbrev pub file_reading : Trees → Reading Development
 file_reading ts = limited (nat_lt condition_limit (condition_count (declarations_of ts) (sections_of ts))) 0 (forms_reading (declarations_of ts) (sections_of ts) 0 ts)

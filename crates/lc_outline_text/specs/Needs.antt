@@ -10,11 +10,11 @@ use Rattle.lc_reading.specs.Reserved.{is_action_name}
 use Rattle.lc_reading.specs.Words.{is}
 use Rattle.lc_rider_text.specs.declared.edges.Edges.{Edges}
 
--- the word of an instruction; no text where it has none
+-- the word of an instruction; no text if it has none
 abbrev pub code_word : Tree → List ℕ
 code_word t = first_text (items_within t)
 
--- an instruction of this word has one edge; or two, where it holds and where it fails
+-- an instruction of this word has one edge; or two, one for when it holds and one for when it fails
 abbrev pub goes_next : List ℕ → Bool
 goes_next w = is w (codes "load") || is w (codes "store") || is w (codes "faa") || is w (codes "set") || is w (codes "return")
 
@@ -30,7 +30,7 @@ stores w Next = is w (codes "store") || is w (codes "faa")
 stores w Then = is w (codes "cas")
 stores w Else = false
 
--- EDGE (ACTION ..) RIDER RIDER ..: a rider stands at this edge
+-- EDGE (ACTION ..) RIDER RIDER ..: a rider at this edge
 abbrev pub rides : List ℕ → Trees → Bool
 rides word (t ▸ u ▸ v ▸ ts) = is (text_in t) word
 rides word _ = false
@@ -45,7 +45,7 @@ acts actions word _ = false
 abbrev pub lacks_at : List (List ℕ) → List ℕ → List Trees → EdgeKind → Bool
 lacks_at actions w ons kind = (stores w kind || list_any (rides (edge_word kind)) ons) && not (list_any (acts actions (edge_word kind)) ons)
 
--- the same of some edge of an instruction of this word
+-- the same for some edge of an instruction of this word
 abbrev pub lacks_on : List (List ℕ) → List ℕ → List Trees → Bool
 lacks_on actions w ons =
     goes_next w && lacks_at actions w ons Next || branches_off w && (lacks_at actions w ons Then || lacks_at actions w ons Else)

@@ -1,9 +1,9 @@
--- Which columns stand in a list, the ways past riders by what stands in them, and paths by their numbers.
+-- Which columns are in a list, the ways past riders by their columns, and paths by their numbers.
 use Rattle.std.specs.Prelude.{ℕ, ◌+◌, ◌*◌, ◌==◌, ◌/◌, ◌%◌, Bool, true, false, if◌then◌else◌, List, [], ◌∷◌, ◌++◌, map, length, get_or}
 use Rattle.std.specs.List.{list_any}
 use Rattle.lc_outline.specs.Sizes.{Way, no_way}
 
--- whether a number stands there
+-- whether a number is in the list
 abbrev pub stands : List ℕ → ℕ → Bool
 stands cs k = list_any (λ j. j == k) cs
 

@@ -1,4 +1,4 @@
--- What a text reads as where a point of a development is due: its code, what holds there, and what is done at its edges.
+-- What a text reads as where a point of a development is expected: its code, what holds there, and what is done at its edges.
 use Rattle.std.specs.Prelude.{ℕ, ◌+◌, Bool, ◌&&◌, codes, if◌then◌else◌, List, [], Option}
 use Rattle.lc_sexp.specs.Trees.{Tree, Trees, none, ◌▸◌, item_count}
 use Rattle.lc_reading.specs.Readings.{Reading, wrong, both, behind_reading}
@@ -29,8 +29,8 @@ abbrev pub outline_reading : Known → Names → Option Ways → Edges → ℕ �
 outline_reading known names own edges i t m ts =
     both outline_of (formulas_in_reading (codes "assert") names i t) (ons_reading known names own edges m ts)
 
--- What stands behind the code of the point n, from m on, with what the point itself reads as. Where an edge lacks an `on` that it
--- needs, this is told at the point; of a misshapen instruction no edges are known
+-- What comes after the code of the point n, from m on, with what the point itself reads as. If an edge lacks an `on` that it needs,
+-- that is reported at the point; the edges of a misshapen instruction are not known
 abbrev pub beside : Known → Names → Option Ways → ℕ → Tree → Bool → Reading Point → ℕ → Trees → Reading (Point × Outline)
 beside known names own n code shaped point m none = wrong Shape n
 beside known names own n code shaped point m (t ▸ ts) =

@@ -1,4 +1,4 @@
--- What a text reads as where the sections of a development's object are due that stand before its bodies.
+-- What a text reads as where the sections before the bodies of a development's object are expected.
 use Rattle.std.specs.Prelude.{ℕ, ◌+◌, codes, List, [], Some, None}
 use Rattle.lc_sexp.specs.Trees.{Tree, Trees, ◌▸◌, item_count}
 use Rattle.lc_reading.specs.Readings.{Reading, wrong, both, behind_reading}
@@ -29,7 +29,7 @@ actions_reading d s n =
     both pair (first_reading (auxiliaries_reading d) n s.auxiliaries.number s.auxiliaries.trees)
     (lists_reading (codes "action") (action_reading (known_of d)) 0 (behind_first s.auxiliaries).number (behind_first s.auxiliaries).trees)
 
--- (invariant (NAME F) ..), which speaks of no client
+-- (invariant (NAME F) ..), which is about no client
 abbrev pub invariant_reading : Declarations → ℕ → Tree → Reading (List Conjunct)
 invariant_reading d n t = behind_reading (codes "invariant") (λ n. each_reading (conjunct_reading (beside_names d.declared.columns None))) n t
 
@@ -39,7 +39,7 @@ conditions_reading d n m (t ▸ u ▸ ts) =
     both pair (invariant_reading d m t) (formulas_in_reading (codes "idle") (beside_names d.declared.columns (Some [])) (m + item_count t) u)
 conditions_reading d n m _ = wrong Shape n
 
--- what stands in an object beside its code: the auxiliary columns, the actions, the invariant, and what holds of idle clients
+-- the sections of an object beside its code: the auxiliary columns, the actions, the invariant, and what holds of idle clients
 pub record Sides : Type 0 where
   pub auxiliaries : List Column
   pub actions : List Action

@@ -47,7 +47,7 @@ abbrev pub mark_ways : (Trees → List ℕ) → ℕ → Trees → List Way
 mark_ways stored asked none = []
 mark_ways stored asked (b ▸ bs) = record { asked = asked; columns = stored (parts_in (codes "branch") b) } ∷ mark_ways stored asked bs
 
--- behind the name and the parameters of the choice of this name of an operation, F (UPDATE ..) (T ..)
+-- what comes after the name and the parameters of the choice of this name of an operation: F (UPDATE ..) (T ..)
 abbrev pub choice_named : Trees → List ℕ → Trees
 choice_named ts w = later (later (form_at (choices_in ts) (place_of (map first_text (choices_in ts)) w)))
 
@@ -86,7 +86,7 @@ all_ways d o (t ▸ ts) = rider_ways d o (items_within t) ∷ all_ways d o ts
 
 -- ---- the conditions of an edge
 
--- the `on` of the edge of this word, EDGE (ACTION ..) RIDER ..: what stands behind EDGE
+-- the `on` of the edge of this word, EDGE (ACTION ..) RIDER ..: what comes after EDGE
 abbrev pub on_of : List ℕ → List Trees → Option Trees
 on_of word [] = None
 on_of word (ts ∷ ons) = if is (first_text ts) word then Some (later ts) else on_of word ons
@@ -95,7 +95,7 @@ on_of word (ts ∷ ons) = if is (first_text ts) word then Some (later ts) else o
 abbrev pub columns_acted : Declarations → List ℕ → List ℕ
 columns_acted d w = columns_stored d.declared.columns (later (later (later (form_at d.actions (place_of (map first_text d.actions) w)))))
 
--- where an edge has no `on`, nothing is done beside it
+-- if an edge has no `on`, nothing is done beside it
 abbrev pub edge_conditions : Declarations → ℕ → Option Trees → ℕ → List ℕ → ℕ
 edge_conditions d o None asked columns = asked
 edge_conditions d o (Some ts) asked columns = way_count (Some (columns_acted d (first_text (within_first ts)))) (all_ways d o (later ts)) asked columns
@@ -109,7 +109,7 @@ assert_count ts = tree_count (parts_in_first (codes "assert") (later (later ts))
 abbrev pub ons_of : Trees → List Trees
 ons_of ts = forms_in (codes "on") (later (later (later ts)))
 
--- how many conjuncts hold where a label leads, in a body with these labels at whose points so many hold
+-- how many conjuncts hold where a label leads, in a body with these labels and these counts at its points
 abbrev pub count_at : List ℕ → Option ℕ → ℕ
 count_at counts None = 0
 count_at counts (Some k) = slice_index_or counts k 0
@@ -135,7 +135,7 @@ text_at n none = []
 text_at zero (t ▸ ts) = text_in t
 text_at (suc n) (t ▸ ts) = text_at n ts
 
--- how many hold in all states, and where a client is idle; and how many actions may be done by others, with those by which calls
+-- how many hold in all states, and when a client is idle; and how many actions may be done by others, with those by which calls
 -- begin and end
 pub record Totals : Type 0 where
   pub invariant : ℕ
@@ -148,7 +148,7 @@ label_place w Next = if is w (codes "set") then 2 else (if is w (codes "faa") th
 label_place w Then = if is w (codes "cas") then 5 else 2
 label_place w Else = if is w (codes "cas") then 6 else 3
 
--- how many are to hold behind an edge. Behind a return it is asked too that it gives what was replied
+-- how many have to hold after an edge. After a return it is asked too that it gives what was replied
 abbrev pub asked_behind : Totals → Body → List ℕ → List ℕ → EdgeKind → Trees → ℕ
 asked_behind n b asserts w kind code =
     n.invariant + (if is w (codes "return") then 1 + n.idle else reached b asserts (text_at (label_place w kind) code))

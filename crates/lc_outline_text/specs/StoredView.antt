@@ -59,7 +59,7 @@ rider_seen r = deed_seen r.deed ++ none_stored r.is_conditional
 abbrev pub riders_seen : List Rider → List (List Way)
 riders_seen rs = map rider_seen rs
 
--- ---- rows of columns, by what stands in them
+-- ---- rows of columns, by the columns in them
 
 abbrev pub rows_kept : List (Vec ColId Global) → List (ℕ → Bool)
 rows_kept rows = map (λ (row : Vec ColId Global). stands (columns_of row.items)) rows
@@ -72,7 +72,7 @@ acted_kept columns ts = stands (columns_stored columns (later (later (later ts))
 abbrev pub marked_kept : Bool → List (List ℕ) → Trees → ℕ → Bool
 marked_kept is_note columns ts = stands (columns_marked is_note columns ts)
 
--- of branches, in both manners: where a call is settled, and where its replies are noted
+-- of branches, in both manners: when a call is settled, and when its replies are noted
 abbrev pub both_kept : List (List ℕ) → List Trees → List (ℕ → Bool) × List (ℕ → Bool)
 both_kept columns forms = (map (marked_kept false columns) forms, map (marked_kept true columns) forms)
 
@@ -83,7 +83,7 @@ abbrev pub marked_in : Bool → List (ℕ → Bool) × List (ℕ → Bool) → L
 marked_in true rows = rows.1
 marked_in false rows = rows.0
 
--- what stands in the row at a place
+-- the columns in the row at a place
 abbrev pub kept_at : List (ℕ → Bool) → Option ℕ → ℕ → Bool
 kept_at rows None = stands []
 kept_at rows (Some k) = slice_index_or rows k (stands [])
@@ -93,12 +93,12 @@ abbrev pub marked_at : Bool → List (List (ℕ → Bool) × List (ℕ → Bool)
 marked_at is_note all None = []
 marked_at is_note all (Some k) = marked_in is_note (slice_index_or all k ([], []))
 
--- what stands behind the word of each branch
+-- what comes after the word of each branch
 abbrev pub branch_parts : Trees → List Trees
 branch_parts none = []
 branch_parts (b ▸ bs) = parts_in (codes "branch") b ∷ branch_parts bs
 
--- behind the name and the parameters of a choice
+-- what comes after the name and the parameters of a choice
 abbrev pub behind_parameters : Trees → Trees
 behind_parameters ts = later (later ts)
 

@@ -46,7 +46,7 @@ use Rattle.lc_outline_text.specs.Sides as B
 use Rattle.lc_outline_text.specs.declared.instruction.Totals.{Totals}
 use Rattle.lc_outline_text.specs.declared.sides.Sides.{Sides}
 
--- a point, and what stands beside its code
+-- a point, and what is beside its code
 abbrev pub outlined_of : Point × Outline → O.Point × D.Outline
 outlined_of p = (point_of p.0, outline_of p.1)
 
@@ -91,7 +91,7 @@ declared_numbers abstracts concretes auxiliaries =
 abbrev pub count_cap : ℕ
 count_cap = 1 + condition_limit
 
--- this count, or the cap where it is more
+-- this count, or the cap if it is more
 abbrev pub capped : ℕ → ℕ
 capped n = min count_cap n
 
@@ -114,13 +114,13 @@ abbrev pub is_bound : Pass → Bool
 is_bound Bound = true
 is_bound _ = false
 
--- what is told of them is told before any item beyond a limit
+-- whether what is reported about them is reported before any item beyond a limit
 abbrev pub is_told_before_limits : Result Parts ReadFault → Bool
 is_told_before_limits (Ok parts) = false
 is_told_before_limits (Err (Flawed f)) = not (is_bound f.pass)
 is_told_before_limits (Err OutOfMemory) = false
 
--- what the forms of a file say, else what is told first of them
+-- what the forms of a file say, else what is reported first about them
 abbrev pub IsFileRead : Trees → Result Parts ReadFault → Type 0
 IsFileRead ts (Ok parts) = file_reading ts ≡ fine (parts_shown parts)
 IsFileRead ts (Err (Flawed f)) = (g : Flaw) × (file_reading ts ≡ flawed g) × (refusal_of f ≡ refusal_of g)

@@ -1,4 +1,4 @@
-//! How the bodies of an object are read, with what stands beside their code.
+//! How the bodies of an object are read, with what is beside their code.
 ghost use Rattle.std.specs.Prelude.{◌≡◌, map, option_map, slice_get};
 ghost use Rattle.lc_object_text.specs.DeclaredView.{body_seen};
 ghost use Rattle.lc_sexp.specs.Shown.{rest_of, number_of};
@@ -25,7 +25,7 @@ use std::alloc::Global;
 #[derive(Clone, Copy)]
 pub(crate) struct Bodies<'a, 'b>(pub(crate) &'b Declarations<'a>);
 
-/// What the body of this place declares, if one is due there.
+/// What the body at this place declares, if one is expected there.
 fn due_body<'a, 'b>(declarations: &'b Declarations<'a>, place: u32) -> Option<&'b Body<'a>>
     ensures { option_map (λ body. body_seen body.now) result ≡ slice_get (declarations_seen declarations.now).declared.bodies place }
 {

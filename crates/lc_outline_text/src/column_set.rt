@@ -8,7 +8,7 @@ ghost use Rattle.lc_outline_text.specs.StoredView.{IsSet, listed_in};
 use lc_base::{ColId, OutOfMemory};
 use std::alloc::Global;
 
-/// In which round each column was put in last, by its number. Rounds begin with 1.
+/// The round in which each column was put in last, by the column's number. Rounds begin with 1.
 #[derive(Drop)]
 pub(crate) struct Rounds {
     rounds: Vec<u64>,

@@ -1,4 +1,4 @@
-//! The columns in which something is stored, told from a text.
+//! The columns in which something is stored, read off a text.
 ghost use Rattle.std.specs.Prelude.{◌≡◌, ◌++◌, ℕ, List, [], option_map, take, length, IfOk};
 ghost use Rattle.lc_sexp.specs.Shown.{rest_of};
 ghost use Rattle.lc_action.specs.ActionView.{first_of};
@@ -31,7 +31,7 @@ pub(crate) fn column_of(columns: &NameTable<'_>, name: &str) -> Result<Option<Co
     }
 }
 
-/// The system columns behind these.
+/// The system columns after these.
 pub(crate) fn system_behind(columns: &NameTable<'_>) -> Result<SystemColumns, OutOfMemory>
     ensures { IfOk result (λ system. first_of system ≡ length (listed columns.now)) }
 {
@@ -41,7 +41,7 @@ pub(crate) fn system_behind(columns: &NameTable<'_>) -> Result<SystemColumns, Ou
     }
 }
 
-/// The column of a name, if there is one, where that of the name before is this one. Most names are the one before.
+/// The column of a name, if there is one, given the column of the name before. Most names are the one before.
 fn column_behind(
     columns: &NameTable<'_>,
     before: &str,
@@ -57,7 +57,7 @@ fn column_behind(
     column_of(columns, name)
 }
 
-/// These columns, with this one behind them, if there is one.
+/// These columns, followed by this one, if there is one.
 fn push_found(column: Option<ColId>, mut stored: Vec<ColId>) -> Result<Vec<ColId>, OutOfMemory>
     ensures { (columns : List (List ℕ)) (name : List ℕ) → option_map (λ c. c.0) column ≡ column_place columns name →
         IfOk result (λ all. columns_of all.items ≡ columns_of stored.items ++ column_named columns name) }
@@ -68,7 +68,7 @@ fn push_found(column: Option<ColId>, mut stored: Vec<ColId>) -> Result<Vec<ColId
     Ok(stored)
 }
 
-/// These columns, with those of `(COLUMN ..) (COLUMN ..) ..` behind them.
+/// These columns, followed by those of `(COLUMN ..) (COLUMN ..) ..`.
 pub(crate) fn push_stored(
     columns: &NameTable<'_>,
     list: Cursor<'_>,
@@ -91,7 +91,7 @@ pub(crate) fn push_stored(
     }
 }
 
-/// These columns, with the first of a row behind them, so many.
+/// These columns, followed by the first `count` of a row.
 fn push_first(
     row: &[ColId],
     count: usize,
@@ -107,7 +107,7 @@ fn push_first(
     Ok(stored)
 }
 
-/// The columns in which a branch stores, `F (UPDATE ..) (T ..)`, where a call is settled by it.
+/// The columns in which a branch stores, `F (UPDATE ..) (T ..)`, when a call is settled by it.
 pub(crate) fn columns_settled(
     alloc: Global,
     columns: &NameTable<'_>,
@@ -124,7 +124,7 @@ pub(crate) fn columns_settled(
     Ok(stored)
 }
 
-/// The columns in which a branch stores where the replies of a call are noted by it.
+/// The columns in which a branch stores when the replies of a call are noted by it.
 pub(crate) fn columns_noted(
     alloc: Global,
     columns: &NameTable<'_>,

@@ -4,10 +4,10 @@ ghost use Rattle.lc_outline_text.specs.Views.{capped};
 
 use lc_base::{CONDITION_LIMIT, OutOfMemory};
 
-/// So many conditions are not told apart from more.
+/// This many conditions count as any larger number.
 pub(crate) const COUNT_CAP: u64 = CONDITION_LIMIT + 1;
 
-/// This count, or the cap where it is more.
+/// This count, or the cap if it is more.
 pub(crate) fn capped(count: u64) -> u64
     ensures { result ≡ capped count }
 {

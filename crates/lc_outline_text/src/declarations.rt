@@ -16,15 +16,15 @@ use lc_sexp::Cursor;
 pub(crate) struct Declarations<'a> {
     pub(crate) declared: Declared<'a>,
     pub(crate) action_names: NameTable<'a>,
-    /// What stands behind the word of each action.
+    /// What comes after the word of each action.
     pub(crate) actions: Vec<Cursor<'a>>,
     /// How many parameters each action has.
     pub(crate) parameters: Vec<u64>,
-    /// What stands behind the word of each operation.
+    /// What comes after the word of each operation.
     pub(crate) operations: Vec<Cursor<'a>>,
     /// How each operation goes.
     pub(crate) ways: Vec<Ways<'a>>,
-    /// What stands behind the word of each choice of each operation.
+    /// What comes after the word of each choice of each operation.
     pub(crate) choices: Vec<Vec<Cursor<'a>>>,
     ghost named: { listed action_names ≡ map first_text (map rest_of actions.items) },
     ghost parameters_counted: { parameters.items ≡ map parameter_count (map rest_of actions.items) },

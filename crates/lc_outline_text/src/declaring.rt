@@ -19,8 +19,8 @@ use lc_rider_text::{Columns, Known, Ways};
 use lc_sexp::Cursor;
 use std::alloc::Global;
 
-/// The names of the lists at the beginning that begin with a word, and what stands behind the word in each. Where some are
-/// due the first item is taken for one.
+/// The names of the lists at the beginning that begin with a word, and what comes after the word in each. If some are
+/// expected, the first item is taken for one.
 fn read_forms<'a>(
     alloc: Global,
     mut list: Cursor<'a>,
@@ -62,7 +62,7 @@ fn parameter_counts(alloc: Global, forms: &[Cursor<'_>]) -> Result<Vec<u64>, Out
     Ok(counts)
 }
 
-/// How an operation goes, and what stands behind the word of each of its choices.
+/// How an operation goes, and what comes after the word of each of its choices.
 fn read_ways<'a>(
     alloc: Global,
     operation: Cursor<'a>,

@@ -24,9 +24,9 @@ use lc_object_text::{Body, behind_first, first_text, items_in_first, next_form, 
 use lc_sexp::Cursor;
 use std::alloc::Global;
 
-/// What is told of a body where its conditions are counted: what the file declares, the columns in which is stored by what is
-/// declared, how many conditions are asked everywhere, the number of its operation, the body, and how many assertions each of
-/// its points has.
+/// What is known about a body when its conditions are counted: what the file declares, the columns in which something is
+/// stored by what is declared, how many conditions are asked everywhere, the number of its operation, the body, and how many
+/// assertions each of its points has.
 #[derive(Clone, Copy)]
 pub(crate) struct Counting<'a, 't> {
     pub(crate) declarations: &'a Declarations<'t>,
@@ -37,7 +37,7 @@ pub(crate) struct Counting<'a, 't> {
     pub(crate) asserts: &'a [u64],
 }
 
-/// What stands behind the edge's word in the first list `(on EDGE ..)` at the beginning that is of the edge of this word.
+/// What comes after the edge's word in the first of the lists `(on EDGE ..)` at the beginning that has this word.
 fn on_of<'a>(list: Cursor<'a>, word: &str) -> Option<Cursor<'a>>
     ensures { rest_found result ≡ on_of word.now (forms_in (codes "on") (rest_of list.entry)) }
 {
@@ -50,8 +50,8 @@ fn on_of<'a>(list: Cursor<'a>, word: &str) -> Option<Cursor<'a>>
     }
 }
 
-/// The conditions of an edge, given what stands in its `on` behind the edge's word, if it has one; how many speak of what is
-/// to hold behind it; and of which kind it is of an instruction. Up to the cap.
+/// The conditions of an edge, given what its `on` has after the edge's word, if there is one; how many of them are about what
+/// has to hold after it; and which kind of edge of an instruction it is. Up to the cap.
 fn edge_conditions(
     alloc: Global,
     declarations: &Declarations<'_>,

@@ -54,7 +54,7 @@ fn read_specification<'a>(
     }
 }
 
-/// An object's own tables, and what stands beside its code, in the object of this number.
+/// An object's own tables, and what is beside its code, in the object of this number.
 fn read_tables_and_sides(
     alloc: Global,
     declarations: &Declarations<'_>,
@@ -130,7 +130,7 @@ fn read_forms<'a>(
     Ok(parts)
 }
 
-/// Whether these are told before any item beyond a limit.
+/// Whether what is wrong with these is reported before any item beyond a limit.
 fn is_told_before_limits(parts: &Result<Parts, ReadFault>) -> bool
     ensures { result ≡ is_told_before_limits parts.now }
 {
@@ -140,8 +140,8 @@ fn is_told_before_limits(parts: &Result<Parts, ReadFault>) -> bool
     }
 }
 
-/// What the forms of a file say, else what is told first of them. Conditions are counted only where they may be told: behind
-/// a flaw of an earlier pass no limit is.
+/// What the forms of a file say, else what is reported first about them. Conditions are counted only if their number may be
+/// reported: after a flaw of an earlier pass no limit is.
 fn read_file(alloc: Global, forms: Cursor<'_>) -> Result<Parts, ReadFault>
     requires start { number_of forms ≡ 0 }
     ensures read { IsFileRead (rest_of forms.entry) result }
@@ -159,7 +159,7 @@ fn read_file(alloc: Global, forms: Cursor<'_>) -> Result<Parts, ReadFault>
     limited(count > CONDITION_LIMIT, 0, parts)
 }
 
-/// The development of the file of which these are the forms. Where it is none, `Refused` has its first refusal, as in
+/// The development of the file with these forms. If it is none, `Refused` has its first refusal, as in
 /// `development_of`.
 pub fn development_in(alloc: Global, forms: &Forms) -> Result<Development, Fault>
     ensures { (bytes : List ℕ) → ReadsAs bytes forms.now → IsAnswerTo development_shown file_reading bytes result }
@@ -175,9 +175,10 @@ pub fn development_in(alloc: Global, forms: &Forms) -> Result<Development, Fault
 /// OBJECT ::= (object NAME (array NAME COL+)* (aux COL*) ACTION* (invariant (NAME F)*) (idle F*) BODY+)
 /// ```
 ///
-/// Where it is none, `Refused` has the first refusal: `Text` with the offset of the first text fault; else of `Shape`,
+/// If it is none, `Refused` has the first refusal: `Text` with the offset of the first text fault; else of `Shape`,
 /// `Unknown`, `Repeated`, `Auxiliary` and `Bound`, in this order, the first for which an item is wrong, with the least such
-/// item. That there are more conditions than their limit is `Bound` at the item 0. `OutOfMemory` says nothing of the file.
+/// item. That there are more conditions than their limit is `Bound` at the item 0. `OutOfMemory` says nothing about the
+/// file.
 pub fn development_of(alloc: Global, bytes: &[u8]) -> Result<Development, Fault>
     ensures { IsAnswerTo development_shown file_reading bytes.now result }
 {

@@ -1,4 +1,4 @@
-//! How formulas in a list behind a word are read.
+//! How formulas in a list after a word are read.
 ghost use Rattle.std.specs.Prelude.{map};
 ghost use Rattle.lc_reading.specs.Parts.{tree_of, place_of};
 ghost use Rattle.lc_reading.specs.Results.{IsReading};

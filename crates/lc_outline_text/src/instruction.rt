@@ -1,4 +1,4 @@
-//! What is told from the text of an instruction about its edges.
+//! What the text of an instruction says about its edges.
 ghost use Rattle.std.specs.Prelude.{◌≡◌, IfOk};
 ghost use Rattle.lc_sexp.specs.Shown.{rest_of};
 ghost use Rattle.lc_object.specs.View.{columns_of};
@@ -17,7 +17,7 @@ use lc_object_text::{Body, Declared, Span, behind_first, first_text};
 use lc_sexp::Cursor;
 use std::alloc::Global;
 
-/// How many conjuncts hold in all states, and where a client is idle; and how many actions others may do, with those by which
+/// How many conjuncts hold in all states, and when a client is idle; and how many actions others may do, with those by which
 /// calls begin and end.
 #[derive(Clone, Copy)]
 pub(crate) struct Totals {
@@ -65,7 +65,7 @@ pub(crate) fn count_at(counts: &[u64], place: Option<usize>) -> u64
     }
 }
 
-/// How many conditions speak of what is to hold behind an edge of an instruction.
+/// How many conditions are about what has to hold after an edge of an instruction.
 pub(crate) fn asked_behind(
     totals: Totals,
     body: &Body<'_>,

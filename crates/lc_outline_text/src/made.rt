@@ -19,10 +19,10 @@ use lc_seq::{Column, TextSpec};
 use lc_tie::Tie;
 use std::alloc::Global;
 
-/// What an object is read into: its own tables, what stands beside its code, and its bodies with their outlines.
+/// What an object is read into: its own tables, what is beside its code, and its bodies with their outlines.
 pub(crate) type ObjectParts = ((Tables, Sides), Vec<BodyText<(Point, Outline)>>);
 
-/// Points, and behind these outlines those of the points.
+/// Points, and these outlines followed by those of the points.
 fn apart(
     alloc: Global,
     points: Vec<(Point, Outline)>,

@@ -37,7 +37,7 @@ pub(crate) fn items_within<'a>(part: Part<'a>) -> Cursor<'a>
     list
 }
 
-/// What stands behind the word in a part that is a list which begins with this word; else nothing.
+/// What comes after the word in a part that is a list which begins with this word; else nothing.
 pub(crate) fn parts_in<'a>(part: Part<'a>, word: &str) -> Cursor<'a>
     ensures { rest_of result ≡ parts_in word.now (tree_of part.entry) }
 {
@@ -47,7 +47,7 @@ pub(crate) fn parts_in<'a>(part: Part<'a>, word: &str) -> Cursor<'a>
     parts
 }
 
-/// The word of an instruction; no text where it has none.
+/// The word of an instruction; no text if it has none.
 pub(crate) fn code_word<'a>(part: Part<'a>) -> &'a str
     ensures { result.now ≡ code_word (tree_of part.entry) }
 {
@@ -61,7 +61,7 @@ pub(crate) fn goes_next(word: &str) -> bool
     matches!(word, "load" | "store" | "faa" | "set" | "return")
 }
 
-/// Whether an instruction of this word has an edge where it holds, and one where it fails.
+/// Whether an instruction of this word has an edge for when it holds, and one for when it fails.
 pub(crate) fn branches_off(word: &str) -> bool
     ensures { result ≡ branches_off word.now }
 {
@@ -126,7 +126,7 @@ fn acts(actions: &NameTable<'_>, word: &str, parts: Cursor<'_>) -> bool
     }
 }
 
-/// Whether an edge of an instruction of this word lacks an `on` that it needs, among the lists that stand next.
+/// Whether an edge of an instruction with this word lacks an `on` that it needs, among the lists that come next.
 fn lacks_at(actions: &NameTable<'_>, word: &str, list: Cursor<'_>, kind: EdgeKind) -> bool
     ensures { result ≡ lacks_at (listed actions.now) word.now (forms_in (codes "on") (rest_of list.entry)) kind }
 {
@@ -143,7 +143,7 @@ fn lacks_at(actions: &NameTable<'_>, word: &str, list: Cursor<'_>, kind: EdgeKin
     }
 }
 
-/// Whether some edge of an instruction of this word lacks an `on` that it needs, among the lists that stand next.
+/// Whether some edge of an instruction with this word lacks an `on` that it needs, among the lists that come next.
 pub(crate) fn lacks_on(actions: &NameTable<'_>, word: &str, list: Cursor<'_>) -> bool
     ensures { result ≡ lacks_on (listed actions.now) word.now (forms_in (codes "on") (rest_of list.entry)) }
 {

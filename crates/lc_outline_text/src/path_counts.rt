@@ -12,8 +12,9 @@ use crate::riders::{Rider, branching, path_number, put_common, put_way, way_coun
 use lc_base::{ColId, OutOfMemory};
 use std::alloc::Global;
 
-/// Puts in the columns that are stored in on the path of this number, and answers how many conditions are asked, with so many
-/// before. The number's last digit is the place of the way past the first rider, the next one of that past the second, and so on.
+/// Puts in the columns that are stored in on the path of this number, and returns how many conditions are asked: `before` and
+/// those of the path. The number's last digit is the place of the way past the first rider, the next one of that past the second,
+/// and so on.
 fn put_path(
     set: &mut ColumnSet,
     riders: &[Rider<'_>],
@@ -36,7 +37,7 @@ fn put_path(
     Ok(asked)
 }
 
-/// The conditions of the path of this number, where so many are asked and these columns stored in beside it.
+/// The conditions of the path of this number, with `asked` conditions asked and these columns stored in beside it.
 fn conditions_on(
     set: &mut ColumnSet,
     riders: &[Rider<'_>],
@@ -81,9 +82,9 @@ fn conditions_on_all(
     Ok(count)
 }
 
-/// The conditions of the paths that pass these riders, at an edge where an action stores in these columns, where so many are
-/// asked before and these columns stored in; up to the cap. What is done on each path alike is told once, and each path then
-/// costs no more than the conditions that it has.
+/// The conditions of the paths that pass these riders, at an edge where an action stores in these columns, with `asked`
+/// conditions asked and these columns stored in before; up to the cap. What is done alike on each path is counted once, and each
+/// path then costs no more than the conditions that it has.
 pub(crate) fn path_conditions(
     alloc: Global,
     set: &mut ColumnSet,

@@ -22,7 +22,7 @@ use lc_rider_text::{Beside, Edges, Known, Ways, read_ons};
 use lc_sexp::Cursor;
 use std::alloc::Global;
 
-/// Reads what stands beside the code of the points of a body.
+/// Reads what is beside the code of the points of a body.
 #[derive(Clone, Copy)]
 pub(crate) struct Outlines<'a, 'b> {
     pub(crate) known: Known<'a, 'b>,
@@ -49,7 +49,7 @@ fn read_outline(
     }
 }
 
-/// A point with `(assert F ..) ON ..`, which stand behind its instruction of this word.
+/// A point with `(assert F ..) ON ..`, which come after its instruction of this word.
 fn read_outlined(
     alloc: Global,
     reader: &Outlines<'_, '_>,
@@ -72,8 +72,8 @@ impl Outlines<'_, '_> {
     ghost use Rattle.lc_rider_text.specs.KnownView.{known_seen};
     ghost use Rattle.lc_outline_text.specs.Needs.{lacks_on};
 
-    /// Whether an edge of an instruction of this word, in which nothing is misshapen, lacks an `on` among the lists that
-    /// stand next.
+    /// Whether an edge of an instruction with this word, in which nothing is misshapen, lacks an `on` among the lists
+    /// that come next.
     fn lacks_on(&self, is_shaped: bool, word: &str, list: Cursor<'_>) -> bool
         ensures { result ≡ (is_shaped && lacks_on (known_seen self.now.known).actions word.now (forms_in (codes "on") (rest_of list.entry))) }
     {

@@ -10,16 +10,16 @@ use crate::counts::{capped_product, sum_of};
 use lc_base::{ColId, OutOfMemory};
 use std::alloc::Global;
 
-/// What is done by a rider where its condition holds, by the columns that are stored in.
+/// What is done by a rider if its condition holds, by the columns that are stored in.
 #[derive(Clone, Copy)]
 pub(crate) enum Deed<'a> {
     /// This column is set, if there is one of its name.
     Set(Option<ColId>),
-    /// A call is marked in one of these ways: on each so many conditions are asked, and is stored in a row of columns.
+    /// A call is marked in one of these ways: on each, `asked` conditions are asked, and a row of columns is stored in.
     Marks { asked: u64, rows: &'a [Vec<ColId>] },
 }
 
-/// A rider. Where it has a condition there is one way more past it, on which nothing is done.
+/// A rider. If it has a condition there is one way more past it, on which nothing is done.
 #[derive(Clone, Copy)]
 pub(crate) struct Rider<'a> {
     pub(crate) deed: Deed<'a>,
@@ -56,7 +56,7 @@ pub(crate) fn path_number(riders: &[Rider<'_>]) -> u64
     number
 }
 
-/// Puts the row at this place into a set, and answers how many conditions are asked on its way; where there is none, nothing.
+/// Puts the row at this place into a set, and returns how many conditions are asked on its way; if there is none, nothing.
 fn put_row(
     set: &mut ColumnSet,
     asked: u64,
@@ -75,8 +75,8 @@ fn put_row(
     Ok(asked)
 }
 
-/// Puts in the columns that are stored in by a deed in the way at this place, and answers how many conditions are asked on it;
-/// where there is none, nothing.
+/// Puts in the columns that are stored in by a deed in the way at this place, and returns how many conditions are asked on it;
+/// if there is none, nothing.
 fn put_deed(set: &mut ColumnSet, deed: Deed<'_>, place: u64) -> Result<u64, OutOfMemory>
     requires { IsSet set.old }
     ensures asked { IfOk result (λ asked. asked ≡ (get_or (deed_seen deed.entry) place no_way).asked) }
@@ -96,7 +96,7 @@ fn put_deed(set: &mut ColumnSet, deed: Deed<'_>, place: u64) -> Result<u64, OutO
     }
 }
 
-/// Puts in the columns that are stored in on the way past a rider at this place, and answers how many conditions are asked on it.
+/// Puts in the columns that are stored in on the way past a rider at this place, and returns how many conditions are asked on it.
 pub(crate) fn put_way(
     set: &mut ColumnSet,
     rider: &Rider<'_>,
@@ -111,7 +111,7 @@ pub(crate) fn put_way(
     Ok(asked)
 }
 
-/// Puts in the columns that are stored in on the only way past a rider, if there is only one, and answers how many conditions are
+/// Puts in the columns that are stored in on the only way past a rider, if there is only one, and returns how many conditions are
 /// asked on it.
 fn put_only(set: &mut ColumnSet, rider: &Rider<'_>) -> Result<u64, OutOfMemory>
     requires { IsSet set.old }
@@ -125,7 +125,7 @@ fn put_only(set: &mut ColumnSet, rider: &Rider<'_>) -> Result<u64, OutOfMemory>
     put_way(set, rider, 0)
 }
 
-/// Puts in the columns that are stored in by all riders that are passed in one way, and answers how many conditions are asked by
+/// Puts in the columns that are stored in by all riders that are passed in one way, and returns how many conditions are asked by
 /// them and before.
 pub(crate) fn put_common(
     set: &mut ColumnSet,

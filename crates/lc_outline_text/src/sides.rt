@@ -1,4 +1,4 @@
-//! How that is read which stands beside the code of an object: auxiliary columns, actions, invariant, idle clients.
+//! How what is beside the code of an object is read: auxiliary columns, actions, invariant, idle clients.
 ghost use Rattle.std.specs.Prelude.{[], Some, map, codes};
 ghost use Rattle.lc_sexp.specs.Shown.{rest_of, number_of};
 ghost use Rattle.lc_seq.specs.SpecView.{column_of};
@@ -28,8 +28,8 @@ use lc_term::Formula;
 use lc_tie::Conjunct;
 use std::alloc::Global;
 
-/// What stands in an object beside its code: the auxiliary columns, the actions, the invariant, and what holds of idle
-/// clients.
+/// The sections of an object beside its code: the auxiliary columns, the actions, the invariant, and what holds of
+/// idle clients.
 pub(crate) struct Sides {
     pub(crate) auxiliaries: Vec<Column>,
     pub(crate) actions: Vec<Action>,
@@ -81,7 +81,7 @@ fn read_auxiliaries(
     read_placed(alloc, &reader, list)
 }
 
-/// The auxiliary columns, which stand next in the object of this number.
+/// The auxiliary columns, which come next in the object of this number.
 fn read_first_auxiliaries(
     alloc: Global,
     declarations: &Declarations<'_>,
@@ -151,7 +151,7 @@ fn read_idle(
     read_formulas_in(alloc, &scope, "idle", part)
 }
 
-/// The invariant, and what holds of idle clients, which stand next in the object of this number.
+/// The invariant, and what holds of idle clients, which come next in the object of this number.
 fn read_conditions(
     alloc: Global,
     declarations: &Declarations<'_>,
@@ -168,7 +168,7 @@ fn read_conditions(
     both(conjuncts, idle)
 }
 
-/// What stands beside the code in the object of this number.
+/// The sections beside the code in the object of this number.
 pub(crate) fn read_sides(
     alloc: Global,
     declarations: &Declarations<'_>,

@@ -1,4 +1,4 @@
-//! The columns in which actions, branches and choices store, told once for a file.
+//! The columns in which actions, branches and choices store, found once for a file.
 ghost use Rattle.std.specs.Prelude.{◌≡◌, ℕ, map, IfOk, OnOk};
 ghost use Rattle.lc_sexp.specs.Shown.{rest_of};
 ghost use Rattle.lc_object.specs.View.{columns_of};
@@ -23,8 +23,8 @@ use lc_reading::{NameTable, next_part};
 use lc_sexp::Cursor;
 use std::alloc::Global;
 
-/// The columns in which each branch of an operation stores, or each choice, every column once: where a call is settled by it,
-/// and where its replies are noted.
+/// The columns in which each branch of an operation stores, or each choice, every column once: when a call is settled by it,
+/// and when its replies are noted.
 pub(crate) struct Rows {
     settled: Vec<Vec<ColId>>,
     noted: Vec<Vec<ColId>>,
@@ -147,7 +147,7 @@ fn branch_rows(
     Ok(rows)
 }
 
-/// The columns in which is stored by each of these branches, where a call is settled by it and where it is noted.
+/// The columns in which each of these branches stores, when a call is settled by it and when it is noted.
 fn rows_of(
     alloc: Global,
     set: &mut ColumnSet,
@@ -163,7 +163,7 @@ fn rows_of(
     Ok(Rows { settled, noted })
 }
 
-/// What stands behind the word of each branch in a list.
+/// What comes after the word of each branch in a list.
 fn branch_parts<'a>(alloc: Global, list: Cursor<'a>) -> Result<Vec<Cursor<'a>>, OutOfMemory>
     ensures { IfOk result (λ parts. rests_of parts.items ≡ branch_parts (rest_of list.entry)) }
 {
@@ -177,7 +177,7 @@ fn branch_parts<'a>(alloc: Global, list: Cursor<'a>) -> Result<Vec<Cursor<'a>>, 
     }
 }
 
-/// What stands behind the parameters of each of these choices.
+/// What comes after the parameters of each of these choices.
 fn choice_parts<'a>(alloc: Global, choices: &[Cursor<'a>]) -> Result<Vec<Cursor<'a>>, OutOfMemory>
     ensures { IfOk result (λ parts. rests_of parts.items ≡ map behind_parameters (rests_of choices.now)) }
 {
@@ -262,7 +262,7 @@ fn row_at(rows: &[Vec<ColId>], place: Option<usize>) -> &[ColId]
     }
 }
 
-/// The rows where a call is settled, or noted.
+/// The rows for a call that is settled, or noted.
 fn rows_for(rows: &Rows, is_note: bool) -> &[Vec<ColId>]
     ensures { rows_kept result.now ≡ marked_in is_note (rows_seen rows.now) }
 {
@@ -294,7 +294,7 @@ pub(crate) fn columns_acted<'b>(
     row_at(&stored.actions, declarations.action_names.place(name))
 }
 
-/// The columns in which is stored by the branches of the operation at this place, where a call is settled by them, or noted.
+/// The columns in which the branches of the operation at this place store, when a call is settled by them, or noted.
 pub(crate) fn marked_by_branches<'b>(
     declarations: &Declarations<'_>,
     stored: &'b Stored,
@@ -308,7 +308,7 @@ pub(crate) fn marked_by_branches<'b>(
     rows_at(&stored.branches, operation, is_note)
 }
 
-/// The columns in which is stored by the choice of this name, of the operation at this place, where a call is settled by it, or
+/// The columns in which the choice of this name, of the operation at this place, stores, when a call is settled by it, or
 /// noted.
 pub(crate) fn marked_by_choice<'b>(
     declarations: &Declarations<'_>,

@@ -1,4 +1,4 @@
-//! What riders do, told from a text.
+//! What riders do, read off a text.
 ghost use Rattle.std.specs.Prelude.{◌≡◌, map, IfOk};
 ghost use Rattle.lc_sexp.specs.Shown.{rest_of};
 ghost use Rattle.lc_outline_text.specs.DeclarationsView.{declarations_seen};

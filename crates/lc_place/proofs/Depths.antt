@@ -38,7 +38,7 @@ opens_step bytes i r next s = ap opens s.read ∙ sum_by_push opens_at (take i (
 pub closes_step : (bytes : List ℕ) (i r : ℕ) (next : Bool) → IsStep bytes i r next → closes (take (i + 1) (text_of bytes)) ≡ closes (take i (text_of bytes)) + closes_at r
 closes_step bytes i r next s = ap closes s.read ∙ sum_by_push closes_at (take i (text_of bytes)) r
 
--- how many lists are open behind a byte
+-- how many lists are open after a byte
 abbrev pub depth_next : ℕ → ℕ → ℕ
 depth_next depth r = cond (r == 40) (depth + 1) (cond (r == 41) (depth - 1) depth)
 
@@ -78,7 +78,7 @@ pub depth_step : (bytes : List ℕ) (i r depth : ℕ) (next : Bool) → IsStep b
 depth_step bytes i r depth next s h u =
     omega (arith, opens_step bytes i r next s, closes_step bytes i r next s, u.depth_is, moved r depth (some_open bytes i r depth next s h u))
 
--- one byte more, behind which the list is open
+-- one byte more, after which the list is open
 pub under_way_more : (bytes : List ℕ) (i r depth after : ℕ) (next : Bool) → IsStep bytes i r next → begins_list (text_of bytes) ≡ true → IsUnderWay (text_of bytes) i depth
     → after ≡ depth_next depth r → 0 < after → IsUnderWay (text_of bytes) (i + 1) after
 under_way_more bytes i r depth after next s h u e some =
@@ -105,6 +105,6 @@ closed_here bytes i r depth after next s h u e z =
       first = λ m k lt. u.never m k (omega arith);
     })
 
--- the end, where it is open
+-- the end, if it is open
 pub open_to_end : (bytes : List ℕ) (i depth n : ℕ) → length bytes ≤ i → n ≡ length bytes → IsUnderWay (text_of bytes) i depth → IsListOf (text_of bytes) n
 open_to_end bytes i depth n le e u = inr (omega (arith, e, length-text bytes), λ m k short. u.never m k (omega (arith, length-text bytes, short, le)))

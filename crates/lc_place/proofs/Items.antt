@@ -9,7 +9,7 @@ use Rattle.lc_place.specs.Items.{items_among, items_in, begins_item, Begins}
 use Rattle.lc_place.proofs.Texts.{IsStep, read_all}
 use Rattle.lc_place.proofs.Tokens.{ends_in, lexed_apart, unit_of, count_more, count_apart, unit_open, unit_word, unit_none, item_some}
 
--- whether an item begins at a byte, behind a letter or not
+-- whether an item begins at a byte, after a letter or not
 abbrev pub is_begun : ℕ → Bool → Bool
 is_begun r w = r == 40 || (is_Letter (class_of r) && not w)
 
@@ -85,6 +85,6 @@ more_items bytes number i b le =
     ap items_among b.apart ∙ count_apart (lexed (take i (text_of bytes))) (lexed (drop i (text_of bytes))) in
     omega (arith, all, b.before, le, item_some (drop i (text_of bytes)) b.begins)
 
--- and where all was read, no more than so many
+-- and if all was read, there are no more than `number` items
 pub no_more : (bytes : List ℕ) (i number left : ℕ) → length bytes ≤ i → items_among (lexed (take i (text_of bytes))) + left ≡ number → items_in bytes ≤ number
 no_more bytes i number left le k = omega (arith, k, ap (λ x. items_among (lexed x)) (read_all bytes i le).0)

@@ -10,7 +10,7 @@ use Rattle.lc_place.specs.Open.{IsClosed, IsInnermostOpen, AreAllClosed}
 use Rattle.lc_place.proofs.Texts.{IsStep, length-text}
 use Rattle.lc_place.proofs.Depths.{opens, closes, opens_at, closes_at, opens-append, closes-append, opens-cons, closes-cons}
 
--- with the list behind this bracket one list more is opened than closed
+-- with the list after this bracket one list more is opened than closed
 abbrev pub IsEven : List ℕ → Type 0
 IsEven text = (begins_list text ≡ true) × (opens text ≡ closes text + 1)
 
@@ -22,7 +22,7 @@ abbrev pub IsLastEven : List ℕ → ℕ → Option ℕ → Type 0
 IsLastEven text to None = AreNotEven text 0 to
 IsLastEven text to (Some o) = (o < to) × IsEven (drop o text) × AreNotEven text (o + 1) to
 
--- where none is even, no more are opened than closed
+-- if none is even, no more are opened than closed
 not_even_cons : (b : ℕ) (s : List ℕ) → opens s ≤ closes s → ((opens (b ∷ s) ≡ closes (b ∷ s) + 1) → (b == 40) ≡ true → ⊥) → opens (b ∷ s) ≤ closes (b ∷ s)
 not_even_cons b s le f = elim (cases_eq b 40) [
   | inl e ↦
@@ -48,7 +48,7 @@ all_closed (b ∷ s) f = not_even_cons b s (all_closed s (λ k e. f (suc k) e)) 
 nil_not_even : (s : List ℕ) → s ≡ [] → IsEven s → ⊥
 nil_not_even s e h = let b : begins_list [] ≡ true = ap begins_list (sym e) ∙ h.0 in absurd (cc)
 
--- a part of a text behind which none is even
+-- a part of a text after which none is even
 behind_closed : (text : List ℕ) (from j : ℕ) → AreNotEven text from (length text) → from ≤ j → opens (drop j text) ≤ closes (drop j text)
 behind_closed text from j f above = all_closed (drop j text) (λ k e.
     let here : IsEven (drop (j + k) text) = subst IsEven (drop-drop k j text) e in
@@ -129,7 +129,7 @@ no_more_even text from i f here k le lt e = elim (cases_eq k i) [
   | inr other ↦ f k le (omega arith) e
 ]
 
--- one byte more: a bracket behind which as many lists are closed as opened, or none
+-- one byte more: a bracket after which as many lists are closed as opened, or none
 pub even_more : (bytes : List ℕ) (i r o c : ℕ) (next : Bool) → IsStep bytes i r next → o ≡ opens (drop (i + 1) (text_of bytes)) → c ≡ closes (drop (i + 1) (text_of bytes))
     → (r == 40 && o == c) ≡ true → IsLastEven (text_of bytes) (i + 1) (Some i)
 even_more bytes i r o c next s e f h =

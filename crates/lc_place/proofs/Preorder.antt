@@ -43,7 +43,7 @@ get_right [] ys k j e = ap (slice_get ys) (let f : k ≡ j = omega (arith, e) in
 get_right (x ∷ xs) ys zero j e = absurd (omega (arith, e))
 get_right (x ∷ xs) ys (suc k) j e = get_right xs ys k j (omega (arith, e))
 
--- Tokens with the item of a number among them: so many items begin before it.
+-- Tokens with the item of number `k` among them: `k` items begin before it.
 record HasItem (items : List Tree) (tokens : List Token) (k : ℕ) : Type 0 where
   pub front : List Token
   pub item : Tree

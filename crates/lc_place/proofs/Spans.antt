@@ -31,7 +31,7 @@ some_letters text i h e = elim (cases_eq i 0) [
   | inr n ↦ omega arith
 ]
 
--- a byte that is no letter stands behind them
+-- a byte that is no letter comes after them
 pub word_ended : (bytes : List ℕ) (i : ℕ) → begins_word (text_of bytes) ≡ true → i < length bytes → is_Letter (class_of (get_or bytes i 0)) ≡ false → IsWordSoFar bytes i → IsWordOf (text_of bytes) i
 word_ended bytes i h lt e w =
     let end = ends_here bytes i lt e w in

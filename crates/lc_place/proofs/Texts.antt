@@ -19,7 +19,7 @@ cut_here xs i x ys e =
     let same : get_or xs i x ≡ x = cc in
     (lt, cc, take_more xs i x lt ∙ ap (λ y. take i xs ++ (y ∷ [])) same)
 
--- The text was read up to an offset, and what is left is read in a comment or not; there it has this byte, and behind it another such state.
+-- The text was read up to an offset, and what is left is read in a comment or not; there it has this byte, and after it another such state.
 pub record IsStep (bytes : List ℕ) (i r : ℕ) (next : Bool) : Type 0 where
   pub here : drop i (text_of bytes) ≡ r ∷ drop (i + 1) (text_of bytes)
   pub rest : drop (i + 1) (text_of bytes) ≡ uncommented next (drop (i + 1) bytes)
@@ -37,7 +37,7 @@ step_text bytes i d r c next lt e step =
 pub read_all : (bytes : List ℕ) (i : ℕ) → length bytes ≤ i → (take i (text_of bytes) ≡ text_of bytes) × (drop i (text_of bytes) ≡ [])
 read_all bytes i le = (take_all i (text_of bytes) (omega (arith, length-text bytes)), drop_all i (text_of bytes) (omega (arith, length-text bytes)))
 
--- a byte that is no line feed and begins no comment stands in the text as it is
+-- a byte that is no line feed and begins no comment is the same in the text
 pub plain : (b : ℕ) (rest : List ℕ) → b ≢ 59 → uncommented false (b ∷ rest) ≡ b ∷ uncommented false rest
 plain b rest other = by_test (b == 10) refl where
   by_test : (t : Bool) → (b == 10) ≡ t → uncommented false (b ∷ rest) ≡ b ∷ uncommented false rest
@@ -51,7 +51,7 @@ letter_semi h = cc
 pub letter_not_semi : (b : ℕ) → is_Letter (class_of b) ≡ true → b ≢ 59
 letter_not_semi b h e = letter_semi (ap (λ x. is_Letter (class_of x)) (sym e) ∙ h)
 
--- the first byte of a text that begins in a comment or not, where the byte is neither letter nor bracket there
+-- the first byte of a text that begins in a comment or not, if the byte is neither letter nor bracket there
 first_no_letter : (c : Bool) (b : ℕ) (rest : List ℕ) → is_Letter (class_of b) ≡ false → begins_word (uncommented c (b ∷ rest)) ≡ false
 unfolding class_of
 first_no_letter c b rest h = by_tests (b == 10) (c || b == 59) where
@@ -60,7 +60,7 @@ first_no_letter c b rest h = by_tests (b == 10) (c || b == 59) where
   by_tests false true = refl
   by_tests false false = h
 
--- a letter that stands behind no comment begins a word, and another byte none
+-- a letter that comes after no comment begins a word, and another byte none
 pub word_ends : (b : ℕ) (rest : List ℕ) → is_Letter (class_of b) ≡ false → begins_word (uncommented false (b ∷ rest)) ≡ false
 word_ends b rest h = first_no_letter false b rest h
 

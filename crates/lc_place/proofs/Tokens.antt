@@ -98,7 +98,7 @@ word_first (b ∷ s) h =
     same_first (lexed (b ∷ s)) (placed (kind_of b) b (begins_word s) (lexed s)) (before-of b (begins_word s) (lexed s))
     (placed_first (kind_of b) b (begins_word s) (lexed s) (sym (is_Letter-of b) ∙ h))
 
--- whether a text ends in a letter, behind one or not
+-- whether a text ends in a letter, after one or not
 abbrev pub ends_in : Bool → List ℕ → Bool
 ends_in w [] = w
 ends_in w (b ∷ s) = ends_in (is_Letter (class_of b)) s
@@ -139,7 +139,7 @@ lexed_apart (b ∷ c ∷ s) x h =
     ∙ apart_inner (kind_of b) b (begins_word (c ∷ s)) (lexed (c ∷ s)) (lexed x) (word_first (c ∷ s))
     ∙ ap (λ y. y ++ lexed x) (sym (before-of b (begins_word (c ∷ s)) (lexed (c ∷ s))))
 
--- how many items a byte begins, where a letter stands on the one side of it or not
+-- how many items a byte begins, next to a letter on one side or not
 abbrev pub unit : Kind → Bool → ℕ
 unit opening n = 1
 unit letter false = 1
@@ -229,7 +229,7 @@ unit_letter opening h = absurd (cc)
 unit_letter closing h = absurd (cc)
 unit_letter other h = absurd (cc)
 
--- so does a letter behind none
+-- so does a letter after none
 pub unit_word : (r : ℕ) (w : Bool) → is_Letter (class_of r) ≡ true → w ≡ false → unit_of r w ≡ 1
 unit_word r w h e = ap (unit_of r) e ∙ unit_letter (kind_of r) (sym (is_Letter-of r) ∙ h)
 

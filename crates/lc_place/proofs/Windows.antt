@@ -56,7 +56,7 @@ room_small b = grind (arith, nat_tests)
 pub no_feed : (b : ℕ) → b ≢ 10 → is_feed b ≡ false
 no_feed b other = grind (arith, nat_tests)
 
--- the column, where what stands before an offset in its line was counted so far
+-- the column, with what comes before an offset in its line counted so far
 abbrev pub columns_before : List ℕ → ℕ → ℕ
 columns_before bytes from = count_by begins_character (back_to_line bytes from)
 

@@ -7,11 +7,11 @@ use Rattle.lc_place.specs.Lines.{begins_character}
 abbrev pub is_break : ℕ → Bool
 is_break b = b == 10 || b == 13
 
--- A byte as it is shown: a question mark where it is no character that takes a column, but for a tab.
+-- A byte as it is shown: a question mark if it is no character that takes a column, but for a tab.
 abbrev pub shown : ℕ → ℕ
 shown b = if (nat_le b 31 && not (b == 9)) || b == 127 then 63 else b
 
--- what stands under a byte: a space, or a tab under a tab
+-- what is shown under a byte: a space, or a tab under a tab
 abbrev pub blank : ℕ → ℕ
 blank b = if b == 9 then 9 else 32
 
@@ -19,7 +19,7 @@ blank b = if b == 9 then 9 else 32
 abbrev pub caret : ℕ → ℕ
 caret b = if b == 9 then 9 else 94
 
--- what stands under bytes before the item, and under those of the item, which has a mark also where it has no bytes
+-- what is shown under bytes before the item, and under those of the item, which has a mark even if it has no bytes
 abbrev pub under_before : List ℕ → List ℕ
 under_before bytes = map blank (filter begins_character bytes)
 
@@ -29,12 +29,12 @@ carets bytes = map caret (filter begins_character bytes)
 abbrev pub under_item : List ℕ → List ℕ
 under_item bytes = 94 ∷ carets (drop 1 bytes)
 
--- whether a byte that is no break stands there
+-- whether there is a byte, and it is no line break
 abbrev pub goes_on : Option ℕ → Bool
 goes_on None = false
 goes_on (Some b) = not (is_break b)
 
--- three dots, or three spaces, where the line is cut
+-- three dots, or three spaces, if the line is cut
 abbrev pub cut_mark : ℕ → Bool → List ℕ
 cut_mark b true = b ∷ b ∷ b ∷ []
 cut_mark b false = []
@@ -58,11 +58,12 @@ characters_in bytes = count_by begins_character bytes
 abbrev pub line_shown : List ℕ → ℕ → ℕ → List ℕ
 line_shown bytes from to = cut_mark 46 (is_cut_before bytes from) ++ map shown (slice_range bytes from to) ++ cut_mark 46 (is_cut_at bytes to)
 
--- what stands under them: marks under the item, which begins and ends at offsets between
+-- what is shown under them: marks under the item, which begins and ends at offsets between
 abbrev pub marks_shown : List ℕ → ℕ → ℕ → ℕ → List ℕ
 marks_shown bytes from start until = cut_mark 32 (is_cut_before bytes from) ++ under_before (slice_range bytes from start) ++ under_item (slice_range bytes start until)
 
--- The line of the item at the offset, or 160 characters of it, of which 100 at most stand before the item, and marks under the item as far as it goes there.
+-- The line of the item at the offset, or 160 characters of it, with at most 100 of them before the item, and marks under the item as far as it goes
+-- there.
 pub record IsExcerpt (bytes : List ℕ) (offset size : ℕ) (line marks : List ℕ) : Type 0 where
   pub from : ℕ
   pub to : ℕ

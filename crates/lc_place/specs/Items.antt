@@ -27,7 +27,7 @@ begins_list (b ∷ s) = b == 40
 abbrev pub begins_item : List ℕ → Bool
 begins_item text = begins_list text || begins_word text
 
--- The item of this number begins at the offset: so many begin before it, and its first token is cut from none.
+-- The item of this number begins at the offset: `number` items begin before it, and its first token is cut from none.
 pub record Begins (bytes : List ℕ) (number offset : ℕ) : Type 0 where
   pub begins : begins_item (drop offset (text_of bytes)) ≡ true
   pub apart : lexed (text_of bytes) ≡ lexed (take offset (text_of bytes)) ++ lexed (drop offset (text_of bytes))
@@ -44,17 +44,17 @@ pub record IsClosedAt (text : List ℕ) (n : ℕ) : Type 0 where
 abbrev pub IsNeverClosed : List ℕ → Type 0
 IsNeverClosed text = (m : ℕ) → 0 < m → m ≤ length text → 0 < open_count (take m text)
 
--- the text begins with a list of so many bytes
+-- the text begins with a list of n bytes
 abbrev pub IsListOf : List ℕ → ℕ → Type 0
 IsListOf text n = IsClosedAt text n ⊎ ((n ≡ length text) × IsNeverClosed text)
 
--- The text begins with a word of so many letters.
+-- The text begins with a word of n letters.
 pub record IsWordOf (text : List ℕ) (n : ℕ) : Type 0 where
   pub some : 0 < n
   pub within : n ≤ length text
   pub letters : are_letters (take n text) ≡ true
   pub whole : begins_word (drop n text) ≡ false
 
--- the text begins with an item of so many bytes
+-- the text begins with an item of n bytes
 abbrev pub IsItemOf : List ℕ → ℕ → Type 0
 IsItemOf text n = ((begins_list text ≡ true) × IsListOf text n) ⊎ IsWordOf text n

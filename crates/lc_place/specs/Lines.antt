@@ -8,11 +8,11 @@ is_feed b = b == 10
 abbrev pub begins_character : ℕ → Bool
 begins_character b = nat_le b 127 || nat_le 192 b
 
--- The line of an offset: one more than line feeds stand before it.
+-- The line of an offset: one more than the line feeds before it.
 abbrev pub line_of : List ℕ → ℕ → ℕ
 line_of bytes offset = count_by is_feed (take offset bytes) + 1
 
--- what stands before the offset in its line, backwards
+-- what comes before the offset in its line, backwards
 abbrev pub back_to_line : List ℕ → ℕ → List ℕ
 back_to_line bytes offset = take_while (λ b. not (is_feed b)) (reverse (take offset bytes))
 

@@ -7,11 +7,11 @@ use Rattle.lc_place.specs.Items.{begins_list, IsNeverClosed}
 abbrev pub IsClosed : List ℕ → Type 0
 IsClosed text = (n : ℕ) × (0 < n) × (n ≤ length text) × (open_count (take n text) ≡ 0)
 
--- each list that begins behind the offset is closed
+-- each list that begins after the offset is closed
 abbrev pub AreClosedBehind : List ℕ → ℕ → Type 0
 AreClosedBehind text offset = (k : ℕ) → offset < k → begins_list (drop k text) ≡ true → IsClosed (drop k text)
 
--- The list at the offset is open at the end, and each that begins behind it is closed.
+-- The list at the offset is open at the end, and each that begins after it is closed.
 pub record IsInnermostOpen (text : List ℕ) (offset : ℕ) : Type 0 where
   pub begins : begins_list (drop offset text) ≡ true
   pub never : IsNeverClosed (drop offset text)

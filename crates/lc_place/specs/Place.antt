@@ -1,4 +1,4 @@
--- Where items, bytes and lists that are open stand in a file.
+-- Where items, bytes and open lists are in a file.
 use Rattle.std.specs.Prelude.{◌≡◌, ℕ, ◌≤◌, ◌-◌, min, List, ◌++◌, length, drop, slice_get, Some}
 use Rattle.lc_sexp.specs.Trees.{Tree, Trees, Token, tokens_of, items_of_all}
 use Rattle.lc_sexp.specs.Text.{lexed}
@@ -8,7 +8,7 @@ use Rattle.lc_place.specs.Lines.{line_of, column_of}
 use Rattle.lc_place.specs.Open.{IsInnermostOpen}
 use Rattle.lc_place.specs.declared.place.Place.{Place}
 
--- the place of so many bytes from the offset on
+-- the place of `length` bytes from the offset on
 pub record IsPlaceOf (bytes : List ℕ) (offset length : ℕ) (p : Place) : Type 0 where
   pub offset_is : p.offset ≡ offset
   pub length_is : p.length ≡ length
@@ -30,7 +30,7 @@ pub record IsOpenList (bytes : List ℕ) (p : Place) : Type 0 where
   pub stays : IsInnermostOpen (text_of bytes) p.offset
   pub lies : IsPlaceOf bytes p.offset (length bytes - p.offset) p
 
--- Where a file reads as trees: what begins at the place is the item of this number, by its tokens.
+-- If a file reads as trees, what begins at the place is the item of this number, by its tokens.
 pub record StandsAt (bytes : List ℕ) (trees : Trees) (number : ℕ) (p : Place) : Type 0 where
   pub item : Tree
   pub is : slice_get (items_of_all trees) number ≡ Some item

@@ -9,7 +9,7 @@ use std::alloc::Global;
 /// The most characters of a line that are shown.
 const SHOWN: usize = 160;
 
-/// The most of them that stand before the item.
+/// The most of them that come before the item.
 const SHOWN_BEFORE: usize = 100;
 
 /// Whether a byte ends a line that is shown.
@@ -30,21 +30,21 @@ fn shown(byte: u8) -> u8
     }
 }
 
-/// What stands under a byte before the item.
+/// What is shown under a byte before the item.
 fn blank(byte: u8) -> u8
     ensures { result ≡ blank byte }
 {
     if byte == b'\t' { byte } else { b' ' }
 }
 
-/// What stands under a byte of the item.
+/// What is shown under a byte of the item.
 fn caret(byte: u8) -> u8
     ensures { result ≡ caret byte }
 {
     if byte == b'\t' { byte } else { b'^' }
 }
 
-/// Puts bytes as they are shown behind others.
+/// Appends bytes as they are shown.
 fn push_shown(text: &mut Vec<u8>, bytes: &[u8]) -> Result<(), OutOfMemory>
     ensures { OnOk result (text.new.items ≡ text.old.items ++ map shown bytes.now) }
 {
@@ -54,7 +54,7 @@ fn push_shown(text: &mut Vec<u8>, bytes: &[u8]) -> Result<(), OutOfMemory>
     Ok(())
 }
 
-/// Puts behind others what stands under bytes before the item.
+/// Appends what is shown under bytes before the item.
 fn push_under_before(text: &mut Vec<u8>, bytes: &[u8]) -> Result<(), OutOfMemory>
     ensures { OnOk result (text.new.items ≡ text.old.items ++ under_before bytes.now) }
 {
@@ -66,7 +66,7 @@ fn push_under_before(text: &mut Vec<u8>, bytes: &[u8]) -> Result<(), OutOfMemory
     Ok(())
 }
 
-/// Puts marks behind others, one for each character.
+/// Appends marks, one for each character.
 fn push_carets(text: &mut Vec<u8>, bytes: &[u8]) -> Result<(), OutOfMemory>
     ensures { OnOk result (text.new.items ≡ text.old.items ++ carets bytes.now) }
 {
@@ -78,7 +78,7 @@ fn push_carets(text: &mut Vec<u8>, bytes: &[u8]) -> Result<(), OutOfMemory>
     Ok(())
 }
 
-/// Puts the marks under the item behind others.
+/// Appends the marks under the item.
 fn push_under_item(text: &mut Vec<u8>, bytes: &[u8]) -> Result<(), OutOfMemory>
     ensures { OnOk result (text.new.items ≡ text.old.items ++ under_item bytes.now) }
 {
@@ -89,7 +89,7 @@ fn push_under_item(text: &mut Vec<u8>, bytes: &[u8]) -> Result<(), OutOfMemory>
     push_carets(text, others)
 }
 
-/// Puts three of these behind others where the line is cut.
+/// Appends three of these if the line is cut.
 fn push_cut(text: &mut Vec<u8>, byte: u8, cut: bool) -> Result<(), OutOfMemory>
     ensures { OnOk result (text.new.items ≡ text.old.items ++ cut_mark byte cut) }
 {
@@ -124,7 +124,7 @@ fn characters_in(bytes: &[u8]) -> usize
     bytes.iter().filter(|byte| begins_character(**byte)).count()
 }
 
-/// From where the line of an offset is shown: so many characters at most stand before it.
+/// From where the line of an offset is shown: at most `SHOWN_BEFORE` characters come before it.
 fn window_start(bytes: &[u8], offset: usize) -> usize
     requires { offset ≤ list_length bytes.now }
     ensures before { result ≤ offset }
@@ -140,7 +140,7 @@ fn window_start(bytes: &[u8], offset: usize) -> usize
     from
 }
 
-/// Up to where the line of an offset is shown: so many characters at most stand from it on.
+/// Up to where the line of an offset is shown: at most `room` characters from it on.
 fn window_end(bytes: &[u8], offset: usize, room: usize) -> usize
     requires { offset ≤ list_length bytes.now }
     ensures behind { offset ≤ result }

@@ -1,5 +1,5 @@
-//! Where something stands in the bytes of a file: the place of an item, of a byte, or of a list that was never closed, and the
-//! line in which it stands, with marks under it.
+//! Where something is in the bytes of a file: the place of an item, of a byte, or of a list that was never closed, and the
+//! line that it is in, with marks under it.
 #![tactic(auto)]
 
 mod excerpt;

@@ -14,7 +14,7 @@ struct Brackets {
 }
 
 impl Brackets {
-    /// Those of the text behind its first byte.
+    /// Those of the text after its first byte.
     fn behind(self, byte: u8) -> Brackets
         ensures opened { result.opened ≡ self.opened - cond (byte == 40) 1 0 }
         ensures closed { result.closed ≡ self.closed - cond (byte == 41) 1 0 }
@@ -25,7 +25,7 @@ impl Brackets {
         }
     }
 
-    /// Whether as many lists are closed as opened behind a byte that opens one.
+    /// Whether as many lists are closed as opened after a byte that opens one.
     fn is_even_behind(self, byte: u8) -> bool
         ensures { result ≡ (byte == 40 && self.opened == self.closed) }
     {
@@ -49,7 +49,7 @@ fn brackets_of(bytes: &[u8]) -> Brackets
     Brackets { opened, closed }
 }
 
-/// Where the innermost list begins that is open at the end: the last one behind which as many lists are closed as opened.
+/// Where the innermost list begins that is open at the end: the last one after which as many lists are closed as opened.
 fn innermost_open(bytes: &[u8]) -> Option<usize>
     ensures { MatchOption result (AreAllClosed (text_of bytes.now)) (IsInnermostOpen (text_of bytes.now)) }
 {
@@ -66,8 +66,8 @@ fn innermost_open(bytes: &[u8]) -> Option<usize>
     innermost
 }
 
-/// The place of the innermost list that is open at the end of a file, with all that stands behind it. `None` exactly where none
-/// is open: each list of the text is closed.
+/// The place of the innermost list that is open at the end of a file, with everything after it. `None` exactly if none is open:
+/// each list of the text is closed.
 pub fn open_list_place(bytes: &[u8]) -> Option<Place>
     ensures { MatchOption result (AreAllClosed (text_of bytes.now)) (IsOpenList bytes.now) }
 {

@@ -7,7 +7,7 @@ use crate::span::item_length;
 use crate::start::item_start;
 use crate::text::counted;
 
-/// Where something stands in the bytes of a file.
+/// Where something is in the bytes of a file.
 #[derive(Clone, Copy)]
 pub struct Place {
     /// The offset of its first byte, from 0.
@@ -16,11 +16,11 @@ pub struct Place {
     pub length: usize,
     /// The line of its first byte, from 1. A line ends with a line feed.
     pub line: usize,
-    /// The column of its first byte, from 1: characters are counted, where the bytes are UTF-8. A tab is one of them.
+    /// The column of its first byte, from 1: characters are counted, if the bytes are UTF-8. A tab is one of them.
     pub column: usize,
 }
 
-/// The line in which a byte stands, from 1.
+/// The line that a byte is in, from 1.
 fn line_of(bytes: &[u8], offset: usize) -> usize
     requires { offset ≤ list_length bytes.now }
     ensures { result ≡ line_of bytes.now offset }
@@ -39,7 +39,7 @@ pub(crate) fn begins_character(byte: u8) -> bool
     byte <= 127 || byte >= 192
 }
 
-/// The column in which a byte stands, from 1.
+/// The column that a byte is in, from 1.
 fn column_of(bytes: &[u8], offset: usize) -> usize
     requires { offset ≤ list_length bytes.now }
     ensures { result ≡ column_of bytes.now offset }
@@ -53,7 +53,7 @@ fn column_of(bytes: &[u8], offset: usize) -> usize
     column
 }
 
-/// The place of so many bytes from an offset on.
+/// The place of `length` bytes from an offset on.
 pub(crate) fn place_at(bytes: &[u8], offset: usize, length: usize) -> Place
     requires { offset ≤ list_length bytes.now }
     ensures { IsPlaceOf bytes.now offset length result }
@@ -67,7 +67,7 @@ pub(crate) fn place_at(bytes: &[u8], offset: usize, length: usize) -> Place
 }
 
 /// The place of the item of this number, where items are the atoms and the lists of a file, in preorder from 0. A list goes
-/// up to the bracket that closes it, or to the end of the file where none does. `None` exactly where the file has no such item.
+/// up to the bracket that closes it, or to the end of the file if none does. `None` exactly if the file has no such item.
 pub fn item_place(bytes: &[u8], number: u64) -> Option<Place>
     ensures item { IfSome result (IsItem bytes.now number) }
     ensures none { IsNone result ↔ (items_in bytes.now ≤ number) }
@@ -77,7 +77,7 @@ pub fn item_place(bytes: &[u8], number: u64) -> Option<Place>
     Some(place_at(bytes, offset, length))
 }
 
-/// The place of the byte at this offset, or of the end of the file. `None` exactly where the file ends before it.
+/// The place of the byte at this offset, or of the end of the file. `None` exactly if the file ends before it.
 pub fn byte_place(bytes: &[u8], offset: u64) -> Option<Place>
     ensures byte { IfSome result (IsByte bytes.now offset) }
     ensures none { IsNone result ↔ (list_length bytes.now < offset) }

@@ -5,7 +5,7 @@ ghost use Rattle.lc_place.specs.Items.{begins_list, begins_item, IsListOf, IsWor
 
 use crate::text::{is_letter, next_byte};
 
-/// How many lists are open behind a byte of a text.
+/// How many lists are open after a byte of a text.
 fn depth_behind(depth: usize, byte: u8) -> usize
     requires { depth + 1 < 2 ^ 64 }
     ensures { result ≡ (if byte == 40 then depth + 1 else (if byte == 41 then depth - 1 else depth)) }
@@ -17,7 +17,7 @@ fn depth_behind(depth: usize, byte: u8) -> usize
     }
 }
 
-/// How many bytes the list has with which these begin: up to the bracket that closes it, or all where none does.
+/// How many bytes the list has with which these begin: up to the bracket that closes it, or all if none does.
 fn list_length(bytes: &[u8]) -> usize
     requires { begins_list (text_of bytes.now) ≡ true }
     ensures { IsListOf (text_of bytes.now) result }
@@ -34,7 +34,7 @@ fn list_length(bytes: &[u8]) -> usize
     bytes.len()
 }
 
-/// How many letters stand at the front.
+/// How many letters are at the front.
 fn word_length(bytes: &[u8]) -> usize
     requires { begins_word (text_of bytes.now) ≡ true }
     ensures { IsWordOf (text_of bytes.now) result }

@@ -5,7 +5,7 @@ ghost use Rattle.lc_place.specs.Items.{items_in, Begins};
 
 use crate::text::{is_letter, next_byte};
 
-/// Whether an item begins at a byte of a text, which stands behind a letter or not.
+/// Whether an item begins at a byte of a text, after a letter or not.
 fn begins_item(byte: u8, in_word: bool) -> bool
     ensures { result ≡ (byte == 40 || is_Letter (class_of byte) && not in_word) }
 {

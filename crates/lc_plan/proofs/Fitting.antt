@@ -45,7 +45,7 @@ client_fit_holds clients again n (fits z) = if_holds (λ k. is_from 0 clients k 
 
 -- ---- calls
 
--- the operation whose name stands at this place, if it is the first or stands among the others
+-- the operation whose name is at this place, if it is the first or among the others
 at_place : (o : Operation) (os : List Operation) (b : Bool) (rest : Option ℕ) (k : ℕ) → ((j : ℕ) → rest ≡ Some j → (p : Operation) × (slice_get os j ≡ Some p))
     → (if b then Some 0 else option_map suc rest) ≡ Some k → (p : Operation) × (slice_get (o ∷ os) k ≡ Some p)
 at_place o os true rest k others e = let first : 0 ≡ k = cc in (o, subst (λ j. slice_get (o ∷ os) j ≡ Some o) first refl)

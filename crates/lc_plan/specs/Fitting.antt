@@ -10,11 +10,11 @@ use Rattle.lc_plan.specs.Numbers.{is_from}
 use Rattle.lc_plan.specs.Plans.{Calls, Script, Plan}
 use Rattle.lc_plan.specs.Readings.{plan_reading}
 
--- a call of one of these operations, with as many numbers as it takes, so many times and in so many turns as there may be
+-- a call of one of these operations, with as many numbers as it takes, with counts and turns within their limits
 abbrev pub calls_fit : List Operation → Calls → Bool
 calls_fit os c = has_call os c.call && (is_from 0 (most_turns + 1) c.count && is_from 0 (most_turns + 1) c.turns)
 
--- a script of one of so many clients, whose calls are such
+-- a script of one of `clients` clients, with such calls
 abbrev pub script_fits : List Operation → ℕ → Script → Bool
 script_fits os clients s = is_from 0 clients s.client && list_all (calls_fit os) s.calls
 

@@ -1,4 +1,4 @@
--- What a text reads as where the numbers of a plan are due.
+-- What a text reads as where the numbers of a plan are expected.
 use Rattle.std.specs.Prelude.{ℕ, ℤ, pos, negsuc, ◌+◌, Bool, ◌&&◌, nat_le, nat_lt, if◌then◌else◌, List}
 use Rattle.std.specs.List.{list_any}
 use Rattle.lc_base.specs.Limits.{seat_limit}
@@ -11,7 +11,7 @@ use Rattle.lc_reading.specs.declared.pass.Pass.TheVariants.{Shape, Repeated, Bou
 use Rattle.lc_text.specs.Terms.{number_reading}
 use Rattle.lc_plan.specs.Limits.{most_turns}
 
--- it is the first of these or behind it, and before the other one
+-- it is the first of these or after it, and before the other one
 abbrev pub is_from : ℕ → ℕ → ℕ → Bool
 is_from least end k = nat_le least k && nat_lt k end
 
@@ -20,7 +20,7 @@ abbrev pub between : ℕ → ℕ → ℕ → ℤ → Reading ℕ
 between least end n (pos k) = if is_from least end k then fine k else wrong Bound n
 between least end n (negsuc k) = wrong Bound n
 
--- the same of a NUMBER, if it is one
+-- the same for a NUMBER, if it is one
 abbrev pub bounded : ℕ → ℕ → ℕ → Reading ℤ → Reading ℕ
 bounded least end n (fine z) = between least end n z
 bounded least end n (flawed f) = flawed f
@@ -33,12 +33,12 @@ count_reading n t = bounded 1 (seat_limit + 1) n (number_reading n t)
 abbrev pub turns_reading : ℕ → Tree → Reading ℕ
 turns_reading n t = bounded 0 (most_turns + 1) n (number_reading n t)
 
--- a client of so many, which has a script in the phase already or not. That is told before its bounds
+-- one of `clients` clients, which has a script in the phase already or not. That is reported before its bounds
 abbrev pub client_fit : ℕ → Bool → ℕ → Fit ℤ → Reading ℕ
 client_fit clients again n misshapen = wrong Shape n
 client_fit clients again n beyond = if again then wrong Repeated n else wrong Bound n
 client_fit clients again n (fits z) = if again then wrong Repeated n else between 0 clients n z
 
--- C: a client of so many, behind those of these texts. A number has one text, so two clients are the same where their texts are
+-- C: one of `clients` clients, after those of these texts. A number has one text, so two clients are the same if their texts are
 abbrev pub client_reading : ℕ → List (List ℕ) → ℕ → Tree → Reading ℕ
 client_reading clients before n t = client_fit clients (list_any (is (text_in t)) before) n (integer_fit t)

@@ -1,4 +1,4 @@
--- What a text reads as where a plan is due.
+-- What a text reads as where a plan is expected.
 use Rattle.std.specs.Prelude.{ℕ, ℤ, ◌+◌, codes, if◌then◌else◌, List, [], length, map, slice_get, Option, Some, None, option_map, option_and_then}
 use Rattle.lc_sexp.specs.Trees.{Tree, Trees, atom, list, none, ◌▸◌, item_count, item_count_of_all}
 use Rattle.lc_reading.specs.Listed.{place_of}
@@ -30,7 +30,7 @@ abbrev pub arity_named : List Operation → Tree → Option ℕ
 arity_named os (atom w) = arity_at os (place_of (names_of os) w)
 arity_named os (list ts) = None
 
--- n*: the parts of the list n from m on, just so many where it is known how many
+-- n*: the parts of the list n from m on, exactly `count` if that is known
 abbrev pub numbers_reading : Option ℕ → ℕ → ℕ → Trees → Reading (List ℤ)
 numbers_reading None n m ts = each_reading number_reading m ts
 numbers_reading (Some count) n m ts = counted_reading number_reading n count m ts
@@ -94,7 +94,7 @@ abbrev pub script_parts_reading : List Operation → ℕ → List (List ℕ) →
 script_parts_reading os clients before n m none = wrong Shape n
 script_parts_reading os clients before n m (t ▸ ts) = both the_script (client_reading clients before m t) (each_reading (calls_reading os) (m + item_count t) ts)
 
--- (C STEP*): the item n, behind the scripts of these clients
+-- (C STEP*): the item n, after the scripts of these clients
 abbrev pub script_reading : List Operation → ℕ → List (List ℕ) → ℕ → Tree → Reading Script
 script_reading os clients before n t = listed_reading (script_parts_reading os clients before) n t
 
@@ -106,7 +106,7 @@ scripts_reading os clients m ts = declared_reading (script_reading os clients) f
 abbrev pub phase_reading : List Operation → ℕ → ℕ → Tree → Reading (List Script)
 phase_reading os clients n t = behind_reading (codes "phase") (λ n m ts. scripts_reading os clients m ts) n t
 
--- The number of clients, where one is read. Where it is wrong, that is told before what clients are wrong
+-- The number of clients, if one is read. If it is wrong, that is reported before what clients are wrong
 abbrev pub count_in : Reading ℕ → ℕ
 count_in (fine k) = k
 count_in (flawed f) = 0
@@ -128,6 +128,6 @@ abbrev pub only_reading : List Operation → ℕ → ℕ → Trees → Reading P
 only_reading os n m none = wrong Shape n
 only_reading os n m (t ▸ ts) = ended (m + item_count t) ts (form_reading os m t)
 
--- a plan for this development: the form of the file, and no other. One that is missing is told at the number of items
+-- a plan for this development: the form of the file, and no other. A missing one is reported at the number of items
 abbrev pub plan_reading : Development → Trees → Reading Plan
 plan_reading D ts = only_reading D.specification.operations (item_count_of_all ts) 0 ts

@@ -35,7 +35,7 @@ impl Reads for Numbers {
     }
 }
 
-/// The numbers that are left in a list, just so many where it is known how many.
+/// The numbers that are left in a list, exactly `due` if that is known.
 fn read_numbers(alloc: Global, due: Option<u64>, list: Cursor<'_>) -> Result<Vec<i64>, ReadFault>
     ensures { IsReading (λ numbers. numbers.items) (numbers_reading due (owner_of list.entry) (number_of list.entry) (rest_of list.entry)) result }
 {

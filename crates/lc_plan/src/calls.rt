@@ -109,7 +109,7 @@ fn read_times(
     }
 }
 
-/// What stands in a list behind this word.
+/// What a list has after this word.
 fn read_headed(
     alloc: Global,
     operations: &Operations<'_>,

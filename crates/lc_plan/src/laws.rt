@@ -15,8 +15,8 @@ pub fn plans_are_read_or_refused()
     ensures one_refusal { (D : Development) (bytes : List ℕ) (r s : Refusal) → IsFirstRefusal (plan_reading D) bytes r → IsFirstRefusal (plan_reading D) bytes s → r ≡ s }
 {}
 
-/// A plan that is said for a development has as many clients as there may be; each script is of one of them, and each call of an
-/// operation of the development, with as many numbers as it takes, so many times and in so many turns as there may be.
+/// A plan that is read for a development has an allowed number of clients; each script is of one of them, and each call of an
+/// operation of the development, with as many numbers as it takes, and with counts and turns within their limits.
 pub fn plans_fit_their_development()
     ensures { PlansFit }
 {}

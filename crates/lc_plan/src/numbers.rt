@@ -44,7 +44,7 @@ pub(crate) fn read_turns(part: Part<'_>) -> Result<u32, ReadFault>
     read_between(0, MOST_TURNS + 1, part)
 }
 
-/// A client of so many, behind those of these texts.
+/// One of `clients` clients, after those of these texts.
 pub(crate) fn read_client(
     clients: u32,
     before: &NameTable<'_>,

@@ -38,7 +38,7 @@ fn read_script_parts(
     }
 }
 
-/// `(C STEP*)`, behind the scripts of these clients.
+/// `(C STEP*)`, after the scripts of these clients.
 fn read_script(
     alloc: Global,
     operations: &Operations<'_>,
@@ -54,7 +54,7 @@ fn read_script(
     }
 }
 
-/// Reads the scripts of a phase, where there are so many clients.
+/// Reads the scripts of a phase, with `clients` clients.
 #[derive(Drop)]
 struct Scripts<'o, 'a> {
     operations: &'o Operations<'a>,
@@ -125,7 +125,7 @@ fn read_phase(
     read_scripts(alloc, operations, clients, list)
 }
 
-/// Reads phases, where there are so many clients.
+/// Reads phases, with `clients` clients.
 #[derive(Drop)]
 pub(crate) struct Phases<'o, 'a> {
     pub(crate) operations: &'o Operations<'a>,

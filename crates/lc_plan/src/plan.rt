@@ -1,7 +1,7 @@
 //! What a plan is.
 use lc_seq::TextCall;
 
-/// A call that a client makes so many times, each time in so many turns at most.
+/// A call that a client makes `count` times, each time in at most `turns` turns.
 #[derive(Drop)]
 pub struct Calls {
     pub count: u32,

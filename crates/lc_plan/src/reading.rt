@@ -20,7 +20,7 @@ use lc_reading::{Part, ReadFault, behind_word, both, ended, next_part, one, read
 use lc_sexp::{Cursor, Forms};
 use std::alloc::Global;
 
-/// The number of clients, where one was read.
+/// The number of clients, if one was read.
 fn count_in(count: &Result<u32, ReadFault>) -> u32
     ensures { result ≡ count_told count.now }
 {
@@ -59,7 +59,7 @@ fn read_form(alloc: Global, operations: &Operations<'_>, part: Part<'_>) -> Resu
     read_parts(alloc, operations, list)
 }
 
-/// The form of a file of a plan, which is all that is left in a list.
+/// The form of a file of a plan, which must be the whole rest of a list.
 fn read_file(
     alloc: Global,
     operations: &Operations<'_>,
@@ -71,7 +71,7 @@ fn read_file(
     ended(read_form(alloc, operations, form), rest)
 }
 
-/// The plan for a development in the file of which these are the forms. Where they are none, `Refused` has the first refusal,
+/// The plan for a development in the file with these forms. If they are none, `Refused` has the first refusal,
 /// as in `plan_of`.
 pub fn plan_in(alloc: Global, development: &Development, forms: Forms) -> Result<Plan, Fault>
     requires { (bytes : List ℕ) × ReadsAs bytes forms }
@@ -88,9 +88,9 @@ pub fn plan_in(alloc: Global, development: &Development, forms: Forms) -> Result
 /// The plan for a development that these bytes are: `(plan CLIENTS (phase (C STEP*)*)*)`, each STEP `(call OP n*)`,
 /// `(upto TURNS OP n*)` or `(times K (call OP n*))`. Without another number a call has 400,000 turns.
 ///
-/// Where they are none, `Refused` has the first refusal, as of a formula file: `Text` with the offset of the first text
+/// If they are none, `Refused` has the first refusal, as of a formula file: `Text` with the offset of the first text
 /// fault; else of `Shape`, `Unknown`, `Repeated` and `Bound`, in this order, the first for which an item is wrong, with the
-/// least such item. `OutOfMemory` says nothing of the bytes.
+/// least such item. `OutOfMemory` says nothing about the bytes.
 pub fn plan_of(alloc: Global, development: &Development, bytes: &[u8]) -> Result<Plan, Fault>
     ensures { IsAnswerTo plan_of (plan_reading (development_shown development.now)) bytes.now result }
 {

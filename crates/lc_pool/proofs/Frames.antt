@@ -1,4 +1,4 @@
--- What stands in a file around entries, by parts of forms that are walked.
+-- What a file has around its entries, by parts of forms that are walked.
 use Rattle.std.proofs.Common.{◌≡◌, ℕ, ◌==◌, true, List, Result, Ok, refl, sym, ap, ◌∙◌, subst, arith}
 use Rattle.std.proofs.lemmas.Bool.Decides.{nat_tests}
 use Rattle.lc_sexp.specs.Parts.{atom_fit, list_fit}
@@ -8,7 +8,7 @@ use Rattle.lc_sexp.specs.declared.cursor.Atom.{Atom}
 use Rattle.lc_sexp.specs.declared.cursor.Cursor.{Cursor}
 use Rattle.lc_sexp.specs.declared.misfit.Misfit.{Misfit}
 
--- ---- a part that was given, and what is left behind it
+-- ---- a part that was given, and what is left after it
 
 pub gave_list : (r : Result Cursor Misfit) (old new inner : Cursor) → r ≡ Ok inner → GivesPart list_fit IsWithin old r new → rest_of old ≡ list (rest_of inner) ▸ rest_of new
 gave_list r old new inner e h = at (rest_of old) (subst (λ x. GivesPart list_fit IsWithin old x new) e h) where
@@ -28,12 +28,12 @@ none_left : (ts : Trees) → (part_count ts == 0) ≡ true → ts ≡ none
 none_left none h = refl
 none_left (t ▸ ts) h = absurd (grind (arith, nat_tests))
 
--- a list alone, in which two atoms stand alone
+-- a single list, with two atoms in it
 pub two_alone : (whole inner behind first left : Trees) (w n : List ℕ) → whole ≡ list inner ▸ behind → inner ≡ atom w ▸ first → first ≡ atom n ▸ left → (part_count left == 0) ≡ true → (part_count behind == 0) ≡ true
     → whole ≡ list (atom w ▸ (atom n ▸ none)) ▸ none
 two_alone whole inner behind first left w n outer within next l b =
     outer ∙ ap (λ x. list x ▸ behind) (within ∙ ap (λ x. atom w ▸ x) (next ∙ ap (λ x. atom n ▸ x) (none_left left l))) ∙ ap (λ x. list (atom w ▸ (atom n ▸ none)) ▸ x) (none_left behind b)
 
--- a list alone, in which nothing stands
+-- a single list, with nothing in it
 pub none_alone : (whole inner behind : Trees) → whole ≡ list inner ▸ behind → (part_count inner == 0) ≡ true → (part_count behind == 0) ≡ true → whole ≡ list none ▸ none
 none_alone whole inner behind outer l b = outer ∙ ap (λ x. list x ▸ behind) (none_left inner l) ∙ ap (λ x. list none ▸ x) (none_left behind b)

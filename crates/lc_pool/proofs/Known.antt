@@ -11,7 +11,7 @@ use Rattle.lc_check.specs.Verdicts.{AreProved, IsExtra, ProvesAll}
 use Rattle.lc_check.specs.Walking.{ProveInTurn}
 use Rattle.lc_pool.specs.Known.{IsKnown, KnownIsProven}
 
--- a list from a place on, where this stands there
+-- a list from a place on, if this is at the place
 drop_cons : (cs : List Condition) (k : ℕ) (c : Condition) → slice_get cs k ≡ Some c → drop k cs ≡ c ∷ drop (suc k) cs
 drop_cons [] k c h = cc
 drop_cons (x ∷ cs) zero c h = let e : x ≡ c = cc in ap (λ y. y ∷ cs) e

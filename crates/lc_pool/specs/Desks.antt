@@ -14,7 +14,7 @@ use Rattle.lc_pool.specs.declared.desk.Files.{Files}
 use Rattle.lc_pool.specs.declared.desk.Piece.{Piece}
 use Rattle.lc_pool.specs.declared.laid.Laid.{Laid}
 
--- the conditions of a part lie in the table, and stand in the list from the number of the first on
+-- the conditions of a part lie in the table, and are in the list from the number of the first on
 pub record IsLaid (D : Development) (l : Laid) : Type 0 where
   pub are : AreConditions l.terms l.part.conditions.items
   pub stand : StandFrom l.part.first (map (condition_in l.terms) l.part.conditions.items) (conditions D)
@@ -22,7 +22,7 @@ pub record IsLaid (D : Development) (l : Laid) : Type 0 where
 abbrev pub development_in : Files → Development
 development_in f = development_shown f.development.now
 
--- where the file is cut, and the items that stand behind the cuts
+-- where the file is cut, and the items that come after the cuts
 abbrev pub cuts_in : Files → ℕ → ℕ
 cuts_in f = at_place f.places.now
 

@@ -1,4 +1,4 @@
--- What stands in a certificate before its first entry.
+-- What a certificate has before its first entry.
 use Rattle.std.specs.Prelude.{◌≡◌, ℕ, true, codes, List}
 use Rattle.lc_sexp.specs.CutFiles.{IsHead}
 use Rattle.lc_sexp.specs.Trees.{Trees, atom, list, none, ◌▸◌}
@@ -12,7 +12,7 @@ pub record IsHeadRow (name : List ℕ) (ts : Trees) : Type 0 where
   pub is_name : is named name ≡ true
   pub row : ts ≡ list (atom word ▸ (atom named ▸ none)) ▸ none
 
--- what stands in a certificate of an object of this name before its first entry
+-- what a certificate of an object of this name has before its first entry
 pub record IsHeadOf (name : List ℕ) (head : List ℕ) : Type 0 where
   pub word : List ℕ
   pub named : List ℕ

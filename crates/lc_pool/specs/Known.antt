@@ -23,7 +23,7 @@ pub record IsKnown (D : Development) (file : List ℕ) (at items : ℕ → ℕ) 
   pub alone : IsReadAlone (names_with (column_names D)) file at items k entry
   pub derived : IsDerived D k entry.proof
 
--- the number that stands at a place, or 0
+-- the number at a place, or 0
 abbrev pub at_place : List ℕ → ℕ → ℕ
 at_place ns k = get_or ns k 0
 

@@ -32,7 +32,7 @@ use std::sync::Wait;
 use std::thread;
 use std::thread::Threads;
 
-/// So many desks.
+/// A desk for each of `workers` workers.
 fn desks<'a, W: Work>(
     alloc: Global,
     files: Files<'a>,
@@ -48,7 +48,7 @@ fn desks<'a, W: Work>(
     Ok(desks)
 }
 
-/// Whether all conditions are proved by the entries of their numbers, as so many workers find.
+/// Whether all conditions are proved by the entries of their numbers, as `workers` workers find.
 fn all_proved<W: Work + Send + Sync, R: Threads + Wait + Sync, G: Gate + Sync>(
     rt: &R,
     alloc: Global,
@@ -65,7 +65,7 @@ fn all_proved<W: Work + Send + Sync, R: Threads + Wait + Sync, G: Gate + Sync>(
     pooled(rt, alloc, gate, desks, &mut last, files.numbering.count())
 }
 
-/// Whether the cuts fit a certificate of so many conditions, and what stands around them is that of one.
+/// Whether the cuts fit a certificate of `count` conditions, and what is around them is that of one.
 fn are_framed(
     alloc: Global,
     development: &Development,
@@ -135,8 +135,8 @@ fn proven_in_pieces<R: Threads + Wait + Sync, G: Gate + Sync>(
     Ok(None)
 }
 
-/// How many conditions the development has, where the file is a certificate of it that is accepted; else the first refusal.
-/// One worker reads the certificate as it stands, which needs no cuts.
+/// How many conditions the development has, if the file is a certificate of it that is accepted; else the first refusal.
+/// One worker reads the certificate as it is, which needs no cuts.
 fn proven_count<R: Threads + Wait + Sync, G: Gate + Sync>(
     rt: &R,
     alloc: Global,
@@ -155,8 +155,8 @@ fn proven_count<R: Threads + Wait + Sync, G: Gate + Sync>(
     proven_count_by(alloc, development, &mut Gated { rt, gate }, cert)
 }
 
-/// The verdict on a development and a certificate file, as `check_certificate` says it, by so many workers. The gate is called
-/// round the check of each condition, by whoever makes it.
+/// The verdict on a development and a certificate file, as `check_certificate` says it, by `workers` workers. The gate is
+/// called around the check of each condition, by whoever makes it.
 ///
 /// Only acceptance is found by the workers: whatever else comes up, the certificate is read and checked whole.
 pub fn check_certificate_with<R: Threads + Wait + Sync, G: Gate + Sync>(
@@ -174,8 +174,8 @@ pub fn check_certificate_with<R: Threads + Wait + Sync, G: Gate + Sync>(
     verdict_by_count(development, cert, count)
 }
 
-/// The verdict on a development file and a certificate file, as `check` says it, by so many workers. The gate is called round
-/// the check of each condition, by whoever makes it.
+/// The verdict on a development file and a certificate file, as `check` says it, by `workers` workers. The gate is called
+/// round the check of each condition, by whoever makes it.
 pub fn check_with<R: Threads + Wait + Sync, G: Gate + Sync>(
     rt: &R,
     alloc: Global,

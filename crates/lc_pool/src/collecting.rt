@@ -31,7 +31,7 @@ impl<W: Work> Model for Table<W> {
 impl<W: Work> Table<W> {
     ghost use Rattle.std.specs.Prelude.{◌≡◌, IfOk, IsTrue, length};
 
-    /// A table of so many numbers, of which nothing is known.
+    /// A table of `count` numbers, with nothing known about them.
     pub(crate) fn new(alloc: Global, count: u64) -> Result<Table<W>, OutOfMemory>
         ensures { IfOk result (λ t. length t ≡ count) }
     {

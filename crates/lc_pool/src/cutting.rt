@@ -6,8 +6,8 @@ use std::simd::prelude::*;
 use std::thread;
 use std::thread::Threads;
 
-/// Where a file is cut: before the first list that stands in its first one, and behind each of those; and the number of the item
-/// that stands behind each cut. Nothing is promised of either: whoever uses one tests it.
+/// Where a file is cut: before the first list that is in its first one, and after each of those; and the number of the item
+/// after each cut. Nothing is promised about either: whoever uses one tests it.
 #[derive(Drop)]
 pub(crate) struct Cuts {
     pub places: Vec<usize>,
@@ -15,7 +15,7 @@ pub(crate) struct Cuts {
 }
 
 impl Cuts {
-    /// Cuts the file at this place, where so many items have begun.
+    /// Cuts the file at this place, where `item` items have begun.
     fn push(&mut self, place: usize, item: u64) -> Result<(), OutOfMemory> {
         self.places.push(place)?;
         self.items.push(item)?;
@@ -26,8 +26,8 @@ impl Cuts {
 /// How many bytes are looked at side by side: one for each bit of a number.
 const WIDTH: usize = 64;
 
-/// What the bytes of a block are: a bit of each number for each byte, the lowest one for the first. What is none of these may stand
-/// in a word, or stands nowhere.
+/// What the bytes of a block are: a bit of each number for each byte, the lowest one for the first. What is none of these may be in
+/// a word, or nowhere.
 #[derive(Clone, Copy)]
 struct Block {
     opens: u64,
@@ -35,8 +35,8 @@ struct Block {
     white: u64,
 }
 
-/// Which bytes of a block a comment has, its line feeds left out. It is told whether a comment goes on at the block, and tells
-/// whether one goes on behind it.
+/// Which bytes of a block a comment has, its line feeds left out. It is given whether a comment goes on at the block, and sets
+/// whether one goes on after it.
 fn commented(bytes: &[u8; WIDTH], in_comment: &mut bool) -> u64 {
     let mut found = 0;
     for byte in bytes {
@@ -72,14 +72,14 @@ fn block_of(bytes: &[u8; WIDTH], in_comment: &mut bool) -> Block {
     }
 }
 
-/// Which brackets of a block are the next ones behind one that opens: from there a carry runs over what is no bracket.
+/// Which brackets of a block are the next ones after one that opens: from there a carry runs over what is no bracket.
 fn behind_opens(block: Block) -> u64 {
     let brackets = block.opens | block.closes;
     u64::wrapping_add(block.opens << 1, !brackets) & brackets
 }
 
 /// How a file is cut as far as it was looked at: how many lists are open, how many items have begun, and whether the last byte
-/// stands in a word, which is 1, or in a comment.
+/// is in a word, which is 1, or in a comment.
 #[derive(Drop)]
 struct Cutter {
     cuts: Cuts,
@@ -90,7 +90,7 @@ struct Cutter {
 }
 
 impl Cutter {
-    /// Nothing was looked at; so many lists are open.
+    /// Nothing was looked at; `depth` lists are open.
     fn new(alloc: Global, depth: usize) -> Cutter {
         Cutter {
             cuts: Cuts {
@@ -104,7 +104,7 @@ impl Cutter {
         }
     }
 
-    /// Takes a bracket that opens at this place, where so many items have begun; whether no more lists are open than may be.
+    /// Takes a bracket that opens at this place, where `items` items have begun; whether no more lists are open than may be.
     fn open(&mut self, place: usize, items: u64) -> Result<bool, OutOfMemory> {
         if self.depth >= DEPTH_LIMIT {
             return Ok(false);
@@ -116,7 +116,7 @@ impl Cutter {
         Ok(true)
     }
 
-    /// Takes a bracket that closes before this place, where so many items have begun; whether a list was open.
+    /// Takes a bracket that closes before this place, where `items` items have begun; whether a list was open.
     fn close(&mut self, place: usize, items: u64) -> Result<bool, OutOfMemory> {
         if self.depth == 0 {
             return Ok(false);
@@ -128,7 +128,7 @@ impl Cutter {
         Ok(true)
     }
 
-    /// Takes the brackets of the block at this place, in which items begin at these bits; whether they may stand so.
+    /// Takes the brackets of the block at this place, in which items begin at these bits; whether they are allowed there.
     fn take_brackets(&mut self, block: Block, begun: u64, at: usize) -> Result<bool, OutOfMemory> {
         let mut left = block.opens | block.closes;
         for _ in 0..left.count_ones() {
@@ -149,7 +149,7 @@ impl Cutter {
         Ok(true)
     }
 
-    /// Takes the block at this place; whether its brackets may stand so.
+    /// Takes the block at this place; whether its brackets are allowed there.
     fn take(&mut self, bytes: &[u8; WIDTH], at: usize) -> Result<bool, OutOfMemory> {
         let block = block_of(bytes, &mut self.in_comment);
         let letters = !(block.opens | block.closes | block.white);
@@ -157,7 +157,7 @@ impl Cutter {
         self.in_word = letters >> 63;
         let opened = block.opens.count_ones() as usize;
         let closed = block.closes.count_ones() as usize;
-        // Apart from lists in which no list stands, so many lists are closed.
+        // Apart from lists without lists in them, this many lists are closed.
         let down = (block.closes & !behind_opens(block)).count_ones() as usize;
         if self.depth > down + 1 && opened <= DEPTH_LIMIT.saturating_sub(self.depth) {
             self.depth = usize::wrapping_sub(usize::wrapping_add(self.depth, opened), closed);
@@ -168,7 +168,7 @@ impl Cutter {
         Ok(true)
     }
 
-    /// Takes the bytes from this place on; whether their brackets may stand so.
+    /// Takes the bytes from this place on; whether their brackets are allowed there.
     fn take_all(&mut self, bytes: &[u8], from: usize) -> Result<bool, OutOfMemory> {
         let (blocks, rest) = bytes.as_chunks::<WIDTH>();
         let mut at = from;
@@ -183,7 +183,7 @@ impl Cutter {
         self.take(&last, at)
     }
 
-    /// Takes what was found of the bytes that stand behind, where one list was said to be open; whether it is.
+    /// Takes what was found in the bytes that come after, with one list assumed to be open; whether it is.
     fn take_next(&mut self, next: Cutter) -> Result<bool, OutOfMemory> {
         if self.depth != 1 || self.in_comment {
             return Ok(false);
@@ -195,7 +195,7 @@ impl Cutter {
             in_word,
             in_comment,
         } = next;
-        // Its first cut stands before a list, and there the last one of this stands too.
+        // Its first cut comes before a list, and there the last one of this is too.
         for (place, item) in cuts.places.iter().zip(&cuts.items).skip(1) {
             self.cuts
                 .push(*place, u64::wrapping_add(self.items, *item))?;
@@ -231,7 +231,7 @@ fn entry_between(file: &[u8], from: usize, to: usize) -> Option<usize> {
     None
 }
 
-/// The stretches of a file, so many at most. Where each but the first begins, an entry seems to begin.
+/// The stretches of a file, at most `most`. Where each but the first begins, an entry seems to begin.
 fn stretches_of(alloc: Global, file: &[u8], most: u64) -> Result<Vec<Stretch>, OutOfMemory> {
     let count = (file.len() / LEAST).min(most as usize).max(1);
     let each = file.len() / count;
@@ -251,7 +251,7 @@ fn stretches_of(alloc: Global, file: &[u8], most: u64) -> Result<Vec<Stretch>, O
     Ok(stretches)
 }
 
-/// What is found of a stretch, if its brackets may stand so. In the first one no list is open, and in each other one is.
+/// What is found of a stretch, if its brackets are allowed there. In the first one no list is open, and in each other one is.
 fn cut_stretch(
     alloc: Global,
     file: &[u8],
@@ -288,7 +288,7 @@ fn joined(found: Vec<Result<Option<Cutter>, OutOfMemory>>) -> Result<Option<Cuts
     Ok(Some(cuts))
 }
 
-/// The cuts of a file, whose stretches are cut side by side, so many at most; nothing where it is no certificate for a reason that
+/// The cuts of a file, whose stretches, at most `most`, are cut side by side; nothing if it is no certificate for a reason that
 /// shows here. Where an entry only seemed to begin, the file is cut once more as one stretch.
 pub(crate) fn cut<R: Threads + Sync>(
     rt: &R,

@@ -57,7 +57,7 @@ fn piece_of<'a>(files: &Files<'a>, number: u64) -> Option<Piece<'a>>
     })
 }
 
-/// The entry of this number, if its piece is one and the next piece is the item behind it.
+/// The entry of this number, if its piece is one and the next piece is the item after it.
 fn entry_at(
     alloc: Global,
     files: &Files<'_>,

@@ -1,4 +1,4 @@
-//! Whether what stands in a file around its entries is that of a certificate.
+//! Whether what a file has around its entries is that of a certificate.
 ghost use Rattle.std.specs.Prelude.{◌≡◌, ◌++◌, IfOk, IfSome, IsTrue, [], ◌∷◌, take, drop, length};
 ghost use Rattle.lc_sexp.specs.CutFiles.{BeginsOpen, IsTail};
 ghost use Rattle.lc_sexp.specs.Reads.{ReadsAs};
@@ -12,7 +12,7 @@ use lc_outline::Development;
 use lc_sexp::{Forms, FormsReader, ends_in_comment};
 use std::alloc::Global;
 
-/// The forms of three texts behind one another, if they read as forms.
+/// The forms of three texts one after another, if they read as forms.
 fn read_joined(
     alloc: Global,
     first: &[u8],
@@ -52,7 +52,7 @@ fn is_head_row(forms: &Forms, name: &str) -> bool
     word.text() == "certificate" && named.text() == name
 }
 
-/// Whether the forms are one list, in which nothing stands.
+/// Whether the forms are one list, with nothing in it.
 fn is_empty_list(forms: &Forms) -> bool
     ensures { IsTrue result → forms.now ≡ list none ▸ none }
 {
@@ -73,7 +73,7 @@ fn begins_open(text: &[u8]) -> bool
     }
 }
 
-/// Whether a text is what stands in a certificate of this object before its first entry.
+/// Whether a text is what a certificate of this object has before its first entry.
 fn is_head(alloc: Global, name: &str, head: &[u8]) -> Result<bool, OutOfMemory>
     ensures { IfOk result (λ b. IsTrue b → IsHeadOf name.now head.now) }
 {
@@ -86,7 +86,7 @@ fn is_head(alloc: Global, name: &str, head: &[u8]) -> Result<bool, OutOfMemory>
     }
 }
 
-/// Whether a text is what stands in a certificate behind its last entry.
+/// Whether a text is what a certificate has after its last entry.
 fn is_tail(alloc: Global, tail: &[u8]) -> Result<bool, OutOfMemory>
     ensures { IfOk result (λ b. IsTrue b → IsTail tail.now) }
 {
@@ -96,7 +96,7 @@ fn is_tail(alloc: Global, tail: &[u8]) -> Result<bool, OutOfMemory>
     }
 }
 
-/// Whether what stands before the one place and behind the other is that of a certificate of the development around its entries.
+/// Whether what comes before the one place and after the other is what a certificate of the development has around its entries.
 pub(crate) fn is_framed(
     alloc: Global,
     development: &Development,

@@ -1,7 +1,7 @@
-//! What is called round each check.
+//! What is called around each check.
 use std::sync::Wait;
 
-/// Is called round the check of each number, by whoever checks it.
+/// Is called around the check of each number, by whoever checks it.
 pub trait Gate {
     /// The number is about to be checked.
     fn before<R: Wait>(&self, rt: &R, number: u64);

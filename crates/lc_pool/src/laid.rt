@@ -43,7 +43,7 @@ pub(crate) fn nothing_laid(alloc: Global) -> Laid
     Laid { terms, part }
 }
 
-/// Where the condition of this number stands in the part that is laid out, if it does.
+/// Where the condition of this number is in the part that is laid out, if it is there.
 fn place_of(laid: &Laid, number: u64) -> Option<usize>
     ensures { IfSome result (λ place. (place < length laid.now.part.conditions.items) × (number ≡ laid.now.part.first + place)) }
 {
@@ -75,7 +75,7 @@ pub(crate) fn lay_out(
     Ok(())
 }
 
-/// Whether a proof derives the condition of this number, where that is laid out.
+/// Whether a proof derives the condition of this number, if that is laid out.
 pub(crate) fn derives(
     alloc: Global,
     development: &Development,

@@ -8,7 +8,7 @@ use std::sync::Wait;
 use std::sync::atomic::{AtomicBool, AtomicU64, Ordering};
 use std::thread;
 
-/// Numbers that stand one behind another and of which no check has begun: from the one on, and before the other.
+/// Consecutive numbers of which no check has begun: from the one on, and before the other.
 #[derive(Clone, Copy)]
 struct Run {
     from: u64,
@@ -21,7 +21,7 @@ const RUN: u64 = 64;
 /// What all workers see.
 #[derive(Drop)]
 pub(crate) struct Board {
-    /// Whether a number was found that does not hold, or memory was refused, so that the others need not be checked.
+    /// Whether a number was found that does not hold, or memory ran out, so that the others need not be checked.
     failed: AtomicBool,
     /// How many runs there are, those included that a worker has taken and not yet put back.
     runs: AtomicU64,
@@ -41,7 +41,7 @@ impl Board {
         self.failed.store(true, Ordering::SeqCst);
     }
 
-    /// Whether a number was found that does not hold, or memory was refused.
+    /// Whether a number was found that does not hold, or memory ran out.
     pub(crate) fn has_failed(&self) -> bool {
         self.failed.load(Ordering::SeqCst)
     }
@@ -75,7 +75,7 @@ fn steal_from(others: &[Stealer<Run>]) -> Taken {
     taken
 }
 
-/// A deque of the numbers from the one to the other, in runs, of which its worker pops the first one first.
+/// A deque of the numbers from the one to the other, in runs; its worker pops the first one first.
 fn filled(alloc: Global, board: &Board, from: u64, to: u64) -> Result<Worker<Run>, OutOfMemory> {
     let runs = u64::saturating_sub(to, from).div_ceil(RUN);
     let mut own = Worker::new_lifo(alloc, runs as usize)?;
@@ -176,7 +176,7 @@ fn put_back_rest(own: &mut Worker<Run>, board: &Board, run: Run) -> bool {
     rest.from >= rest.to
 }
 
-/// Checks numbers until the check of each has begun, one does not hold, here or elsewhere, or memory is refused.
+/// Checks numbers until the check of each has begun, one does not hold, here or elsewhere, or memory runs out.
 pub(crate) fn work<W: Work, R: Wait, G: Gate, C: Checker<W> + Drop>(
     rt: &R,
     alloc: Global,

@@ -1,4 +1,4 @@
-//! Prints the verdicts that many workers say. What has to be printed was worked out by hand.
+//! Prints the verdicts of many workers. What has to be printed was worked out by hand.
 //!
 //! A line of the file `files` has a development and a certificate, with a space between them. What is printed of it is the line, then
 //! the verdict by 1 worker, by 2, by 7, and by 64.
@@ -6,7 +6,7 @@
 //! A line of the file `side_by_side` has the same. What is printed of it is the line, then the verdict by 2 workers under a gate that
 //! holds each of conditions 0 and 1 until the other is begun, and whether that came about.
 //!
-//! Where it is given the words DEV CERT WORKERS, it prints the verdict on these files by so many workers, and nothing else.
+//! Given the words DEV CERT WORKERS, it prints the verdict on these files by WORKERS workers, and nothing else.
 #![tactic(auto)]
 
 mod meeting;
@@ -41,7 +41,7 @@ fn two_files<R: Files + AllocGlobal>(rt: &R, line: &str) -> anyhow::Result<(Vec<
     Ok((dev, cert))
 }
 
-/// Prints the verdict on two files by so many workers.
+/// Prints the verdict on two files by `workers` workers.
 fn check_by<R: Print + AllocGlobal + Threads + Wait + Sync>(
     rt: &R,
     dev: &[u8],
@@ -65,7 +65,7 @@ fn check_line<R: Files + Print + AllocGlobal + Threads + Wait + Sync>(
     Ok(())
 }
 
-/// Checks the two files of a line by two workers, of which each waits for the other.
+/// Checks the two files of a line by two workers, each of which waits for the other.
 fn check_side_by_side<R: Files + Print + AllocGlobal + Threads + Wait + Sync>(
     rt: &R,
     line: &str,

@@ -7,7 +7,7 @@ use std::thread;
 /// The most turns that are waited.
 const MOST_TURNS: u64 = 100_000_000;
 
-/// Holds each of conditions 0 and 1 until the other is begun, for so many turns at most.
+/// Holds each of conditions 0 and 1 until the other is begun, for a limited number of turns.
 #[derive(Drop)]
 pub struct Meeting {
     first: AtomicBool,

@@ -1,5 +1,6 @@
 //! What the calls of derivations and proofs promise: each promise again, over the call that keeps it. The planted bugs of these
-//! calls are here: bodies that answer wrongly where the call answers right.
+//! calls are here: bodies that return something wrong where the call returns what is right.
 #![tactic(auto)]
 
 pub mod derivations;
+pub mod proofs;

@@ -25,7 +25,7 @@ fn form_of_variable(alloc: Global) -> Result<LinForm, LinFault> {
     form_of(&terms, alloc, variable)
 }
 
-/// Whether twice a form is another one, of which a half is the form again, and less twice the form is nothing.
+/// Whether twice a form is another one, half of which is the form again, and less twice the form is nothing.
 fn is_doubled_and_halved(alloc: Global, form: &LinForm) -> Result<bool, LinFault> {
     let twice = LinForm::zero(alloc).add_scaled(2, form)?;
     let differs = !twice.is_same_as(form) & !twice.is_constant();
@@ -50,7 +50,7 @@ fn large(alloc: Global) -> Result<Formula, OutOfMemory> {
     Ok(Formula::Le(left, Term::Number(0)))
 }
 
-/// Whether `(and)` does not close, alone and behind a form that does not fit 128 bits.
+/// Whether `(and)` does not close, alone and after a form that does not fit 128 bits.
 #[tactic(auto, using(lc_table::proofs::Later::is_formula_later))]
 fn is_no_comparison(alloc: Global) -> Result<bool, LinFault> {
     let large = large(alloc)?;

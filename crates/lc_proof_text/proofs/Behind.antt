@@ -1,4 +1,4 @@
--- What stands in a list behind its word, and one part alone.
+-- What is in a list after its word, and one part alone.
 use Rattle.std.proofs.Common.{◌≡◌, ℕ, List, [], Ok, Err, true, false, refl, sym, subst}
 use Rattle.std.specs.Prelude.{Result}
 use Rattle.std.specs.Result.{IsErrAnd}
@@ -20,7 +20,7 @@ use Rattle.lc_reading.specs.declared.part.Part.{Part}
 use Rattle.lc_reading.specs.declared.pass.Pass.TheVariants.{Shape}
 use Rattle.lc_proof_text.specs.FileNames.{names_behind}
 
--- what is read behind the word
+-- what is read after the word
 pub behind_ok : {T X : Type 0} (view : T → X) (word : List ℕ) (read : ℕ → ℕ → Trees → Reading X) (part : Part) (c : Cursor) (result : Result T ReadFault) → IsBehindWord word part (Ok c)
     → IsReading view (read (owner_of c) (number_of c) (rest_of c)) result → IsReading view (behind_reading word read (place_of part) (tree_of part)) result
 behind_ok view word read part c result behind h = subst (λ r. IsReading view r result) (sym (behind_reading-is word read part c behind)) h
@@ -36,7 +36,7 @@ pub behind_err : {T X : Type 0} (view : T → X) (word : List ℕ) (read : ℕ �
 behind_err view word read part misfit result (is, other) told =
     misfit_at view (place_of part) _ misfit result (behind_reading-other word read (place_of part) (tree_of part) other) is told
 
--- the names that are declared behind the word
+-- the names that are declared after the word
 names_at : (word w : List ℕ) (t : Tree) (ts us : Trees) → t ≡ list (atom w ▸ ts) → is w word ≡ true → us ≡ ts → names_behind word t ≡ names_among us
 names_at word w t ts us tree same rest = rw (tree, same, rest) refl
 

@@ -31,7 +31,7 @@ behind_counted word (list (atom w ▸ ts)) = if_word (is w word) where
 pub one_counted : (old new : Cursor) (part : Part) → IsOne old (Ok (part, new)) → item_count_of_all (rest_of old) ≡ item_count (tree_of part) + item_count_of_all (rest_of new)
 one_counted old new part one = ap item_count_of_all one.0
 
--- a place has 32 bits where there are so many names at most
+-- a place has 32 bits if there are fewer than 2 ^ 32 names
 pub place_fits : (vs : List (List ℕ)) (w : List ℕ) → length vs < 2 ^ 32 → IfSome (place_of vs w) (λ k. k < 2 ^ 32)
 place_fits vs w few = of_place (place_of vs w) (λ k e. place_below vs w k e) where
   of_place : (o : Option ℕ) → ((k : ℕ) → o ≡ Some k → k < length vs) → IfSome o (λ k. k < 2 ^ 32)

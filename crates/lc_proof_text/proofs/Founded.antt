@@ -24,7 +24,7 @@ use Rattle.lc_proof_text.specs.Steps.{multiples_reading, step_reading}
 use Rattle.lc_proof_text.specs.declared.head.Due.{Due}
 use Rattle.lc_proof_text.specs.declared.head.Head.{Head}
 
--- names that are listed stand at places below their count
+-- listed names have places below their count
 placed_below : (vs : List (List ℕ)) (w : List ℕ) → IfSome (place_of vs w) (λ k. nat_lt k (length vs) ≡ true)
 placed_below [] w = tt
 placed_below (v ∷ vs) w = at_first (is w v) (place_of vs w) (placed_below vs w) where
@@ -33,7 +33,7 @@ placed_below (v ∷ vs) w = at_first (is w v) (place_of vs w) (placed_below vs w
   at_first false None h = tt
   at_first false (Some k) h = grind (arith, nat_tests)
 
--- the number of a variable of so many
+-- the number is that of one of `count` variables
 abbrev pub below : ℕ → ℕ → Bool
 below count k = nat_lt k count
 
@@ -70,7 +70,7 @@ ended_sized : (n k : ℕ) (b : Bool) → IfFine (cond b (fine S.none) (wrong Sha
 ended_sized n k true = omega arith
 ended_sized n k false = tt
 
--- one proof more, where one may stand
+-- one proof more, if one is allowed
 more_sized : (b : Bool) (m i j : ℕ) (p : Reading S.Proof) (ps : Reading S.Proofs) → IfFine p (λ q. size q ≤ i) → IfFine ps (λ qs. size_of_all qs ≤ j)
     → IfFine (cond b (wrong Shape m) (both more p ps)) (λ qs. size_of_all qs ≤ i + j)
 more_sized true m i j p ps h g = tt
@@ -176,7 +176,7 @@ formulas_parts : (fs : Formulas) → formulas (parts fs) ≡ fs
 formulas_parts no_formulas = refl
 formulas_parts (more_formulas f fs) = ap (more_formulas f) (formulas_parts fs)
 
--- the hypotheses speak of the variables that there are
+-- the hypotheses use only existing variables
 pub founded_hypotheses : (claim : Claim) (items : ℕ) → IsFounded claim items → all_below claim.variables (parts claim.hypotheses) ≡ true
 founded_hypotheses claim items h =
     each_in (below claim.variables) (parts claim.hypotheses) (subst (FormulasIn (below claim.variables)) (sym (formulas_parts claim.hypotheses)) h.hypotheses)

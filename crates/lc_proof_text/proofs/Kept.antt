@@ -1,4 +1,4 @@
--- Proofs that are read read back, where names are spelled as they are read.
+-- Proofs that are read read back, if names are spelled as they are read.
 use Rattle.std.proofs.Common.{◌≡◌, ℕ, ℤ, zero, suc, ◌+◌, ◌≤◌, ◌⊎◌, inl, inr, Bool, true, false, cond, [], ◌∷◌, Option, Some, None, refl, sym, subst, arith}
 use Rattle.std.specs.Prelude.{codes}
 use Rattle.lc_sexp.specs.Parts.{fits_i64}
@@ -25,7 +25,7 @@ use Rattle.lc_text.proofs.Kept.{AreSpelled, IsTerm, IsColumn, IsFormula, number_
 use Rattle.lc_text.specs.Names.{Names}
 use Rattle.lc_text.specs.Spelling.{Spelled}
 
--- there are so many parts
+-- there are at least this many parts
 abbrev HasParts : ℕ → Trees → Type 0
 HasParts zero ts = Unit {0}
 HasParts (suc k) none = ⊥
@@ -45,7 +45,7 @@ multiples_kept m (t ▸ ts) =
     (multiple_kept m t) (multiples_kept (m + item_count t) ts) (λ x xs a b. (a, b))
 
 module _ (names : Names) (by : Spelled) (all : AreSpelled names by) where
-  -- a step whose parts read back, with as many proofs behind it as are due behind this word
+  -- a step whose parts read back, with as many proofs after it as are expected after this word
   abbrev IsStep : Head → Step → Type 0
   IsStep h s = StepReadsBack names by s × (proofs_due h ≡ due_behind s)
 
@@ -127,7 +127,7 @@ module _ (names : Names) (by : Spelled) (all : AreSpelled names by) where
       inl (tt, both_fine (λ z. fits_i64 z ≡ true) (λ z. fits_i64 z ≡ true) (IsStep Opposite) S.Opposite _ _ (number_kept m t) (number_kept (m + item_count t) u) (λ x y a b. ((a, b), refl)))
   step_kept Open n m ts small = inl (tt, (tt, refl))
 
-  -- as many proofs as are due, each of which reads back
+  -- as many proofs as are expected, and each reads back
   abbrev AreProofs : Due → Proofs → Type 0
   AreProofs due ps = AreDue due ps × ProofsReadBack names by ps
 

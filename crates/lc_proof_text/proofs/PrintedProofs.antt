@@ -12,7 +12,7 @@ use Rattle.lc_kernel.specs.Proofs.{Proof, Proofs, proof, more}
 use Rattle.lc_proof_text.specs.ProofTrees.{multiple_trees, step_trees, proof_tree, proof_trees}
 use Rattle.lc_proof_text.specs.SpelledProofs.{spelled_multiples, spelled_step, spelled_proof, spelled_proofs}
 
--- parts behind spaces, and what is behind them
+-- parts after spaces, and what is after them
 one_part : (x y r : List ℕ) → x ≡ y → 32 ∷ (x ++ r) ≡ (32 ∷ y) ++ r
 one_part x y r e = ap (λ w. 32 ∷ (w ++ r)) e
 
@@ -37,7 +37,7 @@ multiples_text (m ∷ ms) ts =
     ap₂ (λ u v. 32 ∷ 40 ∷ (((a ++ (32 ∷ u)) ++ (41 ∷ [])) ++ v)) (append-nil b) (multiples_text ms ts)
     ∙ ap (λ u. 32 ∷ 40 ∷ u) (sym (append_assoc ((a ++ (32 ∷ b)) ++ (41 ∷ [])) (spelled_multiples ms) (printed_others ts)))
 
--- a step's word and its parts, and what is behind them
+-- a step's word and its parts, and what is after them
 step_text : (by : Spelled) (s : Step) (ts : Trees) → printed_items (step_trees by s ts) ≡ spelled_step by s ++ printed_others ts
 step_text by (Split h) ts = refl
 step_text by (Cases h) ts = refl

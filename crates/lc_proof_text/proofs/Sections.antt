@@ -33,7 +33,7 @@ also_read r s (Err (Flawed f)) (Err OutOfMemory) h k = tt
 also_read r s (Err OutOfMemory) (Err (Flawed g)) h k = tt
 also_read r s (Err OutOfMemory) (Err OutOfMemory) h k = tt
 
--- the part of the number i, which is the next, and what is left behind it
+-- the part of the number i, which is the next, and the rest after it
 abbrev IsAfter : ℕ → Trees → ℕ → Tree → ℕ → Trees → Type 0
 IsAfter m us i t k ts = (i ≡ m) × (us ≡ t ▸ ts) × (k ≡ m + item_count t)
 

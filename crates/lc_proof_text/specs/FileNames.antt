@@ -17,7 +17,7 @@ pub record Declared : Type 0 where
 abbrev pub declared_of : SeenDeclared → Declared
 declared_of d = record { variables = listed d.variables; columns = listed d.columns }
 
--- the names that are declared behind this word, where a list begins with it
+-- the names that are declared after this word, if a list begins with it
 abbrev pub names_behind : List ℕ → Tree → List (List ℕ)
 names_behind word (list (atom w ▸ ts)) = if is w word then names_among ts else []
 names_behind word _ = []

@@ -99,6 +99,6 @@ sections_reading n m _ = wrong Shape n
 abbrev pub form_reading : ℕ → Tree → Reading Claim
 form_reading n t = behind_reading (codes "formula") sections_reading n t
 
--- The form of the file, and no other. One that is missing is told at the number of items
+-- The form of the file, and no other. A missing one is reported at the number of items
 abbrev pub file_reading : Trees → Reading Claim
 file_reading ts = only form_reading (item_count_of_all ts) 0 ts

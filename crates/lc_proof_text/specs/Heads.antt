@@ -40,7 +40,7 @@ own_parts Divide = 3
 own_parts Opposite = 2
 own_parts Open = 0
 
--- how many proofs stand behind them
+-- how many proofs come after them
 abbrev pub proofs_due : Head → Due
 proofs_due Split = One
 proofs_due Cases = Any
@@ -56,21 +56,21 @@ proofs_due Divide = One
 proofs_due Opposite = Nothing
 proofs_due Open = Nothing
 
--- those that are due behind one
+-- those that are expected after one proof
 abbrev pub later : Due → Due
 later Nothing = Nothing
 later One = Nothing
 later Two = One
 later Any = Any
 
--- no further one has to stand
+-- no further one is required
 abbrev pub is_met : Due → Bool
 is_met Nothing = true
 is_met One = false
 is_met Two = false
 is_met Any = true
 
--- no further one may stand
+-- no further one is allowed
 abbrev pub is_full : Due → Bool
 is_full Nothing = true
 is_full _ = false

@@ -1,4 +1,4 @@
--- What readers answer of the parts of a step that stand before its proofs.
+-- What readers return for the parts of a step that come before its proofs.
 use Rattle.std.specs.Prelude.{◌≡◌, ℕ, ℤ, zero, suc, ◌+◌, List, map, Vec, Box, Result, Ok, Err}
 use Rattle.std.specs.declared.alloc.Global.{Global}
 use Rattle.lc_sexp.specs.Trees.{Tree, Trees, none, ◌▸◌, item_count}
@@ -21,11 +21,11 @@ use Rattle.lc_term.specs.declared.term.Term.{Term}
 use Rattle.lc_text.specs.Terms.{number_reading}
 use Rattle.lc_reading.specs.declared.pass.Pass.TheVariants.{Shape}
 
--- the list begins with this number, and this is left behind it
+-- the list begins with this number, and this is the rest after it
 abbrev pub BeginsWith : Cursor → ℤ → Cursor → Type 0
 BeginsWith l z rest = (t : Tree) × (number_reading (number_of l) t ≡ fine z) × IsBehind l t rest
 
--- this is left behind so many parts
+-- this is the rest after k parts
 abbrev pub IsLeft : ℕ → ℕ → Trees → Cursor → Type 0
 IsLeft zero m ts rest = (number_of rest ≡ m) × (rest_of rest ≡ ts)
 IsLeft (suc k) m none rest = ⊥
@@ -37,12 +37,12 @@ IsShort zero ts = ⊥
 IsShort (suc k) none = Unit {0}
 IsShort (suc k) (t ▸ ts) = IsShort k ts
 
--- the step that so many parts read as, and what is left behind them; or the list has fewer
+-- the step that k parts read as, and the rest after them; or the list has fewer
 abbrev pub IsOwn : Reading S.Step → ℕ → Cursor → Result (Result Step ReadFault × Cursor) Misfit → Type 0
 IsOwn read k l (Ok r) = IsReading step_of read r.0 × IsLeft k (number_of l) (rest_of l) r.1
 IsOwn read k l (Err misfit) = (misfit ≡ Misshapen (owner_of l)) × (read ≡ wrong Shape (owner_of l)) × IsShort k (rest_of l)
 
--- the same where the list is left at what stands behind
+-- the same, with the list left at the rest
 abbrev pub IsBegun : Reading S.Step → ℕ → Cursor → Result (Result Step ReadFault) Misfit → Cursor → Type 0
 IsBegun read k old (Ok step) new = IsOwn read k old (Ok (step, new))
 IsBegun read k old (Err misfit) new = IsOwn read k old (Err misfit)

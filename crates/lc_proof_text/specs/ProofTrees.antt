@@ -17,12 +17,12 @@ use Rattle.lc_proof_text.specs.declared.head.Due.TheVariants.{Nothing, One, Two,
 abbrev pub number_tree : ℤ → Tree
 number_tree n = atom (signed_decimal n)
 
--- what is printed of multiples, and these behind them
+-- what is printed of multiples, followed by these
 abbrev pub multiple_trees : List (ℤ × ℤ) → Trees → Trees
 multiple_trees [] ts = ts
 multiple_trees (m ∷ ms) ts = list (number_tree m.0 ▸ number_tree m.1 ▸ none) ▸ multiple_trees ms ts
 
--- what is printed of a step's word and of its own parts, and these behind them
+-- what is printed of a step's word and of its own parts, followed by these
 abbrev pub step_trees : Spelled → Step → Trees → Trees
 step_trees by (Split h) ts = atom (codes "split") ▸ number_tree h ▸ ts
 step_trees by (Cases h) ts = atom (codes "cases") ▸ number_tree h ▸ ts
@@ -48,7 +48,7 @@ abbrev mutual
   proof_trees by S.none = none
   proof_trees by (more p ps) = proof_tree by p ▸ proof_trees by ps
 
--- how many proofs stand behind a step
+-- how many proofs come after a step
 abbrev pub due_behind : Step → Due
 due_behind (Split h) = One
 due_behind (Cases h) = Any
@@ -88,7 +88,7 @@ StepReadsBack names by (Opposite h g) = (fits_i64 h ≡ true) × (fits_i64 g ≡
 StepReadsBack names by Open = Unit {0}
 
 abbrev mutual
-  -- a proof reads back: the parts of each step do, and as many proofs stand behind each as are due
+  -- a proof reads back: the parts of each step do, and after each come as many proofs as are expected
   pub ProofReadsBack : Names → Spelled → Proof → Type 0
   ProofReadsBack names by (proof s ps) = StepReadsBack names by s × AreDue (due_behind s) ps × ProofsReadBack names by ps
 

@@ -6,19 +6,19 @@ use Rattle.lc_text.specs.Spelled.{spaced, spelled_term, spelled_column, spelled_
 use Rattle.lc_kernel.specs.Proofs.{Step, Split, Cases, Push, Instantiate, Fresh, Cut, Written, Same, Affine, Trichotomy, Divide, Sum, Opposite, Open}
 use Rattle.lc_kernel.specs.Proofs.{Proof, Proofs, proof, none, more}
 
--- a number behind a space
+-- a number after a space
 abbrev pub spaced_number : ℤ → List ℕ
 spaced_number n = spaced (signed_decimal n)
 
 abbrev pub spelled_multiple : ℤ × ℤ → List ℕ
 spelled_multiple m = codes "(" ++ signed_decimal m.0 ++ spaced_number m.1 ++ codes ")"
 
--- multiples, each behind a space
+-- multiples, each after a space
 abbrev pub spelled_multiples : List (ℤ × ℤ) → List ℕ
 spelled_multiples [] = []
 spelled_multiples (m ∷ ms) = spaced (spelled_multiple m) ++ spelled_multiples ms
 
--- a step's word, and the parts that stand before its proofs
+-- a step's word, and the parts that come before its proofs
 abbrev pub spelled_step : Spelled → Step → List ℕ
 spelled_step by (Split h) = codes "split" ++ spaced_number h
 spelled_step by (Cases h) = codes "cases" ++ spaced_number h
@@ -40,7 +40,7 @@ abbrev mutual
   pub spelled_proof : Spelled → Proof → List ℕ
   spelled_proof by (proof s ps) = codes "(" ++ spelled_step by s ++ spelled_proofs by ps ++ codes ")"
 
-  -- proofs, each behind a space
+  -- proofs, each after a space
   pub spelled_proofs : Spelled → Proofs → List ℕ
   spelled_proofs by none = []
   spelled_proofs by (more p ps) = spaced (spelled_proof by p) ++ spelled_proofs by ps

@@ -1,4 +1,4 @@
--- What a text reads as where the parts of a step are due that stand before its proofs.
+-- What a text reads as where the parts of a step before its proofs are expected.
 use Rattle.std.specs.Prelude.{ℕ, ℤ, ◌+◌, List, []}
 use Rattle.lc_sexp.specs.Trees.{Tree, Trees, list, none, ◌▸◌, item_count}
 use Rattle.lc_term.specs.Syntax.{Term, Column}
@@ -88,7 +88,7 @@ abbrev pub opposite_reading : ℕ → ℕ → Trees → Reading Step
 opposite_reading n m (t ▸ u ▸ ts) = both S.Opposite (number_reading m t) (number_reading (m + item_count t) u)
 opposite_reading n m _ = wrong Shape n
 
--- the step of the list n that begins so, whose other parts are numbered from m on. Its proofs stand behind its own parts
+-- the step of the list n that begins so, whose other parts are numbered from m on. Its proofs come after its own parts
 abbrev pub step_reading : Names → Head → ℕ → ℕ → Trees → Reading Step
 step_reading names Split = hypothesis_reading Split
 step_reading names Cases = hypothesis_reading Cases

@@ -17,14 +17,14 @@ pub(crate) struct ClaimTrees {
     pub(crate) proof: Proof,
 }
 
-/// What a formula file says: a goal, whose formulas stand in a table, and its proof.
+/// What a formula file says: a goal, whose formulas are in a table, and its proof.
 pub struct FormulaFile {
     pub terms: Terms,
     pub goal: Goal,
     pub proof: Proof,
 }
 
-// Written out and not derived, so that a place where it is let go has one call.
+// Written out and not derived, so that dropping it is one call.
 impl Drop for FormulaFile {
     fn drop(self) {
         let FormulaFile {

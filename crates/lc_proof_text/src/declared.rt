@@ -12,7 +12,7 @@ pub(crate) struct Declared<'a> {
     ghost few_columns: { length (listed columns) < 2 ^ 32 },
 }
 
-// Written out and not derived, so that a place where it is let go has one call.
+// Written out and not derived, so that dropping it is one call.
 impl Drop for Declared<'_> {
     fn drop(self) {
         let Declared {

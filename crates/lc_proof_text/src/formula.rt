@@ -41,7 +41,7 @@ fn read_hypotheses(
     read_formulas(alloc, &InClaim(declared), list)
 }
 
-/// A formula of the claim, which is all that is left in a list.
+/// A formula of the claim, which must be the whole rest of a list.
 fn read_only_formula(
     alloc: Global,
     declared: &Declared<'_>,
@@ -61,7 +61,7 @@ fn read_goal(alloc: Global, declared: &Declared<'_>, part: Part<'_>) -> Result<F
     read_only_formula(alloc, declared, list)
 }
 
-/// A proof, which is all that is left in a list.
+/// A proof, which must be the whole rest of a list.
 fn read_only_proof(
     alloc: Global,
     declared: &Declared<'_>,
@@ -117,7 +117,7 @@ fn read_claim(
     })
 }
 
-/// The five sections, which are all that is left in a list.
+/// The five sections, which must be the whole rest of a list.
 fn read_sections(alloc: Global, list: Cursor<'_>) -> Result<ClaimTrees, ReadFault>
     requires { item_count_of_all (rest_of list) < 2 ^ 32 }
     ensures { IsReading seen_claim (sections_reading (owner_of list.entry) (number_of list.entry) (rest_of list.entry)) result }
@@ -143,7 +143,7 @@ fn read_form(alloc: Global, part: Part<'_>) -> Result<ClaimTrees, ReadFault>
     read_sections(alloc, list)
 }
 
-/// The form of a formula file, which is all that is left in a list.
+/// The form of a formula file, which must be the whole rest of a list.
 fn read_file(alloc: Global, forms: Cursor<'_>) -> Result<ClaimTrees, ReadFault>
     requires { item_count_of_all (rest_of forms) < 2 ^ 32 }
     ensures { IsReading seen_claim (only form_reading (owner_of forms.entry) (number_of forms.entry) (rest_of forms.entry)) result }
@@ -152,8 +152,8 @@ fn read_file(alloc: Global, forms: Cursor<'_>) -> Result<ClaimTrees, ReadFault>
     ended(read_form(alloc, form), rest)
 }
 
-/// The goal and the proof of the formula file of which these are the forms, with a table in which the goal's formulas
-/// stand. Where it is none, `Refused` has its first refusal, as in `formula_of`.
+/// The goal and the proof of the formula file that has these forms, with a table of the goal's formulas. If it is none,
+/// `Refused` has its first refusal, as in `formula_of`.
 pub fn formula_in(alloc: Global, forms: Forms) -> Result<FormulaFile, Fault>
     requires { (bytes : List ℕ) × ReadsAs bytes forms }
     ensures answer { (bytes : List ℕ) → ReadsAs bytes forms → IsAnswerTo claim_in file_reading bytes result }
@@ -166,12 +166,12 @@ pub fn formula_in(alloc: Global, forms: Forms) -> Result<FormulaFile, Fault>
     Ok(entered(alloc, claim)?)
 }
 
-/// The goal and the proof of a formula file, with a table in which the goal's formulas stand:
+/// The goal and the proof of a formula file, with a table of the goal's formulas:
 /// `(formula (vars NAME*) (cols NAME*) (hyps F*) (goal F) (proof P))`.
 ///
-/// Where the file is none, `Refused` has its first refusal: `Text` with the offset of its first text fault; else of
+/// If the file is none, `Refused` has its first refusal: `Text` with the offset of its first text fault; else of
 /// `Shape`, `Unknown`, `Repeated` and `Bound`, in this order, the first for which an item is wrong, with the least such
-/// item. `OutOfMemory` says nothing of the file. `prove` may be called with what is read.
+/// item. `OutOfMemory` says nothing about the file. `prove` may be called with what is read.
 pub fn formula_of(alloc: Global, bytes: &[u8]) -> Result<FormulaFile, Fault>
     ensures answer { IsAnswerTo claim_in file_reading bytes.now result }
     ensures numbers { IfOk result AreEntered }

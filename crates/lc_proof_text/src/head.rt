@@ -3,7 +3,7 @@ ghost use Rattle.std.specs.Prelude.{◌≡◌, codes};
 ghost use Rattle.lc_reading.specs.Words.{is};
 ghost use Rattle.lc_proof_text.specs.Heads.{head_of, proofs_due};
 
-/// What the first word of a step says, where it is any but `sum`.
+/// What the first word of a step says, if it is any but `sum`.
 #[derive(Clone, Copy)]
 pub(crate) enum Head {
     Split,
@@ -21,7 +21,7 @@ pub(crate) enum Head {
     Open,
 }
 
-/// How many proofs are due.
+/// How many proofs are expected.
 #[derive(Clone, Copy)]
 pub(crate) enum Due {
     Nothing,
@@ -34,7 +34,7 @@ impl Due {
     ghost use Rattle.std.specs.Prelude.{◌≡◌};
     ghost use Rattle.lc_proof_text.specs.Heads.{later, is_met, is_full};
 
-    /// Those that are due behind one.
+    /// Those that are expected after one proof.
     pub(crate) fn later(self) -> Due
         ensures { result ≡ later self }
     {
@@ -45,14 +45,14 @@ impl Due {
         }
     }
 
-    /// No further one has to stand.
+    /// Whether no further one is required.
     pub(crate) fn is_met(self) -> bool
         ensures { result ≡ is_met self }
     {
         matches!(self, Due::Nothing | Due::Any)
     }
 
-    /// No further one may stand.
+    /// Whether no further one is allowed.
     pub(crate) fn is_full(self) -> bool
         ensures { result ≡ is_full self }
     {
@@ -67,7 +67,7 @@ pub(crate) fn is_sum(word: &str) -> bool
     matches!(word.as_bytes(), b"sum")
 }
 
-/// What this word says. Its bytes are told apart one by one: to compare words by calls of the library costs more.
+/// What this word says. Its bytes are compared one by one: to compare words by calls of the library costs more.
 #[inline(never)]
 pub(crate) fn head_of(word: &str) -> Option<Head>
     ensures { result ≡ head_of word.now }
@@ -94,7 +94,7 @@ impl Head {
     ghost use Rattle.std.specs.Prelude.{◌≡◌};
     ghost use Rattle.lc_proof_text.specs.Heads.{proofs_due};
 
-    /// How many proofs stand behind the step's own parts.
+    /// How many proofs come after the step's own parts.
     pub(crate) fn proofs_due(self) -> Due
         ensures { result ≡ proofs_due self }
     {

@@ -1,4 +1,4 @@
-//! Numbers with which a list begins, read at once where nothing is wrong with them. What is wrong is told by the readers of parts.
+//! Numbers with which a list begins, read at once if nothing is wrong with them. What is wrong is reported by the readers of parts.
 ghost use Rattle.std.specs.Prelude.{IfSome};
 ghost use Rattle.lc_reading.specs.Results.{IsReading};
 ghost use Rattle.lc_sexp.specs.Shown.{rest_of, number_of, owner_of};
@@ -11,7 +11,7 @@ use lc_reading::ReadFault;
 use lc_sexp::Cursor;
 use lc_text::read_numbers;
 
-/// The number with which a list begins, if it does with one, and what is left behind it.
+/// The number with which a list begins, if it begins with one, and the rest after it.
 pub(crate) fn first_number<'a>(list: Cursor<'a>) -> Option<(i64, Cursor<'a>)>
     ensures { IfSome result (λ p. BeginsWith list.entry p.0 p.1) }
 {
@@ -22,7 +22,7 @@ pub(crate) fn first_number<'a>(list: Cursor<'a>) -> Option<(i64, Cursor<'a>)>
     }
 }
 
-/// The two numbers with which a list begins, if it does with two, and what is left behind them.
+/// The two numbers with which a list begins, if it begins with two, and the rest after them.
 pub(crate) fn first_numbers<'a>(list: Cursor<'a>) -> Option<(i64, i64, Cursor<'a>)>
     ensures { IfSome result (λ p. (between : Cursor) × BeginsWith list.entry p.0 between × BeginsWith between p.1 p.2) }
 {

@@ -11,7 +11,7 @@ use lc_kernel::{Multiple, Proof, Step};
 use lc_term::{ColExpr, Formula, Term};
 use lc_text::{Spelling, write_column, write_formula, write_term};
 
-/// Writes a number behind a space.
+/// Writes a number after a space.
 fn write_number(out: &mut String, number: i64) -> Result<(), OutOfMemory>
     ensures { OnOk result (string_bytes out.new ≡ string_bytes out.old ++ spaced_number number) }
 {
@@ -19,7 +19,7 @@ fn write_number(out: &mut String, number: i64) -> Result<(), OutOfMemory>
     Ok(())
 }
 
-/// Writes a term behind a space.
+/// Writes a term after a space.
 fn write_index<S: Spelling>(out: &mut String, spelling: &S, term: &Term) -> Result<(), OutOfMemory>
     ensures { OnOk result (string_bytes out.new ≡ string_bytes out.old ++ spaced (spelled_term (S.spelled spelling.now) 0 (term_of term.now))) }
 {
@@ -27,7 +27,7 @@ fn write_index<S: Spelling>(out: &mut String, spelling: &S, term: &Term) -> Resu
     write_term(out, spelling, 0, term)
 }
 
-/// Writes a formula behind a space.
+/// Writes a formula after a space.
 fn write_part<S: Spelling>(
     out: &mut String,
     spelling: &S,
@@ -39,7 +39,7 @@ fn write_part<S: Spelling>(
     write_formula(out, spelling, 0, formula)
 }
 
-/// Writes a word, and a column and an index behind it.
+/// Writes a word, and a column and an index after it.
 fn write_cell<S: Spelling>(
     out: &mut String,
     spelling: &S,
@@ -96,7 +96,7 @@ fn write_sum(out: &mut String, multiples: &[Multiple]) -> Result<(), OutOfMemory
     Ok(())
 }
 
-/// Writes a step's word, and the parts that stand before its proofs.
+/// Writes a step's word, and the parts that come before its proofs.
 fn write_step<S: Spelling>(out: &mut String, spelling: &S, step: &Step) -> Result<(), OutOfMemory>
     ensures { OnOk result (string_bytes out.new ≡ string_bytes out.old ++ spelled_step (S.spelled spelling.now) (step_of step.now)) }
 {
@@ -151,7 +151,7 @@ fn write_step<S: Spelling>(out: &mut String, spelling: &S, step: &Step) -> Resul
     }
 }
 
-/// Writes a proof behind what is there. Where memory is refused nothing is written.
+/// Appends a proof. On `OutOfMemory` nothing is written.
 pub fn write_proof<S: Spelling>(
     out: &mut String,
     spelling: &S,
@@ -166,7 +166,7 @@ pub fn write_proof<S: Spelling>(
     Ok(())
 }
 
-// A proof behind what is there. Where memory is refused a beginning of it may stand there.
+// Appends a proof. On `OutOfMemory` a beginning of it may have been written.
 #[cycle(push_proof)]
 fn push_proof<S: Spelling>(out: &mut String, spelling: &S, proof: &Proof) -> Result<(), OutOfMemory>
     ensures { OnOk result (string_bytes out.new ≡ string_bytes out.old ++ spelled_proof (S.spelled spelling.now) (proof_of proof.now)) }
@@ -178,7 +178,7 @@ fn push_proof<S: Spelling>(out: &mut String, spelling: &S, proof: &Proof) -> Res
     Ok(())
 }
 
-// Proofs, each behind a space.
+// Proofs, each after a space.
 #[cycle(push_proof)]
 fn push_proofs<S: Spelling>(
     out: &mut String,

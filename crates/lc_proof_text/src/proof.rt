@@ -58,7 +58,7 @@ impl Reads for Multiples {
     }
 }
 
-/// The multiples that the items read as that are left in a list. Where one is wrong, all are read anew, to tell what is wrong.
+/// The multiples that the items read as that are left in a list. If one is wrong, all are read anew, to tell what is wrong.
 fn read_multiples(alloc: Global, list: Cursor<'_>) -> Result<Vec<Multiple>, ReadFault>
     ensures { IsReading multiples_of (multiples_reading (number_of list.entry) (rest_of list.entry)) result }
 {
@@ -85,8 +85,8 @@ fn read_sum(alloc: Global, list: Cursor<'_>) -> Result<Proof, ReadFault>
     })
 }
 
-/// The step that begins so, of its own parts; the list is left at what stands behind them. It stands apart from those who call one
-/// another, which keeps what each level of them takes of the stack small: so do `finished` and `pushed_proof`.
+/// The step that begins so, of its own parts; the list is left at the rest after them. It is not one of the functions that call
+/// one another, so that each of their levels takes little of the stack: so do `finished` and `pushed_proof`.
 #[inline(never)]
 fn read_begun<'a, S: Scope>(
     alloc: Global,
@@ -113,7 +113,7 @@ fn finished(
     Ok(Proof { step, branches })
 }
 
-/// One proof more, where all before it are read; else what is wrong in any.
+/// One proof more, if all before it are read; else what is wrong in any.
 #[inline(never)]
 fn pushed_proof(
     proofs: Result<Vec<Proof>, ReadFault>,
@@ -124,7 +124,7 @@ fn pushed_proof(
     pushed(proofs, proof)
 }
 
-/// The proofs, with the flaw too that an item is misshapen. It stands apart, likewise.
+/// The proofs, with the flaw too that an item is misshapen. It is not one of the functions that call one another.
 #[inline(never)]
 fn with_misshapen(proofs: Result<Vec<Proof>, ReadFault>, item: u64) -> Result<Vec<Proof>, ReadFault>
     ensures { result ≡ misshapen_too item proofs }
@@ -170,7 +170,7 @@ fn read_step<S: Scope>(
     )
 }
 
-/// The proofs that are due among the items that are left in a list.
+/// The proofs that are expected among the items that are left in a list.
 #[cycle(read_proof)]
 fn read_branches<S: Scope>(
     alloc: Global,

@@ -9,7 +9,7 @@ ghost use Rattle.lc_sexp.specs.Printed.{printed_tree};
 ghost use Rattle.lc_text.specs.Names.{Names};
 ghost use Rattle.lc_text.specs.Spelling.{Spelled};
 
-/// What is printed of a proof is the text of an s-expression, which reads as the same proof where it is one that reads back,
+/// What is printed of a proof is the text of an s-expression, which reads as the same proof if it is one that reads back,
 /// whatever its item's number.
 pub fn printed_proofs_read_back()
     ensures text { (by : Spelled) (p : Proof) → printed_tree (proof_tree by p) ≡ spelled_proof by p }

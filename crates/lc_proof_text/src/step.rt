@@ -1,4 +1,4 @@
-//! The parts of a step that stand before its proofs. Parts too many are told where the proofs are read.
+//! The parts of a step that come before its proofs. Parts too many are reported when the proofs are read.
 ghost use Rattle.std.specs.Prelude.{◌≡◌, [], IfOk, IfErr};
 ghost use Rattle.lc_sexp.specs.Shown.{rest_of, number_of, owner_of};
 ghost use Rattle.lc_kernel.specs.Proofs as S;
@@ -22,7 +22,7 @@ use lc_term::{ColExpr, Term};
 use lc_text::{Scope, read_boxed_formula, read_column, read_number, read_term};
 use std::alloc::Global;
 
-/// The step that so many parts of a list read as, or what is wrong in them, and what is left behind them.
+/// The step that the first parts of a list read as, or what is wrong in them, and the rest after them.
 type Own<'a> = (Result<Step, ReadFault>, Cursor<'a>);
 
 /// The step that begins so and has a hypothesis alone.
@@ -90,7 +90,7 @@ fn read_boxed_term<S: Scope>(
     Ok(Box::new(alloc, read_term(alloc, scope, part)?)?)
 }
 
-/// A column and an index. A column that may not be read so is told at the reader.
+/// A column and an index. A column that may not be read there is reported at the reader.
 fn read_cell<S: Scope>(
     alloc: Global,
     scope: &S,

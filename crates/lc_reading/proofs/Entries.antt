@@ -1,4 +1,4 @@
--- What stays of names by their numbers where one more is entered.
+-- What stays of names by their numbers when one more is entered.
 use Rattle.std.proofs.Common.{◌≡◌, ℕ, zero, suc, ◌<◌, true, List, [], ◌∷◌, ◌++◌, Some, None, Ok, Err, refl, sym, ap, ◌∙◌, cond, arith}
 use Rattle.std.proofs.lemmas.Bool.{and_parts, ltb-true, lt-ltb}
 use Rattle.std.proofs.lemmas.List.{map-append, length-map, length-append}
@@ -52,7 +52,7 @@ are_within-last es (j ∷ ks) k h low =
     let p = and_parts _ (are_within es ks) h in
     ap (λ b. b && are_within es (ks ++ k ∷ [])) p.0 ∙ are_within-last es ks k p.1 low
 
--- one name more, by the number of its entry, and where it stands first
+-- one name more, by the number of its entry, and its first place
 pub entered : (old new : List (Bor (List ℕ) × ℕ)) (ks : List ℕ) (k : ℕ) (name w : List ℕ) → names_at new ks ≡ names_at old ks → name_at new k ≡ name
     → option_or (place_of (names_at old ks) w) (cond (is w name) (Some (length ks)) None) ≡ place_of (names_at new (ks ++ k ∷ [])) w
 entered old new ks k name w kept named =

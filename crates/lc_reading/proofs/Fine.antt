@@ -48,7 +48,7 @@ three_fine {X} {Y} P Q R S f m t u v ts r s q h g i k =
     (both_fine (λ (p : X × Y). P p.0 × Q p.1) R S (λ (p : X × Y) z. f p.0 p.1 z) (both (λ x y. (x, y)) r s) q
     (both_fine P Q (λ (p : X × Y). P p.0 × Q p.1) (λ x y. (x, y)) r s h g (λ x y a b. (a, b))) i (λ p z a b. k p.0 p.1 z a.0 a.1 b))
 
--- what stands in a list behind its word, which has fewer items
+-- the items of a list after its word, which are fewer
 pub behind_fine : {X : Type 0} (P : X → Type 0) (word : List ℕ) (read : ℕ → ℕ → Trees → Reading X) (n : ℕ) (t : Tree)
     → ((m : ℕ) (ts : Trees) → item_count_of_all ts < item_count t → IfFine (read n m ts) P) → IfFine (behind_reading word read n t) P
 behind_fine P word read n (atom w) h = tt

@@ -80,7 +80,7 @@ each_holds test read h m (t ▸ ts) =
     both_holds (λ x. test x ≡ true) (λ xs. list_all test xs ≡ true) (λ xs. list_all test xs ≡ true) (λ x xs. x ∷ xs) (read m t) (each_reading read (m + item_count t) ts)
     (h m t) (each_holds test read h (m + item_count t) ts) (λ x xs u v. and_true (test x) (list_all test xs) u v)
 
--- the same of just so many
+-- the same for a given number of items
 pub counted_holds : {X : Type 0} (test : X → Bool) (read : ℕ → Tree → Reading X) → ((n : ℕ) (t : Tree) → Holds (λ x. test x ≡ true) (read n t)) → (n k m : ℕ) (ts : Trees)
     → Holds (λ xs. (list_all test xs ≡ true) × (length xs ≡ k)) (counted_reading read n k m ts)
 counted_holds test read h n zero m none = (refl, refl)
@@ -91,7 +91,7 @@ counted_holds test read h n (suc k) m (t ▸ ts) =
     (read m t) (counted_reading read n k (m + item_count t) ts) (h m t) (counted_holds test read h n k (m + item_count t) ts)
     (λ x xs u v. (and_true (test x) (list_all test xs) u v.0, ap suc v.1))
 
--- the same of items that declare names
+-- the same for items that declare names
 pub declared_holds : {X : Type 0} (test : X → Bool) (read : List (List ℕ) → ℕ → Tree → Reading X) (declares : Tree → List (List ℕ))
     → ((before : List (List ℕ)) (n : ℕ) (t : Tree) → Holds (λ x. test x ≡ true) (read before n t)) → (before : List (List ℕ)) (m : ℕ) (ts : Trees)
     → Holds (λ xs. list_all test xs ≡ true) (declared_reading read declares before m ts)
@@ -101,7 +101,7 @@ declared_holds test read declares h before m (t ▸ ts) =
     (read before m t) (declared_reading read declares (before ++ declares t) (m + item_count t) ts)
     (h before m t) (declared_holds test read declares h (before ++ declares t) (m + item_count t) ts) (λ x xs u v. and_true (test x) (list_all test xs) u v)
 
--- there are as many as names, where each declares one
+-- there are as many as names, if each declares one
 pub declared_counts : {X : Type 0} (read : List (List ℕ) → ℕ → Tree → Reading X) (declares : Tree → List (List ℕ))
     → ((before : List (List ℕ)) (n : ℕ) (t : Tree) → Holds (λ x. length (declares t) ≡ 1) (read before n t)) → (before : List (List ℕ)) (m : ℕ) (ts : Trees)
     → Holds (λ xs. length xs ≡ length (all_declared declares ts)) (declared_reading read declares before m ts)

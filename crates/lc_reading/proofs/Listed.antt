@@ -18,7 +18,7 @@ use Rattle.lc_reading.specs.declared.part.Part.{Part}
 listed_reading-at : {X : Type 0} (read : ℕ → ℕ → Trees → Reading X) (n o m : ℕ) (t : Tree) (us : Trees) → list us ≡ t → o ≡ n → m ≡ o + 1 → listed_reading read n t ≡ read o m us
 listed_reading-at read n o m t us tree owner first = ap (listed_reading read n) (sym tree) ∙ rw (first, owner) refl
 
--- what stands in the list
+-- what is in the list
 pub listed_reading-is : {X : Type 0} (read : ℕ → ℕ → Trees → Reading X) (n : ℕ) (t : Tree) (l : Cursor) → list (rest_of l) ≡ t → owner_of l ≡ n → number_of l ≡ owner_of l + 1
     → listed_reading read n t ≡ read (owner_of l) (number_of l) (rest_of l)
 listed_reading-is read n t l tree owner first = listed_reading-at read n (owner_of l) (number_of l) t (rest_of l) tree owner first
@@ -36,7 +36,7 @@ limited_read view true n r (Err OutOfMemory) h = tt
 limited_read view false n r (Ok x) h = h
 limited_read view false n r (Err f) h = h
 
--- the same where the limit and the item are told in another way
+-- the same, with the limit and the item given in another way
 pub limited_at : {T X : Type 0} (view : T → X) (b beyond : Bool) (m n : ℕ) (r : Reading X) (a e : Result T ReadFault) → IsReading view r a → e ≡ limited_result b m a → b ≡ beyond → m ≡ n
     → IsReading view (limited beyond n r) e
 limited_at view b beyond m n r a e h end same at = rw (end, same, at) (limited_read view beyond n r a h)

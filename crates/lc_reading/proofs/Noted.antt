@@ -1,4 +1,4 @@
--- Flaws of items one after another, of which no value is made.
+-- Flaws of items one after another, with no value made of them.
 use Rattle.std.proofs.Common.{◌≡◌, Ok, Err, refl, ap, ◌∙◌}
 use Rattle.std.specs.Prelude.{Result}
 use Rattle.lc_reading.proofs.Order.{lesser_assoc}
@@ -10,7 +10,7 @@ use Rattle.lc_reading.specs.Results.{IsReading, also_results}
 use Rattle.lc_reading.specs.declared.flaw.ReadFault.{ReadFault}
 use Rattle.lc_reading.specs.declared.flaw.ReadFault.TheVariants.{Flawed, OutOfMemory}
 
--- so far this is wrong in the whole, of which the rest is left
+-- so far this is wrong in the whole, and the rest is left
 abbrev pub IsNoted : Reading (Unit {0}) → Reading (Unit {0}) → Result (Unit {0}) ReadFault → Type 0
 IsNoted whole rest (Ok u) = whole ≡ rest
 IsNoted whole rest (Err (Flawed g)) = whole ≡ flawed_before g rest

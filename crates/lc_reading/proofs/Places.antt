@@ -1,4 +1,4 @@
--- Names that are listed, and the places at which they stand first.
+-- Names that are listed, and the place of each one's first occurrence.
 use Rattle.std.proofs.Common.{◌≡◌, ℕ, suc, ◌<◌, Bool, true, false, List, [], ◌∷◌, ◌++◌, Option, Some, None, refl, ap, ◌∙◌, cond, arith}
 use Rattle.std.specs.Prelude.{option_map, is_some, ◌||◌, length}
 use Rattle.std.specs.List.{list_any}
@@ -11,7 +11,7 @@ first_of_two : {X : Type 0} (here there : Bool) (v w : X) (o : Option X) → con
 first_of_two true there v w o = refl
 first_of_two false there v w o = refl
 
--- what is found where one more entry stands behind the others
+-- what is found if one more entry comes after the others
 pub lookup_last : {K X : Type 0} (test : K → Bool) (es : List (K × X)) (k : K) (x : X) → lookup test (es ++ (k, x) ∷ []) ≡ option_or (lookup test es) (cond (test k) (Some x) None)
 lookup_last test [] k x = refl
 lookup_last test (e ∷ es) k x = ap (cond (test e.0) (Some e.1)) (lookup_last test es k x) ∙ first_of_two (test e.0) (test k) e.1 x (lookup test es)
@@ -26,7 +26,7 @@ later false there (Some k) n = refl
 later false true None n = refl
 later false false None n = refl
 
--- the place of a name where one more stands behind the others
+-- the place of a name if one more comes after the others
 pub place_of_last : (vs : List (List ℕ)) (v w : List ℕ) → place_of (vs ++ v ∷ []) w ≡ option_or (place_of vs w) (cond (is w v) (Some (length vs)) None)
 place_of_last [] v w = refl
 place_of_last (u ∷ vs) v w = ap (λ p. cond (is w u) (Some 0) (option_map suc p)) (place_of_last vs v w) ∙ later (is w u) (is w v) (place_of vs w) (length vs)
@@ -36,7 +36,7 @@ placed true b p e = refl
 placed false b None e = e
 placed false b (Some k) e = e
 
--- a name has a place exactly where it is listed
+-- a name has a place exactly if it is listed
 pub has_place : (vs : List (List ℕ)) (w : List ℕ) → is_some (place_of vs w) ≡ list_any (is w) vs
 has_place [] w = refl
 has_place (u ∷ vs) w = placed (is w u) (list_any (is w) vs) (place_of vs w) (has_place vs w)

@@ -16,12 +16,12 @@ behind_reading-other word read n (list none) e = refl
 behind_reading-other word read n (list (list us ▸ ts)) e = refl
 behind_reading-other word read n (list (atom w ▸ ts)) e = rw e refl
 
--- what is read of the item n at o, m and us, which are those behind the word
+-- what is read of the item n at o, m and us, which come after the word
 behind_reading-at : {X : Type 0} (word w : List ℕ) (read : ℕ → ℕ → Trees → Reading X) (n o m : ℕ) (t : Tree) (ts us : Trees)
     → t ≡ list (atom w ▸ ts) → is w word ≡ true → o ≡ n → m ≡ n + 2 → us ≡ ts → behind_reading word read n t ≡ read o m us
 behind_reading-at word w read n o m t ts us tree same owner first rest = rw (tree, same, owner, first, rest) refl
 
--- what stands behind the word
+-- what comes after the word
 pub behind_reading-is : {X : Type 0} (word : List ℕ) (read : ℕ → ℕ → Trees → Reading X) (part : Part) (c : Cursor) → IsBehindWord word part (Ok c)
     → behind_reading word read (place_of part) (tree_of part) ≡ read (owner_of c) (number_of c) (rest_of c)
 behind_reading-is word read part c (ts, w, tree, same, within) =

@@ -22,7 +22,7 @@ abbrev pub flawed_before : {L : Type 0} → Flaw → Reading L → Reading L
 flawed_before g (fine x) = flawed g
 flawed_before g (flawed h) = flawed (lesser g h)
 
--- so far these are read of the whole, of which the rest is left
+-- so far these are read of the whole, and the rest is left
 abbrev pub IsSoFar : {T X L : Type 0} → (T → X) → (X → L → L) → Reading L → Reading L → Result (Vec T Global) ReadFault → Type 0
 IsSoFar view cons whole rest (Ok xs) = whole ≡ front cons (map view xs.items) rest
 IsSoFar view cons whole rest (Err (Flawed g)) = whole ≡ flawed_before g rest
@@ -86,7 +86,7 @@ each_end view whole rest (Ok xs) e h = h ∙ ap (front (λ x xs. x ∷ xs) (map 
 each_end view whole rest (Err (Flawed g)) e h = h ∙ ap (flawed_before g) e
 each_end view whole rest (Err OutOfMemory) e h = tt
 
--- behind them this item is misshapen
+-- and the next item is misshapen
 pub misshapen_end : {T X : Type 0} (view : T → X) (n : ℕ) (whole rest : Reading (List X)) (a : Result (Vec T Global) ReadFault) → rest ≡ wrong Shape n → IsSoFar view (λ x xs. x ∷ xs) whole rest a
     → IsReading (λ (xs : Vec T Global). map view xs.items) whole (misshapen_too n a)
 misshapen_end view n whole rest (Ok xs) e h = h ∙ ap (front (λ x xs. x ∷ xs) (map view xs.items)) e ∙ front_flawed (λ x xs. x ∷ xs) (map view xs.items) (at Shape n)

@@ -26,7 +26,7 @@ IsTreeRefusal read bytes refusal = (ts : Trees) × (f : Flaw) × ReadsAs bytes t
 abbrev pub IsFirstRefusal : {X : Type 0} → (Trees → Reading X) → List ℕ → Refusal → Type 0
 IsFirstRefusal read bytes refusal = IsTextRefusal bytes refusal ⊎ IsTreeRefusal read bytes refusal
 
--- The answer to a file: what it says, seen by this view; else its first refusal, or want of memory
+-- The answer to a file: what it says, seen by this view; else its first refusal, or `OutOfMemory`
 abbrev pub IsAnswerTo : {T X : Type 0} → (T → X) → (Trees → Reading X) → List ℕ → Result T Fault → Type 0
 IsAnswerTo view read bytes (Ok value) = Says read bytes (view value)
 IsAnswerTo view read bytes (Err (Refused refusal)) = IsFirstRefusal read bytes refusal

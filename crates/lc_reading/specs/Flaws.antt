@@ -25,11 +25,11 @@ abbrev pub misfit_flaw : Misfit → Flaw
 misfit_flaw (Misshapen n) = at Shape n
 misfit_flaw (Beyond n) = at Bound n
 
--- this one is told before the other: in an earlier pass, or in the same pass at a lesser item
+-- this one is reported before the other: in an earlier pass, or in the same pass at a lesser item
 abbrev pub is_before : Flaw → Flaw → Bool
 is_before f g = nat_lt (rank f.pass) (rank g.pass) || (rank f.pass == rank g.pass) && nat_lt f.item g.item
 
--- what is told first of both, and the least item that is wrong at all
+-- the flaw of the two that is reported first, with the least item that is wrong at all
 abbrev pub lesser : Flaw → Flaw → Flaw
 lesser f g = record {
   pass = if is_before g f then g.pass else f.pass;

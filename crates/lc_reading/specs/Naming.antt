@@ -18,20 +18,20 @@ abbrev pub known : {X : Type 0} → ℕ → List ℕ → Option X → Reading X
 known n w (Some x) = within n w x
 known n w None = wrong Unknown n
 
--- a text where an atom stands, and none where a list does
+-- the text of an atom, and none for a list
 abbrev pub text_in : Tree → List ℕ
 text_in (atom w) = w
 text_in (list ts) = []
 
--- the item n where a NAME is due, whose text reads so
+-- the item n where a NAME is expected, whose text reads so
 abbrev pub spelled_reading : {X : Type 0} → (List ℕ → Reading X) → ℕ → Tree → Reading X
 spelled_reading read n t = if is_name (text_in t) then read (text_in t) else wrong Shape n
 
--- the item n where a name is due that is known: what it stands for
+-- the item n where a name is expected that is known: what it means
 abbrev pub known_reading : {X : Type 0} → (List ℕ → Option X) → ℕ → Tree → Reading X
 known_reading find n t = spelled_reading (λ w. known n w (find w)) n t
 
--- the item n where one of these names is due: its place among them
+-- the item n where one of these names is expected: its place among them
 abbrev pub use_reading : List (List ℕ) → ℕ → Tree → Reading ℕ
 use_reading names n t = known_reading (place_of names) n t
 
@@ -40,13 +40,13 @@ abbrev pub is_full : Option ℕ → ℕ → Bool
 is_full None n = false
 is_full (Some limit) n = nat_le limit n
 
--- the item n where a name is declared behind these, up to a limit of all
+-- the item n where a name is declared after these, with a limit on all names together
 abbrev pub declaration_reading : Option ℕ → List (List ℕ) → ℕ → Tree → Reading (Unit {0})
 declaration_reading limit before n t =
     spelled_reading (λ w. if is_reserved w || list_any (is w) before then wrong Repeated n
     else (if is_full limit (length before) then wrong Bound n else within n w tt)) n t
 
--- each of the items from m on, where names are declared behind these
+-- each of the items from m on, where names are declared after these
 abbrev pub names_reading : Option ℕ → List (List ℕ) → ℕ → Trees → Reading (Unit {0})
 names_reading limit before m none = fine tt
 names_reading limit before m (t ▸ ts) =

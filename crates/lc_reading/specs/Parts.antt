@@ -18,7 +18,7 @@ tree_of p = tree_of_item p.item
 abbrev pub place_of : Part → ℕ
 place_of p = item_number p.item
 
--- the cursor has gone on from the first one behind this tree, to the second one
+-- the cursor has gone on from the first one after this tree, to the second one
 pub record IsBehind (old : Cursor) (t : Tree) (new : Cursor) : Type 0 where
   pub rest : rest_of old ≡ t ▸ rest_of new
   pub number : number_of new ≡ number_of old + item_count t
@@ -35,7 +35,7 @@ IsHeadless none = Unit {0}
 IsHeadless (atom w ▸ ts) = ⊥
 IsHeadless (list us ▸ ts) = Unit {0}
 
--- the first word of a list and what stands behind it
+-- the first word of a list, and the rest after it
 abbrev pub IsHeaded : Cursor → Result (Bor (List ℕ) × Cursor) Misfit → Type 0
 IsHeaded old (Ok r) = IsBehind old (atom r.0.now) r.1
 IsHeaded old (Err misfit) = (misfit ≡ Shape (owner_of old)) × IsHeadless (rest_of old)
@@ -45,7 +45,7 @@ abbrev pub begins : List ℕ → Tree → Bool
 begins word (list (atom w ▸ ts)) = is w word
 begins word _ = false
 
--- the first part of a list and what stands behind it; or there is none
+-- the first part of a list, and the rest after it; or there is none
 abbrev pub IsOne : Cursor → Result (Part × Cursor) Misfit → Type 0
 IsOne old (Ok r) =
     (rest_of old ≡ tree_of r.0 ▸ rest_of r.1) × (place_of r.0 ≡ number_of old) × (number_of r.1 ≡ number_of old + item_count (tree_of r.0))
@@ -56,7 +56,7 @@ abbrev pub IsShortOfTwo : Trees → Type 0
 IsShortOfTwo (t ▸ u ▸ ts) = ⊥
 IsShortOfTwo _ = Unit {0}
 
--- the first two parts of a list and what stands behind them
+-- the first two parts of a list, and the rest after them
 abbrev pub IsTwo : Cursor → Result (Part × Part × Cursor) Misfit → Type 0
 IsTwo old (Ok r) =
     (rest_of old ≡ tree_of r.0 ▸ tree_of r.1 ▸ rest_of r.2) × (place_of r.0 ≡ number_of old) × (place_of r.1 ≡ number_of old + item_count (tree_of r.0))
@@ -68,7 +68,7 @@ abbrev pub IsShortOfThree : Trees → Type 0
 IsShortOfThree (t ▸ u ▸ v ▸ ts) = ⊥
 IsShortOfThree _ = Unit {0}
 
--- the first three parts of a list and what stands behind them
+-- the first three parts of a list, and the rest after them
 abbrev pub IsThree : Cursor → Result (Part × Part × Part × Cursor) Misfit → Type 0
 IsThree old (Ok r) =
     (rest_of old ≡ tree_of r.0 ▸ tree_of r.1 ▸ tree_of r.2 ▸ rest_of r.3) × (place_of r.0 ≡ number_of old) × (place_of r.1 ≡ number_of old + item_count (tree_of r.0))
@@ -76,7 +76,7 @@ IsThree old (Ok r) =
     × (number_of r.3 ≡ number_of old + item_count (tree_of r.0) + item_count (tree_of r.1) + item_count (tree_of r.2))
 IsThree old (Err misfit) = (misfit ≡ Shape (owner_of old)) × IsShortOfThree (rest_of old)
 
--- what stands in the part, which is a list, behind this word; or it is none that begins with it
+-- the rest of the part, which is a list, after this word; or it is none that begins with it
 abbrev pub IsBehindWord : List ℕ → Part → Result Cursor Misfit → Type 0
 IsBehindWord word part (Ok c) = (ts : Trees) × (w : List ℕ) × (tree_of part ≡ list (atom w ▸ ts)) × (is w word ≡ true) × IsWithin (place_of part) ts c
 IsBehindWord word part (Err misfit) = (misfit ≡ Shape (place_of part)) × (begins word (tree_of part) ≡ false)

@@ -46,12 +46,12 @@ abbrev pub ended : {X : Type 0} → ℕ → Trees → Reading X → Reading X
 ended m none r = r
 ended m (t ▸ ts) r = flawed_too (at Shape m) r
 
--- the item n where a list is due that begins with this word, and whose other parts, numbered from n + 2 on, read so
+-- the item n, where a list is expected that begins with this word; its other parts, numbered from n + 2 on, read so
 abbrev pub behind_reading : {X : Type 0} → List ℕ → (ℕ → ℕ → Trees → Reading X) → ℕ → Tree → Reading X
 behind_reading word read n (list (atom w ▸ ts)) = if is w word then read n (n + 2) ts else wrong Shape n
 behind_reading word read n _ = wrong Shape n
 
--- the item n where a list is due, whose parts, numbered from n + 1 on, read so
+-- the item n, where a list is expected; its parts, numbered from n + 1 on, read so
 abbrev pub listed_reading : {X : Type 0} → (ℕ → ℕ → Trees → Reading X) → ℕ → Tree → Reading X
 listed_reading read n (list ts) = read n (n + 1) ts
 listed_reading read n (atom w) = wrong Shape n

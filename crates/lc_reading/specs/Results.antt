@@ -52,17 +52,17 @@ abbrev pub misshapen_too : {A : Type 0} → ℕ → Result A ReadFault → Resul
 misshapen_too m (Ok a) = Err (Flawed (at Shape m))
 misshapen_too m (Err f) = Err (joined f (Flawed (at Shape m)))
 
--- the value where no part is left, else the first of these is one too many
+-- the value if no part is left, else the first of these is one too many
 abbrev pub ended_result : {A : Type 0} → ℕ → Trees → Result A ReadFault → Result A ReadFault
 ended_result m none r = r
 ended_result m (t ▸ ts) r = misshapen_too m r
 
--- this value behind those
+-- these values, then this one
 abbrev pub IsLonger : {T : Type 0} → Vec T Global → T → Result (Vec T Global) ReadFault → Type 0
 IsLonger xs x (Ok ys) = ys.items ≡ xs.items ++ x ∷ []
 IsLonger xs x (Err fault) = fault ≡ OutOfMemory
 
--- the same where all are read
+-- the same if all are read
 abbrev pub IsPushed : {T : Type 0} → Result (Vec T Global) ReadFault → Result T ReadFault → Result (Vec T Global) ReadFault → Type 0
 IsPushed (Ok xs) (Ok x) result = IsLonger xs x result
 IsPushed (Ok xs) (Err g) result = result ≡ Err g
@@ -74,7 +74,7 @@ abbrev pub limited_result : {A : Type 0} → Bool → ℕ → Result A ReadFault
 limited_result beyond n (Ok a) = if beyond then Err (Flawed (at Bound n)) else Ok a
 limited_result beyond n (Err f) = if beyond then Err (joined f (Flawed (at Bound n))) else Err f
 
--- what is answered where nothing is read
+-- what is returned when nothing is read
 abbrev pub told : ReadFault → Fault
 told (Flawed f) = F.Refused (refusal_of f)
 told OutOfMemory = F.OutOfMemory

@@ -1,4 +1,4 @@
-//! How just so many items of a list are read.
+//! How a given number of items of a list are read.
 ghost use Rattle.std.specs.Prelude.{map};
 ghost use Rattle.lc_sexp.specs.Shown.{rest_of, number_of, owner_of};
 ghost use Rattle.lc_reading.specs.Results.{IsReading};
@@ -10,7 +10,7 @@ use crate::rows::Reads;
 use lc_sexp::Cursor;
 use std::alloc::Global;
 
-/// The values that the items read as that are left in a list, where just so many are due.
+/// The values of the items left in a list, where exactly `count` are expected.
 pub fn read_counted<R: Reads>(
     alloc: Global,
     reader: &R,

@@ -1,4 +1,4 @@
-//! How items are read that declare names, each behind those before it.
+//! How items are read that declare names for those after them.
 ghost use Rattle.std.specs.Prelude.{◌≡◌, ◌++◌, IfOk, map};
 ghost use Rattle.lc_sexp.specs.Shown.{rest_of, number_of};
 ghost use Rattle.lc_reading.specs.Results.{IsReading};
@@ -13,7 +13,7 @@ use lc_base::OutOfMemory;
 use lc_sexp::Cursor;
 use std::alloc::Global;
 
-/// A way to read items that declare names, each behind the names that those before it declare.
+/// A way to read items that declare names for those after them.
 pub trait Declares {
     ghost use Rattle.std.specs.Prelude.{◌≡◌, ◌++◌, ℕ, List, IfOk};
     ghost use Rattle.lc_sexp.specs.Trees.{Tree};
@@ -30,13 +30,13 @@ pub trait Declares {
 
     ghost meaning: { Self.Value → Meaning };
 
-    /// What an item of this number reads as, behind these names.
+    /// What an item of this number reads as, after these names.
     ghost reading: { Self → List (List ℕ) → ℕ → Tree → Reading Meaning };
 
     /// The names that an item declares.
     ghost declares: { Tree → List (List ℕ) };
 
-    /// The value that an item reads as, behind these names.
+    /// The value that an item reads as, after these names.
     fn read(
         &self,
         alloc: Global,
@@ -45,13 +45,12 @@ pub trait Declares {
     ) -> Result<Self::Value, ReadFault>
         ensures { IsReading meaning (reading self.now (listed before.now) (place_of part.entry) (tree_of part.entry)) result };
 
-    /// The names, with those behind them that an item declares.
+    /// The names, followed by those that an item declares.
     fn enter<'a>(&self, names: NameTable<'a>, part: Part<'a>) -> Result<NameTable<'a>, OutOfMemory>
         ensures { IfOk result (λ entered. listed entered ≡ listed names.entry ++ declares (tree_of part.entry)) };
 }
 
-/// These names with those behind them that the items declare which are left in a list; and the values that these items
-/// read as.
+/// These names, followed by those that the items left in a list declare; and the values of these items.
 pub fn read_declared<'a, D: Declares>(
     alloc: Global,
     reader: &D,

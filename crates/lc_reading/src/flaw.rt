@@ -1,4 +1,4 @@
-//! What is wrong in a text, and which of two flaws is told.
+//! What is wrong in a text, and which of two flaws is reported.
 ghost use Rattle.std.specs.Prelude.{◌≡◌};
 ghost use Rattle.lc_sexp.specs.Shown.{rest_of, number_of};
 ghost use Rattle.lc_reading.specs.Flaws.{at, rank, is_before, lesser};
@@ -173,7 +173,7 @@ fn joined(first: ReadFault, second: ReadFault) -> ReadFault
     }
 }
 
-/// Both values, where both are read; else what is wrong in either.
+/// Both values, if both are read; else what is wrong in either.
 pub fn both<A: Drop, B: Drop>(
     first: Result<A, ReadFault>,
     second: Result<B, ReadFault>,
@@ -233,7 +233,7 @@ pub fn limited<T: Drop>(
     }
 }
 
-/// The value, where no item is left in the list; else the first of these is a part too many.
+/// The value, if no item is left in the list; else the first of these is a part too many.
 pub fn ended<T: Drop>(value: Result<T, ReadFault>, rest: Cursor<'_>) -> Result<T, ReadFault>
     ensures { result ≡ ended_result (number_of rest.entry) (rest_of rest.entry) value }
 {
@@ -243,7 +243,7 @@ pub fn ended<T: Drop>(value: Result<T, ReadFault>, rest: Cursor<'_>) -> Result<T
     misshapen_too(value, rest.number())
 }
 
-/// One value more, where all before it are read; else what is wrong in any.
+/// One value more, if all before it are read; else what is wrong in any.
 pub fn pushed<T: Drop>(
     values: Result<Vec<T>, ReadFault>,
     value: Result<T, ReadFault>,

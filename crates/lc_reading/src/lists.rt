@@ -38,7 +38,7 @@ pub fn next_part<'a>(list: &mut Cursor<'a>) -> Result<Part<'a>, Misfit>
     Ok(Part { item })
 }
 
-/// The first word of a list, and what stands behind it.
+/// The first word of a list, and the rest after it.
 pub fn headed<'a>(list: Cursor<'a>) -> Result<(&'a str, Cursor<'a>), Misfit>
     ensures { IsHeaded list.entry result }
 {
@@ -49,7 +49,7 @@ pub fn headed<'a>(list: Cursor<'a>) -> Result<(&'a str, Cursor<'a>), Misfit>
     }
 }
 
-/// The first part of a list, and what stands behind it.
+/// The first part of a list, and the rest after it.
 pub fn one<'a>(mut list: Cursor<'a>) -> Result<(Part<'a>, Cursor<'a>), Misfit>
     ensures { IsOne list.entry result }
 {
@@ -57,7 +57,7 @@ pub fn one<'a>(mut list: Cursor<'a>) -> Result<(Part<'a>, Cursor<'a>), Misfit>
     Ok((first, list))
 }
 
-/// The first two parts of a list, and what stands behind them.
+/// The first two parts of a list, and the rest after them.
 pub fn two<'a>(mut list: Cursor<'a>) -> Result<(Part<'a>, Part<'a>, Cursor<'a>), Misfit>
     ensures { IsTwo list.entry result }
 {
@@ -66,7 +66,7 @@ pub fn two<'a>(mut list: Cursor<'a>) -> Result<(Part<'a>, Part<'a>, Cursor<'a>),
     Ok((first, second, list))
 }
 
-/// The first three parts of a list, and what stands behind them.
+/// The first three parts of a list, and the rest after them.
 pub fn three<'a>(mut list: Cursor<'a>) -> Result<(Part<'a>, Part<'a>, Part<'a>, Cursor<'a>), Misfit>
     ensures { IsThree list.entry result }
 {
@@ -76,7 +76,7 @@ pub fn three<'a>(mut list: Cursor<'a>) -> Result<(Part<'a>, Part<'a>, Part<'a>, 
     Ok((first, second, third, list))
 }
 
-/// What stands in a part behind a word, which is to be a list that begins with this word.
+/// The rest of a part after a word; the part has to be a list that begins with this word.
 pub fn behind_word<'a>(part: Part<'a>, word: &str) -> Result<Cursor<'a>, Misfit>
     ensures { IsBehindWord word.now part.entry result }
 {

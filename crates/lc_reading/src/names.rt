@@ -62,7 +62,7 @@ pub fn is_full(limit: Option<u64>, count: usize) -> bool
     limit.is_some_and(|limit| limit <= count as u64)
 }
 
-/// What is wrong in an item where a name is declared behind these, up to a limit of all.
+/// What is wrong in an item where a name is declared after these, with a limit on all names together.
 pub fn read_declaration(
     limit: Option<u64>,
     before: &NameTable<'_>,
@@ -80,7 +80,7 @@ pub fn read_declaration(
     }
 }
 
-/// The name that an item declares behind these, up to a limit of all.
+/// The name that an item declares after these, with a limit on all names together.
 pub fn read_name(
     limit: Option<u64>,
     before: &NameTable<'_>,
@@ -96,8 +96,8 @@ pub fn read_name(
     }
 }
 
-/// These names with those behind them that the items declare which are left in a list; and what is wrong in any of these
-/// items, where all names may be so many.
+/// These names, followed by those that the items left in a list declare; and what is wrong in any of these items, where
+/// all names together may be at most `limit`.
 pub fn read_names<'a>(
     limit: Option<u64>,
     before: NameTable<'a>,

@@ -1,4 +1,4 @@
-//! Names in a row, of which there may be so many.
+//! Names in a row, with a limit on their number.
 use crate::declared::Declares;
 use crate::flaw::ReadFault;
 use crate::names::read_name;

@@ -5,9 +5,9 @@ use std::hash::{BuildHasherDefault, FoldHasher, Hasher};
 /// A map by names.
 pub(crate) type NameMap<'a, V> = IndexMap<&'a str, V, BuildHasherDefault<NearHasher>>;
 
-/// Hashes a name as a `FoldHasher` does, but for its last letter, which is put on top of the last bits of the hash. Names that
-/// stand one behind another often differ in their last digit alone: a map then finds them at places one behind another,
-/// where it would wait at each name for memory that lies anywhere.
+/// Hashes a name as a `FoldHasher` does, but for its last letter, which is put on top of the last bits of the hash.
+/// Consecutive names often differ in their last digit alone: a map then finds them at places one after another, where it would
+/// wait at each name for memory that lies anywhere.
 #[derive(Clone, Copy)]
 pub(crate) struct NearHasher {
     folded: FoldHasher,

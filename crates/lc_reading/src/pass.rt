@@ -1,5 +1,5 @@
-//! The passes over a file, in the order in which what they find is told.
-/// A pass over a file. What is wrong in an earlier one is told before what is wrong in a later one.
+//! The passes over a file, in the order in which what they find is reported.
+/// A pass over a file. What is wrong in an earlier one is reported before what is wrong in a later one.
 #[derive(Clone, Copy)]
 pub enum Pass {
     /// What does not fit the grammar.

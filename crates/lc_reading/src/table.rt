@@ -14,8 +14,8 @@ use lc_sexp::{Cursor, Item};
 use std::alloc::Global;
 use std::hash::BuildHasherDefault;
 
-/// Names in a row, and for each the place at which it stands first. The letters of a name that stands there more than once
-/// are held once, by the number of its entry.
+/// Names in a row, and for each the place of its first occurrence. The letters of a name that occurs more than once are
+/// held once, by the number of its entry.
 pub struct NameTable<'a> {
     numbers: Vec<u32>,
     places: NameMap<'a, u32>,
@@ -32,7 +32,7 @@ impl Drop for NameTable<'_> {
     }
 }
 
-/// A count of names, which has 32 bits. More than that stand in no file, and are answered by `OutOfMemory`.
+/// A count of names, in 32 bits. No file has more; more are refused with `OutOfMemory`.
 fn short(count: usize) -> Result<u32, OutOfMemory>
     ensures { IfOk result (λ n. n ≡ count) }
 {
@@ -42,7 +42,7 @@ fn short(count: usize) -> Result<u32, OutOfMemory>
     }
 }
 
-/// The number of the entry of a name, which is entered with this place where it has none.
+/// The number of the entry of a name, which is entered with this place if it has none.
 fn entry_of<'a>(
     places: &mut NameMap<'a, u32>,
     name: &'a str,
@@ -63,7 +63,7 @@ fn entry_of<'a>(
     Ok(number)
 }
 
-/// Enters a name behind those of these parts of a table.
+/// Enters a name after those of these parts of a table.
 fn enter_in<'a>(
     numbers: &mut Vec<u32>,
     places: &mut NameMap<'a, u32>,
@@ -101,7 +101,7 @@ impl<'a> NameTable<'a> {
         }
     }
 
-    /// These names, with room for so many more, so that while they are entered none has to move.
+    /// These names, with room for `more`, so that none has to move while they are entered.
     pub fn with_room(self, more: usize) -> Result<NameTable<'a>, OutOfMemory>
         ensures { IfOk result (λ names. listed names ≡ listed self.entry) }
     {
@@ -114,7 +114,7 @@ impl<'a> NameTable<'a> {
         Ok(NameTable { numbers, places })
     }
 
-    /// The names with one more behind them.
+    /// The names, followed by one more.
     pub fn enter(self, name: &'a str) -> Result<NameTable<'a>, OutOfMemory>
         ensures { IfOk result (λ names. listed names ≡ listed self.entry ++ name.now ∷ []) }
     {
@@ -126,8 +126,8 @@ impl<'a> NameTable<'a> {
         Ok(NameTable { numbers, places })
     }
 
-    /// The names with those behind them that the items declare which are left in a list. The table is taken apart once, and
-    /// not for each of the names.
+    /// The names, followed by those that the items left in a list declare. The table is taken apart once, and not for each
+    /// of the names.
     pub fn enter_all(self, list: Cursor<'a>) -> Result<NameTable<'a>, OutOfMemory>
         ensures { IfOk result (λ names. listed names ≡ listed self.entry ++ names_among (rest_of list.entry)) }
     {
@@ -149,7 +149,7 @@ impl<'a> NameTable<'a> {
         }
     }
 
-    /// The names with the one behind them that an item declares.
+    /// The names, followed by the one that an item declares.
     pub fn enter_part(self, part: Part<'a>) -> Result<NameTable<'a>, OutOfMemory>
         ensures { IfOk result (λ names. listed names ≡ listed self.entry ++ declared_by (tree_of part.entry)) }
     {
@@ -159,7 +159,7 @@ impl<'a> NameTable<'a> {
         }
     }
 
-    /// The names with the one behind them that a list declares by its first item.
+    /// The names, followed by the one that a list declares by its first item.
     pub fn enter_first(self, part: Part<'a>) -> Result<NameTable<'a>, OutOfMemory>
         ensures { IfOk result (λ names. listed names ≡ listed self.entry ++ first_name (tree_of part.entry)) }
     {
@@ -173,7 +173,7 @@ impl<'a> NameTable<'a> {
         }
     }
 
-    /// The names with the one behind them that a list declares by the item behind its word.
+    /// The names, followed by the one that a list declares by the item after its word.
     pub fn enter_second(self, part: Part<'a>) -> Result<NameTable<'a>, OutOfMemory>
         ensures { IfOk result (λ names. listed names ≡ listed self.entry ++ second_name (tree_of part.entry)) }
     {
@@ -187,14 +187,14 @@ impl<'a> NameTable<'a> {
         }
     }
 
-    /// How many names there are, each time that one stands there.
+    /// How many names there are, each counted as often as it occurs.
     pub fn len(&self) -> usize
         ensures { result ≡ length (listed self.now) }
     {
         self.numbers.len()
     }
 
-    /// The place at which a name stands first.
+    /// The place at which a name occurs first.
     pub fn place(&self, name: &str) -> Option<usize>
         ensures { result ≡ place_of (listed self.now) name.now }
     {
@@ -202,7 +202,7 @@ impl<'a> NameTable<'a> {
         Some(*place as usize)
     }
 
-    /// The place at which a name stands first, which is looked for as the name at this place, and only then among all.
+    /// The place at which a name occurs first; it is looked for at this place, and only then among all.
     pub fn place_from(&self, place: usize, name: &str) -> Option<usize>
         ensures { result ≡ place_of (listed self.now) name.now }
     {

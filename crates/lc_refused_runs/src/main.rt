@@ -1,6 +1,6 @@
-//! Makes calls on a counter, and makes a call once more where it answers want of memory. So with any one allocation of a call refused,
+//! Makes calls on a counter, and makes a call once more if it returns `OutOfMemory`. So with any one allocation of a call refused,
 //! what is printed is what is printed with ample memory, which `stress/refused-commands --calls` shows, refusing each in turn. What a call
-//! is made on is made before its word is printed, so the allocations of the call are those behind the word.
+//! is made on is made before its word is printed, so the allocations of the call are those after the word.
 //!
 //! Given the word of a call, it makes that one alone: `check`, `pieces`, `workers`, `find`, `judge`, `history`, `plan`, `steps` or
 //! `finish`.

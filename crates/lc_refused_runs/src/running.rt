@@ -14,7 +14,7 @@ fn counts<J: Ledger>(shared: &Shared<J>, seat: &Seat<J>) -> (usize, usize) {
     (shared.labels().len(), seat.labels().len())
 }
 
-/// Begins a call, once more where memory was refused and nothing has changed.
+/// Begins a call, once more if memory ran out and nothing has changed.
 fn begin<J: Ledger>(shared: &mut Shared<J>, seat: &mut Seat<J>) -> Result<(), RunFault> {
     let before = counts(shared, seat);
     match shared.take_begin(seat, OpId(0), &[]) {
@@ -25,7 +25,7 @@ fn begin<J: Ledger>(shared: &mut Shared<J>, seat: &mut Seat<J>) -> Result<(), Ru
     }
 }
 
-/// Takes a step, once more where memory was refused and nothing has changed.
+/// Takes a step, once more if memory ran out and nothing has changed.
 fn step<J: Ledger>(shared: &mut Shared<J>, seat: &mut Seat<J>) -> Result<(), RunFault> {
     let before = counts(shared, seat);
     match shared.take_step(seat) {
@@ -34,7 +34,7 @@ fn step<J: Ledger>(shared: &mut Shared<J>, seat: &mut Seat<J>) -> Result<(), Run
     }
 }
 
-/// Prints how many labels a call of the counter leaves, of which each step is one.
+/// Prints how many labels a call of the counter leaves, where each step is one.
 fn print_steps_by<J: Ledger, R: Print + AllocGlobal>(
     rt: &R,
     blank: Blank,
@@ -64,7 +64,7 @@ pub fn print_steps<R: Print + AllocGlobal>(rt: &R, accepted: Arc<Accepted>) -> a
     print_steps_by::<Brand, R>(rt, Blank::new(64), accepted)
 }
 
-/// Hands in the seats, once more where memory was refused and all came back.
+/// Hands in the seats, once more if memory ran out and all came back.
 fn finished<J: Ledger>(runner: Runner<J>, seats: Vec<Seat<J>>) -> Result<RunLog, Why> {
     let Unfinished { runner, seats, why } = match runner.finish(seats) {
         Ok(log) => return Ok(log),

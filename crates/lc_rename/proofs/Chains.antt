@@ -15,7 +15,7 @@ IsReplacedIn r whole c ss = replace_column r whole ≡ with_stores c (map (repla
 pub replaced_base : (r : Replacement) (whole base c : Column) (ss : List StoreAt) → whole ≡ with_stores base (stores_of ss) → c ≡ replace_column r base → IsReplacedIn r whole c ss
 replaced_base r whole base c ss h is = ap (replace_column r) h ∙ replace_chain r base (stores_of ss) ∙ ap (λ d. with_stores d (map (replace_stored r) (stores_of ss))) (sym is)
 
--- the last of them is put round it
+-- the last of them is put around it
 pub replaced_round : (r : Replacement) (whole c d : Column) (i v : Term) (all ss : List StoreAt) (s : StoreAt) → all ≡ ss ++ s ∷ [] → i ≡ replace_term r (term_of s.index.now) → v ≡ replace_term r (term_of s.value.now)
     → d ≡ Store c i v → IsReplacedIn r whole c all → IsReplacedIn r whole d ss
 replaced_round r whole c d i v all ss s items is vs ds h =

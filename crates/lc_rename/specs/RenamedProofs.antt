@@ -51,6 +51,6 @@ abbrev mutual
   all_renamed to none = none
   all_renamed to (more p ps) = more (renamed to p) (all_renamed to ps)
 
--- the proof with each column replaced, where there is a column in place of each that it names
+-- the proof with each column replaced, if there is a column in place of each that it names
 abbrev pub carried : (ℕ → Option ℕ) → Proof → Option Proof
 carried to p = if is_covered to p then Some (renamed to p) else None

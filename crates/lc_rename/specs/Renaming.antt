@@ -9,7 +9,7 @@ use Rattle.lc_term.specs.Syntax.{Base, Variable, Bound}
 abbrev pub column_for : List (Option ColId) → ℕ → Option ℕ
 column_for columns k = option_and_then (λ (o : Option ColId). option_map (λ (c : ColId). c.0) o) (slice_get columns k)
 
--- the same, and column k itself where there is none
+-- the same, and column k itself if there is none
 abbrev pub column_or : (ℕ → Option ℕ) → ℕ → ℕ
 column_or to k = unwrap_or (to k) k
 

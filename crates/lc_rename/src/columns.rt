@@ -1,4 +1,4 @@
-//! Which column stands in place of another.
+//! Which column is put in place of another.
 ghost use Rattle.std.specs.Prelude.{◌≡◌, is_some, option_map};
 ghost use Rattle.lc_rename.specs.Renaming.{column_for, column_or};
 
@@ -18,7 +18,7 @@ pub(crate) fn has_column(columns: &[Option<ColId>], column: ColId) -> bool
     column_for(columns, column).is_some()
 }
 
-/// The column in place of one; that one itself where there is none.
+/// The column in place of one; that one itself if there is none.
 pub(crate) fn column_or(columns: &[Option<ColId>], column: ColId) -> ColId
     ensures { result.0 ≡ column_or (column_for columns.now) column.0 }
 {

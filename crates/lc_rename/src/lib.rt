@@ -3,6 +3,7 @@
 
 mod columns;
 mod covering;
+pub mod laws;
 mod proof;
 mod renaming;
 

@@ -177,8 +177,8 @@ pub fn renamed(
     Ok(Proof { step, branches })
 }
 
-/// Puts a step, with the columns in place of those that it names, and these branches behind proofs. It stands apart from those
-/// who call one another, so that each level of a proof takes little of the stack.
+/// Appends a step, with the columns in place of those that it names, and these branches to proofs. It is not one of the
+/// functions that call one another, so that each level of a proof takes little of the stack.
 #[inline(never)]
 fn push_with_step(
     alloc: Global,
@@ -194,7 +194,7 @@ fn push_with_step(
     Ok(())
 }
 
-/// Puts a proof, with the columns in place of those that it names, behind others.
+/// Appends a proof, with the columns in place of those that it names, to others.
 #[cycle(renamed)]
 fn push_renamed(
     alloc: Global,

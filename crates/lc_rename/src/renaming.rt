@@ -43,7 +43,7 @@ pub(crate) fn renamed_term(
     }
 }
 
-/// The same in a box. It stands apart, so that each level of a term takes little of the stack.
+/// The same in a box. It is a function of its own, so that each level of a term takes little of the stack.
 #[cycle(renamed_term)]
 #[inline(never)]
 fn boxed_term(
@@ -68,7 +68,7 @@ fn renamed_base(columns: &[Option<ColId>], base: &ColExpr) -> ColExpr
     }
 }
 
-/// A column expression with the columns in place of those that it names. It stands apart, likewise.
+/// A column expression with the columns in place of those that it names. It is a function of its own for the same reason.
 #[cycle(renamed_term)]
 #[inline(never)]
 pub(crate) fn renamed_column(
@@ -112,7 +112,7 @@ pub(crate) fn renamed_formula(
     }
 }
 
-/// The first term at most the second, likewise. It stands apart from those who call one another, as what follows.
+/// The first term at most the second, with the columns in place. It and the next ones are not among the functions that call one another.
 #[inline(never)]
 fn renamed_le(
     alloc: Global,
@@ -128,7 +128,7 @@ fn renamed_le(
     ))
 }
 
-/// The terms equal, likewise.
+/// The terms equal, with the columns in place.
 #[inline(never)]
 fn renamed_eq(
     alloc: Global,
@@ -157,7 +157,7 @@ fn boxed_formula(
     Ok(Box::new(alloc, renamed_formula(alloc, columns, formula)?)?)
 }
 
-/// Takes a formula out of its box, and puts it behind others.
+/// Takes a formula out of its box, and appends it to others.
 #[inline(never)]
 fn push_out(renamed: &mut Vec<Formula>, formula: Box<Formula>) -> Result<(), OutOfMemory>
     ensures { OnOk result (renamed.new.items ≡ renamed.old.items ++ (formula.value ∷ [])) }
@@ -166,7 +166,7 @@ fn push_out(renamed: &mut Vec<Formula>, formula: Box<Formula>) -> Result<(), Out
     Ok(())
 }
 
-/// The parts of a conjunction or a disjunction, likewise.
+/// The parts of a conjunction or a disjunction, with the columns in place.
 #[cycle(renamed_formula)]
 fn renamed_parts(
     alloc: Global,

@@ -33,7 +33,7 @@ no-writes : (cs : List ℕ) (i : ℤ) → cell_writes cs i [] ≡ []
 no-writes [] i = refl
 no-writes (c ∷ cs) i = refl
 
--- where no number is left, nothing is left to write
+-- if no number is left, nothing is left to write
 pub writes-end : (cs : List ColId) (ns : List ℤ) (index : ℤ) (i : ℕ) (done all : List Write) → length ns ≤ i →
     done ++ cell_writes (numbers_of (drop i cs)) index (drop i ns) ≡ all → done ≡ all
 writes-end cs ns index i done all past is =

@@ -1,4 +1,4 @@
--- What is answered where deeds are done.
+-- What is returned when deeds are done.
 use Rattle.std.proofs.Common.{◌≡◌, ℕ, Bool, true, false, List, [], ◌∷◌, ◌++◌, ℤ, pos, Option, Some, None, Result, Ok, Err, option_map, cond, refl, sym, ap, subst, ◌∙◌}
 use Rattle.std.specs.Prelude.{FitsSigned, IsErrAnd}
 use Rattle.std.specs.Int.{w64}

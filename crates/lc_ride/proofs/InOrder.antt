@@ -13,7 +13,7 @@ use Rattle.lc_ride.specs.declared.marks.Mark.{Mark}
 use Rattle.lc_ride.proofs.Deeding.{says-less}
 
 module _ (operations : List Operation) (first self o : ℕ) (e : Env) where
-  -- what is answered where riders are done from here
+  -- what is returned when riders are done from here
   abbrev pub Answers : State → List Rider → List Mark → List Mark → State → Result Bool SeqFault → Type 0
   Answers m rs before after end answer = IsRidden (RidersFit operations first self o e m rs) (do_all operations first self o e m rs) before after end answer
 

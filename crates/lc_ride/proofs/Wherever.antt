@@ -1,4 +1,4 @@
--- What is answered where riders are done under conditions.
+-- What is returned when riders are done under conditions.
 use Rattle.std.proofs.Common.{◌≡◌, ℕ, Bool, true, false, List, [], ℤ, Option, Some, Result, Ok, Err, cond, refl, sym, subst, append-nil}
 use Rattle.std.specs.Prelude.{MatchBool, IsErrAnd}
 use Rattle.std.proofs.lemmas.Bool.{false≢true}

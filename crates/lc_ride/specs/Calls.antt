@@ -16,13 +16,13 @@ use Rattle.lc_ride.specs.declared.marks.Mark.{Mark}
 use Rattle.lc_ride.specs.declared.riding.Rides.{Rides}
 use Rattle.lc_ride.specs.declared.settling.Call.{Call}
 
--- so many columns are there for the call, and its arguments and its client are no more than there can be
+-- there are enough columns for the call, and its arguments and its client are no more than there can be
 pub record HasRoom (call : Call) (columns : ℕ) : Type 0 where
   pub there : AreThere (operations_of call.operations.now) (first_of call.system) columns
   pub few : arity (operations_of call.operations.now) call.operation.0 ≤ argument_limit
   pub client : call.client < 2 ^ 63
 
--- what is answered where the call takes effect under a choice, is noted, or takes effect if it is of its operation; the columns were m
+-- what is returned when the call takes effect under a choice, is noted, or takes effect if it is of its operation; the columns were m
 abbrev pub Settles : Call → State → Choice → List Mark → List Mark → State → Result Bool SeqFault → Type 0
 Settles call m choice =
     let operations = operations_of call.operations.now in
@@ -41,13 +41,13 @@ Helps call m choice =
     let first = first_of call.system in
     IsRidden (HelpFits operations first m (pos call.client) call.operation.0 choice) (help operations first m (pos call.client) call.operation.0 choice)
 
--- so many columns are there for all operations, and their arguments and the client are no more than there can be
+-- there are enough columns for all operations, and their arguments and the client are no more than there can be
 pub record CanRide (rides : Rides) (columns : ℕ) : Type 0 where
   pub there : AreThere (operations_of rides.operations.now) (first_of rides.system) columns
   pub few : (o : ℕ) → arity (operations_of rides.operations.now) o ≤ argument_limit
   pub client : rides.client < 2 ^ 63
 
--- what is answered where a deed is done
+-- what is returned when a deed is done
 abbrev pub Does : Rides → State → Deed → List Mark → List Mark → State → Result Bool SeqFault → Type 0
 Does rides m d =
     let operations = operations_of rides.operations.now in

@@ -1,4 +1,4 @@
--- What is answered where riders are done.
+-- What is returned when riders are done.
 use Rattle.std.specs.Prelude.{◌≡◌, ℕ, ◌+◌, ◌≤◌, Bool, true, false, ◌&&◌, List, ◌++◌, Option, Some, None, Result, Ok, Err, map, length}
 use Rattle.std.specs.List.{list_all}
 use Rattle.lc_term.specs.Meaning.{State}
@@ -40,14 +40,14 @@ condition_is_seen columns variables (Some f) = is_ground f && is_known columns v
 abbrev pub rider_is_seen : ℕ → ℕ → Rider → Bool
 rider_is_seen columns variables r = condition_is_seen columns variables r.condition && deed_is_seen columns variables r.deed
 
--- so many columns are there: the system columns are, and those of the branches, which have no quantifier in their guards; and
+-- there are enough columns: the system columns, and those of the branches, which have no quantifier in their guards; and
 -- the variables of a branch are the number of clients, the client, the arguments and the branch's parameters
 pub record AreThere (operations : List Operation) (first columns : ℕ) : Type 0 where
   pub system : column_count first ≤ columns
   pub branches : (o : ℕ) → list_all (λ b. branch_is_resolved columns (2 + arity operations o + length (given_in b.label)) b) (op_branches operations o) ≡ true
 
--- What is answered where riders are done that would make these marks and leave these columns, if they can be done. At true
--- the marks stand behind those before, and the columns are these; at false they cannot be done
+-- What is returned if riders are done that would make these marks and leave these columns, if they can be done. On true
+-- the marks come after those before, and the columns are these; on false they cannot be done
 abbrev pub IsRidden : Type 0 → Option Ridden → List Mark → List Mark → State → Result Bool SeqFault → Type 0
 IsRidden fits wanted before after columns (Ok true) = fits × ((ms : List S.Mark) × (wanted ≡ Some (ms, columns)) × (marks_of after ≡ marks_of before ++ ms))
 IsRidden fits wanted before after columns (Ok false) = fits × (wanted ≡ None)

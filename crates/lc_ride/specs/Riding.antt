@@ -13,12 +13,12 @@ use Rattle.lc_seq.specs.TextStep.{run, call_env}
 use Rattle.lc_seq.specs.Branches.{op_branches}
 use Rattle.lc_rider.specs.Rider.{Marking, Own, Other, Note, Deed, Assign, Marks, Rider, Mark, mark_writes, note_writes, choice_at, arguments_in}
 
--- marks that are made, and the columns behind them
+-- marks that are made, and the columns after them
 abbrev pub Ridden : Type 0
 Ridden = List Mark × State
 
 module _ (operations : List Operation) (first : ℕ) where
-  -- what the branch stores and replies that c's call of o takes under a choice, where the call is not settled
+  -- what the branch stores and replies that c's call of o takes under a choice, if the call is not settled
   abbrev pub taken : State → ℕ → ℕ → Choice → Option (List Write × List ℤ)
   taken m c o choice =
       cond (int_eq (m (pend first) (pos c)) (pos 1))
@@ -60,7 +60,7 @@ module _ (operations : List Operation) (first : ℕ) where
   abbrev pub do_rider : ℕ → ℕ → Env → State → Rider → Option Ridden
   do_rider self o e m r = do_where r.condition self o e m r.deed
 
-  -- marks before those of the riders behind
+  -- marks before those of the riders that follow
   abbrev pub behind : List Mark → Option Ridden → Option Ridden
   behind ms r = option_map (λ x. (ms ++ x.0, x.1)) r
 

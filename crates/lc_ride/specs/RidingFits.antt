@@ -1,4 +1,4 @@
--- The numbers that are reached where riders are done, in their order. Each definition says that each of them fits 64 bits.
+-- The numbers that are reached when riders are done, in their order. Each definition says that each of them fits 64 bits.
 use Rattle.std.specs.Prelude.{◌≡◌, ℕ, List, [], ◌∷◌, ℤ, pos, negsuc, Option, Some, None, FitsSigned, MatchBool, MatchOption, take, ◌++◌}
 use Rattle.std.specs.Int.{w64}
 use Rattle.lc_term.specs.Lists.{Every}
@@ -15,7 +15,7 @@ use Rattle.lc_seq.specs.Branches.{op_branches, arity}
 use Rattle.lc_rider.specs.Rider.{Marking, Own, Other, Note, Deed, Assign, Marks, Rider, choice_at, arguments_in}
 use Rattle.lc_ride.specs.Riding.{do_rider}
 
--- what stands in cell i of these columns
+-- what cell i of these columns holds
 abbrev pub CellsFit : State → List ℕ → ℤ → Type 0
 CellsFit m cs i = Every (λ c. FitsSigned w64 (m c i)) cs
 
@@ -52,7 +52,7 @@ module _ (operations : List Operation) (first : ℕ) where
   abbrev pub RiderFits : ℕ → ℕ → Env → State → Rider → Type 0
   RiderFits self o e m r = RiderFitsWhere r.condition self o e m r.deed
 
-  -- those behind a rider only where it can be done
+  -- those after a rider count only if it can be done
   abbrev pub RidersFit : ℕ → ℕ → Env → State → List Rider → Type 0
   RidersFit self o e m [] = Unit {0}
   RidersFit self o e m (r ∷ rs) =

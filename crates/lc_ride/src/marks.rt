@@ -23,7 +23,7 @@ pub struct Mark {
     pub reply: Vec<i64>,
 }
 
-// Written out, so that a place where a mark is let go has one call.
+// Written out, so that dropping a mark is one call.
 impl Drop for Mark {
     fn drop(self) {
         let Mark {
@@ -35,7 +35,7 @@ impl Drop for Mark {
     }
 }
 
-// Writes of numbers to a cell of columns, one to each, behind other writes.
+// Appends writes of numbers to a cell of columns, one to each, to other writes.
 fn push_writes(
     columns: &[ColId],
     index: i64,
@@ -89,7 +89,7 @@ pub(crate) fn note_writes(
     Ok(writes)
 }
 
-/// Whether a number stands in a client's cell of a column.
+/// Whether a client's cell of a column holds a number.
 pub(crate) fn stands(
     state: &State,
     column: ColId,

@@ -23,7 +23,7 @@ use lc_seq::{Branch, Operation, Outcome, Pick, SeqFault, run};
 use lc_term::{Env, State};
 use std::alloc::Global;
 
-/// The call that a client is in, of one of these operations, and where the system columns stand.
+/// The call that a client is in, of one of these operations, and the places of the system columns.
 #[derive(Clone, Copy)]
 pub(crate) struct Call<'a> {
     pub operations: &'a [Operation],
@@ -52,7 +52,7 @@ fn arity(operations: &[Operation], operation: OpId) -> usize
     }
 }
 
-// The numbers in a client's cell of these columns, behind other numbers.
+// Appends the numbers in a client's cell of these columns to other numbers.
 fn push_cells(
     state: &State,
     columns: &[ColId],
@@ -71,7 +71,7 @@ fn push_cells(
     Ok(())
 }
 
-// The variables of a branch at a client's call that stands in the columns, where it is given these numbers for its parameters.
+// The variables of a branch at a client's call, as the columns have it, with these numbers given for its parameters.
 fn call_env(alloc: Global, call: Call<'_>, state: &State, given: &[i64]) -> Result<Env, SeqFault>
     requires { HasRoom call (column_count state.now) }
     ensures env { let ops = operations_of call.entry.operations.now in
@@ -90,7 +90,7 @@ fn call_env(alloc: Global, call: Call<'_>, state: &State, given: &[i64]) -> Resu
     Ok(Env { values })
 }
 
-/// What the branch stores and replies that a client's call takes under a choice, where the call is not settled.
+/// What the branch stores and replies that a client's call takes under a choice, if the call is not settled.
 pub(crate) fn taken(
     alloc: Global,
     call: Call<'_>,

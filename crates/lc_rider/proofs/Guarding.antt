@@ -1,4 +1,4 @@
--- Guards of branches, one behind another, by number.
+-- Guards of branches, one after another, by number.
 use Rattle.std.proofs.Common.{◌≡◌, ℕ, ◌+◌, ◌<◌, List, [], ◌∷◌, ◌++◌, length, map, take, get_or, sym, subst, ap, ◌∙◌}
 use Rattle.std.proofs.lemmas.List.{map_more, map-append}
 use Rattle.lc_table.specs.NodeTables.{Table}

@@ -22,7 +22,7 @@ use Rattle.lc_rider.specs.MarkStores.{CanStore}
 use Rattle.lc_rider.proofs.PathSteps.{puts-append}
 use Rattle.lc_rider.proofs.Saying.{said_is}
 
--- stores of some updates, and of others behind them
+-- stores of some updates, and of others after them
 pub puts_joined : (σ ρ μ : ℕ → Column) (τ : List Term) (start : ℕ → Column) (us vs : List Update) → ρ ≡ puts start (map (said σ τ) us) → μ ≡ puts ρ (map (said σ τ) vs) → μ ≡ puts start (map (said σ τ) (us ++ vs))
 puts_joined σ ρ μ τ start us vs first second =
     second ∙ ap (λ (x : ℕ → Column). puts x (map (said σ τ) vs)) first ∙ sym (puts-append start (map (said σ τ) us) (map (said σ τ) vs)) ∙ ap (puts start) (sym (map-append (said σ τ) us vs))
@@ -75,7 +75,7 @@ said_stored old now mid ps ks cs column k index t columns terms stored kept more
     let still = replacement_still old mid ps ks columns terms (kept_on old now mid kept more) in
     λ i. put (columns_still now mid cs stored more i) (record { column = column; index = term_is mid k _ at i; value = replace_term (still i) t })
 
--- stores behind others, whose indexes and values are said by a later table
+-- stores after others, with indexes and values from a later table
 pub more_stored : (old mid : Table) (ps : List (ColId × ColExprId)) (ks : List TermId) → AreColumns old ps → AreTerms old ks → Keeps old mid →
     (ρ start : ℕ → Column) (us first ws vs : List Update) → ρ ≡ puts start (map (said (columns_at old ps) (terms_in old ks)) us) → us ≡ first → ws ≡ vs →
     puts ρ (map (said (columns_at mid ps) (terms_in mid ks)) ws) ≡ puts start (map (said (columns_at old ps) (terms_in old ks)) (first ++ vs))

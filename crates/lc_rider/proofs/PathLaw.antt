@@ -126,7 +126,7 @@ module _ (s : State) (e : Env) where
 pub exclude : PathsExclude
 exclude operations first n o τ rs q s e = paths_apart s e operations first n o τ rs q
 
--- each element of a list stands in it
+-- each element of a list is in it
 each_in : {A : Type 0} (xs : List A) → Every (λ x. IsIn x xs) xs
 each_in [] = tt
 each_in (x ∷ xs) = (inl refl, Every-map (λ y. IsIn y xs) (λ y. IsIn y (x ∷ xs)) xs (λ y h. inr h) (each_in xs))

@@ -1,4 +1,4 @@
--- Where the facts of a path hold and its duties are met, the riders can be done, and leave its columns.
+-- If the facts of a path hold and its duties are met, the riders can be done, and leave its columns.
 use Rattle.std.proofs.Common.{◌≡◌, ℕ, suc, ◌⊎◌, Bool, true, false, true≢false, List, [], ◌∷◌, ◌++◌, ℤ, pos, Option, Some, None, refl, sym, ap, ◌∙◌, subst, inl, inr, arith}
 use Rattle.std.specs.Ordering.{int_eq}
 use Rattle.std.proofs.lemmas.Bool.Decides.{Decides-int_eq}
@@ -240,7 +240,7 @@ module _ (ops : List Operation) (first : ℕ) (grounds : (p : ℕ) → AreGround
 
   -- ---- a mark on a path
 
-  -- a rider can be done so that it leaves this path's columns, and only clients are in calls behind it
+  -- a rider can be done so that it leaves this path's columns, and only clients are in calls after it
   record Ridden (y : Path) (Is : List Mark → State → Type 0) : Type 0 where
     marks : List Mark
     is : Is marks (S y)
@@ -280,7 +280,7 @@ module _ (ops : List Operation) (first : ℕ) (grounds : (p : ℕ) → AreGround
           only = subst (OnlyClients first) (sym here) (only_after first x (S q) [] (note_writes first x reply) only tt (note_at first x reply));
         }
 
-    -- the duties of a mark, where a path behind it is lawful
+    -- the duties of a mark, if a path after it is lawful
     owed : (j o : ℕ) (k : Marking) (by : Chosen Term) (q y : Path) → L y → IsIn y (branch_paths ops first j k (U (marked_op o k) by q (C k q)) (Bs (marked_op o k) by) (W j k (marked_op o k) by q (C k q))) →
         Every Met (mark_duties ops first j k q (C k q) (U (marked_op o k) by q (C k q)) (Bs (marked_op o k) by))
     owed j o k by q y lawful among =

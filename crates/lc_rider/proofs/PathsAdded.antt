@@ -34,7 +34,7 @@ path_alone ts p x h = record { are = (h.is, tt); paths = ap (λ (q : S.Path). q 
 pub have_same : (ts : Table) (ps : List Path) (xs ys : List S.Path) → HavePaths ts ps xs → xs ≡ ys → HavePaths ts ps ys
 have_same ts ps xs ys h e = record { are = h.are; paths = h.paths ∙ e }
 
--- ---- paths behind others
+-- ---- paths after others
 
 pub adds_none : (before : List Path) (ts : Table) → AddsPaths before ts before []
 adds_none before ts = record { added = []; behind = sym (append-nil before); have = record { are = tt; paths = refl } }
@@ -42,7 +42,7 @@ adds_none before ts = record { added = []; behind = sym (append-nil before); hav
 pub adds_one : (before now : List Path) (ts : Table) (p : Path) (x : S.Path) → now ≡ before ++ p ∷ [] → HasPath ts p x → AddsPaths before ts now (x ∷ [])
 adds_one before now ts p x pushed h = record { added = p ∷ []; behind = pushed; have = path_alone ts p x h }
 
--- some paths, and others behind them, which are added later
+-- some paths, and others after them, which are added later
 pub adds_on : (a b c : List Path) (old new : Table) (xs ys : List S.Path) → AddsPaths a old b xs → Keeps old new → AddsPaths b new c ys → AddsPaths a new c (xs ++ ys)
 adds_on a b c old new xs ys h kept k = record {
   added = h.added ++ k.added;

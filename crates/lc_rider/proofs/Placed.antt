@@ -1,4 +1,4 @@
--- Columns by number: where a column stands, and what is stored there.
+-- Columns by number: the place of a column, and what is stored there.
 use Rattle.std.proofs.Common.{◌≡◌, ◌==◌, ◌<◌, ◌≤◌, ◌+◌, ℕ, zero, suc, true, false, List, [], ◌∷◌, ◌++◌, Some, length, map, take, drop, get_or, slice_get, refl, sym, ap, ap₂, ◌∙◌, subst, arith, add-one}
 use Rattle.std.specs.Prelude.{slice_set, option_map}
 use Rattle.std.proofs.lemmas.List.{set_split, map-set, map-append, take_all}
@@ -26,7 +26,7 @@ Entry = ColId × ColExprId
 number_of : Entry → ℕ
 number_of p = p.0.0
 
--- ---- where a column stands
+-- ---- the place of a column
 
 -- its first entry
 pub first_here : (ps : List Entry) (k c : ℕ) (d : Entry) → k < length ps → ((get_or ps k d).0.0 == c) ≡ true → HasNone c (take k ps) → IsFirst c ps k
@@ -108,7 +108,7 @@ column_there ts [] k p h is are = absurd (omega arith)
 column_there ts (x ∷ ps) zero p h is are = subst (λ (q : Entry). IsColumn ts q.1) (sym is) are.0
 column_there ts (x ∷ ps) (suc k) p h is are = column_there ts ps k p (omega arith) is are.1
 
--- ---- what is stored in a column behind the others
+-- ---- what is stored in a column that comes after the others
 
 pub stored_behind : (old new : Table) (ps qs : List Entry) (c : ColId) (id : ColExprId) (i v : S.Term) → qs ≡ ps ++ (c, id) ∷ [] → HasNone c.0 ps → AreColumns old ps → Keeps old new →
     HasColumn new id (S.Store (S.Base c.0) i v) → columns_at new qs ≡ put (columns_at old ps) (record { column = c.0; index = i; value = v })

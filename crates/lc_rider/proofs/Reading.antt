@@ -1,4 +1,4 @@
--- Terms of numbers, one behind another, and what is read in columns by number.
+-- Terms of numbers, one after another, and what is read in columns by number.
 use Rattle.std.proofs.Common.{◌≡◌, ℕ, ◌+◌, ◌<◌, List, [], ◌∷◌, ◌++◌, Some, length, map, drop, get_or, sym, subst, ap, ap₂, ◌∙◌, append_assoc}
 use Rattle.std.proofs.lemmas.List.{drop_more, map-append}
 use Rattle.lc_base.specs.declared.ids.ColId.{ColId}
@@ -32,7 +32,7 @@ pub terms_pushed : (old new : Table) (ks more : List TermId) (k : TermId) (t : T
 terms_pushed old new ks more k t e h kept at =
     ap (terms_in new) e ∙ map-append (term_in new) ks (k ∷ []) ∙ ap₂ (λ (us : List Term) (u : Term). us ++ u ∷ []) (terms_still old new ks h kept) at
 
--- what stands in a cell of columns, whose column expression was found in a table before
+-- what a cell of columns holds, whose column expression was found in a table before
 pub read_is : (old now mid new : Table) (ps : List (ColId × ColExprId)) (cell : ℕ) (k : ColExprId) (index r : TermId) → AreColumns old ps → IsTerm old index → Keeps old now → Keeps now mid →
     HasColumn mid k (columns_at now ps cell) → HasTerm new r (Read (column_in mid k) (term_in mid index)) → HasTerm new r (Read (columns_at old ps cell) (term_in old index))
 read_is old now mid new ps cell k index r columns i kept more has at =

@@ -1,4 +1,4 @@
--- Riders and paths: what the riders do goes along a path, and where what each path owes is met, the riders can be done.
+-- Riders and paths: what the riders do goes along a path, and if what each path owes is met, the riders can be done.
 use Rattle.std.proofs.Common.{◌≡◌, ℕ, zero, suc, ◌+◌, ◌<◌, ◌≤◌, ◌⊎◌, ◌&&◌, if◌then◌else◌, Bool, true, false, List, [], ◌∷◌, ◌++◌, ℤ, pos, Option, Some, None, map, length, take, refl, sym, ap, ap₂, ◌∙◌, subst, inl, inr, arith}
 use Rattle.std.specs.List.{list_all}
 use Rattle.std.proofs.lemmas.List.{map-append, take-map}

@@ -16,14 +16,14 @@ owing_of Named = S.Named
 owing_of Enabled = S.Enabled
 owing_of Observing = S.Observing
 
--- a duty as it is kept: so many of its path's facts are known, the first
+-- a duty as it is kept: how many of its path's facts, the first ones, are known
 pub record Owed : Type 0 where
   pub kind : S.Owing
   pub rider : ℕ
   pub known : ℕ
   pub goal : Formula
 
--- that of the code, whose goal stands in a table
+-- that of the code, whose goal is in a table
 abbrev pub owed_in : Table → Duty → Owed
 owed_in ts d = record { kind = owing_of d.kind; rider = d.rider; known = d.known; goal = formula_in ts d.goal }
 
@@ -35,7 +35,7 @@ duty_in facts d = record { kind = d.kind; rider = d.rider; facts = take d.known 
 abbrev pub AreGoals : Table → List Duty → Type 0
 AreGoals ts ds = Every (λ (d : Duty). IsFormula ts d.goal) ds
 
--- each of these knows of so many facts at most
+-- each of these knows at most n facts
 abbrev pub AreKnown : ℕ → List Duty → Type 0
 AreKnown n ds = Every (λ (d : Duty). d.known ≤ n) ds
 

@@ -14,7 +14,7 @@ pub record CanStore (ts : Table) (put : PutNumbers) (stored : List (ColId × Col
   pub variables : AreTerms ts put.variables.now
   pub columns : AreColumns ts stored
 
--- behind these columns stand the others, in which the updates are stored, said with what is put in
+-- these columns, followed by the others, in which the updates are stored, said with what is put in
 abbrev pub AreStored : Table → PutNumbers → List (ColId × ColExprId) → List Update → Table → List (ColId × ColExprId) → Type 0
 AreStored old put before us new after =
     columns_at new after ≡ puts (columns_at old before) (map (said (columns_at old put.columns.now) (terms_in old put.variables.now)) us)

@@ -41,7 +41,7 @@ numbers_of s e τ = variable (map (value s e outside) τ)
 abbrev pub AreMet : State → Env → List Duty → Type 0
 AreMet s e ds = Every (λ (d : Duty). Holds s e outside d.goal) ds
 
--- where the riders run, they run along a path: its facts hold, its duties are met, and its columns are those that they
+-- if the riders run, they run along a path: its facts hold, its duties are met, and its columns are those that they
 -- leave
 abbrev pub RunsGoAlong : Type 0
 RunsGoAlong =
@@ -62,7 +62,7 @@ abbrev pub DeedLeavesCalls : ℕ → Deed → Type 0
 DeedLeavesCalls first (Assign u) = LeavesCalls first (u ∷ [])
 DeedLeavesCalls first (Marks k by) = Unit {0}
 
--- where only clients are in calls, and neither branches nor riders' own stores change that: where the facts of a path hold
+-- if only clients are in calls, and neither branches nor riders' own stores change that: if the facts of a path hold
 -- and its duties are met, the riders run, and leave its columns
 abbrev pub PathsAreTaken : Type 0
 PathsAreTaken =

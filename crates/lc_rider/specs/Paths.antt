@@ -83,7 +83,7 @@ module _ (operations : List Operation) (first : ℕ) where
   observing_duty n (Other t o) facts b = []
   observing_duty n Note facts b = record { kind = Observing; rider = n; facts = facts; goal = is_empty b.updates } ∷ []
 
-  -- what a mark asks for, where one of these branches is to be taken with these variables
+  -- what a mark asks for, if one of these branches is to be taken with these variables
   abbrev pub mark_duties : ℕ → Marking → Path → Term → List Term → List Branch → List Duty
   mark_duties n k p c τ bs =
       record { kind = Pending; rider = n; facts = p.facts; goal = Eq (Read (p.columns (pend first)) c) (Number (pos 1)) } ∷

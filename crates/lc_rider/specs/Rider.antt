@@ -20,7 +20,7 @@ pub data Deed : Type 0 where
   Assign : Update → Deed
   Marks : Marking → Chosen Term → Deed
 
--- a deed, done always or where the formula holds
+-- a deed, done always or if the formula holds
 pub record Rider : Type 0 where
   pub condition : Option Formula
   pub deed : Deed

@@ -1,4 +1,4 @@
--- A rider whose turn it is, and the paths behind it.
+-- The next rider, and the paths after it.
 use Rattle.std.specs.Prelude.{List}
 use Rattle.lc_table.specs.NodeTables.{Table}
 use Rattle.lc_table.specs.PutNumbers.{terms_in, AreTerms}
@@ -15,7 +15,7 @@ pub record IsBefore (ts : Table) (turn : Turn) (before : Path) : Type 0 where
   pub path : IsPath ts before
   pub variables : AreTerms ts turn.riding.variables.now
 
--- the paths behind what the rider does, and those behind the rider, of a path before it
+-- the paths after what the rider does, and those after the rider, for a path before it
 abbrev pub paths_of_deed : Table → Turn → S.Path → List S.Path
 paths_of_deed ts turn p =
     S.deed_paths (specification_of turn.riding.specification.now).operations (first_of turn.riding.system) turn.number turn.riding.operation.0

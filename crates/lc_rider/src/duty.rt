@@ -14,7 +14,7 @@ pub enum Owing {
     Observing,
 }
 
-/// What is to hold where the first of a path's facts do.
+/// What has to hold if the first of a path's facts do.
 #[derive(Clone, Copy)]
 pub struct Duty {
     pub kind: Owing,

@@ -32,7 +32,7 @@ pub struct Edge<'a> {
     pub riders: &'a [Rider],
 }
 
-// So many variables, in order.
+// The first `count` variables, in order.
 fn variables(alloc: Global, count: u32) -> Result<Vec<Term>, OutOfMemory>
     ensures { IfOk result (λ ts. map term_of ts.items ≡ variables_from 0 count) }
 {
@@ -73,7 +73,7 @@ fn assigned(
     Ok(terms)
 }
 
-/// The variables behind the instruction, as terms over those before it.
+/// The variables after the instruction, as terms over those before it.
 pub fn edge_variables(
     alloc: Global,
     count: u32,
@@ -85,7 +85,7 @@ pub fn edge_variables(
     assigned(alloc, variables, &code.targets, &code.values)
 }
 
-// The columns behind the instruction, over those before it.
+// The columns after the instruction, over those before it.
 fn edge_columns(
     alloc: Global,
     terms: &mut Terms,

@@ -32,8 +32,8 @@ use lc_table::{TermId, Terms};
 use lc_term::{Term, Update};
 use std::alloc::Global;
 
-// What riders of an edge share: the specification, the operation whose code it is, and the variables behind the
-// instruction, said of the state before it.
+// What riders of an edge share: the specification, the operation whose code it is, and the variables after the
+// instruction, said in the state before it.
 #[derive(Clone, Copy)]
 struct Riding<'a> {
     specification: &'a TextSpec,
@@ -50,7 +50,7 @@ struct Turn<'a> {
     rider: &'a Rider,
 }
 
-// The path behind an assignment.
+// The path after an assignment.
 fn updated(
     alloc: Global,
     terms: &mut Terms,
@@ -92,7 +92,7 @@ fn said_before(
     Ok(said)
 }
 
-// The paths behind a mark of the call of this client by a choice, behind other paths.
+// Appends the paths after a mark of the call of this client by a choice.
 fn marked(
     alloc: Global,
     terms: &mut Terms,
@@ -128,7 +128,7 @@ fn marked(
     mark_paths(alloc, terms, mark, by, &given, path, paths)
 }
 
-// The paths behind what the rider at this place does, behind other paths.
+// Appends the paths after what the rider at this place does.
 fn deed_paths(
     alloc: Global,
     terms: &mut Terms,
@@ -174,8 +174,8 @@ fn deed_paths(
     }
 }
 
-// The paths behind the rider at this place, behind other paths: first those on which its condition holds, and then that
-// on which it fails.
+// Appends the paths after the rider at this place: first those on which its condition holds, and then that on which it
+// fails.
 fn rider_paths(
     alloc: Global,
     terms: &mut Terms,
@@ -200,7 +200,7 @@ fn rider_paths(
     Ok(())
 }
 
-// The paths behind the rider at this place, of each path before it in turn.
+// The paths after the rider at this place, for each path before it in turn.
 fn each_ridden(
     alloc: Global,
     terms: &mut Terms,
@@ -219,7 +219,7 @@ fn each_ridden(
     Ok(ridden)
 }
 
-// The paths of riders, the first of which varies slowest.
+// The paths of riders, with the first varying slowest.
 fn ridden(
     alloc: Global,
     terms: &mut Terms,

@@ -1,4 +1,4 @@
-//! Riders: what is done beside an instruction, and the paths by which conditions speak of it.
+//! Riders: what is done beside an instruction, and the paths by which conditions describe it.
 #![tactic(auto)]
 
 mod duty;

@@ -72,7 +72,7 @@ fn with_mark_duties(
     named.with_duty(Owing::Enabled, mark.rider, enabled)
 }
 
-// True where nothing is stored.
+// True if nothing is stored.
 fn stores_nothing(
     alloc: Global,
     terms: &mut Terms,
@@ -119,7 +119,7 @@ fn taken(
     known.with_duty(Owing::Observing, mark.rider, goal)
 }
 
-// A path for each branch, behind other paths: the guards of the branches before it fail, and its own holds.
+// Appends a path for each branch: the guards of the branches before it fail, and its own holds.
 #[tactic(auto, using(lc_table::proofs::Later::kept_on, lc_table::proofs::Later::is_term_still, lc_table::proofs::Later::is_formula_later, lc_table::proofs::ByNumber::are_terms_later, crate::proofs::PathLater::is_path_later))]
 fn branch_paths(
     alloc: Global,
@@ -154,7 +154,7 @@ fn branch_paths(
     Ok(())
 }
 
-/// The paths behind a mark by the branches that a choice leaves, with these terms for their parameters, behind other paths.
+/// Appends the paths after a mark by the branches that a choice leaves, with these terms for their parameters.
 pub(crate) fn mark_paths(
     alloc: Global,
     terms: &mut Terms,

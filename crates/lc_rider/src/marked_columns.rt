@@ -1,4 +1,4 @@
-//! The columns behind a mark.
+//! The columns after a mark.
 ghost use Rattle.std.specs.Prelude.{◌≡◌, IfOk, OnOk, map};
 ghost use Rattle.lc_table.specs.PutNumbers.{columns_at, AreColumns, terms_in, AreTerms};
 ghost use Rattle.lc_term.specs.Said.{after, at_client};
@@ -53,7 +53,7 @@ fn store_updates(
     Ok(())
 }
 
-// Terms are stored in the client's cells, one in each column, likewise.
+// Stores terms in the client's cells, one in each column.
 fn store_own(
     alloc: Global,
     terms: &mut Terms,
@@ -78,7 +78,7 @@ fn store_own(
     Ok(())
 }
 
-// What a mark stores by a branch: the branch, and what is put in where its words are said.
+// What a mark stores by a branch: the branch, and what is put in when its words are said.
 #[derive(Clone, Copy)]
 struct Effect<'a> {
     before: PutNumbers<'a>,
@@ -86,7 +86,7 @@ struct Effect<'a> {
     branch: &'a Branch,
 }
 
-// What is stored where a call takes effect by this branch: its updates, then its replies, then that it has.
+// What is stored when a call takes effect by this branch: its updates, then its replies, then that it has.
 fn store_settled(
     alloc: Global,
     terms: &mut Terms,
@@ -117,7 +117,7 @@ fn store_settled(
     )
 }
 
-// What is stored where the replies of this branch are noted: that there is a note, then the replies.
+// What is stored when the replies of this branch are noted: that there is a note, then the replies.
 fn store_noted(
     alloc: Global,
     terms: &mut Terms,
@@ -168,7 +168,7 @@ fn store_marked(
     }
 }
 
-/// The columns behind a mark by this branch. In its words variable 1 is the client whose call is marked, and the arguments of
+/// The columns after a mark by this branch. In its words variable 1 is the client whose call is marked, and the arguments of
 /// that call follow.
 pub(crate) fn marked_columns(
     alloc: Global,

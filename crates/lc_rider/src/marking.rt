@@ -64,7 +64,7 @@ pub(crate) fn chosen_branches<'a>(
     Ok(left)
 }
 
-/// The branches of an operation; none where there is no such operation.
+/// The branches of an operation; none if there is no such operation.
 pub(crate) fn operation_branches(specification: &TextSpec, operation: OpId) -> &[Branch]
     ensures { branches_of result.now ≡ op_branches (specification_of specification.now).operations operation.0 }
 {
@@ -84,7 +84,7 @@ fn arity(specification: &TextSpec, operation: OpId) -> usize
     }
 }
 
-// What stands in the client's cells of these, behind other terms.
+// Appends what the client's cells of these hold to other terms.
 fn push_reads(
     terms: &mut Terms,
     columns: &[(ColId, ColExprId)],
@@ -107,7 +107,7 @@ fn push_reads(
     Ok(())
 }
 
-/// The variables of a branch at the call that is marked: the client, its arguments as they stand on this path, and what is
+/// The variables of a branch at the call that is marked: the client, its arguments as they are on this path, and what is
 /// given for the branch's parameters.
 pub(crate) fn call_variables(
     alloc: Global,
@@ -195,7 +195,7 @@ pub(crate) fn some_guard(
     terms.or(guards)
 }
 
-/// This number stands in a cell of a column.
+/// That a cell of a column holds this number.
 pub(crate) fn cell_is(
     terms: &mut Terms,
     path: &Path,

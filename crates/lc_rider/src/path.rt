@@ -9,8 +9,8 @@ use lc_table::{ColExprId, FormulaId, PutNumbers, TermId, Terms, nothing_replaced
 use lc_term::{Formula, Term};
 use std::alloc::Global;
 
-/// One way in which the riders of an edge may go, said of the state before the edge by numbers of a table: the facts that
-/// tell it from the others, the columns behind the riders, and what the marks on it ask for.
+/// One way in which the riders of an edge may go, said in the state before the edge by numbers of a table: the facts that
+/// distinguish it from the others, the columns after the riders, and what the marks on it ask for.
 pub struct Path {
     facts: Vec<FormulaId>,
     columns: Vec<(ColId, ColExprId)>,
@@ -42,7 +42,7 @@ impl Path {
     ghost use Rattle.lc_rider.specs.DutyView.{AreKnown, AreGoals, owing_of, owed_in, duty_in};
     ghost use Rattle.lc_rider.specs.PathView.{path_in, IsPath, HasPath, with_columns, with_duty};
 
-    /// What holds where this way is gone, in order.
+    /// What holds if this way is taken, in order.
     pub fn facts(&self) -> &[FormulaId]
         ensures trees { (ts : Table) → formulas_in ts result.now ≡ (path_in ts self.now).facts }
         ensures are { (ts : Table) → IsPath ts self.now → AreFormulas ts result.now }
@@ -50,8 +50,8 @@ impl Path {
         &self.facts
     }
 
-    /// The columns behind the riders, over those before the edge: those in which something is stored, each with what
-    /// stands in it then.
+    /// The columns after the riders, over those before the edge: those in which something is stored, each with what it
+    /// holds then.
     pub fn columns(&self) -> &[(ColId, ColExprId)]
         ensures trees { (ts : Table) → columns_at ts result.now ≡ (path_in ts self.now).columns }
         ensures are { (ts : Table) → IsPath ts self.now → AreColumns ts result.now }
@@ -87,7 +87,7 @@ impl Path {
         terms.put_in_term(alloc, PutNumbers { columns, variables }, term)
     }
 
-    // A formula, likewise.
+    // A formula, said in the state before the edge.
     pub(crate) fn told_before(
         &self,
         alloc: Global,
@@ -128,7 +128,7 @@ impl Path {
         })
     }
 
-    // One more fact, behind the others.
+    // One more fact, after the others.
     pub(crate) fn with_fact(self, fact: FormulaId) -> Result<Path, OutOfMemory>
         ensures { IfOk result (λ path. (ts : Table) (q : S.Path) (f : T.Formula) → HasPath ts self q → HasFormula ts fact f → HasPath ts path (with_fact q f)) }
     {
@@ -145,7 +145,7 @@ impl Path {
         })
     }
 
-    // One more thing that the rider at this place asks for, where all facts so far are known.
+    // One more thing that the rider at this place asks for, if all facts so far are known.
     pub(crate) fn with_duty(
         self,
         kind: Owing,

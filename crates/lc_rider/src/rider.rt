@@ -25,7 +25,7 @@ impl When {
     ghost use Rattle.lc_term.specs.View.{formula_of};
     ghost use Rattle.lc_rider.specs.RiderView.{formula_in};
 
-    /// This formula, if no quantifier stands in it.
+    /// This formula, if no quantifier occurs in it.
     pub fn new(formula: Formula) -> Option<When>
         ensures some { IsSome result ↔ (is_ground (formula_of formula) ≡ true) }
         ensures value { IfSome result (λ when. formula_in when ≡ formula_of formula) }
@@ -82,8 +82,8 @@ impl Choosing {
     }
 }
 
-/// What is done beside an instruction, behind it, always or where a condition holds. Variables are those of the
-/// operation's code, behind the instruction.
+/// What is done beside an instruction, after it, always or if a condition holds. Variables are those of the
+/// operation's code, after the instruction.
 pub enum Rider {
     /// A value is stored.
     Assign {
@@ -109,7 +109,7 @@ pub enum Rider {
     },
 }
 
-// Written out, so that a place where a rider is let go has one call.
+// Written out, so that dropping a rider is one call.
 impl Drop for Rider {
     fn drop(self) {
         match self {

@@ -12,7 +12,7 @@ use lc_table::{ColExprId, PutNumbers, TermId, Terms};
 use lc_term::Term;
 use std::alloc::Global;
 
-// Where the first entry of a column stands.
+// The place of the first entry of a column.
 fn place_of(columns: &[(ColId, ColExprId)], column: ColId) -> Option<usize>
     ensures some { IfSome result (λ place. IsFirst column.0 columns.now place) }
     ensures none { IfNone result (HasNone column.0 columns.now) }
@@ -25,7 +25,7 @@ fn place_of(columns: &[(ColId, ColExprId)], column: ColId) -> Option<usize>
     None
 }
 
-/// Stores a value in a column at an index, in columns by number. Where memory is refused they stay as they are.
+/// Stores a value in a column at an index, in columns by number. On `OutOfMemory` they stay as they are.
 pub fn store_in(
     terms: &mut Terms,
     columns: &mut Vec<(ColId, ColExprId)>,

@@ -48,7 +48,7 @@ room n h = grind (arith, nat_tests)
 three_at_most : (n : ℕ) → n ≤ 3 → nat_le n 3 ≡ true
 three_at_most n h = grind (arith, nat_tests)
 
--- a name that is declared behind others finds room
+-- a name that is declared after others has room
 abbrev HasRoom : List (List ℕ) → Unit {0} → Type 0
 HasRoom before u = length before < 3
 
@@ -63,7 +63,7 @@ name_has_room before n w =
     (if_holds (HasRoom before) (is_reserved w || list_any (is w) before) (wrong Repeated n) _ tt (within_room before n w (nat_le 3 (length before)) refl)) tt)
     (λ u h. h)
 
--- the names behind others, with them
+-- the names after others, together with these
 abbrev AreFew : List (List ℕ) → List (List ℕ) → Type 0
 AreFew before ws = length before ≤ 3 → length before + length ws ≤ 3
 
@@ -97,15 +97,15 @@ parameters_counted n (list ts) =
     (and_holds (λ ws. length ws ≡ tree_count ts) (λ ws. Few ws × AreDeclared ws) names (names_counted [] (n + 1) ts)
     (and_holds Few AreDeclared names (weaker (AreFew []) Few names few_at_most (names_few [] (n + 1) ts)) (declared_counts (name_reading (Some parameter_limit)) declared_by one_name [] (n + 1) ts)))
 
--- an action has three parameters at most, and speaks of what is in scope
+-- an action has three parameters at most, and uses only what is in scope
 abbrev pub has_bounds : Known → Action → Bool
 has_bounds d a = nat_le (length a.parameters) 3 && action_is_scoped (column_total d) a
 
--- the guard and the updates of an action of so many variables
+-- the guard and the updates of an action with n variables
 abbrev IsEffect : Known → ℕ → Formula × List Update → Type 0
 IsEffect d n p = (is_scoped (column_total d) n p.0 && list_all (update_is_resolved (column_total d) n) p.1) ≡ true
 
--- the parts of an action: as many parameters as are listed behind its name, three at most, and what is in scope with them
+-- the parts of an action: as many parameters as are listed after its name, three at most, and what is in scope with them
 abbrev IsMade : Known → Trees → (List ℕ × List (List ℕ)) × (Formula × List Update) → Type 0
 IsMade d ts p = (length p.0.1 ≡ tree_count (within_first (later ts))) × (has_bounds d (the_action p) ≡ true)
 
@@ -134,7 +134,7 @@ parts_made d i n m (t ▸ u ▸ f ▸ us) =
     let same : variable_total (Some (parameters_in u)) ≡ 2 + length p.1 = omega (arith, h.2) in
     (h.0, and_true (nat_le (length p.1) 3) (action_is_scoped (column_total d) (the_action (p, q))) h.1 (subst (λ n. IsEffect d n q) same g)))
 
--- An action has as many parameters as are listed behind its name, three at most, and speaks of what is in scope
+-- An action has as many parameters as are listed after its name, three at most, and uses only what is in scope
 abbrev pub IsActionKnown : Known → Tree → Action → Type 0
 IsActionKnown d t a = (length a.parameters ≡ tree_count (within_first (later (parts_in (codes "action") t)))) × (has_bounds d a ≡ true)
 

@@ -1,4 +1,4 @@
--- Updates, conjuncts, riders, and what is done at edges, where they are read, speak of what is in scope.
+-- Updates, conjuncts, riders, and what is done at edges, if they are read, use only what is in scope.
 use Rattle.std.proofs.Common.{◌≡◌, ℕ, ◌+◌, ◌<◌, Bool, true, List, [], Option, Some, None, length, refl, arith}
 use Rattle.std.proofs.lemmas.Bool.Decides.{nat_tests}
 use Rattle.std.specs.List.{list_all}
@@ -83,7 +83,7 @@ update_scoped stores d variables names all n m (t ▸ u ▸ v ▸ ts) =
 
 -- ---- conjuncts
 
--- a conjunct of the invariant speaks of the number of clients alone
+-- a conjunct of the invariant uses the number of clients alone
 pub conjunct_scoped : (columns : List (List ℕ)) (n : ℕ) (t : Tree) → Holds (λ (c : Conjunct). is_scoped (column_count (length columns)) 1 c.formula ≡ true) (conjunct_reading (beside_names columns None) n t)
 conjunct_scoped columns n t =
     mapped_holds P (λ (c : Conjunct). is_scoped (column_count (length columns)) 1 c.formula ≡ true) the_conjunct _

@@ -39,7 +39,7 @@ placed_use ws n w (Some a) e = if_holds (λ a. place_of ws w ≡ Some a) (is_lon
 pub use_placed : (ws : List (List ℕ)) (n : ℕ) (w : List ℕ) → Holds (λ a. place_of ws w ≡ Some a) (use_reading ws n (atom w))
 use_placed ws n w = if_holds (λ a. place_of ws w ≡ Some a) (is_name w) _ (wrong Shape n) (placed_use ws n w (place_of ws w) refl) tt
 
--- where it is known how many terms are due, there are so many
+-- if the expected number of terms is known, there are that many
 pub arguments_counted : (names : Names) (due : Option ℕ) (n m : ℕ) (ts : Trees) → Holds (λ (args : List Term). (k : ℕ) → due ≡ Some k → length args ≡ k) (arguments_reading names due n m ts)
 arguments_counted names None n m ts = all_hold (λ (args : List Term). (k : ℕ) → None ≡ Some k → length args ≡ k) _ (λ args k e. absurd (cc))
 arguments_counted names (Some c) n m ts =
@@ -49,17 +49,17 @@ arguments_counted names (Some c) n m ts =
 
 -- ---- choices
 
--- so many terms are as many as are due, if it is known how many are
+-- n terms are as many as are expected, if that number is known
 abbrev pub is_due : Option ℕ → ℕ → Bool
 is_due None n = true
 is_due (Some k) n = n == k
 
--- so many terms go with the choice at this place, if there is one
+-- n terms go with the choice at this place, if there is one
 abbrev pub is_choice_at : Ways → ℕ → Option ℕ → Bool
 is_choice_at ways n None = false
 is_choice_at ways n (Some j) = is_due (slice_get ways.parameters j) n
 
--- a branch may be chosen so, where it is known how the operation goes
+-- a branch may be chosen so, if it is known how the operation goes
 abbrev pub is_choosing : Option Ways → Chosen Term → Bool
 is_choosing None by = true
 is_choosing (Some ways) InOrder = not (has_choices ways)
@@ -111,12 +111,12 @@ not_true : (b : Bool) → not b ≡ true → b ≡ false
 not_true true e = absurd (cc)
 not_true false e = refl
 
--- all of them where no choice is named
+-- all of them if no choice is named
 all_left : (w : Ways) (bs : List Branch) → GoesSo w bs → (by : Chosen Term) → IsInOrder (Some w) by → chosen by bs ≡ bs
 all_left w bs h InOrder (e, g) = h.in_order (not_true (has_choices w) g)
 all_left w bs h (ByName name terms) (e, g) = absurd (cc)
 
--- one where one is
+-- one if one is
 one_left : (w : Ways) (bs : List Branch) → GoesSo w bs → (by : Chosen Term) → IsByName (Some w) by → length (chosen by bs) ≡ 1
 one_left w bs h InOrder (e, g) = absurd (cc)
 one_left w bs h (ByName name terms) (e, g) = by_place (place_of w.choices name) refl g where
@@ -140,7 +140,7 @@ some_of_one : {A : Type 0} (xs : List A) → length xs ≡ 1 → has_some xs ≡
 some_of_one [] e = absurd (cc)
 some_of_one (x ∷ xs) e = refl
 
--- Where an operation has a branch, a way to choose that is read leaves one
+-- If an operation has a branch, a way to choose that is read leaves one
 pub some_left : (ways : Option Ways) (bs : List Branch) → Goes ways bs → has_some bs ≡ true → (by : Chosen Term) → is_choosing ways by ≡ true → has_some (chosen by bs) ≡ true
 some_left ways bs (w, same, h) some by g = by_kind (is_in_order by) refl where
   left : is_choosing (Some w) by ≡ true

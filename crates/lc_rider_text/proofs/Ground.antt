@@ -1,4 +1,4 @@
--- Where no quantifier stands, a formula has none.
+-- Where no quantifier is allowed, a formula has none.
 use Rattle.std.proofs.Common.{◌≡◌, ℕ, true, [], Option, Some, None, IfSome, refl}
 use Rattle.lc_sexp.specs.Trees.{Tree}
 use Rattle.lc_reading.specs.Readings.{fine}
@@ -22,7 +22,7 @@ any_number : (o : Option ℕ) → IfSome o (λ k. Unit {0})
 any_number None = tt
 any_number (Some k) = tt
 
--- no quantifier stands in what is built of parts without them
+-- no quantifier occurs in what is built of parts without them
 kept : (names : Names) → Kept (quiet names) (λ t. Unit {0}) (λ c. Unit {0}) (λ f. is_ground f ≡ true) (λ fs. are_ground fs ≡ true)
 kept names = record {
   plain = λ extra. refl;

@@ -40,7 +40,7 @@ few_riders d names own m ts =
 few_of : (k limit : ℕ) → nat_lt limit k ≡ false → k ≤ limit
 few_of k limit e = grind (arith, nat_tests)
 
--- what holds where no limit is passed
+-- what holds if no limit is passed
 within_limit : {X : Type 0} (P : X → Type 0) (b : Bool) (n : ℕ) (r : Reading X) → (b ≡ false → Holds P r) → Holds P (limited b n r)
 within_limit P true n (fine x) h = tt
 within_limit P true n (flawed f) h = tt
@@ -74,7 +74,7 @@ riders_few d names own edges n m (t ▸ u ▸ ts) =
     (limited_holds P (nat_lt path_limit (path_count d own ts)) n (both the_on step riders)
     (both_holds (λ p. Unit {0}) (λ rs. length rs ≤ rider_limit) P the_on step riders (anything step) (few_riders d names own (m + item_count t + item_count u) ts) (λ p rs h g. g)))
 
--- ---- what stands at an edge
+-- ---- what is at an edge
 
 -- it has few riders, and few paths in the body of an operation that goes so
 abbrev pub IsOnLimited : Known → Option Ways → On → Type 0

@@ -38,7 +38,7 @@ action_found known p l first second third t u f (a1, n1) (a2, n2) (a3, n3) =
     (rest_of l) (rest_of first) (rest_of second) (rest_of third) n1.rest n2.rest n3.rest
     a1 (a2 ∙ n1.number) (a3 ∙ n2.number ∙ ap (λ m. m + item_count (tree_of u)) (sym a2)) (n3.number ∙ ap (λ m. m + item_count (tree_of f)) (sym a3))
 
--- an edge with its call, and its riders from k on, where it is no edge too many
+-- an edge with its call, and its riders from k on, if it is no edge too many
 on_at : (known : Known) (names : Names) (own : Option Ways) (edges : Edges) (n m i j k : ℕ) (t u : Tree) (us us1 ts : Trees)
     → us ≡ t ▸ us1 → us1 ≡ u ▸ ts → is_refused edges (edge_of t) ≡ false → i ≡ m → j ≡ m + item_count t → k ≡ j + item_count u
     → on_parts_reading known names own edges n m us
@@ -54,7 +54,7 @@ on_found known names own edges l first second t u (a1, n1) (a2, n2) due =
     on_at known names own edges (owner_of l) (number_of l) (place_of t) (place_of u) (number_of second) (tree_of t) (tree_of u) (rest_of l) (rest_of first) (rest_of second)
     n1.rest n2.rest due a1 (a2 ∙ n1.number) (n2.number ∙ ap (λ m. m + item_count (tree_of u)) (sym a2))
 
--- behind one item the others are left
+-- after one item, the others are left
 ons_at : (known : Known) (names : Names) (own : Option Ways) (edges left : Edges) (n p m : ℕ) (t : Tree) (ts us : Trees) → us ≡ t ▸ ts → p ≡ n → m ≡ n + item_count t → left ≡ without edges (edge_in t)
     → ons_reading known names own edges n us ≡ both cons (on_reading known names own edges p t) (ons_reading known names own left m ts)
 ons_at known names own edges left n p m t ts us rest at number others = rw (rest, at, number, others) refl

@@ -1,4 +1,4 @@
--- The places of names that stand in two tables, one behind the other.
+-- The places of names that are in two tables, one after the other.
 use Rattle.std.proofs.Common.{◌≡◌, ℕ, suc, ◌+◌, ◌<◌, ◌≤◌, ◌^◌, Bool, true, false, cond, List, [], ◌∷◌, ◌++◌, length, length-append, Option, Some, None, refl, sym, ap, subst, ◌∙◌, arith}
 use Rattle.std.specs.Borrow.{Bor}
 use Rattle.std.specs.Option.{option_or}
@@ -21,7 +21,7 @@ behind_one n false (Some k) p = refl
 behind_one n false None None = refl
 behind_one n false None (Some k) = ap Some (let same : suc (n + k) ≡ suc n + k = omega arith in same)
 
--- the place of a name where some stand behind others
+-- the place of a name if some come after others
 pub place_of-append : (vs ws : List (List ℕ)) (w : List ℕ) → place_of (vs ++ ws) w ≡ option_or (place_of vs w) (option_map (λ k. length vs + k) (place_of ws w))
 place_of-append [] ws w = behind_none (place_of ws w)
 place_of-append (v ∷ vs) ws w =
@@ -33,7 +33,7 @@ placed_first vs None w k e = sym e
 placed_first vs (Some table) w k e =
     sym (place_of-append vs (listed table.now) w ∙ ap (λ o. option_or o (option_map (λ j. length vs + j) (place_of (listed table.now) w))) e)
 
--- and another has that of the second, behind the first
+-- and another name has its place in the second, counted after the first
 pub placed_second : (vs : List (List ℕ)) (second : Option (Bor NameTable)) (table : Bor NameTable) (w : List ℕ) (o : Option ℕ) → second ≡ Some table → place_of vs w ≡ None → place_of (listed table.now) w ≡ o
     → option_map (λ k. length vs + k) o ≡ place_of (listed_before vs second) w
 placed_second vs second table w o there e g =
@@ -49,7 +49,7 @@ count_both : (vs : List (List ℕ)) (second : Option (Bor NameTable)) → length
 count_both vs None = let same : length vs ≡ length vs + 0 = omega arith in same
 count_both vs (Some table) = length-append vs (listed table.now)
 
--- a place among these has a number of 32 bits behind two others, where so few names are listed
+-- a place among these has a number of 32 bits after two others, if the lists are short enough
 pub placed_short : (o second : Option (Bor NameTable)) (first : Bor NameTable) (w : List ℕ) (k : ℕ) → count_there o + count_there second + 2 ≤ 2 ^ 32 → o ≡ Some first
     → place_of (listed_before (listed first.now) second) w ≡ Some k → 2 + k < 2 ^ 32
 placed_short o second first w k few there e =

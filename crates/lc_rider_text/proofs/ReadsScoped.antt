@@ -1,5 +1,5 @@
--- Terms and formulas that are read speak of the columns and variables that their names give, and bound variables of quantifiers
--- round them.
+-- Terms and formulas that are read use only the columns and variables that their names give, and bound variables of quantifiers
+-- around them.
 use Rattle.std.proofs.Common.{◌≡◌, ℕ, ℤ, suc, ◌+◌, ◌<◌, Bool, true, false, ◌&&◌, cond, List, [], ◌∷◌, ◌++◌, Option, Some, None, IfSome, length, length-append, refl, arith}
 use Rattle.std.proofs.lemmas.Bool.Decides.{nat_tests}
 use Rattle.std.specs.Prelude.{codes, not, nat_lt}
@@ -31,12 +31,12 @@ use Rattle.lc_rider_text.specs.Scopes.{variable_names, column_at, column_place, 
 below_test : (k n : ℕ) → k < n → nat_lt k n ≡ true
 below_test k n h = grind (arith, nat_tests)
 
--- the column is one of so many, if it may be used
+-- the column is one of the first `columns`, if it may be used
 abbrev IsColumnOf : ℕ → ColumnUse → Type 0
 IsColumnOf columns (Usable c) = nat_lt c.0 columns ≡ true
 IsColumnOf columns _ = Unit {0}
 
--- the names are those of so many columns and variables, and nothing is written by a number, nor built
+-- the names are those of m columns and n variables, and nothing is written by a number, nor built
 pub record AreInScope (m n : ℕ) (names : Names) : Type 0 where
   pub variables : (w : List ℕ) → IfSome (names.variable w) (λ k. nat_lt k n ≡ true)
   pub columns : (w : List ℕ) → IsColumnOf m (names.column w)
@@ -237,6 +237,6 @@ beside_in_scope columns others = record {
   built = refl;
 }
 
--- and where no quantifier may stand
+-- and where no quantifier is allowed
 pub quiet_in_scope : (columns variables : ℕ) (names : Names) → AreInScope columns variables names → AreInScope columns variables (quiet names)
 quiet_in_scope columns variables names all = record { variables = all.variables; columns = all.columns; numbered = refl; built = refl }

@@ -84,7 +84,7 @@ deed_is_known d own (Marks Own by) = is_choosing own by
 deed_is_known d own (Marks (Other t p) by) = nat_lt p (length d.operations) && is_choosing (slice_get d.ways p) by
 deed_is_known d own (Marks Note by) = is_choosing own by
 
--- and no quantifier stands in the condition
+-- and no quantifier occurs in the condition
 abbrev pub rider_is_known : Known → Option Ways → Rider → Bool
 rider_is_known d own r = condition_is_resolved r.condition && deed_is_known d own r.deed
 
@@ -230,7 +230,7 @@ ons_known d names own edges m (t ▸ ts) =
 
 -- ---- marks
 
--- Where each operation has a branch, and goes as is known of it, a mark that is read leaves one
+-- If each operation has a branch, and goes as is known of it, a mark that is read leaves one
 pub mark_leaves : (d : Known) (operations : List Operation) → AreBranches d operations → ((k : ℕ) → k < length d.operations → has_some (op_branches operations k) ≡ true) → (o : ℕ) → o < length d.operations
     → (k : Marking) (by : Chosen Term) → deed_is_known d (slice_get d.ways o) (Marks k by) ≡ true → has_some (chosen by (op_branches operations (marked_op o k))) ≡ true
 mark_leaves d operations agree some o below Own by h = some_left (slice_get d.ways o) (op_branches operations o) (agree o below) (some o below) by h

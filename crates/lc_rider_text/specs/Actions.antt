@@ -1,4 +1,4 @@
--- What a text reads as where an action is due.
+-- What a text reads as where an action is expected.
 use Rattle.std.specs.Prelude.{ℕ, ◌+◌, nat_le, codes, List, [], Some}
 use Rattle.lc_base.specs.Limits.{action_limit, parameter_limit}
 use Rattle.lc_sexp.specs.Trees.{Tree, Trees, atom, list, ◌▸◌, item_count}

@@ -21,11 +21,11 @@ abbrev pub may_go_in_order : Option Ways → Bool
 may_go_in_order None = false
 may_go_in_order (Some ways) = not (has_choices ways)
 
--- the rider n that names no choice: none may stand where the operation goes by choices
+-- the rider n that names no choice: that is not allowed if the operation goes by choices
 abbrev pub in_order_reading : Option Ways → ℕ → Reading (Chosen Term)
 in_order_reading ways n = if may_choose ways then wrong Shape n else fine InOrder
 
--- the item n where the name of a choice is due: one that the operation has, if it is known
+-- the item n, where the name of a choice is expected: one that the operation has, if it is known
 abbrev pub choice_use : Option Ways → ℕ → Tree → Reading (List ℕ)
 choice_use None n (atom w) = if is_name w then within n w w else wrong Shape n
 choice_use (Some ways) n (atom w) = mapped (λ k. w) (use_reading ways.choices n (atom w))
@@ -41,6 +41,6 @@ abbrev pub choice_reading : Names → Option Ways → ℕ → ℕ → Trees → 
 choice_reading names ways n m none = wrong Shape n
 choice_reading names ways n m (t ▸ ts) = both ByName (choice_use ways m t) (arguments_reading names (terms_due ways t) n (m + item_count t) ts)
 
--- the same, which may not stand where the operation goes by branches
+-- the same, which is not allowed if the operation goes by branches
 abbrev pub by_reading : Names → Option Ways → ℕ → ℕ → Trees → Reading (Chosen Term)
 by_reading names ways n m ts = if may_go_in_order ways then wrong Shape n else choice_reading names ways n m ts

@@ -1,4 +1,4 @@
--- What a text reads as where an auxiliary column is due.
+-- What a text reads as where an auxiliary column is expected.
 use Rattle.std.specs.Prelude.{ℕ, ◌+◌, ℤ, nat_le, List}
 use Rattle.lc_base.specs.Limits.{column_limit}
 use Rattle.lc_sexp.specs.Trees.{Tree, Trees, none, ◌▸◌, item_count}
@@ -16,6 +16,6 @@ abbrev pub column_parts_reading : List (List ℕ) → ℕ → ℕ → ℕ → Tr
 column_parts_reading names k n m none = wrong Shape n
 column_parts_reading names k n m (t ▸ ts) = both column_of (kth_name_reading names k m t) (numbers_reading n (m + item_count t) ts)
 
--- (NAME a b): the i-th auxiliary column, behind as many others of these, within the limit of columns
+-- (NAME a b): the i-th auxiliary column, after `base` + i others of these, within the limit of columns
 abbrev pub column_reading : List (List ℕ) → ℕ → ℕ → ℕ → Tree → Reading Column
 column_reading names base i n t = limited (nat_le column_limit (base + i)) n (listed_reading (column_parts_reading names (base + i)) n t)

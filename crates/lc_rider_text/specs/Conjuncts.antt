@@ -1,4 +1,4 @@
--- What a text reads as where a conjunct of the invariant is due.
+-- What a text reads as where a conjunct of the invariant is expected.
 use Rattle.std.specs.Prelude.{ℕ, ◌+◌, List, [], None}
 use Rattle.lc_sexp.specs.Trees.{Tree, Trees, ◌▸◌, item_count}
 use Rattle.lc_reading.specs.Naming.{name_reading}

@@ -14,8 +14,8 @@ use Rattle.lc_rider_text.specs.Known.{Known, Ways, has_choices}
 use Rattle.lc_rider_text.specs.Paths.{path_count}
 use Rattle.lc_rider_text.specs.Riders.{riders_reading}
 
--- An operation of these branches goes so: there are as many; where it has no choices, none of them has a name; and each of its
--- choices has a count of parameters, and leaves one branch where it is given as many terms
+-- An operation of these branches goes so: there are as many; if it has no choices, none of them has a name; and each of its
+-- choices has a count of parameters, and leaves one branch if it is given as many terms
 pub record GoesSo (ways : Ways) (bs : List Branch) : Type 0 where
   pub count : ways.count ≡ length bs
   pub in_order : has_choices ways ≡ false → chosen {A = Term} InOrder bs ≡ bs
@@ -26,7 +26,7 @@ pub record GoesSo (ways : Ways) (bs : List Branch) : Type 0 where
 abbrev pub Goes : Option Ways → List Branch → Type 0
 Goes ways bs = (w : Ways) × (ways ≡ Some w) × GoesSo w bs
 
--- the same of each operation
+-- the same for each operation
 abbrev pub AreBranches : Known → List Operation → Type 0
 AreBranches known operations = (k : ℕ) → k < length known.operations → Goes (slice_get known.ways k) (op_branches operations k)
 

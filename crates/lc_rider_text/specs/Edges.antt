@@ -1,4 +1,4 @@
--- The edges at which an `on` may stand.
+-- The edges that may have an `on`.
 use Rattle.std.specs.Prelude.{ℕ, Bool, false, not, Option, Some, None}
 use Rattle.lc_sexp.specs.Trees.{Tree, atom, list, ◌▸◌}
 use Rattle.lc_object.specs.declared.instr.EdgeKind.{EdgeKind}
@@ -31,7 +31,7 @@ abbrev pub edge_in : Tree → Option EdgeKind
 edge_in (list (t ▸ u ▸ ts)) = edge_of u
 edge_in _ = None
 
--- it names an edge at which none may stand
+-- it names an edge that may have none
 abbrev pub is_refused : Edges → Option EdgeKind → Bool
 is_refused edges (Some kind) = not (has edges kind)
 is_refused edges None = false
@@ -40,6 +40,6 @@ abbrev pub found_edge : ℕ → Option EdgeKind → Reading EdgeKind
 found_edge n (Some kind) = fine kind
 found_edge n None = wrong Shape n
 
--- the item n where EDGE is due
+-- the item n, where EDGE is expected
 abbrev pub edge_reading : ℕ → Tree → Reading EdgeKind
 edge_reading n t = found_edge n (edge_of t)

@@ -1,7 +1,7 @@
--- The names that a development file declares, as what stands beside the code sees them.
+-- The names that a development file declares, as the riders beside the code see them.
 use Rattle.std.specs.Prelude.{ℕ, Bool, nat_lt, List, length, Option, Some, None, slice_get}
 
--- How an operation goes, by its text: so many branches; or so many choices, each with its name, and with how many parameters it has
+-- How an operation goes, by its text: by `count` branches; or by choices, each with its name and its number of parameters
 pub record Ways : Type 0 where
   pub count : ℕ
   pub choices : List (List ℕ)
@@ -21,7 +21,7 @@ pub record Known : Type 0 where
   pub actions : List (List ℕ)
   pub parameters : List ℕ
 
--- what stands at this place, if it stands at one
+-- the entry at this place, if there is a place
 abbrev pub entry_at : {X : Type 0} → List X → Option ℕ → Option X
 entry_at entries None = None
 entry_at entries (Some k) = slice_get entries k

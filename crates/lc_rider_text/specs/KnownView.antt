@@ -16,7 +16,7 @@ use Rattle.lc_rider_text.specs.declared.scope.Beside.{Beside}
 abbrev pub columns_listed : Columns → List (List ℕ)
 columns_listed columns = listed columns.names.now
 
--- the variables behind the client, if there is one
+-- the variables after the client, if there is one
 abbrev pub others_listed : Variables → Option (List (List ℕ))
 others_listed variables = listed_there variables.first variables.second
 

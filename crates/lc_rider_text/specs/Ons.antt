@@ -21,7 +21,7 @@ use Rattle.lc_rider_text.specs.Riders.{riders_reading}
 use Rattle.lc_rider_text.specs.Terms.{arguments_reading}
 use Rattle.lc_rider_text.specs.declared.edges.Edges.{Edges}
 
--- the item n where ACTION is due: a declared action, and none that is built in
+-- the item n, where ACTION is expected: a declared action, and none that is built in
 abbrev pub action_use : Known → ℕ → Tree → Reading ℕ
 action_use known n (atom w) = if is_action_name w then wrong Shape n else use_reading known.actions n (atom w)
 action_use known n (list ts) = wrong Shape n

@@ -8,7 +8,7 @@ use Rattle.lc_rider_text.specs.Heads.{head_of}
 use Rattle.lc_rider_text.specs.declared.words.Head.{Head}
 use Rattle.lc_rider_text.specs.declared.words.Head.TheVariants as H
 
--- this many, or one where nothing is known
+-- this many, or one if nothing is known
 abbrev pub or_one : Option ℕ → ℕ
 or_one (Some k) = k
 or_one None = 1
@@ -37,7 +37,7 @@ abbrev pub deed_ways : Known → Option Ways → Tree → ℕ
 deed_ways known own (list (atom w ▸ ts)) = ways_with known own ts (head_of w)
 deed_ways known own _ = 1
 
--- F RIDER: one way more, where the condition does not hold
+-- F RIDER: one way more, if the condition does not hold
 abbrev pub when_ways : Known → Option Ways → Trees → ℕ
 when_ways known own (t ▸ u ▸ ts) = 1 + deed_ways known own u
 when_ways known own _ = 1

@@ -1,4 +1,4 @@
--- What a text reads as where a rider is due.
+-- What a text reads as where a rider is expected.
 use Rattle.std.specs.Prelude.{ℕ, ◌+◌, nat_le, codes, if◌then◌else◌, List, [], Option, Some, None}
 use Rattle.lc_base.specs.Limits.{rider_limit}
 use Rattle.lc_sexp.specs.Trees.{Tree, Trees, atom, list, ◌▸◌, item_count}
@@ -47,7 +47,7 @@ lin_other_by_reading known names n m (t ▸ u ▸ ts) =
     both mark_of_other (other_reading known names m t (m + item_count t) u) (by_reading names (ways_named known u) n (m + item_count t + item_count u) ts)
 lin_other_by_reading known names n m _ = wrong Shape n
 
--- What stands behind this word, in the body of an operation that goes so, if it is known: the parts of the list n, numbered from
+-- What comes after this word, in the body of an operation that goes so, if that is known: the parts of the list n, numbered from
 -- m on
 abbrev pub headed_reading : Known → Names → Option Ways → Head → ℕ → ℕ → Trees → Reading Deed
 headed_reading known names own H.Set n m ts = mapped Assign (update_reading InAuxiliary known names n m ts)
@@ -68,7 +68,7 @@ abbrev pub deed_reading : Known → Names → Option Ways → ℕ → Tree → R
 deed_reading known names own n (list (atom w ▸ ts)) = deed_with known names own n (n + 2) ts (head_of w)
 deed_reading known names own n _ = wrong Shape n
 
--- F RIDER: a condition without quantifiers, and what is done where it holds: the parts of the list n, numbered from m on
+-- F RIDER: a condition without quantifiers, and what is done if it holds: the parts of the list n, numbered from m on
 abbrev pub when_reading : Known → Names → Option Ways → ℕ → ℕ → Trees → Reading (Formula × Deed)
 when_reading known names own n m (t ▸ u ▸ ts) = two_of pair m t u ts (formula_reading (quiet names) [] m t) (deed_reading known names own (m + item_count t) u)
 when_reading known names own n m _ = wrong Shape n

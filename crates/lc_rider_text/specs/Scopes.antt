@@ -12,7 +12,7 @@ use Rattle.lc_text.specs.declared.scope.Extra.TheVariants.{Quantifiers, BuiltCol
 abbrev pub system_place : List ℕ → Option ℕ
 system_place w = place_of system_columns w
 
--- that of a column: the system columns stand behind those that are declared, of which there are n
+-- the place of a column: the system columns come after the n declared ones
 abbrev pub place_or : ℕ → Option ℕ → Option ℕ → Option ℕ
 place_or n (Some k) system = Some k
 place_or n None system = option_map (λ k. n + k) system
@@ -43,6 +43,6 @@ beside_names columns others = record {
   allows = is_quantifiers;
 }
 
--- the same names where no quantifier stands
+-- the same names, with no quantifier allowed
 abbrev pub quiet : Names → Names
 quiet names = record { variable = names.variable; column = names.column; allows = λ extra. false }

@@ -4,12 +4,12 @@ use Rattle.std.specs.Borrow.{Bor}
 use Rattle.lc_reading.specs.TableView.{listed}
 use Rattle.lc_reading.specs.declared.table.NameTable.{NameTable}
 
--- these names, and behind them those of a table, if there is one
+-- these names, followed by those of a table, if there is one
 abbrev pub listed_before : List (List ℕ) → Option (Bor NameTable) → List (List ℕ)
 listed_before names None = names
 listed_before names (Some table) = names ++ listed table.now
 
--- the names of a table, and of a second one behind it, if there is a first
+-- the names of a table, and of a second one after it, if there is a first
 abbrev pub listed_there : Option (Bor NameTable) → Option (Bor NameTable) → Option (List (List ℕ))
 listed_there None second = None
 listed_there (Some first) second = Some (listed_before (listed first.now) second)

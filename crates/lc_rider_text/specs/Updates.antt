@@ -1,4 +1,4 @@
--- What a text reads as where an update is due.
+-- What a text reads as where an update is expected.
 use Rattle.std.specs.Prelude.{ℕ, ◌+◌, Bool, ◌&&◌, nat_le, nat_lt, true, if◌then◌else◌, List, [], length, Option, Some, None}
 use Rattle.lc_sexp.specs.Trees.{Tree, Trees, ◌▸◌, item_count}
 use Rattle.lc_reading.specs.Naming.{within, spelled_reading}
@@ -23,7 +23,7 @@ abbrev pub stored : Stores → Known → ℕ → List ℕ → Option ℕ → Rea
 stored stores known n w (Some k) = if is_open stores known k then within n w k else wrong Shape n
 stored stores known n w None = wrong Unknown n
 
--- the item n where the column of an update is due
+-- the item n, where the column of an update is expected
 abbrev pub stored_reading : Stores → Known → ℕ → Tree → Reading ℕ
 stored_reading stores known n t = spelled_reading (λ w. stored stores known n w (column_place known.columns w)) n t
 

@@ -47,7 +47,7 @@ fn read_column_list(names: &NameTable<'_>, place: u64, part: Part<'_>) -> Result
 pub struct AuxiliaryColumns<'a, 'b> {
     /// All columns that the file declares.
     pub names: &'b NameTable<'a>,
-    /// How many of them stand before the auxiliary ones.
+    /// How many of them come before the auxiliary ones.
     pub base: u32,
 }
 

@@ -37,8 +37,8 @@ fn may_go_in_order(ways: Option<&Ways<'_>>) -> bool
     }
 }
 
-/// How the branch is chosen of a mark that names no choice, by the rider of this number: none may stand where the operation
-/// goes by choices.
+/// How the branch is chosen for a mark that names no choice, by the rider of this number: such a mark is not allowed if the
+/// operation goes by choices.
 pub(crate) fn read_in_order(ways: Option<&Ways<'_>>, rider: u64) -> Result<Choosing, ReadFault>
     ensures { IsReading choosing_of (in_order_reading (ways_there ways.entry) rider) result }
 {
@@ -63,7 +63,7 @@ fn read_known_choice(ways: &Ways<'_>, part: Part<'_>) -> Result<Name, ReadFault>
     }
 }
 
-/// The name of a choice, where it is not known which there are.
+/// The name of a choice, if it is not known which there are.
 fn read_any_choice(part: Part<'_>) -> Result<Name, ReadFault>
     ensures { IsReading bytes_of (choice_use None (place_of part.entry) (tree_of part.entry)) result }
 {
@@ -122,7 +122,7 @@ fn read_choice<S: Scope>(
     }
 }
 
-/// How the branch is chosen of a mark that names a choice, `NAME T*`: none may stand where the operation goes by branches.
+/// How the branch is chosen for a mark that names a choice, `NAME T*`: such a mark is not allowed if the operation goes by branches.
 pub(crate) fn read_by<S: Scope>(
     alloc: Global,
     scope: &S,

@@ -4,7 +4,7 @@ ghost use Rattle.lc_reading.specs.TableView.{listed};
 
 use lc_reading::NameTable;
 
-/// The columns that a file declares, behind which the system columns stand.
+/// The columns that a file declares; the system columns come after them.
 #[derive(Clone, Copy)]
 pub struct Columns<'a, 'b> {
     /// Abstract, then concrete, then auxiliary.

@@ -17,7 +17,7 @@ use lc_text::{Scope, read_formula};
 use lc_tie::Conjunct;
 use std::alloc::Global;
 
-/// A name and a formula, which are all that is left in a list.
+/// A name and a formula, which must be the whole rest of a list.
 fn read_conjunct_parts<S: Scope>(
     alloc: Global,
     scope: &S,

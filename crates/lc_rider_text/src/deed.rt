@@ -23,7 +23,7 @@ pub(crate) enum Deed {
     },
 }
 
-// Written out, so that a place where a deed is let go has one call.
+// Written out, so that dropping a deed is one call.
 impl Drop for Deed {
     fn drop(self) {
         match self {

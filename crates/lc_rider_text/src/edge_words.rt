@@ -73,7 +73,7 @@ impl Edges {
         others
     }
 
-    /// Whether an edge is named at which none may stand.
+    /// Whether an edge is named that may have no `on`.
     pub(crate) fn is_refused(self, kind: Option<EdgeKind>) -> bool
         ensures { result ≡ is_refused self kind }
     {

@@ -1,5 +1,5 @@
-//! The edges that an instruction has, at which an `on` may stand.
-/// The edges at which an `on` may stand.
+//! The edges that an instruction has, which may have an `on`.
+/// The edges that may have an `on`.
 #[derive(Clone, Copy)]
 pub struct Edges {
     /// The one edge of an instruction that has one, `next`.

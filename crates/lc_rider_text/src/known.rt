@@ -4,11 +4,11 @@ use lc_object_text::{first_text, within_first};
 use lc_reading::{NameTable, Part};
 use lc_sexp::{Cursor, Item};
 
-/// How an operation goes, by its text: so many branches; or so many choices.
+/// How an operation goes, by its text: by `count` branches; or by choices.
 pub struct Ways<'a> {
     /// How many branches or choices it has.
     pub count: u64,
-    /// The names of its choices, where it has choices.
+    /// The names of its choices, if it has choices.
     pub choices: NameTable<'a>,
     /// How many parameters each of these has.
     pub parameters: Vec<u64>,
@@ -37,7 +37,7 @@ impl Ways<'_> {
     }
 }
 
-/// The names that a development file declares, as what stands beside the code sees them.
+/// The names that a development file declares, as the riders beside the code see them.
 #[derive(Clone, Copy)]
 pub struct Known<'a, 'b> {
     pub columns: Columns<'a, 'b>,
@@ -55,7 +55,7 @@ impl<'a, 'b> Known<'a, 'b> {
     ghost use Rattle.lc_rider_text.specs.KnownView.{known_seen, ways_there};
     ghost use Rattle.lc_rider_text.specs.Riders.{ways_named};
 
-    /// The same, where the column of the first of these updates is asked for next, as in most lists all are of one column.
+    /// The same, if the column of the first of these updates is asked for next, as in most lists all are of one column.
     pub(crate) fn expecting(self, updates: Cursor<'_>) -> Known<'a, 'b>
         ensures { known_seen result ≡ known_seen self.entry }
     {

@@ -1,4 +1,4 @@
-//! The text of what stands beside the code of an object: auxiliary columns, actions, conjuncts of the invariant, and what is
+//! The text of what is beside the code of an object: auxiliary columns, actions, conjuncts of the invariant, and what is
 //! done at the edges of instructions. Each is read in one walk, as a value or its first flaw.
 #![tactic(auto)]
 

@@ -3,7 +3,7 @@ ghost use Rattle.std.specs.Prelude.{◌≡◌, IfOk};
 
 use lc_base::OutOfMemory;
 
-/// A place as a number. `OutOfMemory` is answered where it has more than 32 bits, as in no file.
+/// A place as a number. `OutOfMemory` is returned if it has more than 32 bits, as in no file.
 pub fn number_at(place: usize) -> Result<u32, OutOfMemory>
     ensures { IfOk result (λ number. number ≡ place) }
 {

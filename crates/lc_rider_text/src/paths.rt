@@ -12,7 +12,7 @@ use lc_base::PATH_LIMIT;
 use lc_reading::{Part, headed, next_part, two};
 use lc_sexp::{Cursor, Item};
 
-/// So many paths are not told apart from more.
+/// This many paths count as any larger number.
 const COUNT_CAP: u64 = PATH_LIMIT + 1;
 
 /// This count, or the cap if it is beyond.
@@ -22,7 +22,7 @@ fn capped(count: u64) -> u64
     if count < COUNT_CAP { count } else { COUNT_CAP }
 }
 
-/// How many branches an operation has that goes so, or one where it is not known; up to the cap.
+/// How many branches an operation has that goes so, or one if it is not known; up to the cap.
 fn mark_ways(ways: Option<&Ways<'_>>) -> u64
     ensures { result ≡ min path_cap (mark_ways (ways_there ways.entry)) }
 {
@@ -83,7 +83,7 @@ fn when_ways(known: Known<'_, '_>, own: Option<&Ways<'_>>, list: Cursor<'_>) -> 
     }
 }
 
-/// In how many ways a rider is passed, in the body of an operation that goes so, if it is known; `COUNT_CAP` where there are more
+/// In how many ways a rider is passed, in the body of an operation that goes so, if it is known; `COUNT_CAP` if there are more
 /// than the limit.
 pub fn rider_ways(known: Known<'_, '_>, own: Option<&Ways<'_>>, part: Part<'_>) -> u64
     ensures { result ≡ min path_cap (rider_ways (known_seen known.entry) (ways_there own.entry) (tree_of part.entry)) }
@@ -100,7 +100,7 @@ pub fn rider_ways(known: Known<'_, '_>, own: Option<&Ways<'_>>, part: Part<'_>) 
 }
 
 /// How many paths the riders make that are left in a list, in the body of an operation that goes so, if it is known;
-/// `COUNT_CAP` where there are more than the limit.
+/// `COUNT_CAP` if there are more than the limit.
 pub fn path_count(known: Known<'_, '_>, own: Option<&Ways<'_>>, list: Cursor<'_>) -> u64
     ensures { result ≡ min path_cap (path_count (known_seen known.entry) (ways_there own.entry) (rest_of list.entry)) }
 {

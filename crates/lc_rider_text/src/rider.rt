@@ -128,7 +128,7 @@ fn made_store(update: Result<Update, ReadFault>) -> Result<Deed, ReadFault>
     Ok(Deed::Assign(update?))
 }
 
-/// What is done by a list's other parts behind this word.
+/// What is done by a list's other parts, after this word.
 fn read_headed<S: Scope>(
     alloc: Global,
     known: Known<'_, '_>,
@@ -276,7 +276,7 @@ impl<S: Scope> ReadsPlaced for Riders<'_, '_, '_, S> {
     }
 }
 
-/// The riders of an edge, which are all that is left in a list, in the body of an operation that goes so, if it is known.
+/// The riders of an edge, which must be the whole rest of a list, in the body of an operation that goes so, if it is known.
 pub fn read_riders<'a, 'b, S: Scope>(
     alloc: Global,
     known: Known<'a, 'b>,

@@ -43,8 +43,8 @@ impl<'a, 'b> Columns<'a, 'b> {
     ghost use Rattle.lc_rider_text.specs.KnownView.{columns_listed};
     ghost use Rattle.lc_rider_text.specs.Scopes.{column_place};
 
-    /// These columns (abstract, then concrete, then auxiliary), of which those from this place on are auxiliary.
-    /// `OutOfMemory` is answered where the system columns behind them would have no numbers.
+    /// These columns (abstract, then concrete, then auxiliary), those from this place on being auxiliary. `OutOfMemory` is
+    /// returned if the system columns after them would have no numbers.
     pub fn new(names: &'b NameTable<'a>, auxiliaries: u32) -> Result<Columns<'a, 'b>, OutOfMemory>
         ensures names { IfOk result (λ columns. columns_listed columns ≡ listed names.now) }
         ensures auxiliaries { IfOk result (λ columns. columns.auxiliaries ≡ auxiliaries) }
@@ -59,7 +59,7 @@ impl<'a, 'b> Columns<'a, 'b> {
         })
     }
 
-    /// The same, where this name is asked for next.
+    /// The same, if this name is asked for next.
     pub(crate) fn expecting(self, name: &str) -> Columns<'a, 'b>
         ensures names { columns_listed result ≡ columns_listed self.entry }
         ensures auxiliaries { result.auxiliaries ≡ self.entry.auxiliaries }
@@ -99,7 +99,7 @@ impl<'a, 'b> Variables<'a, 'b> {
         }
     }
 
-    /// The number of clients, a client and these. `OutOfMemory` is answered where these would have no numbers.
+    /// The number of clients, a client and these. `OutOfMemory` is returned if these would have no numbers.
     pub fn of_client(others: &'b NameTable<'a>) -> Result<Variables<'a, 'b>, OutOfMemory>
         ensures { IfOk result (λ variables. others_listed variables ≡ Some (listed others.now)) }
     {
@@ -112,7 +112,7 @@ impl<'a, 'b> Variables<'a, 'b> {
         })
     }
 
-    /// The number of clients, a client, these arguments, and these locals behind them. `OutOfMemory` is answered where these
+    /// The number of clients, a client, these arguments, and these locals after them. `OutOfMemory` is returned if these
     /// would have no numbers.
     pub fn of_body(
         arguments: &'b NameTable<'a>,
@@ -131,14 +131,14 @@ impl<'a, 'b> Variables<'a, 'b> {
     }
 }
 
-/// The number of clients, where this is its name.
+/// The number of clients, if this is its name.
 fn clients_place(name: &str) -> Option<u32>
     ensures { result ≡ place_of (codes "N" ∷ []) name.now }
 {
     if name == "N" { Some(0) } else { None }
 }
 
-/// The place at which a name stands first in a table, or in a second one behind it.
+/// The place at which a name occurs first in a table, or in a second one after it.
 fn place_behind(first: &NameTable<'_>, second: Option<&NameTable<'_>>, name: &str) -> Option<usize>
     requires few { length (listed first.now) + count_there second ≤ 2 ^ 32 }
     ensures { result ≡ place_of (listed_before (listed first.now) second.entry) name.now }
@@ -197,7 +197,7 @@ impl Scope for Beside<'_, '_> {
     }
 }
 
-/// The names of a scope where no quantifier stands.
+/// The names of a scope, with no quantifier allowed.
 #[derive(Drop)]
 pub struct Quiet<'s, S>(pub &'s S);
 

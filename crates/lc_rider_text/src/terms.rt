@@ -1,4 +1,4 @@
-//! How just so many terms are read.
+//! How a list of terms is read whose number may be given.
 ghost use Rattle.lc_sexp.specs.Shown.{rest_of, number_of, owner_of};
 ghost use Rattle.lc_reading.specs.Results.{IsReading};
 ghost use Rattle.lc_rider_text.specs.Seen.{terms_of};
@@ -10,7 +10,7 @@ use lc_term::Term;
 use lc_text::{Scope, Terms};
 use std::alloc::Global;
 
-/// The terms that are left in a list, just so many where it is known how many.
+/// The terms that are left in a list, exactly as many as are expected if that number is known.
 pub(crate) fn read_arguments<S: Scope>(
     alloc: Global,
     scope: &S,

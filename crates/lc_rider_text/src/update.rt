@@ -48,7 +48,7 @@ fn read_stored(stores: Stores, known: Known<'_, '_>, part: Part<'_>) -> Result<C
     }
 }
 
-/// A column and two terms, which are all that is left in a list.
+/// A column and two terms, which must be the whole rest of a list.
 fn read_update_parts<S: Scope>(
     alloc: Global,
     stores: Stores,

@@ -4,8 +4,8 @@ ghost use Rattle.lc_rider_text.specs.Tables.{count_there};
 
 use lc_reading::NameTable;
 
-/// The variables of a formula: the number of clients; and behind it, if the formula speaks of a client, that client and
-/// others of these names. The names stand in two tables, one behind the other, so that what many scopes name alike is held
+/// The variables of a formula: the number of clients; and after it, if the formula is about a client, that client and
+/// others of these names. The names are in two tables, one after the other, so that names which many scopes share are held
 /// once.
 #[derive(Clone, Copy)]
 pub struct Variables<'a, 'b> {

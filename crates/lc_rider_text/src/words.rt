@@ -4,7 +4,7 @@ ghost use Rattle.lc_rider_text.specs.Heads.{head_of, kind_of};
 
 use lc_object::EdgeKind;
 
-/// What the first word of a rider says, where it is any but `when`.
+/// What the first word of a rider says, if it is any but `when`.
 #[derive(Clone, Copy)]
 pub(crate) enum Head {
     Set,

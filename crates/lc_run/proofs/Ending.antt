@@ -1,4 +1,4 @@
--- What is known of a run that is held, where it is finished.
+-- What is known of a run that is held, if it is finished.
 use Rattle.std.proofs.Common.{◌≡◌, ℕ, ◌<◌, ◌≤◌, true, List, map, length, sym, ap, subst, ◌∙◌, arith}
 use Rattle.std.specs.Prelude.{Vec, sum}
 use Rattle.std.specs.declared.alloc.Global.{Global}

@@ -28,7 +28,7 @@ use Rattle.lc_run.specs.declared.runner.Progress.TheVariants as progress
 not-past : (w : World) (c : ℕ) (k : W.Client) → IsClient w c k → length w.clients ≤ c → ⊥
 not-past w c k is le = let h = slice_get_within w.clients c k is in omega arith
 
--- a client in a call has no other fault than that a number leaves 64 bits, and want of memory
+-- a client in a call has no other fault than that a number leaves 64 bits, and `OutOfMemory`
 pub untold : (D : Development) (w : World) (c : ℕ) (columns : State) (fault : StepFault) → IsInCall w c → IsAdvanced D w c columns (Err fault) → IsUntold D w c (fault_as fault)
 untold D w c columns step.NoClient (p, vs, is) h = not-past w c (W.In p vs) is h
 untold D w c columns step.Idle (p, vs, is) h = absurd (let same : W.In p vs ≡ W.Idle = same_Some (W.In p vs) W.Idle (sym is ∙ h) in cc)
@@ -77,7 +77,7 @@ pub fault-as : {T E : Type 0} (P Q : E → Type 0) (r : Result T E) → ((e : E)
 fault-as P Q (Ok x) f h = tt
 fault-as P Q (Err e) f h = f e h
 
--- a client that may begin a call does, but for want of memory
+-- a client that may begin a call does, but for `OutOfMemory`
 pub unbegun : (D : Development) (w : World) (c op : ℕ) (ns : List ℤ) (columns : State) (fault : StepFault) → MayBegin D w c op ns → IsBegun D w c op ns columns (Err fault) → fault_as fault ≡ OutOfMemory
 unbegun D w c op ns columns step.NoClient (is, (o, there, count)) h = absurd (not-past w c W.Idle is h)
 unbegun D w c op ns columns step.Busy (is, (o, there, count)) (p, vs, other) = absurd (let same : W.In p vs ≡ W.Idle = same_Some (W.In p vs) W.Idle (sym other ∙ is) in cc)

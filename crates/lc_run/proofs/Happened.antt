@@ -62,7 +62,7 @@ counted-as f g (Happens event) e = refl
 counted-as f g (Marked false entry) e = refl
 counted-as f g (Marked true entry) e = ap (λ b. cond b (entry ∷ []) []) (e entry.client)
 
--- what is left behind a place that is taken from the end
+-- what is left after a place, taken from the end
 pub next-left : (hs : List Happening) (place : ℕ) (x : Happening) → 0 < place → place ≤ length hs → x ≡ get_or hs (place - 1) x → happenings_of (drop (place - 1) hs) ≡ happening_of x ∷ happenings_of (drop place hs)
 next-left hs place x some le is =
     let n = place - 1 in
@@ -108,7 +108,7 @@ shown-reverse es = map-reverse (H.entry_of text_call_of choice_of (λ (reply : V
 told-below : (c n : ℕ) → nat_lt c n ≡ true → c < n
 told-below c n t = grind (arith, nat_tests)
 
--- of a label that stands among those of so many clients
+-- the label at a place among those of n clients
 pub client-at : (n i : ℕ) (ls : List code.Label) (x : code.Label) → list_all (has_client n) (labels_of ls) ≡ true → i < length ls → x ≡ get_or ls i x → x.client < n
 client-at n i [] x e m is = absurd (omega arith)
 client-at n zero (l ∷ ls) x e m is = told-below x.client n (ap (λ (y : code.Label). nat_lt y.client n) is ∙ left_true (nat_lt l.client n) (list_all (has_client n) (labels_of ls)) e)

@@ -1,4 +1,4 @@
--- Where a run of an accepted development is held, it goes on lawfully.
+-- If a run of an accepted development is held, it goes on lawfully.
 use Rattle.std.proofs.Common.{ℕ, List, refl}
 use Rattle.std.proofs.Math.Logic.{∥∥₁_elim}
 use Rattle.lc_machine.specs.World.{World}

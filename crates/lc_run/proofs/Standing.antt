@@ -65,7 +65,7 @@ all-idle object (suc n) = all-idle object n
 pub idle-placed : (object : Object) (cs : List Client) (n : ℕ) → clients_of cs ≡ replicate n W.Idle → are_placed object (clients_of cs) ≡ true
 idle-placed object cs n e = ap (are_placed object) e ∙ all-idle object n
 
--- a client that stands there is one of them
+-- a client that exists is one of them
 pub client-below : (cs : List Client) (n c : ℕ) (k : W.Client) → length cs ≡ n → slice_get (clients_of cs) c ≡ Some k → c < n
 client-below cs n c k count e = let h = slice_get_within (clients_of cs) c k e in let m = length-map cs client_of in omega arith
 
@@ -91,6 +91,6 @@ keeps extends D n before after draft draft' stands l c t k items is saved same r
     runs-on extends D n before after (world_in draft stands) (world_in draft' (set stands c k)) l c (what_of t.what) (marks_of t.marks.items) items is run
     (subst (λ v. Instrumented D (world_in draft stands) c (what_of t.what) (marks_of t.marks.items) v) (next-world draft draft' stands c t k saved same) step)
 
--- a list with the label of a step behind it
+-- a list, followed by the label of a step
 pub labels-grow : (before after : List Label) (l : Label) (s : S.Label) → after ≡ before ++ l ∷ [] → label_of l ≡ s → labels_of after ≡ labels_of before ++ s ∷ []
 labels-grow before after l s items is = labels-more before after l items ∙ ap (λ (x : S.Label). labels_of before ++ x ∷ []) is

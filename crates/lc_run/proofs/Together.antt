@@ -33,7 +33,7 @@ plus-first a b c d e f = omega arith
 plus-second : (a b c d : ℕ) → a ≡ c → b ≡ suc d → a + b ≡ suc (c + d)
 plus-second a b c d e f = omega arith
 
--- ---- how many labels so many clients have, from this one on
+-- ---- how many labels n clients have, from this one on
 
 abbrev together : ℕ → ℕ → List Label → ℕ
 together k zero ls = 0

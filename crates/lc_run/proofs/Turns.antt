@@ -45,7 +45,7 @@ one-more t xs x e = count-more t xs x ∙ ap (λ b. cond b (suc (count t xs)) (c
 none-more : {A : Type 0} (t : A → Bool) (xs : List A) (x : A) → t x ≡ false → count t (xs ++ x ∷ []) ≡ count t xs
 none-more t xs x e = count-more t xs x ∙ ap (λ b. cond b (suc (count t xs)) (count t xs)) e
 
--- ---- where clients stand behind these events
+-- ---- where clients are after these events
 
 abbrev Stands : ℕ → List H.Event → Client → Type 0
 Stands c before Idle = count (is_call c) before ≡ count (is_return c) before
@@ -54,7 +54,7 @@ Stands c before (In p vs) = count (is_call c) before ≡ suc (count (is_return c
 abbrev AreStanding : List H.Event → List Client → Type 0
 AreStanding before clients = (c : ℕ) (k : Client) → slice_get clients c ≡ Some k → Stands c before k
 
--- a client that stands otherwise, where the others stand as before
+-- a client whose place changes, while the others keep theirs
 others : (before after : List H.Event) (clients : List Client) (c : ℕ) (old new : Client) → slice_get clients c ≡ Some old → AreStanding before clients → Stands c after new →
     ((d : ℕ) → (d ≡ c → ⊥) → (count (is_call d) after ≡ count (is_call d) before) × (count (is_return d) after ≡ count (is_return d) before)) →
     AreStanding after (set clients c new)
@@ -217,7 +217,7 @@ has-clients D n (l ∷ ls) w v count (mid, step, rest) =
 pub are-clients : (D : Development) (n : ℕ) (ls : List Label) (w : World) → IsRun D n ls w → list_all (has_client n) ls ≡ true
 are-clients D n ls w run = has-clients D n ls (start_world D n) w (length-replicate n Idle) run
 
--- ---- where it is known that there is a run
+-- ---- if it is known that there is a run
 
 well-formed-once : (h : List H.Event) → IsProp (IsWellFormed h)
 well-formed-once h = hlevel props

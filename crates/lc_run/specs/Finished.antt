@@ -10,6 +10,6 @@ use Rattle.lc_run.specs.declared.label.Label.{Label}
 abbrev pub lists_in : List (Vec Label Global) → List (List S.Label)
 lists_in lists = map (λ list. labels_of list.items) lists
 
--- for each of so many clients there is the list of its labels
+-- for each of n clients there is the list of its labels
 abbrev pub AreOwn : List S.Label → ℕ → List (Vec Label Global) → Type 0
 AreOwn labels n lists = (c : ℕ) → c < n → slice_get (lists_in lists) c ≡ Some (labels_by c labels)

@@ -9,6 +9,6 @@ use Rattle.lc_steps.specs.StepView.{world_in}
 use Rattle.lc_run.specs.LabelView.{labels_of}
 use Rattle.lc_run.specs.declared.label.Label.{Label}
 
--- the labels are a run of the development for so many clients, to the world that is held
+-- the labels are a run of the development for `clients` clients, to the world that is held
 abbrev pub IsHeld : Accepted → ℕ → List Label → Draft → List Client → Type 0
 IsHeld accepted clients labels draft stands = IsRun (development_in accepted) clients (labels_of labels) (world_in draft stands)

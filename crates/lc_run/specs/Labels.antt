@@ -6,7 +6,7 @@ use Rattle.lc_object.specs.declared.instr.EdgeKind.{EdgeKind}
 use Rattle.lc_machine.specs.Step.{Event, Invoked, Moved, Returned}
 use Rattle.lc_sound.specs.Instrumented.{Label}
 
--- a call is unfinished behind this event of it
+-- a call is unfinished after this event of it
 abbrev pub goes_on : Event → Bool
 goes_on (Invoked op numbers) = true
 goes_on (Moved point edge) = true
@@ -16,7 +16,7 @@ goes_on (Returned numbers) = false
 abbrev pub last_of : List Label → Option Label
 last_of ls = slice_get ls (length ls - 1)
 
--- a call is unfinished behind these labels of its client
+-- a call is unfinished after these labels of its client
 abbrev pub is_unfinished : List Label → Bool
 is_unfinished ls = option_map_or (λ l. goes_on l.what) (last_of ls) false
 
@@ -38,7 +38,7 @@ IsMove what = (point : ℕ) × (edge : EdgeKind) × (what ≡ Moved point edge)
 abbrev pub IsMoveBy : ℕ → Label → Type 0
 IsMoveBy c l = (l.client ≡ c) × IsMove l.what
 
--- so many moves of the client more
+-- n more moves of the client
 pub record HasMoved (c n : ℕ) (before after : List Label) : Type 0 where
   pub moves : List Label
   pub count : length moves ≡ n

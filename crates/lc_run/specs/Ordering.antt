@@ -61,7 +61,7 @@ abbrev pub is_within : ℕ → S.Happening → Bool
 is_within n (Happens event) = nat_lt (S.client_of (Happens event)) n
 is_within n (S.Marked note entry) = true
 
--- the entry of a mark, if it counts where these clients have a return next
+-- the entry of a mark, if it counts when these clients have a return next
 abbrev pub counted_first : (ℕ → Bool) → S.Happening → List Entry
 counted_first returns (Happens event) = []
 counted_first returns (S.Marked false entry) = entry ∷ []

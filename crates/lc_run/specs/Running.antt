@@ -19,12 +19,12 @@ module _ {J : Type 0} where
   abbrev pub clients_of : Runner J → ℕ
   clients_of r = r.clients
 
--- what is answered to a step that was this
+-- what is returned for a step that was this
 abbrev pub IsSaid : Progress → Event → Type 0
 IsSaid progress.Running what = IsMove what
 IsSaid (progress.Returned numbers) what = what ≡ M.Returned numbers.items
 
--- What is answered to a call of so many turns: behind its beginning so many moves, or fewer and its return
+-- What is returned for a call of `turns` turns: after its beginning that many moves, or fewer and its return
 abbrev pub IsCalled : Called → ℕ → Event → ℕ → List Label → List Label → Type 0
 IsCalled called.TurnsSpent turns call c before after = (begun : List Label) × HasMade (λ what. what ≡ call) c before begun × HasMoved c turns begun after
 IsCalled (called.Returned numbers) turns call c before after =

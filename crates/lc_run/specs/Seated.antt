@@ -15,7 +15,7 @@ module _ {J : Type 0} where
   abbrev pub has_seat : ℕ → List (Seat J) → Bool
   has_seat c seats = list_any (λ s. client_in s == c) seats
 
-  -- so are the seats of so many clients
+  -- so are the seats of n clients
   abbrev pub AreAllThere : ℕ → List (Seat J) → Type 0
   AreAllThere n seats = (c : ℕ) → c < n → has_seat c seats ≡ true
 
@@ -33,7 +33,7 @@ module _ {J : Type 0} where
   abbrev pub IsStrange : List Label → List (Seat J) → ℕ → Type 0
   IsStrange labels seats c = Any (λ s. (client_in s ≡ c) × (HasOwn labels s → ⊥)) seats
 
-  -- what is held is of this development and for so many clients
+  -- what is held is of this development and for n clients
   abbrev pub IsOf : Shared J → Development → ℕ → Type 0
   IsOf s D n = (development_held s ≡ D) × (clients_held s ≡ n)
 

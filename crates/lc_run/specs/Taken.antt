@@ -51,7 +51,7 @@ IsUntold D w c Arity = ⊥
 IsUntold D w c Mismatch = ⊥
 IsUntold D w c Full = ⊥
 
--- why a client takes no step of a call in this world, where these labels are held and its seat made those
+-- why a client takes no step of a call in this world, with these labels held, and those made by its seat
 abbrev pub IsStepFault : Development → World → List Label → ℕ → List Label → RunFault → Type 0
 IsStepFault D w held c made Idle = is_unfinished made ≡ false
 IsStepFault D w held c made Mismatch = (is_unfinished made ≡ true) × (IsInCall w c → ⊥)
@@ -74,7 +74,7 @@ TakesOther D op ns = (o : Operation) × (slice_get D.object.operations op ≡ So
 abbrev pub StandsIn : List Client → ℕ → Type 0
 StandsIn clients c = (p : ℕ) × (variables : List ℤ) × (slice_get clients c ≡ Some (W.In p variables))
 
--- whether a client may take a step of its call, where so many labels are held, or why not
+-- whether a client may take a step of its call, with `held` labels held, or why not
 abbrev pub MayStep : List Client → ℕ → ℕ → Result (Unit {0}) RunFault → Type 0
 MayStep clients c held (Ok done) = StandsIn clients c
 MayStep clients c held (Err Mismatch) = StandsIn clients c → ⊥

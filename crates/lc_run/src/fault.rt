@@ -3,7 +3,7 @@ use lc_base::OutOfMemory;
 use std::alloc::AllocError;
 use thiserror::Error;
 
-/// Why a runner is not made, or a client takes no step. Where several faults apply, the first in this order is answered. Nothing
+/// Why a runner is not made, or a client takes no step. If several faults apply, the first in this order is returned. Nothing
 /// has changed then.
 #[derive(Clone, Copy, Debug, PartialEq, Eq, Error)]
 pub enum RunFault {

@@ -1,4 +1,4 @@
-//! The end of a run: its history and its order, where all seats are handed in.
+//! The end of a run: its history and its order, if all seats are handed in.
 ghost use Rattle.std.specs.Prelude.{◌≡◌, IfOk, IfErr, All, vec_len};
 ghost use Rattle.lc_hist.specs.Histories.{events_in};
 ghost use Rattle.lc_sound.specs.Instrumented.{history};
@@ -35,7 +35,7 @@ pub struct RunLog {
     pub own: Vec<Vec<Label>>,
 }
 
-/// Why a run is not finished. Where several apply, the first in this order is answered.
+/// Why a run is not finished. If several apply, the first in this order is returned.
 #[derive(Clone, Copy, Debug, PartialEq, Eq)]
 pub enum Why {
     /// The seat of this client was not handed in; it is the least such client.
@@ -75,7 +75,7 @@ struct Summary {
     room: Vec<Vec<Label>>,
 }
 
-// So many lists of labels, with none in them.
+// `clients` lists of labels, all empty.
 fn room_for(alloc: Global, clients: u32) -> Result<Vec<Vec<Label>>, OutOfMemory>
     ensures { IfOk result (λ room. vec_len room ≡ clients) }
 {
@@ -105,7 +105,7 @@ fn summary_of<J: Ledger>(alloc: Global, shared: &Shared<J>) -> Result<Summary, O
     })
 }
 
-// The history and the order of what is held, where the seats are those of its run and it is of this development and for so many
+// The history and the order of what is held, if the seats are those of its run and it is of this development and for `clients`
 // clients; or why it is not finished.
 fn conclusion<J: Ledger>(
     alloc: Global,
@@ -147,7 +147,7 @@ fn lists_of<J: Ledger>(
     lists
 }
 
-// What is left of a run that is held, where the seats are its own.
+// What is left of a run that is held, if the seats are its own.
 fn log_of<J: Ledger>(summary: Summary, shared: Shared<J>, seats: Vec<Seat<J>>) -> RunLog
     requires room { vec_len summary.room ≡ clients_held shared }
     requires there { AreAllThere (clients_held shared) seats.items }
@@ -187,7 +187,7 @@ impl<J: Ledger> Runner<J> {
     ghost use Rattle.lc_run.specs.Seated.{AreAllThere, IsLeastMissing, HasOwn, IsWhy};
     ghost use Rattle.lc_run.specs.declared.held.Shared.{Shared};
 
-    /// What has run, where all seats are handed in. Where it is not finished, runner and seats come back.
+    /// What has run, if all seats are handed in. If it is not finished, runner and seats come back.
     pub fn finish(self, seats: Vec<Seat<J>>) -> Result<RunLog, Unfinished<J>>
         ensures run { IfOk result (λ log. ∥ ((w : World) × IsRun (development_of self) (clients_of self) (labels_of log.labels.items) w) ∥₁) }
         ensures history { IfOk result (λ log. events_in log.history ≡ history (labels_of log.labels.items)) }

@@ -24,8 +24,8 @@ use std::alloc::Global;
 use std::sync::Arc;
 use std::sync::ledger::{Blank, Book, Ledger, Share};
 
-/// What the lock holds: labels that are a run of the development, for so many clients, to the world that is held; and the book
-/// of a ledger, whose total is the number of labels.
+/// What the lock holds: labels that are a run of the development, for `clients` clients, to the world that is held; and the
+/// book of a ledger, whose total is the number of labels.
 #[derive(Drop)]
 pub struct Shared<J: Ledger> {
     alloc: Global,
@@ -77,7 +77,7 @@ impl<J: Ledger> Seat<J> {
         &self.labels
     }
 
-    /// These labels alone, where the seat is no longer needed.
+    /// These labels alone, if the seat is no longer needed.
     pub(crate) fn into_labels(self) -> Vec<Label>
         ensures { labels_of result.items ≡ labels_made self }
     {
@@ -178,7 +178,7 @@ impl<J: Ledger> Shared<J> {
         self.clients
     }
 
-    /// The labels alone, where nothing more is to run.
+    /// The labels alone, if nothing more is to run.
     pub(crate) fn into_labels(self) -> Vec<Label>
         ensures { labels_of result.items ≡ labels_held self }
     {
@@ -195,8 +195,8 @@ impl<J: Ledger> Shared<J> {
         labels
     }
 
-    // Keeps a step that is told: the labels and the seat's list grow by its label, and the world becomes the next one. What may
-    // be refused comes before the first change.
+    // Keeps a step that was computed: the labels and the seat's list grow by its label, and the world becomes the next one.
+    // What may fail comes before the first change.
     fn keep(&mut self, seat: &mut Seat<J>, step: Step) -> Result<(), RunFault>
         requires step { Instrumented (development_held self.old) (world_held self.old) (client_in seat.old) (what_of step.what) (marks_of step.marks.items)
             (world_with (world_held self.old) (written_in_draft self.old.draft) (client_in seat.old) (client_of step.client)) }
@@ -229,7 +229,7 @@ impl<J: Ledger> Shared<J> {
         Ok(())
     }
 
-    // The next step of the seat's client, told and not kept; or why it takes none.
+    // The next step of the seat's client, computed and not kept; or why it takes none.
     fn told(&mut self, seat: &Seat<J>) -> Result<Step, RunFault>
         ensures step { IfOk result (λ step. Instrumented (development_held self.old) (world_held self.old) (client_in seat.now) (what_of step.what) (marks_of step.marks.items)
             (world_with (world_held self.old) (written_in_draft self.new.draft) (client_in seat.now) (client_of step.client))) }
@@ -275,7 +275,7 @@ impl<J: Ledger> Shared<J> {
         self.keep(seat, step)
     }
 
-    /// Why the seat's client takes no step, where there is no memory for its reply: want of memory is the last of the faults.
+    /// Why the seat's client takes no step, if there is no memory for its reply: `OutOfMemory` is the last of the faults.
     pub(crate) fn fault_without_memory(&mut self, seat: &Seat<J>) -> RunFault
         ensures idle { (result ≡ RunFault.Idle) ↔ (is_unfinished (labels_made seat.now) ≡ false) }
         ensures fault { IsStepFault (development_held self.old) (world_held self.old) (labels_held self.old) (client_in seat.now) (labels_made seat.now) result }

@@ -11,7 +11,7 @@ use lc_hist::Event;
 use lc_steps::What;
 use std::alloc::Global;
 
-// The call or the return of a label, if it is one, behind other events.
+// Appends the call or the return of a label, if it is one, to other events.
 fn push_event(alloc: Global, label: &Label, events: &mut Vec<Event>) -> Result<(), OutOfMemory>
     ensures { OnOk result (events_of events.new.items ≡ events_of events.old.items ++ event_of label.now.client (what_of label.now.what)) }
 {

@@ -19,7 +19,7 @@ pub struct Label {
     pub marks: Vec<Mark>,
 }
 
-// Written out, so that a place where a label is let go has one call.
+// Written out, so that dropping a label is one call.
 impl Drop for Label {
     fn drop(self) {
         let Label {
@@ -113,7 +113,7 @@ fn copied_marks(alloc: Global, marks: &[Mark]) -> Result<Vec<Mark>, OutOfMemory>
     Ok(copies)
 }
 
-/// Whether a call is unfinished behind these labels of its client.
+/// Whether a call is unfinished after these labels of its client.
 pub(crate) fn is_unfinished(labels: &[Label]) -> bool
     ensures { result ≡ is_unfinished (labels_of labels.now) }
 {

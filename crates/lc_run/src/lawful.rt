@@ -1,4 +1,4 @@
-//! The steps of clients of an accepted development, where a run of it is held: each mark is lawful there, and each return
+//! The steps of clients of an accepted development, while a run of it is held: each mark is lawful there, and each return
 //! justified.
 ghost use Rattle.std.specs.Prelude.{◌≡◌, ◌↔◌, Some, true, IsTrue, slice_get, IfOk, IfErr};
 ghost use Rattle.lc_term.specs.Drafts.{written_in_draft, saved_in_draft, draft_columns};
@@ -63,7 +63,7 @@ fn is_idle(clients: &[Client], client: u32) -> bool
     }
 }
 
-/// Whether a client may take a step of its call, where so many labels are held, or why not.
+/// Whether a client may take a step of its call, with `held` labels held, or why not.
 pub(crate) fn may_step(clients: &[Client], client: u32, held: usize) -> Result<(), RunFault>
     ensures { MayStep (clients_of clients.now) client held result }
 {
@@ -76,7 +76,7 @@ pub(crate) fn may_step(clients: &[Client], client: u32, held: usize) -> Result<(
     Ok(())
 }
 
-/// Whether a client may begin a call of an operation with these numbers, where so many labels are held, or why not.
+/// Whether a client may begin a call of an operation with these numbers, with `held` labels held, or why not.
 pub(crate) fn may_call(
     development: &Development,
     clients: &[Client],
@@ -102,7 +102,7 @@ pub(crate) fn may_call(
     Ok(())
 }
 
-/// The next step of a client in a call, where these labels are held.
+/// The next step of a client in a call, with these labels held.
 pub(crate) fn lawful_step(
     alloc: Global,
     accepted: &Accepted,

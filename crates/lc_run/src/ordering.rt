@@ -45,7 +45,7 @@ enum Happening<'a> {
     },
 }
 
-// No calls, of so many clients.
+// No calls, for `clients` clients.
 fn no_calls<'a>(alloc: Global, clients: u32) -> Result<Vec<Option<Begun<'a>>>, OutOfMemory>
     ensures { IfOk result (λ calls. calls.items ≡ replicate clients None) }
 {
@@ -66,7 +66,7 @@ fn last_call<'a>(calls: &[Option<Begun<'a>>], client: u64) -> Option<Begun<'a>>
     }
 }
 
-// Marks, for the calls that their clients began last, behind what happened before.
+// Appends marks, for the calls that their clients began last, to what happened before.
 fn push_marks<'a>(
     marks: &'a [Mark],
     calls: &[Option<Begun<'a>>],
@@ -81,7 +81,7 @@ fn push_marks<'a>(
     Ok(())
 }
 
-// The call or the return of a label, if it is one, behind what happened before; and the calls that clients began last then.
+// Appends the call or the return of a label, if it is one, to what happened before; and notes which calls clients began last then.
 fn push_event<'a>(
     label: &'a Label,
     calls: &mut [Option<Begun<'a>>],
@@ -109,7 +109,7 @@ fn push_event<'a>(
     Ok(())
 }
 
-// What happens in a run of so many clients, in time.
+// What happens in a run of `clients` clients, in time.
 fn happenings(
     alloc: Global,
     labels: &[Label],
@@ -127,7 +127,7 @@ fn happenings(
     Ok(happenings)
 }
 
-// No returns, of so many clients.
+// No returns, for `clients` clients.
 fn no_returns(alloc: Global, clients: u32) -> Result<Vec<bool>, OutOfMemory>
     ensures { IfOk result (λ returns. returns.items ≡ replicate clients false) }
 {
@@ -164,7 +164,7 @@ fn made_call(alloc: Global, call: &Option<Begun<'_>>) -> Result<TextCall, OutOfM
     }
 }
 
-// The entry of a mark, behind others.
+// Appends the entry of a mark.
 fn push_entry(
     alloc: Global,
     mark: &Mark,
@@ -189,7 +189,7 @@ fn push_entry(
     Ok(())
 }
 
-// The entry of a mark that counts where these clients have a return next, behind others.
+// Appends the entry of a mark that counts if these clients have a return next.
 fn push_counted(
     alloc: Global,
     happening: &Happening<'_>,
@@ -222,7 +222,7 @@ fn set_next(returns: &mut [bool], client: u64, next: bool)
     returns[place] = next;
 }
 
-// Which clients have a return next, where this happens first.
+// Which clients have a return next, if this happens first.
 fn see(returns: &mut [bool], happening: &Happening<'_>)
     requires { is_within (length returns.old) (happening_of happening.now) ≡ true }
     ensures { let h = happening_of happening.now in
@@ -256,7 +256,7 @@ fn entries(
     Ok(entries)
 }
 
-/// The order of a run of so many clients.
+/// The order of a run of `clients` clients.
 pub(crate) fn order_of(
     alloc: Global,
     labels: &[Label],

@@ -35,7 +35,7 @@ pub enum Called {
     TurnsSpent,
 }
 
-/// A runner of an accepted development, for so many clients. What has run lies under one lock.
+/// A runner of an accepted development, for a number of clients. What has run lies under one lock.
 #[derive(Drop)]
 pub struct Runner<J: Ledger> {
     pub(crate) alloc: Global,
@@ -44,7 +44,7 @@ pub struct Runner<J: Ledger> {
     pub(crate) clients: u32,
 }
 
-// These numbers, where there is room for them.
+// These numbers, if there is room for them.
 fn filled(room: Vec<i64>, numbers: &[i64]) -> Vec<i64>
     requires empty { room.items ≡ [] }
     requires few { length numbers.now ≤ vec_capacity room }
@@ -94,7 +94,7 @@ impl<J: Ledger> Runner<J> {
     ghost use Rattle.lc_run.specs.Locked.{client_in, labels_made};
     ghost use Rattle.lc_run.specs.Running.{development_of, clients_of, IsSaid, IsCalled, IsLeft};
 
-    /// A runner for so many clients, with their seats, by their numbers.
+    /// A runner for `clients` clients, with their seats, by their numbers.
     pub fn new(
         alloc: Global,
         blank: Blank,
@@ -175,7 +175,7 @@ impl<J: Ledger> Runner<J> {
         }
     }
 
-    /// A call of an operation with these numbers, of so many turns at most. Between two of its steps others may take theirs.
+    /// A call of an operation with these numbers, with at most `turns` turns. Between two of its steps others may take theirs.
     pub fn call<R: Wait>(
         &self,
         rt: &R,

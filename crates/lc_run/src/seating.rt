@@ -24,7 +24,7 @@ fn has_seat<J: Ledger>(seats: &[Seat<J>], client: u32) -> bool
     false
 }
 
-// The least client without a seat, of so many, if there is one.
+// The least client below `clients` without a seat, if there is one.
 fn missing_seat<J: Ledger>(seats: &[Seat<J>], clients: u32) -> Option<u32>
     ensures { MatchOption result (AreAllThere clients seats.now) (IsLeastMissing clients seats.now) }
 {
@@ -48,7 +48,7 @@ fn strange_seat<J: Ledger>(labels: &[Label], seats: &[Seat<J>]) -> Option<u32>
     None
 }
 
-// Whether what is held is of this development and for so many clients.
+// Whether what is held is of this development and for `clients` clients.
 fn is_of<J: Ledger>(shared: &Shared<J>, accepted: &Accepted, clients: u32) -> bool
     ensures { IsTrue result ↔ ((development_held shared.now ≡ development_in accepted.now) × (clients_held shared.now ≡ clients)) }
 {

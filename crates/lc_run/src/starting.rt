@@ -1,4 +1,4 @@
-//! What stands under the lock of a runner at first.
+//! What is under the lock of a runner at first.
 ghost use Rattle.std.specs.Prelude.{◌≡◌, IfOk, replicate};
 ghost use Rattle.lc_term.specs.Drafts.{saved_in_draft, draft_columns};
 ghost use Rattle.lc_term.specs.SystemColumns.{column_count};
@@ -23,7 +23,7 @@ pub(crate) fn start_draft(alloc: Global, accepted: &Accepted) -> Result<Draft, O
     Ok(Draft::new(alloc, state))
 }
 
-/// So many clients in no call.
+/// `count` clients in no call.
 pub(crate) fn idle_clients(alloc: Global, count: u32) -> Result<Vec<Client>, OutOfMemory>
     ensures { IfOk result (λ clients. clients_of clients.items ≡ replicate count Idle) }
 {

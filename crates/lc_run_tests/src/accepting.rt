@@ -25,7 +25,7 @@ pub(crate) fn library(alloc: Global, lib: Lib) -> Result<Arc<Accepted>, Fail> {
     accepted_with(alloc, development(lib), &certificate)
 }
 
-/// An object of the library, with its certificate, where there is memory for it.
+/// An object of the library, with its certificate, if there is memory for it.
 pub(crate) fn library_with_room(alloc: Global, lib: Lib) -> Option<Arc<Accepted>> {
     let certificate = certificate(alloc, lib).ok()?;
     match check(alloc, development(lib), &certificate) {

@@ -1,4 +1,4 @@
-//! Which faults are told of a seat by itself.
+//! Which faults a seat reports by itself.
 use crate::accepting::library;
 use crate::running::{Scenario, plays};
 use lc_base::OpId;

@@ -28,7 +28,7 @@ fn asking<'a>(operation: u32, given: &'a [i64], wanted: &'a [i64]) -> Asked<'a> 
     }
 }
 
-/// One client makes these calls: each returns what it should, and all of them stand in the order.
+/// One client makes these calls: each returns what it should, and all of them are in the order.
 #[derive(Clone, Copy)]
 struct Alone<'a> {
     calls: &'a [Asked<'a>],

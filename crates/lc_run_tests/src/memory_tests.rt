@@ -1,4 +1,4 @@
-//! With any one allocation refused: want of memory, with nothing changed, and then the answer; or the answer at once.
+//! With any one allocation refused: `OutOfMemory`, with nothing changed, and then the answer; or the answer at once.
 ghost use Rattle.std.specs.Prelude.{◌≡◌};
 
 use crate::accepting::library_with_room;
@@ -19,7 +19,7 @@ fn counts<J: Ledger>(shared: &Shared<J>, seat: &Seat<J>) -> (usize, usize) {
     (shared.labels().len(), seat.labels().len())
 }
 
-/// Whether a call begins, if need be at the second time, where the first changed nothing.
+/// Whether a call begins, if need be at the second time, if the first changed nothing.
 fn begins<J: Ledger>(shared: &mut Shared<J>, seat: &mut Seat<J>) -> bool {
     let before = counts(shared, seat);
     match shared.take_begin(seat, OpId(0), &[]) {
@@ -31,7 +31,7 @@ fn begins<J: Ledger>(shared: &mut Shared<J>, seat: &mut Seat<J>) -> bool {
     }
 }
 
-/// Whether a step is taken, if need be at the second time, where the first changed nothing.
+/// Whether a step is taken, if need be at the second time, if the first changed nothing.
 fn steps<J: Ledger>(shared: &mut Shared<J>, seat: &mut Seat<J>) -> bool {
     let before = counts(shared, seat);
     match shared.take_step(seat) {
@@ -60,7 +60,7 @@ fn calls<J: Ledger>(alloc: Global, blank: Blank, accepted: Arc<Accepted>) -> Res
     Ok(begun & loaded & swapped & returned & (counts(&shared, &seat) == (4, 4)))
 }
 
-/// A run with one call is finished, if need be at the second time, where runner and seats came back.
+/// A run with one call is finished, if need be at the second time, if runner and seats came back.
 #[derive(Clone, Copy)]
 struct Finished;
 

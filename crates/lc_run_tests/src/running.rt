@@ -40,7 +40,7 @@ fn begun<J: Ledger + Sync, R: Threads + Wait + Sync, S: Scenario>(
     scenario.plays(rt, alloc, runner, seats)
 }
 
-/// Whether a run by so many clients goes as it should.
+/// Whether a run by `clients` clients goes as it should.
 pub(crate) fn plays<R: Threads + Wait + Sync, S: Scenario>(
     rt: &R,
     alloc: Global,
@@ -59,7 +59,7 @@ pub(crate) fn hand_in<J: Ledger>(seats: &mut Vec<Seat<J>>, seat: Seat<J>) -> Res
     }
 }
 
-/// What comes back, where a seat is missing.
+/// What comes back, if a seat is missing.
 #[derive(Drop)]
 pub(crate) struct Back<J: Ledger> {
     pub(crate) runner: Runner<J>,

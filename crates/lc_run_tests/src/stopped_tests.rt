@@ -9,7 +9,7 @@ use std::sync::ledger::Ledger;
 use std::test::Fail;
 use std::thread::Threads;
 
-/// A counter of which the step that marks an increase adds one to the greatest number of 64 bits.
+/// A counter whose step that marks an increase adds one to the greatest number of 64 bits.
 const OVERFLOWING: &str = "(spec counter (abstract (v 0 0))
   (op inc () 1 (branch (and) ((v 0 (+ (rd v 0) 1))) ((rd v 0)))))
 (object counter (array cell (c 0 0)) (aux (h 0 9223372036854775807))
@@ -59,7 +59,7 @@ impl Scenario for Left {
     }
 }
 
-/// A client of the combining counter that stopped behind its announcement is helped: its call stands in the order, and comes first.
+/// A client of the combining counter that stopped after its announcement is helped: its call is in the order, and comes first.
 #[derive(Clone, Copy)]
 struct Helped;
 

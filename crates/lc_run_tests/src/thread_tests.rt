@@ -17,14 +17,14 @@ use std::thread::Threads;
 /// More turns than a call takes before the other client gets on.
 const TURNS: u64 = 400_000;
 
-/// A client's seat, and the first number of each reply that it got; none where a call was not answered.
+/// A client's seat, and the first number of each reply that it got; none if a call was not answered.
 #[derive(Drop)]
 struct Answered<J: Ledger> {
     seat: Seat<J>,
     numbers: Option<Vec<i64>>,
 }
 
-/// The first number of each reply, where the first operation is called so often with these numbers.
+/// The first number of each reply, when the first operation is called so often with these numbers.
 fn numbers_of<J: Ledger, R: Wait>(
     rt: &R,
     alloc: Global,

@@ -1,4 +1,4 @@
-//! Axioms of arrays, where the numbers of reads break them.
+//! Axioms of arrays, when the numbers of reads break them.
 
 use crate::cases::Noted;
 use crate::model::{Clash, DEEPEST, Model, active_read, base_read, closed_value, fill_model};

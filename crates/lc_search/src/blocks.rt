@@ -1,7 +1,7 @@
-//! Blocks of quantifiers, and where their variables stand as indexes.
+//! Blocks of quantifiers, and the places of their variables in indexes.
 
 use crate::model::DEEPEST;
-use crate::scanning::{Place, indexes_in};
+use crate::scanning::{Comparison, Place, found_in};
 use indexmap::IndexMap;
 use lc_base::ColId;
 use lc_facts::{Form, Nodes};
@@ -9,16 +9,24 @@ use lc_farkas::Stop;
 use lc_table::{FormulaId, FormulaNode, TermId, TermNode};
 use std::alloc::Global;
 
-/// A place where a variable of a block stands as an index under a base column: the index is the variable, or its opposite, and a
-/// rest without bound variables.
+/// A place where a variable of a block is an index under a base column: the index is a multiple of the variable, and a rest
+/// without bound variables.
 #[derive(Clone, Copy)]
 pub(crate) struct Slot {
-    /// The variable, by the number of quantifiers of the block that stand inside its own.
+    /// The variable, by the number of quantifiers of the block that are inside its own.
     pub(crate) variable: u32,
     pub(crate) column: ColId,
-    pub(crate) is_opposite: bool,
+    /// How many times the variable; not 0.
+    pub(crate) factor: i128,
     /// None for 0.
     pub(crate) rest: Option<TermId>,
+}
+
+/// What a variable of a block is if both sides of a comparison in its body are equal.
+#[derive(Clone, Copy)]
+pub(crate) struct Solution {
+    pub(crate) variable: u32,
+    pub(crate) term: TermId,
 }
 
 /// Quantifiers that stand directly inside each other.
@@ -27,6 +35,7 @@ pub(crate) struct Block {
     pub(crate) body: FormulaId,
     pub(crate) count: u32,
     pub(crate) slots: Vec<Slot>,
+    pub(crate) solutions: Vec<Solution>,
 }
 
 /// What is remembered of blocks, and of terms of one form.
@@ -76,14 +85,25 @@ impl Blocks {
             return Ok(());
         }
         let (body, count) = inside(nodes, formula);
-        let found = indexes_in(self.alloc, nodes, body)?;
+        let found = found_in(self.alloc, nodes, body)?;
         let mut slots = Vec::new(self.alloc);
-        for place in &found {
+        for place in &found.indexes {
             if let Some(slot) = slot_of(nodes, self.alloc, *place)? {
                 slots.push(slot)?;
             }
         }
-        let block = Block { body, count, slots };
+        let mut solutions = Vec::new(self.alloc);
+        for comparison in &found.comparisons {
+            if let Some(solution) = solution_of(nodes, self.alloc, *comparison)? {
+                solutions.push(solution)?;
+            }
+        }
+        let block = Block {
+            body,
+            count,
+            slots,
+            solutions,
+        };
         self.blocks.insert(formula, block)?;
         Ok(())
     }
@@ -123,7 +143,7 @@ pub(crate) fn form_of(nodes: &mut Nodes, alloc: Global, term: TermId) -> Result<
     }
 }
 
-/// Of a form, the bound variable that it is made of beside closed atoms, and how often it has it; none where it has others.
+/// Of a form, the bound variable that it is made of beside closed atoms, and how often it has it; none if it has others.
 fn only_bound(nodes: &Nodes, form: &Form) -> Option<(TermId, u32, i128)> {
     let mut only = None;
     for (atom, number) in &form.summands {
@@ -140,17 +160,30 @@ fn only_bound(nodes: &Nodes, form: &Form) -> Option<(TermId, u32, i128)> {
     only
 }
 
+/// A form without one of its atoms, which it has `number` times.
+fn without(
+    nodes: &mut Nodes,
+    alloc: Global,
+    form: Form,
+    atom: TermId,
+    number: i128,
+) -> Result<Form, Stop> {
+    let mut form = form;
+    let alone = form_of(nodes, alloc, atom)?;
+    form.add(number.checked_neg().ok_or(Stop::Large)?, &alone)?;
+    Ok(form)
+}
+
 /// A slot for a variable of the block, if the index has the form of one.
 fn slot_of(nodes: &mut Nodes, alloc: Global, place: Place) -> Result<Option<Slot>, Stop> {
-    let mut form = form_of(nodes, alloc, place.index)?;
-    let Some((atom, bound, number)) = only_bound(nodes, &form) else {
+    let form = form_of(nodes, alloc, place.index)?;
+    let Some((atom, bound, factor)) = only_bound(nodes, &form) else {
         return Ok(None);
     };
-    if (number != 1 && number != -1) || bound < place.level {
+    if bound < place.level {
         return Ok(None);
     }
-    let alone = form_of(nodes, alloc, atom)?;
-    form.add(if number == 1 { -1 } else { 1 }, &alone)?;
+    let form = without(nodes, alloc, form, atom, factor)?;
     let rest = if form.is_constant() && form.constant == 0 {
         None
     } else {
@@ -159,9 +192,60 @@ fn slot_of(nodes: &mut Nodes, alloc: Global, place: Place) -> Result<Option<Slot
     Ok(Some(Slot {
         variable: bound.saturating_sub(place.level),
         column: place.column,
-        is_opposite: number == -1,
+        factor,
         rest,
     }))
+}
+
+/// What a variable of the block has to be so that both sides of a comparison are equal; none if the factor of the variable does
+/// not divide the rest.
+fn solution_of(
+    nodes: &mut Nodes,
+    alloc: Global,
+    comparison: Comparison,
+) -> Result<Option<Solution>, Stop> {
+    let mut form = form_of(nodes, alloc, comparison.left)?;
+    let right = form_of(nodes, alloc, comparison.right)?;
+    form.add(-1, &right)?;
+    let Some((atom, bound, number)) = only_bound(nodes, &form) else {
+        return Ok(None);
+    };
+    if bound < comparison.level {
+        return Ok(None);
+    }
+    let rest = without(nodes, alloc, form, atom, number)?;
+    let Some(term) = term_divided(nodes, rest, number.checked_neg().ok_or(Stop::Large)?)? else {
+        return Ok(None);
+    };
+    Ok(Some(Solution {
+        variable: bound.saturating_sub(comparison.level),
+        term,
+    }))
+}
+
+/// The quotient, if a number divides another.
+fn exact_quotient(number: i128, divisor: i128) -> Option<i128> {
+    if number.checked_rem(divisor)? == 0 {
+        number.checked_div(divisor)
+    } else {
+        None
+    }
+}
+
+/// A term of a form that is divided by a number, if it divides each number of the form.
+fn term_divided(nodes: &mut Nodes, form: Form, divisor: i128) -> Result<Option<TermId>, Stop> {
+    let mut form = form;
+    let Some(constant) = exact_quotient(form.constant, divisor) else {
+        return Ok(None);
+    };
+    form.constant = constant;
+    for summand in form.summands.iter_mut() {
+        let Some(number) = exact_quotient(summand.1, divisor) else {
+            return Ok(None);
+        };
+        summand.1 = number;
+    }
+    term_of_form(nodes, &form).map(Some)
 }
 
 /// So many times an atom, added to a sum.
@@ -228,23 +312,20 @@ pub(crate) fn term_of_form(nodes: &mut Nodes, form: &Form) -> Result<TermId, Sto
     sum_with_constant(nodes, sum, form.constant)
 }
 
-/// What a variable is to be so that the index of its slot is this term.
+/// What a variable has to be so that the index of its slot is this term, if there is such a term.
 pub(crate) fn solved(
     nodes: &mut Nodes,
     alloc: Global,
     slot: Slot,
     index: TermId,
-) -> Result<TermId, Stop> {
-    if slot.rest.is_none() && !slot.is_opposite {
-        return Ok(index);
+) -> Result<Option<TermId>, Stop> {
+    if slot.rest.is_none() && slot.factor == 1 {
+        return Ok(Some(index));
     }
-    let mut form = Form::constant(alloc, 0);
-    let index = form_of(nodes, alloc, index)?;
-    let (sign, opposite) = if slot.is_opposite { (-1, 1) } else { (1, -1) };
-    form.add(sign, &index)?;
+    let mut form = form_of(nodes, alloc, index)?;
     if let Some(rest) = slot.rest {
         let rest = form_of(nodes, alloc, rest)?;
-        form.add(opposite, &rest)?;
+        form.add(-1, &rest)?;
     }
-    term_of_form(nodes, &form)
+    term_divided(nodes, form, slot.factor)
 }

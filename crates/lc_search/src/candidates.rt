@@ -3,6 +3,7 @@
 use crate::blocks::{Blocks, Slot, solved};
 use crate::cases::key_of;
 use crate::model::{Model, closed_value, live_places, live_variable};
+use crate::reach::Reach;
 use indexmap::IndexMap;
 use lc_base::ColId;
 use lc_facts::{Indexed, Known, Place};
@@ -34,50 +35,40 @@ impl Candidate {
     }
 }
 
-/// Terms of one number: the best of them, at most three.
+/// The place of what is tried only late.
+const LATE: Place = Place { rank: 3, depth: 0 };
+
+/// How many terms of one number are kept.
+pub(crate) const MOST_ALIKE: usize = 3;
+
+/// Terms of one number: the best of them.
 #[derive(Clone, Copy)]
 pub(crate) struct Choice {
     pub(crate) number: Rational,
     pub(crate) count: usize,
-    first: Candidate,
-    second: Candidate,
-    third: Candidate,
+    terms: [Candidate; MOST_ALIKE],
 }
 
 impl Choice {
     /// One of the terms: the last one stands for those that there are not.
     pub(crate) fn at(&self, place: usize) -> Candidate {
-        match place.min(self.count.saturating_sub(1)) {
-            0 => self.first,
-            1 => self.second,
-            _ => self.third,
-        }
+        let last = self.count.saturating_sub(1);
+        self.terms[place.min(last).min(MOST_ALIKE - 1)]
     }
 
     fn alone(number: Rational, only: Candidate) -> Choice {
         Choice {
             number,
             count: 1,
-            first: only,
-            second: only,
-            third: only,
+            terms: [only; MOST_ALIKE],
         }
     }
 
-    fn with(self, next: Candidate) -> Choice {
-        match self.count {
-            1 => Choice {
-                count: 2,
-                second: next,
-                third: next,
-                ..self
-            },
-            2 => Choice {
-                count: 3,
-                third: next,
-                ..self
-            },
-            _ => self,
+    /// Takes a term in, if there is room for it.
+    fn append(&mut self, next: Candidate) {
+        if let Some(term) = self.terms.get_mut(self.count) {
+            *term = next;
+            self.count = self.count.saturating_add(1);
         }
     }
 }
@@ -176,13 +167,14 @@ fn gather_slot(
     for place in 0..index_count(known, slot.column) {
         if let Some(indexed) = index_at(known, slot.column, place) {
             let alloc = blocks.alloc;
-            let term = solved(&mut known.nodes, alloc, slot, indexed.term)?;
-            let rise = if term == indexed.term { 0 } else { 1 };
-            let place = Place {
-                rank: indexed.place.rank.saturating_add(rise),
-                depth: indexed.place.depth,
-            };
-            gathered.gather(known, blocks, term, place)?;
+            if let Some(term) = solved(&mut known.nodes, alloc, slot, indexed.term)? {
+                let rise = if term == indexed.term { 0 } else { 1 };
+                let place = Place {
+                    rank: indexed.place.rank.saturating_add(rise),
+                    depth: indexed.place.depth,
+                };
+                gathered.gather(known, blocks, term, place)?;
+            }
         }
     }
     Ok(())
@@ -339,14 +331,51 @@ fn use_at(blocks: &Blocks, place: usize) -> Option<TermId> {
     blocks.uses.get(place).copied()
 }
 
-/// The terms for a variable of a block, those of one number together, that are nested in fewer than so many instances.
+/// A term that solves a comparison for a variable, at a place of the block's solutions.
+fn solution_at(blocks: &Blocks, formula: FormulaId, variable: u32, place: usize) -> Option<TermId> {
+    let solution = blocks.block(formula)?.solutions.get(place)?;
+    if solution.variable == variable {
+        Some(solution.term)
+    } else {
+        None
+    }
+}
+
+fn solution_count(blocks: &Blocks, formula: FormulaId) -> usize {
+    match blocks.block(formula) {
+        Some(block) => block.solutions.len(),
+        None => 0,
+    }
+}
+
+/// Takes in what solves the comparisons of the body for a variable; 0 for a variable that has no other term.
+fn gather_solutions(
+    known: &mut Known,
+    blocks: &mut Blocks,
+    formula: FormulaId,
+    variable: u32,
+    gathered: &mut Gathered,
+) -> Result<(), Stop> {
+    for place in 0..solution_count(blocks, formula) {
+        if let Some(term) = solution_at(blocks, formula, variable, place) {
+            gathered.gather(known, blocks, term, LATE)?;
+        }
+    }
+    if gathered.terms.is_empty() {
+        let zero = known.nodes.number(0)?;
+        gathered.gather(known, blocks, zero, LATE)?;
+    }
+    Ok(())
+}
+
+/// The terms for a variable of a block, those of one number together, that are nested in fewer instances than the reach allows.
 pub(crate) fn choices(
     known: &mut Known,
     model: &mut Model,
     blocks: &mut Blocks,
     formula: FormulaId,
     variable: u32,
-    allowed: i32,
+    reach: Reach,
 ) -> Result<Vec<Choice>, Stop> {
     let mut gathered = Gathered::new(blocks.alloc);
     let mut has_slot = false;
@@ -361,9 +390,27 @@ pub(crate) fn choices(
         gather_indexes(known, blocks, &mut gathered)?;
         gather_compared(known, blocks, &mut gathered)?;
     }
+    if reach.is_late {
+        gather_solutions(known, blocks, formula, variable, &mut gathered)?;
+    }
     gather_uses(known, blocks, &mut gathered)?;
     let list = gathered.sorted(blocks.alloc)?;
-    by_number(known, model, &list, allowed)
+    by_number(known, model, &list, reach.nested)
+}
+
+/// Takes a term in among those of its number.
+fn choose(
+    choices: &mut IndexMap<Rational, Choice>,
+    number: Rational,
+    candidate: Candidate,
+) -> Result<(), Stop> {
+    match choices.get_mut(&number) {
+        Some(choice) => choice.append(candidate),
+        None => {
+            choices.insert(number, Choice::alone(number, candidate))?;
+        }
+    }
+    Ok(())
 }
 
 /// Terms by their numbers.
@@ -373,18 +420,19 @@ fn by_number(
     list: &[Candidate],
     allowed: i32,
 ) -> Result<Vec<Choice>, Stop> {
-    let mut choices: IndexMap<Rational, Choice> = IndexMap::new(known.alloc);
+    let mut choices = IndexMap::new(known.alloc);
     for candidate in list {
         if candidate.place.depth < allowed {
             let number = closed_value(known, model, candidate.term)?;
-            let choice = match choices.get(&number) {
-                Some(before) => before.with(*candidate),
-                None => Choice::alone(number, *candidate),
-            };
-            choices.insert(number, choice)?;
+            choose(&mut choices, number, *candidate)?;
         }
     }
-    let mut list = Vec::with_capacity(known.alloc, choices.len())?;
+    listed(known.alloc, &choices)
+}
+
+/// The choices in the order in which they came.
+fn listed(alloc: Global, choices: &IndexMap<Rational, Choice>) -> Result<Vec<Choice>, Stop> {
+    let mut list = Vec::with_capacity(alloc, choices.len())?;
     for (_, choice) in choices.iter() {
         list.push(*choice)?;
     }

@@ -1,11 +1,11 @@
 //! Disequalities and disjunctions that the state breaks, and what is split in the end.
 
-use crate::model::{Model, active_read, live_places, live_variable};
+use crate::model::Model;
 use crate::truth::closed_truth;
 use crate::turn::{Turn, taken};
 use lc_facts::{FactId, Known, Place, Step, Weighed};
 use lc_farkas::Stop;
-use lc_table::{FormulaId, TermId};
+use lc_table::FormulaId;
 use std::alloc::Global;
 
 /// How much farther, as a number, a disjunction is that is undecided.
@@ -81,7 +81,7 @@ impl Noted {
         }
     }
 
-    /// Notes a split behind other steps, if it is better than the one that is noted.
+    /// Notes a split after other steps, if it is better than the one that is noted.
     pub(crate) fn note_behind(&mut self, place: Place, size: u32, before: Vec<Step>, step: Step) {
         let open = step.open_count();
         if self.is_worse_than(place, open, size) {
@@ -93,7 +93,7 @@ impl Noted {
         }
     }
 
-    /// Takes the steps before the split that is noted, and answers it.
+    /// Takes the steps before the split that is noted, and returns it.
     pub(crate) fn chosen(self, known: &mut Known) -> Result<Turn, Stop> {
         let Noted {
             place: _,
@@ -175,7 +175,7 @@ struct Broken {
     key: i64,
 }
 
-/// The disjunctions that the state breaks, near ones first, and behind them those that it leaves undecided.
+/// The disjunctions that the state breaks, near ones first, and after them those that it leaves undecided.
 fn broken_list(known: &mut Known, model: &mut Model) -> Result<Vec<Broken>, Stop> {
     let mut broken = Vec::new(known.alloc);
     for place in 0..known.disjunctions.len() {
@@ -257,42 +257,9 @@ pub(crate) fn cut_by_hints(known: &mut Known, cuts: &[FormulaId]) -> Result<Turn
 }
 
 /// Cuts by a formula.
-fn cut(known: &mut Known, formula: FormulaId) -> Result<Turn, Stop> {
+pub(crate) fn cut(known: &mut Known, formula: FormulaId) -> Result<Turn, Stop> {
     let step = known.cut(formula, Place { rank: 0, depth: 0 })?;
     let step = known.weigh(step)?;
     let weighed = known.sorted(step)?;
     taken(known, weighed)
-}
-
-/// Cuts by a variable or an active read whose number is a fraction.
-pub(crate) fn cut_fractions(known: &mut Known, variables: u32) -> Result<Turn, Stop> {
-    for place in 0..live_places(known, variables) {
-        if let Some(number) = live_variable(known, variables, place) {
-            let variable = known.nodes.variable(number)?;
-            let turn = cut_fraction(known, variable)?;
-            if !turn.is_next() {
-                return Ok(turn);
-            }
-        }
-    }
-    for place in 0..known.active.len() {
-        if let Some(read) = active_read(known, place) {
-            let turn = cut_fraction(known, read)?;
-            if !turn.is_next() {
-                return Ok(turn);
-            }
-        }
-    }
-    Ok(Turn::Next)
-}
-
-fn cut_fraction(known: &mut Known, term: TermId) -> Result<Turn, Stop> {
-    let number = known.tableau.value_of(term);
-    if number.is_whole() {
-        return Ok(Turn::Next);
-    }
-    let below = i64::try_from(number.floor()?).map_err(|_| Stop::Large)?;
-    let below = known.nodes.number(below)?;
-    let formula = known.nodes.le(term, below)?;
-    cut(known, formula)
 }

@@ -1,4 +1,4 @@
-//! What is told of a search that found nothing.
+//! What is reported of a search that found nothing.
 
 use crate::model::{active_read, live_places, live_variable};
 use crate::ranks::GOAL;
@@ -56,7 +56,7 @@ fn goal_witnesses(search: &Search) -> Result<Vec<u32>, Stop> {
     Ok(witnesses)
 }
 
-/// Puts a term and its number behind others; none that nests deeper than a text may.
+/// Appends a term and its number to others; none that nests deeper than a text may.
 fn push_number(search: &Search, term: TermId, numbers: &mut Vec<Counted>) -> Result<(), Stop> {
     let number = search.known.tableau.value_of(term);
     let term = match search.known.nodes.term_tree(&[], term) {

@@ -5,7 +5,8 @@ use crate::blocks::Blocks;
 use crate::counter::{CounterModel, counter_model};
 use crate::model::Model;
 use crate::ranks::{GOAL, rank_of};
-use crate::solving::{Search, solve};
+use crate::reach::Reach;
+use crate::solving::{MOST_CUTS, Search, solve};
 use crate::writing::written;
 use lc_base::OutOfMemory;
 use lc_facts::{FactId, Known, Place, Taken};
@@ -21,7 +22,7 @@ const MOST_SPLITS: u32 = 600;
 /// What a search came to.
 #[derive(Drop)]
 pub enum End {
-    /// A proof, of which nothing is promised.
+    /// A proof, about which nothing is promised.
     Found(Proof),
     /// Nothing is left to be tried.
     NotFound(CounterModel),
@@ -38,10 +39,10 @@ pub struct Searched {
     pub steps: u64,
 }
 
-/// Searches for a proof of a goal, in at most so many steps. The terms and formulas are those of its hints: terms for the
+/// Searches for a proof of a goal, in at most `budget` steps. The terms and formulas are those of its hints: terms for the
 /// variables of quantifiers, and formulas to split by. Variable 0 is taken for the number of clients: it is near to no goal.
 ///
-/// Nothing is promised of a proof that is found: it is to be checked.
+/// Nothing is promised about a proof that is found: it has to be checked.
 pub fn search(
     alloc: Global,
     terms: &Terms,
@@ -59,6 +60,8 @@ pub fn search(
         model: Model::new(alloc),
         blocks: Blocks::new(alloc, variables),
         cuts: Vec::new(alloc),
+        cuts_left: MOST_CUTS,
+        spread_at: usize::MAX,
     };
     let found = begun(&mut search, terms, goal, uses, cuts);
     let steps = budget.saturating_sub(search.known.left);
@@ -88,7 +91,7 @@ fn begun(
     let mark = search.known.mark();
     let found = match search.known.assume(&facts)? {
         Some(proof) => Some(proof),
-        None => solve(search, 1, MOST_SPLITS)?,
+        None => solve(search, Reach::first(), MOST_SPLITS)?,
     };
     match found {
         Some(proof) => {
@@ -100,36 +103,49 @@ fn begun(
     }
 }
 
-/// The facts at the start, near ones first: the negated goal, whose number is behind those of the hypotheses, then these.
+/// The facts at the start, near ones first: the negated goal, whose number comes after those of the hypotheses, then these.
 fn entered(search: &mut Search, terms: &Terms, goal: &Goal) -> Result<Vec<FactId>, Stop>
     requires hypotheses { AreFormulas terms.now goal.now.hypotheses }
     requires goal { IsFormula terms.now goal.now.goal }
 {
     let mut taken = Taken::new(search.known.alloc);
     let mut facts = Vec::new(search.known.alloc);
-    let mut after = Vec::new(search.known.alloc);
     for hypothesis in goal.hypotheses.as_slice() {
-        let formula = search
-            .known
-            .nodes
-            .take_formula(terms, &mut taken, *hypothesis)?;
-        let rank = rank_of(search.known.alloc, &search.known.nodes, formula)?;
-        let fact = search.known.new_fact(formula, Place { rank, depth: 0 })?;
-        if rank > 1 {
-            after.push(fact)?;
-        } else {
-            facts.push(fact)?;
-        }
+        facts.push(entered_hypothesis(search, terms, &mut taken, *hypothesis)?)?;
     }
     let goal = search
         .known
         .nodes
         .take_formula(terms, &mut taken, goal.goal)?;
     let negated = entered_goal(search, goal)?;
-    let mut all = Vec::new(search.known.alloc);
-    all.push(negated)?;
-    all.extend_from_slice(&facts)?;
-    all.extend_from_slice(&after)?;
+    near_first(&search.known, negated, &facts)
+}
+
+/// The fact of a hypothesis.
+fn entered_hypothesis(
+    search: &mut Search,
+    terms: &Terms,
+    taken: &mut Taken,
+    hypothesis: FormulaId,
+) -> Result<FactId, Stop>
+    requires { IsFormula terms.now hypothesis }
+{
+    let formula = search.known.nodes.take_formula(terms, taken, hypothesis)?;
+    let rank = rank_of(search.known.alloc, &search.known.nodes, formula)?;
+    search.known.new_fact(formula, Place { rank, depth: 0 })
+}
+
+/// A fact, and after it others, near ones first.
+fn near_first(known: &Known, first: FactId, others: &[FactId]) -> Result<Vec<FactId>, Stop> {
+    let mut all = Vec::with_capacity(known.alloc, others.len().saturating_add(1))?;
+    all.push(first)?;
+    for is_near in [true, false] {
+        for fact in others {
+            if (known.place(*fact).rank <= 1) == is_near {
+                all.push(*fact)?;
+            }
+        }
+    }
     Ok(all)
 }
 

@@ -3,6 +3,7 @@
 use crate::blocks::Blocks;
 use crate::cases::Noted;
 use crate::model::Model;
+use crate::reach::Reach;
 use crate::tuples::{Instance, wanted};
 use crate::turn::Turn;
 use lc_facts::{Done, FactId, Known, Place, Rule, Step, Weighed};
@@ -12,15 +13,15 @@ use lc_table::{FormulaId, FormulaNode, TermId};
 /// What is noted of an instance that was taken in.
 const INSTANCE: u32 = 2;
 
-/// Tries the instances that do not hold, nested in each other at most so often.
+/// Tries the instances that do not hold and are in reach.
 pub(crate) fn broken_instances(
     known: &mut Known,
     model: &mut Model,
     blocks: &mut Blocks,
-    allowed: i32,
+    reach: Reach,
     noted: &mut Noted,
 ) -> Result<Turn, Stop> {
-    let wishes = wanted(known, model, blocks, allowed)?;
+    let wishes = wanted(known, model, blocks, reach)?;
     for wanted in &wishes.list {
         let turn = try_wanted(known, *wanted, &wishes.terms, noted)?;
         if !turn.is_next() {
@@ -67,7 +68,7 @@ fn step_of(known: &Known, from: FactId, term: TermId, fact: FactId) -> Result<St
     })
 }
 
-/// Takes the steps in that make these formulas by these terms; the last formula's fact is answered.
+/// Takes the steps in that make these formulas by these terms; the last formula's fact is returned.
 fn push_steps(
     known: &mut Known,
     fact: FactId,
@@ -128,6 +129,12 @@ fn is_done(known: &Known, formula: FormulaId) -> bool {
     known.done.contains(&done_with(formula))
 }
 
+/// Whether an instance is known, was taken in before, or has a part that is known.
+fn is_settled(known: &mut Known, formula: FormulaId) -> Result<bool, Stop> {
+    known.nodes.learn_parts(formula)?;
+    Ok(known.has(formula).is_some() || is_done(known, formula) || has_known_part(known, formula))
+}
+
 /// Tries an instance.
 fn try_wanted(
     known: &mut Known,
@@ -144,8 +151,7 @@ fn try_wanted(
     let Some(formula) = formulas.last().copied() else {
         return Ok(Turn::Next);
     };
-    known.nodes.learn_parts(formula)?;
-    if known.has(formula).is_some() || is_done(known, formula) || has_known_part(known, formula) {
+    if is_settled(known, formula)? {
         return Ok(Turn::Next);
     }
     known.tick()?;
@@ -154,13 +160,11 @@ fn try_wanted(
     if is_disjunction(known, formula) {
         return try_disjunction(known, fact, before, wanted.place, noted);
     }
-    let mut facts = Vec::new(known.alloc);
-    facts.push(fact)?;
     known.note(done_with(formula))?;
-    Ok(Turn::after(known.assume(&facts)?))
+    known.assume(&[fact]).map(Turn::after)
 }
 
-/// Tries an instance that is a disjunction, whose steps are taken from a place on. They are taken back where it is a split.
+/// Tries an instance that is a disjunction, whose steps are taken from a place on. They are taken back if it is a split.
 fn try_disjunction(
     known: &mut Known,
     fact: FactId,
@@ -173,7 +177,7 @@ fn try_disjunction(
         Some(Weighed::Closed(proof)) => Ok(Turn::Closed(proof)),
         Some(Weighed::Unit(step)) => {
             known.note(done_with(formula))?;
-            Ok(Turn::after(known.take(step)?))
+            known.take(step).map(Turn::after)
         }
         Some(Weighed::Split(step)) => {
             let steps = taken_back(known, before)?;

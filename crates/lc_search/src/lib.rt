@@ -1,4 +1,4 @@
-//! The search for a proof of one goal: a formula is looked at only where a model of what is known breaks it. Nothing is
+//! The search for a proof of one goal: a formula is looked at only if a model of what is known breaks it. Nothing is
 //! promised of what is found but that looking for it is safe and ends.
 #![tactic(auto)]
 
@@ -8,9 +8,11 @@ mod candidates;
 mod cases;
 mod counter;
 mod entry;
+mod fractions;
 mod instances;
 mod model;
 mod ranks;
+mod reach;
 mod scanning;
 mod solving;
 mod truth;

@@ -18,7 +18,7 @@ struct Told {
     number: Rational,
 }
 
-/// Whether a formula holds, in the state of this stamp; none where a quantifier leaves it undecided.
+/// Whether a formula holds, in the state of this stamp; none if a quantifier leaves it undecided.
 #[derive(Clone, Copy)]
 struct Truth {
     stamp: u64,
@@ -39,7 +39,7 @@ struct Content {
     number: Rational,
 }
 
-/// What a cell has of which no active read tells.
+/// The content of a cell about which no active read says anything.
 fn usual_content(cell: Cell) -> Rational {
     let first = i128::from(cell.column.0)
         .saturating_mul(10_007)
@@ -72,7 +72,7 @@ enum Due {
     Multiply(i64),
     /// What a column has at the index that is the last number.
     Content(ColExprId),
-    /// The same, where the index of the column's outermost store stands behind it.
+    /// The same at the number before the last; the last one is the index of the column's outermost store.
     Compared(ColExprId),
     /// The last number is that of this closed term.
     Tell(TermId),
@@ -85,7 +85,7 @@ pub(crate) struct Model {
     values: Vec<Told>,
     truths: Vec<Truth>,
     cells: IndexMap<Cell, Content>,
-    /// What is due for a number, the next one last, and the numbers that were found for it: a deep term takes nothing of the stack.
+    /// What has to be done for a number, the next one last, and the numbers that were found for it: a deep term takes nothing of the stack.
     due: Vec<Due>,
     numbers: Vec<Rational>,
 }
@@ -124,7 +124,7 @@ impl Model {
         self.cells = IndexMap::new(self.alloc);
     }
 
-    /// The number of a term, if it was told of the state at hand.
+    /// The number of a term, if it is known in the present state.
     fn told_value(&self, term: TermId) -> Option<Rational> {
         match self.values.get(term.0 as usize) {
             Some(value) if value.stamp == self.stamp => Some(value.number),
@@ -147,7 +147,7 @@ impl Model {
         Ok(())
     }
 
-    /// Whether a formula holds, if it was told of the state at hand.
+    /// Whether a formula holds, if that is known in the present state.
     pub(crate) fn told_truth(&self, formula: FormulaId) -> Option<Option<bool>> {
         match self.truths.get(formula.0 as usize) {
             Some(truth) if truth.stamp == self.stamp => Some(truth.holds),
@@ -184,14 +184,14 @@ impl Model {
         Ok(())
     }
 
-    /// A term is due, and then what is made of its number.
+    /// Puts off a term, and then what is made of its number.
     fn await_term(&mut self, whole: Due, term: TermId) -> Result<(), Stop> {
         self.due.push(whole)?;
         self.due.push(Due::Term(term))?;
         Ok(())
     }
 
-    /// Two terms are due, and then what is made of their numbers.
+    /// Puts off two terms, and then what is made of their numbers.
     fn await_terms(&mut self, whole: Due, left: TermId, right: TermId) -> Result<(), Stop> {
         self.due.push(whole)?;
         self.due.push(Due::Term(right))?;
@@ -208,7 +208,7 @@ impl Model {
         }
     }
 
-    /// Puts the number of a read into a cell. Another read that has put another number there is answered.
+    /// Puts the number of a read into a cell. Another read that has put another number there is returned.
     fn fill(&mut self, cell: Cell, content: Content) -> Result<Option<TermId>, Stop> {
         if let Some(before) = self.cells.get(&cell) {
             let before = *before;
@@ -230,12 +230,12 @@ pub(crate) fn active_read(known: &Known, place: usize) -> Option<TermId> {
     }
 }
 
-/// How many places `live_variable` has, where the goal has so many variables.
+/// How many places `live_variable` has, if the goal has `variables` variables.
 pub(crate) fn live_places(known: &Known, variables: u32) -> usize {
     (variables as usize).saturating_add(known.steps.len())
 }
 
-/// The variable at a place: those of the goal, and behind them those that live steps made. (A variable that was made on a branch
+/// The variable at a place: those of the goal, and after them those that live steps made. (A variable that was made on a branch
 /// that is left is none.)
 pub(crate) fn live_variable(known: &Known, variables: u32, place: usize) -> Option<u32> {
     let Some(step) = place.checked_sub(variables as usize) else {
@@ -261,7 +261,7 @@ pub(crate) fn base_read(known: &Known, read: TermId) -> Option<(ColId, TermId)> 
     }
 }
 
-/// Makes the state of the numbers that the tableau has now, and answers the reads that contradict each other.
+/// Makes the state of the numbers that the tableau has now, and returns the reads that contradict each other.
 pub(crate) fn fill_model(known: &mut Known, model: &mut Model) -> Result<Vec<Clash>, Stop> {
     model.restart();
     let mut clashes = Vec::new(known.alloc);
@@ -285,7 +285,7 @@ fn fill_read(known: &mut Known, model: &mut Model, read: TermId) -> Result<Optio
     model.fill(Cell { column, index }, Content { read, number })
 }
 
-/// The number of a bound variable: that of the innermost stands last.
+/// The number of a bound variable: that of the innermost is last.
 fn bound_value(bound: &[Rational], number: u32) -> Rational {
     let place = bound.len().checked_sub((number as usize).saturating_add(1));
     match place.and_then(|place| bound.get(place)) {
@@ -294,7 +294,7 @@ fn bound_value(bound: &[Rational], number: u32) -> Rational {
     }
 }
 
-/// The number of a term in the state, where these are the numbers of its bound variables.
+/// The number of a term in the state, if these are the numbers of its bound variables.
 pub(crate) fn value(
     known: &Known,
     model: &mut Model,
@@ -313,7 +313,7 @@ pub(crate) fn value(
     Err(Stop::Spent)
 }
 
-/// Does what is due.
+/// Does the next step.
 fn go_on(known: &Known, model: &mut Model, due: Due, bound: &[Rational]) -> Result<(), Stop> {
     match due {
         Due::Term(term) => number_term(known, model, term, bound),
@@ -341,7 +341,7 @@ fn go_on(known: &Known, model: &mut Model, due: Due, bound: &[Rational]) -> Resu
     }
 }
 
-/// The number of a term that was told, or that has no parts; the parts of another one are due.
+/// The number of a term that is known, or that has no parts; the parts of another one are put off.
 fn number_term(
     known: &Known,
     model: &mut Model,
@@ -376,8 +376,8 @@ fn number_content(known: &Known, model: &mut Model, column: ColExprId) -> Result
     model.put_number(content)
 }
 
-/// Compares the index of a column's outermost store with that behind which it stands: what is stored there is due, or what the
-/// column below has.
+/// Compares the index of a column's outermost store, the last number, with the one before it: next is what is stored there, or what
+/// the column below has.
 fn compare_index(known: &Known, model: &mut Model, column: ColExprId) -> Result<(), Stop> {
     let place = model.number()?;
     let index = model.number()?;

@@ -11,7 +11,7 @@ pub(crate) const GOAL: i32 = 0;
 /// The rank of hypotheses.
 pub(crate) const HYPOTHESIS: i32 = 1;
 
-/// The rank of what holds of the state behind an action.
+/// The rank of what holds of the state after an action.
 pub(crate) const AFTER: i32 = 2;
 
 /// A part of a hypothesis that is still to be looked at. It waits in a list, so that a deep hypothesis takes nothing of the stack.
@@ -21,7 +21,7 @@ enum Due {
     Term(TermId),
 }
 
-/// The rank of a hypothesis: what speaks of columns that are built tells of the state behind an action.
+/// The rank of a hypothesis: one about columns that are built says something about the state after an action.
 pub(crate) fn rank_of(alloc: Global, nodes: &Nodes, hypothesis: FormulaId) -> Result<i32, Stop> {
     let mut due = Vec::new(alloc);
     due.push(Due::Formula(hypothesis))?;
@@ -40,7 +40,7 @@ pub(crate) fn rank_of(alloc: Global, nodes: &Nodes, hypothesis: FormulaId) -> Re
     Err(Stop::Spent)
 }
 
-/// The parts of a formula are due.
+/// Puts the parts of a formula into `due`.
 fn await_parts(nodes: &Nodes, formula: FormulaId, due: &mut Vec<Due>) -> Result<(), Stop> {
     match nodes.formula_node(formula) {
         Some(FormulaNode::Le(left, right)) | Some(FormulaNode::Eq(left, right)) => {
@@ -64,7 +64,7 @@ fn await_parts(nodes: &Nodes, formula: FormulaId, due: &mut Vec<Due>) -> Result<
     Ok(())
 }
 
-/// The parts of a term are due, and the index of a read.
+/// Puts the parts of a term into `due`, and the index of a read.
 fn await_terms(nodes: &Nodes, term: TermId, due: &mut Vec<Due>) -> Result<(), Stop> {
     match nodes.term_node(term) {
         Some(TermNode::Add(left, right)) | Some(TermNode::Subtract(left, right)) => {

@@ -1,4 +1,4 @@
-//! Where columns are read and stored to in the body of a quantifier.
+//! Where columns are read and stored to in the body of a quantifier, and what is compared in it.
 
 use lc_base::ColId;
 use lc_facts::Nodes;
@@ -6,12 +6,27 @@ use lc_farkas::Stop;
 use lc_table::{ColExprId, FormulaId, FormulaNode, TermId, TermNode};
 use std::alloc::Global;
 
-/// An index under a base column, with the number of quantifiers of the body that stand round it.
+/// An index under a base column, with the number of quantifiers of the body around it.
 #[derive(Clone, Copy)]
 pub(crate) struct Place {
     pub(crate) column: ColId,
     pub(crate) index: TermId,
     pub(crate) level: u32,
+}
+
+/// Two terms that are compared, with the number of quantifiers of the body that enclose the comparison.
+#[derive(Clone, Copy)]
+pub(crate) struct Comparison {
+    pub(crate) left: TermId,
+    pub(crate) right: TermId,
+    pub(crate) level: u32,
+}
+
+/// What was found in the body of a quantifier.
+#[derive(Drop)]
+pub(crate) struct Scanned {
+    pub(crate) indexes: Vec<Place>,
+    pub(crate) comparisons: Vec<Comparison>,
 }
 
 /// A part of the body, round which so many of its quantifiers stand.
@@ -27,14 +42,14 @@ enum Part {
     Term(TermId),
     /// An index under a column, if it is under one.
     Index(Option<ColId>, TermId),
-    /// The stores of a column expression, of which the first stores in this column.
+    /// The stores of a column expression, the first of which stores in this column.
     Stores(Option<ColId>, ColExprId),
 }
 
 /// What is still to be looked at. It waits in a list, the next one last, so that a deep body takes nothing of the stack.
 struct Scan {
     due: Vec<Due>,
-    found: Vec<Place>,
+    found: Scanned,
 }
 
 impl Drop for Scan {
@@ -43,15 +58,14 @@ impl Drop for Scan {
     }
 }
 
-/// The indexes in a formula that have a variable from outside of it.
-pub(crate) fn indexes_in(
-    alloc: Global,
-    nodes: &Nodes,
-    formula: FormulaId,
-) -> Result<Vec<Place>, Stop> {
+/// The indexes and the comparisons in a formula that have a variable from outside of it.
+pub(crate) fn found_in(alloc: Global, nodes: &Nodes, formula: FormulaId) -> Result<Scanned, Stop> {
     let mut scan = Scan {
         due: Vec::new(alloc),
-        found: Vec::new(alloc),
+        found: Scanned {
+            indexes: Vec::new(alloc),
+            comparisons: Vec::new(alloc),
+        },
     };
     scan.await_part(Part::Formula(formula), 0)?;
     for _ in 0..u64::MAX {
@@ -65,7 +79,7 @@ pub(crate) fn indexes_in(
 
 impl Scan {
     /// What was found.
-    fn found(self) -> Vec<Place> {
+    fn found(self) -> Scanned {
         let Scan { due: _, found } = self;
         found
     }
@@ -75,7 +89,7 @@ impl Scan {
         Ok(())
     }
 
-    /// Two terms are due.
+    /// Puts off two terms.
     fn await_terms(&mut self, left: TermId, right: TermId, level: u32) -> Result<(), Stop> {
         self.await_part(Part::Term(right), level)?;
         self.await_part(Part::Term(left), level)
@@ -91,7 +105,7 @@ impl Scan {
         }
     }
 
-    /// The parts of a formula are due, if a variable from outside stands in it.
+    /// Puts off the parts of a formula, if a variable from outside occurs in it.
     fn look_at_formula(
         &mut self,
         nodes: &Nodes,
@@ -103,7 +117,11 @@ impl Scan {
         }
         match nodes.formula_node(formula) {
             Some(FormulaNode::Le(left, right)) | Some(FormulaNode::Eq(left, right)) => {
-                self.await_terms(*left, *right, level)
+                let (left, right) = (*left, *right);
+                self.found
+                    .comparisons
+                    .push(Comparison { left, right, level })?;
+                self.await_terms(left, right, level)
             }
             Some(FormulaNode::Not(inner)) => self.await_part(Part::Formula(*inner), level),
             Some(FormulaNode::And(parts)) | Some(FormulaNode::Or(parts)) => {
@@ -123,7 +141,7 @@ impl Scan {
         }
     }
 
-    /// The parts of a term are due, if a variable from outside stands in it.
+    /// Puts off the parts of a term, if a variable from outside occurs in it.
     fn look_at_term(&mut self, nodes: &Nodes, term: TermId, level: u32) -> Result<(), Stop> {
         if nodes.term_loose(term) <= level {
             return Ok(());
@@ -142,7 +160,7 @@ impl Scan {
         }
     }
 
-    /// Takes an index in, if it is under a column. What stands in it is due.
+    /// Takes an index in, if it is under a column, and puts off its parts.
     fn look_at_index(
         &mut self,
         nodes: &Nodes,
@@ -153,7 +171,7 @@ impl Scan {
         if nodes.term_loose(index) > level
             && let Some(column) = column
         {
-            self.found.push(Place {
+            self.found.indexes.push(Place {
                 column,
                 index,
                 level,
@@ -162,7 +180,7 @@ impl Scan {
         self.await_part(Part::Term(index), level)
     }
 
-    /// The index of a store and what it stores there are due, and then the stores below it.
+    /// Puts off the index of a store and what it stores there, and then the stores below it.
     fn look_at_store(
         &mut self,
         nodes: &Nodes,

@@ -2,16 +2,18 @@
 
 use crate::axioms::{broken_axioms, read_axioms};
 use crate::blocks::Blocks;
-use crate::cases::{Noted, broken_disequalities, broken_disjunctions, cut_by_hints, cut_fractions};
+use crate::cases::{Noted, broken_disequalities, broken_disjunctions, cut_by_hints};
+use crate::fractions::{cut_fraction, tightest_fraction};
 use crate::instances::broken_instances;
 use crate::model::Model;
+use crate::reach::Reach;
 use crate::turn::Turn;
 use lc_facts::{FactId, Known, ProofId, Step};
 use lc_farkas::Stop;
 use lc_table::FormulaId;
 
-/// How deep instances are nested in each other at most.
-const MOST_NESTED: i32 = 6;
+/// How many cuts at fractions may follow one another on a branch: along an unbounded line there is no end of them.
+pub(crate) const MOST_CUTS: u32 = 64;
 
 /// What the search has at hand.
 pub(crate) struct Search {
@@ -19,6 +21,10 @@ pub(crate) struct Search {
     pub(crate) model: Model,
     pub(crate) blocks: Blocks,
     pub(crate) cuts: Vec<FormulaId>,
+    /// How many cuts at fractions this branch may still make.
+    pub(crate) cuts_left: u32,
+    /// How many facts were live as numbers were spread: as long as no fact comes, numbers that were made whole stay so.
+    pub(crate) spread_at: usize,
 }
 
 impl Drop for Search {
@@ -28,6 +34,8 @@ impl Drop for Search {
             model: _,
             blocks: _,
             cuts: _,
+            cuts_left: _,
+            spread_at: _,
         } = self;
     }
 }
@@ -50,7 +58,7 @@ fn try_ground(search: &mut Search, noted: &mut Noted) -> Result<Turn, Stop> {
 }
 
 /// Uses hints and instances.
-fn try_instances(search: &mut Search, allowed: i32, noted: &mut Noted) -> Result<Turn, Stop> {
+fn try_instances(search: &mut Search, reach: Reach, noted: &mut Noted) -> Result<Turn, Stop> {
     let turn = cut_by_hints(&mut search.known, &search.cuts)?;
     if !turn.is_next() || noted.is_of_goal() {
         return Ok(turn);
@@ -59,21 +67,48 @@ fn try_instances(search: &mut Search, allowed: i32, noted: &mut Noted) -> Result
         &mut search.known,
         &mut search.model,
         &mut search.blocks,
-        allowed,
+        reach,
         noted,
     )
 }
 
-/// One round of the rules, with instances that are nested in each other at most so often.
-fn pass(search: &mut Search, allowed: i32) -> Result<Turn, Stop> {
+/// Cuts at a fraction, if the branch may still make a cut.
+fn try_fractions(search: &mut Search) -> Result<Turn, Stop> {
+    if search.known.tableau.make_whole()? {
+        return Ok(Turn::Again);
+    }
+    let Some(fraction) = tightest_fraction(&mut search.known, search.blocks.variables)? else {
+        return Ok(Turn::Next);
+    };
+    search.cuts_left = search.cuts_left.checked_sub(1).ok_or(Stop::Spent)?;
+    cut_fraction(&mut search.known, fraction)
+}
+
+/// How much a round looks at, whatever it finds.
+fn looked_at(known: &Known) -> usize {
+    known
+        .steps
+        .len()
+        .saturating_add(known.have.len())
+        .saturating_add(known.active.len())
+}
+
+/// One round of the rules, with the instances in reach.
+fn pass(search: &mut Search, reach: Reach) -> Result<Turn, Stop> {
     search.known.tick()?;
-    search.known.tableau.spread()?;
+    let units = looked_at(&search.known);
+    search.known.tableau.spend(units)?;
+    let live = search.known.have.len();
+    if search.spread_at != live {
+        search.known.tableau.spread()?;
+        search.spread_at = live;
+    }
     let mut noted = Noted::nothing(search.known.alloc);
     let turn = try_ground(search, &mut noted)?;
     if !turn.is_next() {
         return Ok(turn);
     }
-    let turn = try_instances(search, allowed, &mut noted)?;
+    let turn = try_instances(search, reach, &mut noted)?;
     if !turn.is_next() {
         return Ok(turn);
     }
@@ -81,32 +116,30 @@ fn pass(search: &mut Search, allowed: i32) -> Result<Turn, Stop> {
     if !turn.is_next() {
         return Ok(turn);
     }
-    cut_fractions(&mut search.known, search.blocks.variables)
+    try_fractions(search)
 }
 
-/// Searches for a contradiction of what is known; none where nothing is left to be tried. So many splits may be nested in each
-/// other.
+/// Searches for a contradiction of what is known; none if nothing is left to be tried. At most `nesting` splits may be nested in
+/// each other.
 #[cycle(solve)]
 pub(crate) fn solve(
     search: &mut Search,
-    allowed: i32,
+    reach: Reach,
     nesting: u32,
 ) -> Result<Option<ProofId>, Stop> {
-    let mut allowed = allowed;
+    let mut reach = reach;
     if nesting == 0 {
         return Err(Stop::Spent);
     }
     for _ in 0..search.known.left {
-        match pass(search, allowed)? {
+        match pass(search, reach)? {
             Turn::Again => {}
             Turn::Closed(proof) => return Ok(Some(proof)),
-            Turn::Split(step) => return split(search, step, allowed, nesting - 1),
-            Turn::Next => {
-                if allowed >= MOST_NESTED {
-                    return Ok(None);
-                }
-                allowed = allowed.saturating_add(1);
-            }
+            Turn::Split(step) => return split(search, step, reach, nesting - 1),
+            Turn::Next => match reach.next() {
+                Some(next) => reach = next,
+                None => return Ok(None),
+            },
         }
     }
     Err(Stop::Spent)
@@ -130,7 +163,7 @@ fn open_branch(search: &Search, step: &Step, place: usize) -> Result<Option<Vec<
 fn split(
     search: &mut Search,
     step: Step,
-    allowed: i32,
+    reach: Reach,
     nesting: u32,
 ) -> Result<Option<ProofId>, Stop> {
     let mut step = step;
@@ -139,7 +172,7 @@ fn split(
     }
     for place in 0..step.sides.len() {
         if let Some(facts) = open_branch(search, &step, place)? {
-            let Some(proof) = solve_branch(search, &facts, allowed, nesting - 1)? else {
+            let Some(proof) = solve_branch(search, &facts, reach, nesting - 1)? else {
                 return Ok(None);
             };
             if !search.known.uses_any(proof, &facts) {
@@ -150,15 +183,16 @@ fn split(
             }
         }
     }
-    Ok(Some(search.known.close(step)?))
+    search.known.close(step).map(Some)
 }
 
-/// Searches for a contradiction of what is known and these facts. Where there is none, all stays as it was found.
+/// Searches for a contradiction of what is known and these facts. If there is none, all stays as it was found. What the branch
+/// used of the cuts is given back.
 #[cycle(solve)]
 fn solve_branch(
     search: &mut Search,
     facts: &[FactId],
-    allowed: i32,
+    reach: Reach,
     nesting: u32,
 ) -> Result<Option<ProofId>, Stop> {
     if nesting == 0 {
@@ -166,10 +200,12 @@ fn solve_branch(
     }
     let trial = search.known.start_trial()?;
     let mark = trial.mark;
+    let cuts_left = search.cuts_left;
     let found = match search.known.assume(facts)? {
         Some(proof) => Some(proof),
-        None => solve(search, allowed, nesting - 1)?,
+        None => solve(search, reach, nesting - 1)?,
     };
+    search.cuts_left = cuts_left;
     let Some(proof) = found else {
         return Ok(None);
     };

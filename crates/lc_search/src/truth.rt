@@ -5,7 +5,7 @@ use lc_facts::Known;
 use lc_farkas::{Rational, Stop};
 use lc_table::{FormulaId, FormulaNode};
 
-/// Whether a closed formula holds; none where a quantifier leaves it undecided.
+/// Whether a closed formula holds; none if a quantifier leaves it undecided.
 pub(crate) fn closed_truth(
     known: &Known,
     model: &mut Model,
@@ -14,7 +14,7 @@ pub(crate) fn closed_truth(
     truth(known, model, formula, &[], DEEPEST)
 }
 
-/// Whether a formula holds, where these are the numbers of its bound variables.
+/// Whether a formula holds, if these are the numbers of its bound variables.
 #[cycle(truth)]
 pub(crate) fn truth(
     known: &Known,

@@ -1,10 +1,11 @@
 //! Terms for all variables of a block, with which its body does not hold in the state.
 
 use crate::blocks::Blocks;
-use crate::candidates::{Choice, choices};
+use crate::candidates::{Choice, MOST_ALIKE, choices};
 use crate::cases::key_of;
 use crate::model::{DEEPEST, Model};
 use crate::ranks::AFTER;
+use crate::reach::Reach;
 use crate::truth::truth;
 use lc_facts::{FactId, Known, Place};
 use lc_farkas::{Rational, Stop};
@@ -13,13 +14,10 @@ use lc_table::{FormulaId, TermId};
 /// How many tuples of numbers are looked at in a block: a block that has more is left out.
 const MOST_TUPLES: usize = 20_000;
 
-/// How many tuples of terms of the same numbers are tried.
-const MOST_ALIKE: usize = 3;
-
 /// How much farther an instance is that is not decided by the state.
 const UNDECIDED: i32 = 5;
 
-/// An instance that is to be tried: so many terms of a list, from a place on, the one of the outermost variable first.
+/// An instance that is to be tried: `count` terms of a list, from a place on, the one of the outermost variable first.
 #[derive(Clone, Copy)]
 pub(crate) struct Instance {
     pub(crate) fact: FactId,
@@ -46,7 +44,7 @@ fn choices_of_block(
     model: &mut Model,
     blocks: &mut Blocks,
     formula: FormulaId,
-    allowed: i32,
+    reach: Reach,
 ) -> Result<Vec<Vec<Choice>>, Stop> {
     let count = match blocks.block(formula) {
         Some(block) => block.count,
@@ -55,7 +53,7 @@ fn choices_of_block(
     let mut all = Vec::new(known.alloc);
     for outer in 0..count {
         let variable = count - 1 - outer;
-        all.push(choices(known, model, blocks, formula, variable, allowed)?)?;
+        all.push(choices(known, model, blocks, formula, variable, reach)?)?;
     }
     Ok(all)
 }
@@ -101,19 +99,22 @@ fn alike(tuple: &[Choice]) -> usize {
     most.min(MOST_ALIKE)
 }
 
-/// Takes instances in: the terms of a tuple.
-fn wish(
-    wishes: &mut Wishes,
+/// A fact whose instances are to be tried, nested in each other at most so often.
+#[derive(Clone, Copy)]
+struct Wished {
     fact: FactId,
     base: Place,
+    /// How much farther its instances are than the terms in them.
     rise: i32,
-    tuple: &[Choice],
     allowed: i32,
-) -> Result<(), Stop> {
+}
+
+/// Takes instances in: the terms of a tuple.
+fn wish(wishes: &mut Wishes, wished: Wished, tuple: &[Choice]) -> Result<(), Stop> {
     for at in 0..alike(tuple) {
         let first = wishes.terms.len();
         let mut rank: i32 = 0;
-        let mut depth = base.depth;
+        let mut depth = wished.base.depth;
         for choice in tuple {
             let candidate = choice.at(at);
             rank = candidate.place.rank.max(rank);
@@ -121,12 +122,12 @@ fn wish(
             wishes.terms.push(candidate.term)?;
         }
         let place = Place {
-            rank: rank.saturating_add(rise),
+            rank: rank.saturating_add(wished.rise),
             depth: depth.saturating_add(1),
         };
-        if place.depth <= allowed {
+        if place.depth <= wished.allowed {
             wishes.list.push(Instance {
-                fact,
+                fact: wished.fact,
                 place,
                 first,
                 count: tuple.len(),
@@ -136,19 +137,38 @@ fn wish(
     Ok(())
 }
 
+/// Takes the instances of a tuple in, unless the body of the block holds with its numbers.
+fn wish_of_tuple(
+    known: &Known,
+    model: &mut Model,
+    wished: Wished,
+    body: FormulaId,
+    tuple: &[Choice],
+    numbers: &mut Vec<Rational>,
+    wishes: &mut Wishes,
+) -> Result<(), Stop> {
+    numbers_of(tuple, numbers)?;
+    let rise = match truth(known, model, body, numbers, DEEPEST)? {
+        Some(true) => return Ok(()),
+        Some(false) => wished.rise,
+        None => wished.rise.saturating_add(UNDECIDED),
+    };
+    wish(wishes, Wished { rise, ..wished }, tuple)
+}
+
 /// Takes in the instances of a block that do not hold.
 fn wish_of_block(
     known: &mut Known,
     model: &mut Model,
     blocks: &mut Blocks,
     fact: FactId,
-    allowed: i32,
+    reach: Reach,
     wishes: &mut Wishes,
 ) -> Result<(), Stop> {
     let formula = known.fact(fact).formula;
     let base = known.place(fact);
     blocks.learn(&mut known.nodes, formula)?;
-    let all = choices_of_block(known, model, blocks, formula, allowed)?;
+    let all = choices_of_block(known, model, blocks, formula, reach)?;
     let Some(block) = blocks.block(formula) else {
         return Ok(());
     };
@@ -157,24 +177,19 @@ fn wish_of_block(
     if count > MOST_TUPLES || all.is_empty() {
         return Ok(());
     }
+    known.tableau.spend(count)?;
     let rise = if base.rank == AFTER { 2 } else { 1 };
+    let wished = Wished {
+        fact,
+        base,
+        rise,
+        allowed: reach.nested,
+    };
     let mut tuple = Vec::new(known.alloc);
     let mut numbers = Vec::new(known.alloc);
     for place in 0..count {
         tuple_at(&all, place, &mut tuple)?;
-        numbers_of(&tuple, &mut numbers)?;
-        match truth(known, model, body, &numbers, DEEPEST)? {
-            Some(true) => {}
-            Some(false) => wish(wishes, fact, base, rise, &tuple, allowed)?,
-            None => wish(
-                wishes,
-                fact,
-                base,
-                rise.saturating_add(UNDECIDED),
-                &tuple,
-                allowed,
-            )?,
-        }
+        wish_of_tuple(known, model, wished, body, &tuple, &mut numbers, wishes)?;
     }
     Ok(())
 }
@@ -184,12 +199,12 @@ fn forall_at(known: &Known, place: usize) -> Option<FactId> {
     known.foralls.get(place).copied()
 }
 
-/// The instances that do not hold, nested in each other at most so often, near ones first.
+/// The instances that do not hold and are in reach, near ones first.
 pub(crate) fn wanted(
     known: &mut Known,
     model: &mut Model,
     blocks: &mut Blocks,
-    allowed: i32,
+    reach: Reach,
 ) -> Result<Wishes, Stop> {
     let mut wishes = Wishes {
         list: Vec::new(known.alloc),
@@ -197,7 +212,7 @@ pub(crate) fn wanted(
     };
     for place in 0..known.foralls.len() {
         if let Some(fact) = forall_at(known, place) {
-            wish_of_block(known, model, blocks, fact, allowed, &mut wishes)?;
+            wish_of_block(known, model, blocks, fact, reach, &mut wishes)?;
         }
     }
     wishes.list.sort_by_key(|wanted| key_of(wanted.place))?;

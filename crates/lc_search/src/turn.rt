@@ -31,11 +31,11 @@ impl Turn {
     }
 }
 
-/// A step of which the branches were weighed: taken where at most one is open.
+/// A step whose branches were weighed: taken if at most one is open.
 pub(crate) fn taken(known: &mut Known, weighed: Weighed) -> Result<Turn, Stop> {
     match weighed {
         Weighed::Closed(proof) => Ok(Turn::Closed(proof)),
-        Weighed::Unit(step) => Ok(Turn::after(known.take(step)?)),
+        Weighed::Unit(step) => known.take(step).map(Turn::after),
         Weighed::Split(step) => Ok(Turn::Split(step)),
     }
 }

@@ -5,7 +5,7 @@ use lc_facts::{FactId, Known, Made, ProofId, Rule};
 use lc_farkas::Stop;
 use lc_kernel::{Multiple, Proof, SameAccess, Step, StoredAccess};
 
-/// The numbers that hypotheses and variables have where a proof is written.
+/// The numbers that hypotheses and variables have when a proof is written.
 struct Numbering {
     /// Of each fact, the number of its hypothesis.
     hypotheses: Vec<i64>,
@@ -27,7 +27,7 @@ impl Drop for Numbering {
 }
 
 impl Numbering {
-    /// Of so many hypotheses, which are the first facts, with the negated goal behind them, and of so many variables.
+    /// For `count` hypotheses, which are the first facts, with the negated goal after them, and for `variables` variables.
     fn new(known: &Known, count: usize, variables: u32) -> Result<Numbering, Stop> {
         let mut numbering = Numbering {
             hypotheses: Vec::new(known.alloc),
@@ -81,7 +81,7 @@ impl Numbering {
     }
 }
 
-/// A proof whose first hypotheses are the first facts, with the negated goal behind them; none that nests deeper than a text may.
+/// A proof whose first hypotheses are the first facts, with the negated goal after them; none that nests deeper than a text may.
 pub(crate) fn written(
     known: &Known,
     proof: ProofId,
@@ -97,8 +97,8 @@ pub(crate) fn written(
     }
 }
 
-/// Puts a proof behind others: a list of steps of one branch each, and what stands below them. Steps and proofs are large, and
-/// are made in functions that stand apart, so that each level of a proof takes little of the stack. So many steps may be nested.
+/// Appends a proof to others: a list of steps of one branch each, and what is below them. Steps and proofs are large, and are
+/// made in functions of their own, so that each level of a proof takes little of the stack. At most `deep` steps may be nested.
 #[cycle(write)]
 fn write(
     known: &Known,
@@ -118,7 +118,7 @@ fn write(
     push_steps(known, steps, branches, proofs)
 }
 
-/// Puts the step of a proof behind others.
+/// Appends the step of a proof to others.
 #[inline(never)]
 fn push_step(
     known: &Known,
@@ -130,7 +130,7 @@ fn push_step(
     Ok(())
 }
 
-/// Writes the steps of one branch that a proof begins with, so many at most; the proof below them is answered.
+/// Writes the steps of one branch that a proof begins with, at most `most`; the proof below them is returned.
 #[inline(never)]
 fn chain(
     known: &Known,
@@ -156,7 +156,7 @@ fn chain(
     Ok(proof)
 }
 
-/// Puts a proof behind others: steps, of which the last has these branches, and each other one has the next one below it.
+/// Appends a proof to others: steps, the last with these branches, and each other one with the next one below it.
 #[inline(never)]
 fn push_steps(
     known: &Known,
@@ -179,7 +179,7 @@ fn push_steps(
     Ok(())
 }
 
-/// The proofs of the branches of a step, each of which begins with the same numbers.
+/// The proofs of the branches of a step, each beginning with the same numbers.
 #[cycle(write)]
 fn write_each(
     known: &Known,

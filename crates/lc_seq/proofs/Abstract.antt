@@ -86,7 +86,7 @@ length-values : (s : State) (e : Env) (ts : List Term) → length (values_of s e
 length-values s e [] = refl
 length-values s e (t ∷ ts) = ap suc (length-values s e ts)
 
--- a branch stores in the first n columns, and has so many replies
+-- a branch stores in the first n columns, and has this number of replies
 pub record IsRun (n replies : ℕ) (ws : List Write) (vs : List ℤ) : Type 0 where
   pub columns : Every (λ (w : Write). w.column < n) ws
   pub count : length vs ≡ replies
@@ -129,7 +129,7 @@ pub stored-abstract : (n : ℕ) (s : State) (ws : List Write) → Every (λ (w :
 stored-abstract n s [] h = refl
 stored-abstract n s (w ∷ ws) h = stored-abstract n (with_cell s w.column w.index w.value) ws h.1 ∙ ap (λ t. stored_all t ws) (cell-abstract n s w.column w.index w.value h.0)
 
--- the same where those columns are the same
+-- the same if those columns are the same
 pub same-abstract : (n : ℕ) (s t : State) → ((c : ℕ) → c < n → s c ≡ t c) → abstract_of n s ≡ abstract_of n t
 same-abstract n s t h = fun_ext (λ c. by c (nat_lt c n) refl)
   where

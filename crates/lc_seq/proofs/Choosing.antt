@@ -54,7 +54,7 @@ chosen-every P by (b ∷ bs) h = go (chosen-every P by bs h.1) (agree b.label by
     go rest true = (h.0, rest)
     go rest false = rest
 
--- each is resolved, with its own parameters behind n variables
+-- each is resolved, with its own parameters after n variables
 abbrev pub resolved_behind : ℕ → ℕ → Branch → Bool
 resolved_behind columns n b = branch_is_resolved columns (n + length (given_in b.label)) b
 

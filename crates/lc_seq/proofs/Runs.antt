@@ -41,7 +41,7 @@ pub handed_on : {X Y : Type 0} (view : X → Y) (fits : Type 0) (wanted : Y) (r 
 handed_on view fits wanted (Ok x) fault e known = absurd e
 handed_on view fits wanted (Err y) fault e known = subst (λ z. IsComputed seq_says view fits wanted (Err z)) (sym e) known
 
--- the same of another thing that is computed, which fits where this one does
+-- the same for another thing that is computed, and that fits if this one does
 pub handed_up : {X Y Z W : Type 0} (view : X → Y) (fits : Type 0) (wanted : Y) (up : Z → W) (all : Type 0) (whole : W) (r : Result Z SeqFault) (fault : SeqFault)
     → IsErrAnd r (λ y. y ≡ fault) → (all → fits) → IsComputed seq_says view fits wanted (Err fault) → IsComputed seq_says up all whole r
 handed_up view fits wanted up all whole r Overflow e part known = handed_on up all whole r Overflow e (λ f. known (part f))
@@ -63,7 +63,7 @@ valued_next s e columns variables whole t rest values more v are fit made is = r
   made = ap (λ ys. ys ++ values_of s e rest) made ∙ append_assoc values (v ∷ []) (values_of s e rest) ∙ ap (λ z. values ++ z ∷ values_of s e rest) is ∙ are.made;
 }
 
--- what updates of so many columns store belongs to these
+-- what updates that name the first `columns` columns store belongs to these
 pub writes-within : (s : State) (e : Env) (columns variables : ℕ) (us : List Update) → list_all (update_is_resolved columns variables) us ≡ true → AreWithin columns (writes_of s e us)
 writes-within s e columns variables [] all = tt
 writes-within s e columns variables (u ∷ us) all =
@@ -119,7 +119,7 @@ run_next s e columns variables whole b rest are fit is = record {
   runs = ap (λ t. if t then Some (writes_of s e b.updates, values_of s e b.replies) else run s e rest) (sym is) ∙ are.runs;
 }
 
--- the branch that is taken fits where the whole does
+-- the branch that is taken fits if the whole does
 pub taken_fits : (s : State) (e : Env) (columns variables : ℕ) (whole : List Branch) (b : Branch) (rest : List Branch) → AreRun s e columns variables whole (b ∷ rest)
     → truth s e outside b.guard ≡ true → RunFits s e whole → UpdatesFit s e b.updates × TermsFit s e b.replies
 taken_fits s e columns variables whole b rest are is w =
@@ -160,7 +160,7 @@ resolved_in columns operations i n by all = chosen-resolved columns (2 + n) by (
             let branches = and_left (list_all (resolved_behind columns (2 + length o.arguments)) o.branches) (list_all (λ b. length b.replies == o.replies) o.branches) whole in
             subst (λ m. list_all (resolved_behind columns (2 + m)) o.branches ≡ true) (elim (eqb_tells (length o.arguments) n) [ inl h ↦ h.1 | inr h ↦ absurd (cc (h.0, is)) ]) branches
 
--- what is computed of a call's branches is what is answered to the call
+-- what is computed of a call's branches is what is returned for the call
 pub computed_at : (s t : State) (e f : Env) (bs cs : List Branch) (r : Result (Option Outcome) SeqFault) → s ≡ t → e ≡ f → bs ≡ cs
     → IsComputed seq_says outcome_in (RunFits s e bs) (run s e bs) r → IsComputed seq_says outcome_in (RunFits t f cs) (run t f cs) r
 computed_at s t e f bs cs r same env branches known =

@@ -42,7 +42,7 @@ both false b e f = e
 abbrev the_call : ℕ → List ℤ → Call
 the_call op numbers = record { op = op; numbers = numbers }
 
--- calls are equal where their operations and their numbers are
+-- calls are equal if their operations and their numbers are
 pub calls_are_equal : (o p : ℕ) (xs ys : List ℤ) → ((nat_eq o p && pointwise int_eq xs ys) ≡ true) ↔ (the_call o xs ≡ the_call p ys)
 calls_are_equal o p xs ys =
     let decides = slice_eq-Decides Decides-int_eq xs ys (pointwise int_eq xs ys) refl in (
@@ -50,7 +50,7 @@ calls_are_equal o p xs ys =
       λ same. both (nat_eq o p) (pointwise int_eq xs ys) (eq-eqb o p (ap (λ c. c.op) same)) (decides.1 (ap (λ c. c.numbers) same)),
     )
 
--- replies are equal where their numbers are
+-- replies are equal if their numbers are
 pub replies_are_equal : (xs ys : List ℤ) → (pointwise int_eq xs ys ≡ true) ↔ (xs ≡ ys)
 replies_are_equal xs ys = slice_eq-Decides Decides-int_eq xs ys (pointwise int_eq xs ys) refl
 
@@ -58,6 +58,6 @@ replies_are_equal xs ys = slice_eq-Decides Decides-int_eq xs ys (pointwise int_e
 pub calls_differ : (o p : ℕ) (xs ys : List ℤ) → (o ≡ p → ⊥) → (false ≡ true) ↔ (the_call o xs ≡ the_call p ys)
 calls_differ o p xs ys differ = (λ e. absurd cc, λ same. absurd (differ (ap (λ (c : Call). c.op) same)))
 
--- a call of the same operation is the same call where its numbers are
+-- a call of the same operation is the same call if its numbers are
 pub calls_agree : (o p : ℕ) (xs ys : List ℤ) (b : Bool) → o ≡ p → (b ≡ true) ↔ (xs ≡ ys) → (b ≡ true) ↔ (the_call o xs ≡ the_call p ys)
 calls_agree o p xs ys b op equal = (λ e. λ i. the_call (op i) (equal.0 e i), λ same. equal.1 (ap (λ (c : Call). c.numbers) same))

@@ -15,6 +15,6 @@ specification_of spec = record { name = bytes_of spec.name; columns = columns_of
 abbrev pub text_state_of : TextState → M.State
 text_state_of state = state_of state.cells
 
--- the state has so many columns
+-- the state has `columns` columns
 abbrev pub IsStateOf : ℕ → TextState → Type 0
 IsStateOf columns state = column_count state.cells ≡ columns

@@ -40,7 +40,7 @@ impl Label {
         matches!(self, Label::First)
     }
 
-    /// Whether it has this name, and so many parameters.
+    /// Whether it has the name `text`, and `count` parameters.
     pub fn names(&self, text: &str, count: usize) -> bool
         ensures { result ≡ names (label_of self.now) text.now count }
     {

@@ -45,7 +45,7 @@ pub trait SeqObject {
     /// What a call does under a choice.
     ghost step: { Self → Sequential Meaning };
 
-    /// Every number that is reached where a client's call is applied to a state under a choice fits.
+    /// Every number that is reached when a client's call is applied to a state under a choice fits.
     ghost Fits: { Self → Meaning → ℕ → Call → Choice → Type 0 };
 
     /// The state in which the object starts.
@@ -53,8 +53,8 @@ pub trait SeqObject {
         ensures start { IfOk result (λ state. meaning state ≡ start self.now) }
         ensures state { IfOk result (HasState self.now) };
 
-    /// Applies a client's call to a state under a choice: a reply, or none where the object allows no step. Without a reply the
-    /// state stays as it was. `Overflow` is answered exactly where a number that is reached does not fit.
+    /// Applies a client's call to a state under a choice: a reply, or none if the object allows no step. Without a reply the
+    /// state stays as it was. `Overflow` is returned exactly if a number that is reached does not fit.
     fn apply(
         &self,
         alloc: Global,
@@ -88,7 +88,7 @@ pub trait SeqObject {
     /// Calls are equal where they stand for the same.
     ghost equal_calls: { (a b : Self.Call) → (Self.Call.eq a b ≡ true) ↔ (call_meant a ≡ call_meant b) };
 
-    /// Replies are equal where their numbers are.
+    /// Replies are equal if their numbers are.
     ghost equal_replies: { (a b : Self.Reply) → (Self.Reply.eq a b ≡ true) ↔ (numbers a ≡ numbers b) };
 
     /// Only a call that the object has takes a step.

@@ -50,7 +50,7 @@ fn branch_is_resolved(branch: &Branch, columns: usize, variables: usize) -> bool
         && terms_are_known(&branch.replies, columns, variables)
 }
 
-// The same of branches, each with its parameters behind so many arguments.
+// The same for branches, each with its parameters after those arguments.
 fn branches_are_resolved(branches: &[Branch], columns: usize, arguments: &[Name]) -> bool
     ensures { result ≡ list_all (λ b. branch_is_resolved columns (variables_of (map bytes_of arguments.now) b) b) (branches_of branches.now) }
 {

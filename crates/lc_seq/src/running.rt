@@ -27,7 +27,7 @@ pub struct Outcome {
     pub replies: Vec<i64>,
 }
 
-/// The variables of a branch at a client's call, where it is given these numbers for its parameters.
+/// The variables of a branch at a client's call, with these numbers given for its parameters.
 pub fn call_env(
     alloc: Global,
     client: u32,
@@ -45,7 +45,7 @@ pub fn call_env(
     Ok(Env { values })
 }
 
-/// The numbers of terms. `Overflow` is answered exactly where a number that is reached does not fit.
+/// The numbers of terms. `Overflow` is returned exactly if a number that is reached does not fit.
 pub fn values_of(
     alloc: Global,
     terms: &[Term],
@@ -63,8 +63,8 @@ pub fn values_of(
     Ok(values)
 }
 
-/// What updates store, in order: indexes and values are those of the state before any of them. `Overflow` is answered
-/// exactly where a number that is reached does not fit.
+/// What updates store, in order: indexes and values are those of the state before any of them. `Overflow` is returned
+/// exactly if a number that is reached does not fit.
 pub fn writes_of(
     alloc: Global,
     updates: &[Update],
@@ -101,7 +101,7 @@ fn run_branch(alloc: Global, branch: &Branch, state: &State, env: &Env) -> Resul
 }
 
 /// What the first branch stores and replies whose guard holds, of those that a choice leaves, if there is one. Nothing is
-/// stored. `Overflow` is answered exactly where a number that is reached does not fit: guards of these up to that one, then
+/// stored. `Overflow` is returned exactly if a number that is reached does not fit: guards of these up to that one, then
 /// its updates, then its replies.
 pub fn run(
     alloc: Global,

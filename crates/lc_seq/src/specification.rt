@@ -16,7 +16,7 @@ pub struct Column {
     pub start: i64,
 }
 
-/// What is stored and replied where a guard holds, and how it may be taken. Variable 0 is the number of clients, which no
+/// What is stored and replied if a guard holds, and how it may be taken. Variable 0 is the number of clients, which no
 /// specification reads, variable 1 is the client, and the arguments and the branch's parameters follow.
 #[derive(Drop)]
 pub struct Branch {
@@ -40,7 +40,7 @@ impl Operation {
     ghost use Rattle.lc_seq.specs.Specification.{branches_in};
     ghost use Rattle.lc_seq.specs.SpecView.{operation_of, branches_of};
 
-    // The branches of a call with so many numbers.
+    // The branches of a call with `count` numbers.
     fn branches_for(&self, count: usize) -> &[Branch]
         ensures { branches_of result.now ≡ branches_in (Some (operation_of self.now)) count }
     {
@@ -86,7 +86,7 @@ impl TextSpec {
         }
     }
 
-    /// The specification of these columns and operations, of which this is known.
+    /// The specification with these columns and operations, about which this is known.
     pub fn of_parts(name: Name, columns: Vec<Column>, operations: Vec<Operation>) -> TextSpec
         requires { are_resolved (length columns.items) (operations_of operations.items) ≡ true }
         ensures { specification_of result ≡ record { name = bytes_of name; columns = columns_of columns.items; operations = operations_of operations.items } }
@@ -119,7 +119,7 @@ impl TextSpec {
         &self.operations
     }
 
-    // The branches of a call of an operation with so many numbers.
+    // The branches of a call of an operation with `count` numbers.
     pub(crate) fn branches_for(&self, op: OpId, count: usize) -> &[Branch]
         ensures { branches_of result.now ≡ branches_in (slice_get (operations_of self.now.operations.items) op.0) count }
     {

@@ -65,7 +65,7 @@ pub answer_counted : (bytes : List ℕ) (x : Result Trees Fault) → IsAnswerTo 
 answer_counted bytes (Ok v) h = items_fit_lem bytes v h
 answer_counted bytes (Err e) h = tt
 
--- where nothing was taken, the trees are the whole
+-- if nothing was taken, the trees are the whole
 pub answer_whole : (bytes : List ℕ) (x : Result Trees Fault) → IsAnswerWithout bytes [] x → IsAnswerTo bytes x
 answer_whole bytes (Ok v) h = subst (ReadsAs bytes) (sym (h.3 ∙ without_none h.0)) h.1
 answer_whole bytes (Err e) h = h

@@ -40,14 +40,14 @@ pub list_built : (a b d : List Entry) (n : ℕ) (ts : Trees) → a ≡ [] → b 
 list_built a b d n ts e f g h =
     g ∙ ap (λ x. x ++ entries_of_all ts) (f ∙ ap (λ x. x ++ (branch n ∷ [])) e) ∙ ap (λ k. branch k ∷ entries_of_all ts) h
 
--- letters behind letters
+-- letters after letters
 pub letters_append : (text w : List ℕ) → are_letters text ≡ true → are_letters w ≡ true → are_letters (text ++ w) ≡ true
 letters_append [] w h k = k
 letters_append (b ∷ text) w h k =
     let hs = and_parts (is_Letter (class_of b)) (are_letters text) h in
     both _ _ hs.0 (letters_append text w hs.1 k)
 
--- an atom behind others
+-- an atom after others
 pub atom_put : (text text' w : List ℕ) (nodes nodes' : List Node) (start len : ℕ) → text' ≡ text ++ w → nodes' ≡ nodes ++ (Atom start len ∷ []) → start ≡ length text → len ≡ length w
     → list_all (is_within (length text)) nodes ≡ true → entries text' nodes' ≡ entries text nodes ++ (leaf w ∷ [])
 atom_put text text' w nodes nodes' start len e f s l k =

@@ -18,7 +18,7 @@ use Rattle.lc_sexp.proofs.Nodes.{within_more, word_lexed}
 use Rattle.lc_sexp.proofs.Flats.{flat_from}
 use Rattle.lc_sexp.proofs.Builds.{one_from}
 
--- nodes of which there are none
+-- when there are no nodes
 pub told_none : (text : List ℕ) (nodes : List Node) (tokens : List Token) → nodes ≡ [] → told_tokens text nodes tokens ≡ tokens
 told_none text nodes tokens e = ap (λ ns. told_tokens text ns tokens) e
 
@@ -26,7 +26,7 @@ told_none text nodes tokens e = ap (λ ns. told_tokens text ns tokens) e
 pub later_under_way : (text : List ℕ) (start end : ℕ) (nodes : List Node) (holes : List ℕ) → start ≤ end → IsUnderWay text start nodes holes → IsUnderWay text end nodes holes
 later_under_way text start end nodes holes le h = record { whole = h.whole; within = within_more start end nodes le h.within; places = h.places }
 
--- behind a word that has ended
+-- after a word that has ended
 pub told_ended_at : (text : List ℕ) (start : ℕ) (nodes : List Node) (rest : List ℕ) → start ≡ length text → told text start nodes rest ≡ told_tokens text nodes (lexed rest)
 told_ended_at text start nodes rest e = ap (λ x. told_tokens text nodes (lexed (x ++ rest))) (drop_all start text (omega (arith, e)))
 
@@ -34,7 +34,7 @@ pub told_bracket_at : (text : List ℕ) (start : ℕ) (nodes : List Node) (tok :
     → told text start nodes (b ∷ rest) ≡ told_tokens text nodes (tok ∷ lexed rest)
 told_bracket_at text start nodes tok b rest e l = told_ended_at text start nodes (b ∷ rest) e ∙ ap (told_tokens text nodes) l
 
--- a word where no node stands
+-- a word, when there are no nodes
 pub told_cut_word : (text text' : List ℕ) (start start' : ℕ) (nodes nodes' : List Node) (w rest : List ℕ) → nodes ≡ [] → nodes' ≡ nodes → w ≡ drop start text → length w ≢ 0 → are_letters w ≡ true
     → start' ≡ length text' → begins_word rest ≡ false → told text start nodes rest ≡ word w ∷ told text' start' nodes' rest
 told_cut_word text text' start start' nodes nodes' w rest e f d some letters end b =
@@ -72,7 +72,7 @@ rooted_more text start (Open ∷ nodes) nodes' holes x e some r h = ap is_rooted
 rooted_more text start (Atom s l ∷ nodes) nodes' holes x e some r h = absurd (cc)
 rooted_more text start (ListOf n ∷ nodes) nodes' holes x e some r h = absurd (cc)
 
--- the innermost of several lists stands behind the first node
+-- the innermost of several open lists is not at the first node
 inner_place : (t : Trees) (us : List Trees) (front : List ℕ) (at : ℕ) → 0 < length front → holes_from 0 t us ≡ front ++ (at ∷ []) → 0 < at
 inner_place t us [] at some e = absurd (omega (arith, some))
 inner_place t [] (x ∷ front) at some e = absurd (cc)
@@ -93,7 +93,7 @@ rooted_closed text start nodes nodes' holes front at x e f some r h =
     let more : 0 < length front = omega (arith, some, ap length f ∙ length-append front (at ∷ [])) in
     ap is_rooted e ∙ rooted_set nodes at x (inner_place _ _ front at more (sym h.places ∙ f)) r
 
--- where one list is open
+-- if one list is open
 one_hole : (t : Trees) (us : List Trees) (at : ℕ) → at ∷ [] ≡ holes_from 0 t us → (u : Trees) × (us ≡ u ∷ []) × (at ≡ item_count_of_all t)
 one_hole t [] at e = absurd (cc)
 one_hole t (u ∷ []) at e = (u, refl, (let k : at ≡ 0 + item_count_of_all t = cc in omega (arith, k)))
@@ -152,7 +152,7 @@ list_cut text start at nodes holes e end letters h =
           ∙ sym (ap (λ x. rows_tokens t x ++ (close_list ∷ tokens)) one.1);
     }
 
--- the nodes of the list that is open, where it stands first, and ends
+-- the nodes of the list that is open, if it is the first node, and ends
 one_given : (text : List ℕ) (start : ℕ) (nodes : List Node) (n : ℕ) (cut : IsCut text start 0 nodes) → n + 1 ≡ length nodes → are_letters text ≡ true
     → IsOne text (set nodes 0 (ListOf n)) × (head_tree (trees_of text (set nodes 0 (ListOf n))) ≡ list cut.trees)
 one_given text start [] n cut e l = absurd (omega (arith, e))

@@ -1,4 +1,4 @@
--- Texts that are cut behind brackets.
+-- Texts that are cut after brackets.
 use Rattle.std.proofs.Common.{◌≡◌, ℕ, ◌≤◌, Bool, true, false, ◌||◌, ◌==◌, if◌then◌else◌, List, [], ◌∷◌, ◌++◌, refl, sym, ap, ◌∙◌, arith, append_assoc, append-nil}
 use Rattle.lc_sexp.specs.Trees.{Tree, Trees, Token, open_list, close_list, word, stray, list, none, ◌▸◌, tokens_of, tokens_of_all, depth_of, depth_of_all}
 use Rattle.lc_sexp.specs.TreeCode.{joined_rows}
@@ -9,7 +9,7 @@ use Rattle.lc_sexp.specs.Reads.{text_of}
 use Rattle.lc_sexp.proofs.Rows.{tokens_joined}
 use Rattle.lc_sexp.specs.CutFiles.{ends_in_comment, IsPieceOf, AreJoined, IsHead, IsTail, BeginsOpen, PiecesReadAsTheWhole}
 
--- comments of a text, and of one behind it
+-- comments of a text, and of one after it
 pub uncommented_behind : (c : Bool) (s t : List ℕ) → uncommented c (s ++ t) ≡ uncommented c s ++ uncommented (ends_in_comment c s) t
 uncommented_behind c [] t = refl
 uncommented_behind c (b ∷ s) t = elim (b == 10) as (λ x. (if x then 10 ∷ uncommented false (s ++ t) else (if c || b == 59 then 32 ∷ uncommented true (s ++ t) else b ∷ uncommented false (s ++ t)))
@@ -68,7 +68,7 @@ lexed_close s t = lexed_bracket s t 41 close_list (λ w e. cc) (ap is_Letter clo
 lexed_open : (s t : List ℕ) → lexed (s ++ (40 ∷ t)) ≡ lexed s ++ (open_list ∷ lexed t)
 lexed_open s t = lexed_bracket s t 40 open_list (λ w e. cc) (ap is_Letter open_class) (ap (λ k. before k 40 (begins_word t) (lexed t)) open_class)
 
--- the tokens of a text that ends with a bracket outside of comments, and of one behind it
+-- the tokens of a text that ends with a bracket outside of comments, and of one after it
 closed_tokens : (front t : List ℕ) → ends_in_comment false front ≡ false → lexed (uncommented false ((front ++ 41 ∷ []) ++ t)) ≡ lexed (uncommented false (front ++ 41 ∷ [])) ++ lexed (uncommented false t)
 closed_tokens front t outside =
     let whole : uncommented false ((front ++ 41 ∷ []) ++ t) ≡ uncommented false front ++ (41 ∷ uncommented false t) =
@@ -92,7 +92,7 @@ same_before (x ∷ xs) (y ∷ ys) t e =
     let rest = same_before xs ys t tails in
     cc
 
--- whether two texts end in a comment, one behind the other
+-- whether two texts end in a comment, one after the other
 ends_behind : (c : Bool) (s t : List ℕ) → ends_in_comment c (s ++ t) ≡ ends_in_comment (ends_in_comment c s) t
 ends_behind c [] t = refl
 ends_behind c (b ∷ s) t = ends_behind (if b == 10 then false else (c || b == 59)) s t
@@ -101,7 +101,7 @@ ends_with_bracket : (c : Bool) → ends_in_comment c (41 ∷ []) ≡ false → c
 ends_with_bracket true h = h
 ends_with_bracket false h = refl
 
--- what stands before the last bracket of a piece ends outside of comments, as the piece does
+-- the text before the last bracket of a piece ends outside of comments, as the piece does
 front_outside : (t : Tree) (text : List ℕ) (p : IsPieceOf t text) → ends_in_comment false p.closed.0 ≡ false
 front_outside t text p = ends_with_bracket (ends_in_comment false p.closed.0) (sym (ap (ends_in_comment false) p.closed.1 ∙ ends_behind false p.closed.0 (41 ∷ [])) ∙ p.outside)
 
@@ -124,7 +124,7 @@ piece_tokens t text rest p =
     ∙ ap (λ x. lexed (uncommented false x) ++ lexed (text_of rest)) (sym p.closed.1)
     ∙ ap (λ x. x ++ lexed (text_of rest)) (own_tokens t text p)
 
--- the tokens of joined pieces, and of what is behind them
+-- the tokens of joined pieces, and of the text after them
 body_tokens : (ts : Trees) (body tail : List ℕ) → AreJoined body ts → lexed (text_of (body ++ tail)) ≡ tokens_of_all ts ++ lexed (text_of tail)
 body_tokens none body tail h = ap (λ x. lexed (text_of (x ++ tail))) h
 body_tokens (t ▸ ts) body tail h =
@@ -141,7 +141,7 @@ head_tokens head rest outside begins =
     ∙ lexed_open (uncommented false head) (uncommented false begins.0)
     ∙ ap (λ x. lexed (uncommented false head) ++ x) (sym (lexed_open [] (uncommented false begins.0)) ∙ ap (λ x. lexed (text_of x)) (sym begins.1))
 
--- the head opens a list, and has what stands first in it
+-- the head opens a list, and begins with the list's first items
 head_opens : (head : List ℕ) (front : Trees) → IsHead front head → lexed (uncommented false head) ≡ open_list ∷ tokens_of_all front
 head_opens head front h =
     let tokens : lexed (uncommented false head) ++ (close_list ∷ []) ≡ (open_list ∷ tokens_of_all front) ++ (close_list ∷ []) =

@@ -1,4 +1,4 @@
--- A reader that is fed bytes and of which parts are taken.
+-- A reader that is fed bytes, and whose parts are taken.
 use Rattle.std.proofs.Common.{◌≡◌, ℕ, ◌+◌, ◌-◌, Bool, true, false, List, [], ◌∷◌, ◌++◌, length, drop, Option, Some, None, Result, Ok, Err, refl, sym, ap, ◌∙◌, subst, arith, append_assoc, append-nil, length-append, length-drop, IfOk, IfErr, OnOk, ◌⊎◌, inl, inr, take}
 use Rattle.std.specs.Prelude.{flat_map}
 use Rattle.std.specs.Option.{IfNone, is_some, option_to_list}
@@ -61,7 +61,7 @@ after_new r e o d c h = record {
   splits = subst (λ b. Splits (tokens_behind []) (uncommented b) [] r.splitter) (sym c) h;
 }
 
--- what is fed stands behind what was
+-- what is fed comes after what was fed before
 behind : (fed more rest : List ℕ) → fault_from 0 0 (uncommented false (fed ++ (more ++ rest))) ≡ fault_from 0 0 (uncommented false ((fed ++ more) ++ rest))
 behind fed more rest = ap (λ x. fault_from 0 0 (uncommented false x)) (sym (append_assoc fed more rest))
 
@@ -164,7 +164,7 @@ some_fault : (o : Option ℕ) → is_some o ≡ true → (n : ℕ) × (o ≡ Som
 some_fault None e = absurd (cc)
 some_fault (Some n) e = (n, refl)
 
--- behind a fault nothing more is read
+-- after a fault nothing more is read
 pub after_rest : (fed piece : List ℕ) (taken : List Part) (r r' : Reader) → r'.splitter ≡ r.splitter → r'.fault ≡ r.fault → is_some r.fault ≡ true → IsAfterTaking fed taken r
     → IsAfterTaking (fed ++ piece) taken r'
 after_rest fed piece taken r r' d g e h =
@@ -180,7 +180,7 @@ after_next fed piece i n taken r h =
     ap (λ x. take i piece ++ x) (sym (append-nil front)) ∙ taken_on i n piece [] ∙ append-nil (take (i + n) piece) in
     subst (λ x. IsAfterTaking x taken r) (append_assoc fed (take i piece) front ∙ ap (λ x. fed ++ x) same) h
 
--- the rest of a piece, of which some may stand behind the file limit
+-- the rest of a piece, some of which may be beyond the file limit
 pub after_last : (fed piece within last : List ℕ) (i : ℕ) (taken : List Part) (r : Reader) → piece ≡ within ++ last
     → IsAfterTaking ((fed ++ take i within) ++ (take (length within - i) (drop i within) ++ last)) taken r → IsAfterTaking (fed ++ piece) taken r
 after_last fed piece within last i taken r e h =

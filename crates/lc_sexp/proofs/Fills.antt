@@ -8,7 +8,7 @@ use Rattle.lc_sexp.specs.declared.node.Node.{Node}
 use Rattle.lc_sexp.specs.declared.node.Node.TheVariants.{Atom, List as ListOf}
 use Rattle.lc_sexp.specs.declared.part.Part.{Part}
 
--- an atom is put behind
+-- an atom is appended
 pub atom_filled : (node : Node) (start len : ℕ) → node ≡ Atom start len → (text : List ℕ) (old new : List Entry) (form : ℕ) (es : List Entry) (ps : List Part) → new ≡ old ++ (entry_of text node ∷ [])
     → new ++ entries_of_all (filled (form + 1) es ps) ≡ old ++ entries_of_all (filled form (entry_of text node ∷ es) ps)
 atom_filled node start len is text old new form es ps e =
@@ -18,7 +18,7 @@ atom_filled node start len is text old new form es ps e =
 regroup : {A : Type 0} (o u v : List A) (b : A) → ((o ++ (b ∷ [])) ++ u) ++ v ≡ o ++ ((b ∷ u) ++ v)
 regroup o u v b = simp append_assoc
 
--- a list with parts is put behind
+-- a list with parts is appended
 pub list_filled : (node : Node) (inside : ℕ) → node ≡ ListOf inside → (text : List ℕ) (old mid new : List Entry) (n form : ℕ) (us : Trees) (es : List Entry) (ps ps' : List Part)
     → mid ≡ old ++ (branch n ∷ []) → new ≡ mid ++ entries_of_all us → n ≡ item_count_of_all us → us ≡ front_of form ps → ps' ≡ behind_of form ps
     → new ++ entries_of_all (filled (form + 1) es ps') ≡ old ++ entries_of_all (filled form (entry_of text node ∷ es) ps)

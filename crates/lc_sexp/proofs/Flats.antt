@@ -30,7 +30,7 @@ no_open text nodes h = let e = h.whole in cc
 pub atom_letters : (text : List ℕ) (s l : ℕ) (nodes : List Node) → IsFlat text (Atom s l ∷ nodes) → are_letters (take l (drop s text)) ≡ true
 atom_letters text s l nodes h = letters_take (drop s text) l (letters_drop text s h.letters)
 
--- A list is the nodes in it, and behind it stand the others.
+-- A list is its number of nodes, and the others come after it.
 pub record IsSplit (text : List ℕ) (n : ℕ) (nodes : List Node) : Type 0 where
   pub room : n ≤ length nodes
   pub inside : IsFlat text (take n nodes)
@@ -72,7 +72,7 @@ list_split text n nodes h =
       trees = ap (λ x. list x ▸ b) (sym f.1) ∙ ap (λ x. list (trees_of text (take n nodes)) ▸ x) (sym g.1);
     }
 
--- the same of nodes that begin with a list
+-- the same, if the nodes begin with a list
 pub split_at_list : (text : List ℕ) (xs nodes : List Node) (x : Node) (n : ℕ) → xs ≡ x ∷ nodes → x ≡ ListOf n → IsFlat text xs → IsSplit text n nodes
 split_at_list text xs nodes x n e f h = list_split text n nodes (subst (IsFlat text) (e ∙ ap (λ y. y ∷ nodes) f) h)
 

@@ -21,7 +21,7 @@ use Rattle.lc_sexp.proofs.Rows.{AreRows, rows_from, atom_behind, hole_behind, cl
 pub both : (a b : Bool) → a ≡ true → b ≡ true → (a && b) ≡ true
 both a b h k = rw (h, k) refl
 
--- letters behind those of nodes change no entry
+-- letters after those of nodes change no entry
 take_drop_more : (s l : ℕ) (text more : List ℕ) → s + l ≤ length text → take l (drop s (text ++ more)) ≡ take l (drop s text)
 take_drop_more s l text more h =
     ap (take l) (drop-append-le s text more (omega arith)) ∙ take-append-le l (drop s text) more (omega (arith, length-drop s text))
@@ -192,7 +192,7 @@ told_closed text start nodes nodes' holes holes' at n o tokens e f p c h =
     ap (λ ts. ts ++ tokens) (closed text start nodes nodes' holes holes' at n e (f ∙ ap (λ x. holes' ++ option_to_list x) p) (omega (arith, c, l)) h).told
     ∙ append_assoc (node_tokens text nodes) (close_list ∷ []) tokens
 
--- where no list is open, the nodes are a row of trees
+-- if no list is open, the nodes are a row of trees
 later_none : (k : ℕ) (t : Trees) (us : List Trees) → [] ≡ holes_from k t us → us ≡ []
 later_none k t [] e = refl
 later_none k t (u ∷ us) e = absurd (cc)
@@ -241,7 +241,7 @@ pub none_listed : {A : Type 0} (xs : List A) → length xs ≡ 0 → xs ≡ []
 none_listed [] e = refl
 none_listed (x ∷ xs) e = absurd (cc)
 
--- a bracket behind a word that has ended
+-- a bracket after a word that has ended
 pub told_bracket : (text text' text'' : List ℕ) (start start' start'' : ℕ) (nodes nodes' nodes'' : List Node) (tok : Token) (b : ℕ) (rest : List ℕ)
     → ((more : List ℕ) → begins_word more ≡ false → told text' start' nodes' more ≡ told text start nodes more)
     → ((tokens : List Token) → told_tokens text'' nodes'' tokens ≡ told_tokens text' nodes' (tok ∷ tokens))
@@ -261,7 +261,7 @@ lexed_open b rest e = ap (λ k. before k b (begins_word rest) (lexed rest)) e
 pub lexed_close : (b : ℕ) (rest : List ℕ) → class_of b ≡ CloseClass → lexed (b ∷ rest) ≡ close_list ∷ lexed rest
 lexed_close b rest e = ap (λ k. before k b (begins_word rest) (lexed rest)) e
 
--- the same where memory may have been refused
+-- the same, with what an allocation that may have failed leaves
 pub under_way_extended : (ok : Bool) (text text' : List ℕ) (start : ℕ) (more : List ℕ) (nodes : List Node) (holes : List ℕ) → text' ≡ cond ok (text ++ more) text → start ≤ length text
     → IsUnderWay text start nodes holes → IsUnderWay text' start nodes holes
 under_way_extended true text text' start more nodes holes e le h = under_way_letters text text' start more nodes holes e le h

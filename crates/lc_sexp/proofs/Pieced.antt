@@ -28,7 +28,7 @@ use Rattle.lc_sexp.specs.declared.machine.Machine.{Machine}
 use Rattle.lc_sexp.specs.declared.node.Node.{Node}
 use Rattle.lc_sexp.specs.declared.misfit.Misfit.{Misfit}
 
--- a text is closed where its last byte is that bracket
+-- a text is closed if its last byte is that bracket
 pub closed_by : (text rest : List ℕ) (x : ℕ) → text ≡ rest ++ (x ∷ []) → MatchBool (x == 41) (IsClosed text) (IsClosed text → ⊥)
 closed_by text rest x e = at (x == 41) refl where
   at : (b : Bool) → (x == 41) ≡ b → MatchBool b (IsClosed text) (IsClosed text → ⊥)
@@ -46,7 +46,7 @@ pub none_left : (ts : Trees) → (part_count ts == 0) ≡ true → ts ≡ none
 none_left none h = refl
 none_left (t ▸ ts) h = absurd (grind (arith, nat_tests))
 
--- what stands alone in a list that stands alone
+-- the single item of a single list
 pub stands_alone : (whole inner behind left : Trees) (t : Tree) → whole ≡ list inner ▸ behind → inner ≡ t ▸ left → (part_count left == 0) ≡ true → (part_count behind == 0) ≡ true → whole ≡ list (t ▸ none) ▸ none
 stands_alone whole inner behind left t outer within l b =
     outer ∙ ap (λ x. list x ▸ behind) (within ∙ ap (λ x. t ▸ x) (none_left left l)) ∙ ap (λ x. list (t ▸ none) ▸ x) (none_left behind b)
@@ -59,7 +59,7 @@ pub no_piece : (text : List ℕ) (refusal : Refusal) → IsTextFault (Refused re
 no_piece text (Text offset) fault t p = no_fault_lem (bracketed text) (list (t ▸ none) ▸ none) offset p.reads fault
 no_piece text _ fault t p = absurd fault
 
--- bytes that were taken behind others
+-- bytes that were taken after others
 pub took : (m m' : Machine) (fed bytes : List ℕ) → HasTaken None m fed
     → ((rest : List ℕ) → told m'.text.items m'.start m'.nodes.items (uncommented m'.in_comment rest) ≡ told m.text.items m.start m.nodes.items (uncommented m.in_comment (bytes ++ rest)))
     → ((rest : List ℕ) → fault_from m'.offset (vec_len m'.holes) (uncommented m'.in_comment rest) ≡ fault_from m.offset (vec_len m.holes) (uncommented m.in_comment (bytes ++ rest)))
@@ -69,7 +69,7 @@ took m m' fed bytes h tells faults = (
   λ rest. faults rest ∙ h.1 (bytes ++ rest) ∙ ap (λ x. fault_from 0 0 (uncommented false x)) (sym (append_assoc fed bytes rest)),
 )
 
--- bytes that cannot be taken behind others
+-- bytes that cannot be taken after others
 pub stopped : (m : Machine) (o : ℕ) (fed bytes more text : List ℕ) → HasTaken None m fed
     → ((rest : List ℕ) → fault_from m.offset (vec_len m.holes) (uncommented m.in_comment (bytes ++ rest)) ≡ Some o)
     → bracketed text ≡ fed ++ (bytes ++ more) → (t : Tree) → IsPieceOf t text → ⊥
@@ -77,7 +77,7 @@ stopped m o fed bytes more text h wrong e t p =
     no_fault_lem (bracketed text) (list (t ▸ none) ▸ none) o p.reads
     (found_fault (bracketed text) o (ap (λ x. fault_from 0 0 (uncommented false x)) e ∙ sym (h.1 (bytes ++ more)) ∙ wrong more))
 
--- what stands alone in a list that stands alone, where the trees lie flat
+-- the single item of a single list, when the trees lie flat
 pub one_part : (text : List ℕ) (nodes : List Node) (t : Tree) → IsFlat text nodes → trees_of text nodes ≡ list (t ▸ none) ▸ none
     → IsOne text (remove nodes 0) × (head_tree (trees_of text (remove nodes 0)) ≡ t)
 one_part text [] t h e = absurd (let whole : entries_of_all (list (t ▸ none) ▸ none) ≡ [] = ap entries_of_all (sym e) ∙ h.whole in cc)

@@ -98,7 +98,7 @@ pub count_joined : (ts us : Trees) → item_count_of_all (joined_rows ts us) ≡
 count_joined none us = omega arith
 count_joined (t ▸ ts) us = omega (arith, count_joined ts us)
 
--- What entries are, as rows: the first, those in lists that are open, and where these stand.
+-- What entries are, as rows: the first, those in lists that are open, and the places of these lists.
 pub record AreRows (es : List Entry) (places : List ℕ) (tokens : List Token) : Type 0 where
   pub whole : laid (first_row es) (later_rows es) ≡ es
   pub holes : places ≡ holes_from 0 (first_row es) (later_rows es)
@@ -154,7 +154,7 @@ hole_behind k t (u ∷ us) =
     subst (λ x. Becomes x (holes_from k t (u ∷ us) ++ ((k + length (laid t (u ∷ us))) ∷ [])) (rows_tokens t (u ∷ us) ++ (open_list ∷ [])) k) (sym (append_assoc (entries_of_all t) (hole ∷ laid u us) (hole ∷ [])))
     (subst (λ n. Becomes (entries_of_all t ++ (hole ∷ (laid u us ++ (hole ∷ [])))) (holes_from k t (u ∷ us) ++ (n ∷ [])) (rows_tokens t (u ∷ us) ++ (open_list ∷ [])) k) e h)
 
--- a list that is open stands where its row can end, and before the end
+-- a list that is open has a place where its row can end, and before the end
 pub place_least : (k : ℕ) (t : Trees) (us : List Trees) (front : List ℕ) (at : ℕ) → holes_from k t us ≡ front ++ (at ∷ []) → k ≤ at
 place_least k t [] [] at e = absurd (cc)
 place_least k t [] (x ∷ front) at e = absurd (cc)

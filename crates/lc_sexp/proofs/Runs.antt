@@ -95,7 +95,7 @@ fault_here k offset depth (b ∷ s) rest some p h =
     ∙ ap (λ t. cond (at_limit offset || t) (Some offset) (fault_from (offset + 1) (depth_behind depth k) (s ++ rest))) p
     ∙ ap (λ t. cond t (Some offset) (fault_from (offset + 1) (depth_behind depth k) (s ++ rest))) (or_true (at_limit offset))
 
--- a byte behind the file limit
+-- a byte beyond the file limit
 pub fault_full : (c : Bool) (offset depth : ℕ) (bytes rest : List ℕ) → 0 < length bytes → offset ≡ file_limit → fault_from offset depth (uncommented c (bytes ++ rest)) ≡ Some offset
 fault_full c offset depth [] rest some e = absurd (omega (arith, some))
 fault_full c offset depth (b ∷ s) rest some e =
@@ -109,7 +109,7 @@ fault_full c offset depth (b ∷ s) rest some e =
       by_tests false true t = first 32 (uncommented true (s ++ rest)) t
       by_tests false false t = first b (uncommented false (s ++ rest)) t
 
--- bytes of a comment that goes on behind them
+-- bytes of a comment that goes on after them
 abbrev pub goes_on : List ℕ → Bool
 goes_on w = list_all (λ b. not (b == 10)) w
 
@@ -296,7 +296,7 @@ fault_taken c c' bytes run offset offset' depth depth' h p le eo ed ec rest =
     ∙ sym (fault_run run.class offset depth h.seen text h.counts.count p h.counts.of_class (omega (arith, le, n)))
     ∙ ap (fault_from offset depth) (sym (h.uncomments rest))
 
--- a word and the white byte behind it, as bytes that count
+-- a word and the white byte after it, as bytes that count
 pub uncommented_word : (c : Bool) (bytes : List ℕ) (run : Run) → (h : IsRun c bytes run) → IsBeforeWhite run bytes
     → (rest : List ℕ) → uncommented c (take (run.length + 1) bytes ++ rest) ≡ h.seen ++ (get_or bytes run.length 0 ∷ uncommented false rest)
 uncommented_word c bytes run h w rest =
@@ -333,7 +333,7 @@ fault_refused c bytes run offset depth h p rest =
     ∙ ap (fault_from offset depth) (h.uncomments (drop run.length bytes ++ rest))
     ∙ fault_here run.class offset depth h.seen (uncommented run.in_comment (drop run.length bytes ++ rest)) (omega (arith, n, some)) p h.counts.of_class
 
--- what stands from an index on, as a slice has it
+-- the bytes from an index on, as a slice has it
 pub tail_of : (i : ℕ) (bytes : List ℕ) → take (length bytes - i) (drop i bytes) ≡ drop i bytes
 tail_of i bytes = take_all (length bytes - i) (drop i bytes) (omega (arith, length-drop i bytes))
 
@@ -360,7 +360,7 @@ parted_last bytes within last rest e = ap (λ x. x ++ rest) e ∙ append_assoc w
 pub all_taken : (i : ℕ) (bytes : List ℕ) → length bytes ≤ i → take i bytes ≡ bytes
 all_taken i bytes le = take_all i bytes le
 
--- bytes of which some stand behind the file limit
+-- bytes some of which are beyond the file limit
 pub cut_short : (bytes within last : List ℕ) → bytes ≡ within ++ last → length within ≢ length bytes → (0 < length last) × (length within < length bytes)
 cut_short bytes within last e cut =
     let n : length bytes ≡ length within + length last = ap length e ∙ length-append within last in
@@ -395,7 +395,7 @@ told_apart false = refl
 same_shown : (c d : Bool) → shown c ≡ shown d → c ≡ d
 same_shown c d e = sym (told_apart c) ∙ ap (λ x. x == 32) e ∙ told_apart d
 
--- whether a comment goes on behind bytes
+-- whether a comment goes on after bytes
 comment_behind : (c d : Bool) (w seen : List ℕ) → ((rest : List ℕ) → uncommented c (w ++ rest) ≡ seen ++ uncommented d rest) → d ≡ ends_in_comment c w
 comment_behind c d w seen u =
     same_shown d (ends_in_comment c w)
@@ -411,7 +411,7 @@ word_comment c bytes run h w =
     let b : ℕ = get_or bytes run.length 0 in
     comment_behind c false (take (run.length + 1) bytes) (h.seen ++ (b ∷ [])) (λ rest. uncommented_word c bytes run h w rest ∙ sym (append_assoc h.seen (b ∷ []) (uncommented false rest)))
 
--- a comment over a text and one behind it
+-- a comment over a text and one after it
 ends_behind : (s : List ℕ) (c : Bool) (t : List ℕ) → ends_in_comment (ends_in_comment c s) t ≡ ends_in_comment c (s ++ t)
 ends_behind [] c t = refl
 ends_behind (b ∷ s) c t = ends_behind s (if b == 10 then false else (c || b == 59)) t

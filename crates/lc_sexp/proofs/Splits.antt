@@ -61,7 +61,7 @@ all_aside s forms whole taken l o e f h =
       f ∙ parts.1,
     )
 
--- the same where what is set aside is known otherwise
+-- the same if what is set aside is known otherwise
 aside_at : (whole rest rest' : List ℕ → List Token) (handed : List Part) (b b' : Bool) (shells shells' : List Entry) (f f' i i' : ℕ)
     → ((x : List ℕ) → rest' x ≡ rest x) → b' ≡ b → shells' ≡ shells → f' ≡ f → i' ≡ i → IsSetAside whole rest handed b shells f i → IsSetAside whole rest' handed b' shells' f' i'
 aside_at whole rest rest' handed b b' shells shells' f f' i i' er eb es ef ei h = record {
@@ -135,7 +135,7 @@ close_step whole rest rest' taken s shells n inside o ee ef step h =
       outside = λ e. o;
     }
 
--- a bracket that is no node, behind a word that has ended
+-- a bracket that is no node, after a word that has ended
 pub bracket_alone : (s : Splitter) (tok : Token) (b : ℕ) (rest : List ℕ) → s.machine.holes.items ≡ [] → is_rooted s.machine.nodes.items ≡ true → s.machine.start ≡ length s.machine.text.items → lexed (b ∷ rest) ≡ tok ∷ lexed rest
     → told_by s.machine (b ∷ rest) ≡ tok ∷ told_by s.machine rest
 bracket_alone s tok b rest o r e l =

@@ -19,7 +19,7 @@ in_at f g i j ts d e = ap (λ n. parts_in n i ts) d ∙ ap (λ n. parts_in g n t
 from_at : (f g i j : ℕ) (ts : Trees) → f ≡ g → i ≡ j → parts_from f i ts ≡ parts_from g j ts
 from_at f g i j ts d e = ap (λ n. parts_from n i ts) d ∙ ap (λ n. parts_from g n ts) e
 
--- parts of trees one behind another
+-- parts of trees one after another
 pub in_joined : (f i : ℕ) (ts us : Trees) → parts_in f i (joined_rows ts us) ≡ parts_in f i ts ++ parts_in f (i + item_count_of_all ts) us
 in_joined f i none us = in_at f f i (i + 0) us refl (omega arith)
 in_joined f i (t ▸ ts) us =
@@ -70,7 +70,7 @@ same_rest whole rest rest' handed in_list shells f i e h = record {
   item = h.item;
 }
 
--- the same of other texts to come, and of a whole known otherwise
+-- the same, with other texts to come, and with the whole given in another way
 pub at_rests : (whole whole' rest rest' : List ℕ → List Token) (handed : List Part) (in_list : Bool) (shells : List Entry) (f i : ℕ) (to : List ℕ → List ℕ)
     → ((x : List ℕ) → whole (to x) ≡ whole' x) → ((x : List ℕ) → rest' x ≡ rest (to x))
     → IsSetAside whole rest handed in_list shells f i → IsSetAside whole' rest' handed in_list shells f i
@@ -193,7 +193,7 @@ later_from (atom w ▸ ts) f g i m lt = later_from ts f (g + 1) (i + 1) m (omega
 later_from (list us ▸ ts) f g i m lt =
     later_in us f g (i + 1) m (parts_from (g + 1) (i + 1 + item_count_of_all us) ts) lt (λ k. later_from ts f (g + 1) (i + 1 + item_count_of_all us) k (omega (arith, lt)))
 
--- What is left of a list of which the first parts were taken.
+-- What is left of a list after its first parts were taken.
 abbrev IsLeft : Trees → ℕ → ℕ → List Part → List Part → Type 0
 IsLeft us n f ps behind = (front_of f ps ≡ behind_first n us) × (behind_of f ps ≡ behind)
 

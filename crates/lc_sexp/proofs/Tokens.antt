@@ -40,7 +40,7 @@ pub letter_ascii : (b : ℕ) → Letter ≡ class_of b → b < 128
 unfolding class_of
 letter_ascii b h = grind (arith, nat_tests)
 
--- letters behind letters, where memory may have been refused
+-- letters after letters, if memory does not run out
 pub letters_extended : (ok : Bool) (w w' more : List ℕ) → w' ≡ cond ok (w ++ more) w → are_letters w ≡ true → are_letters more ≡ true → are_letters w' ≡ true
 letters_extended true w w' more e h k =
     ap are_letters e ∙ list_all-append (λ x. is_Letter (class_of x)) w more ∙ ap (λ x. x && are_letters more) h ∙ k

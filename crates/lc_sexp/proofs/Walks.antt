@@ -13,7 +13,7 @@ pub gives_list : (old new inner : Cursor) (a b : Trees) → rest_of old ≡ list
     → GivesPart any_fit ShowsItem old (Ok (ListItem inner)) new
 gives_list old new inner a b e within behind = subst (λ ts. IsPart any_fit ShowsItem old ts (Ok (ListItem inner)) new) (sym e) ((a, refl, within), behind)
 
--- what stood before the rest, where an item was given
+-- what was before the rest, if an item was given
 pub gave_item : (r : Result Item Misfit) (old new : Cursor) (item : Item) → r ≡ Ok item → GivesPart any_fit ShowsItem old r new → rest_of old ≡ item_tree item ▸ rest_of new
 gave_item r old new item e h = at (rest_of old) item (subst (λ x. GivesPart any_fit ShowsItem old x new) e h) where
   at : (ts : Trees) (item : Item) → IsPart any_fit ShowsItem old ts (Ok item) new → ts ≡ item_tree item ▸ rest_of new

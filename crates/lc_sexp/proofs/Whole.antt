@@ -50,7 +50,7 @@ regroup_list o c a b d = simp append_assoc
 behind_open : (o : Token) (x y : List Token) → o ∷ x ≡ o ∷ y → x ≡ y
 behind_open o x y e = cc
 
--- the items of an open list begin the list that stands there
+-- the items of an open list begin the list at that place
 inside_open : (u : Trees) (rest y : List Token) (ts : Trees) → open_list ∷ (tokens_of_all u ++ rest) ≡ tokens_of_all ts ++ y → ((z : List Token) → y ≡ open_list ∷ z → ⊥)
     → (us : Trees) × (vs : Trees) × (ts ≡ list (joined_rows u us) ▸ vs) × (rest ≡ tokens_of_all us ++ (close_list ∷ (tokens_of_all vs ++ y)))
 inside_open u rest y none e stops = absurd (stops (tokens_of_all u ++ rest) (sym e))

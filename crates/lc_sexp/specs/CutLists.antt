@@ -4,7 +4,7 @@ use Rattle.lc_sexp.specs.Trees.{Tree, Token, tokens_of, close_list}
 use Rattle.lc_sexp.specs.Progress.{told_tokens}
 use Rattle.lc_sexp.specs.declared.machine.Machine.{Machine}
 
--- The one list that was open has ended, and is this tree, of which nothing is left.
+-- The one list that was open has ended, and is this tree; nothing of it is left.
 pub record CutsList (old new : Machine) (cut : Tree) : Type 0 where
   pub told : (tokens : List Token) →
       told_tokens new.text.items new.nodes.items (tokens_of cut ++ tokens)

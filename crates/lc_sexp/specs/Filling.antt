@@ -4,7 +4,7 @@ use Rattle.lc_sexp.specs.Trees.{Trees, atom, list, none, ◌▸◌}
 use Rattle.lc_sexp.specs.Entries.{Entry, leaf, branch, hole}
 use Rattle.lc_sexp.specs.declared.part.Part.{Part}
 
--- the parts at the front that stand in this form, and those behind them
+-- the parts at the front that belong to this form, and those after them
 abbrev pub front_of : ℕ → List Part → Trees
 front_of form [] = none
 front_of form (p ∷ ps) = if p.form == form then p.sexp ▸ front_of form ps else none
@@ -13,7 +13,7 @@ abbrev pub behind_of : ℕ → List Part → List Part
 behind_of form [] = []
 behind_of form (p ∷ ps) = if p.form == form then behind_of form ps else p ∷ ps
 
--- forms, of which the first has this number, with these parts in their lists
+-- forms, the first with this number, with these parts in their lists
 abbrev pub filled : ℕ → List Entry → List Part → Trees
 filled form [] ps = none
 filled form (leaf w ∷ es) ps = atom w ▸ filled (form + 1) es ps

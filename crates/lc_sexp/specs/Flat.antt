@@ -16,13 +16,13 @@ entry_of text Open = hole
 abbrev pub entries : List ℕ → List Node → List Entry
 entries text nodes = map (entry_of text) nodes
 
--- the letters of the node lie among the first so many
+-- the letters of the node lie among the first k
 abbrev pub is_within : ℕ → Node → Bool
 is_within k (Atom start len) = nat_le (start + len) k
 is_within k (ListOf inside) = true
 is_within k Open = true
 
--- the trees that the nodes are, where no list is open
+-- the trees that the nodes are, if no list is open
 unfoldable pub trees_of : List ℕ → List Node → Trees
 trees_of text nodes = first_row (entries text nodes)
 

@@ -22,6 +22,6 @@ HasTaken (Some offset) m fed = (rest : List ℕ) → fault_from 0 0 (uncommented
 abbrev pub WasFed : FormsReader → List ℕ → Type 0
 WasFed r fed = HasTaken r.fault r.machine fed
 
--- an allocation was refused, so the reader answers nothing else any more
+-- it is out of memory, so the reader returns nothing else any more
 abbrev pub is_spent : FormsReader → Bool
 is_spent r = r.out_of_memory

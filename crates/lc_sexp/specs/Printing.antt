@@ -6,12 +6,12 @@ use Rattle.lc_sexp.specs.Shown.{rest_of}
 use Rattle.lc_sexp.specs.declared.cursor.Cursor.{Cursor}
 use Rattle.lc_sexp.specs.declared.printing.Walk.{Walk}
 
--- the text of a row, of which something was printed already unless it is fresh
+-- the text of a row, part of which was printed already unless it is fresh
 abbrev pub printed_rest : Bool → Trees → List ℕ
 printed_rest true ts = printed_items ts
 printed_rest false ts = printed_others ts
 
--- the text behind the innermost row: its bracket, then the rest of the row around it, and so on
+-- the text after the innermost row: its bracket, then the rest of the row around it, and so on
 abbrev pub printed_around : List Cursor → List ℕ
 printed_around [] = []
 printed_around (c ∷ cs) = printed_around cs ++ (41 ∷ printed_others (rest_of c))

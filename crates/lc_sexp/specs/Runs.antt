@@ -18,14 +18,14 @@ IsCount Open n = n ≡ 1
 IsCount Close n = n ≡ 1
 IsCount Other n = n ≡ 1
 
--- Bytes as they count where comments are spaces: all are of one class, and letters are themselves.
+-- Bytes as they count if comments are spaces: all are of one class, and letters are themselves.
 pub record AreSeen (class : Class) (bytes seen : List ℕ) : Type 0 where
   pub of_class : AreOf class seen
   pub size : length seen ≡ length bytes
   pub count : IsCount class (length seen)
   pub letters : class ≡ Letter → seen ≡ bytes
 
--- The run stands at the front of bytes that begin in a comment or not.
+-- The run is at the front of bytes that begin in a comment or not.
 pub record IsRun (in_comment : Bool) (bytes : List ℕ) (run : Run) : Type 0 where
   pub some : 0 < run.length
   pub within : run.length ≤ length bytes
@@ -34,7 +34,7 @@ pub record IsRun (in_comment : Bool) (bytes : List ℕ) (run : Run) : Type 0 whe
   pub outside : run.class ≡ Letter → run.in_comment ≡ false
   pub uncomments : (rest : List ℕ) → uncommented in_comment (take run.length bytes ++ rest) ≡ seen ++ uncommented run.in_comment rest
 
--- The run is a word, and a white byte stands behind it.
+-- The run is a word, followed by a white byte.
 pub record IsBeforeWhite (run : Run) (bytes : List ℕ) : Type 0 where
   pub word : run.class ≡ Letter
   pub within : run.length < length bytes

@@ -16,15 +16,15 @@ use Rattle.lc_sexp.specs.declared.cursor.Item.TheVariants.{Atom as AtomItem, Lis
 unfoldable pub rest_of : Cursor → Trees
 rest_of c = trees_of c.text.now c.nodes.now
 
--- how many trees stand in a row
+-- the number of trees in a row
 abbrev pub part_count : Trees → ℕ
 part_count ts = tree_count ts
 
--- the item number of the first of them, or of what stands behind the last
+-- the item number of the first of them, or of what comes after the last item
 abbrev pub number_of : Cursor → ℕ
 number_of c = c.number
 
--- the item number at which a missing part is told: the list's own, or for a file how many items it has
+-- the item number at which a missing part is reported: the list's own, or for a file how many items it has
 abbrev pub owner_of : Cursor → ℕ
 owner_of c = c.owner
 
@@ -59,13 +59,13 @@ ShowsText number w text = IsText w text
 abbrev pub ShowsNumber : {X : Type 0} → ℕ → X → X → Type 0
 ShowsNumber number x y = Same x y
 
--- the cursor stands at the beginning of the list of these trees, which is the item of this number
+-- the cursor is at the beginning of the list of these trees, which is the item of this number
 pub record IsWithin (number : ℕ) (trees : Trees) (c : Cursor) : Type 0 where
   pub rest : rest_of c ≡ trees
   pub first : number_of c ≡ number + 1
   pub owner : owner_of c ≡ number
 
--- the cursor stands behind the first word of the list of this number, before these trees
+-- the cursor comes after the first word of the list of this number, before these trees
 pub record IsBehindWord (number : ℕ) (trees : Trees) (c : Cursor) : Type 0 where
   pub rest : rest_of c ≡ trees
   pub first : number_of c ≡ number + 2
@@ -81,25 +81,25 @@ abbrev pub ShowsItem : ℕ → Tree → Item → Type 0
 ShowsItem number t (AtomItem a) = (a.number ≡ number) × (t ≡ atom a.text.now)
 ShowsItem number t (ListItem c) = (ts : Trees) × (t ≡ list ts) × IsWithin number ts c
 
--- the cursor has gone on behind this tree, before these
+-- the cursor has gone on after this tree, before these
 pub record IsBehind (old : Cursor) (t : Tree) (ts : Trees) (new : Cursor) : Type 0 where
   pub rest : rest_of new ≡ ts
   pub number : number_of new ≡ number_of old + item_count t
   pub owner : owner_of new ≡ owner_of old
 
--- The answer where a part is asked for: it, and the cursor goes on behind; or the misfit, and the cursor stays.
+-- The answer if a part is asked for: the part, and the cursor goes on after it; or the misfit, and the cursor stays.
 abbrev pub IsFitted : {X T : Type 0} → Fit X → (ℕ → X → T → Type 0) → Cursor → Tree → Trees → Result T Misfit → Cursor → Type 0
 IsFitted (fits x) Shows old t ts (Ok part) new = Shows (number_of old) x part × IsBehind old t ts new
 IsFitted (fits x) Shows old t ts (Err misfit) new = ⊥
 IsFitted misshapen Shows old t ts result new = (result ≡ Err (Shape (number_of old))) × (new ≡ old)
 IsFitted beyond Shows old t ts result new = (result ≡ Err (Bound (number_of old))) × (new ≡ old)
 
--- The same where no item may be left, which is told at the owner.
+-- The same for a part after which nothing may be left; an item too many is reported at the owner.
 abbrev pub IsPart : {X T : Type 0} → (Tree → Fit X) → (ℕ → X → T → Type 0) → Cursor → Trees → Result T Misfit → Cursor → Type 0
 IsPart fit Shows old none result new = (result ≡ Err (Shape (owner_of old))) × (new ≡ old)
 IsPart fit Shows old (t ▸ ts) result new = IsFitted (fit t) Shows old t ts result new
 
--- what is answered of a part of this kind at this cursor
+-- what is returned for a part of this kind at this cursor
 abbrev pub GivesPart : {X T : Type 0} → (Tree → Fit X) → (ℕ → X → T → Type 0) → Cursor → Result T Misfit → Cursor → Type 0
 GivesPart fit Shows old result new = IsPart fit Shows old (rest_of old) result new
 
@@ -107,7 +107,7 @@ abbrev pub IsEndOf : Cursor → Trees → Result (Unit {0}) Misfit → Type 0
 IsEndOf c none result = IsOk result
 IsEndOf c (t ▸ ts) result = result ≡ Err (Shape (number_of c))
 
--- what is answered where nothing may be left
+-- what is returned if nothing may be left
 abbrev pub GivesEnd : Cursor → Result (Unit {0}) Misfit → Type 0
 GivesEnd c result = IsEndOf c (rest_of c) result
 

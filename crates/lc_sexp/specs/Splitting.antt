@@ -10,7 +10,7 @@ use Rattle.lc_sexp.specs.Takes.{parts_ended}
 use Rattle.lc_sexp.specs.declared.part.Part.{Part}
 use Rattle.lc_sexp.specs.declared.splitter.Splitter.{Splitter}
 
--- forms, and the items of a list behind them where it is open
+-- forms, and the items of a list after them if it is open
 abbrev pub opened : Bool → Trees → List Trees
 opened true items = items ∷ []
 opened false items = []
@@ -45,7 +45,7 @@ pub record IsSetAside (whole rest : List ℕ → List Token) (handed : List Part
 abbrev pub depth_of : Splitter → ℕ
 depth_of s = vec_len s.machine.holes + (if s.in_list then 1 else 0)
 
--- The splitter has taken a text of which these parts were handed out: whatever comes next, what was set aside and what is under way are the whole.
+-- The splitter has taken a text, and these parts of it were handed out: whatever comes next, what was set aside and what is under way are the whole.
 pub record Splits (whole : List ℕ → List Token) (rest : List ℕ → List ℕ) (taken : List Part) (s : Splitter) : Type 0 where
   pub aside : IsSetAside whole (λ x. told s.machine.text.items s.machine.start s.machine.nodes.items (rest x)) (taken ++ s.ready.items) s.in_list (entries_in s.ended) s.form s.item
   pub rooted : is_rooted s.machine.nodes.items ≡ true

@@ -1,15 +1,15 @@
--- Parts of a file: the items that stand directly in a list that is a form.
+-- Parts of a file: the items directly inside a list that is a form.
 use Rattle.std.specs.Prelude.{ℕ, ◌+◌, ◌-◌, List, [], ◌∷◌, ◌++◌}
 use Rattle.lc_sexp.specs.Trees.{Trees, atom, list, none, ◌▸◌, item_count, item_count_of_all}
 use Rattle.lc_sexp.specs.TreeCode.{tree_count, behind_first}
 use Rattle.lc_sexp.specs.declared.part.Part.{Part}
 
--- the items of a list, of which the first has this number, as parts of this form
+-- the items of a list as parts of this form, the first with this number
 abbrev pub parts_in : ℕ → ℕ → Trees → List Part
 parts_in form item none = []
 parts_in form item (t ▸ ts) = record { form = form; item = item; sexp = t } ∷ parts_in form (item + item_count t) ts
 
--- the parts of forms, of which the first has this number and begins with this item
+-- the parts of forms, where the first form has this number and begins with this item
 abbrev pub parts_from : ℕ → ℕ → Trees → List Part
 parts_from form item none = []
 parts_from form item (atom w ▸ ts) = parts_from (form + 1) (item + 1) ts

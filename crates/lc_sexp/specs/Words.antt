@@ -6,7 +6,7 @@ use Rattle.lc_sexp.specs.Splitting.{Splits}
 use Rattle.lc_sexp.specs.declared.part.Part.{Part}
 use Rattle.lc_sexp.specs.declared.splitter.Splitter.{Splitter}
 
--- The word that had begun, if one had, is an item of the text, where what comes does not go on with it. No word has begun then.
+-- The word that had begun, if one had, is an item of the text, if what comes does not go on with it. No word has begun then.
 pub record EndsWord (old new : Splitter) : Type 0 where
   pub splits : (whole : List ℕ → List Token) (rest : List ℕ → List ℕ) (taken : List Part) →
       ((x : List ℕ) → begins_word (rest x) ≡ false) →

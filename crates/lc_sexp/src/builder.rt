@@ -11,7 +11,7 @@ use crate::sexp::Sexp;
 use lc_base::OutOfMemory;
 use std::alloc::Global;
 
-/// Items in preorder that are put one behind another, with letters of their own.
+/// Items in preorder that are appended one after another, with letters of their own.
 #[derive(Drop)]
 pub(crate) struct Builder {
     pub(crate) nodes: Vec<Node>,
@@ -34,7 +34,7 @@ impl Builder {
         }
     }
 
-    /// The same, with room for so many items and letters.
+    /// The same, with room for `items` items and `letters` letters.
     pub(crate) fn with_room(
         alloc: Global,
         items: usize,
@@ -48,7 +48,7 @@ impl Builder {
         })
     }
 
-    /// Puts an atom of these letters behind.
+    /// Appends an atom with these letters.
     pub(crate) fn push_atom(&mut self, letters: &[u8]) -> Result<(), OutOfMemory>
         requires { are_letters letters.now ≡ true }
         ensures { OnOk result (entries_in self.new ≡ entries_in self.old ++ (leaf letters.now ∷ [])) }
@@ -60,7 +60,7 @@ impl Builder {
         Ok(())
     }
 
-    /// Puts a list of so many items behind, which are to follow.
+    /// Appends a list of `inside` items, which are to follow.
     pub(crate) fn push_list(&mut self, inside: u32) -> Result<(), OutOfMemory>
         ensures { OnOk result (entries_in self.new ≡ entries_in self.old ++ (branch inside ∷ [])) }
     {
@@ -68,7 +68,7 @@ impl Builder {
         Ok(())
     }
 
-    /// Puts a copy of an item behind, whose letters lie in this text.
+    /// Appends a copy of an item, whose letters lie in this text.
     pub(crate) fn push_copy(&mut self, node: Node, text: &[u8]) -> Result<(), OutOfMemory>
         requires within { is_within (length text.now) node ≡ true }
         requires letters { are_letters text.now ≡ true }
@@ -84,7 +84,7 @@ impl Builder {
         }
     }
 
-    /// Puts copies of a row's items behind.
+    /// Appends copies of a row's items.
     pub(crate) fn push_row(&mut self, nodes: &[Node], text: &[u8]) -> Result<(), OutOfMemory>
         requires { IsFlat text.now nodes.now }
         ensures { OnOk result (entries_in self.new ≡ entries_in self.old ++ entries text.now nodes.now) }
@@ -116,7 +116,7 @@ impl Builder {
     }
 }
 
-/// A number of letters or items, of which trees that lie flat have fewer than 2^32.
+/// A number of letters or items, if it is below 2^32, as it is in trees that lie flat.
 pub(crate) fn short(number: usize) -> Result<u32, OutOfMemory>
     ensures { IfOk result (λ n. n ≡ number) }
 {

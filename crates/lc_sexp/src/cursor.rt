@@ -16,15 +16,15 @@ use std::alloc::Global;
 /// Walks the s-expressions of a list, or the forms of a file, in order, and knows the item number of each:
 /// items are the atoms and the lists of a file, in preorder from 0.
 ///
-/// Each call that asks for a part goes on behind it where it is there, and otherwise stays and names the misfit.
+/// Each call that asks for a part goes on after it if it is there, and otherwise stays and names the misfit.
 #[derive(Clone, Copy)]
 pub struct Cursor<'a> {
     /// The items of the rest.
     nodes: &'a [Node],
     text: &'a [u8],
-    /// The number of the first item of the rest, or of what stands behind the last.
+    /// The number of the first item of the rest, or of what comes after the last item.
     number: u64,
-    /// The number at which a missing part is told: of the list, or for a file how many items it has.
+    /// The number at which a missing part is reported: of the list, or for a file how many items it has.
     owner: u64,
     ghost flat: { IsFlat text.now nodes.now },
     ghost in_range: { number + item_count_of_all (trees_of text.now nodes.now) < 2 ^ 64 },
@@ -54,7 +54,7 @@ impl<'a> Cursor<'a> {
     ghost use Rattle.lc_sexp.specs.Parts.{any_fit, atom_fit, name_fit, integer_fit, variable_fit, list_fit, form_fit, begins_form};
     ghost use Rattle.lc_sexp.specs.Shown.{rest_of, number_of, owner_of, part_count, ShowsItem, ShowsAtom, ShowsText, ShowsNumber, IsWithin, IsBehindWord, GivesPart, GivesEnd};
 
-    /// A cursor at the first of these forms, which have so many items.
+    /// A cursor at the first of these forms, which have `count` items.
     #[tactic(auto, unfolding(crate::specs::Shown::rest_of))]
     pub(crate) fn new(nodes: &'a [Node], text: &'a [u8], count: u64) -> Cursor<'a>
         requires flat { IsFlat text.now nodes.now }
@@ -71,7 +71,7 @@ impl<'a> Cursor<'a> {
         }
     }
 
-    /// A cursor at the first of these, whose number is this one, where what stands behind them has that one.
+    /// A cursor at the first of these items, whose number is `number`; what comes after them has the number `behind`.
     #[tactic(auto, unfolding(crate::specs::Shown::rest_of))]
     pub(crate) fn numbered(
         nodes: &'a [Node],
@@ -108,21 +108,21 @@ impl<'a> Cursor<'a> {
         }
     }
 
-    /// The number of the next item, or where none is left of what stands behind.
+    /// The number of the next item, or of what comes after if none is left.
     pub fn number(&self) -> u64
         ensures { result ≡ number_of self.now }
     {
         self.number
     }
 
-    /// The number at which a missing part is told: of the list, or for a file how many items it has.
+    /// The number at which a missing part is reported: of the list, or for a file how many items it has.
     pub fn owner(&self) -> u64
         ensures { result ≡ owner_of self.now }
     {
         self.owner
     }
 
-    /// Goes on behind the first item of the rest, if there is one.
+    /// Goes on after the first item of the rest, if there is one.
     fn skip(&mut self) -> bool
         ensures behind { result ≡ false → rest_of self.old ≡ none }
         ensures skipped { result ≡ true → part_count (rest_of self.old) ≡ part_count (rest_of self.new) + 1 }
@@ -160,7 +160,7 @@ impl<'a> Cursor<'a> {
         }
     }
 
-    /// Refuses the list where fewer parts than these are left, at its own number.
+    /// Refuses the list if fewer parts than these are left, at its own number.
     pub fn at_least(&self, parts: usize) -> Result<(), Misfit>
         ensures enough { IsOk result ↔ (parts ≤ part_count (rest_of self.now)) }
         ensures missing { IfErr result (λ misfit. misfit ≡ Shape (owner_of self.now)) }
@@ -239,7 +239,7 @@ impl<'a> Cursor<'a> {
     }
 
     /// The next item, which is a NUMBER: `0`, or digits that do not begin with 0, with `-` before these or not.
-    /// `Bound` is answered of one that is not of 64 bits.
+    /// `Bound` is returned for one that is not of 64 bits.
     pub fn integer(&mut self) -> Result<i64, Misfit>
         ensures { GivesPart integer_fit ShowsNumber self.old result self.new }
     {
@@ -250,7 +250,7 @@ impl<'a> Cursor<'a> {
     }
 
     /// The number k of the next item, which is a variable `?k`: k is `0` or digits that do not begin with 0.
-    /// `Bound` is answered of one that is not of 32 bits.
+    /// `Bound` is returned for one that is not of 32 bits.
     pub fn variable(&mut self) -> Result<u32, Misfit>
         ensures { GivesPart variable_fit ShowsNumber self.old result self.new }
     {
@@ -274,7 +274,7 @@ impl<'a> Cursor<'a> {
         }
     }
 
-    /// A cursor behind the first word of the next item, which is a list that begins with this word.
+    /// A cursor after the first word of the next item, which is a list that begins with this word.
     pub fn form(&mut self, word: &str) -> Result<Cursor<'a>, Misfit>
         ensures { GivesPart (form_fit word.now) IsBehindWord self.old result self.new }
     {
@@ -362,14 +362,14 @@ impl<'a> Atom<'a> {
         }
     }
 
-    /// The NUMBER that it is. `Bound` is answered of one that is not of 64 bits.
+    /// The NUMBER that it is. `Bound` is returned for one that is not of 64 bits.
     pub fn integer(&self) -> Result<i64, Misfit>
         ensures { Answers (integer_fit (atom (text_of self.now))) Same (atom_number self.now) result }
     {
         read_integer(self.text, self.number)
     }
 
-    /// The number of the variable `?k` that it is. `Bound` is answered of one that is not of 32 bits.
+    /// The number of the variable `?k` that it is. `Bound` is returned for one that is not of 32 bits.
     pub fn variable(&self) -> Result<u32, Misfit>
         ensures { Answers (variable_fit (atom (text_of self.now))) Same (atom_number self.now) result }
     {

@@ -17,7 +17,7 @@ use lc_base::OutOfMemory;
 use std::alloc::Global;
 use std::collections::VecDeque;
 
-/// Takes the first part, if it stands in this form.
+/// Takes the first part, if it belongs to this form.
 fn take_of(ready: &mut VecDeque<Part>, form: u64) -> Option<Sexp>
     ensures { MatchOption result
         ((front_of form ready.old.items ≡ none) × (behind_of form ready.old.items ≡ ready.new.items))
@@ -32,7 +32,7 @@ fn take_of(ready: &mut VecDeque<Part>, form: u64) -> Option<Sexp>
     Some(part.sexp)
 }
 
-/// Takes the first parts that stand in this form.
+/// Takes the first parts that belong to this form.
 fn take_all_of(
     alloc: Global,
     ready: &mut VecDeque<Part>,
@@ -48,7 +48,7 @@ fn take_all_of(
     Ok(sexps)
 }
 
-/// Puts a form behind others, a list with the first parts that stand in it.
+/// Appends a form, a list with the first parts that belong to it.
 fn put_form(
     alloc: Global,
     built: &mut Builder,

@@ -49,9 +49,9 @@ impl Forms {
 
     /// Reads a file of s-expressions.
     ///
-    /// Answers the trees that it reads as. Where it reads as none, that is `Refused(Text(offset))` with the offset
-    /// of its first fault: a byte that may not stand there, a `)` without a list, a `(` nested deeper than 1,000,
-    /// the byte behind the file limit, or the end, where a list is open. `OutOfMemory` speaks of neither.
+    /// Returns the trees that it reads as. If it reads as none, returns `Refused(Text(offset))` with the offset of
+    /// its first fault: a byte that may not be there, a `)` without a list, a `(` nested deeper than 1,000, the
+    /// byte beyond the file limit, or the end, if a list is open. `OutOfMemory` says nothing about either.
     pub fn read(alloc: Global, bytes: &[u8]) -> Result<Forms, Fault>
         ensures answer { IsAnswerTo bytes.now result }
         ensures counted { IfOk result (λ forms. item_count_of_all forms ≤ length bytes.now) }
@@ -64,7 +64,7 @@ impl Forms {
         machine.finish()
     }
 
-    /// What stands alone in the list that stands alone here.
+    /// The single item of the list that is alone here.
     pub(crate) fn into_part(self) -> Sexp
         requires { (t : Tree) × (self ≡ list (t ▸ none) ▸ none) }
         ensures { self ≡ list (result ▸ none) ▸ none }

@@ -4,8 +4,8 @@ use crate::machine::Machine;
 use lc_base::{Fault, OutOfMemory, Refusal};
 use std::alloc::Global;
 
-/// Reads the forms of a file that comes in pieces, and holds no more than they are. A fault of the text is told at the
-/// end; after an allocation was refused it answers `OutOfMemory` from then on.
+/// Reads the forms of a file that comes in pieces, and holds no more than they are. A fault of the text is reported at
+/// the end; once out of memory it returns `OutOfMemory` from then on.
 #[derive(Drop)]
 pub struct FormsReader {
     machine: Machine,
@@ -31,7 +31,7 @@ impl FormsReader {
         }
     }
 
-    /// Takes bytes that come behind what was fed, up to the first fault.
+    /// Takes bytes that come after what was fed, up to the first fault.
     fn feed_all(&mut self, piece: &[u8]) -> Result<(), OutOfMemory>
         ensures fed { OnOk result ((fed : List ℕ) → WasFed self.old fed → WasFed self.new (fed ++ piece.now)) }
     {

@@ -1,4 +1,4 @@
-//! Pieces of a file that is cut behind brackets, each read by itself.
+//! Pieces of a file that is cut after brackets, each read by itself.
 ghost use Rattle.std.specs.Prelude.{◌≡◌, [], IfOk, MatchBool, MatchOption, None, false, true};
 ghost use Rattle.lc_sexp.specs.Trees.{Tree, list, none, ◌▸◌};
 ghost use Rattle.lc_sexp.specs.Pieces.{HasTaken};
@@ -71,7 +71,7 @@ fn read_bracketed(alloc: Global, text: &[u8]) -> Result<Option<Forms>, OutOfMemo
     }
 }
 
-/// Whether the forms are a list that stands alone, in which something stands alone.
+/// Whether the forms are a single list with a single item.
 fn is_only(forms: &Forms) -> bool
     ensures { MatchBool result ((t : Tree) × (forms.now ≡ list (t ▸ none) ▸ none)) (IsOnly forms.now None) }
 {
@@ -88,7 +88,7 @@ fn is_only(forms: &Forms) -> bool
     true
 }
 
-/// What stands alone in a list that stands alone, if the forms are so.
+/// The single item of a single list, if the forms are that.
 fn only_part(forms: Forms) -> Option<Sexp>
     ensures { IsOnly forms result }
 {
@@ -99,7 +99,7 @@ fn only_part(forms: Forms) -> Option<Sexp>
 }
 
 /// The s-expression that a piece of a file is: a text that ends with the bracket that closes it, outside of comments. Nothing
-/// where the text is no such piece, or nests as deeply as a file may.
+/// if the text is no such piece, or nests as deeply as a file may.
 pub fn read_piece(alloc: Global, text: &[u8]) -> Result<Option<Sexp>, OutOfMemory>
     ensures { IfOk result (IsPieceRead text.now) }
 {

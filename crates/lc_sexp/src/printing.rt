@@ -9,7 +9,7 @@ use crate::sexp::Sexp;
 use lc_base::OutOfMemory;
 use std::alloc::Global;
 
-/// A walk that prints: the rest of a row, of which nothing was printed yet where it is fresh, and the rest of
+/// A walk that prints: the rest of a row, nothing of which was printed yet if it is fresh, and the rest of
 /// each row around it, from the outermost.
 #[derive(Drop)]
 pub(crate) struct Walk<'a> {
@@ -21,7 +21,7 @@ pub(crate) struct Walk<'a> {
 impl<'a> Walk<'a> {
     ghost use Rattle.lc_sexp.specs.Printing.{left_to_print, steps_left};
 
-    /// Prints an atom or a bracket, with a space before it where one is due. Answers whether something was left.
+    /// Prints an atom or a bracket, with a space before it if one is expected. Returns whether something was left.
     fn step(&mut self, out: &mut Vec<u8>) -> Result<bool, OutOfMemory>
         ensures told { OnOk result (out.new.items ++ left_to_print self.new ≡ out.old.items ++ left_to_print self.old) }
         ensures ended { IfOk result (λ more. more ≡ false → left_to_print self.new ≡ []) }
@@ -55,7 +55,7 @@ impl<'a> Walk<'a> {
     }
 }
 
-/// Prints items behind what is there, with one space between them. Nothing recurses.
+/// Appends the text of items, with one space between them. Nothing recurses.
 fn print_items(alloc: Global, out: &mut Vec<u8>, items: Cursor<'_>) -> Result<(), OutOfMemory>
     ensures { OnOk result (out.new.items ≡ out.old.items ++ printed_items (rest_of items.entry)) }
 {
@@ -70,7 +70,7 @@ fn print_items(alloc: Global, out: &mut Vec<u8>, items: Cursor<'_>) -> Result<()
 
 /// Prints s-expressions: each with a line feed, and one space between the items of a list.
 ///
-/// What is printed reads back as the same trees where each atom is one letter or more, lists are nested at
+/// What is printed reads back as the same trees if each atom is one letter or more, lists are nested at
 /// most 1,000 deep, and the text is within the file limit.
 pub fn print(alloc: Global, sexps: &[Sexp]) -> Result<Vec<u8>, OutOfMemory>
     ensures { IfOk result (λ text. text.items ≡ printed (row sexps.now)) }

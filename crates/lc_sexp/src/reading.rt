@@ -11,9 +11,9 @@ use std::alloc::Global;
 /// Reads a file of s-expressions, each into memory of its own. `Forms::read` reads them into one, which costs
 /// less.
 ///
-/// Answers the trees that it reads as. Where it reads as none, that is `Refused(Text(offset))` with the offset
-/// of its first fault: a byte that may not stand there, a `)` without a list, a `(` nested deeper than 1,000,
-/// the byte behind the file limit, or the end, where a list is open. `OutOfMemory` speaks of neither.
+/// Returns the trees that it reads as. If it reads as none, returns `Refused(Text(offset))` with the offset of
+/// its first fault: a byte that may not be there, a `)` without a list, a `(` nested deeper than 1,000, the
+/// byte beyond the file limit, or the end, if a list is open. `OutOfMemory` says nothing about either.
 pub fn read(alloc: Global, bytes: &[u8]) -> Result<Vec<Sexp>, Fault>
     ensures answer { IsAnswerInParts bytes.now result }
     ensures counted { IfOk result (λ forms. item_count_of_all (row forms.items) ≤ length bytes.now) }

@@ -5,14 +5,14 @@ ghost use Rattle.lc_sexp.specs.Runs.{IsRun, IsBeforeWhite};
 
 use crate::class::{Class, classify, is_letter};
 
-/// Bytes that are read at once: a comment, letters that stand together, or a byte alone.
+/// Bytes that are read at once: a comment, consecutive letters, or a byte alone.
 #[derive(Clone, Copy)]
 pub(crate) struct Run {
     /// The class of each of the bytes. Those of a comment are white.
     pub(crate) class: Class,
     /// How many bytes.
     pub(crate) length: usize,
-    /// Whether a comment goes on behind them.
+    /// Whether a comment goes on after these bytes.
     pub(crate) in_comment: bool,
 }
 
@@ -39,7 +39,7 @@ pub(crate) fn first_run(bytes: &[u8], in_comment: bool) -> Run
     }
 }
 
-/// Whether the run at the front of these bytes is a word with a white byte behind it, which is then taken in the same step.
+/// Whether the run at the front of these bytes is a word with a white byte after it, which is then taken in the same step.
 #[inline(always)]
 pub(crate) fn is_word_before_white(run: Run, bytes: &[u8]) -> bool
     ensures { result ≡ true → IsBeforeWhite run bytes.now }
@@ -84,7 +84,7 @@ fn comment(bytes: &[u8]) -> Run
     }
 }
 
-/// How many letters stand at the front.
+/// How many letters are at the front.
 fn word_length(bytes: &[u8]) -> usize
     ensures within { result ≤ length bytes.now }
     ensures letters { are_letters (take result bytes.now) ≡ true }

@@ -17,7 +17,7 @@ use std::marker::Model;
 /// An s-expression: an atom, or a list of s-expressions. A clause sees its tree.
 ///
 /// It lies flat: a node for each item, in preorder, and the letters of all atoms. It has fewer than 2^32 of
-/// each; `OutOfMemory` is answered where more were to lie in one.
+/// each; `OutOfMemory` is returned if more were to lie in one.
 #[derive(Drop)]
 pub struct Sexp {
     nodes: Vec<Node>,
@@ -93,7 +93,7 @@ impl Sexp {
         self.nodes.len()
     }
 
-    /// A cursor at it, with nothing behind.
+    /// A cursor at it, with nothing after it.
     pub fn cursor(&self) -> Cursor<'_>
         ensures rest { rest_of result ≡ self.now ▸ none }
         ensures number { number_of result ≡ 0 }
@@ -103,8 +103,8 @@ impl Sexp {
         Cursor::new(&self.nodes, &self.text, count as u64)
     }
 
-    /// The same where its items are numbered from this one on, as in the file of which it is a part. `OutOfMemory` is
-    /// answered where their numbers have more than 64 bits, as in no file.
+    /// The same, with its items numbered from `number` on, as in the file that it is a part of. `OutOfMemory` is
+    /// returned if their numbers have more than 64 bits, as in no file.
     pub fn cursor_from(&self, number: u64) -> Result<Cursor<'_>, OutOfMemory>
         ensures rest { IfOk result (λ cursor. rest_of cursor ≡ self.now ▸ none) }
         ensures number { IfOk result (λ cursor. number_of cursor ≡ number) }
@@ -117,7 +117,7 @@ impl Sexp {
         Ok(Cursor::numbered(&self.nodes, &self.text, number, behind))
     }
 
-    /// Puts a copy of its items behind others.
+    /// Appends a copy of its items to others.
     pub(crate) fn put(&self, built: &mut Builder) -> Result<(), OutOfMemory>
         ensures { OnOk result (entries_in built.new ≡ entries_in built.old ++ entries_of self.now) }
     {
@@ -139,7 +139,7 @@ pub(crate) fn count_of_all(sexps: &[Sexp]) -> Result<u32, OutOfMemory>
     Ok(count)
 }
 
-/// Puts copies of all items of these s-expressions behind others.
+/// Appends copies of all items of these s-expressions to others.
 pub(crate) fn put_all(built: &mut Builder, sexps: &[Sexp]) -> Result<(), OutOfMemory>
     ensures { OnOk result (entries_in built.new ≡ entries_in built.old ++ entries_of_all (row sexps.now)) }
 {

@@ -25,7 +25,7 @@ use lc_base::{Fault, OutOfMemory, Refusal};
 use std::alloc::Global;
 use std::collections::VecDeque;
 
-/// A text as far as it was read, whose parts, the items that stand directly in a list that is a form, are set aside
+/// A text as far as it was read, whose parts, the items directly inside a list that is a form, are set aside
 /// as they end. The machine holds only the item that is under way.
 #[derive(Drop)]
 pub(crate) struct Splitter {
@@ -95,7 +95,7 @@ impl Splitter {
         self.end_begun_word()
     }
 
-    /// Ends the word that has begun, where no list is open but a form. It stands apart so that the tests before it cost no call.
+    /// Ends the word that has begun, if no list is open but a form. It is a function of its own, so that the tests before it cost no call.
     #[inline(never)]
     fn end_begun_word(&mut self) -> Result<(), OutOfMemory>
         requires begun { self.old.machine.start ≢ vec_len self.old.machine.text }
@@ -219,8 +219,8 @@ impl Splitter {
         Ok(true)
     }
 
-    /// Takes the run at the front of these bytes of the file, a word with the white byte behind it if one stands there,
-    /// and answers how many they are. Where it is misplaced nothing changes, and the offset is that of the first fault.
+    /// Takes the run at the front of these bytes of the file, a word with the white byte after it if there is one,
+    /// and returns how many bytes these are. If it is misplaced, nothing changes, and the offset is that of the first fault.
     pub(crate) fn push_run(&mut self, bytes: &[u8]) -> Result<usize, OutOfMemory>
         requires some { 0 < length bytes.now }
         requires room { self.old.machine.offset + length bytes.now ≤ file_limit }
@@ -273,7 +273,7 @@ impl Splitter {
     }
 }
 
-/// The number that stands so many behind another.
+/// The number that comes `more` after another.
 fn behind(number: u64, more: u64) -> Result<u64, OutOfMemory>
     ensures { IfOk result (λ sum. sum ≡ number + more) }
 {

@@ -69,7 +69,7 @@ is_free (Waiting call) e = absurd cc
 is_free (Noted call reply) e = absurd cc
 is_free (Done call reply) e = absurd cc
 
--- a client is in no call just where its phase is free, and else at a point of its call's operation
+-- a client is in no call exactly if its phase is free, and else at a point of its call's operation
 abbrev pub Stands : Object → Option Client → Option Call → Type 0
 Stands object None now = now ≡ None
 Stands object (Some Idle) now = now ≡ None
@@ -109,7 +109,7 @@ module _ (D : Development) (R : IsResolved D) where
     pub same : (c : ℕ) → call_in (after c) ≡ call_in (phases c)
     pub lawful : (hs : List Happening) → IsLawful step (abs t) after hs → IsLawful step (abs s) phases (map (marked last) ms ++ hs)
 
-  -- a row is matched where it was changed for one client, and the others kept theirs
+  -- a row is matched if it was changed for one client, and the others kept theirs
   pub matched : (phases : ℕ → Phase) (s t : State) (c : ℕ) (q : Phase) → ((d : ℕ) → Matches ops (phases d) (row_of first s d)) → Matches ops q (row_of first t c) → ((d : ℕ) → (d ≡ c → ⊥) → row_of first t d ≡ row_of first s d)
       → (d : ℕ) → Matches ops (put phases c q d) (row_of first t d)
   matched phases s t c q all here away d = go (d == c) refl

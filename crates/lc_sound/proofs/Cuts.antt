@@ -1,4 +1,4 @@
--- Where one call precedes another, it stands earlier in the order.
+-- If one call precedes another, it comes earlier in the order.
 use Rattle.std.proofs.Common.{◌≡◌, ℕ, zero, suc, ◌+◌, ◌<◌, ◌≤◌, Bool, true, false, ◌==◌, cond, List, [], ◌∷◌, ℤ, take, subst, inl, inr, arith}
 use Rattle.lc_seq.specs.Sequential.{Call}
 use Rattle.lc_hist.specs.History.{Event, Called, Replied, Entry, is_call, is_return, is_of, count, IsPlace, Precedes}

@@ -295,7 +295,7 @@ module _ (D : Development) (R : IsResolved D) (w : World) (c : ℕ) (vs : List �
   replied : e.next ≡ None → (m : State) → values_of m (variable new) e.replies ≡ numbers s vs e.replies
   replied is m = ap (λ xs. values_of m (variable xs) e.replies) (sym (still is)) ∙ code_values m s env _ e.replies (return_is is).code
 
-  -- the replies stand as asked exactly where the return is justified
+  -- the replies are as asked for exactly if the return is justified
   stand : (p : Path) (m : State) → columns_by s env p.columns ≡ m → e.next ≡ None → IsJustified first m c (numbers s vs e.replies) → EachHolds s env (map (told p.columns τ) (reply_goals first e))
   stand p m cs is j =
       subst (λ (x : Option ℕ). EachHolds s env (map (told p.columns τ) (elim x as (λ y. List Formula) [ Some l ↦ [] | None ↦ justified first e.replies ∷ [] ]))) (sym is)

@@ -130,7 +130,7 @@ module _ (D : Development) (X : IsProven D) (n : ℕ) (w : World) (G : IsGood D 
   pub all_hold : EachHolds s env all
   all_hold = each-append s env hyps path.facts (L.hyps_hold D X n w G c p vs at e among from facts) taken.1.1.0.0
 
-  -- the columns behind the whole step
+  -- the columns after the whole step
   abbrev pub ended : Option ℕ → State
   ended (Some q) = m
   ended None = stored_all m (return_writes (first_system D) c)

@@ -1,4 +1,4 @@
--- Where each bare run has an instrumented run over it, each history is linearizable.
+-- If each bare run has an instrumented run over it, each history is linearizable.
 use Rattle.std.proofs.Common.{ap, subst}
 use Rattle.lc_seq.specs.TextStep.{text_step, start_of}
 use Rattle.lc_hist.specs.History.{Linearizes}

@@ -33,7 +33,7 @@ one_more : (c : ℕ) (h : List Event) (x : Call × List ℤ) (xs : List (Call ×
     ⊎ ((call : Call) × (reply : List ℤ) × (pending_of c None h ≡ Some call) × (x ∷ xs ≡ (x ∷ returned_of c None h) ++ (call, reply) ∷ []))
 one_more c h x xs is = elim is [ inl e ↦ inl (ap (λ ys. x ∷ ys) e) | inr e ↦ inr (e.0, e.1, e.2, ap (λ ys. x ∷ ys) e.3) ]
 
--- an entry that counts stands before the return, and one that does not, nowhere
+-- an entry that counts comes before the return, and one that does not count is nowhere
 note_here : (c : ℕ) (call : Call) (h : List Event) (e : Entry) (es : List Entry) → (e.client == c) ≡ true → (b : Bool)
     → AreCalls c (Some call) h (cond b ((e.call, e.reply) ∷ []) [] ++ entries_of c es)
     → AreCalls c (Some call) h (entries_of c (cond b (e ∷ es) es))

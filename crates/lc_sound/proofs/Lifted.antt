@@ -1,4 +1,4 @@
--- Each bare step has its instrumented step, and over every bare run stands an instrumented one.
+-- Each bare step has its instrumented step, and over every bare run there is an instrumented one.
 use Rattle.std.proofs.Common.{◌≡◌, ℕ, ◌≤◌, List, [], ◌∷◌, ℤ, Option, Some, None, map, length, refl, sym, ap, ◌∙◌, subst, arith}
 use Rattle.std.specs.Prelude.{slice_get}
 use Rattle.std.proofs.lemmas.Option.{slice_get_within}

@@ -1,4 +1,4 @@
--- Where what happens is lawful, the order of its marks linearizes its history.
+-- If what happens is lawful, the order of its marks linearizes its history.
 use Rattle.std.proofs.Common.{ℕ, List}
 use Rattle.lc_seq.specs.Sequential.{Sequential}
 use Rattle.lc_hist.specs.History.{Linearizes}

@@ -1,4 +1,4 @@
--- A run and one more step are a run; and a step is determined by its client, and by the call where one begins.
+-- A run and one more step are a run; and a step is determined by its client, and by the call if one begins.
 use Rattle.std.proofs.Common.{◌≡◌, ℕ, true, false, List, [], ◌∷◌, ◌++◌, ℤ, Option, Some, None, refl, sym, ap, ◌∙◌, subst, inl, inr, arith}
 use Rattle.std.specs.Prelude.{slice_get}
 use Rattle.std.proofs.lemmas.Int.{ints}
@@ -93,7 +93,7 @@ same_running object w c p q vs us i j r t =
     let same : r.code.0 ≡ t.code.0 = same_Some r.code.0 t.code.0 (sym r.code.1 ∙ (ap (slice_get object.points) point ∙ t.code.1)) in
     (point, cc client, sym r.code.2 ∙ (ap (λ (x : Point). x.instruction) same ∙ t.code.2))
 
--- what the two did, where they run the same instruction
+-- what the two did, if they run the same instruction
 same_done : (object : Object) (w : World) (c p q : ℕ) (vs us : List ℤ) (i j : Instr) (k l : EdgeKind) (a b : State) (x y : Outcome) → IsRunning object w c p vs i → IsRunning object w c q us j →
     Does object w.columns vs i k a x → Does object w.columns us j l b y → (k ≡ l) × (a ≡ b) × (x ≡ y)
 same_done object w c p q vs us i j k l a b x y r t d f =

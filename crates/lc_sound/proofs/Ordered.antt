@@ -22,7 +22,7 @@ use Rattle.lc_sound.proofs.Linearized.{linearized}
 use Rattle.lc_sound.proofs.Book.{Tells, AllStand}
 use Rattle.lc_sound.proofs.Steps.{lawful, events_are}
 
--- behind the columns of a state there is 0
+-- after the columns of a state there is 0
 pub column_past : (ns : List (ℤ × ℤ)) (c : ℕ) → length ns ≤ c → initial_state ns c ≡ (λ i. pos 0)
 column_past ns c le = get_or-eq_default (initial_columns ns) (λ i. pos 0) (let l = length-map ns (λ (p : ℤ × ℤ). affine p.0 p.1) in omega arith)
 

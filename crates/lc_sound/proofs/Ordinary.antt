@@ -60,7 +60,7 @@ module _ (D : Development) (R : IsResolved D) where
   abbrev first : ℕ
   first = first_system D
 
-  -- where one client is set
+  -- if one client is set
   set_own : (w v : World) (c : ℕ) (old x : Client) → IsOrdinary D w → IsClient w c old → v.clients ≡ slice_set w.clients c x →
       ((p : ℕ) (us : List ℤ) → x ≡ In p us → variable us 1 ≡ pos c) → (d p : ℕ) (us : List ℤ) → IsClient v d (In p us) → variable us 1 ≡ pos d
   set_own w v c old x O at is own d p us there = by (d == c) refl

@@ -80,7 +80,7 @@ takes_note operations (Waiting call) row e m one is = let same : e.call ≡ call
 takes_note operations (Noted call reply) row e m one is = let same : e.call ≡ call = cc in subst (λ k. Takes (Noted k reply) (Marked true e) (Noted e.call e.reply)) same notes_again
 takes_note operations (Done call reply) row e m one is = absurd (cc (m.0, one))
 
--- a justified return answers what was marked, or what was noted last
+-- a justified return gives what was marked, or what was noted last
 pub takes_return : (operations : List Operation) (first : ℕ) (s : State) (c : ℕ) (p : Phase) (numbers : List ℤ) (call : Call)
     → Matches operations p (row_of first s c) → IsJustified first s c numbers → call_in p ≡ Some call → length numbers ≡ op_replies operations call.op
     → Takes p (Happens (Replied c numbers)) Free

@@ -1,4 +1,4 @@
--- Over every bare run stands an instrumented one, all of whose worlds are good.
+-- Over every bare run there is an instrumented one, all of whose worlds are good.
 use Rattle.std.proofs.Common.{◌≡◌, ℕ, List, [], ◌∷◌, ℤ, pos, Option, Some, None, refl, sym, ap, ◌∙◌, subst}
 use Rattle.std.specs.Prelude.{slice_get, slice_set}
 use Rattle.std.proofs.lemmas.Option.{same_Some, slice_get_within}

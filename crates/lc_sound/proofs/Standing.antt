@@ -76,7 +76,7 @@ module _ (D : Development) (R : IsResolved D) (w b : World) (over : IsOver D w b
   abbrev pub StandsOver : Event → World → Type 0
   StandsOver what v = (b' : World) × Steps D.object b c what b' × IsOver D v b'
 
-  -- what is behind a bare step leaves the object's columns
+  -- what is done after a bare step leaves the object's columns
   stands : (what : Event) (mid v : World) (m : State) → Steps D.object w c what mid → v ≡ with_columns mid m → ((k : ℕ) → IsConcrete D k → m k ≡ mid.columns k) → StandsOver what v
   stands what mid v m step v-is same =
       let so = step_over D.object R.object w b over.clients agree c what mid step in (

@@ -53,7 +53,7 @@ pub record IsLifted (D : Development) (w : World) (c : ℕ) (what : Event) (b' :
   pub step : Instrumented D w c what marks to
   pub over : IsOver D to b'
 
--- over a bare run stands an instrumented run with the same steps
+-- over a bare run there is an instrumented run with the same steps
 pub record IsOverRun (D : Development) (n : ℕ) (bare : List BareLabel) (b : World) : Type 0 where
   pub labels : List Label
   pub world : World
@@ -92,7 +92,7 @@ StepsAreInstances D =
     (n : ℕ) (labels : List Label) (w w' : World) → IsRun D n labels w →
     (c : ℕ) (what : Event) (marks : List Mark) → Instrumented D w c what marks w' → IsAction D n w c what w'
 
--- over each bare run stands an instrumented run with the same steps
+-- over each bare run there is an instrumented run with the same steps
 abbrev pub RunsAreInstrumented : Development → Type 0
 RunsAreInstrumented D = (n : ℕ) (labels : List BareLabel) (b : World) → BareRuns D.object (initial_world D.object n) labels b → IsOverRun D n labels b
 
@@ -145,7 +145,7 @@ pub record IsOnce (what what' : Event) (ms ms' : List Mark) (v v' : World) : Typ
   pub marks : ms ≡ ms'
   pub world : v ≡ v'
 
--- a client has at most one step, and where it begins a call one for each call; label and world are then the same
+-- a client has at most one step, and if it begins a call one for each call; label and world are then the same
 abbrev pub StepsAreDetermined : Type 0
 StepsAreDetermined =
     (D : Development) (w : World) (c : ℕ) (what what' : Event) (marks marks' : List Mark) (v v' : World) → AreAlike what what' →

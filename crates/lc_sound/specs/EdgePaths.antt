@@ -16,13 +16,13 @@ use Rattle.lc_outline.specs.Resolved.{IsResolved}
 use Rattle.lc_cond.specs.Conditions.{at_end, reply_goals}
 use Rattle.lc_sound.specs.Instrumented.{Label, Instrumented, with_columns, IsRun}
 
--- the paths of an edge, where there are n variables
+-- the paths of an edge, if there are n variables
 abbrev pub edge_paths : Development → ℕ → Edge → List Path
 edge_paths D n e =
     paths D.specification.operations (first_system D) 0 (operation_at D.object e.point) (edge_variables n e) (riders_at D e.point e.kind) (path_start e)
 
--- From the columns s and with these variables a path of an edge is gone to the columns m: its facts hold, its marks are
--- lawful, and on a return the replies stand as they are asked for. A return's own store comes last.
+-- From the columns s and with these variables a path of an edge leads to the columns m: its facts hold, its marks are
+-- lawful, and on a return the replies are as they are asked for. A return's own store comes last.
 pub record IsGone (D : Development) (s : State) (variables : List ℤ) (e : Edge) (p : Path) (m : State) : Type 0 where
   pub facts : EachHolds s (variable variables) p.facts
   pub marks : AreMet s (variable variables) p.duties
@@ -45,7 +45,7 @@ pub record IsOrdinary (D : Development) (w : World) : Type 0 where
 abbrev pub EdgePathsExclude : Type 0
 EdgePathsExclude = (D : Development) (e : Edge) (s : State) (variables : List ℤ) → AreApart s (variable variables) (edge_paths D (length variables) e)
 
--- where the bare step goes by an edge, its instrumented step leads to columns exactly where a path of the edge is gone to them
+-- if the bare step goes by an edge, its instrumented step leads to columns exactly if a path of the edge leads to them
 abbrev pub StepsArePaths : Type 0
 StepsArePaths =
     (D : Development) → IsResolved D → (w mid : World) (c : ℕ) (variables : List ℤ) (e : Edge) (what : Event) →

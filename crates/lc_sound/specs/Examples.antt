@@ -48,7 +48,7 @@ lost_labels =
     record { client = 0; what = Returned (pos 0 ∷ []) } ∷
     record { client = 1; what = Returned (pos 0 ∷ []) } ∷ []
 
--- whatever invariant, assertions, actions and riders stand beside this object: some condition is not valid
+-- whatever invariant, assertions, actions and riders are given for this object: some condition is not valid
 abbrev pub LostUpdateIsNeverProven : Type 0
 LostUpdateIsNeverProven = (D : Development) → D.specification ≡ counter_specification → D.object ≡ racy_object → IsProven D → ⊥
 
@@ -70,7 +70,7 @@ helped_labels =
     record { client = 1; what = Moved 0 Next; marks = [] } ∷
     record { client = 1; what = Moved 1 Then; marks = helped_mark ∷ [] } ∷ []
 
--- its call stands in the order of the run
+-- its call is in the order of the run
 abbrev pub HelpedCall : Type 0
 HelpedCall =
     ((end : World) × Runs helping (start_world helping 2) helped_labels end)

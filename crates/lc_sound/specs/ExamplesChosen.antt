@@ -7,11 +7,11 @@ use Rattle.lc_hist.specs.History.{IsLegal}
 use Rattle.lc_cond.specs.Conditions.{conditions}
 use Rattle.lc_sound.specs.Chosen.{adding, coin, heads, pick, flipped, noting, observing_goals}
 
--- the counter by fetch-and-add has so many conditions
+-- the counter by fetch-and-add has 51 conditions
 abbrev pub AddingIsCounted : Type 0
 AddingIsCounted = length (conditions adding) ≡ 51
 
--- a flip replies 7 where 7 is picked, though the first choice could be taken; and by no other choice
+-- a flip replies 7 if 7 is picked, though the first choice could be taken; and by no other choice
 abbrev pub CoinIsPicked : Type 0
 CoinIsPicked =
     IsLegal (text_step coin.operations) (start_of coin.columns) (flipped (ByName pick (pos 7 ∷ [])))

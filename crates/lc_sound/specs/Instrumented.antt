@@ -48,7 +48,7 @@ Runs D w (l ∷ ls) w' = (mid : World) × Instrumented D w l.client l.what l.mar
 abbrev pub start_world : Development → ℕ → World
 start_world D clients = record { columns = start_columns D; clients = replicate clients Idle }
 
--- these labels lead so many clients from the start to this world
+-- these labels lead `clients` clients from the start to this world
 abbrev pub IsRun : Development → ℕ → List Label → World → Type 0
 IsRun D clients labels w = Runs D (start_world D clients) labels w
 

@@ -25,7 +25,7 @@ pub record Guarantee (D : Development) (n u : ℕ) (m m' : State) : Type 0 where
 abbrev pub Rely : Development → ℕ → ℕ → State → State → Type 0
 Rely D n t m m' = (u : ℕ) × (u < n) × (t ≡ u → ⊥) × Guarantee D n u m m'
 
--- the invariant holds for so many clients
+-- the invariant holds for n clients
 abbrev pub IsInvariant : Development → ℕ → State → Type 0
 IsInvariant D n m = (e : Env) → e 0 ≡ pos n → EachHolds m e (invariant_of D)
 
@@ -40,7 +40,7 @@ StepsAreGuaranteed D =
     (n : ℕ) (labels : List Label) (w w' : World) → IsRun D n labels w →
     (c : ℕ) (what : Event) (marks : List Mark) → Instrumented D w c what marks w' → Guarantee D n c w.columns w'.columns
 
--- what is asserted of a client stays under its rely, where the invariant holds before and after
+-- what is asserted of a client stays under its rely, if the invariant holds before and after
 abbrev pub AssertionsAreStable : Development → Type 0
 AssertionsAreStable D =
     (n t : ℕ) (client : Client) (m m' : State) → t < n → IsClientGood D n m t client → Rely D n t m m' →

@@ -1,4 +1,4 @@
-//! What a development means: where its conditions are valid, every history of its object is linearizable.
+//! What a development means: if its conditions are valid, every history of its object is linearizable.
 #![tactic(auto)]
 
 pub mod examples;

@@ -8,13 +8,13 @@ ghost use Rattle.lc_sound.specs.Valid.{AreValid};
 
 use lc_outline::Development;
 
-/// Where each condition of a development has a derivation, all its conditions are valid.
+/// If each condition of a development has a derivation, all its conditions are valid.
 pub fn derived_conditions_are_valid(development: &Development)
     requires derived { AreDerived (development_shown development.now) }
     ensures valid { AreValid (development_shown development.now) }
 {}
 
-/// Where all conditions of a development are valid, for every number of clients: in every world that an instrumented run
+/// If all conditions of a development are valid, then for every number of clients: in every world that an instrumented run
 /// reaches the invariant, the frames and the assertions hold; each bare step there has its instrumented step, so that each
 /// mark is lawful and each return justified; each step is an instance of its edge's action, and in its client's guarantee; and
 /// what is asserted of a client stays under its rely.
@@ -27,8 +27,8 @@ pub fn outline_holds(development: &Development)
     ensures stable { AssertionsAreStable (development_shown development.now) }
 {}
 
-/// Where all conditions of a development are valid: for every number of clients and every list of single-access steps of its
-/// object, the history of calls and returns is linearizable by its specification. Over the steps stands an instrumented run,
+/// If all conditions of a development are valid, then for every number of clients and every list of single-access steps of its
+/// object, the history of calls and returns is linearizable by its specification. Over the steps there is an instrumented run,
 /// and the order of its marks is one that linearizes the history.
 pub fn linearizable_runs(development: &Development)
     requires valid { AreValid (development_shown development.now) }

@@ -46,7 +46,7 @@ pub name_declares : (before : List (List ℕ)) (n : ℕ) (t : Tree) → Holds (�
 name_declares before n (atom w) = named before n w (is_name w)
 name_declares before n (list ts) = tt
 
--- a name that stands before is none of theirs
+-- a name that comes before is none of theirs
 among : (v w : List ℕ) (before : List (List ℕ)) → IsIn v before → IsNew before w → bytes_eq v w ≡ true → ⊥
 among v w [] at new same = at
 among v w (x ∷ xs) (inl e) new same =
@@ -94,7 +94,7 @@ module _ {X : Type 0} (name : X → List ℕ) where
   apart before [] new = tt
   apart before (x ∷ xs) new = (none_named (name x) (before ++ name x ∷ []) xs (at_end (name x) before) new.1, apart (before ++ name x ∷ []) xs new.1)
 
-  -- things that are read, where each declares its name
+  -- things that are read, if each declares its name
   pub declared_new : (read : List (List ℕ) → ℕ → Tree → Reading X) (declares : Tree → List (List ℕ))
       → ((before : List (List ℕ)) (n : ℕ) (t : Tree) → Holds (λ x. IsNew before (name x) × (declares t ≡ name x ∷ [])) (read before n t))
       → (before : List (List ℕ)) (m : ℕ) (ts : Trees) → Holds (AreNew before) (declared_reading read declares before m ts)

@@ -1,4 +1,4 @@
--- Names that stand before a place, and names that are declared one after another.
+-- Names that come before a place, and names that are declared one after another.
 use Rattle.std.proofs.Common.{◌≡◌, ℕ, suc, zero, Bool, true, false, List, [], ◌∷◌, Option, Some, None, take, refl, sym, ap, ◌∙◌, cond, arith}
 use Rattle.std.specs.Prelude.{option_map, ◌||◌, nat_lt}
 use Rattle.std.specs.List.{list_any}
@@ -26,7 +26,7 @@ step true b k o e = first k
 step false b k None e = e
 step false b k (Some p) e = e ∙ later p k
 
--- a name stands among the first of names exactly where its first place is before
+-- a name is among the first of names exactly if its first place is before
 pub stands_before : (vs : List (List ℕ)) (w : List ℕ) (k : ℕ) → list_any (is w) (take k vs) ≡ is_before k (place_of vs w)
 stands_before [] w zero = refl
 stands_before [] w (suc k) = refl

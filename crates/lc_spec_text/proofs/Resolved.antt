@@ -51,7 +51,7 @@ TermKnown c v t = term_passes (known c v) t ≡ true
 abbrev pub ColumnKnown : ℕ → ℕ → Column → Type 0
 ColumnKnown c v d = column_passes (known c v) d ≡ true
 
--- the same of a formula, which has no quantifier
+-- the same for a formula, which has no quantifier
 abbrev pub FormulaKnown : ℕ → ℕ → Formula → Type 0
 FormulaKnown c v f = (is_ground f ≡ true) × (is_known c v f ≡ true)
 
@@ -139,7 +139,7 @@ updates_hold columns variables n t =
     let test = update_is_resolved (length columns.own) (suc (length variables)) in
     listed_holds (λ us. list_all test us ≡ true) (λ n. each_reading (update_reading columns names)) n t (λ n m ts. each_holds test (update_reading columns names) (update_holds columns variables) m ts)
 
--- replies: they are as many as are due, where it is said how many
+-- replies: they are as many as are expected, if a number is given
 abbrev Replied : ℕ → ℕ → Option ℕ → List Term → Type 0
 Replied c v count rs = (list_all (term_passes (known c v)) rs ≡ true) × ((k : ℕ) → count ≡ Some k → length rs ≡ k)
 
@@ -263,7 +263,7 @@ ways_hold : (columns : Columns) (variables : List (List ℕ)) (count : Option �
 ways_hold columns variables count m ts =
     if_holds (AllBranched (length columns.own) (suc (length variables)) count) (begin_with_choice ts) _ _ (choices_hold columns variables count [] m ts) (branches_hold columns variables count m ts)
 
--- a count that may stand there is due
+-- the count of replies that is expected fits
 small_fits : (k : ℕ) → nat_lt reply_limit k ≡ false → fits_i64 (pos k) ≡ true
 small_fits k e = grind (arith, nat_tests)
 

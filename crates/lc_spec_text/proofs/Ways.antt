@@ -1,4 +1,4 @@
--- How the operations go that are read: by branches without names, or by choices, each of which has a name of its own.
+-- How the operations go that are read: by branches without names, or by choices, each with a name of its own.
 use Rattle.std.proofs.Common.{◌≡◌, ℕ, zero, suc, ◌+◌, Bool, true, false, ◌&&◌, ◌==◌, cond, List, [], ◌∷◌, ◌++◌, map, length, Option, Some, None, refl, sym, ap, ◌∙◌, subst}
 use Rattle.std.specs.Prelude.{codes, bytes_eq, option_map, slice_get}
 use Rattle.std.specs.List.{list_any}
@@ -42,7 +42,7 @@ branches_in_order columns names count m (t ▸ ts) =
     (anything (behind_reading (codes "branch") (branch_parts_reading columns names count) m t)) (λ p u. refl))
     (branches_in_order columns names count (m + item_count t) ts) (λ b bs h g. (h, g))
 
--- where no choice is named all of them are left
+-- if no choice is named all of them are left
 pub all_left : (A : Type 0) (bs : List Branch) → AreInOrder bs → chosen {A = A} InOrder bs ≡ bs
 all_left A [] h = refl
 all_left A (b ∷ bs) h = left_in {A = A} InOrder b bs (ap is_in_order h.0) ∙ ap (λ cs. b ∷ cs) (all_left A bs h.1)
@@ -65,7 +65,7 @@ abbrev pub IsChoiceOf : Trees → Branch → Type 0
 IsChoiceOf (atom w ▸ list ps ▸ ts) b = (b.label ≡ ByName w (all_declared declared_by ps)) × (length (all_declared declared_by ps) ≡ tree_count ps)
 IsChoiceOf _ b = ⊥
 
--- the same behind the word
+-- the same, after the word
 abbrev pub IsChoice : Tree → Branch → Type 0
 IsChoice t b = (ts : Trees) × (form_fit (codes "choice") t ≡ fits ts) × IsChoiceOf ts b
 
@@ -96,7 +96,7 @@ names_said limit before m (t ▸ ps) =
     (name_said limit before m t) (names_said limit (before ++ declared_by t) (m + item_count t) ps)
     (λ v ws h g. (ap (λ us. v ∷ us) g.0 ∙ sym (ap (λ us. us ++ all_declared declared_by ps) h), ap suc g.1))
 
--- NAME (PARAM ..), behind these names
+-- NAME (PARAM ..), after these names
 abbrev IsLabelOf : List (List ℕ) → Tree → Tree → List ℕ × List (List ℕ) → Type 0
 IsLabelOf before (atom w) (list ps) p = (p.0 ≡ w) × AreNames ps p.1 × IsNew before w
 IsLabelOf before _ _ p = ⊥
@@ -116,7 +116,7 @@ label_said variables before m (atom w) (list ps) =
     (name_declares before m (atom w)) (names_said (Some (parameter_limit + length variables)) variables (m + item_count (atom w) + 1) ps)
     (λ v ws h g. let same : v ≡ w = same_name w v h.1 in (same, g, subst (IsNew before) same h.0))
 
--- what a choice says of its label, behind these names
+-- what a choice says about its label, after these names
 abbrev IsSaid : List (List ℕ) → Trees → Branch → Type 0
 IsSaid before ts b = IsChoiceOf ts b × IsNew before (name_of b)
 
@@ -252,7 +252,7 @@ is_false : (b : Bool) → (b ≡ true → ⊥) → b ≡ false
 is_false true h = absurd (h refl)
 is_false false h = refl
 
--- the two names are told apart whichever stands first
+-- the two names are distinguished in whichever order they come
 other_name : (v w : List ℕ) → is w v ≡ false → bytes_eq v w ≡ false
 other_name v w e = is_false (bytes_eq v w) (λ same. let there : is w v ≡ true = (bytes_eq-Decides w v).1 (sym ((bytes_eq-Decides v w).0 same)) in let no : true ≡ false = sym there ∙ e in cc)
 

@@ -1,4 +1,4 @@
--- What a text reads as where a branch of an operation is due.
+-- What a text reads as where a branch of an operation is expected.
 use Rattle.std.specs.Prelude.{ℕ, ◌+◌, ◌||◌, codes, if◌then◌else◌, List, [], Option, Some, None}
 use Rattle.std.specs.List.{list_any}
 use Rattle.lc_sexp.specs.Trees.{Tree, Trees, ◌▸◌, item_count}
@@ -23,7 +23,7 @@ abbrev pub stored : Columns → ℕ → List ℕ → Option ℕ → Reading ℕ
 stored columns n w (Some k) = within n w k
 stored columns n w None = if is_system_column w || list_any (is w) columns.others then wrong Shape n else wrong Unknown n
 
--- the item n where the column of an update is due
+-- the item n, where the column of an update is expected
 abbrev pub written_reading : Columns → ℕ → Tree → Reading ℕ
 written_reading columns n t = spelled_reading (λ w. stored columns n w (place_of columns.own w)) n t
 
@@ -44,7 +44,7 @@ update_reading columns names n t = mapped the_update (listed_reading (update_par
 abbrev pub updates_reading : Columns → Names → ℕ → Tree → Reading (List Update)
 updates_reading columns names n t = listed_reading (λ n. each_reading (update_reading columns names)) n t
 
--- (T*), with just so many terms. Without a count no list has as many
+-- (T*), with exactly `count` terms. Without a count no list has as many
 abbrev pub replies_reading : Names → Option ℕ → ℕ → Tree → Reading (List Term)
 replies_reading names None n t = wrong Shape n
 replies_reading names (Some count) n t = listed_reading (λ n. counted_reading (term_reading names []) n count) n t
@@ -59,6 +59,6 @@ branch_parts_reading columns names count n m (t ▸ u ▸ v ▸ ts) =
     (replies_reading names count (m + item_count t + item_count u) v)
 branch_parts_reading columns names count n m _ = wrong Shape n
 
--- (branch F (UPDATE*) (T*)), with so many replies
+-- (branch F (UPDATE*) (T*)), with `count` replies
 abbrev pub branch_reading : Columns → Names → Option ℕ → ℕ → Tree → Reading Branch
 branch_reading columns names count n t = mapped the_branch (behind_reading (codes "branch") (branch_parts_reading columns names count) n t)

@@ -1,4 +1,4 @@
--- What a text reads as where the ways of an operation are due: branches, or choices.
+-- What a text reads as where the ways of an operation are expected: branches, or choices.
 use Rattle.std.specs.Prelude.{ℕ, ◌+◌, Bool, false, ◌&&◌, if◌then◌else◌, codes, List, [], ◌++◌, length, Option, Some, None}
 use Rattle.std.specs.List.{list_any}
 use Rattle.lc_base.specs.NameText.{is_name}
@@ -19,7 +19,7 @@ use Rattle.lc_text.specs.Terms.{pair}
 use Rattle.lc_spec_text.specs.Branches.{branch_parts_reading, branch_reading}
 use Rattle.lc_spec_text.specs.Scopes.{Columns, branch_names}
 
--- (PARAM*): names behind those of the client and of the arguments, within the limit of parameters
+-- (PARAM*): names after those of the client and of the arguments, within the limit of parameters
 abbrev pub parameters_reading : List (List ℕ) → ℕ → Tree → Reading (List (List ℕ))
 parameters_reading variables n t = listed_reading (λ n. declared_reading (name_reading (Some (parameter_limit + length variables))) declared_by variables) n t
 
@@ -33,7 +33,7 @@ abbrev pub parameters_in : Tree → List (List ℕ)
 parameters_in (list ts) = all_declared declared_by ts
 parameters_in (atom w) = []
 
--- NAME (PARAM*), behind choices of these names, where an operation has these variables
+-- NAME (PARAM*), after choices with these names, in an operation with these variables
 abbrev pub label_reading : List (List ℕ) → List (List ℕ) → ℕ → Tree → Tree → Reading (List ℕ × List (List ℕ))
 label_reading variables before m a b = both pair (name_reading None before m a) (parameters_reading variables (m + item_count a) b)
 
@@ -47,7 +47,7 @@ choice_parts_reading columns variables count before n m _ = wrong Shape n
 abbrev pub the_choice : (List ℕ × List (List ℕ)) × ((Formula × List Update) × List Term) → Branch
 the_choice p = record { label = ByName p.0.0 p.0.1; guard = p.1.0.0; updates = p.1.0.1; replies = p.1.1 }
 
--- (choice NAME (PARAM*) F (UPDATE*) (T*)), behind choices of these names, with so many replies
+-- (choice NAME (PARAM*) F (UPDATE*) (T*)), after choices with these names, with `count` replies
 abbrev pub choice_reading : Columns → List (List ℕ) → Option ℕ → List (List ℕ) → ℕ → Tree → Reading Branch
 choice_reading columns variables count before n t = mapped the_choice (behind_reading (codes "choice") (choice_parts_reading columns variables count before) n t)
 

@@ -1,4 +1,4 @@
--- What a text reads as where an operation is due.
+-- What a text reads as where an operation is expected.
 use Rattle.std.specs.Prelude.{ℕ, ◌+◌, ℤ, pos, Bool, false, ◌==◌, nat_lt, codes, if◌then◌else◌, List, [], ◌∷◌, ◌++◌, length, Option, Some, None}
 use Rattle.lc_base.specs.Limits.{argument_limit, operation_limit, reply_limit}
 use Rattle.lc_sexp.specs.Numerals.{integer_of}
@@ -24,7 +24,7 @@ abbrev pub few : ℕ → Option ℕ → Reading ℕ
 few n None = wrong Shape n
 few n (Some k) = if nat_lt reply_limit k then wrong Bound n else fine k
 
--- the item n where REPLIES is due: a NUMBER of at least 0
+-- the item n, where REPLIES is expected: a NUMBER of at least 0
 abbrev pub count_reading : ℕ → Tree → Reading ℕ
 count_reading n (atom w) = few n (natural (integer_of w))
 count_reading n (list ts) = wrong Shape n
@@ -42,7 +42,7 @@ fitting_natural _ = None
 abbrev pub count_in : Tree → Option ℕ
 count_in t = fitting_natural (integer_fit t)
 
--- (ARG*): names behind that of the client, within the limit of arguments
+-- (ARG*): names after that of the client, within the limit of arguments
 abbrev pub arguments_reading : ℕ → Tree → Reading (List (List ℕ))
 arguments_reading n t = listed_reading (λ n. declared_reading (name_reading (Some (1 + argument_limit))) declared_by client) n t
 
@@ -51,7 +51,7 @@ abbrev pub variables_in : Tree → List (List ℕ)
 variables_in (list ts) = client ++ all_declared declared_by ts
 variables_in (atom w) = client
 
--- NAME (ARG*) REPLIES, behind these operations
+-- NAME (ARG*) REPLIES, after these operations
 abbrev pub signature_reading : List (List ℕ) → ℕ → Tree → Tree → Tree → Reading ((List ℕ × List (List ℕ)) × ℕ)
 signature_reading before m t u v =
     three triple (name_reading None before m t) (arguments_reading (m + item_count t) u) (count_reading (m + item_count t + item_count u) v)

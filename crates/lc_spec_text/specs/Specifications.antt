@@ -1,4 +1,4 @@
--- What a text reads as where a specification is due.
+-- What a text reads as where a specification is expected.
 use Rattle.std.specs.Prelude.{ℕ, ◌+◌, ℤ, codes, if◌then◌else◌, List, [], Some, None}
 use Rattle.lc_base.specs.Limits.{column_limit}
 use Rattle.lc_sexp.specs.Trees.{Tree, Trees, atom, list, none, ◌▸◌, item_count}
@@ -47,8 +47,8 @@ the_specification p = record { name = p.0.0; columns = p.0.1; operations = p.1 }
 abbrev pub specification_reading : List (List ℕ) → ℕ → Tree → Reading Specification
 specification_reading others n t = mapped the_specification (behind_reading (codes "spec") (specification_parts_reading others) n t)
 
--- The first form of a file, where a specification is due. The other forms are not looked at; a form that is missing is told
--- at the number of items, which is 0
+-- The first form of a file, where a specification is expected. The other forms are not looked at; a missing form is
+-- reported at the number of items, which is 0
 abbrev pub first_reading : Trees → Reading Specification
 first_reading none = wrong Shape 0
 first_reading (t ▸ ts) = specification_reading [] 0 t

@@ -1,4 +1,4 @@
-//! How the names of an operation's arguments are read, each of which stands in its table already.
+//! How the names of an operation's arguments are read, when each of them is in its table already.
 ghost use Rattle.std.specs.Prelude.{◌≡◌, ◌+◌, ◌≤◌, ◌++◌, length, take, Some, IfOk};
 ghost use Rattle.std.specs.List.{list_any};
 ghost use Rattle.lc_base.specs.Limits.{argument_limit};
@@ -23,7 +23,7 @@ use std::alloc::Global;
 /// The most arguments of an operation, with the client before them.
 const VARIABLE_LIMIT: u64 = ARGUMENT_LIMIT as u64 + 1;
 
-/// Whether a name stands among the first of these.
+/// Whether a name is among the first `count` of these.
 fn stands_before(names: &NameTable<'_>, count: usize, text: &str) -> bool
     ensures { result ≡ list_any (is text.now) (take count (listed names.now)) }
 {
@@ -33,7 +33,7 @@ fn stands_before(names: &NameTable<'_>, count: usize, text: &str) -> bool
     }
 }
 
-/// The name that an item declares, which is one of these, behind so many of them.
+/// The name that an item declares, which is one of these, after the first `before` of them.
 fn read_argument(names: &NameTable<'_>, before: usize, part: Part<'_>) -> Result<Name, ReadFault>
     requires { before ≤ length (listed names.now) }
     ensures { IsReading bytes_of (name_reading (Some (1 + argument_limit)) (take before (listed names.now)) (place_of part.entry) (tree_of part.entry)) result }
@@ -51,7 +51,7 @@ fn read_argument(names: &NameTable<'_>, before: usize, part: Part<'_>) -> Result
     }
 }
 
-/// The place behind the name that an item declares, among so many names.
+/// The place after the name that an item declares, among `count` names.
 fn place_behind(place: usize, count: usize, part: Part<'_>) -> usize
     requires { place + length (declared_by (tree_of part)) ≤ count }
     ensures { result ≡ place + length (declared_by (tree_of part.entry)) }
@@ -62,7 +62,7 @@ fn place_behind(place: usize, count: usize, part: Part<'_>) -> usize
     }
 }
 
-/// These names with those of the arguments behind them that a list declares, and what its items read as. All names are entered
+/// These names, followed by those of the arguments that a list declares, and what its items read as. All names are entered
 /// before the first is read, so that each is looked for at its own place.
 pub(crate) fn read_listed_arguments<'a>(
     alloc: Global,

@@ -37,7 +37,7 @@ fn read_updates<S: Scope>(
     }
 }
 
-/// `(T*)`, with just so many terms. Without a count no list has as many.
+/// `(T*)`, with exactly `count` terms. Without a count no list has as many.
 fn read_replies<S: Scope>(
     alloc: Global,
     scope: &S,
@@ -55,7 +55,7 @@ fn read_replies<S: Scope>(
     }
 }
 
-/// `F (UPDATE*) (T*)`, which are all that is left in a list.
+/// `F (UPDATE*) (T*)`, which must be the whole rest of a list.
 pub(crate) fn read_branch_parts<S: Scope>(
     alloc: Global,
     columns: Columns<'_, '_>,
@@ -101,7 +101,7 @@ fn read_branch<S: Scope>(
     made_branch(read_branch_parts(alloc, columns, scope, count, list))
 }
 
-/// Reads branches, each with so many replies.
+/// Reads branches, each with `count` replies.
 #[derive(Drop)]
 pub(crate) struct Branches<'a, 'b, 's, S> {
     pub(crate) columns: Columns<'a, 'b>,

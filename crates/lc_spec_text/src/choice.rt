@@ -39,7 +39,7 @@ fn is_one_of(names: &NameTable<'_>, part: Part<'_>) -> bool
     }
 }
 
-/// The parameter that an item declares behind these, where an operation has these variables.
+/// The parameter that an item declares after these, in an operation with these variables.
 fn read_parameter(
     variables: &NameTable<'_>,
     before: &NameTable<'_>,
@@ -55,7 +55,7 @@ fn read_parameter(
     }
 }
 
-/// Reads the names of parameters, where an operation has these variables.
+/// Reads the names of parameters of an operation with these variables.
 #[derive(Drop)]
 struct Parameters<'a, 'b>(&'b NameTable<'a>);
 
@@ -89,7 +89,7 @@ impl Declares for Parameters<'_, '_> {
     }
 }
 
-/// `(PARAM*)`, where an operation has these variables: a table of the parameters, and their names.
+/// `(PARAM*)`, of an operation with these variables: a table of the parameters, and their names.
 fn read_parameters<'a>(
     alloc: Global,
     variables: &NameTable<'_>,
@@ -105,7 +105,7 @@ fn read_parameters<'a>(
     }
 }
 
-/// The name, behind these choices, with these parameters.
+/// The name, after these choices, with these parameters.
 fn read_label(
     before: &NameTable<'_>,
     name: Part<'_>,
@@ -116,7 +116,7 @@ fn read_label(
     both(read_name(None, before, name), parameters)
 }
 
-/// `NAME (PARAM*) F (UPDATE*) (T*)`, behind these choices, which are all that is left in a list.
+/// `NAME (PARAM*) F (UPDATE*) (T*)`, after these choices; these parts have to be the whole rest of a list.
 fn read_choice_parts(
     alloc: Global,
     columns: Columns<'_, '_>,
@@ -153,7 +153,7 @@ fn made_choice(
     })
 }
 
-/// `(choice NAME (PARAM*) F (UPDATE*) (T*))`, behind these choices.
+/// `(choice NAME (PARAM*) F (UPDATE*) (T*))`, after these choices.
 fn read_choice(
     alloc: Global,
     columns: Columns<'_, '_>,
@@ -168,7 +168,7 @@ fn read_choice(
     made_choice(read_choice_parts(alloc, columns, variables, count, before, list))
 }
 
-/// Reads choices of an operation with these variables, each with so many replies.
+/// Reads choices of an operation with these variables, each with `count` replies.
 #[derive(Drop)]
 struct Choices<'a, 'b> {
     columns: Columns<'a, 'b>,
@@ -219,7 +219,7 @@ impl Declares for Choices<'_, '_> {
     }
 }
 
-/// The choices that are left in a list, of an operation with these variables, each with so many replies.
+/// The choices that are left in a list, of an operation with these variables, each with `count` replies.
 pub(crate) fn read_choices(
     alloc: Global,
     columns: Columns<'_, '_>,

@@ -26,7 +26,7 @@ fn read_forms(alloc: Global, forms: Cursor<'_>) -> Result<TextSpec, ReadFault>
     read_specification(alloc, &NameTable::new(alloc), form)
 }
 
-/// The specification of the file of which these are the forms. Where it is none, `Refused` has its first refusal, as in
+/// The specification of the file with these forms. If it is none, `Refused` has its first refusal, as in
 /// `spec_of`.
 pub fn spec_in(alloc: Global, forms: Forms) -> Result<TextSpec, Fault>
     ensures { (bytes : List ℕ) → ReadsAs bytes forms → IsAnswerTo specification_of first_reading bytes result }
@@ -36,11 +36,11 @@ pub fn spec_in(alloc: Global, forms: Forms) -> Result<TextSpec, Fault>
 }
 
 /// The specification that the first form of a file is:
-/// `(spec NAME (abstract COL*) (op NAME (ARG*) REPLIES BRANCH+)+)`. Forms behind it are not looked at.
+/// `(spec NAME (abstract COL*) (op NAME (ARG*) REPLIES BRANCH+)+)`. Forms after it are not looked at.
 ///
-/// Where it is none, `Refused` has the first refusal: `Text` with the offset of the first text fault of the whole
+/// If it is none, `Refused` has the first refusal: `Text` with the offset of the first text fault of the whole
 /// file; else of `Shape`, `Unknown`, `Repeated` and `Bound`, in this order, the first for which an item is wrong, with
-/// the least such item. `OutOfMemory` says nothing of the file.
+/// the least such item. `OutOfMemory` says nothing about the file.
 pub fn spec_of(alloc: Global, bytes: &[u8]) -> Result<TextSpec, Fault>
     ensures { IsAnswerTo specification_of first_reading bytes.now result }
 {

@@ -22,7 +22,7 @@ use lc_seq::{Branch, Operation};
 use lc_sexp::Cursor;
 use std::alloc::Global;
 
-/// `NAME (ARG*) REPLIES` and `BRANCH+` or `CHOICE+`, behind these operations, which are all that is left in a list.
+/// `NAME (ARG*) REPLIES` and `BRANCH+` or `CHOICE+`, after these operations; these parts have to be the whole rest of a list.
 fn read_operation_parts(
     alloc: Global,
     columns: Columns<'_, '_>,
@@ -58,7 +58,7 @@ fn made_operation(
     })
 }
 
-/// `(op NAME (ARG*) REPLIES BRANCH+)` or `(op NAME (ARG*) REPLIES CHOICE+)`, behind these operations.
+/// `(op NAME (ARG*) REPLIES BRANCH+)` or `(op NAME (ARG*) REPLIES CHOICE+)`, after these operations.
 fn read_form(
     alloc: Global,
     columns: Columns<'_, '_>,
@@ -71,7 +71,7 @@ fn read_form(
     made_operation(read_operation_parts(alloc, columns, before, list))
 }
 
-/// An operation behind these, of which there are only so many.
+/// An operation after these, within the limit of operations.
 fn read_operation(
     alloc: Global,
     columns: Columns<'_, '_>,

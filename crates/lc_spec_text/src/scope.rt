@@ -24,7 +24,7 @@ impl<'a, 'b> Columns<'a, 'b> {
     ghost use Rattle.lc_reading.specs.TableView.{listed};
     ghost use Rattle.lc_spec_text.specs.ScopeView.{columns_seen};
 
-    /// These columns. `OutOfMemory` is answered also where some place has more than 32 bits, as in no file.
+    /// These columns. `OutOfMemory` is returned also if some place has more than 32 bits, as in no file.
     pub(crate) fn new(
         own: &'b NameTable<'a>,
         others: &'b NameTable<'a>,
@@ -84,7 +84,7 @@ impl<'a, 'b> InBranch<'a, 'b> {
     ghost use Rattle.lc_reading.specs.TableView.{listed};
     ghost use Rattle.lc_spec_text.specs.ScopeView.{columns_seen};
 
-    /// These columns and variables, and a branch's parameters. `OutOfMemory` is answered also where some number has more than
+    /// These columns and variables, and a branch's parameters. `OutOfMemory` is returned also if some number has more than
     /// 32 bits, as in no file.
     pub(crate) fn new(
         columns: Columns<'a, 'b>,
@@ -104,7 +104,7 @@ impl<'a, 'b> InBranch<'a, 'b> {
         })
     }
 
-    /// The place of this name among those of the variables and of the parameters behind them.
+    /// The place of this name among those of the variables and of the parameters after them.
     fn place(&self, name: &str) -> Option<usize>
         ensures { result ≡ place_of (listed self.now.variables.now ++ listed self.now.parameters) name.now }
     {

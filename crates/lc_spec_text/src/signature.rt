@@ -42,7 +42,7 @@ fn is_negative(text: &str) -> bool
     text.as_bytes().first() == Some(&b'-')
 }
 
-/// A count of replies, told at this item.
+/// A count of replies, if it is allowed, else what is wrong with it at `item`.
 fn few(number: i64, item: u64) -> Result<u32, ReadFault>
     ensures { IsReading (λ k. k) (few item (natural (Some number))) result }
 {
@@ -99,7 +99,7 @@ pub(crate) fn count_in(part: Part<'_>) -> Option<u64>
     }
 }
 
-/// The name, behind these operations, with these arguments, and the count of replies.
+/// The name, after these operations, with these arguments, and the count of replies.
 pub(crate) fn read_signature(
     before: &NameTable<'_>,
     name: Part<'_>,

@@ -35,7 +35,7 @@ fn read_operations(
     operations
 }
 
-/// `NAME (abstract COL*) OP+`, which are all that is left in a list, where the rest of the file declares these columns.
+/// `NAME (abstract COL*) OP+`, which must be the whole rest of a list, where the rest of the file declares these columns.
 fn read_specification_parts<'a>(
     alloc: Global,
     others: &NameTable<'a>,

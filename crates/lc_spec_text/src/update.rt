@@ -33,7 +33,7 @@ fn read_written(columns: Columns<'_, '_>, part: Part<'_>) -> Result<ColId, ReadF
     }
 }
 
-/// A column and two terms, which are all that is left in a list.
+/// A column and two terms, which must be the whole rest of a list.
 fn read_update_parts<S: Scope>(
     alloc: Global,
     columns: Columns<'_, '_>,

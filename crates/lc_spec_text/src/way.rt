@@ -18,7 +18,7 @@ use lc_seq::Branch;
 use lc_sexp::Cursor;
 use std::alloc::Global;
 
-/// The branches that are left in a list, of an operation with these variables, each with so many replies.
+/// The branches that are left in a list, of an operation with these variables, each with `count` replies.
 fn read_branches(
     alloc: Global,
     columns: Columns<'_, '_>,
@@ -48,7 +48,7 @@ fn begins_with_choice(list: Cursor<'_>) -> bool
     }
 }
 
-/// The branches or choices that are left in a list, of an operation with these variables, each with so many replies.
+/// The branches or choices that are left in a list, of an operation with these variables, each with `count` replies.
 pub(crate) fn read_ways(
     alloc: Global,
     columns: Columns<'_, '_>,

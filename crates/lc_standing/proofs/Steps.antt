@@ -38,7 +38,7 @@ branching_is w bs n m next is = (testing_is w bs (n == m) WrongForm next is).1
 in_use_is : (w : ℕ) (bs : List (List Formula)) (yes' : Bool) (next : Outcome → Type 0) → InUse yes' next (opens w bs) → IsTrue yes' × next (opens w bs)
 in_use_is w bs yes' next is = testing_is w bs yes' VariableNotInUse next is
 
--- the hypothesis in its form, where as many proofs stand below the step as it opens branches
+-- the hypothesis in its form, if as many proofs are below the step as it opens branches
 taking_is : {A : Type 0} (w : ℕ) (bs : List (List Formula)) (H : List Formula) (h : ℤ) (form : Formula → Option A) (n : ℕ) (m : A → ℕ) (next : A → Outcome → Type 0)
     → Taking H h form (λ a. Branching n (m a) (next a)) (opens w bs) → (a : A) × (taken H h form ≡ Some a) × next a (opens w bs)
 taking_is w bs H h form n m next is =

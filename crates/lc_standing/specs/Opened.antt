@@ -18,7 +18,7 @@ taken H h form = option_and_then form (hypothesis H h)
 abbrev pub appended : ℕ → Option Formula → Option (ℕ × List Formula)
 appended v f = option_map (λ g. (v, g ∷ [])) f
 
--- the orders of two terms, one of which is less
+-- the orders of two terms: that the one is less, or the other
 abbrev pub orders : Term × Term → List Formula
 orders p = less p.0 p.1 ∷ less p.1 p.0 ∷ []
 
@@ -26,7 +26,7 @@ orders p = less p.0 p.1 ∷ less p.1 p.0 ∷ []
 abbrev pub put_in : Term → Formula → Option Formula
 put_in t f = if is_closed t then Some (instantiated t f) else None
 
--- how many variables are in use in the branch at a place, and the formulas that it adds, where the step holds
+-- how many variables are in use in the branch at a place, and the formulas that it adds, if the step holds
 abbrev pub opened_by : ℕ → List Formula → Step → ℕ → Option (ℕ × List Formula)
 opened_by v H (S.Split h) i = option_map (λ fs. (v, fs)) (taken H h conjuncts)
 opened_by v H (S.Cases h) i = appended v (option_and_then (λ fs. slice_get fs i) (taken H h alternatives))

@@ -20,12 +20,12 @@ branch_in none i n = None
 branch_in (more p ps) i n = if nat_lt n (size p) then Some (i, n, p) else branch_in ps (suc i) (n - size p)
 
 abbrev mutual
-  -- what stands at step n of a proof, where its steps hold
+  -- what is at step n of a proof, if its steps hold
   pub spot_at : ℕ → List Formula → Proof → ℕ → Option Spot
   spot_at v H (proof s ps) zero = Some (record { variables = v; hypotheses = H; part = proof s ps })
   spot_at v H (proof s ps) (suc n) = spot_among v H s ps 0 n
 
-  -- the same of the proofs of branches, of which the first is at place i
+  -- the same for the proofs of branches, the first at place i
   pub spot_among : ℕ → List Formula → Step → Proofs → ℕ → ℕ → Option Spot
   spot_among v H s none i n = None
   spot_among v H s (more p ps) i n =

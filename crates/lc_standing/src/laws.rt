@@ -7,13 +7,13 @@ ghost use Rattle.lc_kernel.specs.Table.{flawed, Gives};
 ghost use Rattle.lc_kernel.specs.declared.reason.Flaw.{Flaw};
 ghost use Rattle.lc_standing.specs.Standing.{Stands};
 
-/// The first step of a proof that does not hold stands where its flaw is told: from the hypotheses that stand there.
+/// The first step of a proof that does not hold is at the number that its flaw reports, with the hypotheses that are there.
 pub fn a_flaw_is_told_where_the_step_stands()
     ensures { (v : ℕ) (hypotheses : List Formula) (p : Proof) (n : ℕ) (why : Flaw) → Fails v hypotheses p n why →
         (u : ℕ) × (G : List Formula) × (s : Step) × (ps : Proofs) × Stands v hypotheses p n u G (proof s ps) × Gives u G (proof_count ps) s (flawed why) }
 {}
 
-/// A step stands at one spot.
+/// A step is at one spot.
 pub fn a_step_stands_at_one_spot()
     ensures { (v : ℕ) (hypotheses : List Formula) (p : Proof) (n u u' : ℕ) (G G' : List Formula) (q q' : Proof) →
         Stands v hypotheses p n u G q → Stands v hypotheses p n u' G' q' → (u ≡ u') × (G ≡ G') × (q ≡ q') }

@@ -1,4 +1,4 @@
-//! What stands at a step of a proof: how many variables are in use there, the hypotheses by their numbers, and the part of the proof
+//! What is at a step of a proof: how many variables are in use there, the hypotheses by their numbers, and the part of the proof
 //! that begins there.
 #![tactic(auto)]
 

@@ -32,7 +32,7 @@ impl Opened {
     ghost use Rattle.std.specs.Prelude.{◌≡◌, ◌++◌, IfOk};
     ghost use Rattle.lc_term.specs.View.{formulas_of};
 
-    /// How many variables are in use in the branch, and its hypotheses, of which those of the step come first.
+    /// How many variables are in use in the branch, and its hypotheses: the given ones, which come first, then those of the branch.
     pub(crate) fn behind(self, hypotheses: Vec<Formula>) -> Result<(u32, Vec<Formula>), OutOfMemory>
         ensures variables { IfOk result (λ p. p.0 ≡ self.variables) }
         ensures hypotheses { IfOk result (λ p. formulas_of p.1.items ≡ formulas_of hypotheses.items ++ formulas_of self.formulas.items) }

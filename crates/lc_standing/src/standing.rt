@@ -15,7 +15,7 @@ use lc_kernel::Proof;
 use lc_term::{Formula, copy_formulas};
 use std::alloc::Global;
 
-/// What stands at a step of a proof.
+/// What is at a step of a proof.
 pub struct Standing<'a> {
     /// How many variables are in use.
     pub variables: u32,
@@ -63,7 +63,7 @@ fn branch_with(branches: &[Proof], step: u32) -> Option<Within<'_>>
     None
 }
 
-/// What stands at a step of a proof, where these hypotheses stand at its first.
+/// What is at a step of a proof, if its first step has these hypotheses.
 #[cycle(standing)]
 fn standing_in<'a>(
     alloc: Global,
@@ -105,10 +105,10 @@ fn assumed(
     Ok(all)
 }
 
-/// What stands at a step of a proof of a goal, where the steps before it hold.
+/// What is at a step of a proof of a goal, if the steps before it hold.
 ///
-/// Steps are numbered in preorder, from 0. Where no step has the number, or one on the way to it opens no branch, nothing may be
-/// answered.
+/// Steps are numbered in preorder, from 0. If no step has the number, or one on the way to it opens no branch, the result may
+/// be `None`.
 pub fn stands_at<'a>(
     alloc: Global,
     variables: u32,

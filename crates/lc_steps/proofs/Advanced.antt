@@ -1,4 +1,4 @@
--- The step of a client, from what its instruction does and what is behind it.
+-- The step of a client, from what its instruction does and what is done after it.
 use Rattle.std.proofs.Common.{◌≡◌, ℕ, ◌≤◌, true, List, [], ◌∷◌, ℤ, Bool, false, Option, Some, None, Result, Ok, Err, cond, length, refl, sym, ap, subst, ◌∙◌, arith}
 use Rattle.std.specs.Prelude.{slice_get, IfOk, IfSome, IsErrAnd}
 use Rattle.lc_term.specs.Meaning.{State}
@@ -44,7 +44,7 @@ says-less all fits Idle f h = h
 says-less all fits NoOp f h = h
 says-less all fits Arity f h = h
 
--- ---- behind an instruction
+-- ---- after an instruction
 
 -- a fault that is handed on
 pub behind-fault : (D : Development) (c p : ℕ) (vs : List ℤ) (k : EdgeKind) (s : State) (outcome : Outcome) (columns : State) (r : Result (Option Step) StepFault) (fault : StepFault) →
@@ -105,7 +105,7 @@ pub within-columns : (object : Object) (p : ℕ) (vs : List ℤ) (s : State) (n 
 within-columns object p vs s n (Ok done) (point, at, (fits, does, to, within)) le = more-within (length (initial_numbers object)) n (writes_in done) within le
 within-columns object p vs s n (Err fault) effect le = tt
 
--- the riders behind it are seen
+-- the riders after it are seen
 pub effect-seen : (D : Development) → is_resolved D ≡ true → (p : ℕ) (vs : List ℤ) (s : State) (r : Result Effect StepFault) → is_placed D.object (In p vs) ≡ true → IsEffectHere D.object p vs s r →
     IfOk r (λ done. AreRidersSeen D p (rider_edge done.edge (outcome_of done.fate)) (length (rider_variables vs (outcome_of done.fate))))
 effect-seen D R p vs s (Ok done) placed (point, at, (fits, does, to, within)) =
@@ -126,7 +126,7 @@ placed-after : (object : Object) (outcome : Outcome) → IsReached object outcom
 placed-after object (Goes q new) h = placed-there object q new h
 placed-after object (Answers numbers) h = refl
 
--- the client stands where there is code
+-- the client is at a point that has code
 pub behind-placed : (D : Development) (c p : ℕ) (vs : List ℤ) (k : EdgeKind) (s : State) (outcome : Outcome) (columns : State) (r : Result (Option Step) StepFault) → IsReached D.object outcome →
     IsBehind D c p vs k s outcome columns r → IfOk r (λ found. IfSome found (λ step. is_placed D.object (client_of step.client) ≡ true))
 behind-placed D c p vs k s outcome columns (Ok (Some t)) to (h, done, what, client) = ap (is_placed D.object) client ∙ placed-after D.object outcome to
@@ -134,7 +134,7 @@ behind-placed D c p vs k s outcome columns (Ok None) to h = tt
 behind-placed D c p vs k s outcome columns (Err fault) to h = tt
 
 module _ (D : Development) (w : World) (c p : ℕ) (vs : List ℤ) (i : Instr) (running : IsRunning D.object w c p vs i) where
-  -- what the instruction reaches does not fit, or memory is refused
+  -- what the instruction reaches does not fit, or memory runs out
   not-done : (columns : State) (r : Result (Option Step) StepFault) (fault : StepFault) → IsErrAnd r (λ y. y ≡ fault) → IsEffect D.object i w.columns vs (Err fault) → IsAdvanced D w c columns r
   not-done columns (Ok x) fault e h = absurd e
   not-done columns (Err y) fault e h = subst (λ z. IsAdvanced D w c columns (Err z)) (sym e) (at fault h)

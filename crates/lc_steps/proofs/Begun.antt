@@ -49,7 +49,7 @@ module _ (D : Development) (w : World) (c op : ℕ) (ns : List ℤ) (o : Operati
         event,
       )
 
--- the client stands where the object has code
+-- the client is at a point that has code
 pub entry-placed : (object : Object) (o : Operation) (clients client : ℕ) (ns vs : List ℤ) (reached : Client) → variables_at object o.entry ≡ Some (variable_count o) → length ns ≡ length o.arguments → vs ≡ first_variables clients client o ns →
     reached ≡ In o.entry vs → is_placed object reached ≡ true
 entry-placed object o clients client ns vs reached entry count first is =

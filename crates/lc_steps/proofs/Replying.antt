@@ -125,7 +125,7 @@ module _ (first : ℕ) (m : State) (c : ℕ) (ns : List ℤ) where
         ap (λ x. x && is_noted first m c ns) (number-false (m (pend first) (pos c)) (pos 1) one)),
   )
 
--- ---- what is answered
+-- ---- what is returned
 
 not-in : {P : Type 0} (r : Result Bool EvalFault) (fault : EvalFault) (v : Bool) → IsErrAnd r (λ y. y ≡ fault) → (P → ⊥) → OkIff r P v
 not-in (Ok x) fault v e never = absurd e

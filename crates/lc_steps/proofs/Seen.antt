@@ -1,4 +1,4 @@
--- What is known where a client stands, and that riders speak only of what is there.
+-- What is known about a client at a point, and that riders use only what exists.
 use Rattle.std.proofs.Common.{◌≡◌, ℕ, ◌+◌, ◌<◌, ◌≤◌, Bool, true, false, ◌&&◌, if◌then◌else◌, List, [], ◌∷◌, ℤ, pos, Option, Some, None, map, length, replicate, refl, sym, ap, ap₂, subst, ◌∙◌, eq-eqb, arith, inl, inr}
 use Rattle.std.specs.Prelude.{slice_get, option_map, nat_le, nat_lt}
 use Rattle.std.specs.List.{list_all}
@@ -86,7 +86,7 @@ variables-there object p vs h = counted (variables_at object p) (length vs) h
 pub placed-there : (object : Object) (p : ℕ) (vs : List ℤ) → variables_at object p ≡ Some (length vs) → is_placed object (In p vs) ≡ true
 placed-there object p vs e = ap (λ m. is_count m (length vs)) e ∙ eq-eqb (length vs) (length vs) refl
 
--- where there are variables there is a point
+-- if there are variables there is a point
 pub point-there : (object : Object) (p n : ℕ) → variables_at object p ≡ Some n → (point : Point) × (slice_get object.points p ≡ Some point)
 point-there object p n e = by (slice_get object.points p) refl e
   where
@@ -145,7 +145,7 @@ module _ (columns n : ℕ) where
       (both_true (condition_is_seen columns n r.condition) (deed_is_seen columns n r.deed) (condition-seen r.condition h.0.0 s.0.0) (deed-seen r.deed s.0.1))
       (riders-seen D o rs h.1 s.1)
 
-  -- what stands at an edge, if anything does
+  -- what is done at an edge, if anything is
   abbrev IsFoundScoped : Option On → Type 0
   IsFoundScoped None = Unit {0}
   IsFoundScoped (Some x) = IsOnScoped columns n x
@@ -179,7 +179,7 @@ edge-seen D R p n point at count s s' vs k outcome does =
     (subst (λ q. IsOnResolved D (operation_at D.object e.point) e (on_at D q e.kind)) gone.1.1 (whole.ons e gone.1.0)) in
     subst (AreRidersSeen D p k) same (found-seen (column_total D) (variable_count o) D (operation_at D.object e.point) e (on_at D p k) on scoped)
 
--- those that are done behind the instruction, with the variables that they see
+-- the riders that are done after the instruction, with the variables that they see
 pub outcome-seen : (D : Development) → is_resolved D ≡ true → (p : ℕ) (point : Point) → slice_get D.object.points p ≡ Some point → (s s' : State) (vs : List ℤ) → variables_at D.object p ≡ Some (length vs) →
     (k : EdgeKind) (outcome : Outcome) → Does D.object s vs point.instruction k s' outcome → AreRidersSeen D p (rider_edge k outcome) (length (rider_variables vs outcome))
 outcome-seen D R p point at s s' vs count k (Goes q new) does =

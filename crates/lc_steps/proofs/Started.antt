@@ -17,7 +17,7 @@ at_zero zero c i = refl
 at_zero (suc k) zero i = ap (λ x. x +ℤ pos 0) (zero-*ℤ i)
 at_zero (suc k) (suc c) i = at_zero k c i
 
--- columns that stand at 0 are as no columns
+-- columns that are 0 are as no columns
 behind : (ns : List (ℤ × ℤ)) (k c : ℕ) (i : ℤ) → column_at (initial_columns (ns ++ replicate k (pos 0, pos 0))) c i ≡ column_at (initial_columns ns) c i
 behind [] k c i = at_zero k c i
 behind (n ∷ ns) k zero i = refl

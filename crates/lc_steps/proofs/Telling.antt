@@ -24,7 +24,7 @@ use Rattle.lc_steps.proofs.Elements.{put_there}
 use Rattle.lc_steps.proofs.Once.{same-done}
 use Rattle.lc_steps.proofs.Replying.{justified-to, justified-from}
 
--- no quantifier stands in the conditions of the riders there
+-- no quantifier occurs in the conditions of the riders there
 abbrev pub AreOpen : Development → ℕ → EdgeKind → Type 0
 AreOpen D p k = Every (λ (r : Rider). IsOpen r.condition) (riders_at D p k)
 
@@ -114,7 +114,7 @@ module _ (agree : RidersAreDone) (D : Development) (w : World) (c p : ℕ) (vs n
 
 -- ---- either
 
--- what is computed behind an instruction makes the client's instrumented step
+-- what is computed after an instruction is the client's instrumented step
 pub step-is : RidersAreDone → (D : Development) (w : World) (c p : ℕ) (vs : List ℤ) (i : Instr) (k : EdgeKind) (s : State) (outcome : Outcome) → IsRunning D.object w c p vs i → Does D.object w.columns vs i k s outcome →
     AreOpen D p (rider_edge k outcome) → (marks : List Mark) (m : State) → done_behind D c p vs k s outcome ≡ Some (marks, m) →
     Instrumented D w c (event_of p k outcome) marks (world_with w m c (reached outcome))
@@ -136,7 +136,7 @@ step-is agree D w c p vs i k s (Answers numbers) running does plain marks m e = 
     by-ridden None rode f = absurd cc
     by-ridden (Some r) rode f = by-justified r (is_justified (first_system D) r.1 c numbers) rode refl f
 
--- and where nothing is computed there is none
+-- and if nothing is computed there is none
 pub no-step : RidersAreDone → (D : Development) (w : World) (c p : ℕ) (vs : List ℤ) (i : Instr) (k : EdgeKind) (s : State) (outcome : Outcome) → IsRunning D.object w c p vs i → Does D.object w.columns vs i k s outcome →
     AreOpen D p (rider_edge k outcome) → done_behind D c p vs k s outcome ≡ None → IsUnlawful D w c
 no-step agree D w c p vs i k s (Goes q new) running does plain none = not-moved agree D w c p q vs new i k s running does plain none

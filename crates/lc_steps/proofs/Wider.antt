@@ -1,4 +1,4 @@
--- What speaks of so many columns speaks of more.
+-- What uses only the first columns is within any larger number of them.
 use Rattle.std.proofs.Common.{◌≡◌, ℕ, ◌≤◌, true, ◌&&◌, List, [], ◌∷◌, refl, arith}
 use Rattle.std.specs.Prelude.{nat_lt}
 use Rattle.std.specs.List.{list_all}

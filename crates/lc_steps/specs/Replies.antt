@@ -9,7 +9,7 @@ use Rattle.lc_term.specs.Updates.{row}
 use Rattle.lc_machine.specs.Fits.{ComparisonFits}
 
 module _ (first : ℕ) (m : State) (c : ℕ) (numbers : List ℤ) where
-  -- the numbers stand in c's cells of the first of these columns, one in each
+  -- c's cells of the first of these columns hold the numbers, one in each
   abbrev pub stand_in : List ℕ → Bool
   stand_in cs = pointwise int_eq (row m (take (length numbers) cs) (pos c)) numbers
 
@@ -29,7 +29,7 @@ module _ (first : ℕ) (m : State) (c : ℕ) (numbers : List ℤ) where
       (int_eq (m (pend first) (pos c)) (pos 2) && stand_in (rep_columns first))
       || (int_eq (m (pend first) (pos c)) (pos 1) && is_noted)
 
-  -- how the call stands, then what is stored of its reply
+  -- the state of the call, then what is stored of its reply
   abbrev pub ReplyFits : Type 0
   ReplyFits =
       FitsSigned w64 (m (pend first) (pos c))

@@ -1,4 +1,4 @@
--- What is answered where parts of a step are done.
+-- What is returned when parts of a step are done.
 use Rattle.std.specs.Prelude.{◌≡◌, ℕ, true, false, Bool, List, ℤ, Option, Some, None, Result, Ok, Err, Vec, slice_get}
 use Rattle.std.specs.List.{list_all}
 use Rattle.std.specs.declared.alloc.Global.{Global}
@@ -40,14 +40,14 @@ step_says Arity fits = ⊥
 
 -- ---- the instruction
 
--- the effect of the instruction at this point, where these are the variables
+-- the effect of the instruction at this point, with these variables
 abbrev pub IsEffectHere : Object → ℕ → List ℤ → State → Result Effect StepFault → Type 0
 IsEffectHere object p variables s r =
     (point : Point) × (slice_get object.points p ≡ Some point) × IsEffect object point.instruction s variables r
 
 -- ---- riders
 
--- the riders there speak of columns that there are and of n variables, and no quantifier stands in their conditions
+-- the riders there use existing columns and n variables, and no quantifier occurs in their conditions
 abbrev pub AreRidersSeen : Development → ℕ → EdgeKind → ℕ → Type 0
 AreRidersSeen D p k n = list_all (rider_is_seen (column_count (first_system D)) n) (riders_at D p k) ≡ true
 
@@ -56,7 +56,7 @@ abbrev pub fault_as : SeqFault → StepFault
 fault_as Q.Overflow = Overflow
 fault_as Q.OutOfMemory = OutOfMemory
 
--- the answer where riders are done that would make these marks and leave these columns, if they can be done
+-- the answer if riders are done that would make these marks and leave these columns, if they can be done
 abbrev pub AreRidden : Type 0 → Option Ridden → State → Result (Option (Vec Mark Global)) StepFault → Type 0
 AreRidden fits wanted columns (Ok (Some marks)) = fits × (wanted ≡ Some (marks_of marks.items, columns))
 AreRidden fits wanted columns (Ok None) = fits × (wanted ≡ None)
@@ -64,16 +64,16 @@ AreRidden fits wanted columns (Err fault) = step_says fault fits
 
 -- ---- a return
 
--- the answer where a call returns in columns m: it is no call then, if the numbers are justified
+-- the answer if a call returns in columns m: it is no call then, if the numbers are justified
 abbrev pub IsReturned : ℕ → State → ℕ → List ℤ → State → Result Bool StepFault → Type 0
 IsReturned first m c numbers columns (Ok true) =
     ReplyFits first m c numbers × (is_justified first m c numbers ≡ true) × (columns ≡ stored_all m (return_writes first c))
 IsReturned first m c numbers columns (Ok false) = ReplyFits first m c numbers × (is_justified first m c numbers ≡ false)
 IsReturned first m c numbers columns (Err fault) = step_says fault (ReplyFits first m c numbers)
 
--- ---- what is behind an instruction
+-- ---- what is done after an instruction
 
--- the edge whose riders are done, and the variables that these see: a return has one edge, and no variables behind it
+-- the edge whose riders are done, and the variables that these see: a return has one edge, and no variables after it
 abbrev pub rider_edge : EdgeKind → Outcome → EdgeKind
 rider_edge k (Goes q new) = k
 rider_edge k (Answers numbers) = Next
@@ -91,14 +91,14 @@ abbrev pub reached : Outcome → W.Client
 reached (Goes q new) = W.In q new
 reached (Answers numbers) = W.Idle
 
--- the answer where this step would be told, with these marks and columns, if there is one
+-- the answer if this step would be reported, with these marks and columns, if there is one
 abbrev pub IsTold : Type 0 → Option Ridden → Event → W.Client → State → Result (Option Step) StepFault → Type 0
 IsTold fits wanted what client columns (Ok (Some t)) =
     fits × (wanted ≡ Some (marks_of t.marks.items, columns)) × (what_of t.what ≡ what) × (client_of t.client ≡ client)
 IsTold fits wanted what client columns (Ok None) = fits × (wanted ≡ None)
 IsTold fits wanted what client columns (Err fault) = step_says fault fits
 
--- the answer where what is behind an instruction is done
+-- the answer if what comes after an instruction is done
 abbrev pub IsBehind : Development → ℕ → ℕ → List ℤ → EdgeKind → State → Outcome → State → Result (Option Step) StepFault → Type 0
 IsBehind D c p variables k s outcome columns r =
     IsTold (BehindFits D c p variables k s outcome) (done_behind D c p variables k s outcome) (event_of p k outcome) (reached outcome) columns r

@@ -1,4 +1,4 @@
--- What is answered where a client takes an instrumented step, told before it is kept.
+-- What is returned if a client takes an instrumented step, reported before it is kept.
 use Rattle.std.specs.Prelude.{◌≡◌, ℕ, ◌≤◌, List, ℤ, Option, Some, None, Result, Ok, Err, length, slice_get}
 use Rattle.lc_base.specs.Limits.{reply_limit}
 use Rattle.lc_term.specs.Drafts.{saved_in_draft}
@@ -27,7 +27,7 @@ what_of (Invoked op numbers) = M.Invoked op.0 numbers.items
 what_of (Moved point edge) = M.Moved point.0 edge
 what_of (Returned numbers) = M.Returned numbers.items
 
--- the world that is saved in the draft, where the clients are so
+-- the world that is saved in the draft, if the clients are so
 abbrev pub world_in : Draft → List Client → World
 world_in draft clients = record { columns = saved_in_draft draft; clients = clients_of clients }
 
@@ -37,7 +37,7 @@ GoesOn (M.Invoked op numbers) = ⊥
 GoesOn (M.Moved point edge) = Unit {0}
 GoesOn (M.Returned numbers) = length numbers ≤ reply_limit
 
--- The answer to `advance`, which writes these columns to the draft: the client's instrumented step; none, where a mark is not
+-- The answer to `advance`, which writes these columns to the draft: the client's instrumented step; none, if a mark is not
 -- lawful or a return not justified; or why it takes none
 abbrev pub IsAdvanced : Development → World → ℕ → State → Result (Option Step) StepFault → Type 0
 IsAdvanced D w c columns (Ok (Some t)) =
@@ -56,7 +56,7 @@ abbrev pub MayBegin : Development → World → ℕ → ℕ → List ℤ → Typ
 MayBegin D w c op ns =
     IsClient w c W.Idle × ((o : Operation) × (slice_get D.object.operations op ≡ Some o) × (length ns ≡ length o.arguments))
 
--- The answer to `begin`, likewise: the client's invocation, or why there is none
+-- The answer to `begin`: the client's invocation, or why there is none
 abbrev pub IsBegun : Development → World → ℕ → ℕ → List ℤ → State → Result Step StepFault → Type 0
 IsBegun D w c op ns columns (Ok t) =
     Instrumented D w c (what_of t.what) (marks_of t.marks.items) (world_with w columns c (client_of t.client)) × (what_of t.what ≡ M.Invoked op ns)

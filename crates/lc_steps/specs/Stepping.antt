@@ -26,16 +26,16 @@ IsUnlawful D w c =
     (what : Event) × (mid : World) × Steps D.object w c what mid
     × ((marks : List Mark) (v : World) → Instrumented D w c what marks v → ⊥)
 
--- what the riders beside an edge do, where these are the variables and the columns behind the instruction
+-- what the riders beside an edge do, with these variables and columns after the instruction
 abbrev pub ridden : Development → ℕ → ℕ → EdgeKind → List ℤ → State → Option Ridden
 ridden D c p k variables s = do_all D.specification.operations (first_system D) c (operation_at D.object p) (variable variables) s (riders_at D p k)
 
--- the marks, and the columns behind a return, if its riders came to this and the numbers are justified
+-- the marks, and the columns after a return, if its riders came to this and the numbers are justified
 abbrev pub answered : ℕ → ℕ → List ℤ → Option Ridden → Option Ridden
 answered first c numbers None = None
 answered first c numbers (Some r) = cond (is_justified first r.1 c numbers) (Some (r.0, stored_all r.1 (return_writes first c))) None
 
--- the marks and the columns behind an instruction that leaves columns s
+-- the marks and the columns after an instruction that leaves columns s
 abbrev pub done_behind : Development → ℕ → ℕ → List ℤ → EdgeKind → State → Outcome → Option Ridden
 done_behind D c p variables k s (Goes q new) = ridden D c p k new s
 done_behind D c p variables k s (Answers numbers) = answered (first_system D) c numbers (ridden D c p Next variables s)
@@ -50,7 +50,7 @@ abbrev pub JustifiedFits : ℕ → ℕ → List ℤ → Option Ridden → Type 0
 JustifiedFits first c numbers None = Unit {0}
 JustifiedFits first c numbers (Some r) = ReplyFits first r.1 c numbers
 
--- behind an instruction that leaves columns s: those of the riders, and of a return its justification
+-- after an instruction that leaves columns s: the numbers of the riders, and for a return those of its justification
 abbrev pub BehindFits : Development → ℕ → ℕ → List ℤ → EdgeKind → State → Outcome → Type 0
 BehindFits D c p variables k s (Goes q new) = RiddenFits D c p k new s
 BehindFits D c p variables k s (Answers numbers) =

@@ -1,4 +1,4 @@
-//! A client's step: what its instruction does, and what stands beside the edge that it goes by.
+//! A client's step: what its instruction does, and the riders beside the edge that it goes by.
 ghost use Rattle.std.specs.Prelude.{◌≡◌, ◌≤◌, true, length, IfOk, IfSome};
 ghost use Rattle.lc_base.specs.Limits.{reply_limit};
 ghost use Rattle.lc_term.specs.Drafts.{written_in_draft, saved_in_draft, draft_columns};
@@ -105,7 +105,7 @@ fn answer(
     }))
 }
 
-// What is behind an instruction of a client at this place that goes by an edge to this fate.
+// What is done after an instruction of a client at this place that goes by an edge to this fate.
 fn follow(
     alloc: Global,
     development: &Development,
@@ -185,8 +185,8 @@ fn step_from(
 }
 
 /// The step of a client that is in a call, in the state that is saved: what its instruction does, then the riders beside its
-/// edge, and of a return whether its numbers are justified. None is answered where a mark is not lawful or a return not
-/// justified. What is stored is written to the draft, and nothing is saved; where there is no step the draft is to be rolled
+/// edge, and of a return whether its numbers are justified. None is returned if a mark is not lawful or a return not
+/// justified. What is stored is written to the draft, and nothing is saved; if there is no step the draft is to be rolled
 /// back, as the next call does.
 pub fn advance(
     alloc: Global,

@@ -53,7 +53,7 @@ fn copied(alloc: Global, numbers: &[i64]) -> Result<Vec<i64>, OutOfMemory>
     Ok(Vec::from_slice(alloc, numbers)?)
 }
 
-// The number of this place, or 0 where there is none.
+// The number of this place, or 0 if there is none.
 fn argument(numbers: &[i64], place: usize) -> i64
     ensures { result ≡ argument numbers.now place }
 {
@@ -94,7 +94,7 @@ fn invocation_writes(
     ]
 }
 
-// The step of a client that calls an operation with these numbers, and stands at this point then.
+// The step of a client that calls an operation with these numbers, and is then at this point.
 fn entered(
     alloc: Global,
     operation: OpId,
@@ -113,7 +113,7 @@ fn entered(
     }
 }
 
-// A client in no call, of so many, begins a call of this operation with as many numbers as it takes.
+// A client in no call, below `clients`, begins a call of this operation with as many numbers as it takes.
 fn enter(
     alloc: Global,
     development: &Development,

@@ -1,4 +1,4 @@
-//! Steps of a development's clients: an instruction with the riders beside it, told on a draft before they are kept.
+//! Steps of a development's clients: an instruction with the riders beside it, computed on a draft before they are kept.
 #![tactic(auto)]
 
 mod advancing;

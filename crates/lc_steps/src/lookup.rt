@@ -1,4 +1,4 @@
-//! What stands in a development, and in a list of clients, at a place.
+//! What a development and a list of clients have at a place.
 ghost use Rattle.std.specs.Prelude.{◌≡◌, ◌≤◌, length, map, option_map, slice_get, Some, IfOk, IfSome, MatchOption};
 ghost use Rattle.lc_base.specs.Limits.{column_limit};
 ghost use Rattle.lc_action.specs.ActionView.{first_of};
@@ -19,7 +19,7 @@ use lc_object::{EdgeKind, Operation};
 use lc_outline::{Development, On};
 use lc_rider::Rider;
 
-/// The number of things in a list, which has at most so many as 32 bits count.
+/// The number of things in a list, if it has 32 bits.
 pub(crate) fn count_of(length: usize) -> Result<u32, OutOfMemory>
     ensures { IfOk result (λ n. n ≡ length) }
 {
@@ -38,7 +38,7 @@ fn declared_columns(development: &Development) -> usize
         + parts.auxiliaries.len()
 }
 
-/// The system columns, behind the columns that are declared.
+/// The system columns, after the columns that are declared.
 pub(crate) fn system_columns(development: &Development) -> SystemColumns
     ensures { first_of result ≡ first_system (development_shown development.now) }
 {
@@ -48,7 +48,7 @@ pub(crate) fn system_columns(development: &Development) -> SystemColumns
     }
 }
 
-// The riders that stand there.
+// The riders at this edge.
 fn riders_in(on: Option<&On>) -> &[Rider]
     ensures { riders_of result.now ≡ riders_in (option_map (λ o. on_of o.now) on.entry) }
 {
@@ -65,7 +65,7 @@ pub(crate) fn riders_at(development: &Development, point: PointId, kind: EdgeKin
     riders_in(on_at(development, point, kind))
 }
 
-/// The operation in whose body a point stands.
+/// The operation whose body a point is in.
 pub(crate) fn operation_at(development: &Development, point: PointId) -> OpId
     ensures { result.0 ≡ operation_at (development_shown development.now).object point.0 }
 {

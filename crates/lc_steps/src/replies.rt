@@ -30,7 +30,7 @@ fn cell(state: &State, column: ColId, client: u32) -> Result<i64, EvalFault>
     state.read(column, i64::from(client))
 }
 
-// Whether these numbers stand in a client's cells of columns, one in each. They are read up to the first that differs.
+// Whether a client's cells of columns hold these numbers, one in each. They are read up to the first that differs.
 fn is_row(state: &State, columns: &[ColId], client: u32, numbers: &[i64]) -> Result<bool, EvalFault>
     requires each { length columns.now ≡ length numbers.now }
     requires there { AreBelow (column_count state.now) (columns_of columns.now) }

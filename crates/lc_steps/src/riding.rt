@@ -28,7 +28,7 @@ fn step_fault(fault: SeqFault) -> StepFault
     }
 }
 
-/// The riders beside an edge, done: the marks that they make, or nothing where they cannot be done.
+/// The riders beside an edge, done: the marks that they make, or nothing if they cannot be done.
 pub(crate) fn ride(
     alloc: Global,
     development: &Development,

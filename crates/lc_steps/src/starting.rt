@@ -12,7 +12,7 @@ use lc_outline::Development;
 use lc_term::State;
 use std::alloc::Global;
 
-// The two numbers of each of these columns, behind other numbers.
+// Appends the two numbers of each of these columns.
 fn push_columns(
     columns: &[lc_seq::Column],
     numbers: &mut Vec<(i64, i64)>,
@@ -25,7 +25,7 @@ fn push_columns(
     Ok(())
 }
 
-// The same of columns of an object's arrays.
+// The same for columns of an object's arrays.
 fn push_concretes(
     columns: &[lc_object::Column],
     numbers: &mut Vec<(i64, i64)>,
@@ -38,7 +38,7 @@ fn push_concretes(
     Ok(())
 }
 
-// The same of the system columns, which stand at 0.
+// The same for the system columns, which are 0.
 fn push_system(numbers: &mut Vec<(i64, i64)>) -> Result<(), OutOfMemory>
     ensures { OnOk result (numbers.new.items ≡ numbers.old.items ++ replicate 12 (pos 0, pos 0)) }
 {

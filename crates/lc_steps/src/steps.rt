@@ -19,7 +19,7 @@ pub struct Step {
     pub client: Client,
 }
 
-// Written out, so that a place where a step is let go has one call.
+// Written out, so that dropping a step is one call.
 impl Drop for Step {
     fn drop(self) {
         let Step {

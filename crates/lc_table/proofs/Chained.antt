@@ -17,7 +17,7 @@ use Rattle.lc_table.proofs.Later.{column_later, column_is, is_column_later, kept
 use Rattle.lc_table.proofs.NodeReplacement.{first_term, second_term, column_still, column_replaced, column_noted, replaced_later}
 use Rattle.lc_table.proofs.TermNodes.{column-there}
 
--- what stands at a store's number, which is not above n
+-- what is at a store's number, which is not above n
 pub record IsStoreAt (ts : Table) (n : ℕ) (c : S.Column) (k : ColExprId) : Type 0 where
   pub tree : column_in ts k ≡ c
   pub column : IsColumn ts k
@@ -60,7 +60,7 @@ replaced_store r t0 t1 t2 store b d i v l m there is k1 k2 below index value =
 
 -- ---- going down
 
--- the stores so far stand round the base
+-- the stores so far are around the base
 abbrev pub GoneDown : Table → ColExprId → List ColExprId → ColExprId → Type 0
 GoneDown ts column ks base =
     AreStores ts column.0 (column_in ts column) ks × (below_stores (column_in ts column) ks ≡ column_in ts base) × IsColumn ts base × (base.0 ≤ column.0)
@@ -128,6 +128,6 @@ pub store_noted : (r : Replacement) (t0 t2 t3 : Table) (es fs : List (ℕ × ℕ
 store_noted r t0 t2 t3 es fs k v is before after h at now =
     column_noted r t0 t3 es fs k v.0 is (kept_on t0 t2 t3 before after) (replaced_later r t2 t3 es h after) (column_part_at r t0 t3 k v is at) now
 
--- what is known of what is there
+-- what holds of an option's value holds of this value
 pub where_some : {A : Type 0} (P : A → Type 0) (o : Option A) (x : A) → o ≡ Some x → IfSome o P → P x
 where_some P o x is h = subst (λ q. IfSome q P) is h

@@ -1,4 +1,4 @@
--- What is copied from one table stands in the other, also later.
+-- What is copied from one table is in the other, now and later.
 use Rattle.std.proofs.Common.{◌≡◌, ℕ, Bool, true, false, List, slice_get, Some, is_some, cond, refl, sym, ap, ◌∙◌, subst}
 use Rattle.std.specs.Prelude.{nat_eq}
 use Rattle.std.specs.Map.{lookup}
@@ -30,7 +30,7 @@ copies_kept there here later copied h kept = record {
 pub term_stands : (ts : Table) (k : TermId) → IsTerm ts k → is_some (slice_get (parts ts) k.0) ≡ true
 term_stands ts k h = ap is_some (term-there (parts ts) k h)
 
--- the number of what stands there at a term's number is a term's
+-- the number of the copy of a term is the number of a term
 pub term_standing : (there here : Table) (k : TermId) (v : ℕ) → IsTerm there k → slice_get (parts here) v ≡ slice_get (parts there) k.0 → HasTerm here (record { 0 = v }) (term_in there k)
 term_standing there here k v h e = e ∙ term-there (parts there) k h
 

@@ -20,7 +20,7 @@ IsAbsent c ps = Every (λ (p : ℕ × Column). (p.0 == c) ≡ false) ps
 pub same : (c d : ℕ) → (c == d) ≡ true → c ≡ d
 same c d e = elim (eqb_tells c d) [ inl h ↦ h.1 | inr h ↦ absurd (cc (h.0, e)) ]
 
--- an entry of a column, behind others that are not
+-- an entry of a column, after others that are not
 pub found : (c : ℕ) (ps qs : List (ℕ × Column)) (x : Column) → IsAbsent c ps → column_at (ps ++ (c, x) ∷ qs) c ≡ x
 found c [] qs x h = elim (eqb_tells c c) [ inl t ↦ ap (λ b. if b then x else column_at qs c) t.0 | inr f ↦ absurd (f.1 refl) ]
 found c (p ∷ ps) qs x h = ap (λ b. if b then p.1 else column_at (ps ++ (c, x) ∷ qs) c) h.0 ∙ found c ps qs x h.1
@@ -37,7 +37,7 @@ absent-more c (q ∷ ps) p h n = (h.0, absent-more c ps p h.1 n)
 pub split : {A : Type 0} (xs : List A) (i : ℕ) (d : A) → i < length xs → xs ≡ take i xs ++ get_or xs i d ∷ drop (i + 1) xs
 split xs i d h = sym (take-append-drop i xs) ∙ ap (λ ys. take i xs ++ ys) (drop_more xs i d h)
 
--- an element that is there, whatever stands for one that is not
+-- an element of the list, whatever default there is for one that is not
 same_default : {A : Type 0} (xs : List A) (i : ℕ) (d : A) → i < length xs → get_or xs i d ≡ get_or xs i (get_or xs i d)
 same_default [] i d h = absurd (omega arith)
 same_default (x ∷ xs) zero d h = refl
@@ -75,7 +75,7 @@ pub absent_step : (cs : List (ColId × ColExpr)) (i : ℕ) (p : ColId × ColExpr
     IsAbsent c (map entry_of (take i cs)) → IsAbsent c (map entry_of (take (i + 1) cs))
 absent_step cs i p c h is other absent = mapped_absent entry_of cs i p c h is other absent
 
--- the same of entries by number
+-- the same for entries by number
 pub numbered_found : (ts : Table) (cs : List (ColId × ColExprId)) (i : ℕ) (d : ColId × ColExprId) (c : ℕ) → i < length cs → ((get_or cs i d).0.0 == c) ≡ true →
     IsAbsent c (map (entry_in ts) (take i cs)) → columns_at ts cs c ≡ column_in ts (get_or cs i d).1
 numbered_found ts cs i d c h at absent = mapped_found (entry_in ts) cs i (get_or cs i d) c h (same_default cs i d h) at absent

@@ -76,7 +76,7 @@ pub putting_elsewhere : (r : Replacement) (d : ℕ) (ts : Table) (k : ℕ) (u : 
     → slice_get (parts ts) k ≡ Some (term (S.Variable b)) → slice_get (parts ts) k ≡ Some (term ((under_many d r).variables b))
 putting_elsewhere r d ts k u v b same e at = at ∙ ap (λ x. Some (term x)) (sym (ap (λ x. (under_many d x).variables b) same ∙ under_many-putting-other v d b u e))
 
--- a term for the variable of the quantifier round the formula
+-- a term for the variable of the quantifier around the formula
 pub opening_here : (r : Replacement) (d : ℕ) (old new : Table) (t k : TermId) (u : S.Term) (b : ℕ) → r ≡ opening u → HasTerm old t u → b ≡ d
     → HasTerm new k (shifted_term d 0 (term_in old t)) → slice_get (parts new) k.0 ≡ Some (term ((under_many d r).bounds b))
 opening_here r d old new t k u b same is e at =

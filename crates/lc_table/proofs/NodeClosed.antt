@@ -1,4 +1,4 @@
--- A node has no bound variable where none of its parts has one, and what has none is the same below quantifiers.
+-- A node has no bound variable if none of its parts has one, and what has none is the same below quantifiers.
 use Rattle.std.proofs.Common.{◌≡◌, ℕ, true, Some, subst, sym, ap, ◌∙◌}
 use Rattle.lc_table.specs.declared.node.TermId.{TermId}
 use Rattle.lc_table.specs.declared.node.ColExprId.{ColExprId}
@@ -16,7 +16,7 @@ use Rattle.lc_term.proofs.Closed.{shifted_closed, shifted_closed_column}
 use Rattle.lc_table.proofs.TermNodes.{term-there, column-there}
 use Rattle.lc_term.proofs.Under.{shifted_none, shifted_column_none}
 
--- what stands at a number has no bound variable
+-- at this number is a part without bound variables
 abbrev pub IsClosedAt : Table → ℕ → Type 0
 IsClosedAt ts k = is_closed_part (part_in ts k) ≡ true
 

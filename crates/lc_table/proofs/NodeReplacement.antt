@@ -32,7 +32,7 @@ part_there ts k h = by (slice_get (parts ts) k) h
 part_later : (old new : Table) (k : ℕ) (p : Part) → slice_get (parts old) k ≡ Some p → Keeps old new → slice_get (parts new) k ≡ Some p
 part_later old new k p h kept = ap (λ l. slice_get l k) kept.parts_kept.1 ∙ kept_left (parts old) kept.parts_kept.0 k p h
 
--- a node that stands at a number
+-- a node at a number
 pub node_later : (old new : Table) (k : ℕ) (n : TermNode) → slice_get (parts old) k ≡ Some (part_of (parts old) n) → PartFits (parts old) n → Keeps old new
     → slice_get (parts new) k ≡ Some (part_of (parts new) n)
 node_later old new k n at fits kept =
@@ -109,7 +109,7 @@ column_noted r old new es fs k v is kept h at now =
 pub one_term : (r : Replacement) (t0 t1 : Table) (a l : TermId) → HasTerm t1 l (replace_term r (term_in t0 a)) → term_in t1 l ≡ replace_term r (term_in t0 a)
 one_term r t0 t1 a l h = term_is t1 l _ h
 
--- the second term is replaced in a later table, where what is put in is the same
+-- the second term is replaced in a later table, if what is put in is the same
 pub second_term : (r s : Replacement) (t0 t1 t2 : Table) (b m : TermId) → s ≡ r → IsTerm t0 b → Keeps t0 t1 → HasTerm t2 m (replace_term s (term_in t1 b)) → term_in t2 m ≡ replace_term r (term_in t0 b)
 second_term r s t0 t1 t2 b m same is kept h = term_is t2 m _ h ∙ ap₂ replace_term same (term_still t0 t1 b is kept)
 
@@ -121,7 +121,7 @@ first_column r t0 t1 t2 a l kept h = column_is t2 l _ (column_later t1 t2 l _ h 
 
 -- ---- a comparison, from its terms, which are replaced
 
--- it stays where they stay
+-- it stays if they stay
 stays : (r : Replacement) (f : S.Term → S.Term → S.Formula) (old new : Table) (k : FormulaId) (a b : TermId) → IsFormula old k → IsTerm old a → IsTerm old b → formula_in old k ≡ f (term_in old a) (term_in old b)
     → Keeps old new → HasTerm new a (replace_term r (term_in old a)) → HasTerm new b (replace_term r (term_in old b)) → HasFormula new k (f (replace_term r (term_in old a)) (replace_term r (term_in old b)))
 stays r f old new k a b is left right tree kept h g =

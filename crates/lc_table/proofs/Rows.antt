@@ -9,7 +9,7 @@ use Rattle.std.specs.List.{list_any}
 use Rattle.indexmap.specs.IndexSet.{insert_key}
 use Rattle.lc_table.specs.Rows.{grow, trees, Built, AreDistinct, IsTable, Extends}
 
--- what stands at a place stays there
+-- an element stays at its place
 pub kept_left : {T : Type 0} (xs ys : List T) (k : ℕ) (t : T) → slice_get xs k ≡ Some t → slice_get (xs ++ ys) k ≡ Some t
 kept_left xs ys k t h =
     let lt : k < length xs = slice_get_within xs k t h in
@@ -27,7 +27,7 @@ below_or_here j k le = elim (eqb j k) as (λ b. eqb j k ≡ b → (j ≡ k) ⊎ 
   | false ↦ λ e. inr (grind (arith, nat_tests))
 ] refl
 
--- where an element of a longer list stands
+-- the place of an element of a longer list
 place : {T : Type 0} (ts : List T) (x : T) (i : ℕ) (t : T) → slice_get (ts ++ x ∷ []) i ≡ Some t → (slice_get ts i ≡ Some t) ⊎ ((i ≡ length ts) × (t ≡ x))
 place ts x i t h =
     let lt = slice_get_within (ts ++ x ∷ []) i t h in
@@ -53,7 +53,7 @@ any-at p [] j x h is = absurd (omega (arith, slice_get_within [] j x h))
 any-at p (y ∷ ys) zero x h is = let e : y ≡ x = some_same y x h in rw (e, is) refl
 any-at p (y ∷ ys) (suc j) x h is = or_right (p y) _ (any-at p ys j x h is)
 
--- what stands at a place within a list
+-- the element at a place within a list
 pub element : {N : Type 0} (xs : List N) (j : ℕ) → j < length xs → (x : N) × (slice_get xs j ≡ Some x)
 element [] j lt = absurd (omega (arith, lt))
 element (x ∷ xs) zero lt = (x, refl)

@@ -13,7 +13,7 @@ use Rattle.lc_table.proofs.Rows.{kept_left}
 abbrev pub node_eq : TermNode → TermNode → Bool
 node_eq = eq-value.it
 
--- what stands at a number
+-- the part at a term's number
 pub term-there : (ts : List Part) (k : TermId) → IsTerm ts k → slice_get ts k.0 ≡ Some (term (term_in ts k))
 term-there ts k h = by (slice_get ts k.0) h
   where
@@ -131,7 +131,7 @@ same_node ts _ _ d p q e = cc
 pub part-node_eq : (ts : List Part) (m n : TermNode) → AreDistinct ts → PartFits ts m → PartFits ts n → part_of ts m ≡ part_of ts n → node_eq m n ≡ true
 part-node_eq ts m n d p q e = subst (λ x. node_eq m x ≡ true) (same_node ts m n d p q e) (node_eq-self m)
 
--- what stands at a place is something
+-- there is a part at this place
 pub some-there : (o : Option Part) → is_some o ≡ true → (p : Part) × (o ≡ Some p)
 some-there (Some p) h = (p, refl)
 some-there None h = cc

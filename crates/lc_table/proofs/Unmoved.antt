@@ -1,4 +1,4 @@
--- A column expression does not pass a test where what some of its stores store to does not.
+-- A column expression does not pass a test if what some of its stores store to does not.
 use Rattle.std.proofs.Common.{◌≡◌, false, List, [], ◌∷◌, Ok, Err, sym, subst}
 use Rattle.std.proofs.lemmas.Bool.{and_left}
 use Rattle.std.specs.Prelude.{Result, IfErr, IsErrAnd}

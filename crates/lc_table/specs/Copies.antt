@@ -5,7 +5,7 @@ use Rattle.lc_table.specs.NodeTables.{Table}
 use Rattle.lc_table.specs.Tables.{parts, formulas}
 use Rattle.lc_table.specs.declared.copying.Copied.{Copied}
 
--- what stands there stands here at the number beside
+-- what is at the first number there is at the number beside it here
 abbrev pub AreCopied : {T : Type 0} → List T → List T → List (ℕ × ℕ) → Type 0
 AreCopied {T} there here es = (k v : ℕ) (t : T) → lookup (nat_eq k) es ≡ Some v → slice_get there k ≡ Some t → slice_get here v ≡ Some t
 

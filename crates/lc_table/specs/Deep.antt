@@ -17,7 +17,7 @@ IsBelow n k = k < n
 abbrev pub IsTermBelow : ℕ → TermId → Type 0
 IsTermBelow n k = k.0 < n
 
--- what is found stands in the table, below a number
+-- what is found is in the table, below a number
 pub record AreFound (ts : Table) (n : ℕ) (found : Found) : Type 0 where
   pub parts_there : All (IsPart ts) found.parts.items
   pub parts_below : All (IsBelow n) found.parts.items

@@ -13,7 +13,7 @@ initial = record { folded = folding.initial; largest = 0 }
 abbrev pub number_in : List ℕ → Option ℕ
 number_in bs = if length bs == 4 then Some (from_le_bytes w32 bs) else (if length bs == 8 then Some (from_le_bytes w64 bs) else None)
 
--- a number is hashed that is not the largest, and of the largest what stands before its last six bits
+-- a number is hashed if it is not the largest; the largest is hashed without its last six bits
 abbrev pub hashed : NearHasher → ℕ → ℕ → NearHasher
 hashed h n largest = record { folded = fold folding.write h.folded (u64 n); largest = largest }
 

@@ -11,7 +11,7 @@ abbrev pub stored_to : S.Column → S.Column
 stored_to (S.Store c i v) = c
 stored_to c = c
 
--- what stands below as many stores as the list has
+-- what is below as many stores as the list has elements
 abbrev pub below_stores : S.Column → List ColExprId → S.Column
 below_stores c [] = c
 below_stores c (k ∷ ks) = below_stores (stored_to c) ks

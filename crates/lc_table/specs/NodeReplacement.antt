@@ -32,6 +32,6 @@ is_comparison (S.Le t u) = true
 is_comparison (S.Eq t u) = true
 is_comparison _ = false
 
--- what stands at each of these numbers stands, after the replacement, at the number beside
+-- what is at each of these numbers is, after the replacement, at the number beside it
 abbrev pub AreReplaced : Replacement → List Part → List (ℕ × ℕ) → Type 0
 AreReplaced r ps es = (k v : ℕ) → lookup (nat_eq k) es ≡ Some v → (p : Part) × (slice_get ps k ≡ Some p) × (slice_get ps v ≡ Some (replaced_part r p))

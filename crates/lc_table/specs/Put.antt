@@ -18,7 +18,7 @@ use Rattle.lc_table.specs.declared.put.Put.{Put}
 use Rattle.lc_table.specs.declared.put.Occurrence.{Occurrence}
 use Rattle.lc_table.specs.declared.put.ReplacedNodes.{ReplacedNodes}
 
--- what stands in a column: what the list has for it first; the column itself, where it has nothing
+-- what a column becomes: what the list has for it first, or the column itself, if the list has nothing
 abbrev pub column_at : List (ℕ × S.Column) → ℕ → S.Column
 column_at [] c = S.Base c
 column_at (p ∷ ps) c = if p.0 == c then p.1 else column_at ps c
@@ -30,7 +30,7 @@ entry_of p = (p.0.0, column_of p.1)
 abbrev pub columns_in : List (ColId × ColExpr) → ℕ → S.Column
 columns_in ps = column_at (map entry_of ps)
 
--- columns in order; 0 in each cell behind the last
+-- columns in order; 0 in each cell after the last
 abbrev pub column_by_number : List S.Column → ℕ → S.Column
 column_by_number cs c = slice_index_or cs c (S.Affine (pos 0) (pos 0))
 
@@ -50,7 +50,7 @@ replacement_of p = replacing (columns_put p.columns) (variables_put p.variables)
 abbrev pub occurrence_eq : Occurrence → Occurrence → Bool
 occurrence_eq a b = (a.number == b.number) && (a.depth == b.depth)
 
--- each tree that is remembered stands there, and replaced, below as many quantifiers, at the number beside
+-- each tree that is remembered is there, and it is at the number beside it, replaced below as many quantifiers
 abbrev pub AreRemembered : {T : Type 0} → (ℕ → T → T) → List T → List (Occurrence × ℕ) → Type 0
 AreRemembered {T} replaced ts es =
     (k : Occurrence) (v : ℕ) → lookup (occurrence_eq k) es ≡ Some v → (t : T) × (slice_get ts k.number ≡ Some t) × (slice_get ts v ≡ Some (replaced k.depth t))

@@ -15,7 +15,7 @@ use Rattle.lc_table.specs.Tables.{term_in, column_in, IsTerm, IsColumn}
 abbrev pub entry_in : Table → ColId × ColExprId → ℕ × S.Column
 entry_in ts p = (p.0.0, column_in ts p.1)
 
--- what stands in each column: what the list has for it first; the column itself, where it has nothing
+-- what each column becomes: what the list has for it first, or the column itself, if the list has nothing
 abbrev pub columns_at : Table → List (ColId × ColExprId) → ℕ → S.Column
 columns_at ts ps = column_at (map (entry_in ts) ps)
 
@@ -31,6 +31,6 @@ terms_in ts ks = map (term_in ts) ks
 abbrev pub AreTerms : Table → List TermId → Type 0
 AreTerms ts ks = Every (IsTerm ts) ks
 
--- what stands in each column, and the terms in order for the variables; 0 for a variable behind the last
+-- what each column becomes, and the terms in order for the variables; 0 for a variable after the last
 abbrev pub replacement_at : Table → List (ColId × ColExprId) → List TermId → Replacement
 replacement_at ts ps ks = replacing (columns_at ts ps) (term_at (terms_in ts ks))

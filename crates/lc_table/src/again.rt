@@ -1,4 +1,4 @@
-//! Formulas that are entered once more: whether one stands at the number where it is expected.
+//! Formulas that are entered once more: whether one is at the number where it is expected.
 ghost use Rattle.std.specs.Prelude.{◌≡◌, IfSome, Some, slice_get, true};
 ghost use Rattle.lc_term.specs.View.{term_of, column_of, formula_of};
 ghost use Rattle.lc_table.specs.Nodes.{part_of, tree_of};
@@ -9,7 +9,7 @@ use crate::table::Terms;
 use lc_term::{ColExpr, Formula, Term};
 
 /// The two numbers that were entered last, of formulas or of stores. What is entered once more, in the same order, has numbers
-/// that go up by the same steps, so the next number can be told.
+/// that go up by the same steps, so the next number can be predicted.
 #[derive(Clone, Copy)]
 pub(crate) struct Expected {
     last: u32,
@@ -22,13 +22,13 @@ impl Expected {
         Expected { last: 0, before: 0 }
     }
 
-    /// As far behind the last one as that is behind the one before it: so are the stores of a chain.
+    /// As far after the last one as that is after the one before it: so are the stores of a chain.
     pub(crate) fn stepped(self) -> u32 {
         let step = self.last.saturating_sub(self.before);
         self.last.saturating_add(step)
     }
 
-    /// Behind the last one: so are the formulas of a list.
+    /// After the last one: so are the formulas of a list.
     pub(crate) fn following(self) -> u32 {
         self.last.saturating_add(1)
     }
@@ -41,7 +41,7 @@ impl Expected {
 }
 
 impl Terms {
-    // Whether a term stands at a number.
+    // Whether a term is at this number.
     fn is_term_at(&self, at: TermId, term: &Term) -> bool
         ensures { result ≡ true → HasTerm self.now at (term_of term.now) }
     {
@@ -80,7 +80,7 @@ impl Terms {
         }
     }
 
-    // Whether a column stands at a number. Of a store it is not looked for.
+    // Whether a column is at a number. A store is not looked for.
     fn is_column_at(&self, at: ColExprId, column: &ColExpr) -> bool
         ensures { result ≡ true → HasColumn self.now at (column_of column.now) }
     {
@@ -100,7 +100,7 @@ impl Terms {
         }
     }
 
-    // Whether two terms stand at two numbers.
+    // Whether these two terms are at these two numbers.
     fn are_terms_at(&self, at: (TermId, TermId), left: &Term, right: &Term) -> bool
         ensures left { result ≡ true → HasTerm self.now at.0 (term_of left.now) }
         ensures right { result ≡ true → HasTerm self.now at.1 (term_of right.now) }

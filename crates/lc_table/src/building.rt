@@ -1,4 +1,4 @@
-//! Terms, column expressions and formulas made of those that a table has. Each call answers the number of what is made.
+//! Terms, column expressions and formulas made of those that a table has. Each call returns the number of what is made.
 ghost use Rattle.std.specs.Prelude.{IfOk};
 ghost use Rattle.lc_term.specs.Syntax as S;
 ghost use Rattle.lc_table.specs.Tables.{term_in, column_in, formula_in, formulas_in, IsTerm, IsColumn, IsFormula, AreFormulas, HasTerm, HasColumn, HasFormula, Keeps};
@@ -55,7 +55,7 @@ impl Terms {
         Ok(TermId(self.enter_part(TermNode::Subtract(left, right))?))
     }
 
-    /// The term, so many times.
+    /// The term times `factor`.
     pub fn multiply(&mut self, factor: i64, term: TermId) -> Result<TermId, OutOfMemory>
         requires { IsTerm self.old term }
         ensures id { IfOk result (λ k. HasTerm self.new k (S.Multiply factor (term_in self.old term))) }

@@ -27,7 +27,7 @@ pub(crate) struct Waiting {
 }
 
 impl Waiting {
-    // What stands below the stores, where what is no store stays as it is.
+    // What is below the stores; what is no store stays as it is.
     pub(crate) fn below(&self) -> ColExprId
         ensures known { IfSome self.now.known (λ number. result.0 ≡ number) }
         ensures base { self.now.known ≡ None → result.0 ≡ self.now.base.0 }
@@ -61,7 +61,7 @@ impl KnownParts for NearMap<u32, u32> {
     }
 }
 
-/// What is replaced already below so many quantifiers.
+/// What is replaced already below `depth` quantifiers.
 #[derive(Clone, Copy)]
 pub(crate) struct ReplacedBelow<'a> {
     pub(crate) done: &'a ReplacedNodes,

@@ -61,7 +61,7 @@ impl Terms {
         Ok((left, right))
     }
 
-    // That one term is at most another, replaced: the formula itself where its terms stay.
+    // That one term is at most another, replaced: the formula itself if its terms stay.
     #[tactic(auto, using(crate::proofs::Later::kept_on, crate::proofs::NodeReplacement::le_stays, crate::proofs::NodeReplacement::le_made))]
     pub(crate) fn replaced_le<R: Filled>(
         &mut self,
@@ -88,7 +88,7 @@ impl Terms {
         Ok(self.le(left, right)?)
     }
 
-    // That two terms are equal, replaced: the formula itself where its terms stay.
+    // That two terms are equal, replaced: the formula itself if its terms stay.
     #[tactic(auto, using(crate::proofs::Later::kept_on, crate::proofs::NodeReplacement::eq_stays, crate::proofs::NodeReplacement::eq_made))]
     pub(crate) fn replaced_eq<R: Filled>(
         &mut self,

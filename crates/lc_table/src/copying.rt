@@ -100,7 +100,7 @@ impl Terms {
         Ok(here)
     }
 
-    // The number here of what stands there below the stores that are not copied yet.
+    // The number here of what is, in the other table, below the stores that are not copied yet.
     #[tactic(auto, using(crate::proofs::Copied::copies_kept, crate::proofs::Copied::column_found, crate::proofs::Copied::column_noted))]
     fn copied_below(
         &mut self,

@@ -1,5 +1,5 @@
-//! The terms below a part of a table. A walk that remembers what it has seen goes down so many levels at once; where it comes
-//! deeper, it takes these first, the lowest before the others. So it takes little of the stack, however deep a term is.
+//! The terms below a part of a table. A walk that remembers what it has seen goes down only some levels at once; if it gets
+//! deeper, it takes these terms first, the lowest before the others. So it takes little of the stack, however deep a term is.
 ghost use Rattle.std.specs.Prelude.{◌≡◌, ◌≤◌, ◌<◌, ℕ, IfOk, OnOk};
 ghost use Rattle.std.specs.List.{All};
 ghost use Rattle.lc_table.specs.Deep.{IsPart, IsTermBelow, AreFound};
@@ -75,7 +75,7 @@ impl Terms {
         Ok(())
     }
 
-    // A column expression, likewise.
+    // Adds a column expression to what is found, in the same way.
     fn find_column<K: KnownParts>(
         &self,
         found: &mut Found,
@@ -120,7 +120,7 @@ impl Terms {
         }
     }
 
-    /// The terms below a part of which it is not known yet what becomes of them, the lowest first.
+    /// The terms below a part for which it is not known yet what they become, the lowest first.
     pub(crate) fn terms_below<K: KnownParts>(
         &self,
         alloc: Global,

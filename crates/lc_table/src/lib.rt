@@ -1,4 +1,4 @@
-//! Terms, column expressions and formulas as numbers of a table, in which each distinct one stands once.
+//! Terms, column expressions and formulas as numbers of a table, with each distinct one stored once.
 #![tactic(auto)]
 
 mod again;

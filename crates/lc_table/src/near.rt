@@ -11,11 +11,11 @@ pub(crate) type NearMap<K, V> = IndexMap<K, V, BuildHasherDefault<NearHasher>>;
 /// A set of what is made of numbers.
 pub(crate) type NearSet<T> = IndexSet<T, BuildHasherDefault<NearHasher>>;
 
-/// So many numbers, one behind the other, differ in the last bits of their hashes alone.
+/// As many consecutive numbers as differ in the last bits of their hashes alone.
 const NEAR: u64 = 64;
 
 /// Hashes what is written as a `FoldHasher` does, but for the last bits of the largest number, which stay the last bits of the
-/// hash. What is entered behind something else is often made of the same numbers but for the largest, which is a little larger.
+/// hash. What is entered after something else is often made of the same numbers but for the largest, which is a little larger.
 /// A map then goes through its memory in order, where it would wait at each entry for memory that lies anywhere.
 #[derive(Clone, Copy)]
 pub struct NearHasher {
@@ -56,7 +56,7 @@ impl NearHasher {
     ghost use Rattle.std.specs.Prelude.{◌≡◌};
     ghost use Rattle.lc_table.specs.Near.{with_number};
 
-    // Of this number and the largest so far, the smaller is hashed. It is told which of them came first.
+    // Hashes the smaller of this number and the largest so far, in a form that shows which of them came first.
     #[inline(always)]
     fn write_number(&mut self, number: u64)
         ensures { self.new ≡ with_number self.old number }

@@ -1,4 +1,4 @@
-//! Terms and column expressions of a table in which no bound variable stands: below quantifiers they are the same.
+//! Terms and column expressions of a table without bound variables: below quantifiers they are the same.
 ghost use Rattle.std.specs.Prelude.{◌≡◌, IfOk, slice_get, is_some, true};
 ghost use Rattle.lc_table.specs.NodeReplacement.{part_in};
 ghost use Rattle.lc_table.specs.NodeClosed.{is_closed_part};
@@ -20,8 +20,8 @@ const LOOKS: u32 = 512;
 const LOOKS_OF_A_STORE: u32 = 8;
 
 impl Terms {
-    // Whether it is seen that no bound variable stands in what stands at a number. `false` says nothing. Each store of the
-    // chain that stands there, but none of those in its terms, brings so many more looks.
+    // Whether it is seen that no bound variable occurs in the part at the number `part`. `false` says nothing. Each store of
+    // the chain at this number, but none of those in its terms, adds `brought` looks.
     fn is_seen_closed(&self, part: u32, looks: &mut u32, brought: u32) -> bool
         requires { is_some (slice_get (parts self.now) part) ≡ true }
         ensures { result ≡ true → is_closed_part (part_in self.now part) ≡ true }
@@ -69,8 +69,8 @@ impl Terms {
         self.is_seen_closed(part, &mut looks, LOOKS_OF_A_STORE)
     }
 
-    // A term below as many further quantifiers as `depth` counts. A number that has no place is answered as by a table that
-    // has no number left: what is put in is not asked to have room below all the quantifiers that stand round its places.
+    // A term below `depth` further quantifiers. For a number that has no place it returns the error of a table that is full:
+    // what is put in is not asked to have room below all the quantifiers around its places.
     #[tactic(auto, using(crate::proofs::NodeClosed::term_raised_nowhere, crate::proofs::NodeClosed::closed_term_stays))]
     pub(crate) fn raised(
         &mut self,
@@ -93,7 +93,7 @@ impl Terms {
         }
     }
 
-    // A column expression, likewise.
+    // A column expression below `depth` further quantifiers, with the same error.
     #[tactic(auto, using(crate::proofs::NodeClosed::column_raised_nowhere, crate::proofs::NodeClosed::closed_column_stays))]
     pub(crate) fn raised_column(
         &mut self,

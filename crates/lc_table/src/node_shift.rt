@@ -98,7 +98,7 @@ impl Terms {
         self.shifted_term(term, added, cutoff, &mut done, LEVELS)
     }
 
-    // The column expression, likewise.
+    // The column expression, moved in the same way.
     pub(crate) fn moved_column(
         &mut self,
         alloc: Global,
@@ -202,8 +202,8 @@ impl Terms {
         }
     }
 
-    // Moves all that stands below a term and is not moved yet. Each of these has its own parts moved before it, so that none goes
-    // down far. One that has no place is found again with the term.
+    // Moves everything below a term that is not moved yet. Each part has its own parts moved before it, so that none goes
+    // down far. A part without a place is found again with the term.
     #[cycle(shifted_part)]
     #[inline(never)]
     #[tactic(auto, using(crate::proofs::Later::kept_on, crate::proofs::Later::keeps_itself, crate::proofs::Later::is_term_still))]

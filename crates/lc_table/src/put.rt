@@ -16,7 +16,7 @@ use std::hash::BuildHasherDefault;
 pub enum PutColumns<'a> {
     /// The first entry of a column; a column without an entry stays.
     Stored(&'a [(ColId, ColExpr)]),
-    /// By the columns' numbers; 0 in each cell of a column behind the last.
+    /// By the columns' numbers; 0 in each cell of a column after the last.
     All(&'a [ColExpr]),
 }
 
@@ -25,7 +25,7 @@ pub enum PutColumns<'a> {
 pub enum PutVariables<'a> {
     /// Each variable stays.
     Own,
-    /// By the variables' numbers; 0 for a variable behind the last.
+    /// By the variables' numbers; 0 for a variable after the last.
     Terms(&'a [Term]),
 }
 
@@ -37,7 +37,7 @@ pub struct Put<'a> {
     pub variables: PutVariables<'a>,
 }
 
-// A number of a table, at a place with so many quantifiers round it.
+// A number of a table, at a place with `depth` quantifiers around it.
 #[derive(Clone, Copy, PartialEq, Eq, Hash)]
 pub(crate) struct Occurrence {
     pub(crate) number: u32,
@@ -45,14 +45,14 @@ pub(crate) struct Occurrence {
 }
 
 /// What of a table is replaced already: it serves one `Put` and one table, which may grow, so that what formulas share is
-/// replaced once. After an error it is to be let go.
+/// replaced once. After an error it has to be dropped.
 pub struct ReplacedNodes {
     pub(crate) parts: NearMap<Occurrence, u32>,
     pub(crate) formulas: NearMap<Occurrence, u32>,
     forgotten: u32,
 }
 
-// The first so many are not remembered: a small formula is replaced sooner than a map of its parts is made, and what is
+// How many are not remembered at first: a small formula is replaced sooner than a map of its parts is made, and what is
 // met again has then cost no more than these.
 const FORGOTTEN: u32 = 64;
 

@@ -24,7 +24,7 @@ use std::cmp::Ordering;
 use std::marker::Brand;
 
 impl Terms {
-    /// The term with what is put in for its columns and variables. `OutOfMemory` is answered also where the number of a
+    /// The term with what is put in for its columns and variables. `OutOfMemory` is returned also if the number of a
     /// shifted bound variable has no place in 32 bits, here and below.
     pub fn replace_term(
         &mut self,
@@ -76,7 +76,7 @@ impl Terms {
         self.replaced_formula::<Brand>(alloc, &Filling::Put(*put), done, formula, 0)
     }
 
-    // The first entry of a column; the column itself where it has none.
+    // The first entry of a column; the column itself if it has none.
     fn enter_stored(
         &mut self,
         columns: &[(ColId, ColExpr)],
@@ -158,7 +158,7 @@ impl Terms {
         self.raised(alloc, term, depth)
     }
 
-    // What is put in for a column, which stands at the number `part`.
+    // What is put in for a column, which is at the number `part`.
     fn replaced_base<R: Filled>(
         &mut self,
         alloc: Global,
@@ -185,7 +185,7 @@ impl Terms {
         }
     }
 
-    // What is put in for a free variable, which stands at the number `part`.
+    // What is put in for a free variable, which is at the number `part`.
     fn replaced_variable<R: Filled>(
         &mut self,
         alloc: Global,
@@ -216,7 +216,7 @@ impl Terms {
         }
     }
 
-    // What is put in for a bound variable, which stands at the number `part`.
+    // What is put in for a bound variable, which is at the number `part`.
     fn replaced_bound<R: Filled>(
         &mut self,
         alloc: Global,
@@ -339,7 +339,7 @@ impl Terms {
         Ok(replaced)
     }
 
-    // What stands below the stores that are not replaced yet, replaced.
+    // What is below the stores that are not replaced yet, replaced.
     fn replaced_below<R: Filled>(
         &mut self,
         alloc: Global,
@@ -410,7 +410,7 @@ impl Terms {
         }
     }
 
-    // A store, replaced, where what it stores to is replaced by what stands at `below`.
+    // A store, replaced; what it stores to is replaced by what is at the number `below`.
     #[cycle(replaced_part)]
     #[tactic(auto, using(crate::proofs::Later::kept_on, crate::proofs::Later::is_term_later, crate::proofs::Later::is_term_still))]
     fn replaced_store<R: Filled>(
@@ -449,7 +449,7 @@ impl Terms {
         }
     }
 
-    // The number of a node whose parts are replaced: the number `part` of the node before, where none of them changed.
+    // The number of a node whose parts are replaced: the number `part` of the node before, if none of them changed.
     #[tactic(auto, using(crate::proofs::Later::keeps_itself, crate::proofs::NodeReplacement::same_nodes))]
     fn enter_changed(
         &mut self,
@@ -469,8 +469,8 @@ impl Terms {
         }
     }
 
-    // Replaces all that stands below a term and is not replaced yet. Each of these has its own parts replaced before it, so that
-    // none goes down far.
+    // Replaces everything below a term that is not replaced yet. Each part has its own parts replaced before it, so that none
+    // goes down far.
     #[cycle(replaced_part)]
     #[inline(never)]
     #[tactic(auto, using(crate::proofs::Later::kept_on, crate::proofs::Later::keeps_itself, crate::proofs::Later::is_term_still))]
@@ -601,7 +601,7 @@ impl Terms {
         Ok(number)
     }
 
-    // The number of a formula whose parts are replaced: the number `formula` of the one before, where none of them changed.
+    // The number of a formula whose parts are replaced: the number `formula` of the one before, if none of them changed.
     #[tactic(auto, using(crate::proofs::Later::keeps_itself, crate::proofs::NodeReplacement::same_formula_node))]
     fn enter_changed_formula(
         &mut self,

@@ -13,13 +13,13 @@ use std::alloc::Global;
 use std::hash::BuildHasherDefault;
 use std::marker::Model;
 
-/// So many places there are for numbers and variables.
+/// The number of places for numbers and variables.
 const LEAF_PLACES: usize = 8;
 
-/// Terms, column expressions and formulas by number: each that is there stands there once, and is made of others by
-/// their numbers. So two numbers are equal exactly where their trees are, and what occurs often is kept once.
+/// Terms, column expressions and formulas by number: each is stored once, and is made of others by their numbers.
+/// So two numbers are equal exactly if their trees are, and what occurs often is kept once.
 ///
-/// No call changes the tree of a number. A call that answers an error may leave more entries.
+/// No call changes the tree of a number. A call that returns an error may leave more entries.
 pub struct Terms {
     terms: NearSet<TermNode>,
     formulas: NearSet<FormulaNode>,
@@ -27,7 +27,7 @@ pub struct Terms {
     next_formula: Expected,
     /// Where the next store is expected.
     next_store: Expected,
-    /// Where numbers and variables stand that were entered last, by a place of each.
+    /// The numbers of the numbers and variables that were entered last, by a place of each.
     leaves: [u32; LEAF_PLACES],
 }
 
@@ -41,7 +41,7 @@ impl Model for Terms {
     ghost invariant = { λ t. IsNodeTable t.terms.keys t.formulas.keys };
 }
 
-// Written out and not derived, so that a place where a table is let go has one call.
+// Written out and not derived, so that dropping a table is one call.
 impl Drop for Terms {
     fn drop(self) {
         let Terms {
@@ -85,7 +85,7 @@ impl Terms {
         self.terms.len().saturating_add(self.formulas.len())
     }
 
-    /// Makes room for so many terms and column expressions in all, so that while they are entered none has to move.
+    /// Makes room for `count` terms and column expressions in all, so that none has to move while they are entered.
     pub fn reserve(&mut self, count: usize) -> Result<(), OutOfMemory>
         ensures { Keeps self.old self.new }
     {
@@ -94,7 +94,7 @@ impl Terms {
         Ok(())
     }
 
-    // Makes room for the formulas of a list of so many, and for those that they become where something is put in.
+    // Makes room for a list of `count` formulas, and for those that they become when something is put in.
     pub(crate) fn reserve_formulas(&mut self, count: usize) -> Result<(), OutOfMemory>
         ensures { Keeps self.old self.new }
     {
@@ -115,7 +115,7 @@ impl Terms {
         number_of(index)
     }
 
-    // The same of a store, which is looked for where one is expected.
+    // Enters a store in the same way; it is looked for where one is expected.
     pub(crate) fn enter_store(&mut self, node: TermNode) -> Result<u32, OutOfMemory>
         requires { PartFits (parts self.old) node }
         ensures part { IfOk result (λ k. slice_get (parts self.new) k ≡ Some (part_of (parts self.old) node)) }
@@ -131,7 +131,7 @@ impl Terms {
         Ok(number)
     }
 
-    // The same of a number or a variable, which is looked for where one of its place was entered last.
+    // Enters a number or a variable in the same way; it is looked for where one with this place was entered last.
     pub(crate) fn enter_leaf(&mut self, node: TermNode, place: usize) -> Result<u32, OutOfMemory>
         requires fits { PartFits (parts self.old) node }
         requires place { place < 8 }
@@ -172,7 +172,7 @@ impl Terms {
         Some((FormulaId(next), node))
     }
 
-    // This formula was entered, so the next one is expected behind it.
+    // This formula was entered, so the next one is expected after it.
     pub(crate) fn note_entered(&mut self, formula: FormulaId)
         ensures { self.new ≡ self.old }
     {
@@ -186,7 +186,7 @@ impl Terms {
         self.terms.get_index(part as usize).copied()
     }
 
-    // Whether a term or a column expression of this node stands at a number.
+    // Whether a term or a column expression with this node is at this number.
     fn is_part_at(&self, part: u32, node: TermNode) -> bool
         ensures { result ≡ true → slice_get (parts self.now) part ≡ Some (part_of (parts self.now) node) }
     {
@@ -244,7 +244,7 @@ impl Terms {
         }
     }
 
-    /// Whether two numbers stand for the same term: where they are the same number.
+    /// Whether two numbers stand for the same term: they do if they are the same number.
     pub fn is_same_term(&self, left: TermId, right: TermId) -> bool
         requires left { IsTerm self.now left }
         requires right { IsTerm self.now right }
@@ -254,7 +254,7 @@ impl Terms {
         left == right
     }
 
-    /// Whether two numbers stand for the same column expression: where they are the same number.
+    /// Whether two numbers stand for the same column expression: they do if they are the same number.
     pub fn is_same_column(&self, left: ColExprId, right: ColExprId) -> bool
         requires left { IsColumn self.now left }
         requires right { IsColumn self.now right }
@@ -264,7 +264,7 @@ impl Terms {
         left == right
     }
 
-    /// Whether two numbers stand for the same formula: where they are the same number.
+    /// Whether two numbers stand for the same formula: they do if they are the same number.
     pub fn is_same_formula(&self, left: FormulaId, right: FormulaId) -> bool
         requires left { IsFormula self.now left }
         requires right { IsFormula self.now right }
@@ -275,7 +275,7 @@ impl Terms {
     }
 }
 
-/// Two numbers of a table are the same exactly where they stand for the same.
+/// Two numbers of a table are the same exactly if they stand for the same.
 pub fn numbers_are_exact(terms: &Terms)
     ensures terms { (a b : TermId) → IsTerm terms.now a → IsTerm terms.now b → (a ≡ b) ↔ (term_in terms.now a ≡ term_in terms.now b) }
     ensures columns { (a b : ColExprId) → IsColumn terms.now a → IsColumn terms.now b → (a ≡ b) ↔ (column_in terms.now a ≡ column_in terms.now b) }

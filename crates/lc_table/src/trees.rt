@@ -12,7 +12,7 @@ use lc_base::OutOfMemory;
 use lc_term::{ColExpr, Formula, Term, with_store};
 use std::alloc::Global;
 
-// Takes a formula out of its box, and puts it behind others.
+// Takes a formula out of its box, and appends it to others.
 #[inline(never)]
 fn push_out(trees: &mut Vec<Formula>, tree: Box<Formula>) -> Result<(), OutOfMemory>
     ensures { OnOk result (trees.new.items ≡ trees.old.items ++ (tree.value ∷ [])) }
@@ -51,7 +51,7 @@ impl Terms {
         }
     }
 
-    // The term of a number, in a box. It stands apart, so that each level of a term takes little of the stack.
+    // The term of a number, in a box. It is a function of its own, so that each level of a term takes little of the stack.
     #[cycle(term)]
     #[inline(never)]
     fn boxed_term(&self, alloc: Global, term: TermId) -> Result<Box<Term>, OutOfMemory>
@@ -61,7 +61,7 @@ impl Terms {
         Ok(Box::new(alloc, self.term(alloc, term)?)?)
     }
 
-    /// The column expression of a number. It stands apart, likewise.
+    /// The column expression of a number. It is a function of its own for the same reason.
     #[cycle(term)]
     #[inline(never)]
     pub fn column(&self, alloc: Global, column: ColExprId) -> Result<ColExpr, OutOfMemory>
@@ -112,7 +112,7 @@ impl Terms {
         }
     }
 
-    // The first of two numbers' terms at most the second. It stands apart, likewise.
+    // The first of two numbers' terms at most the second. It is a function of its own for the same reason.
     #[inline(never)]
     fn le_tree(&self, alloc: Global, left: TermId, right: TermId) -> Result<Formula, OutOfMemory>
         requires left { IsTerm self.now left }
@@ -122,7 +122,7 @@ impl Terms {
         Ok(Formula::Le(self.term(alloc, left)?, self.term(alloc, right)?))
     }
 
-    // Their terms equal, likewise.
+    // That their terms are equal, in a function of its own for the same reason.
     #[inline(never)]
     fn eq_tree(&self, alloc: Global, left: TermId, right: TermId) -> Result<Formula, OutOfMemory>
         requires left { IsTerm self.now left }
@@ -153,7 +153,7 @@ impl Terms {
         }
     }
 
-    // The formula of a number, in a box, likewise.
+    // The formula of a number, in a box, in a function of its own for the same reason.
     #[cycle(formula)]
     #[inline(never)]
     fn boxed_formula(&self, alloc: Global, formula: FormulaId) -> Result<Box<Formula>, OutOfMemory>

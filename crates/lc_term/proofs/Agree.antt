@@ -1,4 +1,4 @@
--- What a term or a formula means depends only on the columns and variables that stand in it.
+-- What a term or a formula means depends only on the columns and variables that occur in it.
 use Rattle.std.proofs.Common.{◌≡◌, ℕ, suc, ◌&&◌, refl, ap, ap₂}
 use Rattle.std.specs.Prelude.{IsTrue, ℤ, ◌+ℤ◌, ◌-ℤ◌, ◌*ℤ◌, ◌≤ℤ◌}
 use Rattle.std.proofs.lemmas.Bool.{and_parts}

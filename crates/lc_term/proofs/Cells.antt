@@ -41,7 +41,7 @@ set_at : (fs : List (ℤ → ℤ)) (c d : ℕ) (f : ℤ → ℤ) → c < length 
 set_at fs c d f h true e = column_at-same fs c d f h (grind (arith, nat_tests))
 set_at fs c d f h false e = column_at-other fs c d f (grind (arith, nat_tests))
 
--- where the column is the one that is written, its old cells are those of that column
+-- if the column is the one that is written, its old cells are those of that column
 same_column : (s : ℕ → ℤ → ℤ) (c d : ℕ) (i v : ℤ) (here : Bool) → (c == d) ≡ here →
     (if here then stored (s c) i v else s d) ≡ (if here then stored (s d) i v else s d)
 same_column s c d i v true e = ap (λ k. stored (s k) i v) (grind (arith, nat_tests))

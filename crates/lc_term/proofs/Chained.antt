@@ -13,7 +13,7 @@ use Rattle.lc_term.specs.Replacement.{Replacement, replace_term, replace_column}
 use Rattle.lc_term.specs.Equal.{term_eq, column_eq}
 use Rattle.lc_term.specs.Syntax.{Term, Column, Store}
 
--- the innermost store, behind the others
+-- the innermost store, after the others
 pub innermost_store : (c : Column) (ws : List Stored) (w : Stored) → with_stores c (ws ++ w ∷ []) ≡ with_stores (Store c w.index w.value) ws
 innermost_store c [] w = refl
 innermost_store c (v ∷ ws) w = ap (λ d. Store d v.index v.value) (innermost_store c ws w)
@@ -50,18 +50,18 @@ both_true : (b : Bool) → (b && true && true) ≡ b
 both_true true = refl
 both_true false = refl
 
--- where the terms of two stores are the same, what is stored to decides
+-- if the terms of two stores are the same, what is stored to decides
 pub same_store : (c d : Column) (i j v w : Term) → term_eq i j ≡ true → term_eq v w ≡ true → column_eq (Store c i v) (Store d j w) ≡ column_eq c d
 same_store c d i j v w hi hv = ap₂ (λ x y. column_eq c d && x && y) hi hv ∙ both_true (column_eq c d)
 
--- the stores of these are still to be put round the column expression
+-- the stores in the list are still to be put around the column expression
 abbrev pub StandsIn : Column → Column → List StoreAt → Type 0
 StandsIn whole c ss = whole ≡ with_stores c (stores_of ss)
 
 stores_more : (c : Column) (ss : List StoreAt) (s : StoreAt) → with_stores c (stores_of (ss ++ s ∷ [])) ≡ with_stores (Store c (term_of s.index.now) (term_of s.value.now)) (stores_of ss)
 stores_more c ss s = ap (with_stores c) (map-append stored_of ss (s ∷ [])) ∙ innermost_store c (stores_of ss) (stored_of s)
 
--- the last of them is put round it
+-- the last of them is put around it
 pub put_round : (whole c : Column) (i v : Term) (all ss : List StoreAt) (s : StoreAt) → all ≡ ss ++ s ∷ [] → i ≡ term_of s.index.now → v ≡ term_of s.value.now →
     StandsIn whole c all → StandsIn whole (Store c i v) ss
 put_round whole c i v all ss s items ei ev h =
@@ -100,7 +100,7 @@ module _ (p : Test) (r : Replacement) (whole : Column) where
   pub all_replaced : (c : Column) (ss : List StoreAt) → ss ≡ [] → ReplacedIn p r whole c ss → c ≡ replace_column r whole
   all_replaced c ss none h = sym (h.same ∙ ap (λ l. with_stores c (map (replace_stored r) (stores_of l))) none)
 
--- the terms of one of the stores stand inside, and so do those of the others
+-- the terms of one of the stores are inside, and so are those of the others
 pub store_inside : (whole : ColExpr) (all ss : List StoreAt) (s : StoreAt) → all ≡ ss ++ s ∷ [] → AreInside whole all →
     (size-Term s.index.now < size-ColExpr whole) × (size-Term s.value.now < size-ColExpr whole)
 store_inside whole all ss s items h =

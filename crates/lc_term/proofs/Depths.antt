@@ -1,4 +1,4 @@
--- A test that is the same below each number of quantifiers says the same of a formula wherever it stands.
+-- A test that is the same below each number of quantifiers gives the same answer for a formula at any depth.
 use Rattle.std.proofs.Common.{◌≡◌, ℕ, suc, refl, sym, ap, ◌∙◌, inl, inr}
 use Rattle.std.specs.Prelude.{◌⊎◌, Box}
 use Rattle.std.specs.declared.alloc.Global.{Global}
@@ -23,7 +23,7 @@ mutual
   all_pass_anywhere t n m S.none = refl
   all_pass_anywhere t n m (S.more f fs) = rw (passes_anywhere t n m f, all_pass_anywhere t n m fs) refl
 
--- what a quantifier binds passes exactly where the whole does
+-- what a quantifier binds passes exactly if the whole does
 pub body_passes : (t : Test) (f : Formula) (body : Box Formula Global) (a : Formula) → f ≡ Forall body ⊎ f ≡ Exists body → a ≡ body.value
     → passes (λ n. t) 0 (formula_of a) ≡ passes (λ n. t) 0 (formula_of f)
 body_passes t f body a (inl is) at =

@@ -1,5 +1,5 @@
--- What a replacement means: the formula after it says in the old state what the formula says in the state
--- and for the variables that the replacement stands for.
+-- What a replacement means: the formula after it says in the old state what the formula says in the state and
+-- for the variables that the replacement stands for.
 use Rattle.std.proofs.Common.{◌≡◌, ℕ, zero, suc, refl, sym, ap, ap₂, ◌∙◌, subst}
 use Rattle.std.specs.Prelude.{ℤ, ◌+ℤ◌, ◌-ℤ◌, ◌*ℤ◌, ◌≤ℤ◌}
 use Rattle.lc_term.specs.Syntax.{Term, Number, Variable, Bound, Add, Subtract, Multiply, Read, Column, Base, Store, Affine}

@@ -46,7 +46,7 @@ zero-nat_lt n = grind (arith, nat_tests)
 nat_lt-suc : (k n : ℕ) → nat_lt (suc k) (suc n) ≡ nat_lt k n
 nat_lt-suc k n = grind (arith, nat_tests)
 
--- a variable finds its number again, whether its quantifier stands inside the added ones or outside
+-- a variable finds its number again, whether its quantifier is inside the added ones or outside
 push_all-shift : (b : Env) (xs ys : List ℤ) (k : ℕ) →
     (if nat_lt k (length ys) then push_all ys (push_all xs b) k else push_all ys (push_all xs b) (k + length xs)) ≡ push_all ys b k
 push_all-shift b xs [] k = ap (λ c. if c then push_all xs b k else push_all xs b (k + length xs)) (nat_lt-zero k) ∙ push_all-skip b xs k

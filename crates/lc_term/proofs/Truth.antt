@@ -1,4 +1,4 @@
--- A formula without quantifiers holds exactly where its test is true.
+-- A formula without quantifiers holds exactly if its test is true.
 use Rattle.std.proofs.Common.{◌≡◌, Bool, true, false, not, ◌&&◌, ◌||◌, refl}
 use Rattle.std.specs.Prelude.{ℤ, ◌≤ℤ◌, int_le, T}
 use Rattle.std.specs.Bool.{Decides}
@@ -30,7 +30,7 @@ decides_implies : {P Q : Type 0} → (x y : Bool) → Decides x P → Decides y 
 decides_implies true y d d' = (λ e p. d'.0 e, λ h. d'.1 (h (d.0 refl)))
 decides_implies false y d d' = (λ e p. absurd (false≢true (d.1 p)), λ h. refl)
 
--- that none holds, where a test says whether some does
+-- that none holds, if a test says whether some does
 decides_none : {P Q : Type 0} → (x y : Bool) → Decides x P → Decides (not y) Q → Decides (not (x || y)) ((P → ⊥) × Q)
 decides_none true y d d' = (λ e. absurd (false≢true e), λ p. absurd (p.0 (d.0 refl)))
 decides_none false y d d' = (λ e. (λ p. false≢true (d.1 p), d'.0 e), λ p. d'.1 p.1)

@@ -81,7 +81,7 @@ mutual
   raised_shifted_column n (Store c t v) = λ i. Store (raised_shifted_column n c i) (raised_shifted n t i) (raised_shifted n v i)
   raised_shifted_column n (Affine a b) = refl
 
--- what is put in for a variable or a column is shifted by the quantifiers round it
+-- what is put in for a variable or a column is shifted by the quantifiers around it
 pub under_many-variable : (n : ℕ) (r : Replacement) (k : ℕ) → (under_many n r).variables k ≡ shifted_term n 0 (r.variables k)
 under_many-variable zero r k = sym (shifted_none (r.variables k))
 under_many-variable (suc n) r k = ap (replace_term raising) (under_many-variable n r k) ∙ raised_shifted n (r.variables k)
@@ -166,7 +166,7 @@ mutual
       (and_from _ _ (and_from _ _ x.0 y.0) z.0, λ i. Store (x.1 i) (y.1 i) (z.1 i))
   column_counted a n e (Affine m k) h = (refl, refl)
 
--- the code's number of a shifted bound variable, where it fits
+-- the code's number of a shifted bound variable, if it fits
 shifted_number : (k a cutoff number : ℕ) → number ≡ (if nat_lt k cutoff then k else min (k + a) (2 ^ 32 - 1)) → cutoff ≤ k → k + a < 2 ^ 32 → number ≡ k + a
 shifted_number k a cutoff number e h l = grind (arith, nat_tests)
 
@@ -193,7 +193,7 @@ pub putting_counted : (v k n : ℕ) (u t : Term) → (IsTrue (term_passes (shift
     k ≡ v → IsTrue (not (k == v) || term_passes (shift_fits n 0 0) u) → t ≡ (under_many n (putting v u)).variables k
 putting_counted v k n u t h e fits = h (put_passes k v (term_passes (shift_fits n 0 0) u) fits e) ∙ sym (under_many-putting-same v n k u e)
 
--- the code's counter stands for n where it is compared with the number of a bound variable
+-- the code's counter stands for n when it is compared with the number of a bound variable
 pub opening_counted_here : (k depth n : ℕ) (u t : Term) → k < 2 ^ 32 → HasCounted depth n → k ≡ depth →
     (IsTrue (term_passes (shift_fits n 0 0) u) → t ≡ shifted_term n 0 u) →
     IsTrue (not (k == n) || term_passes (shift_fits n 0 0) u) → t ≡ (under_many n (opening u)).bounds k

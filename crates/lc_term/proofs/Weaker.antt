@@ -52,7 +52,7 @@ module _ (p q : ℕ → Test) where
       weaker_formulas n none h = refl
       weaker_formulas n (more f fs) h = both_true _ _ (weaker_formula n f (left_true (passes p n f) (all_pass p n fs) h)) (weaker_formulas n fs (right_true (passes p n f) (all_pass p n fs) h))
 
-  -- where no quantifier stands
+  -- when the formula has no quantifiers
   module _ (w : IsWeaker (p 0) (q 0)) where
     mutual
       pub weaker_ground : (f : Formula) → is_ground f ≡ true → passes p 0 f ≡ true → passes q 0 f ≡ true

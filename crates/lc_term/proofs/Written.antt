@@ -231,7 +231,7 @@ pub note-of : {T E : Type 0} (r : Result T E) (xs : List Cells) (c : ℕ) (old n
 note-of (Ok x) xs c old new i v u h is e f a b d = note-written xs c old new i v u h is e a b d
 note-of (Err x) xs c old new i v u h is e f a b d = note-refused xs c old new i u h is f a b d
 
--- a column whose cell is written, where the write was not refused
+-- a column whose cell is written, if the write was not refused
 pub ok-changed : {T E : Type 0} (r : Result T E) (xs : List Cells) (c : ℕ) (old new : Cells) (i v : ℤ) → c < length xs → old ≡ get_or xs c old →
     OnOk r (kept_in new ≡ with_written (kept_in old) i (Some v)) → OnOk r (map kept_in (set xs c new) ≡ with_kept (map kept_in xs) c i (Some v))
 ok-changed r xs c old new i v h is = on_ok_by (kept-changed xs c old new i (Some v) h is) r

@@ -1,4 +1,4 @@
--- The names of the quantifiers round a place.
+-- The names of the quantifiers around a place.
 use Rattle.std.specs.Prelude.{ℕ, List, map}
 use Rattle.std.specs.Borrow.{Bor}
 

@@ -27,6 +27,6 @@ stored_of s = record { index = term_of s.index.now; value = term_of s.value.now 
 abbrev pub stores_of : List StoreAt → List Stored
 stores_of ss = map stored_of ss
 
--- the terms stand inside the column expression
+-- the terms are inside the column expression
 abbrev pub AreInside : ColExpr → List StoreAt → Type 0
 AreInside c ss = Every (λ s. (size-Term s.index.now < size-ColExpr c) × (size-Term s.value.now < size-ColExpr c)) ss

@@ -1,4 +1,4 @@
--- The tests of two trees are true exactly where they are the same, so each is an equivalence.
+-- The tests of two trees are true exactly if they are the same, so each is an equivalence.
 use Rattle.std.proofs.Common.{◌≡◌, true, ◌&&◌, refl, ap, ap₂, subst}
 use Rattle.std.specs.Bool.{Decides}
 use Rattle.std.specs.Ordering.{int_eq}

@@ -1,4 +1,4 @@
--- Tests of the columns and variables that stand in a term or a formula.
+-- Tests of the columns and variables that occur in a term or a formula.
 use Rattle.std.specs.Prelude.{ℕ, suc, ◌+◌, ◌^◌, ◌==◌, Bool, true, false, not, ◌&&◌, ◌||◌, nat_lt}
 use Rattle.lc_term.specs.Syntax.{Term, Number, Variable, Bound, Add, Subtract, Multiply, Read, Column, Base, Store, Affine}
 use Rattle.lc_term.specs.Syntax.{Formula, Le, Eq, Not, And, Or, Implies, Forall, Exists, Formulas, none, more}
@@ -27,8 +27,8 @@ abbrev mutual
   column_passes p (Affine a b) = true
 
 abbrev mutual
-  -- each column and variable in a formula passes, the test being given the number of quantifiers round its place;
-  -- round the formula itself there are n
+  -- each column and variable in a formula passes, the test being given the number of quantifiers around its place; around the
+  -- formula itself there are n
   pub passes : (ℕ → Test) → ℕ → Formula → Bool
   passes p n (Le t u) = term_passes (p n) t && term_passes (p n) u
   passes p n (Eq t u) = term_passes (p n) t && term_passes (p n) u
@@ -44,23 +44,23 @@ abbrev mutual
   all_pass p n none = true
   all_pass p n (more f fs) = passes p n f && all_pass p n fs
 
--- no bound variable stands there
+-- a bound variable does not pass
 abbrev pub no_bounds : Test
 no_bounds = record { columns = λ c. true; variables = λ k. true; bounds = λ k. false }
 
--- no bound variable stands in the term
+-- no bound variable occurs in the term
 abbrev pub is_closed : Term → Bool
 is_closed t = term_passes no_bounds t
 
--- columns and free variables are below these counts, and no bound variable stands there
+-- columns and free variables are below these counts, and there is no bound variable
 abbrev pub known : ℕ → ℕ → Test
 known columns variables = record { columns = λ c. nat_lt c columns; variables = λ k. nat_lt k variables; bounds = λ k. false }
 
--- a formula's columns and free variables are below these counts, and no bound variable stands in it
+-- a formula's columns and free variables are below these counts, and no bound variable occurs in it
 abbrev pub is_known : ℕ → ℕ → Formula → Bool
 is_known columns variables f = passes (λ n. known columns variables) 0 f
 
--- the same of each part
+-- each part is known in this sense
 abbrev pub are_known : ℕ → ℕ → Formulas → Bool
 are_known columns variables fs = all_pass (λ n. known columns variables) 0 fs
 
@@ -68,10 +68,10 @@ are_known columns variables fs = all_pass (λ n. known columns variables) 0 fs
 abbrev pub shift_fits : ℕ → ℕ → ℕ → Test
 shift_fits added cutoff n = record { columns = λ c. true; variables = λ k. true; bounds = λ k. nat_lt k (cutoff + n) || nat_lt (k + added) (2 ^ 32) }
 
--- where the free variable v stands, u can be shifted by the n quantifiers round that place
+-- at the free variable v, u can be shifted by the n quantifiers around that place
 abbrev pub put_fits : ℕ → Term → ℕ → Test
 put_fits v u n = record { columns = λ c. true; variables = λ k. not (k == v) || term_passes (shift_fits n 0 0) u; bounds = λ k. true }
 
--- where the variable of the quantifier round the formula stands, u can be shifted by the n quantifiers round that place
+-- at the variable of the quantifier around the formula, u can be shifted by the n quantifiers around that place
 abbrev pub open_fits : Term → ℕ → Test
 open_fits u n = record { columns = λ c. true; variables = λ k. true; bounds = λ k. not (k == n) || term_passes (shift_fits n 0 0) u }

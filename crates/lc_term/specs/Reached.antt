@@ -1,4 +1,4 @@
--- The numbers that are reached where a term or a formula without quantifiers is computed, parts from the left.
+-- The numbers that are reached when a term or a formula without quantifiers is computed, parts from the left.
 -- Each definition says that each number that is reached fits 64 bits.
 use Rattle.std.specs.Prelude.{ℤ, ◌+ℤ◌, ◌-ℤ◌, ◌*ℤ◌, FitsSigned, IsTrue, IsFalse, MatchBool, List, [], ◌∷◌}
 use Rattle.std.specs.Int.{w64}
@@ -19,7 +19,7 @@ abbrev mutual
   TermFits s e (Multiply n t) = TermFits s e t × FitsSigned w64 (n *ℤ value s e outside t)
   TermFits s e (Read c i) = TermFits s e i × CellFits s e c (value s e outside i)
 
-  -- in cell j of a column expression, from the outside: the stored index, and the stored value only where the index is j;
+  -- in cell j of a column expression, from the outside: the stored index, and the stored value only if the index is j;
   -- else the cell of the column that is stored to
   pub CellFits : State → Env → Column → ℤ → Type 0
   CellFits s e (Base c) j = FitsSigned w64 (s c j)
@@ -43,12 +43,12 @@ abbrev mutual
   FormulaFits s e (Forall f) = Unit {0}
   FormulaFits s e (Exists f) = Unit {0}
 
-  -- a part of a conjunction, and those behind it only where it is true
+  -- a part of a conjunction; those after it count only if it is true
   pub AndFits : State → Env → Formulas → Type 0
   AndFits s e none = Unit {0}
   AndFits s e (more f fs) = FormulaFits s e f × (IsTrue (truth s e outside f) → AndFits s e fs)
 
-  -- a part of a disjunction, and those behind it only where it is false
+  -- a part of a disjunction; those after it count only if it is false
   pub OrFits : State → Env → Formulas → Type 0
   OrFits s e none = Unit {0}
   OrFits s e (more f fs) = FormulaFits s e f × (IsFalse (truth s e outside f) → OrFits s e fs)

@@ -12,7 +12,7 @@ abbrev pub puts : (ℕ → Column) → List Update → ℕ → Column
 puts σ [] = σ
 puts σ (u ∷ us) = puts (put σ u) us
 
--- terms in order, as variables; 0 where there is none
+-- terms in order, as variables; 0 if there is none
 abbrev pub term_at : List Term → ℕ → Term
 term_at ts k = slice_index_or ts k (Number (pos 0))
 
@@ -33,7 +33,7 @@ abbrev pub variables_from : ℕ → ℕ → List Term
 variables_from n zero = []
 variables_from n (suc k) = Variable n ∷ variables_from (suc n) k
 
--- what stands in a cell of these columns
+-- what a cell of these columns holds
 abbrev pub reads : (ℕ → Column) → List ℕ → Term → List Term
 reads σ cs t = map (λ c. Read (σ c) t) cs
 

@@ -16,7 +16,7 @@ cells_of cells i = unwrap_or (get int_cmp cells.written i) (affine cells.slope c
 abbrev pub columns_of : State → List (ℤ → ℤ)
 columns_of state = map cells_of state.columns.items
 
--- the column of a number; 0 in each cell where there is none
+-- the column of a number; 0 in each cell if there is none
 abbrev pub column_at : List (ℤ → ℤ) → ℕ → ℤ → ℤ
 column_at columns c = slice_index_or columns c (λ i. pos 0)
 
@@ -40,7 +40,7 @@ initial_state numbers = column_at (initial_columns numbers)
 abbrev pub with_cell : M.State → ℕ → ℤ → ℤ → M.State
 with_cell s c i v d = if c == d then stored (s d) i v else s d
 
--- the number of each variable; 0 where there is no such variable
+-- the number of each variable; 0 if there is no such variable
 abbrev pub env_of : Env → M.Env
 env_of env k = slice_index_or env.values.items k (pos 0)
 

@@ -32,11 +32,11 @@ instantiated u f = replace (opening u) f
 abbrev pub shifting : ℕ → ℕ → Replacement
 shifting n cutoff = record { columns = Base; variables = Variable; bounds = λ k. if nat_lt k cutoff then Bound k else Bound (k + n) }
 
--- a term moved below n further quantifiers, which stand outside the innermost ones, as many as the cutoff says
+-- a term moved below n further quantifiers, which are outside the innermost ones, whose number is the cutoff
 abbrev pub shifted_term : ℕ → ℕ → Term → Term
 shifted_term n cutoff t = replace_term (shifting n cutoff) t
 
--- a formula moved below n further quantifiers, likewise
+-- a formula moved below n further quantifiers, with the same cutoff
 abbrev pub shifted : ℕ → ℕ → Formula → Formula
 shifted n cutoff f = replace (shifting n cutoff) f
 

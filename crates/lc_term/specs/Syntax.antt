@@ -2,8 +2,8 @@
 use Rattle.std.specs.Prelude.{ℕ, ℤ, List, [], ◌∷◌}
 
 mutual
-  -- a whole number, as a function of columns and variables.
-  -- A free variable has a number, a bound one is counted from the innermost quantifier round it, from 0
+  -- a whole number, as a function of columns and variables. A free variable has a number, a bound one
+  -- is counted from the innermost quantifier around it, starting at 0
   pub data Term : Type 0 where
     Number : ℤ → Term
     Variable : ℕ → Term

@@ -1,4 +1,4 @@
--- The system columns, behind the others. They are indexed by client.
+-- The system columns, after the others. They are indexed by client.
 use Rattle.std.specs.Prelude.{ℕ, ◌+◌, List, [], ◌∷◌, codes}
 
 -- 0: no call; 1: a call that is not settled; 2: a settled call
@@ -20,7 +20,7 @@ noted first = 8 + first
 abbrev pub note_columns : ℕ → List ℕ
 note_columns first = (9 + first) ∷ (10 + first) ∷ (11 + first) ∷ []
 
--- so many columns there are in all
+-- the number of columns, where `first` is the first system column
 abbrev pub column_count : ℕ → ℕ
 column_count first = 12 + first
 

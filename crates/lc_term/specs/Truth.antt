@@ -5,7 +5,7 @@ use Rattle.lc_term.specs.Syntax.{Formula, Le, Eq, Not, And, Or, Implies, Forall,
 use Rattle.lc_term.specs.Meaning.{State, Env, value}
 
 abbrev mutual
-  -- no quantifier stands in the formula
+  -- no quantifier occurs in the formula
   pub is_ground : Formula → Bool
   is_ground (Le t u) = true
   is_ground (Eq t u) = true
@@ -16,7 +16,7 @@ abbrev mutual
   is_ground (Forall f) = false
   is_ground (Exists f) = false
 
-  -- no quantifier stands in any part
+  -- no quantifier occurs in any part
   pub are_ground : Formulas → Bool
   are_ground none = true
   are_ground (more f fs) = is_ground f && are_ground fs

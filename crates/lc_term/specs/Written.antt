@@ -30,7 +30,7 @@ with_written kept i what = record kept { written = λ j. if int_eq i j then what
 abbrev pub kept_of : State → List Kept
 kept_of state = map kept_in state.columns.items
 
--- where there is no column
+-- if there is no column
 abbrev pub no_column : Kept
 no_column = record { slope = pos 0; start = pos 0; written = λ i. None }
 
@@ -43,7 +43,7 @@ abbrev pub after_writes : List Kept → List Write → List Kept
 after_writes ks [] = ks
 after_writes ks (w ∷ ws) = after_writes (with_kept ks w.column w.index (Some w.value)) ws
 
--- what is kept where cells have again what was written there before; the last is taken back first
+-- what is kept when cells get back what was written there before; the last is taken back first
 abbrev pub taken_back : List Kept → List Undo → List Kept
 taken_back ks [] = ks
 taken_back ks (u ∷ us) = with_kept (taken_back ks us) u.column.0 u.index u.before

@@ -41,7 +41,7 @@ pub fn chain_of(alloc: Global, column: &ColExpr) -> Result<Chain<'_>, OutOfMemor
     }
 }
 
-/// What is stored to, in memory of its own, which needs none behind it.
+/// What is stored to, in memory of its own; it needs none after that.
 pub fn base_of(base: &ColExpr) -> ColExpr
     requires { is_store (column_of base.now) ≡ false }
     ensures { column_of result ≡ column_of base.now }

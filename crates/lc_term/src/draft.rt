@@ -46,7 +46,7 @@ impl Draft {
         &self.state
     }
 
-    /// Writes cells in order. Where memory is refused, some of them may be written.
+    /// Writes cells in order. On `OutOfMemory` some of them may be written.
     pub fn write_all(&mut self, writes: &[Write]) -> Result<(), OutOfMemory>
         requires { AreWithin (draft_columns self.old) (writes_shown writes.now) }
         ensures ok { OnOk result (written_in_draft self.new ≡ stored_all (written_in_draft self.old) (writes_shown writes.now)) }

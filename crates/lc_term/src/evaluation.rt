@@ -12,7 +12,7 @@ use crate::formula::Formula;
 use crate::state::{Env, EvalFault, State, affine_cell};
 use crate::term::{ColExpr, Term};
 
-/// The number of a term, computed in 64 bits, parts from the left. `Overflow` is answered exactly where a number
+/// The number of a term, computed in 64 bits, parts from the left. `Overflow` is returned exactly if a number
 /// that is reached does not fit.
 ///
 /// The term has no bound variable, and its columns and variables are those of the state and the environment.
@@ -50,7 +50,7 @@ pub fn eval_term(term: &Term, state: &State, env: &Env) -> Result<i64, EvalFault
 }
 
 // The number in a cell. Of a column that is stored to, the stored index is computed first, then the stored value
-// where the index is this one, and else the cell of the column below.
+// if the index is this one, and else the cell of the column below.
 #[cycle(eval_term)]
 fn read_cell(expression: &ColExpr, index: i64, state: &State, env: &Env) -> Result<i64, EvalFault>
     requires { IsTrue (column_passes (known (column_count state.now) (variable_count env.now)) (column_of expression.now)) }
@@ -75,7 +75,7 @@ fn read_cell(expression: &ColExpr, index: i64, state: &State, env: &Env) -> Resu
 }
 
 /// Whether a formula holds, computed in 64 bits. The parts of a conjunction, a disjunction and an implication are
-/// taken from the left, until the answer is decided. `Overflow` is answered exactly where a number that is
+/// taken from the left, until the answer is decided. `Overflow` is returned exactly if a number that is
 /// reached does not fit.
 ///
 /// The formula has no quantifier and no bound variable, and its columns and variables are those of the state and

@@ -64,8 +64,8 @@ impl Formula {
     }
 }
 
-// The first term at most the second, in memory of its own. It stands apart, so that each level of a formula takes little of the
-// stack.
+// The first term at most the second, in memory of its own. It is a function of its own, so that each level of a formula takes
+// little of the stack.
 #[inline(never)]
 fn copied_le(alloc: Global, left: &Term, right: &Term) -> Result<Formula, OutOfMemory>
     ensures { IfOk result (λ copy. formula_of copy ≡ Le (term_of left.now) (term_of right.now)) }
@@ -73,7 +73,7 @@ fn copied_le(alloc: Global, left: &Term, right: &Term) -> Result<Formula, OutOfM
     Ok(Formula::Le(left.try_clone(alloc)?, right.try_clone(alloc)?))
 }
 
-// The terms equal, likewise.
+// That the two terms are equal, in memory of its own, in a function of its own for the same reason.
 #[inline(never)]
 fn copied_eq(alloc: Global, left: &Term, right: &Term) -> Result<Formula, OutOfMemory>
     ensures { IfOk result (λ copy. formula_of copy ≡ Eq (term_of left.now) (term_of right.now)) }
@@ -81,7 +81,7 @@ fn copied_eq(alloc: Global, left: &Term, right: &Term) -> Result<Formula, OutOfM
     Ok(Formula::Eq(left.try_clone(alloc)?, right.try_clone(alloc)?))
 }
 
-// The same formula in a box, likewise.
+// A copy of the formula in a box, in a function of its own for the same reason.
 #[cycle(copy_formula)]
 #[inline(never)]
 fn boxed_copy(alloc: Global, formula: &Formula) -> Result<Box<Formula>, OutOfMemory>
@@ -90,7 +90,7 @@ fn boxed_copy(alloc: Global, formula: &Formula) -> Result<Box<Formula>, OutOfMem
     Ok(Box::new(alloc, formula.try_clone(alloc)?)?)
 }
 
-// Takes a formula out of its box, and puts it behind others.
+// Takes a formula out of its box, and appends it to others.
 #[inline(never)]
 fn push_out(copies: &mut Vec<Formula>, copy: Box<Formula>) -> Result<(), OutOfMemory>
     ensures { OnOk result (copies.new.items ≡ copies.old.items ++ (copy.value ∷ [])) }

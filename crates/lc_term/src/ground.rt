@@ -1,4 +1,4 @@
-//! Whether a quantifier stands in a formula, and a bound variable in a term.
+//! Whether a quantifier occurs in a formula, and a bound variable in a term.
 ghost use Rattle.std.specs.Prelude.{◌≡◌};
 ghost use Rattle.lc_term.specs.Places.{no_bounds, is_closed, column_passes};
 ghost use Rattle.lc_term.specs.Syntax.{formulas};
@@ -8,7 +8,7 @@ ghost use Rattle.lc_term.specs.View.{term_of, column_of, formula_of, formulas_of
 use crate::formula::Formula;
 use crate::term::{ColExpr, Term};
 
-/// Whether no quantifier stands in a formula.
+/// Whether no quantifier occurs in a formula.
 #[cycle(is_ground)]
 pub fn is_ground_of_quantifiers(formula: &Formula) -> bool
     ensures { result ≡ is_ground (formula_of formula.now) }
@@ -36,7 +36,7 @@ fn are_ground_of_quantifiers(parts: &[Formula]) -> bool
     true
 }
 
-/// Whether no bound variable stands in a term. Such a term may be put in anywhere.
+/// Whether no bound variable occurs in a term. Such a term may be put in anywhere.
 #[cycle(is_closed)]
 pub fn is_closed(term: &Term) -> bool
     ensures { result ≡ is_closed (term_of term.now) }

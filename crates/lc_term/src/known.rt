@@ -7,7 +7,7 @@ ghost use Rattle.lc_term.specs.View.{term_of, column_of, formula_of, formulas_of
 use crate::formula::Formula;
 use crate::term::{ColExpr, Term};
 
-/// Whether columns and free variables of a term are below these counts, and no bound variable stands in it.
+/// Whether columns and free variables of a term are below these counts, and no bound variable occurs in it.
 #[cycle(term_is_known)]
 pub fn term_is_known(term: &Term, columns: usize, variables: usize) -> bool
     ensures { result ≡ term_passes (known columns variables) (term_of term.now) }
@@ -47,7 +47,7 @@ fn column_is_known(column: &ColExpr, columns: usize, variables: usize) -> bool
     }
 }
 
-/// Whether columns and free variables of a formula are below these counts, and no bound variable stands in it.
+/// Whether columns and free variables of a formula are below these counts, and no bound variable occurs in it.
 #[cycle(formula_is_known)]
 pub fn formula_is_known(formula: &Formula, columns: usize, variables: usize) -> bool
     ensures { result ≡ is_known columns variables (formula_of formula.now) }

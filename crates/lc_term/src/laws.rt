@@ -9,7 +9,7 @@ ghost use Rattle.lc_term.specs.Substitution.{substituted, with_value, instantiat
 ghost use Rattle.lc_term.specs.Syntax.{Term, Column, Formula};
 ghost use Rattle.lc_term.specs.Truth.{is_ground, truth};
 
-/// The test of two terms, of two columns and of two formulas is true exactly where they are the same tree.
+/// The test of two terms, of two columns and of two formulas is true exactly if they are the same tree.
 pub fn equality_is_exact()
     ensures terms { (t u : Term) → IsTrue (term_eq t u) ↔ (t ≡ u) }
     ensures columns { (c d : Column) → IsTrue (column_eq c d) ↔ (c ≡ d) }
@@ -21,7 +21,7 @@ pub fn meaning_is_stable()
     ensures { (s : State) (e b : Env) (f : Formula) → ((Holds s e b f → ⊥) → ⊥) → Holds s e b f }
 {}
 
-/// A formula without quantifiers holds exactly where its test is true.
+/// A formula without quantifiers holds exactly if its test is true.
 pub fn ground_formulas_are_decided()
     ensures { (s : State) (e b : Env) (f : Formula) → IsTrue (is_ground f) → IsTrue (truth s e b f) ↔ Holds s e b f }
 {}
@@ -42,13 +42,13 @@ pub fn simultaneous_replacement_keeps_meaning()
         Holds s e b (replace (replacing columns variables) f) ↔ Holds (λ c. column s e b (columns c)) (λ k. value s e b (variables k)) b f }
 {}
 
-/// After a substitution a formula says what it says where the variable has the term's number.
+/// After a substitution a formula says what it says when the variable has the term's number.
 pub fn substitution_keeps_meaning()
     ensures { (s : State) (e b : Env) (v : ℕ) (u : Term) (f : Formula) →
         Holds s e b (substituted v u f) ↔ Holds s (with_value v (value s e b u) e) b f }
 {}
 
-/// After an instantiation the body of a quantifier says what it says where the quantifier's variable has the
+/// After an instantiation the body of a quantifier says what it says when the quantifier's variable has the
 /// term's number.
 pub fn instantiation_keeps_meaning()
     ensures { (s : State) (e b : Env) (u : Term) (f : Formula) →
@@ -56,7 +56,7 @@ pub fn instantiation_keeps_meaning()
 {}
 
 /// What is shifted means below the added quantifiers, whose variables are `added`, what it meant without them.
-/// The quantifiers of `inner` stand inside the added ones.
+/// The quantifiers of `inner` are inside the added ones.
 pub fn shift_keeps_meaning()
     ensures terms { (s : State) (e b : Env) (added inner : List ℤ) (t : Term) →
         value s e (push_all inner (push_all added b)) (shifted_term (length added) (length inner) t) ≡ value s e (push_all inner b) t }
@@ -64,7 +64,7 @@ pub fn shift_keeps_meaning()
         Holds s e (push_all inner (push_all added b)) (shifted (length added) (length inner) f) ↔ Holds s e (push_all inner b) f }
 {}
 
-/// What a formula says depends only on the columns and free variables that stand in it.
+/// What a formula says depends only on the columns and free variables that occur in it.
 pub fn meaning_depends_on_what_stands_there()
     ensures { (p : Test) (s s' : State) (e e' b : Env) (f : Formula) →
         ((c : ℕ) → IsTrue (p.columns c) → s c ≡ s' c) → ((k : ℕ) → IsTrue (p.variables k) → e k ≡ e' k) →

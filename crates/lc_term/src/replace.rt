@@ -15,12 +15,12 @@ use std::alloc::Global;
 
 /// What is put in for the columns and variables of a formula, at once.
 ///
-/// `depth` counts the quantifiers round a place, and stops at `u64::MAX`.
+/// `depth` counts the quantifiers around a place, and stops at `u64::MAX`.
 pub(crate) trait Replacing {
     // What is put in, outside every quantifier.
     ghost replacement: { Self → Replacement };
 
-    // Where the numbers of bound variables in what is put in fit, by the number of quantifiers round the place.
+    // Where the numbers of bound variables in what is put in fit, by the number of quantifiers around the place.
     ghost fits: { Self → ℕ → Test };
 
     fn column(&self, alloc: Global, column: ColId, depth: u64) -> Result<ColExpr, OutOfMemory>

@@ -18,7 +18,7 @@ struct Shifting {
     cutoff: u32,
 }
 
-// The number of a bound variable after a shift, exact where it fits, as the callers see to.
+// The number of a bound variable after a shift, exact if it fits, as the callers see to.
 fn shifted_number(number: u32, added: u64, cutoff: u64) -> u32
     ensures { result ≡ (if nat_lt number cutoff then number else min (number + added) (2 ^ 32 - 1)) }
 {
@@ -49,7 +49,7 @@ impl Replacing for Shifting {
     }
 }
 
-/// The term below as many further quantifiers as `depth` has counted, where the numbers of its bound variables fit.
+/// The term below as many further quantifiers as `depth` has counted, if the numbers of its bound variables fit.
 pub(crate) fn raised(alloc: Global, term: &Term, depth: u64) -> Result<Term, OutOfMemory>
     ensures { IfOk result (λ moved.
         (n : ℕ) → HasCounted depth n → IsTrue (term_passes (shift_fits n 0 0) (term_of term.now)) →

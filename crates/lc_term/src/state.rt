@@ -125,7 +125,7 @@ impl State {
         self.columns.len()
     }
 
-    /// The number in a cell. `Overflow` is answered where nothing is written there and the initial number
+    /// The number in a cell. `Overflow` is returned if nothing is written there and the initial number
     /// leaves 64 bits.
     pub fn read(&self, column: ColId, index: i64) -> Result<i64, EvalFault>
         requires { column.0 < column_count self.now }
@@ -134,7 +134,7 @@ impl State {
         self.columns[column.0 as usize].read(index)
     }
 
-    /// Writes one cell. Where memory is refused the state stays as it was.
+    /// Writes one cell. On `OutOfMemory` the state stays as it was.
     pub fn write(&mut self, column: ColId, index: i64, number: i64) -> Result<(), OutOfMemory>
         requires { column.0 < column_count self.old }
         ensures ok { OnOk result (state_of self.new ≡ with_cell (state_of self.old) column.0 index number) }
@@ -146,7 +146,7 @@ impl State {
         Ok(())
     }
 
-    /// Writes cells in order, so of two writes to one cell the later counts. Where memory is refused the state stays
+    /// Writes cells in order, so of two writes to one cell the later counts. On `OutOfMemory` the state stays
     /// as it was.
     pub fn write_all(&mut self, alloc: Global, writes: &[Write]) -> Result<(), OutOfMemory>
         requires { AreWithin (column_count self.old) (writes_shown writes.now) }
@@ -170,7 +170,7 @@ impl State {
         Ok(())
     }
 
-    // Writes cells in order, and notes what was written there before. Where memory is refused, some of them may be written.
+    // Writes cells in order, and notes what was written there before. On `OutOfMemory` some of them may be written.
     pub(crate) fn write_each(
         &mut self,
         writes: &[Write],

@@ -17,7 +17,7 @@ pub enum Term {
     Number(i64),
     /// A free variable, by its number.
     Variable(u32),
-    /// A bound variable, by the number of quantifiers that stand between it and its own.
+    /// A bound variable, by the number of quantifiers between it and its own.
     Bound(u32),
     /// A sum.
     Add(Box<Term>, Box<Term>),
@@ -40,7 +40,7 @@ pub enum ColExpr {
     Affine(i64, i64),
 }
 
-// Written out and not derived, so that a place where a term is let go has one call, and not a case for each variant: the
+// Written out and not derived, so that dropping a term is one call, and not a case for each variant: the
 // proofs of all that holds terms are shorter by it.
 impl Drop for Term {
     #[cycle(drop_term)]
@@ -54,7 +54,7 @@ impl Drop for Term {
     }
 }
 
-// By a loop, so that a long chain of stores is let go in little stack.
+// By a loop, so that a long chain of stores is dropped with little stack.
 impl Drop for ColExpr {
     #[cycle(drop_term)]
     fn drop(mut self) {
@@ -101,7 +101,7 @@ impl Term {
     }
 }
 
-// The same term in a box. It stands apart, so that each level of a term takes little of the stack.
+// The same term in a box. It is a function of its own, so that each level of a term takes little of the stack.
 #[cycle(copy_term)]
 #[inline(never)]
 fn boxed_copy(alloc: Global, term: &Term) -> Result<Box<Term>, OutOfMemory>
@@ -111,7 +111,7 @@ fn boxed_copy(alloc: Global, term: &Term) -> Result<Box<Term>, OutOfMemory>
 }
 
 impl ColExpr {
-    /// The same column expression, in memory of its own. It stands apart, likewise.
+    /// The same column expression, in memory of its own. It is a function of its own for the same reason.
     #[cycle(copy_term)]
     #[inline(never)]
     pub fn try_clone(&self, alloc: Global) -> Result<ColExpr, OutOfMemory>

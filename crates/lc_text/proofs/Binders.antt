@@ -1,4 +1,4 @@
--- The names of the quantifiers round a place, from the innermost.
+-- The names of the quantifiers around a place, from the innermost.
 use Rattle.std.proofs.Common.{◌≡◌, ℕ, ◌+◌, ◌-◌, ◌<◌, Bool, true, false, cond, List, [], ◌∷◌, ◌++◌, Option, Some, None, length, take, get_or, refl, sym, ap, ◌∙◌, arith}
 use Rattle.std.proofs.lemmas.List.{map_more, length_push}
 use Rattle.std.specs.Prelude.{option_map}
@@ -15,7 +15,7 @@ behind_case false c (Some k) n = refl
 behind_case false true None n = refl
 behind_case false false None n = refl
 
--- behind the others stands the innermost one
+-- the innermost one comes after the others
 pub bound_index-behind : (bound : List (List ℕ)) (b w : List ℕ) → bound_index (bound ++ b ∷ []) w ≡ cond (is w b) (Some 0) (option_map (λ k. k + 1) (bound_index bound w))
 bound_index-behind [] b w = refl
 bound_index-behind (x ∷ bound) b w =

@@ -1,4 +1,4 @@
--- Terms, columns and formulas that are read read back, where names are spelled as they are read.
+-- Terms, columns and formulas that are read read back, if names are spelled as they are read.
 use Rattle.std.proofs.Common.{◌≡◌, ℕ, ℤ, ◌+◌, ◌<◌, ◌≤◌, Bool, true, false, cond, List, [], ◌∷◌, ◌++◌, length, Option, Some, None, refl, ap, ◌∙◌, arith}
 use Rattle.std.proofs.lemmas.Bool.{leb-true}
 use Rattle.std.proofs.lemmas.List.{length_push}
@@ -58,7 +58,7 @@ numbers_kept n m (t ▸ u ▸ ts) =
 
 -- ---- names
 
--- the innermost of so many
+-- the innermost of n + 1
 innermost : (n k : ℕ) (b : Bool) → cond b (Some n) None ≡ Some k → k < n + 1
 innermost n k true e = let same : n ≡ k = cc in omega arith
 innermost n k false e = absurd (cc)

@@ -23,7 +23,7 @@ natural_of-decimal zero h = ap natural_of (decimal_digit 0 (omega arith))
 natural_of-decimal (suc n) h =
     natural_at (decimal (suc n)) (suc n) (digits_decimal own (suc n) h) (digits_value-decimal own (suc n) h) (decimal_nonempty (suc n) h) (first_decimal (suc n) (omega arith) h)
 
--- no minus stands before digits
+-- no minus before digits
 digits_integer : (ds : List ℕ) → are_digits ds ≡ true → 0 < length ds → integer_of ds ≡ option_map pos (natural_of ds)
 digits_integer [] d l = absurd (omega arith)
 digits_integer (b ∷ w) d l =
@@ -45,6 +45,6 @@ integer_of-signed (negsuc n) h =
     let wide : suc n < 2 ^ 64 = omega arith in
     ap negative_of (natural_of-decimal (suc n) wide) ∙ cond-false _ _ _ (ne_eqb (suc n) 0 (λ e. omega arith))
 
--- a number fits where one is due
+-- a number fits if one is expected
 pub integer_fit-signed : (z : ℤ) → fits_i64 z ≡ true → integer_within (integer_of (signed_decimal z)) ≡ fits z
 integer_fit-signed z h = ap integer_within (integer_of-signed z h) ∙ cond-true (fits_i64 z) _ _ h

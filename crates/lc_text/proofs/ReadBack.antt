@@ -45,7 +45,7 @@ bound_back names d k n lt h =
     ∙ ap (λ o. bound_or_free n (binder j) o (names.variable (binder j))) (index_back d k lt h)
     ∙ short n j (S.Bound k) small
 
--- a variable `?k` reads back where these stand
+-- a variable `?k` reads back where such variables are allowed
 pub numbered_back : (names : Names) (bound : List (List ℕ)) (n k : ℕ) → names.allows NumberedVariables ≡ true → k < 4294967296 → atom_reading names bound n (codes "?" ++ decimal k) ≡ fine (S.Variable k)
 unfolding Rattle.lc_base.specs.NameText.begins_name
 numbered_back names bound n k allowed h =
@@ -104,7 +104,7 @@ binder_back n d h =
 one_deeper_is : (d : ℕ) → d < 2 ^ 32 → one_deeper d ≡ d + 1
 one_deeper_is d h = omega arith
 
--- the body of a quantifier that has d quantifiers round it
+-- the body of a quantifier that has d quantifiers around it
 body_back : (names : Names) (by : Spelled) (d n m : ℕ) (f : Formula) → d < 2 ^ 32 → formula_reading names (binders (d + 1)) (m + 1) (formula_tree by (d + 1) f) ≡ fine f
     → body_reading names (binders d) n m (atom (binder d) ▸ formula_tree by (one_deeper d) f ▸ none) ≡ fine f
 body_back names by d n m f h back = two_back body_of _ _ tt f (binder_back m d h)
@@ -112,7 +112,7 @@ body_back names by d n m f h back = two_back body_of _ _ tt f (binder_back m d h
     ap (λ bound. formula_reading names bound (m + 1) (formula_tree by (one_deeper d) f)) (ap binders more)
     ∙ ap (λ e. formula_reading names (binders (d + 1)) (m + 1) (formula_tree by e f)) (one_deeper_is d h) ∙ back)
 
--- where quantifiers stand
+-- where quantifiers are allowed
 forall_back : (n : ℕ) (names : Names) (terms : Reading (Term × Term)) (one : Reading Formula) (any : Reading Formulas) (two : Reading (Formula × Formula)) (body : Reading Formula) (f : Formula)
     → names.allows Quantifiers ≡ true → body ≡ fine f → connective_reading n (connective_due names (codes "forall")) terms one any two body ≡ fine (S.Forall f)
 forall_back n names terms one any two body f h e =

@@ -1,4 +1,4 @@
--- What holds of all terms and formulas that are read where no quantifier and no column expression but a name may stand.
+-- What holds of all terms and formulas that are read where no quantifier and no column expression but a name is allowed.
 use Rattle.std.proofs.Common.{◌≡◌, ℕ, ◌+◌, Bool, true, false, cond, List, [], Option, Some, None, IfSome}
 use Rattle.std.specs.Prelude.{ℤ}
 use Rattle.lc_base.specs.NameText.{is_name}
@@ -49,7 +49,7 @@ pub record Kept (names : Names) (P : Term → Type 0) (C : Column → Type 0) (F
   pub no_parts : G T.none
   pub more_parts : (f : Formula) (fs : Formulas) → F f → G fs → G (T.more f fs)
 
--- of what stands only at some places, and not here
+-- what is allowed only at some places, and not here
 nothing : {X : Type 0} (P : X → Type 0) (pass : Pass) (n : ℕ) (b : Bool) (r : Reading X) → b ≡ false → Holds P (cond b r (wrong pass n))
 nothing P pass n true r e = absurd (cc)
 nothing P pass n false r e = tt

@@ -28,7 +28,7 @@ formulas_end whole rest (Ok fs) e h = h ∙ ap (front more (formulas_of fs.items
 formulas_end whole rest (Err (Flawed g)) e h = h ∙ ap (flawed_before g) e
 formulas_end whole rest (Err OutOfMemory) e h = tt
 
--- behind one item the others are left
+-- after one item, the others are left
 pub formulas_more : (names : Names) (bound : List (List ℕ)) (l behind : Cursor) (part : Part) → place_of part ≡ number_of l → IsBehind l (tree_of part) behind
     → formulas_reading names bound (number_of l) (rest_of l) ≡ both more (formula_reading names bound (place_of part) (tree_of part)) (formulas_reading names bound (number_of behind) (rest_of behind))
 formulas_more names bound l behind part at next =

@@ -10,12 +10,12 @@ use Rattle.lc_term.proofs.Chained.{StandsIn, put_round}
 use Rattle.lc_text.specs.Spelled.{spelled_term, spelled_column}
 use Rattle.lc_text.specs.Spelling.{Spelled}
 
--- the words of so many stores
+-- the words of this many stores
 abbrev pub opened : ℕ → List ℕ
 opened zero = []
 opened (suc n) = opened n ++ codes "(store "
 
--- the words of the stores that are left are written, and a column expression round which they stand
+-- the words of the stores that are left are written, and a column expression inside them
 pub record IsWritten (by : Spelled) (d : ℕ) (old new : List ℕ) (whole : S.Column) (ss : List StoreAt) : Type 0 where
   pub inner : S.Column
   pub stands : StandsIn whole inner ss

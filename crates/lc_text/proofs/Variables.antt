@@ -42,14 +42,14 @@ TermIn allowed t = term_passes (among allowed) t ≡ true
 abbrev ColumnIn : (ℕ → Bool) → Column → Type 0
 ColumnIn allowed c = column_passes (among allowed) c ≡ true
 
--- wherever the formula stands
+-- at any place of the formula
 abbrev pub FormulaIn : (ℕ → Bool) → Formula → Type 0
 FormulaIn allowed f = (m : ℕ) → passes (λ k. among allowed) m f ≡ true
 
 abbrev pub FormulasIn : (ℕ → Bool) → Formulas → Type 0
 FormulasIn allowed fs = (m : ℕ) → all_pass (λ k. among allowed) m fs ≡ true
 
--- the same of parts that are read together
+-- the same for parts that are read together
 abbrev TermsIn : (ℕ → Bool) → Term × Term → Type 0
 TermsIn allowed p = TermIn allowed p.0 × TermIn allowed p.1
 

@@ -1,4 +1,4 @@
--- What a text reads as where a formula is due.
+-- What a text reads as where a formula is expected.
 use Rattle.std.specs.Prelude.{ℕ, ◌+◌, if◌then◌else◌, List, [], ◌∷◌, ◌++◌, Option, Some, None}
 use Rattle.lc_sexp.specs.Trees.{Tree, Trees, atom, list, none, ◌▸◌, item_count}
 use Rattle.lc_term.specs.Syntax as S
@@ -40,7 +40,7 @@ abbrev pub quantified_by : Connective → Formula → Formula
 quantified_by C.Forall f = S.Forall f
 quantified_by _ f = S.Exists f
 
--- the body, behind its name
+-- the body, after its name
 abbrev pub body_of : Unit {0} → Formula → Formula
 body_of u f = f
 
@@ -57,7 +57,7 @@ connective_reading n (Some C.Forall) terms one any two body = mapped (quantified
 connective_reading n (Some C.Exists) terms one any two body = mapped (quantified_by C.Exists) body
 
 abbrev mutual
-  -- the item n where a formula is due and quantifiers bind these names
+  -- the item n, where a formula is expected and quantifiers bind these names
   pub formula_reading : Names → List (List ℕ) → ℕ → Tree → Reading Formula
   formula_reading names bound n (list (atom w ▸ ts)) =
       connective_reading n (connective_due names w) (terms_reading names bound n (n + 2) ts) (only_reading names bound n (n + 2) ts)

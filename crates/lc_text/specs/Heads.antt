@@ -48,11 +48,11 @@ is_quantifier Forall = true
 is_quantifier Exists = true
 is_quantifier _ = false
 
--- this one, if it stands where quantifiers are allowed so
+-- this one, if quantifiers are allowed here, or it is none
 abbrev pub allowed : Bool → Option Connective → Option Connective
 allowed quantifiers None = None
 allowed quantifiers (Some c) = if is_quantifier c && not quantifiers then None else Some c
 
--- the same, where these stand
+-- the same, by what the names allow
 abbrev pub connective_due : Names → List ℕ → Option Connective
 connective_due names w = allowed (names.allows Quantifiers) (connective_of w)

@@ -4,7 +4,7 @@ use Rattle.lc_text.specs.declared.scope.ColumnUse.{ColumnUse}
 use Rattle.lc_text.specs.declared.scope.ColumnUse.TheVariants.{Usable, Undeclared}
 use Rattle.lc_text.specs.declared.scope.Extra.{Extra}
 
--- the number of a free variable's name, the use of a column's, and what stands only at some places
+-- the number of a free variable's name, the use of a column's, and what is allowed only at some places
 pub record Names : Type 0 where
   pub variable : List ℕ → Option ℕ
   pub column : List ℕ → ColumnUse

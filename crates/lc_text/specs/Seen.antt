@@ -52,7 +52,7 @@ row_of fs = S.formulas (formulas_of fs.items)
 abbrev pub column_parts : (Name × ℤ) × ℤ → (List ℕ × ℤ) × ℤ
 column_parts p = ((bytes_of p.0.0, p.0.1), p.1)
 
--- the first three parts of a list and what stands behind them, in a box; or it has fewer
+-- the first three parts of a list, and the rest after them, in a box; or it has fewer
 abbrev pub AreBoxed : Cursor → Result (Box (Part × Part × Part × Cursor) Global) ReadFault → Type 0
 AreBoxed l (Ok b) = IsThree l (Ok b.value)
 AreBoxed l (Err (Flawed flaw)) = (flaw ≡ at Shape (owner_of l)) × IsShortOfThree (rest_of l)

@@ -18,7 +18,7 @@ abbrev pub form : List ℕ → Tree → Tree → Tree
 form word t u = list (atom word ▸ t ▸ u ▸ none)
 
 abbrev mutual
-  -- what is printed of a term, round whose place stand d quantifiers
+  -- what is printed for a term with d quantifiers around its place
   pub term_tree : Spelled → ℕ → Term → Tree
   term_tree by d (Number n) = atom (signed_decimal n)
   term_tree by d (Variable k) = atom (by.variable k)
@@ -28,14 +28,14 @@ abbrev mutual
   term_tree by d (Multiply n t) = form (codes "*") (atom (signed_decimal n)) (term_tree by d t)
   term_tree by d (Read c i) = form (codes "rd") (column_tree by d c) (term_tree by d i)
 
-  -- the same of a column expression
+  -- the same for a column expression
   pub column_tree : Spelled → ℕ → Column → Tree
   column_tree by d (Base c) = atom (by.column c)
   column_tree by d (Store c i v) = list (atom (codes "store") ▸ column_tree by d c ▸ term_tree by d i ▸ term_tree by d v ▸ none)
   column_tree by d (Affine a b) = form (codes "affine") (atom (signed_decimal a)) (atom (signed_decimal b))
 
 abbrev mutual
-  -- the same of a formula
+  -- the same for a formula
   pub formula_tree : Spelled → ℕ → Formula → Tree
   formula_tree by d (Le t u) = form (codes "<=") (term_tree by d t) (term_tree by d u)
   formula_tree by d (Eq t u) = form (codes "=") (term_tree by d t) (term_tree by d u)
@@ -46,7 +46,7 @@ abbrev mutual
   formula_tree by d (Forall f) = form (codes "forall") (atom (binder d)) (formula_tree by (one_deeper d) f)
   formula_tree by d (Exists f) = form (codes "exists") (atom (binder d)) (formula_tree by (one_deeper d) f)
 
-  -- the same of each part
+  -- the same for each part
   pub formula_trees : Spelled → ℕ → Formulas → Trees
   formula_trees by d S.none = none
   formula_trees by d (more f fs) = formula_tree by d f ▸ formula_trees by d fs
@@ -57,8 +57,8 @@ binders zero = []
 binders (suc d) = binders d ++ (binder d ∷ [])
 
 abbrev mutual
-  -- a term reads back, round whose place stand d quantifiers: numbers have 64 bits, bound variables are those of
-  -- these quantifiers, names are spelled as they are read, and what does not stand everywhere stands here
+  -- a term with d quantifiers around its place reads back: numbers have 64 bits, bound variables are those of
+  -- these quantifiers, names are spelled as they are read, and what is not allowed everywhere is allowed here
   pub TermReadsBack : Names → Spelled → ℕ → Term → Type 0
   TermReadsBack names by d (Number n) = fits_i64 n ≡ true
   TermReadsBack names by d (Variable k) = (n : ℕ) → atom_reading names (binders d) n (by.variable k) ≡ fine (Variable k)
@@ -68,7 +68,7 @@ abbrev mutual
   TermReadsBack names by d (Multiply n t) = (fits_i64 n ≡ true) × TermReadsBack names by d t
   TermReadsBack names by d (Read c i) = ColumnReadsBack names by d c × TermReadsBack names by d i
 
-  -- the same of a column expression
+  -- the same for a column expression
   pub ColumnReadsBack : Names → Spelled → ℕ → Column → Type 0
   ColumnReadsBack names by d (Base c) = (reader n : ℕ) → base_reading names reader n (by.column c) ≡ fine (Base c)
   ColumnReadsBack names by d (Store c i v) =
@@ -76,7 +76,7 @@ abbrev mutual
   ColumnReadsBack names by d (Affine a b) = (names.allows BuiltColumns ≡ true) × (fits_i64 a ≡ true) × (fits_i64 b ≡ true)
 
 abbrev mutual
-  -- the same of a formula, with at most 2 ^ 32 quantifiers round each place
+  -- the same for a formula, with at most 2 ^ 32 quantifiers around each place
   pub FormulaReadsBack : Names → Spelled → ℕ → Formula → Type 0
   FormulaReadsBack names by d (Le t u) = TermReadsBack names by d t × TermReadsBack names by d u
   FormulaReadsBack names by d (Eq t u) = TermReadsBack names by d t × TermReadsBack names by d u
@@ -87,7 +87,7 @@ abbrev mutual
   FormulaReadsBack names by d (Forall f) = (names.allows Quantifiers ≡ true) × (d < 2 ^ 32) × FormulaReadsBack names by (d + 1) f
   FormulaReadsBack names by d (Exists f) = (names.allows Quantifiers ≡ true) × (d < 2 ^ 32) × FormulaReadsBack names by (d + 1) f
 
-  -- the same of each part
+  -- the same for each part
   pub FormulasReadBack : Names → Spelled → ℕ → Formulas → Type 0
   FormulasReadBack names by d S.none = Unit {0}
   FormulasReadBack names by d (more f fs) = FormulaReadsBack names by d f × FormulasReadBack names by d fs

@@ -1,4 +1,4 @@
--- What a text reads as where a term or a column expression is due.
+-- What a text reads as where a term or a column expression is expected.
 use Rattle.std.specs.Prelude.{ℕ, ℤ, ◌+◌, if◌then◌else◌, List, [], ◌∷◌, length, Option, Some, None}
 use Rattle.std.specs.Option.{option_or}
 use Rattle.lc_base.specs.NameText.{is_name}
@@ -20,7 +20,7 @@ use Rattle.lc_text.specs.declared.words.Operation.TheVariants as O
 use Rattle.lc_text.specs.declared.words.Built.{Built}
 use Rattle.lc_text.specs.declared.words.Built.TheVariants as B
 
--- how many quantifiers stand between a place and the innermost one that binds this name
+-- how many quantifiers are between a place and the innermost one that binds this name
 abbrev pub bound_index : List (List ℕ) → List ℕ → Option ℕ
 bound_index [] w = None
 bound_index (b ∷ bound) w = option_or (bound_index bound w) (if is w b then Some (length bound) else None)
@@ -45,7 +45,7 @@ fit_reading n beyond = wrong Bound n
 abbrev pub number_reading : ℕ → Tree → Reading ℤ
 number_reading n t = fit_reading n (integer_fit t)
 
--- a variable `?k`, where these stand
+-- a variable `?k`, where such variables are allowed
 abbrev pub numbered_reading : Names → ℕ → List ℕ → Reading Term
 numbered_reading names n w =
     if names.allows NumberedVariables then mapped S.Variable (fit_reading n (variable_fit (atom w))) else wrong Shape n
@@ -64,7 +64,7 @@ number_or n misshapen other = other
 abbrev pub atom_reading : Names → List (List ℕ) → ℕ → List ℕ → Reading Term
 atom_reading names bound n w = number_or n (integer_fit (atom w)) (word_reading names bound n w)
 
--- the column of the name n. One that may not be read so is told at its reader
+-- the column of the name n. One that may not be read there is reported at its reader
 abbrev pub used : ColumnUse → ℕ → ℕ → List ℕ → Reading Column
 used Misplaced reader n w = wrong Shape reader
 used Undeclared reader n w = if is_name w then wrong Unknown n else wrong Shape n
@@ -119,7 +119,7 @@ built_reading n (Some B.Affine) numbers store = mapped affine_of numbers
 built_reading n (Some B.Store) numbers store = mapped store_of store
 
 abbrev mutual
-  -- the item n where a term is due and quantifiers bind these names
+  -- the item n, where a term is expected and quantifiers bind these names
   pub term_reading : Names → List (List ℕ) → ℕ → Tree → Reading Term
   term_reading names bound n (atom w) = atom_reading names bound n w
   term_reading names bound n (list (atom w ▸ ts)) =
@@ -141,7 +141,7 @@ abbrev mutual
   access_reading names bound n m (t ▸ u ▸ ts) = two_of pair m t u ts (column_reading names bound n m t) (term_reading names bound (m + item_count t) u)
   access_reading names bound n m _ = wrong Shape n
 
-  -- the item n where a column expression is due. A column that may not be read so is told at its reader
+  -- the item n, where a column expression is expected. A column that may not be read there is reported at its reader
   pub column_reading : Names → List (List ℕ) → ℕ → ℕ → Tree → Reading Column
   column_reading names bound reader n (atom w) = base_reading names reader n w
   column_reading names bound reader n (list (atom w ▸ ts)) =

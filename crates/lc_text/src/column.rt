@@ -19,7 +19,7 @@ use lc_sexp::{Atom, Cursor, Item};
 use lc_term::ColExpr;
 use std::alloc::Global;
 
-/// The column of a name. One that may not be read so is told at the reader.
+/// The column of a name. One that may not be read there is reported at the reader.
 #[inline(never)]
 fn read_base<S: Scope>(scope: &S, reader: u64, atom: &Atom<'_>) -> Result<ColExpr, ReadFault>
     ensures { IsReading column_of (base_reading (S.names scope.now) reader (atom_number atom.now) (text_of atom.now)) result }
@@ -33,7 +33,7 @@ fn read_base<S: Scope>(scope: &S, reader: u64, atom: &Atom<'_>) -> Result<ColExp
     }
 }
 
-/// The column expression that an item reads as. A column that may not be read so is told at the reader.
+/// The column expression that an item reads as. A column that may not be read there is reported at the reader.
 pub fn read_column<S: Scope>(
     alloc: Global,
     scope: &S,
@@ -84,7 +84,7 @@ fn read_built<S: Scope>(
     }
 }
 
-/// Two numbers, which are all that is left in a list.
+/// Two numbers, which must be the whole rest of a list.
 pub fn read_numbers(list: Cursor<'_>) -> Result<(i64, i64), ReadFault>
     ensures { IsReading numbers_of (numbers_reading (owner_of list.entry) (number_of list.entry) (rest_of list.entry)) result }
 {
@@ -92,10 +92,10 @@ pub fn read_numbers(list: Cursor<'_>) -> Result<(i64, i64), ReadFault>
     ended(both(read_number(first), read_number(second)), rest)
 }
 
-/// Three parts, with what is left in the list behind them.
+/// Three parts, and the rest of the list after them.
 type Parts<'a> = (Part<'a>, Part<'a>, Part<'a>, Cursor<'a>);
 
-/// The first three parts of a list, in a box: they are large, and stand on the stack at each level of a chain of stores.
+/// The first three parts of a list, in a box: they are large, and are on the stack at each level of a chain of stores.
 #[inline(never)]
 fn boxed_parts<'a>(alloc: Global, list: Cursor<'a>) -> Result<Box<Parts<'a>>, ReadFault>
     ensures { AreBoxed list.entry result }
@@ -103,7 +103,7 @@ fn boxed_parts<'a>(alloc: Global, list: Cursor<'a>) -> Result<Box<Parts<'a>>, Re
     Ok(Box::new(alloc, three(list)?)?)
 }
 
-/// A column with a value stored at an index: a column and two terms, which are all that is left in a list.
+/// A column with a value stored at an index: a column and two terms, which must be the whole rest of a list.
 #[cycle(read_term)]
 #[inline(never)]
 fn read_store<S: Scope>(

@@ -14,7 +14,7 @@ use lc_reading::{
 };
 use lc_sexp::{Cursor, Item};
 
-/// A name that is declared behind these, and two numbers, which are all that is left in a list.
+/// A name that is declared after these, and two numbers, which must be the whole rest of a list.
 fn read_column_parts(
     before: &NameTable<'_>,
     list: Cursor<'_>,
@@ -38,7 +38,7 @@ fn read_column_list(before: &NameTable<'_>, part: Part<'_>) -> Result<((Name, i6
 }
 
 /// The name, the slope and the start of a column `(NAME a b)`, which starts with `a * i + b` in cell i. It is declared
-/// behind these, up to a limit of all, and one that is beyond the limit is told at its list.
+/// after these, with a limit on all names together, and one beyond the limit is reported at its list.
 pub fn read_declared_column(
     limit: Option<u64>,
     before: &NameTable<'_>,

@@ -106,7 +106,7 @@ fn read_connective<'a, S: Scope>(
     }
 }
 
-/// A comparison of two terms, which are all that is left in a list.
+/// A comparison of two terms, which must be the whole rest of a list.
 #[inline(never)]
 fn read_comparison<S: Scope>(
     alloc: Global,
@@ -120,7 +120,7 @@ fn read_comparison<S: Scope>(
     made_comparison(alloc, connective, read_terms(alloc, scope, bound, list))
 }
 
-/// The negation of a formula, which is all that is left in a list.
+/// The negation of a formula, which must be the whole rest of a list.
 #[cycle(read_formula)]
 #[inline(never)]
 fn read_negation<'a, S: Scope>(
@@ -155,7 +155,7 @@ fn read_row<'a, S: Scope>(
     )
 }
 
-/// The implication of two formulas, which are all that is left in a list.
+/// The implication of two formulas, which must be the whole rest of a list.
 #[cycle(read_formula)]
 #[inline(never)]
 fn read_implication<'a, S: Scope>(
@@ -170,7 +170,7 @@ fn read_implication<'a, S: Scope>(
     made_implication(alloc, read_both(alloc, scope, bound, list))
 }
 
-/// The quantifier of a name over the formula in which it is bound, which are all that is left in a list.
+/// The quantifier of a name over the formula in which it is bound, which must be the whole rest of a list.
 #[cycle(read_formula)]
 #[inline(never)]
 fn read_quantifier<'a, S: Scope>(
@@ -186,7 +186,7 @@ fn read_quantifier<'a, S: Scope>(
     made_quantifier(alloc, connective, read_body(alloc, scope, bound, list))
 }
 
-/// One formula, which is all that is left in a list.
+/// One formula, which must be the whole rest of a list.
 #[cycle(read_formula)]
 fn read_only<'a, S: Scope>(
     alloc: Global,
@@ -202,7 +202,7 @@ fn read_only<'a, S: Scope>(
     ended(formula, rest)
 }
 
-/// Two formulas, which are all that is left in a list.
+/// Two formulas, which must be the whole rest of a list.
 #[cycle(read_formula)]
 fn read_both<'a, S: Scope>(
     alloc: Global,
@@ -252,7 +252,7 @@ fn read_binder(part: Part<'_>) -> Result<(), ReadFault>
     within(name, ())
 }
 
-/// A name and the formula in which it is bound, which are all that is left in a list.
+/// A name and the formula in which it is bound, which must be the whole rest of a list.
 #[cycle(read_formula)]
 fn read_body<'a, S: Scope>(
     alloc: Global,

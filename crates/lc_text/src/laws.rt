@@ -12,9 +12,9 @@ ghost use Rattle.lc_text.specs.SpelledTree.{term_tree, column_tree, formula_tree
 ghost use Rattle.lc_text.specs.Spelling.{Spelled};
 ghost use Rattle.lc_text.specs.Terms.{atom_reading, term_reading, column_reading};
 
-/// What is printed of a term, a column expression or a formula is the text of an s-expression, which reads as the
-/// same term, column expression or formula where it is one that reads back, whatever its item's number. Round it stand
-/// `depth` quantifiers, of the names that are printed of them.
+/// What is printed of a term, a column expression or a formula is the text of an s-expression, which reads as the same
+/// term, column expression or formula if it is one that reads back, whatever its item's number. Around it are `depth`
+/// quantifiers, with the names that are printed for them.
 pub fn printed_terms_read_back()
     ensures term_text { (by : Spelled) (depth : ℕ) (t : Term) → printed_tree (term_tree by depth t) ≡ spelled_term by depth t }
     ensures column_text { (by : Spelled) (depth : ℕ) (c : Column) → printed_tree (column_tree by depth c) ≡ spelled_column by depth c }
@@ -27,7 +27,7 @@ pub fn printed_terms_read_back()
         FormulaReadsBack names by depth f → formula_reading names (binders depth) n (formula_tree by depth f) ≡ fine f }
 {}
 
-/// A variable `?k` reads as the variable k where these stand, whatever names quantifiers bind.
+/// A variable `?k` reads as the variable k where such variables are allowed, whatever names quantifiers bind.
 pub fn numbered_variables_read_back()
     ensures { (names : Names) (bound : List (List ℕ)) (n k : ℕ) → IsTrue (names.allows NumberedVariables) → k < 2 ^ 32 →
         atom_reading names bound n (codes "?" ++ decimal k) ≡ fine (Variable k) }

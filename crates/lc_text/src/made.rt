@@ -1,7 +1,7 @@
 //! What is made of parts that are read.
 //!
-//! The functions `whole_` stand apart from the readers that call them. Readers call one another, as deep as a text is nested,
-//! and what is made of the parts on the way takes none of the stack of their levels.
+//! The functions `whole_` are separate from the readers that call them. Readers call one another, as deep as a text is
+//! nested, and what is made of the parts on the way takes none of the stack of their levels.
 ghost use Rattle.std.specs.Prelude.{◌≡◌, ℤ};
 ghost use Rattle.lc_sexp.specs.Shown.{rest_of, number_of};
 ghost use Rattle.lc_reading.specs.Readings.{Reading, mapped};
@@ -115,7 +115,7 @@ pub(crate) fn whole_access(
     made_access(alloc, ended(both(column, index), rest))
 }
 
-/// A column with a value stored at an index, where these are all of a list.
+/// A column with a value stored at an index, from parts that must be the whole list.
 #[inline(never)]
 pub(crate) fn whole_store(
     alloc: Global,
@@ -204,7 +204,7 @@ pub(crate) fn made_quantifier(
     Ok(Box::new(alloc, formula)?)
 }
 
-/// One formula more, where all before it are read; else what is wrong in any.
+/// One formula more, if all before it are read; else what is wrong in any.
 #[inline(never)]
 pub(crate) fn pushed_out(
     formulas: Result<Vec<Formula>, ReadFault>,

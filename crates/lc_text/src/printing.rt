@@ -15,17 +15,16 @@ pub trait Spelling {
 
     ghost spelled: { Self → Spelled };
 
-    /// Writes a free variable behind what is there. Where memory is refused the text is let go, whatever stands there.
+    /// Appends a free variable. On `OutOfMemory` the text is to be dropped, whatever it holds.
     fn variable(&self, out: &mut String, number: u32) -> Result<(), OutOfMemory>
         ensures { OnOk result (string_bytes out.new ≡ string_bytes out.old ++ (spelled self.now).variable number) };
 
-    /// Writes a column behind what is there, likewise.
+    /// Appends a column. On `OutOfMemory` the text is to be dropped, whatever it holds.
     fn column(&self, out: &mut String, column: ColId) -> Result<(), OutOfMemory>
         ensures { OnOk result (string_bytes out.new ≡ string_bytes out.old ++ (spelled self.now).column column.0) };
 }
 
-/// Writes a term behind what is there, round whose place stand so many quantifiers. Where memory is refused nothing is
-/// written.
+/// Appends a term, at a place inside `depth` quantifiers. On `OutOfMemory` nothing is written.
 pub fn write_term<S: Spelling>(
     out: &mut String,
     spelling: &S,
@@ -41,8 +40,7 @@ pub fn write_term<S: Spelling>(
     Ok(())
 }
 
-/// Writes a column expression behind what is there, round whose place stand so many quantifiers. Where memory is refused
-/// nothing is written.
+/// Appends a column expression, at a place inside `depth` quantifiers. On `OutOfMemory` nothing is written.
 pub fn write_column<S: Spelling>(
     out: &mut String,
     spelling: &S,
@@ -58,8 +56,8 @@ pub fn write_column<S: Spelling>(
     Ok(())
 }
 
-/// Writes a formula behind what is there, round which stand so many quantifiers. The variable of a quantifier is
-/// written `b` and the number of quantifiers round it. Where memory is refused nothing is written.
+/// Appends a formula, at a place inside `depth` quantifiers. The variable of a quantifier is written `b` and the number
+/// of quantifiers around it. On `OutOfMemory` nothing is written.
 pub fn write_formula<S: Spelling>(
     out: &mut String,
     spelling: &S,
@@ -75,7 +73,7 @@ pub fn write_formula<S: Spelling>(
     Ok(())
 }
 
-// A term behind what is there. Where memory is refused a beginning of it may stand there.
+// Appends a term. On `OutOfMemory` a beginning of it may have been written.
 #[cycle(push_term)]
 fn push_term<S: Spelling>(
     out: &mut String,
@@ -122,8 +120,8 @@ fn push_term<S: Spelling>(
     Ok(())
 }
 
-// A column expression behind what is there, likewise: the words of all its stores, what is stored to, and what is
-// stored, the innermost first.
+// Appends a column expression: the words of all its stores, what is stored to, and what is stored, the innermost first.
+// On `OutOfMemory` a beginning of it may have been written.
 #[cycle(push_term)]
 fn push_column<S: Spelling>(
     out: &mut String,
@@ -167,7 +165,7 @@ fn push_base<S: Spelling>(
     Ok(())
 }
 
-// A formula behind what is there, likewise.
+// Appends a formula. On `OutOfMemory` a beginning of it may have been written.
 #[cycle(push_formula)]
 fn push_formula<S: Spelling>(
     out: &mut String,

@@ -8,15 +8,15 @@ use lc_base::ColId;
 pub enum ColumnUse {
     /// A column that may be read here.
     Usable(ColId),
-    /// A declared column that is not read in this way. It is told as `Shape` at the list that reads it.
+    /// A declared column that is not read in this way. It is reported as `Shape` at the list that reads it.
     Misplaced,
-    /// A declared column that object code does not see. It is told as `Auxiliary` at the list that reads it.
+    /// A declared column that object code does not see. It is reported as `Auxiliary` at the list that reads it.
     Hidden,
-    /// No column has this name. It is told as `Unknown` at the name.
+    /// No column has this name. It is reported as `Unknown` at the name.
     Undeclared,
 }
 
-/// What stands only at some places of files.
+/// What is allowed only at some places of files.
 #[derive(Clone, Copy)]
 pub enum Extra {
     /// `forall` and `exists`.
@@ -41,7 +41,7 @@ pub trait Scope {
     fn column(&self, name: &str) -> ColumnUse
         ensures { result ≡ (names self.now).column name.now };
 
-    /// Whether this stands here.
+    /// Whether this is allowed here.
     fn allows(&self, extra: Extra) -> bool
         ensures { result ≡ (names self.now).allows extra };
 }

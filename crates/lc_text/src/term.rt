@@ -19,7 +19,7 @@ use lc_sexp::{Atom, Cursor, Item, Misfit};
 use lc_term::{ColExpr, Term};
 use std::alloc::Global;
 
-/// How many quantifiers stand between a place and the innermost one that binds a name.
+/// How many quantifiers are between a place and the innermost one that binds a name.
 fn bound_index(bound: &[&str], text: &str) -> Option<usize>
     ensures { result ≡ bound_index (names_in bound.now) text.now }
 {
@@ -58,7 +58,7 @@ pub fn read_number(part: Part<'_>) -> Result<i64, ReadFault>
     }
 }
 
-/// A variable `?k`, where these stand.
+/// A variable `?k`, where such variables are allowed.
 fn read_numbered<S: Scope>(scope: &S, atom: &Atom<'_>) -> Result<Term, ReadFault>
     ensures { IsReading term_of (numbered_reading (S.names scope.now) (atom_number atom.now) (text_of atom.now)) result }
 {
@@ -80,7 +80,7 @@ fn read_word<S: Scope>(scope: &S, bound: &[&str], atom: &Atom<'_>) -> Result<Ter
     }
 }
 
-/// A NUMBER, a NAME or a variable `?k`. It stands apart from the readers of terms, which call one another.
+/// A NUMBER, a NAME or a variable `?k`. It is separate from the readers of terms, which call one another.
 #[inline(never)]
 fn read_atom<S: Scope>(scope: &S, bound: &[&str], atom: &Atom<'_>) -> Result<Term, ReadFault>
     ensures { IsReading term_of (atom_reading (S.names scope.now) (names_in bound.now) (atom_number atom.now) (text_of atom.now)) result }
@@ -138,7 +138,7 @@ fn read_operation<S: Scope>(
     }
 }
 
-/// The sum or the difference of two terms, which are all that is left in a list.
+/// The sum or the difference of two terms, which must be the whole rest of a list.
 #[cycle(read_term)]
 #[inline(never)]
 fn read_sum<S: Scope>(
@@ -156,7 +156,7 @@ fn read_sum<S: Scope>(
     whole_sum(alloc, operation, left, right, rest)
 }
 
-/// Two terms, which are all that is left in a list.
+/// Two terms, which must be the whole rest of a list.
 pub(crate) fn read_terms<S: Scope>(
     alloc: Global,
     scope: &S,
@@ -171,7 +171,7 @@ pub(crate) fn read_terms<S: Scope>(
     ended(both(left, right), rest)
 }
 
-/// The product of a number and a term, which are all that is left in a list.
+/// The product of a number and a term, which must be the whole rest of a list.
 #[cycle(read_term)]
 #[inline(never)]
 fn read_product<S: Scope>(
@@ -188,7 +188,7 @@ fn read_product<S: Scope>(
     whole_product(alloc, factor, term, rest)
 }
 
-/// The cell of a column at an index, which are all that is left in a list.
+/// The cell of a column at an index, which must be the whole rest of a list.
 #[cycle(read_term)]
 #[inline(never)]
 fn read_access<S: Scope>(

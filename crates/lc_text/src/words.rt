@@ -33,7 +33,7 @@ pub(crate) enum Connective {
     Exists,
 }
 
-/// What this word says, where a term is due. It stands apart from the readers, which call one another: so do the others below.
+/// The operation of this word, where a term is expected. It is separate from the readers, which call one another: so do the others below.
 #[inline(never)]
 pub(crate) fn operation_of(word: &str) -> Option<Operation>
     ensures { result ≡ operation_of word.now }
@@ -58,7 +58,7 @@ fn built_of(word: &str) -> Option<Built>
     }
 }
 
-/// What this word says where a column expression is due, if one may be built here.
+/// What this word says where a column expression is expected, if one may be built here.
 pub(crate) fn built_due<S: Scope>(scope: &S, word: &str) -> Option<Built>
     ensures { result ≡ built_due (S.names scope.now) word.now }
 {
@@ -92,7 +92,7 @@ fn is_quantifier(connective: Connective) -> bool
     matches!(connective, Connective::Forall | Connective::Exists)
 }
 
-/// What this word says where a formula is due: a quantifier only where these stand.
+/// What this word says where a formula is expected: a quantifier only if these are allowed.
 pub(crate) fn connective_due<S: Scope>(scope: &S, word: &str) -> Option<Connective>
     ensures { result ≡ connective_due (S.names scope.now) word.now }
 {

@@ -27,7 +27,7 @@ pub fn reading_a_term<S: Scope>(alloc: Global, scope: &S, part: Part<'_>) -> Res
     read_term(alloc, scope, part)
 }
 
-/// A column expression reads as is defined; one that may not be read so is told at the reader.
+/// A column expression reads as is defined; one that may not be read there is reported at the reader.
 pub fn reading_a_column<S: Scope>(
     alloc: Global,
     scope: &S,
@@ -86,7 +86,7 @@ pub fn printing_a_proof<S: Spelling>(
     write_proof(out, spelling, proof)
 }
 
-/// A formula file is answered with its claim, or with its first refusal.
+/// For a formula file, its claim is returned, or its first refusal.
 pub fn reading_a_claim(alloc: Global, bytes: &[u8]) -> Result<FormulaFile, Fault>
     ensures { IsAnswerTo claim_in file_reading bytes.now result }
 {

@@ -17,7 +17,7 @@ use lc_reading::{
 use lc_sexp::Cursor;
 use std::alloc::Global;
 
-/// Of two flaws the first by pass and then by item is told, and the least item of either is kept.
+/// Of two flaws, the first by pass and then by item is reported, and the least item that is wrong in either is kept.
 pub fn joining(flaw: Flaw, other: Flaw) -> Flaw
     ensures { result ≡ lesser flaw other }
 {
@@ -59,7 +59,7 @@ pub fn reading_a_row<R: Reads>(
     read_each(alloc, reader, list)
 }
 
-/// A name stands at its first place in a table.
+/// A name has its first place in a table.
 pub fn placing(names: &NameTable<'_>, name: &str) -> Option<usize>
     ensures { result ≡ name_place (listed names.now) name.now }
 {
@@ -73,7 +73,7 @@ pub fn filling(limit: Option<u64>, count: usize) -> bool
     is_full(limit, count)
 }
 
-/// A name is declared where it is new, and within the limit.
+/// A name is declared if it is new, and within the limit.
 pub fn declaring(
     limit: Option<u64>,
     before: &NameTable<'_>,
@@ -84,7 +84,7 @@ pub fn declaring(
     read_declaration(limit, before, part)
 }
 
-/// A name is used where it is declared.
+/// A name is used if it is declared.
 pub fn using_a_name(names: &NameTable<'_>, part: Part<'_>) -> Result<usize, ReadFault>
     ensures { IsReading (λ k. k) (use_reading (listed names.now) (place_of part.entry) (tree_of part.entry)) result }
 {

@@ -22,14 +22,14 @@ pub fn reading_a_file(alloc: Global, bytes: &[u8]) -> Result<Vec<Sexp>, Fault>
     read(alloc, bytes)
 }
 
-/// What comes in pieces is fed behind what came before.
+/// What comes in pieces is fed after what came before.
 pub fn feeding(reader: &mut FormsReader, piece: &[u8]) -> Result<(), OutOfMemory>
     ensures { OnOk result ((fed : List ℕ) → WasFed reader.old fed → WasFed reader.new (fed ++ piece.now)) }
 {
     reader.feed(piece)
 }
 
-/// The pieces are answered as the file that they join to.
+/// The result for the pieces is that for the file that they join to.
 pub fn finishing(reader: FormsReader) -> Result<Forms, Fault>
     ensures answer { (fed : List ℕ) → WasFed reader fed → IsAnswerTo fed result }
     ensures never_again { is_spent reader ≡ true → result ≡ Err NoMemory }
@@ -45,7 +45,7 @@ pub fn taking(reader: &mut Reader) -> Option<Part>
     reader.take()
 }
 
-/// A NAME is given where the item is one, and the cursor goes on behind it; otherwise it stays.
+/// A NAME is returned if the item is one, and the cursor goes on after it; otherwise it stays.
 pub fn naming<'a>(cursor: &mut Cursor<'a>) -> Result<&'a str, Misfit>
     ensures { GivesPart name_fit ShowsText cursor.old result cursor.new }
 {
@@ -59,7 +59,7 @@ pub fn printing(alloc: Global, sexps: &[Sexp]) -> Result<Vec<u8>, OutOfMemory>
     print(alloc, sexps)
 }
 
-/// A piece is answered with its tree, where it is one.
+/// For a piece, its tree is returned, if it is one.
 pub fn reading_a_piece(alloc: Global, text: &[u8]) -> Result<Option<Sexp>, OutOfMemory>
     ensures { IfOk result (IsPieceRead text.now) }
 {

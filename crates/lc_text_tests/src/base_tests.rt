@@ -3,7 +3,7 @@ use lc_base::{Fault, Name, OutOfMemory, Refusal, code, is_name, refusal_line, wr
 use std::alloc::Global;
 use std::test::Fail;
 
-/// Whether a refusal has this code and is told in this line.
+/// Whether a refusal has this code and prints this line.
 fn is_told(alloc: Global, refusal: &Refusal, number: u8, line: &str) -> Result<bool, OutOfMemory> {
     let written = refusal_line(alloc, refusal)?;
     Ok((code(refusal) == number) & (written.as_slice() == line.as_bytes()))
@@ -37,7 +37,7 @@ fn codes_and_lines(rt: HostRuntime) -> Result<(), Fail> {
     Ok(())
 }
 
-/// Whether a word and numbers are told in this line.
+/// Whether a word and numbers are printed as this line.
 fn is_line(alloc: Global, word: &str, numbers: &[u64], line: &str) -> Result<bool, OutOfMemory> {
     Ok(write_line(alloc, word, numbers)?.as_slice() == line.as_bytes())
 }

@@ -73,7 +73,7 @@ fn are_lines_within(text: &[u8], columns: usize) -> bool {
     true
 }
 
-/// So many lists, each in the one before, which begin so.
+/// `depth` lists, each in the one before, which begin so.
 fn nested(alloc: Global, begins: &[u8], depth: usize) -> Result<Vec<u8>, OutOfMemory> {
     let mut text = Vec::new(alloc);
     for _ in 0..depth {

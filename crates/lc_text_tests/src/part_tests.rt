@@ -1,4 +1,4 @@
-//! Files that are read in pieces, of which parts are taken meanwhile.
+//! Files that are read in pieces, with parts taken meanwhile.
 use lc_base::{Fault, OutOfMemory, Refusal};
 use lc_sexp::{Part, Reader, print};
 use std::alloc::Global;
@@ -22,7 +22,7 @@ fn tell(alloc: Global, told: &mut Vec<u8>, part: Part) -> Result<(), OutOfMemory
     Ok(())
 }
 
-/// Takes at most so many parts of those that are ready.
+/// Takes at most `most` parts of those that are ready.
 fn take_some(
     alloc: Global,
     reader: &mut Reader,
@@ -38,7 +38,7 @@ fn take_some(
     Ok(())
 }
 
-/// The parts of a text that is fed in pieces of these sizes in turn, with takes of at most so many parts in between,
+/// The parts of a text that is fed in pieces of these sizes in turn, with takes of at most `most` parts in between,
 /// and what its forms print as in the end.
 fn taken_in_pieces(
     alloc: Global,
@@ -146,7 +146,7 @@ fn parts_before_a_fault(rt: HostRuntime) -> Result<(), Fail> {
     Ok(())
 }
 
-/// With any allocation refused: want of memory, or the answer with ample memory.
+/// With any allocation refused: `OutOfMemory`, or the answer with ample memory.
 #[test]
 fn parts_with_memory_refused(rt: HostRuntime) {
     match taken_in_pieces(rt.alloc(), TEXT, &[3, 4], 1) {

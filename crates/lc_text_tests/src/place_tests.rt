@@ -4,7 +4,7 @@ use lc_place::{Place, byte_place, item_place, line_excerpt, open_list_place};
 use std::alloc::Global;
 use std::test::Fail;
 
-/// Whether a place is at this offset, of so many bytes, in this line and column.
+/// Whether a place is at this offset, of `length` bytes, in this line and column.
 fn is_at(place: Option<Place>, offset: usize, length: usize, line: usize, column: usize) -> bool {
     let Some(place) = place else {
         return false;

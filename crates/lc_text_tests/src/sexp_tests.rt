@@ -72,7 +72,7 @@ fn prints_what_it_read(rt: HostRuntime) -> Result<(), Fail> {
     Ok(())
 }
 
-/// What an atom prints as; nothing where there is no such atom.
+/// What an atom prints as; nothing if there is no such atom.
 fn printed_atom(alloc: Global, text: &str) -> Result<Vec<u8>, OutOfMemory> {
     if !is_atom(text.as_bytes()) {
         return Ok(Vec::new(alloc));
@@ -126,7 +126,7 @@ fn walks_a_comparison(goal: &mut Cursor<'_>) -> Result<bool, Misfit> {
     Ok(small & too_large & no_name & no_end)
 }
 
-/// `?4 x`, of which the second is item 7.
+/// `?4 x`; the second is item 7.
 fn walks_to_the_end(goal: &mut Cursor<'_>) -> Result<bool, Misfit> {
     let no_list = goal.list().err() == Some(Misfit::Shape(6));
     let variable = (goal.variable()? == 4) & (goal.number() == 7);
@@ -135,7 +135,7 @@ fn walks_to_the_end(goal: &mut Cursor<'_>) -> Result<bool, Misfit> {
     Ok(no_list & variable & name & no_more & goal.end().is_ok())
 }
 
-/// `(goal ..) y`, of which the second is item 8.
+/// `(goal ..) y`; the second is item 8.
 fn walks_a_file(file: &mut Cursor<'_>) -> Result<bool, Misfit> {
     let owner = file.owner() == 9;
     let other_form = !file.is_at_form("hyps") & (file.form("hyps").err() == Some(Misfit::Shape(0)));
@@ -197,7 +197,7 @@ fn deep_lists(rt: HostRuntime) -> Result<(), Fail> {
     Ok(())
 }
 
-/// With any allocation refused: want of memory, or the answer with ample memory.
+/// With any allocation refused: `OutOfMemory`, or the answer with ample memory.
 #[test]
 fn memory_refused(rt: HostRuntime) {
     let text = b"(ab (a-name-of-more-than-sixteen-bytes) () c) d";
@@ -209,7 +209,7 @@ fn memory_refused(rt: HostRuntime) {
     assert!(rt; is_answered);
 }
 
-/// After a refused allocation a reader answers nothing else any more.
+/// Once out of memory a reader returns nothing else any more.
 #[test]
 fn memory_refused_stays_refused(rt: HostRuntime) {
     let mut reader = Reader::new(rt.alloc());

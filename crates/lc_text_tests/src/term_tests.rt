@@ -10,7 +10,7 @@ use lc_term::{
 use std::alloc::Global;
 use std::test::Fail;
 
-/// Whether a value that leaves 64 bits is not computed, where it is stored at another index.
+/// Whether a value that leaves 64 bits is not computed, if it is stored at another index.
 fn is_read_beside_a_store(alloc: Global, state: &State, env: &Env) -> Result<bool, OutOfMemory>
     requires columns { column_count state.now ≡ 1 }
     requires variables { variable_count env.now ≡ 1 }

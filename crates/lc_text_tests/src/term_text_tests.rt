@@ -9,7 +9,7 @@ use lc_text::{Spelling, write_formula};
 use std::alloc::Global;
 use std::test::Fail;
 
-/// Variables as `?k`, and columns by their numbers behind a letter.
+/// Variables as `?k`, and columns by a letter and their numbers.
 #[derive(Clone, Copy)]
 struct Numbers;
 
@@ -89,7 +89,7 @@ fn replaces_columns_and_variables_at_once(rt: HostRuntime) -> Result<(), Fail> {
     Ok(())
 }
 
-/// A variable added to itself, and what comes out again, so many times.
+/// A variable added to itself, and the result again, `times` times.
 #[tactic(auto, using(lc_table::proofs::Later::is_term_later, lc_table::proofs::Later::keeps_itself))]
 fn doubled(terms: &mut Terms, times: u32) -> Result<TermId, OutOfMemory>
     ensures { IfOk result (λ k. IsTerm terms.new k) }
@@ -125,7 +125,7 @@ fn what_is_shared_is_replaced_once(rt: HostRuntime) -> Result<(), Fail> {
     Ok(())
 }
 
-/// A formula is written behind a text: whether it stands there whole, or where memory is refused, nothing of it.
+/// A formula is written after a text: whether it is there whole, or, on `OutOfMemory`, nothing of it.
 fn is_whole_or_nothing(alloc: Global) -> Result<bool, OutOfMemory> {
     let formula = comparisons(alloc)?;
     let mut text = String::from_str(alloc, "so: ")?;
@@ -136,7 +136,7 @@ fn is_whole_or_nothing(alloc: Global) -> Result<bool, OutOfMemory> {
     Ok(text.as_str() == want)
 }
 
-/// With any allocation refused: want of memory, or the answer with ample memory.
+/// With any allocation refused: `OutOfMemory`, or the answer with ample memory.
 #[test]
 fn formula_with_memory_refused(rt: HostRuntime) {
     assert!(rt; is_whole_or_nothing(rt.alloc()).unwrap_or(true));

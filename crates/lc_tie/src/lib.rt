@@ -1,4 +1,4 @@
-//! What ties a specification to an object: the invariant, and what stands in the columns at first.
+//! What ties a specification to an object: the invariant, and what the columns hold at first.
 #![tactic(auto)]
 
 mod tie;

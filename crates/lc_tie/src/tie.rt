@@ -1,4 +1,4 @@
-//! The type of what ties an object to its specification: the invariant, and what stands in the columns at first.
+//! The type of what ties an object to its specification: the invariant, and what the columns hold at first.
 ghost use Rattle.std.specs.Prelude.{◌≡◌, map, IfOk};
 ghost use Rattle.lc_term.specs.View.{column_of};
 ghost use Rattle.lc_tie.specs.Tie.{affine_of};
@@ -13,7 +13,7 @@ pub struct Conjunct {
     pub formula: Formula,
 }
 
-// Written out, so that a place where a conjunct is let go has one call.
+// Written out, so that dropping a conjunct is one call.
 impl Drop for Conjunct {
     fn drop(self) {
         let Conjunct {
@@ -23,7 +23,7 @@ impl Drop for Conjunct {
     }
 }
 
-/// The invariant, as a list of conjuncts, and what stands in the columns at first.
+/// The invariant, as a list of conjuncts, and what the columns hold at first.
 pub struct Tie {
     conjuncts: Vec<Conjunct>,
     initial: Vec<(i64, i64)>,
@@ -60,7 +60,7 @@ impl Tie {
         &self.conjuncts
     }
 
-    /// What stands in each column at first, by the columns' numbers. In a column behind the last there is 0 in each cell.
+    /// What each column holds at first, by the columns' numbers. A column after the last has 0 in each cell.
     #[tactic(auto, using(crate::proofs::Starts::listed_start))]
     pub fn initial_columns(&self, alloc: Global) -> Result<Vec<ColExpr>, OutOfMemory>
         ensures listed { IfOk result (λ columns. map column_of columns.items ≡ map affine_of (numbers_in self.now)) }

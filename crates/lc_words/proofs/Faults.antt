@@ -22,7 +22,7 @@ no_text words e wrong (inl memory) (inr version) = cc
 no_text words e (inl faulty) (inr among) asks = faulty.1 (kind_of e) among asks
 no_text words e (inr idle) (inr among) asks = subst (IsAmong (kind_of e)) idle.0 among
 
--- an error of clap at words that ask for a task is want of memory
+-- an error of clap at words that ask for a task is that memory ran out
 pub taken_fault : (a : App) (words : List Text) (e : Error) → a ≡ program_app → (takes a words ≡ true → kind_of e ≡ OutOfMemory) → (task : Task) → AskFor words task → kind_of e ≡ OutOfMemory
 taken_fault a words e is passes task ask = passes (ap (λ x. takes x words) is ∙ ask.0)
 
@@ -31,7 +31,7 @@ pub wrong_fault : (a : App) (words : List Text) (e : Error) → a ≡ program_ap
     → AreWrong words → AsksForText (kind_of e) → ⊥
 wrong_fault a words e is kinds wrong = no_text words e wrong (subst (λ (x : App). HasKind (fault_of x words) e) is (kinds (ap is_simple_and_free is ∙ program_is_free)))
 
--- where the words ask for help, an error of clap asks for a text, or is want of memory
+-- if the words ask for help, an error of clap asks for a text, or is that memory ran out
 pub help_asked : (a : App) (words : List Text) (e : Error) → a ≡ program_app → (is_simple_and_free a ≡ true → HasKind (fault_of a words) e)
     → AskForHelp words → (kind_of e ≡ OutOfMemory) ⊎ AsksForText (kind_of e)
 help_asked a words e is kinds help = elim (subst (λ (x : App). HasKind (fault_of x words) e) is (kinds (ap is_simple_and_free is ∙ program_is_free))) [
@@ -71,7 +71,7 @@ reads_explained a words m explained is has reads =
     let same : subcommand_rows_of m ≡ subcommand_of program_app words = (has (ap is_simple is ∙ program_is_simple)).1 ∙ ap (λ x. subcommand_of x words) is in
     reads ∙ ap is_explained same
 
--- want of memory asks for no text
+-- running out of memory asks for no text
 memory_alone : (e : Error) → kind_of e ≡ OutOfMemory → AsksForText (kind_of e) → ⊥
 memory_alone e memory (inl help) = cc
 memory_alone e memory (inr version) = cc
@@ -80,7 +80,7 @@ pub memory_told : {A : Type 0} (r : Result A Error) → IsErrAnd r (λ e. kind_o
 memory_told (Ok x) memory = memory
 memory_told (Err e) memory = memory_alone e memory
 
--- where the words ask for no task, an error may be any
+-- if the words ask for no task, an error may be any
 pub any_err : {A : Type 0} (words : List Text) (r : Result A Error) → ((task : Task) → AskFor words task → ⊥) → IfErr r (λ error. (task : Task) → AskFor words task → kind_of error ≡ OutOfMemory)
 any_err words (Ok x) never = tt
 any_err words (Err e) never = λ task ask. absurd (never task ask)

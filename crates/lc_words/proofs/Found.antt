@@ -1,4 +1,4 @@
--- The task of a command, where clap finds its arguments.
+-- The task of a command, if clap finds its arguments.
 use Rattle.std.proofs.Common.{◌≡◌, ◌≤◌, ◌↔◌, ℕ, ◌&&◌, Bool, true, false, true≢false, nat_le, length, codes, List, Option, Some, None, IsSome, refl, sym, ◌∙◌, ap, ap₂}
 use Rattle.std.proofs.lemmas.Bool.{le-leb, leb-true}
 use Rattle.std.specs.Prelude.{if◌then◌else◌, option_map, option_and_then}
@@ -16,7 +16,7 @@ use Rattle.lc_words.specs.Reading.{beginning_task, begun, is_set, library_task, 
 use Rattle.lc_words.specs.Tasks.{BeginDevelopment, PrintLibrary, RunPlan, Task, is_development_name, proving, showing, carrying}
 use Rattle.lc_words.specs.declared.request.LibraryText.{LibraryText}
 
--- the task of one path, and of two, where clap finds them
+-- the task of one path, and of two, if clap finds them
 pub one_found : (task : List ℕ → Task) (name : Text) (f : Found) (file : Option Text) → file ≡ first_value f name → option_map task file ≡ one_file_task task name (rows_of f)
 one_found task name f file is = ap (option_map task) (is ∙ first_value-rows f name)
 
@@ -29,7 +29,7 @@ two_found task name f development other is is' =
 pub two_unfound : (task : List ℕ → List ℕ → Task) (name : Text) (f : Found) → None ≡ first_value f (codes "DEV") → None ≡ two_file_task task name (rows_of f)
 two_unfound task name f is = ap (λ x. option_and_then (λ d. option_map (task d) (first_of name (rows_of f))) x) (is ∙ first_value-rows f (codes "DEV"))
 
--- the same of a development that is to be proved, with hints or without
+-- the same for a development that is to be proved, with hints or without
 pub proving_found : (f : Found) (development : Text) (hints : Option Text) → Some development ≡ first_value f (codes "DEV") → hints ≡ first_value f (codes "hints")
     → Some (proving development hints) ≡ proving_task (rows_of f)
 proving_found f development hints is is' =
@@ -38,7 +38,7 @@ proving_found f development hints is is' =
 pub proving_unfound : (f : Found) → None ≡ first_value f (codes "DEV") → None ≡ proving_task (rows_of f)
 proving_unfound f is = ap (option_map (λ d. proving d (first_of (codes "hints") (rows_of f)))) (is ∙ first_value-rows f (codes "DEV"))
 
--- the task of carrying a certificate, where clap finds its paths
+-- the task of carrying a certificate, if clap finds its paths
 pub carrying_found : (f : Found) (old certificate new hints : Option Text) → old ≡ first_value f (codes "OLD") → certificate ≡ first_value f (codes "CERT") → new ≡ first_value f (codes "NEW")
     → hints ≡ first_value f (codes "hints") → option_and_then (λ o. option_and_then (λ c. option_map (λ n. carrying o c n hints) new) certificate) old ≡ carrying_task (rows_of f)
 carrying_found f old certificate new hints is_old is_certificate is_new is_hints =
@@ -46,7 +46,7 @@ carrying_found f old certificate new hints is_old is_certificate is_new is_hints
     ∙ ap₂ (λ x y. option_and_then (λ o. option_and_then (λ c. option_map (λ n. carrying o c n y) x) (first_of (codes "CERT") (rows_of f))) (first_of (codes "OLD") (rows_of f)))
     (is_new ∙ first_value-rows f (codes "NEW")) (is_hints ∙ first_value-rows f (codes "hints"))
 
--- the task of running a development, where clap finds its paths
+-- the task of running a development, if clap finds its paths
 pub running_found : (f : Found) (development certificate plan : Option Text) → development ≡ first_value f (codes "DEV") → certificate ≡ first_value f (codes "CERT")
     → plan ≡ first_value f (codes "PLAN") → option_and_then (λ d. option_and_then (λ c. option_map (RunPlan d c) plan) certificate) development ≡ running_task (rows_of f)
 running_found f development certificate plan is_development is_certificate is_plan =
@@ -54,7 +54,7 @@ running_found f development certificate plan is_development is_certificate is_pl
     ∙ ap (λ x. option_and_then (λ d. option_and_then (λ c. option_map (RunPlan d c) x) (first_of (codes "CERT") (rows_of f))) (first_of (codes "DEV") (rows_of f)))
     (is_plan ∙ first_value-rows f (codes "PLAN"))
 
--- a flag is set where its value is `true`
+-- a flag is set if its value is `true`
 pub flag_found : (f : Found) (name : Text) (value : Option Text) → value ≡ first_value f name → option_map_or (λ v. bytes_eq v (codes "true")) value false ≡ is_set name (rows_of f)
 flag_found f name value is = ap (λ x. option_map_or (λ v. bytes_eq v (codes "true")) x false) (is ∙ first_value-rows f name)
 
@@ -95,7 +95,7 @@ fails text false t e e' never = ap (λ b. b && nat_le (length text) name_limit) 
 fails text true false e e' never = ap₂ ◌&&◌ e e'
 fails text true true e e' never = absurd (never (e, leb-true (length text) name_limit e'))
 
--- the bytes are a name exactly where the test says so
+-- the bytes are a name exactly if the test says so
 named : (text : Text) (name : Option Name) → IsSome name ↔ ((is_name text ≡ true) × (length text ≤ name_limit))
     → option_map (λ n. BeginDevelopment text) name ≡ begun text
 named text (Some n) valid =
@@ -107,7 +107,7 @@ named text None valid =
     fails text (is_name text) (nat_le (length text) name_limit) refl refl (λ both. true≢false (sym (valid.1 both))) in
     sym (ap (λ b. if b then Some (BeginDevelopment text) else None) test)
 
--- a development of a name is begun where it may have the name
+-- a development of a name is begun if it may have the name
 pub beginning_unfound : (f : Found) → None ≡ first_value f (codes "NAME") → None ≡ beginning_task (rows_of f)
 beginning_unfound f is = ap (option_and_then begun) (is ∙ first_value-rows f (codes "NAME"))
 

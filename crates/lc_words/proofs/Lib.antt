@@ -1,3 +1,4 @@
+mod Tables
 mod Walks
 mod Numbers
 mod Workers

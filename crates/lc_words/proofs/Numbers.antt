@@ -1,5 +1,5 @@
 -- Numbers in the words of a command line.
-use Rattle.std.proofs.Common.{◌≡◌, ℕ, ◌==◌, ◌<◌, ◌≤◌, ◌^◌, Bool, true, false, not, cond, if◌then◌else◌, List, [], ◌∷◌, drop, Option, Some, None, Result, Ok, Err, refl, sym, ◌∙◌, ap, subst, arith}
+use Rattle.std.proofs.Common.{◌≡◌, ℕ, ◌==◌, ◌<◌, ◌≤◌, ◌^◌, Bool, true, false, not, cond, if◌then◌else◌, List, [], ◌∷◌, drop, Some, None, Result, Ok, Err, refl, sym, ◌∙◌, ap, subst, arith}
 use Rattle.std.proofs.lemmas.Bool.{eqb-true}
 use Rattle.std.proofs.lemmas.Fmt.{decimal_is_IsNumeral}
 use Rattle.std.specs.Char.{digit_value}
@@ -20,7 +20,7 @@ no_digit b c low high = by (b == c) refl
     by false e = refl
     by true e = absurd (let same : digit_value b ≡ 36 = ap digit_value (eqb-true b c e) ∙ high in omega (arith, low, same))
 
--- no sign stands before it
+-- no sign comes before it
 without_plus : (ds : List ℕ) → IsNumeral 10 ds → without_leading_plus ds ≡ ds
 without_plus [] h = refl
 without_plus (b ∷ ds) h = ap (λ t. drop (cond t 1 0) (b ∷ ds)) (no_digit b 43 h.1.0 refl)

@@ -63,7 +63,7 @@ asked name word ps task met is = (
   ap task_in (command_is_read program_app name word word ps refl met) ∙ is.1,
 )
 
--- with `--explain` behind them, which asks for reasons
+-- followed by `--explain`, which asks for reasons
 abbrev explained : List Piece → List Piece
 explained ps = ps ++ known (codes "--explain") ∷ []
 
@@ -80,7 +80,7 @@ abbrev worker_pieces : (development certificate : List ℕ) (workers : ℕ) → 
 worker_pieces development certificate workers is =
     plain development is.0 ∷ plain certificate is.1 ∷ known (codes "--workers") ∷ plain (decimal workers) (numbers_are_plain workers (workers_are_few workers is.3)) ∷ []
 
--- the test that they pass, alone and with a flag behind them, where this is what the number passes
+-- the test that they pass, alone and with a flag after them, if this is what the number passes
 abbrev passed : Bool → Bool
 passed t = ((t && true) && true) && true
 

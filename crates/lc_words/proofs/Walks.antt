@@ -1,4 +1,4 @@
--- What clap reads in words of which some are known and the others plain: a plain word is not looked into.
+-- What clap reads in words some of which are known and the others plain: a plain word is not looked into.
 use Rattle.std.proofs.Common.{◌≡◌, ℕ, ◌==◌, Bool, true, false, not, ◌&&◌, ◌||◌, true≢false, codes, List, [], ◌∷◌, ◌++◌, map, Option, Some, None, is_some, option_map, refl, sym, ◌∙◌, ap, ap₂, append_assoc}
 use Rattle.std.proofs.Math.Bool.{and-true}
 use Rattle.std.proofs.lemmas.List.{append-nil}
@@ -141,7 +141,7 @@ level_is s ps =
 
 -- ---- the command
 
--- behind the name of a command all words are its own
+-- after the name of a command, all words are its own
 words_go_on : (c : List Rule) (names : Names) (w : Walk) (name : Text) (before words : List Text)
     → fold (walked c names) (record w { stopped = Some (name, before) }) words ≡ record w { stopped = Some (name, before ++ words) }
 unfolding walked
@@ -200,7 +200,7 @@ levels_are : (found : Option Shape) (ps : List Piece)
 levels_are None ps = refl
 levels_are (Some s) ps = level_is s ps
 
--- the name passes, and so do the words behind it
+-- the name passes, and so do the words after it
 top_passes : (s : Shape) (names : Names) (word name : Text) (words : List Text) → subcommand_met names idle word ≡ Some name
     → walk_passes s names (walk_from nothing_held) (word ∷ words) ≡ (not (bytes_eq name (codes "help")) || s.disable_help_subcommand)
 unfolding walk_passes

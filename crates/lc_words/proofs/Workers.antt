@@ -20,11 +20,11 @@ workers_are_few workers most = omega (arith, most)
 pub workers_pass : (workers : ℕ) → 1 ≤ workers → workers ≤ worker_limit → is_unsigned_in 1 worker_limit (decimal workers) ≡ true
 workers_pass workers least most = Accepts-accepts false (Unsigned 1 worker_limit) (decimal workers) (unsigned_in 1 worker_limit workers (workers_are_few workers most) least most)
 
--- the number of workers, where clap finds it
+-- the number of workers, if clap finds it
 pub workers_found : (f : Found) (text : Option Text) → text ≡ first_value f (codes "workers") → option_and_then number_in text ≡ workers_given (rows_of f)
 workers_found f text is = ap (option_and_then number_in) (is ∙ first_value-rows f (codes "workers"))
 
--- the task of checking a certificate, where clap finds its arguments
+-- the task of checking a certificate, if clap finds its arguments
 pub checking_found : (f : Found) (development certificate : Text) (workers : Option ℕ) (progress : Bool) (task : Option Task) → Some development ≡ first_value f (codes "DEV")
     → Some certificate ≡ first_value f (codes "CERT") → workers ≡ workers_given (rows_of f) → progress ≡ is_set (codes "progress") (rows_of f)
     → task ≡ checked development certificate workers progress → task ≡ checking_task (rows_of f)

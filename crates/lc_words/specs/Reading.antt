@@ -9,7 +9,7 @@ use Rattle.clap.specs.declared.error.kind.ErrorKind.{ErrorKind}
 use Rattle.clap.specs.declared.error.kind.ErrorKind.TheVariants.{DisplayHelp, DisplayVersion}
 use Rattle.lc_lib_texts.specs.Names.{lib_named}
 use Rattle.lc_words.specs.Commands.{program_app}
-use Rattle.lc_words.specs.Tasks.{BeginDevelopment, CheckByWorkers, CheckCertificate, CheckFormula, DrawHistory, JudgeHistory, PrintLibrary, RunPlan, ShowCondition, Task, is_development_name, listing, proving, showing, task_of, ShowDevelopment, carrying}
+use Rattle.lc_words.specs.Tasks.{BeginDevelopment, CheckByWorkers, CheckCertificate, CheckFormula, DrawHistory, JudgeHistory, PrintLibrary, RunPlan, ShowCondition, Task, is_development_name, listing, proving, showing, task_of, carrying}
 use Rattle.lc_words.specs.declared.request.LibraryText.{LibraryText}
 use Rattle.lc_words.specs.declared.request.LibraryText.TheVariants.{Development, Certificate, Hints}
 use Rattle.lc_words.specs.declared.request.Request.{Request}

@@ -21,14 +21,13 @@ pub data Filter : Type 0 where
   OfKind : (kind : List ℕ) → Filter
   OfBoth : (point kind : List ℕ) → Filter
 
--- What may be asked for: that the proof in the file at a path is checked; that the history in one file is judged by the
--- specification in another; that the development in a file is shown, or laid out over lines; that its conditions are listed, or those
--- that are chosen, or one is shown by its number; that the certificate in one file is checked against the development in another, by itself
--- or by so many workers; that a certificate is found of the development in a file, without
--- hints or with those in another; that a certificate is found of a new development, with the proofs of an old one, by its
--- certificate, without hints or with those in a further file; that the development in a file is run, which the certificate in another
--- proves, by the plan in a third; that the history in one file is drawn by the specification in another; that a development of a name
--- is begun; or that a text of an object of the library is printed
+-- What may be asked for: that the proof in the file at a path is checked; that the history in one file is judged by the specification in
+-- another; that the development in a file is shown, or laid out over lines; that its conditions are listed, or those that are chosen, or
+-- one is shown by its number; that the certificate in one file is checked against the development in another, by itself or by a number of
+-- workers; that a certificate is found for the development in a file, without hints or with those in another; that a certificate is found
+-- for a new development, with the proofs of an old one, by its certificate, without hints or with those in a further file; that the
+-- development in a file is run, which the certificate in another proves, by the plan in a third; that the history in one file is drawn by
+-- the specification in another; that a development with a name is begun; or that a text of an object of the library is printed
 pub data Task : Type 0 where
   CheckFormula : (path : List ℕ) → Task
   JudgeHistory : (development history : List ℕ) → Task
@@ -60,7 +59,7 @@ listing development (Some point) None = ListChosen development (OfPoint point)
 listing development None (Some kind) = ListChosen development (OfKind kind)
 listing development (Some point) (Some kind) = ListChosen development (OfBoth point kind)
 
--- the task of checking a certificate, by so many workers if a number is given
+-- the task of checking a certificate, by `workers` workers if a number is given
 abbrev pub checking : List ℕ → List ℕ → Option ℕ → Task
 checking development certificate None = CheckCertificate development certificate
 checking development certificate (Some workers) = CheckByWorkers development certificate workers
@@ -123,7 +122,7 @@ filter_words (OfPoint point) = codes "--only" ∷ point ∷ []
 filter_words (OfKind kind) = codes "--kind" ∷ kind ∷ []
 filter_words (OfBoth point kind) = codes "--only" ∷ point ∷ codes "--kind" ∷ kind ∷ []
 
--- the words that ask for a task, behind the name of the program
+-- the words that ask for a task, after the name of the program
 abbrev pub words_for : List ℕ → Task → List Text
 words_for name (CheckFormula path) = name ∷ codes "formula" ∷ path ∷ []
 words_for name (JudgeHistory development history) = name ∷ codes "judge" ∷ development ∷ history ∷ []

@@ -2,7 +2,8 @@
 ghost use Rattle.std.specs.Prelude.{◌≡◌, false, IfOk};
 ghost use Rattle.clap.specs.Words.{app_of, rule_of};
 ghost use Rattle.clap.specs.declared.builder.command.Command.TheViews.{out-Command};
-ghost use Rattle.lc_words.specs.Commands.{begin_app, carry_app, carry_files_app, carrying_app, check_app, check_files_app, check_workers_app, conditions_app, draw_app, drawing_app, file_rule, first_app, flag_rule, formula_app, further_app, judge_app, library_app, listing_app, object_rule, option_rule, program_app, prove_app, prove_files_app, proving_app, run_app, run_files_app, show_app, workers_rule};
+ghost use Rattle.lc_words.specs.Commands.{option_rule, program_app};
+ghost use Rattle.lc_words.specs.Tables.{app_for, program_for, rule_for};
 
 use crate::texts::{
     ABOUT, CARRY, CARRY_ANSWER, CERTIFICATE_FILE, CHECK, CHECK_ALL, CHECK_ANSWER, CHECK_PROGRESS,
@@ -18,63 +19,153 @@ use clap::{Arg, ArgAction, Command};
 use lc_base::WORKER_LIMIT;
 use std::alloc::{AllocError, Global};
 
-/// An argument that names a file.
-fn file<'a>(alloc: Global, name: &'a str, help: &'a str) -> Arg<'a>
-    ensures rule { rule_of result ≡ file_rule name.entry.now }
-    ensures local { result.global ≡ false }
-{
-    Arg::new(alloc, name)
-        .required(true)
-        .action(ArgAction::Set)
-        .help(help)
+/// An argument, by its name and what the help says of it.
+#[derive(Clone, Copy)]
+enum Argument {
+    /// A value in its place, which has to be there.
+    Place(&'static str, &'static str),
+    /// An option with a value, which is called so in the help.
+    Value(&'static str, &'static str, &'static str),
+    /// An option with a number of workers.
+    Workers(&'static str, &'static str),
+    /// An option without a value.
+    Flag(&'static str, &'static str),
 }
 
-fn formula_command<'a>(alloc: Global) -> Result<Command<'a>, AllocError>
-    ensures app { IfOk result (λ command. app_of command ≡ formula_app) }
-    ensures local { IfOk result (λ command. (out-Command command).has_globals ≡ false) }
-{
-    Command::new(alloc, "formula")
-        .about(FORMULA)
-        .after_help(FORMULA_ANSWER)
-        .arg(file(alloc, "FILE", FORMULA_FILE))?
-        .arg(flag(alloc, "explain", EXPLAIN))
+/// A command, with what it says of itself when it is asked for help. Each is a static of its own: the prover gives up at one with the
+/// texts of all.
+struct Described {
+    name: &'static str,
+    about: &'static str,
+    answer: &'static str,
+    arguments: &'static [Argument],
 }
 
-fn judge_command<'a>(alloc: Global) -> Result<Command<'a>, AllocError>
-    ensures app { IfOk result (λ command. app_of command ≡ judge_app) }
-    ensures local { IfOk result (λ command. (out-Command command).has_globals ≡ false) }
-{
-    Command::new(alloc, "judge")
-        .about(JUDGE)
-        .after_help(JUDGE_ANSWER)
-        .arg(file(alloc, "DEV", JUDGE_DEVELOPMENT))?
-        .arg(file(alloc, "HISTORY", JUDGE_HISTORY))?
-        .arg(flag(alloc, "explain", EXPLAIN))
-}
+static FORMULA_COMMAND: Described = Described {
+    name: "formula",
+    about: FORMULA,
+    answer: FORMULA_ANSWER,
+    arguments: &[
+        Argument::Place("FILE", FORMULA_FILE),
+        Argument::Flag("explain", EXPLAIN),
+    ],
+};
 
-fn draw_command<'a>(alloc: Global) -> Result<Command<'a>, AllocError>
-    ensures app { IfOk result (λ command. app_of command ≡ draw_app) }
-    ensures local { IfOk result (λ command. (out-Command command).has_globals ≡ false) }
-{
-    Command::new(alloc, "draw")
-        .about(DRAW)
-        .after_help(DRAW_ANSWER)
-        .arg(file(alloc, "DEV", JUDGE_DEVELOPMENT))?
-        .arg(file(alloc, "HISTORY", JUDGE_HISTORY))?
-        .arg(flag(alloc, "explain", EXPLAIN))
-}
+static JUDGE_COMMAND: Described = Described {
+    name: "judge",
+    about: JUDGE,
+    answer: JUDGE_ANSWER,
+    arguments: &[
+        Argument::Place("DEV", JUDGE_DEVELOPMENT),
+        Argument::Place("HISTORY", JUDGE_HISTORY),
+        Argument::Flag("explain", EXPLAIN),
+    ],
+};
 
-fn show_command<'a>(alloc: Global) -> Result<Command<'a>, AllocError>
-    ensures app { IfOk result (λ command. app_of command ≡ show_app) }
-    ensures local { IfOk result (λ command. (out-Command command).has_globals ≡ false) }
-{
-    Command::new(alloc, "show")
-        .about(SHOW)
-        .after_help(SHOW_ANSWER)
-        .arg(file(alloc, "DEV", DEVELOPMENT))?
-        .arg(flag(alloc, "lines", SHOW_LINES))?
-        .arg(flag(alloc, "explain", EXPLAIN))
-}
+static SHOW_COMMAND: Described = Described {
+    name: "show",
+    about: SHOW,
+    answer: SHOW_ANSWER,
+    arguments: &[
+        Argument::Place("DEV", DEVELOPMENT),
+        Argument::Flag("lines", SHOW_LINES),
+        Argument::Flag("explain", EXPLAIN),
+    ],
+};
+
+static CONDITIONS_COMMAND: Described = Described {
+    name: "conditions",
+    about: CONDITIONS,
+    answer: CONDITIONS_ANSWER,
+    arguments: &[
+        Argument::Place("DEV", DEVELOPMENT),
+        Argument::Value("at", "K", CONDITION_NUMBER),
+        Argument::Value("only", "POINT", CONDITION_POINT),
+        Argument::Value("kind", "KIND", CONDITION_KIND),
+        Argument::Flag("explain", EXPLAIN),
+    ],
+};
+
+static CHECK_COMMAND: Described = Described {
+    name: "check",
+    about: CHECK,
+    answer: CHECK_ANSWER,
+    arguments: &[
+        Argument::Place("DEV", DEVELOPMENT),
+        Argument::Place("CERT", CERTIFICATE_FILE),
+        Argument::Workers("workers", WORKERS),
+        Argument::Flag("all", CHECK_ALL),
+        Argument::Flag("progress", CHECK_PROGRESS),
+        Argument::Flag("explain", EXPLAIN),
+    ],
+};
+
+static PROVE_COMMAND: Described = Described {
+    name: "prove",
+    about: PROVE,
+    answer: PROVE_ANSWER,
+    arguments: &[
+        Argument::Place("DEV", DEVELOPMENT),
+        Argument::Value("hints", "FILE", HINTS),
+        Argument::Flag("progress", PROGRESS),
+        Argument::Flag("explain", EXPLAIN),
+    ],
+};
+
+static CARRY_COMMAND: Described = Described {
+    name: "carry",
+    about: CARRY,
+    answer: CARRY_ANSWER,
+    arguments: &[
+        Argument::Place("OLD", OLD),
+        Argument::Place("CERT", OLD_CERTIFICATE),
+        Argument::Place("NEW", NEW_DEVELOPMENT),
+        Argument::Value("hints", "FILE", NEW_HINTS),
+        Argument::Flag("progress", PROGRESS),
+        Argument::Flag("explain", EXPLAIN),
+    ],
+};
+
+static LIBRARY_COMMAND: Described = Described {
+    name: "library",
+    about: LIBRARY,
+    answer: LIBRARY_ANSWER,
+    arguments: &[
+        Argument::Place("NAME", OBJECT),
+        Argument::Flag("certificate", LIBRARY_CERTIFICATE),
+        Argument::Flag("hints", LIBRARY_HINTS),
+    ],
+};
+
+static DRAW_COMMAND: Described = Described {
+    name: "draw",
+    about: DRAW,
+    answer: DRAW_ANSWER,
+    arguments: &[
+        Argument::Place("DEV", JUDGE_DEVELOPMENT),
+        Argument::Place("HISTORY", JUDGE_HISTORY),
+        Argument::Flag("explain", EXPLAIN),
+    ],
+};
+
+static NEW_COMMAND: Described = Described {
+    name: "new",
+    about: NEW,
+    answer: NEW_ANSWER,
+    arguments: &[Argument::Place("NAME", NEW_NAME)],
+};
+
+static RUN_COMMAND: Described = Described {
+    name: "run",
+    about: RUN,
+    answer: RUN_ANSWER,
+    arguments: &[
+        Argument::Place("DEV", DEVELOPMENT),
+        Argument::Place("CERT", CERTIFICATE_FILE),
+        Argument::Place("PLAN", PLAN_FILE),
+        Argument::Flag("explain", EXPLAIN),
+    ],
+};
 
 /// An option with a value, which is called so in the help.
 fn value_option<'a>(alloc: Global, name: &'a str, value: &'a str, help: &'a str) -> Arg<'a>
@@ -88,236 +179,72 @@ fn value_option<'a>(alloc: Global, name: &'a str, value: &'a str, help: &'a str)
         .help(help)
 }
 
-/// An option that names a file.
-fn file_option<'a>(alloc: Global, name: &'a str, help: &'a str) -> Arg<'a>
-    ensures rule { rule_of result ≡ option_rule name.entry.now }
+/// An argument, as `clap` takes it.
+fn arg_of<'a>(alloc: Global, argument: Argument) -> Arg<'a>
+    ensures rule { rule_of result ≡ rule_for argument }
     ensures local { result.global ≡ false }
 {
-    value_option(alloc, name, "FILE", help)
+    match argument {
+        Argument::Place(name, help) => Arg::new(alloc, name)
+            .required(true)
+            .action(ArgAction::Set)
+            .help(help),
+        Argument::Value(name, value, help) => value_option(alloc, name, value, help),
+        Argument::Workers(name, help) => value_option(alloc, name, "N", help).value_parser(
+            ValueParser::Unsigned(1, WORKER_LIMIT),
+        ),
+        Argument::Flag(name, help) => Arg::new(alloc, name)
+            .long(name)
+            .action(ArgAction::SetTrue)
+            .help(help),
+    }
 }
 
-/// The command `conditions` with its file and the number of a condition.
-fn listing_command<'a>(alloc: Global) -> Result<Command<'a>, AllocError>
-    ensures app { IfOk result (λ command. app_of command ≡ listing_app) }
+/// A command with its arguments.
+fn command_of<'a>(alloc: Global, described: &Described) -> Result<Command<'a>, AllocError>
+    ensures app { IfOk result (λ command. app_of command ≡ app_for described.now) }
     ensures local { IfOk result (λ command. (out-Command command).has_globals ≡ false) }
 {
-    Command::new(alloc, "conditions")
-        .about(CONDITIONS)
-        .after_help(CONDITIONS_ANSWER)
-        .arg(file(alloc, "DEV", DEVELOPMENT))?
-        .arg(value_option(alloc, "at", "K", CONDITION_NUMBER))
+    let mut command = Command::new(alloc, described.name)
+        .about(described.about)
+        .after_help(described.answer);
+    for argument in described.arguments {
+        command = command.arg(arg_of(alloc, *argument))?;
+    }
+    Ok(command)
 }
 
-fn conditions_command<'a>(alloc: Global) -> Result<Command<'a>, AllocError>
-    ensures app { IfOk result (λ command. app_of command ≡ conditions_app) }
-    ensures local { IfOk result (λ command. (out-Command command).has_globals ≡ false) }
+/// The program with these commands.
+fn program_of<'a>(alloc: Global, commands: &[&Described]) -> Result<Command<'a>, AllocError>
+    ensures { IfOk result (λ command. app_of command ≡ program_for commands.now) }
 {
-    listing_command(alloc)?
-        .arg(value_option(alloc, "only", "POINT", CONDITION_POINT))?
-        .arg(value_option(alloc, "kind", "KIND", CONDITION_KIND))?
-        .arg(flag(alloc, "explain", EXPLAIN))
-}
-
-/// The command `check` with its files.
-fn check_files<'a>(alloc: Global) -> Result<Command<'a>, AllocError>
-    ensures app { IfOk result (λ command. app_of command ≡ check_files_app) }
-    ensures local { IfOk result (λ command. (out-Command command).has_globals ≡ false) }
-{
-    Command::new(alloc, "check")
-        .about(CHECK)
-        .after_help(CHECK_ANSWER)
-        .arg(file(alloc, "DEV", DEVELOPMENT))?
-        .arg(file(alloc, "CERT", CERTIFICATE_FILE))
-}
-
-/// An option with a number of workers.
-fn workers<'a>(alloc: Global) -> Arg<'a>
-    ensures rule { rule_of result ≡ workers_rule }
-    ensures local { result.global ≡ false }
-{
-    value_option(alloc, "workers", "N", WORKERS).value_parser(ValueParser::Unsigned(
-        1,
-        WORKER_LIMIT,
-    ))
-}
-
-/// The command `check` with its files and the number of workers.
-fn check_workers<'a>(alloc: Global) -> Result<Command<'a>, AllocError>
-    ensures app { IfOk result (λ command. app_of command ≡ check_workers_app) }
-    ensures local { IfOk result (λ command. (out-Command command).has_globals ≡ false) }
-{
-    check_files(alloc)?.arg(workers(alloc))
-}
-
-fn check_command<'a>(alloc: Global) -> Result<Command<'a>, AllocError>
-    ensures app { IfOk result (λ command. app_of command ≡ check_app) }
-    ensures local { IfOk result (λ command. (out-Command command).has_globals ≡ false) }
-{
-    check_workers(alloc)?
-        .arg(flag(alloc, "all", CHECK_ALL))?
-        .arg(flag(alloc, "progress", CHECK_PROGRESS))?
-        .arg(flag(alloc, "explain", EXPLAIN))
-}
-
-/// The command `prove` with its files.
-fn prove_files<'a>(alloc: Global) -> Result<Command<'a>, AllocError>
-    ensures app { IfOk result (λ command. app_of command ≡ prove_files_app) }
-    ensures local { IfOk result (λ command. (out-Command command).has_globals ≡ false) }
-{
-    Command::new(alloc, "prove")
-        .about(PROVE)
-        .after_help(PROVE_ANSWER)
-        .arg(file(alloc, "DEV", DEVELOPMENT))?
-        .arg(file_option(alloc, "hints", HINTS))
-}
-
-fn prove_command<'a>(alloc: Global) -> Result<Command<'a>, AllocError>
-    ensures app { IfOk result (λ command. app_of command ≡ prove_app) }
-    ensures local { IfOk result (λ command. (out-Command command).has_globals ≡ false) }
-{
-    prove_files(alloc)?
-        .arg(flag(alloc, "progress", PROGRESS))?
-        .arg(flag(alloc, "explain", EXPLAIN))
-}
-
-/// The command `carry` with its files.
-fn carry_files<'a>(alloc: Global) -> Result<Command<'a>, AllocError>
-    ensures app { IfOk result (λ command. app_of command ≡ carry_files_app) }
-    ensures local { IfOk result (λ command. (out-Command command).has_globals ≡ false) }
-{
-    Command::new(alloc, "carry")
-        .about(CARRY)
-        .after_help(CARRY_ANSWER)
-        .arg(file(alloc, "OLD", OLD))?
-        .arg(file(alloc, "CERT", OLD_CERTIFICATE))?
-        .arg(file(alloc, "NEW", NEW_DEVELOPMENT))
-}
-
-fn carry_command<'a>(alloc: Global) -> Result<Command<'a>, AllocError>
-    ensures app { IfOk result (λ command. app_of command ≡ carry_app) }
-    ensures local { IfOk result (λ command. (out-Command command).has_globals ≡ false) }
-{
-    carry_files(alloc)?
-        .arg(file_option(alloc, "hints", NEW_HINTS))?
-        .arg(flag(alloc, "progress", PROGRESS))?
-        .arg(flag(alloc, "explain", EXPLAIN))
-}
-
-/// The command `run` with its files.
-fn run_files<'a>(alloc: Global) -> Result<Command<'a>, AllocError>
-    ensures app { IfOk result (λ command. app_of command ≡ run_files_app) }
-    ensures local { IfOk result (λ command. (out-Command command).has_globals ≡ false) }
-{
-    Command::new(alloc, "run")
-        .about(RUN)
-        .after_help(RUN_ANSWER)
-        .arg(file(alloc, "DEV", DEVELOPMENT))?
-        .arg(file(alloc, "CERT", CERTIFICATE_FILE))?
-        .arg(file(alloc, "PLAN", PLAN_FILE))
-}
-
-fn run_command<'a>(alloc: Global) -> Result<Command<'a>, AllocError>
-    ensures app { IfOk result (λ command. app_of command ≡ run_app) }
-    ensures local { IfOk result (λ command. (out-Command command).has_globals ≡ false) }
-{
-    run_files(alloc)?.arg(flag(alloc, "explain", EXPLAIN))
-}
-
-/// An argument that names an object.
-fn object<'a>(alloc: Global, name: &'a str, help: &'a str) -> Arg<'a>
-    ensures rule { rule_of result ≡ object_rule name.entry.now }
-    ensures local { result.global ≡ false }
-{
-    Arg::new(alloc, name)
-        .required(true)
-        .action(ArgAction::Set)
-        .help(help)
-}
-
-/// An option without a value.
-fn flag<'a>(alloc: Global, name: &'a str, help: &'a str) -> Arg<'a>
-    ensures rule { rule_of result ≡ flag_rule name.entry.now }
-    ensures local { result.global ≡ false }
-{
-    Arg::new(alloc, name)
-        .long(name)
-        .action(ArgAction::SetTrue)
-        .help(help)
-}
-
-fn library_command<'a>(alloc: Global) -> Result<Command<'a>, AllocError>
-    ensures app { IfOk result (λ command. app_of command ≡ library_app) }
-    ensures local { IfOk result (λ command. (out-Command command).has_globals ≡ false) }
-{
-    Command::new(alloc, "library")
-        .about(LIBRARY)
-        .after_help(LIBRARY_ANSWER)
-        .arg(object(alloc, "NAME", OBJECT))?
-        .arg(flag(alloc, "certificate", LIBRARY_CERTIFICATE))?
-        .arg(flag(alloc, "hints", LIBRARY_HINTS))
-}
-
-fn new_command<'a>(alloc: Global) -> Result<Command<'a>, AllocError>
-    ensures app { IfOk result (λ command. app_of command ≡ begin_app) }
-    ensures local { IfOk result (λ command. (out-Command command).has_globals ≡ false) }
-{
-    Command::new(alloc, "new")
-        .about(NEW)
-        .after_help(NEW_ANSWER)
-        .arg(object(alloc, "NAME", NEW_NAME))
-}
-
-/// The program with its first two commands.
-fn first_commands<'a>(alloc: Global) -> Result<Command<'a>, AllocError>
-    ensures { IfOk result (λ command. app_of command ≡ first_app) }
-{
-    Command::new(alloc, "lincheck")
+    let mut program = Command::new(alloc, "lincheck")
         .version(VERSION)
         .about(ABOUT)
         .after_help(EXIT_STATUS)
-        .subcommand_required(true)
-        .subcommand(formula_command(alloc)?)?
-        .subcommand(judge_command(alloc)?)
+        .subcommand_required(true);
+    for described in commands {
+        program = program.subcommand(command_of(alloc, described)?)?;
+    }
+    Ok(program)
 }
 
-/// The program with its first four commands.
-fn further_commands<'a>(alloc: Global) -> Result<Command<'a>, AllocError>
-    ensures { IfOk result (λ command. app_of command ≡ further_app) }
-{
-    first_commands(alloc)?
-        .subcommand(show_command(alloc)?)?
-        .subcommand(conditions_command(alloc)?)
-}
-
-/// The program with its first six commands.
-fn proving_commands<'a>(alloc: Global) -> Result<Command<'a>, AllocError>
-    ensures { IfOk result (λ command. app_of command ≡ proving_app) }
-{
-    further_commands(alloc)?
-        .subcommand(check_command(alloc)?)?
-        .subcommand(prove_command(alloc)?)
-}
-
-/// The program with its first eight commands.
-fn carrying_commands<'a>(alloc: Global) -> Result<Command<'a>, AllocError>
-    ensures { IfOk result (λ command. app_of command ≡ carrying_app) }
-{
-    proving_commands(alloc)?
-        .subcommand(carry_command(alloc)?)?
-        .subcommand(library_command(alloc)?)
-}
-
-/// The program with its first ten commands.
-fn drawing_commands<'a>(alloc: Global) -> Result<Command<'a>, AllocError>
-    ensures { IfOk result (λ command. app_of command ≡ drawing_app) }
-{
-    carrying_commands(alloc)?
-        .subcommand(draw_command(alloc)?)?
-        .subcommand(new_command(alloc)?)
-}
-
+/// The program with its commands.
 pub(crate) fn program<'a>(alloc: Global) -> Result<Command<'a>, AllocError>
     ensures { IfOk result (λ command. app_of command ≡ program_app) }
 {
-    drawing_commands(alloc)?.subcommand(run_command(alloc)?)
+    let commands = [
+        &FORMULA_COMMAND,
+        &JUDGE_COMMAND,
+        &SHOW_COMMAND,
+        &CONDITIONS_COMMAND,
+        &CHECK_COMMAND,
+        &PROVE_COMMAND,
+        &CARRY_COMMAND,
+        &LIBRARY_COMMAND,
+        &DRAW_COMMAND,
+        &NEW_COMMAND,
+        &RUN_COMMAND,
+    ];
+    program_of(alloc, &commands)
 }

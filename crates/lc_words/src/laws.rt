@@ -8,7 +8,7 @@ pub fn words_ask_for_their_task()
     ensures { (name : List ℕ) (task : Task) → HasPlainPaths task → AskFor (words_for name task) task }
 {}
 
-/// With `--explain` behind them they ask for the same task, where it reads files, and that a refusal is explained.
+/// With `--explain` after them they ask for the same task, if it reads files, and that a refusal is explained.
 pub fn a_refusal_may_be_explained()
     ensures { (name : List ℕ) (task : Task) → HasPlainPaths task → ReadsFiles task →
         AskFor (words_for name task ++ codes "--explain" ∷ []) task × AskForReasons (words_for name task ++ codes "--explain" ∷ []) }

@@ -295,9 +295,9 @@ fn fault_in(matches: &ArgMatches<'_>) -> (ErrorKind, &'static str)
     }
 }
 
-/// Reads the words of the command line, of which the first is the name of the program.
+/// Reads the words of the command line; the first is the name of the program.
 ///
-/// An error has the text to be shown, also where help was asked for.
+/// An error has the text to be shown, also if help was asked for.
 pub fn read_words<'a>(alloc: Global, words: &'a [String]) -> Result<Asked<'a>, Error>
     ensures reads { IfOk result (λ asked. Reads (texts_of words.entry.now) asked.request) }
     ensures explained { IfOk result (λ asked. asked.is_explained ≡ is_explained (subcommand_of program_app (texts_of words.entry.now))) }

@@ -14,7 +14,7 @@ pub enum LibraryText {
 pub enum Chosen<'a> {
     /// The one of this number.
     Number(u64),
-    /// Those of a point and of a kind, where these are named.
+    /// Those of a point and of a kind, if these are named.
     Those {
         point: Option<&'a str>,
         kind: Option<&'a str>,
@@ -41,8 +41,8 @@ pub enum Request<'a> {
         development: &'a str,
         chosen: Chosen<'a>,
     },
-    /// Check the certificate in a file against the development in another, by so many workers, if a number is given; and say which
-    /// conditions are not proved, and how far it is, which is not said of workers.
+    /// Check the certificate in a file against the development in another, by `workers` workers, if a number is given; and say
+    /// which conditions are not proved, and how far it is, which is not said of workers.
     Check {
         development: &'a str,
         certificate: &'a str,

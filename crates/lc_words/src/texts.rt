@@ -1,10 +1,10 @@
 //! What each command says of itself when it is asked for help.
 
-pub(crate) static VERSION: &str = "0.1.0";
+pub(crate) const VERSION: &str = "0.1.0";
 
-pub(crate) static ABOUT: &str = "Checks written proofs that concurrent objects are linearizable";
+pub(crate) const ABOUT: &str = "Checks written proofs that concurrent objects are linearizable";
 
-pub(crate) static EXIT_STATUS: &str = "\
+pub(crate) const EXIT_STATUS: &str = "\
 A file that is not accepted is answered by one line on standard output: `refused`, a code, and numbers. With --explain each
 command that reads files also says where and why, on standard error.
 
@@ -30,14 +30,14 @@ Examples:
   lincheck library queue
       prints a queue, with all that is claimed of it";
 
-pub(crate) static EXPLAIN: &str = "Say on standard error where and why a file is refused";
+pub(crate) const EXPLAIN: &str = "Say on standard error where and why a file is refused";
 
-pub(crate) static FORMULA: &str = "Checks the proof of one formula";
+pub(crate) const FORMULA: &str = "Checks the proof of one formula";
 
-pub(crate) static FORMULA_FILE: &str =
+pub(crate) const FORMULA_FILE: &str =
     "A formula file: one form with the parts vars, cols, hyps, goal and proof";
 
-pub(crate) static FORMULA_ANSWER: &str = "\
+pub(crate) const FORMULA_ANSWER: &str = "\
 Reads FILE, which states that a goal follows from hypotheses, and gives a proof of it. Prints `proved` if each
 step of the proof holds. Else it prints one line:
   refused 1 OFFSET     the byte there makes the text no s-expressions
@@ -53,15 +53,15 @@ Example:
   lincheck formula examples/first.formula
       reads that x = y follows from x <= y and y <= x, and prints `proved`";
 
-pub(crate) static JUDGE: &str = "Judges whether an order linearizes a history";
+pub(crate) const JUDGE: &str = "Judges whether an order linearizes a history";
 
-pub(crate) static JUDGE_DEVELOPMENT: &str =
+pub(crate) const JUDGE_DEVELOPMENT: &str =
     "A file that begins with a specification; what stands behind it is not looked at";
 
-pub(crate) static JUDGE_HISTORY: &str =
+pub(crate) const JUDGE_HISTORY: &str =
     "A JSON file: an object with the arrays `events` and `order`";
 
-pub(crate) static JUDGE_ANSWER: &str = "\
+pub(crate) const JUDGE_ANSWER: &str = "\
 Reads the specification of an object in DEV, and in HISTORY the calls and returns of its clients, with an order of the
 calls. Prints `linearizable` if the clients can have seen the object do the calls one after the other, in that order.
 Else it prints one line:
@@ -82,9 +82,9 @@ Example:
   lincheck judge examples/counter.spec examples/linearizable.json
       reads how two clients counted at the same time, and prints `linearizable`";
 
-pub(crate) static DRAW: &str = "Draws a history with its order";
+pub(crate) const DRAW: &str = "Draws a history with its order";
 
-pub(crate) static DRAW_ANSWER: &str = "\
+pub(crate) const DRAW_ANSWER: &str = "\
 Reads DEV and HISTORY as `judge` does, and prints a picture as SVG: a line for each client, a bar for each call from its beginning
 to its return, open at the right where it has not returned, and in the bars the entries of the order as marks with their places.
 What makes the order no linearization stands out, and the reason stands below. A file that `judge` refuses by the codes 1 to 4,
@@ -94,14 +94,14 @@ Example:
   lincheck draw examples/counter.spec examples/linearizable.json > history.svg
       prints a picture of two clients that counted at the same time";
 
-pub(crate) static DEVELOPMENT: &str =
+pub(crate) const DEVELOPMENT: &str =
     "A development: a specification, the object's code, and what is claimed of it";
 
-pub(crate) static SHOW: &str = "Prints a development as it was read";
+pub(crate) const SHOW: &str = "Prints a development as it was read";
 
-pub(crate) static SHOW_LINES: &str = "Lay it out over lines, with indentation";
+pub(crate) const SHOW_LINES: &str = "Lay it out over lines, with indentation";
 
-pub(crate) static SHOW_ANSWER: &str = "\
+pub(crate) const SHOW_ANSWER: &str = "\
 Reads DEV and prints it on two lines, the specification and the object, without comments, with one space between items; the
 names that quantifiers bind are b0, b1, and so on, counted from the outermost. A DEV that is no development is refused as by
 `check`.
@@ -115,12 +115,12 @@ Examples:
   lincheck show examples/counter.lc --lines
       prints them over lines with indentation";
 
-pub(crate) static NEW: &str = "Prints a development to begin with";
+pub(crate) const NEW: &str = "Prints a development to begin with";
 
-pub(crate) static NEW_NAME: &str =
+pub(crate) const NEW_NAME: &str =
     "Its name: a letter or `_`, then letters, digits, `_`, `-` and `.`";
 
-pub(crate) static NEW_ANSWER: &str = "\
+pub(crate) const NEW_ANSWER: &str = "\
 Prints a small development of this name, a cell that clients put a number into and get it from, with a comment at each part that
 says what it is for. No file is read. A NAME that means something else in developments, as `self`, is refused as by `show`.
 
@@ -129,9 +129,9 @@ Example:
   lincheck show mine.lc --lines
       prints the development without its comments";
 
-pub(crate) static CONDITIONS: &str = "Prints what has to be proved of a development";
+pub(crate) const CONDITIONS: &str = "Prints what has to be proved of a development";
 
-pub(crate) static CONDITIONS_ANSWER: &str = "\
+pub(crate) const CONDITIONS_ANSWER: &str = "\
 Reads DEV and prints a line for each of its conditions, and then `total` with their number:
   (condition K KIND POINT EDGE PATH NUM (vars V) (hyps F ..) (goal F))
 Where the goal of each follows from its hypotheses, in every state and for all numbers of its variables, the object is
@@ -148,18 +148,18 @@ Examples:
   lincheck conditions examples/counter.lc --only p1 --kind invariant
       prints the conditions that the invariant holds behind the point p1";
 
-pub(crate) static CONDITION_NUMBER: &str = "Print the condition of this number alone, over lines";
+pub(crate) const CONDITION_NUMBER: &str = "Print the condition of this number alone, over lines";
 
-pub(crate) static CONDITION_POINT: &str = "Print those alone that stand at this point";
+pub(crate) const CONDITION_POINT: &str = "Print those alone that stand at this point";
 
-pub(crate) static CONDITION_KIND: &str = "Print those alone that are of this kind, as `stable`";
+pub(crate) const CONDITION_KIND: &str = "Print those alone that are of this kind, as `stable`";
 
-pub(crate) static CHECK: &str = "Checks that a certificate proves a development";
+pub(crate) const CHECK: &str = "Checks that a certificate proves a development";
 
-pub(crate) static CERTIFICATE_FILE: &str =
+pub(crate) const CERTIFICATE_FILE: &str =
     "A certificate: one form with a proof for each condition, by its number";
 
-pub(crate) static CHECK_ANSWER: &str = "\
+pub(crate) const CHECK_ANSWER: &str = "\
 Reads DEV and, where it is a development, CERT. Prints `accepted NAME COUNT`, the name of the object and how many
 conditions it has, if CERT has a proof for each of them and each step holds. Then for every number of clients, however
 their steps come between each other, the history of their calls and returns is linearizable. Else it prints one line:
@@ -187,24 +187,23 @@ Examples:
   lincheck check examples/counter.lc examples/counter.cert --workers 4
       prints the same, sooner where there is much to check";
 
-pub(crate) static WORKERS: &str =
+pub(crate) const WORKERS: &str =
     "How many workers check proofs side by side, from 1 to 64; excludes --progress";
 
-pub(crate) static CHECK_ALL: &str =
+pub(crate) const CHECK_ALL: &str =
     "Say on standard error of each condition that has no proof, or one that does not hold";
 
-pub(crate) static CHECK_PROGRESS: &str =
+pub(crate) const CHECK_PROGRESS: &str =
     "Say on standard error how many conditions are proved, a hundred times at most";
 
-pub(crate) static PROVE: &str = "Finds a certificate of a development";
+pub(crate) const PROVE: &str = "Finds a certificate of a development";
 
-pub(crate) static HINTS: &str =
-    "Hints: terms, formulas and proofs for conditions, by their numbers";
+pub(crate) const HINTS: &str = "Hints: terms, formulas and proofs for conditions, by their numbers";
 
-pub(crate) static PROGRESS: &str =
+pub(crate) const PROGRESS: &str =
     "Say on standard error, by `condition K`, which condition is looked at";
 
-pub(crate) static PROVE_ANSWER: &str = "\
+pub(crate) const PROVE_ANSWER: &str = "\
 Reads DEV and, where it is a development, the hints in FILE. Looks for a proof of each condition, and prints a certificate
 of all, which `check` accepts. Else it prints one line:
   refused CODE ..  DEV is no development, or FILE no hints: the codes 1 to 6, as of `check`
@@ -218,18 +217,18 @@ Example:
   lincheck prove examples/counter.lc
       prints a certificate of the counter, with 59 proofs";
 
-pub(crate) static CARRY: &str = "Finds a certificate of a development that was changed";
+pub(crate) const CARRY: &str = "Finds a certificate of a development that was changed";
 
-pub(crate) static OLD: &str = "The development before it was changed";
+pub(crate) const OLD: &str = "The development before it was changed";
 
-pub(crate) static OLD_CERTIFICATE: &str = "Its certificate, which `check` accepts";
+pub(crate) const OLD_CERTIFICATE: &str = "Its certificate, which `check` accepts";
 
-pub(crate) static NEW_DEVELOPMENT: &str = "The development after it was changed";
+pub(crate) const NEW_DEVELOPMENT: &str = "The development after it was changed";
 
-pub(crate) static NEW_HINTS: &str =
+pub(crate) const NEW_HINTS: &str =
     "Hints for NEW: terms, formulas and proofs for its conditions, by their numbers";
 
-pub(crate) static CARRY_ANSWER: &str = "\
+pub(crate) const CARRY_ANSWER: &str = "\
 Reads OLD and its certificate CERT, and then NEW and the hints in FILE. A condition of NEW that reads as one of OLD from `(vars`
 on has the proof of that one, with the columns of the same names. For the others a proof is looked for as by `prove`. Prints a
 certificate of NEW, which `check` accepts. Else it prints one line:
@@ -243,12 +242,12 @@ Example:
   lincheck carry examples/counter.lc examples/counter.cert examples/faa_counter.lc
       prints a certificate of a counter that adds in one step, with 51 proofs";
 
-pub(crate) static RUN: &str = "Runs a development by clients in threads";
+pub(crate) const RUN: &str = "Runs a development by clients in threads";
 
-pub(crate) static PLAN_FILE: &str =
+pub(crate) const PLAN_FILE: &str =
     "A plan: how many clients there are, and which calls they make in phases";
 
-pub(crate) static RUN_ANSWER: &str = "\
+pub(crate) const RUN_ANSWER: &str = "\
 Reads DEV and CERT as `check` does, and then PLAN. Runs the object by the clients of the plan, each in a thread of its own: the phases
 come one after another, and in each its clients make their calls side by side. Prints `linearizable COUNT`, with the number of calls
 that took effect, then a line for each client that did not come to its end, and then the history with an order of these calls that
@@ -263,16 +262,16 @@ Example:
   lincheck run examples/counter.lc examples/counter.cert examples/counter.plan
       prints `linearizable 201`, and how two clients counted to 200";
 
-pub(crate) static LIBRARY: &str = "Prints an object of the library";
+pub(crate) const LIBRARY: &str = "Prints an object of the library";
 
-pub(crate) static OBJECT: &str =
+pub(crate) const OBJECT: &str =
     "The object: counter, stack, lock, snapshot, combining, rendezvous, queue or pool-stack";
 
-pub(crate) static LIBRARY_CERTIFICATE: &str = "Prints its certificate";
+pub(crate) const LIBRARY_CERTIFICATE: &str = "Prints its certificate";
 
-pub(crate) static LIBRARY_HINTS: &str = "Prints its hints";
+pub(crate) const LIBRARY_HINTS: &str = "Prints its hints";
 
-pub(crate) static LIBRARY_ANSWER: &str = "\
+pub(crate) const LIBRARY_ANSWER: &str = "\
 Prints the development of an object, with comments that explain it; or its certificate, which `check` accepts; or its hints, with
 which `prove` makes that certificate. No file is read.
 

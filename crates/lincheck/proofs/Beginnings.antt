@@ -1,4 +1,4 @@
--- What is told of a name of which a development is to be begun.
+-- What is reported about a name for which a development is to be begun.
 use Rattle.std.proofs.Common.{◌≡◌, ℕ, List, Result, Ok, Err, IfOk, inl, subst}
 use Rattle.lc_base.specs.declared.memory.OutOfMemory.{OutOfMemory}
 use Rattle.lc_base.specs.declared.refusal.Fault.{Fault}

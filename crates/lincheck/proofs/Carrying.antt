@@ -96,7 +96,7 @@ pub sought_answered : (E : Development) (given : List Entry) (found : Result Cer
 sought_answered E given (Ok c) text status accepted range first told = inl (record { proofs = entries_in c; line = told.0; accepted = subst (IsProvenBy E) (sym told.0) accepted; first = first }, told.1)
 sought_answered E given (Err fault) text status accepted range first told = inr (fault, range, told)
 
--- without hints nothing stands behind what is carried
+-- without hints nothing comes after what is carried
 pub alone_answered : (E : Development) (given hs : List Entry) (text : List ℕ) (status : ℕ) → hs ≡ [] → AnswersSought E (given ++ hs) text status → AnswersSought E given text status
 alone_answered E given hs text status none h = subst (λ l. AnswersSought E l text status) (ap (λ l. given ++ l) none ∙ append-nil given) h
 
@@ -185,20 +185,20 @@ task_answered_ok bytes_at old certificate new hints (Err failure) h = tt
 
 -- ---- files that cannot be opened
 
--- what could not be opened behind the first files cannot be later
+-- what could not be opened after the first files cannot be later
 pub later_unread : (CannotOpen CannotOpen' : List ℕ → Type 0) (before after : List ℕ → Option (List ℕ)) (new : List ℕ) (hints : Option (List ℕ)) → ((other : List ℕ) → after other ≡ before other)
     → ((other : List ℕ) → CannotOpen other → CannotOpen' other) → IsUnreadNew CannotOpen before new hints → IsUnreadNew CannotOpen' after new hints
 later_unread CannotOpen CannotOpen' before after new None keeps closed unread = closed new unread
 later_unread CannotOpen CannotOpen' before after new (Some hints) keeps closed (inl unread) = inl (closed new unread)
 later_unread CannotOpen CannotOpen' before after new (Some hints) keeps closed (inr (file, E, known, says, unread)) = inr (file, E, keeps new ∙ known, says, closed hints unread)
 
--- the task of these paths, where a file of it cannot be opened
+-- the task of these paths, if a file of it cannot be opened
 pub task_unread : (CannotOpen : List ℕ → Type 0) (bytes_at : List ℕ → Option (List ℕ)) (old certificate new : List ℕ) (hints : Option (List ℕ)) → IsUnread CannotOpen bytes_at (carrying old certificate new hints)
     → IsUnreadCarry CannotOpen bytes_at old certificate new hints
 task_unread CannotOpen bytes_at old certificate new None unread = unread
 task_unread CannotOpen bytes_at old certificate new (Some hints) unread = unread
 
--- where the first files are opened, it is one behind them
+-- if the first files are opened, it is one after them
 pub unread_behind : (CannotOpen : List ℕ → Type 0) (bytes_at : List ℕ → Option (List ℕ)) (old certificate new : List ℕ) (hints : Option (List ℕ)) → (IsUnread CannotOpen bytes_at (CheckCertificate old certificate) → ⊥)
     → IsUnreadCarry CannotOpen bytes_at old certificate new hints → IsUnreadNew CannotOpen bytes_at new hints
 unread_behind CannotOpen bytes_at old certificate new hints opens (inl closed) = absurd (opens (inl closed))
@@ -213,7 +213,7 @@ opens_refused : (D : Development) (file proofs : List ℕ) (answer : Answer) →
 opens_refused D file proofs answer says proven (inl tells) = says_not_refused file_reading file D tells.0 says tells.1
 opens_refused D file proofs answer says proven (inr (E, other, refuses)) = proven_refused D E file proofs answer says other proven refuses
 
--- where the first files are refused, none is behind them
+-- if the first files are refused, none is opened after them
 pub none_behind : (CannotOpen : List ℕ → Type 0) (bytes_at : List ℕ → Option (List ℕ)) (old certificate new : List ℕ) (hints : Option (List ℕ)) (answer : Answer)
     → (IsUnread CannotOpen bytes_at (CheckCertificate old certificate) → ⊥) → IfSome (bytes_at old) (λ file. OpensOld file (bytes_at certificate) (Err answer))
     → IsUnreadCarry CannotOpen bytes_at old certificate new hints → ⊥
@@ -223,7 +223,7 @@ none_behind CannotOpen bytes_at old certificate new hints answer opens refused (
     let dev = subst (λ o. IfSome o (λ f. OpensOld f (bytes_at certificate) (Err answer))) known refused in
     opens_refused D file proofs answer says proven (subst (λ o. OpensOld file o (Err answer)) there dev)
 
--- where the new development is refused, the hints are not opened
+-- if the new development is refused, the hints are not opened
 pub refused_new : (CannotOpen : List ℕ → Type 0) (bytes_at : List ℕ → Option (List ℕ)) (new : List ℕ) (hints : Option (List ℕ)) (answer : Answer) → (CannotOpen new → ⊥)
     → IfSome (bytes_at new) (λ file. TellsRefusal file answer.text.items answer.status) → IsUnreadNew CannotOpen bytes_at new hints → ⊥
 refused_new CannotOpen bytes_at new None answer opens tells unread = opens unread
@@ -232,7 +232,7 @@ refused_new CannotOpen bytes_at new (Some hints) answer opens tells (inr (file, 
     let refuses : TellsRefusal file answer.text.items answer.status = subst (λ o. IfSome o (λ f. TellsRefusal f answer.text.items answer.status)) known tells in
     says_not_refused file_reading file E refuses.0 says refuses.1
 
--- where it is read, it is the hints that cannot be opened
+-- if it is read, it is the hints that cannot be opened
 pub unread_hints : (CannotOpen CannotOpen' : List ℕ → Type 0) (bytes_at : List ℕ → Option (List ℕ)) (new : List ℕ) (hints : Option (List ℕ)) (result : Result Answer Failure) → (CannotOpen new → ⊥)
     → ((other : List ℕ) → CannotOpen other → CannotOpen' other) → (IfSome hints CannotOpen' → IfSome hints (λ path. IsErr result)) → IsUnreadNew CannotOpen bytes_at new hints → IsErr result
 unread_hints CannotOpen CannotOpen' bytes_at new None result opens closed fails unread = absurd (opens unread)

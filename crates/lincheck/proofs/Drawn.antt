@@ -19,7 +19,7 @@ of_whole spec n file text status e is = elim (either (length file) n) [
   | inr h ↦ of_long spec n file text status e h is
 ]
 
--- what is told of what is read answers the file
+-- what is reported about what is read answers the file
 pub drawn_answered : (spec : Specification) (known : Option (List ℕ)) (bytes seen text : List ℕ) (status : ℕ)
     → IfSome known (λ file. bytes ≡ within_limit file) → seen ≡ bytes → AnswersDrawn spec seen text status → IfSome known (λ file. AnswersDrawn spec file text status)
 drawn_answered spec None bytes seen text status read same is = tt

@@ -18,7 +18,7 @@ pub Appends-none : (known : Option (List ℕ)) → Appends known known []
 Appends-none None = tt
 Appends-none (Some xs) = sym (append-nil xs)
 
--- one text is written behind another
+-- one text is written after another
 pub Appends-more : (before written after : Option (List ℕ)) (done more : List ℕ) → Appends before written done → Appends written after more → Appends before after (done ++ more)
 Appends-more None written after done more first second = tt
 Appends-more (Some xs) None after done more first second = absurd first
@@ -38,7 +38,7 @@ leaves_less before written after left piece seen rest text (Err e) leaves cut sa
 leaves_less before written after left piece seen rest text (Ok u) (done, is, first) cut same none appends =
     (done ++ piece, is ∙ ap (λ l. done ++ l) cut ∙ sym (append_assoc done piece rest), Appends-more before written after done piece first (subst (λ p. Appends written after p) same appends))
 
--- for want of memory nothing is printed at first, and a beginning later
+-- on `OutOfMemory` nothing is printed at first, and a beginning later
 pub prints_nothing : (known : Option (List ℕ)) (text : List ℕ) → PrintsText known known text (Err OutOfMemory)
 prints_nothing known text = (text, leaves_all known text)
 
@@ -68,7 +68,7 @@ leaves_asked bytes_at asked task before after r same leaves = subst (λ (t : Tas
 
 -- ---- how the program ends
 
--- for want of memory for the command line
+-- when memory runs out for the command line
 pub ends_unread : (task : Task) (IsAnswer : List ℕ → ℕ → Type 0) (before after : Option (List ℕ)) (status : ℕ) → (status ≡ 4) × (after ≡ before) → Ends task IsAnswer before after status
 ends_unread task IsAnswer before after status (four, same) = inl (inr four, subst (λ a. Keeps before a) (sym same) (Keeps-same before))
 

@@ -6,12 +6,12 @@ use Rattle.std.proofs.Math.Nat.{min-le_left, min-le_right}
 use Rattle.std.specs.Io.KnownBytes.{Consumes, Keeps}
 use Rattle.lincheck.specs.Reading.{IsFedOn, most_bytes}
 
--- as it stood in between: so many bytes of the limit are left, and a sink was fed those that were read
+-- as it was in between: `left` bytes of the limit are left, and a sink was fed those that were read
 abbrev pub IsFedSoFar : {S X : Type 0} → (S → X → List ℕ → Type 0) → S → S → Option (List ℕ) → Option (List ℕ) → ℕ → Type 0
 IsFedSoFar WasFed old new before after left =
     (bytes : List ℕ) × (length bytes + left ≡ most_bytes) × Consumes before after bytes × IsFedOn WasFed old new bytes
 
--- there is as much room as is left, and as the buffer has, which keeps its length where its front is filled
+-- there is as much room as is left, and as the buffer has, which keeps its length if its front is filled
 pub filled : (front piece : List ℕ) (room left : ℕ) → room ≡ min left 16384 → length piece ≡ 16384 → length front ≡ length (take room piece)
     → (room ≤ left) × (length front ≡ room) × (length (front ++ drop room piece) ≡ 16384)
 filled front piece room left is whole same =
@@ -24,7 +24,7 @@ filled front piece room left is whole same =
 pub front_given : (n : ℕ) (front rest : List ℕ) → n ≤ length front → take n (front ++ rest) ≡ take n front
 front_given n front rest h = take-append-le n front rest h
 
--- what holds where a call succeeds holds where it did not fail
+-- what holds if a call succeeds holds if it did not fail
 pub fed_on : {T E : Type 0} (result : Result T E) (P : Type 0) → false ≡ is_err result → OnOk result P → P
 fed_on (Ok x) P e h = h
 fed_on (Err x) P e h = absurd (cc)

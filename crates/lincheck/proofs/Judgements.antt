@@ -99,7 +99,7 @@ of_whole spec n file judgement e is = elim (either (length file) n) [
   | inr h ↦ of_long spec n file judgement e h is
 ]
 
--- what is told of the judgement of what is read answers the file
+-- what is reported about the judgement of what is read answers the file
 pub history_answered : (spec : Specification) (known : Option (List ℕ)) (bytes seen : List ℕ) (judgement : Result Judgement Fault) (text : List ℕ) (status : ℕ)
     → IfSome known (λ file. bytes ≡ within_limit file) → seen ≡ bytes → IsJudgement spec seen judgement → ToldJudgement judgement text status
     → IfSome known (λ file. AnswersHistory spec file text status)
@@ -107,7 +107,7 @@ history_answered spec None bytes seen judgement text status read same is told = 
 history_answered spec (Some file) bytes seen judgement text status read same is told =
     (judgement, of_whole spec most_bytes file judgement refl (subst (λ b. IsJudgement spec b judgement) (same ∙ read) is), told)
 
--- what is told of the history answers both files, where the development is read
+-- what is reported about the history answers both files, if the development is read
 pub read_answered : (Answers : Specification → List ℕ → List ℕ → ℕ → Type 0) (known history history' : Option (List ℕ)) (bytes seen : List ℕ) (spec : Specification) (text : List ℕ) (status : ℕ)
     → IfSome known (λ file. bytes ≡ within_limit file) → seen ≡ bytes → Says first_reading seen spec → history' ≡ history → IfSome history' (λ file. Answers spec file text status)
     → IfSome known (λ file. AnswersBoth Answers file history text status)
@@ -115,7 +115,7 @@ read_answered Answers None history history' bytes seen spec text status read sam
 read_answered Answers (Some file) history history' bytes seen spec text status read same says keeps answers =
     inr (spec, said_of_whole first_reading file spec (subst (λ b. Says first_reading b spec) (same ∙ read) says), subst (λ h. IfSome h (λ f. Answers spec f text status)) keeps answers)
 
--- likewise where it may not be told
+-- so it does if it may not be reported
 pub read_answered_if : (Answers : Specification → List ℕ → List ℕ → ℕ → Type 0) (known history history' : Option (List ℕ)) (bytes seen : List ℕ) (spec : Specification) (result : Result Answer Failure)
     → IfSome known (λ file. bytes ≡ within_limit file) → seen ≡ bytes → Says first_reading seen spec → history' ≡ history
     → IfOk result (λ answer. IfSome history' (λ file. Answers spec file answer.text.items answer.status))
@@ -124,7 +124,7 @@ read_answered_if Answers known history history' bytes seen spec (Ok answer) read
     read_answered Answers known history history' bytes seen spec answer.text.items answer.status read same says keeps answers
 read_answered_if Answers known history history' bytes seen spec (Err failure) read same says keeps answers = tt
 
--- what is told of the refusal of the development answers both files
+-- what is reported about the refusal of the development answers both files
 pub refused_answered : (Answers : Specification → List ℕ → List ℕ → ℕ → Type 0) (known history : Option (List ℕ)) (bytes seen : List ℕ) (fault : Fault) (text : List ℕ) (status : ℕ)
     → IfSome known (λ file. bytes ≡ within_limit file) → seen ≡ bytes → IsAnswerTo specification_of first_reading seen (Err fault) → ToldFault fault text status
     → IfSome known (λ file. AnswersBoth Answers file history text status)
@@ -133,7 +133,7 @@ refused_answered Answers (Some file) history bytes seen (Refused refusal) text s
     inl (refusal, refusal_of_whole first_reading file refusal (subst (λ b. IsFirstRefusal first_reading b refusal) (same ∙ read) is), told)
 refused_answered Answers (Some file) history bytes seen OutOfMemory text status read same is told = absurd told
 
--- where a file that is needed cannot be opened, and the development is read, there is no answer
+-- if a file that is needed cannot be opened, and the development is read, there is no answer
 pub read_unread : {T E : Type 0} (CannotOpen : List ℕ → Type 0) (bytes_at : List ℕ → Option (List ℕ)) (development history : List ℕ) (result : Result T E)
     → (CannotOpen development → ⊥) → (CannotOpen history → IsErr result) → IsUnread CannotOpen bytes_at (JudgeHistory development history) → IsErr result
 read_unread CannotOpen bytes_at development history result opened none (inl closed) = absurd (opened closed)

@@ -45,12 +45,12 @@ pub refusal_lays : {S T : Type 0} (view : S → Development) (text_in : T → Li
 refusal_lays view text_in bytes fault (Ok text) h told = absurd told
 refusal_lays view text_in bytes fault (Err f) h told = subst (λ (g : Fault). LaysOut text_in bytes (Err g)) (sym told) (answer_lays view text_in bytes fault h)
 
--- want of memory
+-- out of memory
 pub memory_lays : {T : Type 0} (text_in : T → List ℕ) (bytes : List ℕ) (result : Result T Fault) → IsErrAnd result (λ f. f ≡ OutOfMemory) → LaysOut text_in bytes result
 memory_lays text_in bytes (Ok text) told = absurd told
 memory_lays text_in bytes (Err f) told = subst (λ (g : Fault). LaysOut text_in bytes (Err g)) (sym told) tt
 
--- the forms, where they say a development
+-- the forms, if they say a development
 pub forms_lay : (bytes : List ℕ) (forms : Trees) (D : Development) (text : List ℕ) → ReadsAs bytes forms → Says file_reading bytes D → text ≡ laid_out forms → IsLaidOut bytes text
 forms_lay bytes forms D text reads (ts, reads', says) is = (ts, D, reads', says, is ∙ ap laid_out (one_reading_lem bytes forms ts reads reads'))
 
@@ -105,7 +105,7 @@ laid_says_it : ReadsBack → (file text : List ℕ) (D : Development) → IsLaid
 laid_says_it back file text D (forms, D', reads, says, is) (ts, reads', says') short =
     (forms, again back file text forms reads is short, ap file_reading (one_reading_lem file forms ts reads reads') ∙ says')
 
--- so it is laid out as it stands, and says what the file says
+-- so it is laid out as it is, and says what the file says
 pub lines_stay : ReadsBack → (file text : List ℕ) → AnswersLines file text 0 → length text ≤ file_limit → AnswersLines text text 0
 lines_stay back file text (inl (refusal, is, told)) short = absurd (let e : 0 ≡ 1 = told.1 in cc)
 lines_stay back file text (inr (laid, zero)) short = inr (laid_stays back file text laid short, refl)

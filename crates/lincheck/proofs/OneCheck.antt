@@ -11,7 +11,7 @@ use Rattle.lc_reading.specs.Files.{Says}
 use Rattle.lc_sound.specs.Linearizable.{IsLinearizableObject}
 use Rattle.lincheck.specs.Check.{accepted_line, AnswersCheck}
 
--- the two files are accepted, or they are refused, and that is told
+-- the two files are accepted, or they are refused, and that is reported
 data IsTold (dev cert : List ℕ) (text : List ℕ) (status : ℕ) : Type 0 where
   accepts : (D : Development) → IsAccepted dev cert D → text ≡ accepted_line D → status ≡ 0 → IsTold dev cert text status
   refuses : (r : Refusal) → IsRefused dev cert r → text ≡ refusal_line_of r → status ≡ 1 → IsTold dev cert text status

@@ -1,4 +1,4 @@
--- What is told of one condition, and of those that are chosen.
+-- What is reported about one condition, and about those that are chosen.
 use Rattle.std.proofs.Common.{◌≡◌, ℕ, suc, ◌+◌, List, [], ◌∷◌, ◌++◌, length, Option, Some, None, IfSome, IfOk, Result, Ok, Err, Vec, refl, ap, ap₂, ◌∙◌, inl, inr, arith}
 use Rattle.std.specs.declared.alloc.Global.{Global}
 use Rattle.lc_base.specs.declared.refusal.Fault.TheVariants.{Refused}
@@ -42,7 +42,7 @@ pub condition_refused : (k : ℕ) (known : Option (List ℕ)) (text : List ℕ) 
 condition_refused k None text status tells = tt
 condition_refused k (Some file) text status tells = inl tells
 
--- ---- where nothing is asked for all are chosen
+-- ---- if nothing is asked for all are chosen
 
 all_lines : (D : Development) (k : ℕ) (cs : List Condition) → chosen_from None None D k cs ≡ lines_from D k cs
 all_lines D k [] = refl

@@ -37,7 +37,7 @@ refused (Some file) bytes seen (Refused refusal) text status read same is told =
     (refusal, refusal_of_whole file_reading file refusal (subst (λ b. IsFirstRefusal file_reading b refusal) (same ∙ read) is), told)
 refused (Some file) bytes seen OutOfMemory text status read same is told = absurd told
 
--- a text of a development that is read answers its file, and so does a refusal that is told
+-- a text of a development that is read answers its file, and so does a refusal that is reported
 pub shown : (text_of : S.Development → List ℕ) (known : Option (List ℕ)) (D : S.Development) (text : List ℕ) → IfSome known (λ file. Says file_reading file D) → text ≡ text_of D
     → IfSome known (λ file. AnswersDevelopment text_of file text 0)
 shown text_of None D text says is = tt
@@ -62,7 +62,7 @@ pub refusal_of_certificate : (D : S.Development) (file : List ℕ) (refusal : Re
 refusal_of_certificate D file refusal (inl first) = inl (certificate_of_whole D file refusal first)
 refusal_of_certificate D file refusal (inr (es, certifies, refuses)) = inr (es, said_of_whole (certificate_reading D) file es certifies, refuses)
 
--- the verdict on what is read of it, told, answers the file
+-- the verdict on what is read of it, as it is reported, answers the file
 verdict_told : (D : S.Development) (file : List ℕ) (verdict : Verdict) (text : List ℕ) (status : ℕ) → IsVerdictOn D (within_limit file) verdict → TellsVerdict verdict text status → AnswersCertificate D file text status
 verdict_told D file (Accepted accepted) text status (same, proven) (is, zero) = inl (proven_of_whole D file proven, is ∙ ap accepted_line same, zero)
 verdict_told D file (IsRefused refusal) text status refuses told = inr (refusal, refusal_of_certificate D file refusal refuses, told)

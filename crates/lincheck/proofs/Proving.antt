@@ -29,7 +29,7 @@ use Rattle.lincheck.specs.declared.answer.Answer.{Answer}
 use Rattle.lincheck.specs.declared.answer.Failure.{Failure}
 use Rattle.lincheck.proofs.Truncated.{said_of_whole, refusal_of_whole}
 
--- a fault that is told is no want of memory
+-- a fault that is reported is not `OutOfMemory`
 told_other : (fault : FindFault) (text : List ℕ) (status : ℕ) → ToldUnfound fault text status → IsOkOrNoMemory {A = Certificate} (Err fault) → ⊥
 told_other (NotFound k) text status told none = none
 told_other (Budget k) text status told none = none

@@ -86,7 +86,7 @@ ran_text_is D E ran count ends order first lines history whole text same counted
     ∙ ap₂ ◌++◌ (is_first ∙ ap (λ n. line_of (codes "linearizable") (n ∷ [])) (counted ∙ sym (length-map ran.log.order.items entry_seen))) (ap (flat_map end_text) ended))
     (is_history ∙ ap₂ (λ (F : Development) o. history_text F.specification.operations (events_in ran.log.history) (entries_seen o)) same ordered))
 
--- its text is told by its labels
+-- the report of its text is that of its labels
 pub ran_told : (D : Development) (n : ℕ) (ran : Ran) (text : List ℕ) → IsRunOf D n ran → text ≡ ran_text D ran → TellsRun D n text
 ran_told D n ran text is same = (
   labels_of ran.log.labels.items,
@@ -140,7 +140,7 @@ run_refused (Some file) certificate plan answer tells = inl tells
 
 -- ---- files that cannot be opened
 
--- none behind a development that is refused
+-- none is opened after a development that is refused
 pub none_behind_refused : (CannotOpen : List ℕ → Type 0) (bytes_at : List ℕ → Option (List ℕ)) (development certificate plan : List ℕ) (answer : Answer) → (CannotOpen development → ⊥)
     → IfSome (bytes_at development) (λ file. TellsRefusal file answer.text.items answer.status) → IsUnreadRun CannotOpen bytes_at development certificate plan → ⊥
 none_behind_refused CannotOpen bytes_at development certificate plan answer opens tells (inl closed) = opens closed
@@ -148,7 +148,7 @@ none_behind_refused CannotOpen bytes_at development certificate plan answer open
     let told : TellsRefusal file answer.text.items answer.status = subst (λ o. IfSome o (λ f. TellsRefusal f answer.text.items answer.status)) known tells in
     says_not_refused file_reading file D told.0 says told.1
 
--- one behind a development that is read, which is the one that was read
+-- one is opened after a development that is read, which is the one that was read
 pub unread_behind_read : (CannotOpen CannotOpen' : List ℕ → Type 0) (bytes_at bytes_at' : List ℕ → Option (List ℕ)) (development certificate plan : List ℕ) (D : Development) → (CannotOpen development → ⊥)
     → IfSome (bytes_at development) (λ file. Says file_reading file D) → ((other : List ℕ) → bytes_at' other ≡ bytes_at other) → ((other : List ℕ) → CannotOpen other → CannotOpen' other)
     → IsUnreadRun CannotOpen bytes_at development certificate plan → IsUnreadPlan CannotOpen' bytes_at' D certificate plan
@@ -158,7 +158,7 @@ unread_behind_read CannotOpen CannotOpen' bytes_at bytes_at' development certifi
     let here : Says file_reading file D = subst (λ o. IfSome o (λ f. Says file_reading f D)) known read in
     inr (proofs, keeps certificate ∙ there, subst (λ x. IsProvenBy x proofs) (says_one file_reading file E D says here) proven, closed plan unread)
 
--- none behind a certificate that is refused
+-- none is opened after a certificate that is refused
 pub none_behind_unproven : (CannotOpen : List ℕ → Type 0) (bytes_at : List ℕ → Option (List ℕ)) (D : Development) (certificate plan : List ℕ) (answer : Answer) → (CannotOpen certificate → ⊥)
     → IfSome (bytes_at certificate) (λ file. OpensAccepted D file (Err answer)) → IsUnreadPlan CannotOpen bytes_at D certificate plan → ⊥
 none_behind_unproven CannotOpen bytes_at D certificate plan answer opens tells (inl closed) = opens closed
@@ -166,7 +166,7 @@ none_behind_unproven CannotOpen bytes_at D certificate plan answer opens tells (
     let told : RefusesCertificate D proofs answer.text.items answer.status = subst (λ o. IfSome o (λ f. OpensAccepted D f (Err answer))) known tells in
     not_certified_and_refused D proofs told.0 proven told.1
 
--- the plan, behind a certificate that is accepted
+-- the plan, after a certificate that is accepted
 pub unread_plan : (CannotOpen CannotOpen' : List ℕ → Type 0) (bytes_at : List ℕ → Option (List ℕ)) (D : Development) (certificate plan : List ℕ) → (CannotOpen certificate → ⊥)
     → ((other : List ℕ) → CannotOpen other → CannotOpen' other) → IsUnreadPlan CannotOpen bytes_at D certificate plan → CannotOpen' plan
 unread_plan CannotOpen CannotOpen' bytes_at D certificate plan opens closed (inl never) = absurd (opens never)

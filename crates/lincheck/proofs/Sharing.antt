@@ -1,4 +1,4 @@
--- What is answered where a certificate is checked, by itself or by so many workers.
+-- What is answered when a certificate is checked, by itself or by a number of workers.
 use Rattle.std.proofs.Common.{ℕ, List, Option, Some, None, IfSome}
 use Rattle.lc_words.specs.Tasks.{CheckCertificate, checking}
 use Rattle.lincheck.specs.Check.{AnswersCheck}

@@ -4,7 +4,7 @@ use Rattle.std.specs.Io.KnownBytes.{Consumes, IsAtEnd}
 use Rattle.std.proofs.lemmas.List.{take_all}
 use Rattle.std.proofs.Math.Seq.{take-append_seam}
 
--- where something is left, as much was read as the limit is
+-- if something is left, as much was read as the limit is
 at_limit : (n k : ℕ) (y : ℕ) (ys : List ℕ) → k ≤ n → (k + 1 ≤ n → y ∷ ys ≡ []) → n ≡ k
 at_limit n k y ys bound end = grind arith
 

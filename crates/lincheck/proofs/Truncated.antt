@@ -1,4 +1,4 @@
--- A file and its beginning, up to one byte behind the file limit, have the same readings and the same first fault.
+-- A file and its beginning, up to one byte beyond the file limit, have the same readings and the same first fault.
 use Rattle.std.proofs.Common.{◌≡◌, ℕ, zero, suc, ◌<◌, ◌≤◌, ◌==◌, ◌||◌, if◌then◌else◌, Bool, true, false, true≢false, ◌⊎◌, inl, inr, List, [], ◌∷◌, length, take, Option, Some, None, slice_get, refl, sym, ap, ap₂, ◌∙◌, subst, arith}
 use Rattle.std.proofs.lemmas.List.{take_all, length-take}
 use Rattle.lc_sexp.specs.Reads.{ReadsAs, IsFirstFault, text_of, is_wrong_at, is_wrong, open_count}
@@ -22,7 +22,7 @@ slice_get-take k (suc n) [] h = refl
 slice_get-take zero (suc n) (x ∷ l) h = refl
 slice_get-take (suc k) (suc n) (x ∷ l) h = slice_get-take k n l (omega arith)
 
--- one byte, and what is behind it, as it stands in a comment or not
+-- one byte, and what comes after it, by whether it is in a comment
 abbrev byte_before : Bool → Bool → ℕ → (Bool → List ℕ) → List ℕ
 byte_before ends in_comment b rest = if ends then 10 ∷ rest false else (if in_comment then 32 ∷ rest true else b ∷ rest false)
 
@@ -39,7 +39,7 @@ uncommented-take (suc n) c [] = refl
 uncommented-take (suc n) c (b ∷ s) =
     take-byte_before n (b == 10) (c || b == 59) b (λ d. uncommented d (take n s)) (λ d. uncommented d s) (λ d. uncommented-take n d s)
 
--- what stands before the end of a beginning is wrong in both or in none
+-- what comes before the end of a beginning is wrong in both or in none
 is_wrong_at-take : (n k : ℕ) (bytes : List ℕ) → k < n → is_wrong_at (text_of (take n bytes)) k ≡ is_wrong_at (text_of bytes) k
 is_wrong_at-take n k bytes h =
     let text : text_of (take n bytes) ≡ take n (text_of bytes) = uncommented-take n false bytes in
@@ -56,7 +56,7 @@ length-uncommented : (c : Bool) (bytes : List ℕ) → length (uncommented c byt
 length-uncommented c [] = refl
 length-uncommented c (b ∷ s) = length-byte_before (length s) (b == 10) (c || b == 59) b (λ d. uncommented d s) (λ d. length-uncommented d s)
 
--- the byte behind the limit is wrong
+-- the byte beyond the limit is wrong
 wrong_byte : (depth : ℕ) (byte : Option ℕ) (b : ℕ) → byte ≡ Some b → is_wrong file_limit depth byte ≡ true
 wrong_byte depth None b e = cc
 wrong_byte depth (Some x) b e = refl
@@ -76,7 +76,7 @@ either j zero = inr (omega arith)
 either zero (suc k) = inl (omega arith)
 either (suc j) (suc k) = elim (either j k) [ inl h ↦ inl (omega arith) | inr h ↦ inr (omega arith) ]
 
--- the first fault of a longer file stands at the limit at the latest
+-- the first fault of a longer file is at the limit at the latest
 within : (bytes : List ℕ) (offset : ℕ) → file_limit < length bytes → IsFirstFault bytes offset → offset ≤ file_limit
 within bytes offset long fault = elim (either file_limit offset) [
   | inl h ↦ absurd (true≢false (sym (wrong_at_limit bytes long) ∙ fault.first file_limit h))

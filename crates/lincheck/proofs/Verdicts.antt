@@ -63,7 +63,7 @@ verdict_of_whole file (Err (Refused refusal)) (inl first) = inl (refusal_of_whol
 verdict_of_whole file (Err (Refused refusal)) (inr (claim, step, flaw, says, fails, is)) = inr (claim, step, flaw, said_of_whole file_reading file claim says, fails, is)
 verdict_of_whole file (Err OutOfMemory) h = tt
 
--- what is told of the verdict on what is read answers the file
+-- what is reported about the verdict on what is read answers the file
 pub answered : (known : Option (List ℕ)) (bytes seen : List ℕ) (verdict : Result (Unit {0}) Fault) (text : List ℕ) (status : ℕ) → IfSome known (λ file. bytes ≡ within_limit file) → seen ≡ bytes
     → IsVerdict seen verdict → Told (codes "proved") verdict text status → IfSome known (λ file. AnswersFormula file text status)
 answered None bytes seen verdict text status read same is told = tt

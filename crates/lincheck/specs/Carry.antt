@@ -25,12 +25,12 @@ use Rattle.lincheck.specs.declared.carry.Old.{Old}
 
 -- ---- what is printed
 
--- The answer for a development where these proofs are tried first: a certificate and status 0; or a line that names a condition
+-- The answer for a development if these proofs are tried first: a certificate and status 0; or a line that names a condition
 abbrev pub AnswersSought : Development → List Entry → List ℕ → ℕ → Type 0
 AnswersSought E given text status =
     (IsFound E given text × (status ≡ 0)) ⊎ ((fault : FindFault) × IsInRange (length (conditions E)) fault × ToldUnfound fault text status)
 
--- the same, where hints are tried behind them: of no file; or of one, whose bytes may not be known
+-- the same, when hints are tried after them: of no file; or of one, whose bytes may not be known
 abbrev pub AnswersWith : Option (Option (List ℕ)) → Development → List Entry → List ℕ → ℕ → Type 0
 AnswersWith None E given text status = AnswersSought E given text status
 AnswersWith (Some hints) E given text status =
@@ -44,7 +44,7 @@ hints_at bytes_at path = option_map bytes_at path
 abbrev pub AnswersChanged : (Development → List Entry → List ℕ → ℕ → Type 0) → Development → List Entry → List ℕ → List ℕ → ℕ → Type 0
 AnswersChanged Answers D es file text status = TellsRefusal file text status ⊎ ((E : Development) × Says file_reading file E × Answers E (carried D es E) text status)
 
--- the file is no certificate that proves D, and its first refusal is told
+-- the file is no certificate that proves D, and its first refusal is reported
 abbrev pub RefusesCertificate : Development → List ℕ → List ℕ → ℕ → Type 0
 RefusesCertificate D file text status = (refusal : Refusal) × IsCertificateRefusal D file refusal × ToldFault (Refused refusal) text status
 
@@ -62,7 +62,7 @@ AnswersCarry Answers old certificate new text status =
 
 -- ---- files that are opened
 
--- the file of a certificate is opened: it is accepted, and has these proofs; or its refusal is told
+-- the file of a certificate is opened: it is accepted, and has these proofs; or its refusal is reported
 abbrev pub OpensCertificate : Development → List ℕ → Result Old Answer → Type 0
 OpensCertificate D file (Ok old) = (development_in old.accepted ≡ D) × Certifies D file (entries_in old.certificate) × ProvesAll (entries_in old.certificate) (conditions D)
 OpensCertificate D file (Err answer) = RefusesCertificate D file answer.text.items answer.status
@@ -86,7 +86,7 @@ IsUnreadNew CannotOpen bytes_at new None = CannotOpen new
 IsUnreadNew CannotOpen bytes_at new (Some hints) =
     CannotOpen new ⊎ ((file : List ℕ) × (E : Development) × (bytes_at new ≡ Some file) × Says file_reading file E × CannotOpen hints)
 
--- a file of an old development, of its certificate where that one is read, or one behind them where it is accepted, cannot be opened
+-- a file of an old development, of its certificate if that one is read, or one after them if it is accepted, cannot be opened
 abbrev pub IsUnreadCarry : (List ℕ → Type 0) → (List ℕ → Option (List ℕ)) → List ℕ → List ℕ → List ℕ → Option (List ℕ) → Type 0
 IsUnreadCarry CannotOpen bytes_at old certificate new hints =
     CannotOpen old

@@ -16,16 +16,16 @@ use Rattle.lc_reading.specs.Files.{Says, IsFirstRefusal}
 use Rattle.lincheck.specs.Answers.{ToldFault}
 use Rattle.lincheck.specs.declared.answer.Answer.{Answer}
 
--- the file is no development, and its first refusal is told
+-- the file is no development, and its first refusal is reported
 abbrev pub TellsRefusal : List ℕ → List ℕ → ℕ → Type 0
 TellsRefusal file text status = (refusal : Refusal) × IsFirstRefusal file_reading file refusal × ToldFault (Refused refusal) text status
 
--- a file is opened: it says this development; or its refusal is told
+-- a file is opened: it says this development; or its refusal is reported
 abbrev pub OpensAs : List ℕ → Result Development Answer → Type 0
 OpensAs file (Ok development) = Says file_reading file (development_shown development)
 OpensAs file (Err answer) = TellsRefusal file answer.text.items answer.status
 
--- The answer to a development's file, of which this text is printed: that text and status 0; or its first refusal
+-- The answer to a development's file, for which this text is printed: that text and status 0; or its first refusal
 abbrev pub AnswersDevelopment : (S.Development → List ℕ) → List ℕ → List ℕ → ℕ → Type 0
 AnswersDevelopment text_of file text status =
     TellsRefusal file text status ⊎ ((D : S.Development) × Says file_reading file D × (text ≡ text_of D) × (status ≡ 0))
@@ -34,13 +34,13 @@ AnswersDevelopment text_of file text status =
 abbrev pub accepted_line : S.Development → List ℕ
 accepted_line D = line_of (codes "accepted " ++ D.object.name) (length (conditions D) ∷ [])
 
--- the answer to a certificate's file: that line and status 0 where it proves each condition of the development and nothing
+-- the answer to a certificate's file: that line and status 0 if it proves each condition of the development and nothing
 -- else; else its first refusal
 abbrev pub AnswersCertificate : S.Development → List ℕ → List ℕ → ℕ → Type 0
 AnswersCertificate D file text status =
     (IsProvenBy D file × (text ≡ accepted_line D) × (status ≡ 0)) ⊎ ((refusal : Refusal) × IsCertificateRefusal D file refusal × ToldFault (Refused refusal) text status)
 
--- a verdict is told by that line and status 0, or as a refusal
+-- a verdict is reported by that line and status 0, or as a refusal
 abbrev pub TellsVerdict : Verdict → List ℕ → ℕ → Type 0
 TellsVerdict (Accepted accepted) text status = (text ≡ accepted_line (development_in accepted)) × (status ≡ 0)
 TellsVerdict (IsRefused refusal) text status = ToldFault (Refused refusal) text status

@@ -10,7 +10,7 @@ use Rattle.lc_words.specs.Tasks.{Filter, OfPoint, OfKind, OfBoth}
 use Rattle.lincheck.specs.Answers.{ToldFault}
 use Rattle.lincheck.specs.Check.{TellsRefusal}
 
--- the line of a condition, laid out, with status 0; else it is told that there is no condition of this number
+-- the line of a condition, laid out, with status 0; else it is reported that there is no condition of this number
 abbrev pub TellsLine : ℕ → Option (List ℕ) → List ℕ → ℕ → Type 0
 TellsLine k None text status = ToldFault (Refused (Extra k)) text status
 TellsLine k (Some line) text status = IsLaidLine line text × (status ≡ 0)
@@ -18,7 +18,7 @@ TellsLine k (Some line) text status = IsLaidLine line text × (status ≡ 0)
 abbrev pub TellsCondition : Development → ℕ → List ℕ → ℕ → Type 0
 TellsCondition D k text status = TellsLine k (line_at D k) text status
 
--- the answer to a development's file: its first refusal, or what is told of the condition of this number
+-- the answer to a development's file: its first refusal, or what is reported about the condition of this number
 abbrev pub AnswersCondition : ℕ → List ℕ → List ℕ → ℕ → Type 0
 AnswersCondition k file text status =
     TellsRefusal file text status ⊎ ((D : Development) × Says file_reading file D × TellsCondition D k text status)

@@ -1,4 +1,4 @@
--- The answer to a development's file and a history's, where the history is to be drawn.
+-- The answer to a development's file and a history's, if the history is to be drawn.
 use Rattle.std.specs.Prelude.{◌≡◌, ℕ, ◌⊎◌, List, Option}
 use Rattle.lc_base.specs.declared.refusal.Fault.TheVariants.{Refused}
 use Rattle.lc_base.specs.declared.refusal.Refusal.TheVariants.{HistoryShape}
@@ -12,8 +12,8 @@ use Rattle.lincheck.specs.Judge.{AnswersBoth}
 abbrev pub SaysSome : Specification → List ℕ → Type 0
 SaysSome spec bytes = (history : List Event) × (order : List Entry) × SaysHistory spec.operations bytes history order
 
--- The answer to a history's file, by a specification: a picture, of which nothing is said here, and status 0; or the refusal that
--- tells the first item that is wrong
+-- The answer to a history's file, by a specification: a picture, about which nothing is said here, and status 0; or the refusal
+-- with the first item that is wrong
 abbrev pub AnswersDrawn : Specification → List ℕ → List ℕ → ℕ → Type 0
 AnswersDrawn spec file text status =
     (SaysSome spec file × (status ≡ 0)) ⊎ ((item : ℕ) × IsWrongItem spec.operations file item × ToldFault (Refused (HistoryShape item)) text status)

@@ -23,7 +23,7 @@ use Rattle.lincheck.specs.Prove.{AnswersProve, AnswersHinted}
 use Rattle.lincheck.specs.Printing.{Begins, IsInPieces}
 use Rattle.lincheck.specs.Run.{AnswersRun, IsUnreadRun}
 
--- the answer to a task, where the files that it names are known
+-- the answer to a task, if the files that it names are known
 abbrev pub AnswersTask : (List ℕ → Option (List ℕ)) → Task → List ℕ → ℕ → Type 0
 AnswersTask bytes_at (CheckFormula path) text status = IfSome (bytes_at path) (λ file. AnswersFormula file text status)
 AnswersTask bytes_at (JudgeHistory development history) text status =
@@ -56,7 +56,7 @@ AnswersTask bytes_at (DrawHistory development history) text status =
 AnswersTask bytes_at (BeginDevelopment name) text status = AnswersNew name text status
 AnswersTask bytes_at (PrintLibrary lib asked) text status = AnswersLibrary lib asked text status
 
--- A file that a task needs cannot be opened: the only one or the development; or the other, where the development is read
+-- A file that a task needs cannot be opened: the only one or the development; or the other, if the development is read
 abbrev pub IsUnread : (List ℕ → Type 0) → (List ℕ → Option (List ℕ)) → Task → Type 0
 IsUnread CannotOpen bytes_at (CheckFormula path) = CannotOpen path
 IsUnread CannotOpen bytes_at (JudgeHistory development history) =
@@ -86,9 +86,9 @@ IsUnread CannotOpen bytes_at (DrawHistory development history) =
 IsUnread CannotOpen bytes_at (BeginDevelopment name) = ⊥
 IsUnread CannotOpen bytes_at (PrintLibrary lib asked) = ⊥
 
--- The program ends with a task: with a fault of reading, or for want of memory, and nothing is printed; or with an answer of which
--- this holds, which is printed behind what stood on standard output, unless there is a fault of writing, or memory is refused while
--- an answer is printed as it is made: then a beginning of it stands there
+-- The program ends with a task: with a fault of reading, or out of memory, and nothing is printed; or with an answer for which
+-- this holds, which is appended to standard output, unless there is a fault of writing, or memory runs out while
+-- an answer is printed as it is made: then a beginning of it is there
 abbrev pub Ends : Task → (List ℕ → ℕ → Type 0) → Option (List ℕ) → Option (List ℕ) → ℕ → Type 0
 Ends task IsAnswer before after status =
     (((status ≡ 3) ⊎ (status ≡ 4)) × Keeps before after)

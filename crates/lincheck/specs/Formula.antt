@@ -49,6 +49,6 @@ IsVerdict bytes (Ok u) = (claim : Claim) × Says file_reading bytes claim × IsP
 IsVerdict bytes (Err (Refused refusal)) = IsFirstRefusal file_reading bytes refusal ⊎ IsProofRefusal bytes refusal
 IsVerdict bytes (Err OutOfMemory) = Unit {0}
 
--- The answer to a formula file: its verdict, told by the line `proved` or by the line of the refusal
+-- The answer to a formula file: its verdict, reported by the line `proved` or by the line of the refusal
 abbrev pub AnswersFormula : List ℕ → List ℕ → ℕ → Type 0
 AnswersFormula file text status = (verdict : Result (Unit {0}) Fault) × IsVerdict file verdict × Told (codes "proved") verdict text status

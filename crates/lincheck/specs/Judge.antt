@@ -40,7 +40,7 @@ FailsFirst place reason = IsJudgedSo (Err (V.Order place reason))
 abbrev pub Overflows : Specification → List Event → List Entry → Type 0
 Overflows = IsJudgedSo (Err V.Overflow)
 
--- the text says a history and an order of which this holds
+-- the text says a history and an order for which this holds
 abbrev pub SaysSuch : (Specification → List Event → List Entry → Type 0) → Specification → List ℕ → Type 0
 SaysSuch Holds spec bytes = (history : List Event) × (order : List Entry) × SaysHistory spec.operations bytes history order × Holds spec history order
 
@@ -68,7 +68,7 @@ judgement_of (Err (V.Order place reason)) = Err (Refused (Order place (code_of r
 judgement_of (Err V.Overflow) = Ok Overflow
 judgement_of (Err V.OutOfMemory) = Err OutOfMemory
 
--- it is told by the line `linearizable` and status 0, by the line `overflow` and status 1, or as a refusal
+-- it is reported by the line `linearizable` and status 0, by the line `overflow` and status 1, or as a refusal
 abbrev pub ToldJudgement : Result Judgement Fault → List ℕ → ℕ → Type 0
 ToldJudgement (Ok Linearizable) text status = (text ≡ line_of (codes "linearizable") []) × (status ≡ 0)
 ToldJudgement (Ok Overflow) text status = (text ≡ line_of (codes "overflow") []) × (status ≡ 1)
@@ -78,11 +78,11 @@ ToldJudgement (Err fault) text status = ToldFault fault text status
 abbrev pub AnswersHistory : Specification → List ℕ → List ℕ → ℕ → Type 0
 AnswersHistory spec file text status = (judgement : Result Judgement Fault) × IsJudgement spec file judgement × ToldJudgement judgement text status
 
--- the development's file has a first refusal, and that is told
+-- the development's file has a first refusal, and that is reported
 abbrev pub AnswersRefused : List ℕ → List ℕ → ℕ → Type 0
 AnswersRefused development text status = (refusal : Refusal) × IsFirstRefusal first_reading development refusal × ToldFault (Refused refusal) text status
 
--- the first form of the development's file is a specification, by which the history's file is answered so, where this is known
+-- the first form of the development's file is a specification, by which the history's file is answered so, if this is known
 abbrev pub AnswersRead : (Specification → List ℕ → List ℕ → ℕ → Type 0) → List ℕ → Option (List ℕ) → List ℕ → ℕ → Type 0
 AnswersRead Answers development history text status =
     (spec : Specification) × Says first_reading development spec × IfSome history (λ file. Answers spec file text status)

@@ -1,4 +1,4 @@
--- The answers where a text of an object of the library is asked for.
+-- The answers when a text of an object of the library is asked for.
 use Rattle.std.specs.Prelude.{◌≡◌, ℕ, ◌⊎◌, List, Err}
 use Rattle.lc_find.specs.declared.fault.FindFault.{FindFault}
 use Rattle.lc_hints.specs.Hints.{Hint}
@@ -10,7 +10,7 @@ use Rattle.lincheck.specs.Prove.{ToldUnfound}
 use Rattle.lc_words.specs.declared.request.LibraryText.{LibraryText}
 use Rattle.lc_words.specs.declared.request.LibraryText.TheVariants.{Development, Certificate, Hints}
 
--- the certificate that the object's hints make, which is accepted, and status 0; or, where they make none, a line that names a condition
+-- the certificate that the object's hints make, which is accepted, and status 0; or, if they make none, a line that names a condition
 abbrev pub AnswersCertificateOf : Lib → List ℕ → ℕ → Type 0
 AnswersCertificateOf lib text status =
     ((D : S.Development) × (hints : List Hint) × IsCertificate lib text D hints × (status ≡ 0))

@@ -15,7 +15,7 @@ use Rattle.lincheck.specs.Check.{TellsRefusal}
 abbrev pub IsLaidOut : List ℕ → List ℕ → Type 0
 IsLaidOut file text = (forms : Trees) × (D : Development) × ReadsAs file forms × (file_reading forms ≡ fine D) × (text ≡ laid_out forms)
 
--- the file's forms laid out, seen by this view, where it says a development; else its first refusal, or want of memory
+-- the file's forms laid out, seen by this view, if it says a development; else its first refusal, or out of memory
 abbrev pub LaysOut : {T : Type 0} → (T → List ℕ) → List ℕ → Result T Fault → Type 0
 LaysOut text_in file (Ok text) = IsLaidOut file (text_in text)
 LaysOut text_in file (Err (Refused refusal)) = IsFirstRefusal file_reading file refusal

@@ -13,7 +13,7 @@ LeavesOf before after left text = (done : List ℕ) × (text ≡ done ++ left) �
 abbrev pub Begins : Option (List ℕ) → Option (List ℕ) → List ℕ → Type 0
 Begins before after text = (left : List ℕ) × LeavesOf before after left text
 
--- the text is printed; else writing failed, or memory was refused behind a beginning of it
+-- the text is printed; else writing failed, or memory ran out after a beginning of it
 abbrev pub PrintsText : Option (List ℕ) → Option (List ℕ) → List ℕ → Result (Unit {0}) Failure → Type 0
 PrintsText before after text (Ok u) = Appends before after text
 PrintsText before after text (Err CannotWrite) = Unit {0}

@@ -7,7 +7,7 @@ use Rattle.lc_base.specs.Limits.{file_limit}
 abbrev pub most_bytes : ℕ
 most_bytes = 1 + file_limit
 
--- a file, or its beginning where it is beyond the file limit
+-- a file, or its beginning if it is beyond the file limit
 abbrev pub within_limit : List ℕ → List ℕ
 within_limit file = take most_bytes file
 
@@ -15,6 +15,6 @@ within_limit file = take most_bytes file
 abbrev pub ReadsToLimit : Option (List ℕ) → Option (List ℕ) → List ℕ → Type 0
 ReadsToLimit before after bytes = Consumes before after bytes × (length bytes ≤ most_bytes) × (length bytes < most_bytes → IsAtEnd after)
 
--- whatever it was fed before, and about what, behind that it was fed these bytes
+-- whatever it was fed before, and about what, after that it was fed these bytes
 abbrev pub IsFedOn : {S X : Type 0} → (S → X → List ℕ → Type 0) → S → S → List ℕ → Type 0
 IsFedOn {S} {X} WasFed before after bytes = (about : X) → (fed : List ℕ) → WasFed before about fed → WasFed after about (fed ++ bytes)

@@ -49,15 +49,15 @@ run_text D events entries ends =
 abbrev pub ran_text : Development → Ran → List ℕ
 ran_text D ran = run_text D (events_in ran.log.history) (entries_seen ran.log.order.items) ran.ends.items
 
--- what is printed of a run by so many clients: its history and its order, which linearizes it, and how its clients came to their ends
+-- what is printed of a run by n clients: its history and its order, which linearizes it, and how its clients came to their ends
 abbrev pub TellsRun : Development → ℕ → List ℕ → Type 0
 TellsRun D n text = (labels : List Label) × (ends : List Ended) × IsOrdered D n labels ends × (text ≡ run_text D (history labels) (order labels) ends)
 
--- a run is told, with status 0; or seats did not match, and nothing is printed
+-- a run is reported, with status 0; or seats did not match, and nothing is printed
 abbrev pub RunsSo : Development → ℕ → List ℕ → ℕ → Type 0
 RunsSo D n text status = (TellsRun D n text × (status ≡ 0)) ⊎ ((text ≡ []) × (status ≡ 5))
 
--- the file is no plan for the development, and its first refusal is told
+-- the file is no plan for the development, and its first refusal is reported
 abbrev pub RefusesPlan : Development → List ℕ → List ℕ → ℕ → Type 0
 RefusesPlan D file text status = (refusal : Refusal) × IsFirstRefusal (plan_reading D) file refusal × ToldFault (Refused refusal) text status
 
@@ -78,12 +78,12 @@ AnswersRun development certificate plan text status =
 
 -- ---- files that are opened
 
--- the file of a certificate is opened: it proves the development; or its refusal is told
+-- the file of a certificate is opened: it proves the development; or its refusal is reported
 abbrev pub OpensAccepted : Development → List ℕ → Result Accepted Answer → Type 0
 OpensAccepted D file (Ok accepted) = (development_in accepted ≡ D) × IsProvenBy D file
 OpensAccepted D file (Err answer) = RefusesCertificate D file answer.text.items answer.status
 
--- the file of a plan is opened: it says this plan; or its refusal is told
+-- the file of a plan is opened: it says this plan; or its refusal is reported
 abbrev pub OpensPlan : Development → List ℕ → Result Plan Answer → Type 0
 OpensPlan D file (Ok plan) = Says (plan_reading D) file (plan_of plan)
 OpensPlan D file (Err answer) = RefusesPlan D file answer.text.items answer.status

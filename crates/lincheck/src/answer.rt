@@ -105,7 +105,7 @@ pub fn told_fault(alloc: Global, fault: Fault) -> Result<Answer, OutOfMemory>
     }
 }
 
-/// The word, as a line, where a check passed; else the line of the refusal.
+/// The word, as a line, if a check passed; else the line of the refusal.
 pub fn told(alloc: Global, word: &str, checked: Result<(), Fault>) -> Result<Answer, OutOfMemory>
     ensures { IfOk result (λ answer. Told word.now checked answer.text.items answer.status) }
 {

@@ -92,7 +92,7 @@ fn open_certificate<'a, F: Files>(
     Ok(accept_certificate(alloc, development, &bytes)?)
 }
 
-/// The development and its certificate at two paths; else the answer that tells the first refusal. Where the development is
+/// The development and its certificate at two paths; else the answer that tells the first refusal. If the development is
 /// refused, the certificate is not opened.
 fn open_old<'a, F: Files>(
     alloc: Global,
@@ -162,7 +162,7 @@ fn answer_development<'a, F: Files, P: Progress>(
     }
 }
 
-/// The answer for the new development at a path. Where it is refused, the hints are not opened.
+/// The answer for the new development at a path. If it is refused, the hints are not opened.
 fn answer_new<'a, F: Files, P: Progress>(
     alloc: Global,
     files: &mut F,
@@ -184,7 +184,7 @@ fn answer_new<'a, F: Files, P: Progress>(
 
 /// The answer of the command `carry` to an old development and its certificate at two paths, and a new development at another,
 /// with the hints at a further one, if there is one: the text of a certificate of the new development; or the line that names the
-/// first condition of which no proof was found. Files are opened in this order, and none behind a refusal.
+/// first condition for which no proof was found. Files are opened in this order, and none after a refusal.
 pub fn answer_carry<'a, F: Files, P: Progress>(
     alloc: Global,
     files: &mut F,

@@ -61,7 +61,7 @@ fn accepted_line(alloc: Global, accepted: &Accepted) -> Result<Vec<u8>, OutOfMem
     write_line(alloc, &word, &[accepted.count()])
 }
 
-/// A verdict, told by its line and status.
+/// A verdict, reported by its line and status.
 pub(crate) fn tell_verdict(alloc: Global, verdict: &Verdict) -> Result<Answer, OutOfMemory>
     ensures { IfOk result (λ answer. TellsVerdict verdict.now answer.text.items answer.status) }
 {
@@ -122,7 +122,7 @@ fn answer_counted<'a, F: Files, E: Write>(
     Ok(tell_verdict(alloc, &verdict)?)
 }
 
-/// The answer to the certificate at a path, of a development, by so many workers, if a number is given; and says how many
+/// The answer to the certificate at a path, of a development, by `workers` workers, if a number is given; and says how many
 /// conditions are proved, if that is asked for.
 fn answer_said<'a, R: Threads + Wait + Sync, F: Files, E: Write>(
     rt: &R,
@@ -146,7 +146,7 @@ fn answer_said<'a, R: Threads + Wait + Sync, F: Files, E: Write>(
 }
 
 /// The answer of the command `check` to the development and the certificate at two paths: it is the same for every number of
-/// workers. Where the development is refused, the certificate is not opened.
+/// workers. If the development is refused, the certificate is not opened.
 pub fn answer_check<'a, R: Threads + Wait + Sync, F: Files, E: Write>(
     rt: &R,
     alloc: Global,

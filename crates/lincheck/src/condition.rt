@@ -14,7 +14,7 @@ use lc_listing::{chosen_conditions, condition_over_lines};
 use lc_outline::Development;
 use std::alloc::Global;
 
-/// The condition of a number, laid out; or, where there is none, the line of the refusal.
+/// The condition of a number, laid out; or, if there is none, the line of the refusal.
 fn tell_condition(
     alloc: Global,
     development: &Development,
@@ -48,7 +48,7 @@ pub fn answer_condition<'a, F: Files>(
     }
 }
 
-/// The answer of the command `conditions` to the file at a path where a point or a kind is named: the lines that have it.
+/// The answer of the command `conditions` to the file at a path if a point or a kind is named: the lines that have it.
 pub fn answer_chosen<'a, F: Files>(
     alloc: Global,
     files: &mut F,

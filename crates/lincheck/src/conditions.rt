@@ -36,7 +36,7 @@ fn print_conditions<'a, O: Write>(
     }
 }
 
-/// Prints all conditions of the development in the file at a path, or its refusal, and answers the status.
+/// Prints all conditions of the development in the file at a path, or its refusal, and returns the status.
 fn list_conditions<'a, F: Files, O: Write>(
     alloc: Global,
     files: &mut F,
@@ -56,7 +56,7 @@ fn list_conditions<'a, F: Files, O: Write>(
     }
 }
 
-/// Prints the condition of a number, laid out over lines, or its refusal, and answers the status.
+/// Prints the condition of a number, laid out over lines, or its refusal, and returns the status.
 fn show_condition<'a, F: Files, O: Write>(
     alloc: Global,
     files: &mut F,
@@ -72,7 +72,7 @@ fn show_condition<'a, F: Files, O: Write>(
     print_told(out, why, &answer)
 }
 
-/// Prints the lines of a development's conditions that have a point and a kind, where these are named, and answers the status.
+/// Prints the lines of a development's conditions that have a point and a kind, if these are named, and returns the status.
 fn list_chosen<'a, F: Files, O: Write>(
     alloc: Global,
     files: &mut F,
@@ -89,7 +89,7 @@ fn list_chosen<'a, F: Files, O: Write>(
     print_told(out, why, &answer)
 }
 
-/// Prints the answer of the command `conditions` to the file at a path, and answers its status.
+/// Prints the answer of the command `conditions` to the file at a path, and returns its status.
 pub fn answer_conditions<'a, F: Files, O: Write>(
     alloc: Global,
     files: &mut F,

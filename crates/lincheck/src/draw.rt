@@ -45,7 +45,7 @@ fn answer_drawn<'a, F: Files>(
     Ok(picture_of(alloc, spec, &bytes)?)
 }
 
-/// The answer of the command `draw` to the development and the history at two paths. Where the development is refused, the history
+/// The answer of the command `draw` to the development and the history at two paths. If the development is refused, the history
 /// is not opened.
 pub fn answer_draw<'a, F: Files>(
     alloc: Global,

@@ -1,5 +1,5 @@
 //! Why a file is refused, in words, on standard error: the file is read once more. What is said changes neither what is printed on
-//! standard output nor the status, and nothing is said where a file can no longer be read.
+//! standard output nor the status, and nothing is said if a file can no longer be read.
 use crate::answer::{Failure, Why};
 use crate::files::Files;
 use crate::reading::read_file;
@@ -51,7 +51,7 @@ impl<'a> Text<'a> {
     }
 }
 
-/// What is said of a file of which a refusal tells an offset or an item.
+/// What is said about a file when a refusal has an offset or an item of it.
 fn file_told<'a, F: Files>(
     alloc: Global,
     files: &mut F,
@@ -213,7 +213,7 @@ fn run_told<'a, F: Files>(
     }
 }
 
-/// What is said of a request of which a file is refused.
+/// What is said about a request when one of its files is refused.
 fn refused_told<'a, F: Files>(
     alloc: Global,
     files: &mut F,
@@ -284,7 +284,7 @@ fn counted(alloc: Global, count: u64, carried: u64, done: u64) -> Result<String,
     Ok(text)
 }
 
-/// How many conditions have proofs of an old development, before the one of a number, and how many others are before it and behind.
+/// How many conditions have proofs of an old development, before the one with a number, and how many others are before and after it.
 fn count_told<'a>(
     alloc: Global,
     old: &Development,
@@ -322,7 +322,7 @@ fn carried_told<'a, F: Files>(
     }
 }
 
-/// What the condition asks of which no proof was found.
+/// What the condition asks for which no proof was found.
 fn unfound_told<'a, F: Files>(
     alloc: Global,
     files: &mut F,

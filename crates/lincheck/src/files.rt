@@ -8,7 +8,7 @@ use std::io::Read;
 pub trait Files {
     type Reader: Read + Drop;
 
-    // The bytes of the file at a path, where they are known.
+    // The bytes of the file at a path, if they are known.
     ghost bytes_at: { Self → List ℕ → Option (List ℕ) } = { λ _ _. None };
 
     // It is known that no file can be opened at a path.

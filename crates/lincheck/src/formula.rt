@@ -32,7 +32,7 @@ fn fault_of(fault: ProofFault) -> Fault
     }
 }
 
-/// Whether the proof in the formula file of which these are the forms derives what the file claims; else the first refusal.
+/// Whether the proof in the formula file with these forms derives what the file claims; else the first refusal.
 fn check_forms(alloc: Global, forms: Forms) -> Result<(), Fault>
     requires { (bytes : List ℕ) × ReadsAs bytes forms }
     ensures { (bytes : List ℕ) → ReadsAs bytes forms → IsVerdict bytes result }

@@ -89,7 +89,7 @@ pub fn spec_fed(alloc: Global, reader: FormsReader) -> Result<TextSpec, Fault>
     spec_in(alloc, forms)
 }
 
-/// The answer of the command `judge` to the development and the history at two paths. Where the development is
+/// The answer of the command `judge` to the development and the history at two paths. If the development is
 /// refused, the history is not opened.
 pub fn answer_judge<'a, F: Files>(
     alloc: Global,

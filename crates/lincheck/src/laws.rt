@@ -23,7 +23,7 @@ pub fn a_file_has_one_answer()
         AnswersFormula file text status → AnswersFormula file text' status' → (text ≡ text') × (status ≡ status') }
 {}
 
-/// Where the answer to a formula file has the status 0, what the file claims is true.
+/// If the answer to a formula file has the status 0, what the file claims is true.
 pub fn what_is_accepted_is_true()
     ensures { (file text : List ℕ) → AnswersFormula file text 0 → (claim : Claim) × Says file_reading file claim × IsTrueClaim claim }
 {}
@@ -35,7 +35,7 @@ pub fn a_history_has_one_answer()
         AnswersJudge development (Some history) text status → AnswersJudge development (Some history) text' status' → (text ≡ text') × (status ≡ status') }
 {}
 
-/// Where the answer to a development's file and a history's has the status 0, the history is linearizable: some order
+/// If the answer to a development's file and a history's has the status 0, the history is linearizable: some order
 /// linearizes it by the steps of the specification.
 pub fn what_is_accepted_is_linearizable()
     ensures { (development history text : List ℕ) → AnswersJudge development (Some history) text 0 →
@@ -49,7 +49,7 @@ pub fn a_check_has_one_answer()
         AnswersCheck development (Some certificate) text status → AnswersCheck development (Some certificate) text' status' → (text ≡ text') × (status ≡ status') }
 {}
 
-/// Where the answer to a development's file and a certificate's has the status 0, the file says a development, and for every
+/// If the answer to a development's file and a certificate's has the status 0, the file says a development, and for every
 /// number of clients and every list of single-access steps of its object the history of calls and returns is linearizable by
 /// its specification.
 pub fn a_checked_object_is_linearizable()
@@ -63,7 +63,7 @@ pub fn a_file_has_one_layout()
         AnswersLines file text status → AnswersLines file text' status' → (text ≡ text') × (status ≡ status') }
 {}
 
-/// What `show` prints with `--lines` is a file that says the same development, and of which the same is printed, where it is within
+/// What `show` prints with `--lines` is a file that says the same development, and for which the same is printed, if it is within
 /// the limit of size.
 pub fn a_layout_stays()
     ensures says { (file text : List ℕ) (D : Development) → AnswersLines file text 0 → Says Outline.file_reading file D → length text ≤ file_limit → Says Outline.file_reading text D }

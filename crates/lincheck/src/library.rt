@@ -10,7 +10,7 @@ use lc_lib_texts::{Lib, development, hints};
 use lc_words::LibraryText;
 use std::alloc::{AllocError, Global};
 
-/// A text of the library, as it stands.
+/// A text of the library, as it is.
 fn told_text(alloc: Global, text: &[u8]) -> Result<Answer, AllocError>
     ensures { IfOk result (λ answer. (answer.text.items ≡ text.now) × (answer.status ≡ 0)) }
 {

@@ -12,7 +12,7 @@ use lc_outline_text::development_in;
 use lc_sexp::FormsReader;
 use std::alloc::Global;
 
-/// The file that a reader was fed, laid out, where it says a development; else its first refusal.
+/// The file that a reader was fed, laid out, if it says a development; else its first refusal.
 fn laid_out_fed(alloc: Global, reader: FormsReader) -> Result<Vec<u8>, Fault>
     ensures { (bytes : List ℕ) → WasFed reader bytes → LaysOut (λ text. text.items) bytes result }
 {
@@ -22,7 +22,7 @@ fn laid_out_fed(alloc: Global, reader: FormsReader) -> Result<Vec<u8>, Fault>
     Ok(lay_out(alloc, forms.cursor())?)
 }
 
-/// The answer of the command `show` with `--lines` to the file at a path: its forms over lines, where it says a development.
+/// The answer of the command `show` with `--lines` to the file at a path: its forms over lines, if it says a development.
 pub fn answer_lines<'a, F: Files>(
     alloc: Global,
     files: &mut F,

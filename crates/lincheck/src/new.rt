@@ -28,7 +28,7 @@ const MIDDLE: &[u8] = b"
   (op get () 1 (branch (and) () ((rd value 0)))))
 (object ";
 
-/// The text behind the name of the object.
+/// The text after the name of the object.
 const TAIL: &[u8] = b"
   ; What the code has: arrays. A row of one is read or written in one step.
   (array cell (content 0 0))
@@ -76,7 +76,7 @@ fn template(alloc: Global, name: &str) -> Result<Vec<u8>, AllocError>
     Ok(text)
 }
 
-/// The answer of the command `new`: a development of this name, with a comment at each part. It is read before it is answered, so
+/// The answer of the command `new`: a development of this name, with a comment at each part. It is read before it is printed, so
 /// a name that no development may have is refused.
 pub fn answer_new(alloc: Global, name: &str) -> Result<Answer, OutOfMemory>
     ensures { IfOk result (λ answer. AnswersNew name.now answer.text.items answer.status) }

@@ -16,7 +16,7 @@ pub fn finish<'a, O: Write>(out: &mut O) -> Result<(), Failure<'a>>
     }
 }
 
-/// Prints an answer, and answers its status.
+/// Prints an answer, and returns its status.
 pub fn print_answer<'a, O: Write>(out: &mut O, answer: &Answer) -> Result<u8, Failure<'a>>
     ensures prints { IfOk result (λ status. (status ≡ answer.now.status) × Appends (O.contents out.old) (O.contents out.new) answer.now.text.items) }
     ensures fails { IfErr result (λ failure. failure ≡ Failure.CannotWrite) }
@@ -28,7 +28,7 @@ pub fn print_answer<'a, O: Write>(out: &mut O, answer: &Answer) -> Result<u8, Fa
     Ok(answer.status)
 }
 
-/// Prints an answer, answers its status, and hands out why it is refused.
+/// Prints an answer, returns its status, and hands out why it is refused.
 pub fn print_told<'a, O: Write>(
     out: &mut O,
     why: &mut Option<Why>,

@@ -31,8 +31,8 @@ use std::io::Write;
 use std::sync::Wait;
 use std::thread::Threads;
 
-/// Does what is asked for, prints the answer, answers its status, and hands out why it is refused. Files are opened, read and judged
-/// in the order of the command, so that none is opened behind a refusal.
+/// Does what is asked for, prints the answer, returns its status, and hands out why it is refused. Files are opened, read and judged
+/// in the order of the command, so that none is opened after a refusal.
 fn carry_out<'a, R: Threads + Wait + Sync, F: Files, O: Write, E: Write>(
     rt: &R,
     alloc: Global,
@@ -123,7 +123,7 @@ fn carry_out<'a, R: Threads + Wait + Sync, F: Files, O: Write, E: Write>(
     }
 }
 
-/// Says on standard error why there is no answer, with the reason of the system where it gives one, and answers the status. A fault
+/// Says on standard error why there is no answer, with the reason of the system if it gives one, and returns the status. A fault
 /// of standard error changes nothing.
 fn complain<E: Write>(err: &mut E, failure: &Failure<'_>) -> u8
     ensures { result ≡ status_of failure.now }
@@ -159,11 +159,11 @@ fn tell_usage<O: Write, E: Write>(error: &clap::Error, out: &mut O, err: &mut E)
     }
 }
 
-/// Runs the program on the words of its command line, and answers its exit status.
+/// Runs the program on the words of its command line, and returns its exit status.
 ///
 /// Answers and help are written to `out`, all else to `err`: so what is written to `out` and what is answered depends on the task
 /// that the words ask for, and not on what they ask to be said beside it. The lines of `conditions` are written as they are made:
-/// where memory is refused, a beginning of them may stand there. Threads are started, and waited for, by `check` with more than one
+/// if memory runs out a beginning of them may have been written. Threads are started, and waited for, by `check` with more than one
 /// worker and by `run` alone.
 pub fn execute<R: Threads + Wait + Sync, F: Files, O: Write, E: Write>(
     rt: &R,

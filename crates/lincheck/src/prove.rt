@@ -117,7 +117,7 @@ fn answer_hints<'a, F: Files, P: Progress>(
     }
 }
 
-/// The answer to the development and the hints at two paths. Where the development is refused, the hints are not opened.
+/// The answer to the development and the hints at two paths. If the development is refused, the hints are not opened.
 fn answer_hinted<'a, F: Files, P: Progress>(
     alloc: Global,
     files: &mut F,
@@ -154,7 +154,7 @@ fn answer_unhinted<'a, F: Files, P: Progress>(
 }
 
 /// The answer of the command `prove` to the development at a path, with the hints at another, if there is one: the text of a
-/// certificate, or the line that names the first condition of which no proof was found.
+/// certificate, or the line that names the first condition for which no proof was found.
 pub fn answer_prove<'a, F: Files, P: Progress>(
     alloc: Global,
     files: &mut F,

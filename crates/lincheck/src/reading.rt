@@ -28,7 +28,7 @@ pub enum ReadFault {
     OutOfMemory,
 }
 
-/// Feeds the bytes of a file, or its first `MOST_BYTES` bytes where it has more, in pieces.
+/// Feeds the bytes of a file, or its first `MOST_BYTES` bytes if it has more, in pieces.
 ///
 /// A read that answers `Interrupted` is tried again. Any other fault, and 33,554,432 reads that did not come to the
 /// end, are `Unreadable`.
@@ -60,7 +60,7 @@ pub fn feed_to_limit<R: Read, S: Sink>(reader: &mut R, sink: &mut S) -> Result<(
     Err(ReadFault::Unreadable(None))
 }
 
-/// Feeds the bytes of the file at a path, or its first `MOST_BYTES` bytes where it has more, in pieces.
+/// Feeds the bytes of the file at a path, or its first `MOST_BYTES` bytes if it has more, in pieces.
 pub fn feed_file<'a, F: Files, S: Sink>(
     files: &mut F,
     path: &'a str,
@@ -82,7 +82,7 @@ pub fn feed_file<'a, F: Files, S: Sink>(
     }
 }
 
-/// A reader that was fed the file at a path, or its first `MOST_BYTES` bytes where it has more. The bytes are not held.
+/// A reader that was fed the file at a path, or its first `MOST_BYTES` bytes if it has more. The bytes are not held.
 pub fn feed_forms<'a, F: Files>(
     alloc: Global,
     files: &mut F,
@@ -98,7 +98,7 @@ pub fn feed_forms<'a, F: Files>(
     Ok(reader)
 }
 
-/// The bytes of the file at a path, or its first `MOST_BYTES` bytes where it has more. Room grows with what is read.
+/// The bytes of the file at a path, or its first `MOST_BYTES` bytes if it has more. Room grows with what is read.
 pub fn read_file<'a, F: Files>(
     alloc: Global,
     files: &mut F,

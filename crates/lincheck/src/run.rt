@@ -73,7 +73,7 @@ fn open_plan<'a, F: Files>(
     }
 }
 
-/// The line for a client that makes no further call, behind others.
+/// Appends the line for a client that makes no further call.
 fn push_halt(alloc: Global, text: &mut Vec<u8>, client: u32, halt: Halt) -> Result<(), OutOfMemory>
     ensures { OnOk result (text.new.items ≡ text.old.items ++ halt_text client (Some halt)) }
 {
@@ -82,7 +82,7 @@ fn push_halt(alloc: Global, text: &mut Vec<u8>, client: u32, halt: Halt) -> Resu
     Ok(())
 }
 
-/// The line for a client, if it did not come to its end, behind others.
+/// Appends the line for a client, if it did not come to its end.
 fn push_end(alloc: Global, text: &mut Vec<u8>, ended: &Ended) -> Result<(), OutOfMemory>
     ensures { OnOk result (text.new.items ≡ text.old.items ++ end_text ended.now) }
 {
@@ -92,7 +92,7 @@ fn push_end(alloc: Global, text: &mut Vec<u8>, ended: &Ended) -> Result<(), OutO
     }
 }
 
-/// The lines for the clients that did not come to their ends, behind others.
+/// Appends the lines for the clients that did not come to their ends.
 fn push_ends(alloc: Global, text: &mut Vec<u8>, ends: &[Ended]) -> Result<(), OutOfMemory>
     ensures { OnOk result (text.new.items ≡ text.old.items ++ flat_map end_text ends.now) }
 {
@@ -115,7 +115,7 @@ fn ran_text(alloc: Global, development: &Development, ran: &Ran) -> Result<Vec<u
     Ok(text)
 }
 
-/// The answer of a run by a plan. Where seats do not match, nothing is printed but a line on standard error.
+/// The answer of a run by a plan. If seats do not match, nothing is printed but a line on standard error.
 fn answer_ran<R: Threads + Wait + Sync, E: Write>(
     rt: &R,
     alloc: Global,
@@ -163,7 +163,7 @@ fn answer_planned<'a, R: Threads + Wait + Sync, F: Files, E: Write>(
     }
 }
 
-/// The answer to the certificate and the plan at two paths, of a development. Where the certificate is refused, the plan is not
+/// The answer to the certificate and the plan at two paths, of a development. If the certificate is refused, the plan is not
 /// opened.
 fn answer_proven<'a, R: Threads + Wait + Sync, F: Files, E: Write>(
     rt: &R,
@@ -184,7 +184,7 @@ fn answer_proven<'a, R: Threads + Wait + Sync, F: Files, E: Write>(
 }
 
 /// The answer of the command `run` to a development, its certificate and a plan at three paths: what has run, with the order that
-/// linearizes it. Files are opened in this order, and none behind a refusal.
+/// linearizes it. Files are opened in this order, and none after a refusal.
 pub fn answer_run<'a, R: Threads + Wait + Sync, F: Files, E: Write>(
     rt: &R,
     alloc: Global,

@@ -8,7 +8,7 @@ use lc_table::Terms;
 use std::alloc::Global;
 use std::io::Write;
 
-/// Says which condition is looked at, where that is asked for. A fault of writing changes nothing.
+/// Says which condition is looked at, if that is asked for. A fault of writing changes nothing.
 #[derive(Drop)]
 pub struct Telling<'a, E: Write> {
     pub err: &'a mut E,
@@ -32,12 +32,12 @@ pub struct Counting<'a, E: Write> {
     pub err: &'a mut E,
     /// How many conditions there are.
     pub total: u64,
-    /// How many are proved where it is said next.
+    /// How many are proved when it is said next.
     pub due: u64,
 }
 
 impl<E: Write> Counting<'_, E> {
-    /// So many conditions are proved.
+    /// `done` conditions are proved.
     fn reached(&mut self, done: u64) {
         if done < self.due && done < self.total {
             return;

@@ -13,7 +13,7 @@ use std::alloc::Global;
 use std::sync::Wait;
 use std::thread::Threads;
 
-/// The answer to the certificate at a path, of a development, by so many workers. It is read whole before its proofs are checked.
+/// The answer to the certificate at a path, of a development, by `workers` workers. It is read whole before its proofs are checked.
 pub(crate) fn answer_by_workers<'a, R: Threads + Wait + Sync, F: Files>(
     rt: &R,
     alloc: Global,

@@ -1,5 +1,5 @@
-//! What the program promises: each promise again, over the call that keeps it. The planted bugs of the program stand here: bodies
-//! that answer wrongly where the call answers right.
+//! What the program promises: each promise again, over the call that keeps it. The planted bugs of the program are here: bodies that
+//! return something wrong where the call returns what is right.
 #![tactic(auto)]
 
 ghost use Rattle.std.specs.Prelude.{◌≡◌, ◌⊎◌, List, Some, codes, ℕ};
@@ -39,7 +39,7 @@ pub struct Program<'a, R> {
 }
 
 impl<'a, R: Threads + Wait + Sync> Program<'a, R> {
-    // Runs it, and answers its exit status.
+    // Runs it, and returns its exit status.
     fn execute(&mut self, text: &mut Vec<u8>, err: &mut Vec<u8>) -> u8
         ensures { let files = self.old.files in (task : Task) → EndsWith (texts_of self.old.words.now) task (AnswersTask (file_at files.0.now files.1.now files.2.now files.3.now) task) text.old.items text.new.items result }
     {
@@ -60,7 +60,7 @@ impl<'a, R: Threads + Wait + Sync> Program<'a, R> {
         self.execute(judgement, err)
     }
 
-    /// `conditions` prints a line for each condition of a development. Where memory is refused, a beginning of them may stand there.
+    /// `conditions` prints a line for each condition of a development. On `OutOfMemory` a beginning of them may have been written.
     pub fn listing_conditions(&mut self, lines: &mut Vec<u8>, err: &mut Vec<u8>) -> u8
         ensures { EndsWith (texts_of self.old.words.now) (ListConditions (codes "a")) (AnswersDevelopment conditions_text self.old.files.0.now) lines.old.items lines.new.items result }
     {
@@ -131,7 +131,7 @@ impl<'a, R: Threads + Wait + Sync> Program<'a, R> {
         self.execute(object, err)
     }
 
-    /// A command line fault has its status, or that of want of memory; nothing is printed, and no file is opened.
+    /// A command line fault has its status, or that of running out of memory; nothing is printed, and no file is opened.
     pub fn refusing<F: Files>(&self, files: &mut F, out: &mut Vec<u8>, err: &mut Vec<u8>) -> u8
         ensures { AreWrong (texts_of self.now.words.now) → ((result ≡ 2) ⊎ (result ≡ 4)) × (out.new ≡ out.old) × (files.new ≡ files.old) }
     {

@@ -62,7 +62,7 @@ impl<'a> Files for Edited<'a> {
     }
 }
 
-/// A folder with the files that `run` reads, and `judge` behind it.
+/// A folder with the files that `run` reads, and `judge` after it.
 #[derive(Clone, Copy)]
 pub struct Planned<'a> {
     pub development: &'a [u8],

@@ -1,14 +1,14 @@
 //! Runs the program on command lines over the files of the system, and prints what it did. What has to be printed was
 //! worked out by hand or by an independent program.
 //!
-//! A line of the file `runs` has the words of a command line, with a space between two. What is printed of it is the
-//! line behind a `$`, what the program wrote on standard output, then what it wrote on standard error, and its status.
+//! A line of the file `runs` has the words of a command line, with a space between two. What is printed of it is the line after a `$`,
+//! what the program wrote on standard output, then what it wrote on standard error, and its status.
 //!
-//! A line of the file `edits` has a command line, a file that it reads, a text that stands once in it, and another text, with ` : `
-//! between them. What is printed of it is the same as of a line of `runs`, where the other text stands in that place.
+//! A line of the file `edits` has a command line, a file that it reads, a text that is in it once, and another text, with ` : `
+//! between them. What is printed of it is the same as of a line of `runs`, with the other text in its place.
 //!
 //! A line of the file `pieces` has a development and a certificate, with a space between them. What is printed of it is the
-//! line, then the verdict where the certificate comes in pieces of 1 byte, of 2, of 7, and whole.
+//! line, then the verdict when the certificate comes in pieces of 1 byte, of 2, of 7, and whole.
 //!
 //! A line of the file `made` has two command lines, with ` : ` between them. What is printed of it is the line, then the verdict
 //! on what they write on standard output: a development and a certificate.
@@ -101,7 +101,7 @@ fn run_line<R: System + Print + AllocGlobal + Threads + Wait + Sync>(
     print_run(rt, line, &ran)
 }
 
-/// A text with another text in place of one that stands in it once.
+/// A text with another text in place of one that is in it once.
 fn edited(alloc: Global, text: &str, old: &str, new: &str) -> anyhow::Result<String> {
     let (before, behind) = text
         .split_once(old)
@@ -145,7 +145,7 @@ fn edit_line<R: System + Print + AllocGlobal + Threads + Wait + Sync>(
     print_run(rt, line, &ran)
 }
 
-/// Prints the verdict on a development file and a certificate file that comes in pieces of so many bytes.
+/// Prints the verdict on a development file and a certificate file that comes in pieces of `size` bytes.
 fn check_pieces<R: Print + AllocGlobal>(
     rt: &R,
     dev: &[u8],

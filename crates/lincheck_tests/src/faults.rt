@@ -1,4 +1,4 @@
-//! Tests of the program on files at their limits, and where memory or a stream is refused.
+//! Tests of the program on files at their limits, and when memory or a stream fails.
 use crate::memory::{End, Ended, Everywhere, File, Folder, Full, run, words_of};
 use lincheck::execute;
 use std::alloc::{AllocError, Global};
@@ -18,7 +18,7 @@ const PROVE: [&str; 3] = ["lincheck", "prove", "a"];
 
 const JUDGE: [&str; 4] = ["lincheck", "judge", "a", "b"];
 
-/// What `formula` answers to so many spaces.
+/// What `formula` answers to `count` spaces.
 fn check_spaces<R: Threads + Wait + Sync>(
     rt: &R,
     alloc: Global,
@@ -53,7 +53,7 @@ fn check_file<R: Threads + Wait + Sync>(
     run(rt, alloc, FORMULA.as_slice(), &mut Folder::of(Some(file)))
 }
 
-/// A read may fail in the middle of a text, or behind a text that has its answer already: the reason stands behind the line. Or it is
+/// A read may fail in the middle of a text, or after a text that has its answer already: the reason comes after the line. Or it is
 /// interrupted for ever, for no reason.
 fn failed_reads_are_told<R: Threads + Wait + Sync>(
     rt: &R,
@@ -86,7 +86,7 @@ fn reads_that_are_interrupted(rt: HostRuntime) -> Result<(), Fail> {
     Ok(())
 }
 
-/// Behind a development that is refused the history is not opened.
+/// After a development that is refused, the history is not opened.
 fn history_stays_closed<R: Threads + Wait + Sync>(
     rt: &R,
     alloc: Global,
@@ -111,7 +111,7 @@ fn files_that_are_opened(rt: HostRuntime) -> Result<(), Fail> {
     Ok(())
 }
 
-/// Where standard output takes nothing, the status is 3 for an answer, and for help too.
+/// If standard output takes nothing, the status is 3 for an answer, and for help too.
 fn full_output_is_told<R: Threads + Wait + Sync>(
     rt: &R,
     alloc: Global,
@@ -160,7 +160,7 @@ fn streams_that_are_full(rt: HostRuntime) -> Result<(), Fail> {
     Ok(())
 }
 
-/// Whether this is the answer with ample memory, or want of memory.
+/// Whether this is the answer with ample memory, or that memory ran out.
 pub fn is_answer_or_want(status: u8, answer: &str, out: &[u8], err: &[u8]) -> bool {
     if status == 4 {
         out.starts_with(b"\0".as_slice()) & err.starts_with(b"lincheck: out of memory\n".as_slice())
@@ -169,7 +169,7 @@ pub fn is_answer_or_want(status: u8, answer: &str, out: &[u8], err: &[u8]) -> bo
     }
 }
 
-/// With any one allocation refused, the answer is want of memory or the one with ample memory.
+/// With any one allocation refused, the answer is that memory ran out, or the one with ample memory.
 #[test]
 fn memory_refused(rt: HostRuntime) {
     let Ok(words) = words_of(rt.alloc(), FORMULA.as_slice()) else {

@@ -6,7 +6,7 @@ use std::io::{ErrorKind, Read, Write};
 use std::sync::Wait;
 use std::thread::Threads;
 
-/// What a file does behind its bytes.
+/// What a file does after its bytes.
 #[derive(Clone, Copy)]
 pub enum End {
     Ends,
@@ -19,7 +19,7 @@ pub enum End {
 pub struct File<'a> {
     pub bytes: &'a [u8],
     pub end: End,
-    /// So many reads are interrupted first.
+    /// How many reads are interrupted first.
     pub interruptions: u32,
 }
 
@@ -52,7 +52,7 @@ impl Read for File<'_> {
     }
 }
 
-/// A folder with a file `a` and a file `b`, where they are there. It counts how often a file is opened.
+/// A folder with a file `a` and a file `b`, if they are there. It counts how often a file is opened.
 #[derive(Drop)]
 pub struct Folder<'a> {
     pub first: Option<File<'a>>,

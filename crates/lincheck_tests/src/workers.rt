@@ -56,7 +56,7 @@ fn numbers_of_workers(rt: HostRuntime) -> Result<(), Fail> {
     Ok(())
 }
 
-/// With any one allocation refused, whoever asks for it, the answer is want of memory or the one with ample memory.
+/// With any one allocation refused, whoever asks for it, the answer is that memory ran out, or the one with ample memory.
 #[test]
 fn memory_refused_by_workers(rt: HostRuntime) {
     let Ok(words) = words_of(rt.alloc(), check_by("2").as_slice()) else {

@@ -90,7 +90,7 @@ impl Known {
         Ok(())
     }
 
-    /// Whether a variable of the goal stands in a term.
+    /// Whether a variable of the goal occurs in a term.
     pub fn is_near(&self, term: TermId) -> bool {
         for variable in self.nodes.term_variables(term) {
             if self.near.contains(variable) {
@@ -100,7 +100,7 @@ impl Known {
         false
     }
 
-    /// Gives numbers to what stands in a term.
+    /// Gives numbers to the atoms of a term.
     fn enter_atoms(&mut self, term: TermId) -> Result<(), Stop> {
         if let Some(form) = self.nodes.form(term) {
             for (atom, _) in &form.summands {
@@ -134,7 +134,7 @@ impl Known {
         Ok(())
     }
 
-    /// Where an index term stands in the list of a column.
+    /// The place of an index term in the list of a column.
     fn index_entry(&self, column: ColId, term: TermId) -> Option<usize> {
         let entries = self.indexes.get(&column)?;
         for (entry, indexed) in entries.iter().enumerate() {

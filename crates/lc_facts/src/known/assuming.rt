@@ -41,7 +41,7 @@ impl Known {
         }
     }
 
-    /// Makes facts known, and what follows from them without a choice. A proof is answered where that is a contradiction; it is to be
+    /// Makes facts known, and what follows from them without a choice. A proof is returned if that is a contradiction; it is to be
     /// wrapped in the steps that were taken.
     pub fn assume(&mut self, facts: &[FactId]) -> Result<Option<ProofId>, Stop> {
         let mut queue = Vec::from_slice(self.alloc, facts)?;
@@ -56,7 +56,7 @@ impl Known {
         Err(Stop::Spent)
     }
 
-    /// A proof by a fact and its negation, of which the first is not live yet.
+    /// A proof by a fact and its negation, the first of which is not live yet.
     fn opposite(&mut self, fact: FactId, other: FactId) -> Result<ProofId, Stop> {
         let formula = self.formula(fact);
         let rule = if self.nodes.denied(formula) == Some(self.formula(other)) {
@@ -179,7 +179,7 @@ impl Known {
         self.note_step(Rule::Fresh(fact, number), fact, made, queue)
     }
 
-    /// A disjunction is kept, where it has more than one part.
+    /// A disjunction is kept, if it has more than one part.
     fn keep_disjunction(
         &mut self,
         fact: FactId,

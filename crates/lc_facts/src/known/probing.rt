@@ -9,7 +9,7 @@ use lc_table::{TermId, TermNode};
 const LEVELS: u32 = 2;
 
 impl Known {
-    /// Tries a fact, and the parts of disjunctions so many levels deep. What is known stays as it was.
+    /// Tries a fact, and the parts of disjunctions down to `levels` levels. What is known stays as it was.
     #[cycle(probe)]
     pub fn probe(&mut self, fact: FactId, levels: u32) -> Result<Probed, Stop> {
         self.tick()?;

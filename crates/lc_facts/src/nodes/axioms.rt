@@ -47,7 +47,7 @@ impl Nodes {
         self.not(equal)
     }
 
-    /// The axiom of a stored value: the cell at `other` of the column after the store has the value where `index` and `other` are
+    /// The axiom of a stored value: the cell at `other` of the column after the store has the value if `index` and `other` are
     /// the same, and else what the column had.
     pub fn written_axiom(
         &mut self,

@@ -1,4 +1,4 @@
-//! Nodes made of those that a table has. Each call answers the number of what is made.
+//! Nodes made of those that a table has. Each call returns the number of what is made.
 
 use super::Nodes;
 use lc_base::ColId;
@@ -31,7 +31,7 @@ impl Nodes {
         Ok(TermId(self.enter_part(TermNode::Subtract(left, right))?))
     }
 
-    /// The term, so many times.
+    /// The term times `factor`.
     pub fn multiply(&mut self, factor: i64, term: TermId) -> Result<TermId, Stop> {
         Ok(TermId(self.enter_part(TermNode::Multiply(factor, term))?))
     }

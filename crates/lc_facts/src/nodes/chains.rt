@@ -11,7 +11,7 @@ pub(super) struct StoreAt {
     pub(super) value: TermId,
 }
 
-/// Stores of a column expression, the outermost first, and what stands below them.
+/// Stores of a column expression, the outermost first, and the column expression below them.
 #[derive(Drop)]
 pub(super) struct Chain {
     pub(super) base: ColExprId,

@@ -1,4 +1,4 @@
-//! What stands in terms and formulas: looked for once.
+//! What occurs in terms and formulas: looked for once.
 
 use super::{Learnt, Nodes};
 use indexmap::IndexSet;
@@ -26,7 +26,7 @@ impl Nodes {
         }
     }
 
-    /// Learns what stands in a formula.
+    /// Learns what occurs in a formula.
     pub fn learn(&mut self, formula: FormulaId) -> Result<(), Stop> {
         if self.learnt.contains_key(&formula) {
             return Ok(());
@@ -36,7 +36,7 @@ impl Nodes {
         Ok(())
     }
 
-    /// Learns what stands in a term, and its form.
+    /// Learns what occurs in a term, and its form.
     pub fn learn_term(&mut self, term: TermId) -> Result<(), Stop> {
         if self.learnt_terms.contains_key(&term) {
             return Ok(());
@@ -85,7 +85,7 @@ impl Nodes {
         self.reads(formula).get(place).copied()
     }
 
-    /// What stands in a formula, the parts of each node before it and in their order.
+    /// What occurs in a formula, the parts of each node before it and in their order.
     fn gathered(&self, formula: FormulaId) -> Result<Learnt, Stop> {
         let mut learnt = self.nothing_learnt();
         let mut due = Vec::new(self.alloc);
@@ -99,7 +99,7 @@ impl Nodes {
         Err(Stop::Spent)
     }
 
-    /// The free variables of a term alone, in the order in which they come. A part of which they were learnt is not walked again.
+    /// The free variables of a term alone, in the order in which they come. A part whose variables were learnt is not walked again.
     fn gathered_variables(&self, term: TermId) -> Result<Learnt, Stop> {
         let mut learnt = self.nothing_learnt();
         let mut due = Vec::new(self.alloc);
@@ -127,7 +127,7 @@ impl Nodes {
         Ok(alone)
     }
 
-    /// Notes what is due; its parts are due before what stands behind it.
+    /// Notes the next node; its parts are put into `due`, to come before what is there already.
     fn gather(&self, next: Due, learnt: &mut Learnt, due: &mut Vec<Due>) -> Result<(), Stop> {
         match next {
             Due::Formula(formula) => self.gather_formula(formula, due),
@@ -137,7 +137,7 @@ impl Nodes {
         }
     }
 
-    /// Notes a term without parts; the parts of another one are due.
+    /// Notes a term without parts; the parts of another one are put into `due`.
     fn gather_term(
         &self,
         term: TermId,
@@ -171,7 +171,7 @@ impl Nodes {
         Ok(())
     }
 
-    /// What stands in a column expression is due: in its stores, the innermost first.
+    /// Puts into `due` what occurs in the stores of a column expression, the innermost first.
     fn gather_column(&self, column: ColExprId, due: &mut Vec<Due>) -> Result<(), Stop> {
         let mut rest = column;
         for _ in 0..self.parts.len() {
@@ -193,7 +193,7 @@ impl Nodes {
         Ok(())
     }
 
-    /// Notes a side of a comparison. What stands in it is due.
+    /// Notes a side of a comparison, and puts what occurs in it into `due`.
     fn gather_side(
         &self,
         side: TermId,
@@ -207,7 +207,7 @@ impl Nodes {
         Ok(())
     }
 
-    /// The parts of a formula are due.
+    /// Puts the parts of a formula into `due`.
     fn gather_formula(&self, formula: FormulaId, due: &mut Vec<Due>) -> Result<(), Stop> {
         match self.formula_node(formula) {
             Some(FormulaNode::Le(left, right)) | Some(FormulaNode::Eq(left, right)) => {

@@ -37,12 +37,12 @@ enum Due {
     Store,
 }
 
-/// A closed term is put in for the variable of a quantifier. What is due waits in a list, the next one last, and so does what was
-/// opened, so that a deep formula takes nothing of the stack.
+/// A closed term is put in for the variable of a quantifier. What is still to be opened waits in a list, the next one last, and so
+/// does what was opened, so that a deep formula takes nothing of the stack.
 struct Opening {
     alloc: Global,
     term: TermId,
-    /// How many quantifiers stand round what is opened.
+    /// How many quantifiers are around what is opened.
     depth: u32,
     due: Vec<Due>,
     terms: Vec<TermId>,
@@ -77,7 +77,7 @@ impl Opening {
         }
     }
 
-    /// Two terms are due, and then what is made of them.
+    /// Puts off two terms, and then what is made of them.
     fn await_terms(&mut self, whole: Due, left: TermId, right: TermId) -> Result<(), Stop> {
         self.due.push(whole)?;
         self.due.push(Due::Term(right))?;
@@ -85,7 +85,7 @@ impl Opening {
         Ok(())
     }
 
-    /// Formulas are due, and then what is made of them.
+    /// Puts off formulas, and then what is made of them.
     fn await_parts(&mut self, whole: Connective, parts: &[FormulaId]) -> Result<(), Stop> {
         self.due.push(Due::FormulaBy(whole))?;
         for part in parts.iter().rev() {
@@ -94,7 +94,7 @@ impl Opening {
         Ok(())
     }
 
-    /// The body of a quantifier is due.
+    /// Puts off the body of a quantifier.
     fn await_body(&mut self, whole: Connective, body: FormulaId) -> Result<(), Stop> {
         self.depth = self.depth.saturating_add(1);
         self.await_parts(whole, &[body])
@@ -121,7 +121,7 @@ impl Opening {
         self.formulas.pop().ok_or(Stop::Spent)
     }
 
-    /// The last formulas that were opened, so many.
+    /// The last `count` formulas that were opened.
     fn parts(&mut self, count: usize) -> Result<Vec<FormulaId>, Stop> {
         let first = self.formulas.len().saturating_sub(count);
         let mut parts = Vec::with_capacity(self.alloc, count)?;
@@ -140,7 +140,7 @@ impl Opening {
 }
 
 impl Nodes {
-    /// The body of a quantifier where its variable is a term in which no bound variable is loose.
+    /// The body of a quantifier, with a term for its variable in which no bound variable is loose.
     pub fn instantiate(&mut self, body: FormulaId, term: TermId) -> Result<FormulaId, Stop> {
         let mut opening = Opening::new(self.alloc, term);
         self.open_formula(body, &mut opening)?;
@@ -153,7 +153,7 @@ impl Nodes {
         Err(Stop::Spent)
     }
 
-    /// Opens what is due, or makes it of its parts.
+    /// Opens the next node, or makes it of its parts.
     fn open(&mut self, due: Due, opening: &mut Opening) -> Result<(), Stop> {
         match due {
             Due::Formula(formula) => self.open_formula(formula, opening),
@@ -177,7 +177,7 @@ impl Nodes {
         }
     }
 
-    /// Puts the term into a formula: its parts are due. One in which the variable does not stand keeps its number.
+    /// Puts the term into a formula: puts off its parts. One in which the variable does not occur keeps its number.
     fn open_formula(&self, formula: FormulaId, opening: &mut Opening) -> Result<(), Stop> {
         if self.formula_loose(formula) <= opening.depth {
             opening.formulas.push(formula)?;
@@ -234,7 +234,7 @@ impl Nodes {
         }
     }
 
-    /// Puts the term into a term: its parts are due. One in which the variable does not stand keeps its number.
+    /// Puts the term into a term: puts off its parts. One in which the variable does not occur keeps its number.
     fn open_term(&mut self, term: TermId, opening: &mut Opening) -> Result<(), Stop> {
         if self.term_loose(term) <= opening.depth {
             opening.terms.push(term)?;
@@ -302,8 +302,8 @@ impl Nodes {
         }
     }
 
-    /// Puts the term into a column expression: its stores are due, the innermost first. Below its last store in which the variable
-    /// stands it stays as it is.
+    /// Puts the term into a column expression: puts off its stores, the innermost first. Below its last store in which the
+    /// variable occurs it stays as it is.
     fn open_column(&self, column: ColExprId, opening: &mut Opening) -> Result<(), Stop> {
         let mut rest = column;
         for _ in 0..self.parts.len() {

@@ -135,7 +135,7 @@ impl Nodes {
         Ok(())
     }
 
-    /// The branches of a formula, as they were learnt; none where it has no choice of branches.
+    /// The branches of a formula, as they were learnt; none if it has no choice of branches.
     pub fn parts(&self, formula: FormulaId) -> Option<&[FormulaId]> {
         match self.alternatives.get(&formula) {
             Some(parts) => Some(parts.as_slice()),

@@ -5,7 +5,7 @@ use crate::form::Form;
 use lc_farkas::Stop;
 use lc_table::{FormulaId, FormulaNode, TermId, TermNode};
 
-/// So many times, in 64 bits.
+/// This many times, in 64 bits.
 pub(crate) fn narrow(number: i128) -> Result<i64, Stop> {
     i64::try_from(number).map_err(|_| Stop::Large)
 }
@@ -18,7 +18,7 @@ impl Nodes {
         Ok(form)
     }
 
-    /// Adds so many times a term. What is still to be added waits in a list, so that a deep term takes nothing of the stack.
+    /// Adds `count` times a term. What is still to be added waits in a list, so that a deep term takes nothing of the stack.
     fn add_term(&self, form: &mut Form, term: TermId, count: i128) -> Result<(), Stop> {
         let mut due = Vec::new(self.alloc);
         self.add_node(form, term, count, &mut due)?;
@@ -31,7 +31,7 @@ impl Nodes {
         Err(Stop::Spent)
     }
 
-    /// Adds so many times a term that is no sum; the parts of a sum are due.
+    /// Adds `count` times a term that is no sum; the parts of a sum are put into `due`.
     fn add_node(
         &self,
         form: &mut Form,
@@ -103,7 +103,7 @@ impl Nodes {
         self.gaps.get(&formula)
     }
 
-    /// So many times a term, which is added to what there is of a sum.
+    /// A sum with a multiple of a term added.
     fn with_product(
         &mut self,
         sum: Option<TermId>,
@@ -121,7 +121,7 @@ impl Nodes {
         }
     }
 
-    /// A term that is a sum of atoms; 0 where there are none.
+    /// A term that is a sum of atoms; 0 if there are none.
     fn sum_of(&mut self, summands: &[(TermId, i128)]) -> Result<TermId, Stop> {
         let mut sum = None;
         for (atom, number) in summands {

@@ -1,5 +1,5 @@
 //! The trees of nodes, with the variables of the search renamed. None is made that nests deeper than a text may: it could not be
-//! printed. What is made of parts is made in functions that stand apart, so that each level takes little of the stack.
+//! printed. What is made of parts is made in functions of their own, so that each level takes little of the stack.
 
 use super::Nodes;
 use lc_base::{ColId, DEPTH_LIMIT};
@@ -8,7 +8,7 @@ use lc_table::{ColExprId, FormulaId, FormulaNode, TermId, TermNode};
 use lc_term::{ColExpr, Formula, Term};
 use std::alloc::Global;
 
-/// The name of a variable, which is its own number where it has no other.
+/// The name of a variable, which is its own number if it has no other.
 fn name_of(names: &[u32], variable: u32) -> u32 {
     match names.get(variable as usize) {
         Some(name) => *name,
@@ -37,7 +37,7 @@ fn stored(
     Ok(ColExpr::Store(Box::new(alloc, column)?, index, value))
 }
 
-/// Takes a formula out of its box, and puts it behind others.
+/// Takes a formula out of its box, and appends it to others.
 #[inline(never)]
 fn push_out(trees: &mut Vec<Formula>, tree: Box<Formula>) -> Result<(), Stop> {
     trees.push(Box::into_inner(tree))?;
@@ -60,7 +60,7 @@ impl Nodes {
         Ok(Box::into_inner(self.formula_within(names, formula, DEPTH_LIMIT)?))
     }
 
-    /// The tree of a term, of so many levels at most.
+    /// The tree of a term, if it has at most `levels` levels.
     #[cycle(trees)]
     fn term_within(&self, names: &[u32], term: TermId, levels: usize) -> Result<Box<Term>, Stop> {
         if levels == 0 {
@@ -115,7 +115,7 @@ impl Nodes {
         boxed_term(self.alloc, Term::Read(column, index))
     }
 
-    /// The tree of a column expression, what stands in its stores being of so many levels at most.
+    /// The tree of a column expression, if what is in its stores has at most `levels` levels.
     #[cycle(trees)]
     fn column_within(
         &self,
@@ -142,7 +142,7 @@ impl Nodes {
         }
     }
 
-    /// The tree of a formula, of so many levels at most.
+    /// The tree of a formula, if it has at most `levels` levels.
     #[cycle(formula_trees)]
     fn formula_within(
         &self,
@@ -198,7 +198,7 @@ impl Nodes {
         Ok(trees)
     }
 
-    /// The tree of a comparison, whose sides are of so many levels at most.
+    /// The tree of a comparison, if its sides have at most `levels` levels.
     #[inline(never)]
     fn comparison_tree(
         &self,

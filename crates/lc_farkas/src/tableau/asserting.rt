@@ -9,7 +9,7 @@ use crate::stop::Stop;
 use lc_linear::LinForm;
 use lc_table::TermId;
 
-/// A sum without its constant, whose coefficients have no common divisor, and of which the first is above 0.
+/// A sum without its constant, whose coefficients have no common divisor, the first of them above 0.
 #[derive(Drop)]
 struct Normal {
     coefficients: Vec<Coefficient>,
@@ -40,7 +40,7 @@ fn divided(coefficients: Vec<Coefficient>) -> Result<Normal, Stop> {
 }
 
 impl Tableau {
-    /// A sum of atoms, each of which stands in it once.
+    /// The normal form of a sum of atoms, in which each atom occurs once.
     fn normal(&mut self, summands: &[(TermId, i128)]) -> Result<Normal, Stop> {
         let mut coefficients = Vec::with_capacity(self.alloc, summands.len())?;
         for (atom, number) in summands {
@@ -90,7 +90,7 @@ impl Tableau {
         Ok(variable)
     }
 
-    /// Adds so many times a variable to a row, by its own row where it is basic.
+    /// Adds `number` times a variable to a row, by its own row if it is basic.
     fn add_to(&self, row: &mut Row, variable: usize, number: Rational) -> Result<(), Stop> {
         match self.row_of(variable) {
             Some(place) => match self.rows.get(place) {
@@ -101,7 +101,7 @@ impl Tableau {
         }
     }
 
-    /// The atoms of a form that stand in it.
+    /// The atoms that occur in a form.
     fn summands(&self, form: &LinForm) -> Result<Vec<(TermId, i128)>, Stop> {
         let mut summands = Vec::with_capacity(self.alloc, form.atom_count())?;
         for place in 0..form.atom_count() {
@@ -114,7 +114,7 @@ impl Tableau {
         Ok(summands)
     }
 
-    /// Takes a fact in: its form is at most 0, or just 0. Why it contradicts the bounds is answered where that shows at once.
+    /// Takes a fact in: its form is at most 0, or exactly 0. Why it contradicts the bounds is returned if that is seen at once.
     pub fn assert(
         &mut self,
         form: &LinForm,
@@ -125,7 +125,7 @@ impl Tableau {
         self.assert_sum(&summands, form.constant(), fact, is_equation)
     }
 
-    /// Asserts a bound of a sum of atoms, each of which stands in it once and not 0 times, and a constant.
+    /// Asserts a bound of a sum of atoms, in which each occurs once and not 0 times, and a constant.
     pub fn assert_sum(
         &mut self,
         summands: &[(TermId, i128)],
@@ -187,7 +187,7 @@ impl Tableau {
         Ok(Some(reasons))
     }
 
-    /// Sets a bound where it is nearer than the one that stands.
+    /// Sets a bound if it is nearer than the present one.
     fn set_bound(
         &mut self,
         variable: usize,

@@ -19,8 +19,8 @@ struct Broken {
 }
 
 impl Tableau {
-    /// Finds numbers that are within all bounds, or answers why there are none. `Spent` is answered where the pivots that are
-    /// left do not come so far.
+    /// Finds numbers that are within all bounds, or returns why there are none; `Spent` if that takes more pivots or more work than
+    /// are left.
     pub fn check(&mut self) -> Result<Option<Vec<Reason>>, Stop> {
         let budget = self.left;
         for spent in 0..budget {
@@ -130,6 +130,7 @@ impl Tableau {
 
     /// Makes a variable of the row basic in place of its basic variable, which gets the number of its bound.
     fn pivot(&mut self, broken: Broken, entering: usize) -> Result<(), Stop> {
+        self.spend_rows()?;
         let empty = Row::zero(self.alloc, broken.basic);
         let Some(row) = self.rows.get_mut(broken.place) else {
             return Ok(());
@@ -166,6 +167,7 @@ impl Tableau {
             return Ok(());
         }
         row.add(variable, number.negated()?)?;
-        row.add_row(number, by)
+        row.add_row(number, by)?;
+        self.spend(by.summands.len())
     }
 }

@@ -12,13 +12,13 @@ const FAR: i128 = 300;
 
 /// How far a variable can be moved down and up.
 #[derive(Clone, Copy)]
-struct Room {
+pub(super) struct Room {
     low: Option<Rational>,
     high: Option<Rational>,
 }
 
 impl Room {
-    /// The room with a distance as its end on one side, where it is nearer than the end that was there.
+    /// The room with a distance as its end on one side, if it is nearer than the end that was there.
     fn narrow(self, side: Side, distance: Rational) -> Result<Room, Stop> {
         match side {
             Side::Lower => Ok(Room {
@@ -35,6 +35,19 @@ impl Room {
                     _ => Some(distance),
                 },
             }),
+        }
+    }
+
+    /// Whether a variable can be moved by a distance.
+    pub(super) fn has(self, distance: Rational) -> Result<bool, Stop> {
+        if let Some(low) = self.low
+            && distance.is_below(low)?
+        {
+            return Ok(false);
+        }
+        match self.high {
+            Some(high) => Ok(!high.is_below(distance)?),
+            None => Ok(true),
         }
     }
 
@@ -56,12 +69,15 @@ impl Room {
 }
 
 impl Tableau {
-    /// Moves variables within the room that all bounds leave, where their numbers are those of others too.
+    /// Moves variables within the room that all bounds leave, if their numbers are those of others too.
     pub fn spread(&mut self) -> Result<(), Stop> {
         let mut counts = self.counts()?;
         for variable in 0..self.variables.len() {
-            if self.row_of(variable).is_none() && self.is_crowded(variable, &counts) {
-                self.move_apart(variable, &mut counts)?;
+            if self.row_of(variable).is_none() {
+                self.spend_rows()?;
+                if self.is_crowded(variable, &counts) {
+                    self.move_apart(variable, &mut counts)?;
+                }
             }
         }
         Ok(())
@@ -102,7 +118,7 @@ impl Tableau {
         false
     }
 
-    /// How far a bound of another variable, which goes by so many times this one, lets this one be moved.
+    /// How far a bound of another variable, which changes by `number` times this one, lets this one be moved.
     fn narrowed(
         &self,
         room: Room,
@@ -123,7 +139,7 @@ impl Tableau {
         room.narrow(side, distance)
     }
 
-    /// How far both bounds of a variable, which goes by so many times another one, let that one be moved.
+    /// How far both bounds of a variable, which changes by `number` times another one, let that one be moved.
     fn narrowed_by(&self, room: Room, variable: usize, number: Rational) -> Result<Room, Stop> {
         let lower = self.bound(variable, Side::Lower);
         let room = self.narrowed(room, variable, number, Side::Lower, lower)?;
@@ -141,7 +157,7 @@ impl Tableau {
     }
 
     /// How far a variable can be moved, with those that go by it.
-    fn room(&self, variable: usize) -> Result<Room, Stop> {
+    pub(super) fn room(&self, variable: usize) -> Result<Room, Stop> {
         let free = Room {
             low: None,
             high: None,

@@ -11,7 +11,7 @@ use crate::number::{difference, product, sum};
 use lc_table::TermId;
 
 impl LinForm {
-    /// This form with so many times another one added. `Large` where a product or a sum leaves 128 bits.
+    /// This form with `multiplier` times another one added. `Large` if a product or a sum leaves 128 bits.
     pub fn add_scaled(self, multiplier: i128, other: &LinForm) -> Result<LinForm, LinFault>
         ensures { let f = numbers self in
             let g = numbers other.now in
@@ -72,7 +72,7 @@ impl LinForm {
         Ok(())
     }
 
-    // Adds so many times an atom.
+    // Adds `count` times an atom.
     pub(crate) fn add_atom(&mut self, atom: TermId, count: i128) -> Result<(), LinFault>
         ensures ok { OnOk result (HasNumbers self.new (λ p. numbers self.old p +ℤ count *ℤ atom_form atom p)) }
         ensures fits { OnOk result (FitsSigned w128 (numbers self.old (Some atom) +ℤ count)) }
@@ -89,7 +89,7 @@ impl LinForm {
         Ok(())
     }
 
-    // Subtracts so many times an atom.
+    // Subtracts `count` times an atom.
     pub(crate) fn subtract_atom(&mut self, atom: TermId, count: i128) -> Result<(), LinFault>
         ensures ok { OnOk result (HasNumbers self.new (λ p. numbers self.old p -ℤ count *ℤ atom_form atom p)) }
         ensures fits { OnOk result (FitsSigned w128 (numbers self.old (Some atom) -ℤ count)) }

@@ -9,7 +9,7 @@ use crate::number::{exact_quotient, rounded_up};
 
 impl LinForm {
     /// The form with each coefficient divided by a number, and the constant divided and rounded up. There is none
-    /// where the number is below 1 or does not divide a coefficient.
+    /// if the number is below 1 or does not divide a coefficient.
     pub fn divided(self, divisor: i64) -> Option<LinForm>
         ensures found { IsSome result ↔ Divides divisor (numbers self) }
         ensures value { IfSome result (λ quotient. IsDivided (numbers self) divisor (numbers quotient)) }

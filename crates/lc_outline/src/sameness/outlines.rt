@@ -1,4 +1,4 @@
-//! What stands beside the code, and developments.
+//! What is beside the code, and developments.
 use crate::development::Development;
 use crate::parts::{On, Outline, Parts};
 use crate::sameness::{Same, are_same};

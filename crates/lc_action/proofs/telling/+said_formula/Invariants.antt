@@ -6,7 +6,7 @@ use Rattle.lc_term.proofs.Each.{ReplacedBelow}
 use Rattle.lc_action.specs.Telling.{tellable, telling_under}
 use Rattle.lc_action.proofs.telling.+said_formula.Given as goal
 
--- the parts so far are told, and those that are left can be
+-- the parts so far are said, and those that are left can be
 abbrev pub invariant-said_formulas-loop-part : goal.invariant-said_formulas-loop-part
 invariant-said_formulas-loop-part l =
     (n : ℕ) → IsTrue (all_pass (tellable l.before.columns.now l.before.variables.now) n (formulas (formulas_of l.parts))) →

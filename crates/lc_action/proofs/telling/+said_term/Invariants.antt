@@ -6,7 +6,7 @@ use Rattle.lc_term.proofs.Chained.{ReplacedIn}
 use Rattle.lc_action.specs.Telling.{tellable, telling_under}
 use Rattle.lc_action.proofs.telling.+said_term.Given as goal
 
--- the stores that are left stand round what is said already
+-- the stores that are left are around what is said already
 abbrev pub invariant-said_column-stores : goal.invariant-said_column-stores
 invariant-said_column-stores l =
     AreInside l.fn.column l.chain.stores.items ×

@@ -7,7 +7,7 @@ use Rattle.lc_cond.specs.declared.condition.Which.TheVariants.{Numbered}
 use Rattle.lc_cond.proofs.Scening.{duties_none, duties_more, duties_all, known_within, known_enough, known_first}
 use Rattle.lc_cond.proofs.edge_conditions.push_duties.Goals as goal
 
--- what stands behind the last
+-- after the last
 abbrev behind : Duty
 behind = record { kind = Pending; rider = 0; known = 0; goal = record { 0 = 0 } }
 

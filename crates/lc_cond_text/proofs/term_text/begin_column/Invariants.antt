@@ -7,7 +7,7 @@ use Rattle.lc_cond_text.specs.ConditionText.{spelled}
 use Rattle.lc_cond_text.specs.Waiting.{GoesOn}
 use Rattle.lc_cond_text.proofs.term_text.begin_column.Given as goal
 
--- what is written, with what waits and what stands below, is all
+-- what is written, with what waits and what is below, is all
 abbrev pub invariant-stores : goal.invariant-stores
 invariant-stores l =
     let by = spelled (development_shown l.development) in

@@ -45,7 +45,7 @@ returns-in-Err g c =
     let here : IsAdvanced d old mid true = subst (IsAdvanced d old mid) c.if-not-branch.false c.in_ok-advance.ensures in
     let inv = c.conditions.invariant in
     subst (λ l. IsUnfound d l c.args.budget c.in-Err.fault) same
-    (none_taken d hs es c.args.budget mid c.next_entry.new.walk c.in-Err.fault (went_on d es old mid inv.in_turn here.0) here.1 inv.hinted c.in-Err.ensures)
+    (none_taken d hs es c.args.budget mid c.next_entry.new.walk c.in-Err.fault (went_on d es old mid inv.in_turn here.0) here.1 inv.first inv.hinted c.in-Err.ensures)
 
 pub conditions-preserved : goal.conditions-preserved
 conditions-preserved g c =

@@ -7,7 +7,7 @@ use Rattle.lc_find.specs.FirstView.{all_of}
 use Rattle.lc_find.specs.Hinted.{IsFirstHint, IsFirstTaken}
 use Rattle.lc_find.proofs.finding.found_entries.Given as goal
 
--- the entries prove the first conditions, each the first hint where that holds
+-- the entries prove the first conditions, each the first hint if that holds
 abbrev pub invariant-conditions : goal.invariant-conditions
 invariant-conditions g l = record {
   in_turn : IsInTurn (development_shown l.development) (entries_of l.entries.items) l.walk;

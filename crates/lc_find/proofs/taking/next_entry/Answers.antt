@@ -7,7 +7,7 @@ use Rattle.lc_find.specs.Taken.{IsHintTaken}
 use Rattle.lc_find.proofs.taking.next_entry.Goals as goal
 
 pub returns-in-Ok-Some : goal.returns-in-Ok-Some
-returns-in-Ok-Some c =
+returns-in-Ok-Some g c =
     let d = development_shown c.args.development.now in
     let hs = all_of c.args.first.now in
     let old = c.args.walk.now in
@@ -16,7 +16,7 @@ returns-in-Ok-Some c =
     (at.0, λ h. at.1, λ zero. at.1)
 
 pub sought_entry-requires-clause-in_turn : goal.sought_entry-requires-clause-in_turn
-sought_entry-requires-clause-in_turn c =
+sought_entry-requires-clause-in_turn g c =
     let d = development_shown c.args.development.now in
     let hs = all_of c.args.first.now in
     let old = c.args.walk.now in
@@ -25,7 +25,7 @@ sought_entry-requires-clause-in_turn c =
     (c.requires.in_turn.0, went_on d c.requires.in_turn.0 old mid c.requires.in_turn.1 at.0)
 
 pub sought_entry-requires-clause-stands : goal.sought_entry-requires-clause-stands
-sought_entry-requires-clause-stands c =
+sought_entry-requires-clause-stands g c =
     let d = development_shown c.args.development.now in
     let hs = all_of c.args.first.now in
     let old = c.args.walk.now in
@@ -34,7 +34,7 @@ sought_entry-requires-clause-stands c =
     at.1
 
 pub returns-in-Ok-None : goal.returns-in-Ok-None
-returns-in-Ok-None c =
+returns-in-Ok-None g c =
     let d = development_shown c.args.development.now in
     let hs = all_of c.args.first.now in
     let old = c.args.walk.now in

@@ -7,7 +7,7 @@ use Rattle.lc_hist.proofs.document.+fits.Given as goal
 abbrev pub decreases-fits : goal.decreases-fits
 decreases-fits l = l.levels
 
--- the value fits where what is left of it does
+-- the value fits if what is left of it does
 abbrev pub invariant-items : goal.invariant-items
 invariant-items l = (j : Json) → BeginsWith l.value j → (rest : Items) × InItems l.items rest × (fits_json j l.levels ≡ fits_items rest (l.levels - 1))
 

@@ -7,7 +7,7 @@ use Rattle.lc_kernel.specs.declared.proof.Multiple.{Multiple}
 use Rattle.lc_kernel.proofs.Entries.{found_more}
 use Rattle.lc_kernel.proofs.arithmetic.find_all.Goals as goal
 
--- what stands behind the last
+-- after the last
 abbrev none : Multiple
 none = record { hypothesis = pos 0; multiplier = pos 0 }
 

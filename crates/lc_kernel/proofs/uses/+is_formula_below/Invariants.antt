@@ -14,7 +14,7 @@ decreases-is_formula_node_below l = 3 * l.formula.0 + 1
 abbrev pub decreases-are_formulas_below : goal.decreases-are_formulas_below
 decreases-are_formulas_below l = 3 * beyond l.formulas.now
 
--- what is left passes exactly where all does
+-- what is left passes exactly if all does
 abbrev pub invariant-are_formulas_below-loop-formula : goal.invariant-are_formulas_below-loop-formula
 invariant-are_formulas_below-loop-formula l =
     AreBelow l.in_use.count l.in_use.terms.now l.known × (all_below l.in_use.count (formulas_in l.in_use.terms.now l.formulas) ≡ all_below l.in_use.count (formulas_in l.in_use.terms.now (drop l.formula-index l.formulas)))

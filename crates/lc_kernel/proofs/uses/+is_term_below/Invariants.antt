@@ -20,7 +20,7 @@ decreases-is_store_below l = 3 * l.store.0 + 1
 abbrev pub decreases-are_both_below : goal.decreases-are_both_below
 decreases-are_both_below l = 3 * max l.left.0 l.right.0 + 3
 
--- what stands below the stores that are left has its variables below the count
+-- what is below the stores that are left has its variables below the count
 abbrev pub invariant-is_column_below-stores : goal.invariant-is_column_below-stores
 invariant-is_column_below-stores l =
     AreBelow l.in_use.count l.in_use.terms.now l.known × AreStores l.in_use.terms.now l.fn.column.0 (column_in l.in_use.terms.now l.fn.column) l.stores.items ×

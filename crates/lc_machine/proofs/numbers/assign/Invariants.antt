@@ -5,7 +5,7 @@ use Rattle.lc_machine.specs.Step.{assigned}
 use Rattle.lc_machine.specs.Below.{AreBelow}
 use Rattle.lc_machine.proofs.numbers.assign.Given as goal
 
--- what is left to be put makes the same of the variables
+-- what is left to be put gives the same variables
 abbrev pub invariant-loop-i : goal.invariant-loop-i
 invariant-loop-i l =
     let rest = locals_of (drop l.i l.targets) in

@@ -4,7 +4,7 @@ use Rattle.lc_outline_text.specs.StoredView.{riders_seen}
 use Rattle.lc_outline_text.specs.Views.{capped, count_cap}
 use Rattle.lc_outline_text.proofs.riders.path_number.Given as goal
 
--- the ways past the riders so far, so many times the paths past those that are left
+-- the ways past the riders so far, times the paths past those that are left
 abbrev pub invariant-loop-rider : goal.invariant-loop-rider
 invariant-loop-rider l = record {
   few : l.number ≤ count_cap;

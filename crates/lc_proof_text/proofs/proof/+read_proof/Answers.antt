@@ -53,7 +53,7 @@ read_branches-returns-then-is_full g t c =
     proofs_wrong _ _ (number_of c.proofs.list) c.proofs.proofs _ (ap (proofs_reading names c.args.owner zero c.proofs.due (number_of c.proofs.list)) next.rest ∙ rw full refl)
     (rw c.number-number.ensures at c.with_misshapen-then-is_full.ensures) c.proofs.invariant.read
 
--- behind one proof the others are left, from k on
+-- after one proof, the others are left, from k on
 one_more_at : (names : Names) (n : ℕ) (due due' : Due) (m i k : ℕ) (t : Tree) (ts us : Trees) → is_full due ≡ false → due' ≡ later due → i ≡ m → us ≡ t ▸ ts → k ≡ m + item_count t
     → proofs_reading names n zero due m us ≡ both more (proof_reading names i t) (proofs_reading names n zero due' k ts)
 one_more_at names n due due' m i k t ts us full after at rest number = rw (rest, full, after, at, number) refl

@@ -9,7 +9,7 @@ use Rattle.lc_reading.proofs.SoFar.{so_far_push, each_end}
 use Rattle.lc_proof_text.specs.Steps.{multiple_reading, multiples_reading}
 use Rattle.lc_proof_text.proofs.proof.read_multiples.Goals as goal
 
--- behind one multiple the others are left
+-- after one multiple, the others are left
 one_more : (l behind : Cursor) (part : Part) → place_of part ≡ number_of l → IsBehind l (tree_of part) behind
     → multiples_reading (number_of l) (rest_of l) ≡ both (λ x xs. x ∷ xs) (multiple_reading (place_of part) (tree_of part)) (multiples_reading (number_of behind) (rest_of behind))
 one_more l behind part at next =

@@ -8,20 +8,20 @@ use Rattle.lc_reading.specs.declared.pass.Pass.TheVariants.{Shape}
 use Rattle.lc_reading.proofs.SoFar.{so_far_push, each_end, misshapen_end}
 use Rattle.lc_reading.proofs.counted.read_counted.Goals as goal
 
--- none is left, and none is due
+-- none is left, and none is expected
 none_due : {X : Type 0} (read : ℕ → Tree → Reading X) (n k m : ℕ) (us : Trees) → us ≡ none → k ≡ 0 → counted_reading read n k m us ≡ fine []
 none_due read n k m us end met = rw (end, met) refl
 
--- none is left, and one is due
+-- none is left, and one is expected
 too_few : {X : Type 0} (read : ℕ → Tree → Reading X) (n k m : ℕ) (us : Trees) → us ≡ none → k ≢ 0 → counted_reading read n k m us ≡ wrong Shape n
 too_few read n zero m us end due = absurd (due refl)
 too_few read n (suc k) m us end due = rw end refl
 
--- one is left, and none is due
+-- one is left, and none is expected
 too_many : {X : Type 0} (read : ℕ → Tree → Reading X) (n k m : ℕ) (t : Tree) (ts us : Trees) → us ≡ t ▸ ts → k ≡ 0 → counted_reading read n k m us ≡ wrong Shape m
 too_many read n k m t ts us next met = rw (next, met) refl
 
--- behind one that is due the others are left
+-- after one that is expected, the others are left
 one_more : {X : Type 0} (read : ℕ → Tree → Reading X) (n k l m i j : ℕ) (t : Tree) (ts us : Trees) → k ≢ 0 → us ≡ t ▸ ts → i ≡ m → j ≡ m + item_count t → l ≡ k - 1
     → counted_reading read n k m us ≡ both (λ x xs. x ∷ xs) (read i t) (counted_reading read n l j ts)
 one_more read n zero l m i j t ts us due next at behind one = absurd (due refl)

@@ -9,7 +9,7 @@ use Rattle.lc_reading.specs.TableView.{listed}
 use Rattle.lc_reading.proofs.SoFar.{so_far_push, each_end}
 use Rattle.lc_reading.proofs.declared.read_declared.Goals as goal
 
--- behind one item the others are left
+-- after one item, the others are left
 one_more : {X : Type 0} (read : List (List ℕ) → ℕ → Tree → Reading X) (declares : Tree → List (List ℕ)) (before after : List (List ℕ)) (m i j : ℕ) (t : Tree) (ts us : Trees)
     → us ≡ t ▸ ts → i ≡ m → j ≡ m + item_count t → after ≡ before ++ declares t
     → declared_reading read declares before m us ≡ both (λ x xs. x ∷ xs) (read before i t) (declared_reading read declares after j ts)

@@ -12,13 +12,13 @@ use Rattle.lc_reading.specs.Readings.{both}
 use Rattle.lc_reading.specs.TableView.{listed}
 use Rattle.lc_reading.specs.declared.part.Part.{Part}
 
--- behind the item n the others are left, from m on
+-- after the item n, the others are left, from m on
 one_more_at : (limit : Option ℕ) (before after : List (List ℕ)) (n i m : ℕ) (t : Tree) (ts us : Trees) → i ≡ n → us ≡ t ▸ ts → m ≡ n + item_count t
     → after ≡ before ++ declared_by t
     → names_reading limit before n us ≡ both (λ (x y : Unit {0}). y) (declaration_reading limit before i t) (names_reading limit after m ts)
 one_more_at limit before after n i m t ts us at rest number entered = ap (names_reading limit before n) rest ∙ rw (at, number, entered) refl
 
--- behind one item the others are left
+-- after one item, the others are left
 one_more : (limit : Option ℕ) (before after : List (List ℕ)) (l behind : Cursor) (part : Part) → place_of part ≡ number_of l → IsBehind l (tree_of part) behind
     → after ≡ before ++ declared_by (tree_of part)
     → names_reading limit before (number_of l) (rest_of l)

@@ -9,7 +9,7 @@ use Rattle.lc_reading.specs.Rows.{each_reading}
 use Rattle.lc_reading.proofs.SoFar.{so_far_push, each_end}
 use Rattle.lc_reading.proofs.rows.read_each.Goals as goal
 
--- behind one item the others are left
+-- after one item, the others are left
 one_more : {X : Type 0} (read : ℕ → Tree → Reading X) (l behind : Cursor) (part : Part) → place_of part ≡ number_of l → IsBehind l (tree_of part) behind
     → each_reading read (number_of l) (rest_of l) ≡ both (λ x xs. x ∷ xs) (read (place_of part) (tree_of part)) (each_reading read (number_of behind) (rest_of behind))
 one_more read l behind part at next =

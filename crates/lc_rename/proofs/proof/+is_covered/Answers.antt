@@ -1,4 +1,4 @@
-use Rattle.std.proofs.Common.{false, sym, ap, ◌∙◌}
+use Rattle.std.proofs.Common.{sym, ap, ◌∙◌}
 use Rattle.std.specs.Prelude.{◌&&◌}
 use Rattle.lc_kernel.proofs.Checked.{proof_of-proof}
 use Rattle.lc_kernel.specs.Proofs.{proofs}

@@ -5,7 +5,7 @@ use Rattle.lc_rename.proofs.Chains.{IsReplacedIn}
 use Rattle.lc_rename.specs.Renaming.{column_for, renaming}
 use Rattle.lc_rename.proofs.renaming.+renamed_term.Given as goal
 
--- the stores that are left stand round what is renamed already
+-- the stores that are left are around what is renamed already
 abbrev pub invariant-renamed_column-stores : goal.invariant-renamed_column-stores
 invariant-renamed_column-stores l =
     AreInside l.column l.chain.stores.items × IsReplacedIn (renaming (column_for l.columns)) (column_of l.column) (column_of l.renamed) l.chain.stores.items

@@ -4,7 +4,7 @@ use Rattle.lc_sound.specs.Happening.{counted, returns_next}
 use Rattle.lc_run.specs.Ordering.{entries_shown, happenings_of, returns_in}
 use Rattle.lc_run.proofs.ordering.entries.Given as goal
 
--- what counts behind, the last first, and which clients have a return next
+-- what counts after this place, the last first, and which clients have a return next
 abbrev pub invariant-loop-place : goal.invariant-loop-place
 invariant-loop-place l =
     (vec_len l.returns ≡ l.clients)

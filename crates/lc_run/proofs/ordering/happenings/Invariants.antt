@@ -4,7 +4,7 @@ use Rattle.lc_run.specs.LabelView.{labels_of}
 use Rattle.lc_run.specs.Ordering.{calls_in, happenings_of}
 use Rattle.lc_run.proofs.ordering.happenings.Given as goal
 
--- what happened so far, with what happens by the labels behind
+-- what happened so far, followed by what happens by the remaining labels
 abbrev pub invariant-loop-label : goal.invariant-loop-label
 invariant-loop-label l =
     (vec_len l.calls ≡ l.clients)

@@ -3,8 +3,8 @@ use Rattle.lc_table.specs.Tables.{AreFormulas}
 use Rattle.lc_table.proofs.Listed.{are_formulas-get}
 use Rattle.lc_search.proofs.entry.entered.Goals as goal
 
-pub take_formula-requires : goal.take_formula-requires
-take_formula-requires c =
+pub entered_hypothesis-requires : goal.entered_hypothesis-requires
+entered_hypothesis-requires c =
     let ts = c.args.terms.now in
     let ks = c.as_slice-hypothesis-items.result.now in
     let same : ks ≡ c.args.goal.now.hypotheses = search rules in

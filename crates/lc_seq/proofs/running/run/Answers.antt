@@ -11,7 +11,7 @@ use Rattle.lc_seq.proofs.Runs.{run-within, AreRun, dropped, and_left, decided, r
 use Rattle.lc_seq.proofs.running.run.Goals as goal
 use Rattle.lc_seq.proofs.running.run.Goals.{In_ok-eval}
 
--- this branch, with those behind it
+-- this branch, followed by the others
 are : (c : In_ok-eval)
     → AreRun (state_of c.args.state.now) (env_of c.args.env.now) (column_count c.args.state.now) (variable_count c.args.env.now) (chosen (choice_of c.args.pick.now) (branches_of c.args.branches.now))
     (branch_of c.branch-item.result ∷ chosen (choice_of c.args.pick.now) (branches_of (drop (c.loop-branch.branch-index + 1) c.args.branches.now)))

@@ -13,7 +13,7 @@ use Rattle.lc_spec_text.proofs.arguments.read_listed_arguments.Given as goal
 abbrev pub decreases-items : goal.decreases-items
 decreases-items l = item_count_of_all (rest_of l.rest)
 
--- the first names, as many as the place says, stand behind one another and before those of the items that are left
+-- the first names, as many as the place says, come one after another and before those of the items that are left
 abbrev pub invariant-items : goal.invariant-items
 invariant-items l =
     let read = declared_reading (name_reading (Some (1 + argument_limit))) declared_by in

@@ -9,7 +9,7 @@ use Rattle.lc_term.specs.declared.term.Term.{size-Term}
 use Rattle.lc_term.proofs.Chained.{innermost_store, every_one_more}
 use Rattle.lc_term.proofs.chain.chain_of.Goals as goal
 
--- both terms stand inside the column expression
+-- both terms are inside the column expression
 abbrev IsInside : ColExpr → StoreAt → Type 0
 IsInside c s = (size-Term s.index.now < size-ColExpr c) × (size-Term s.value.now < size-ColExpr c)
 

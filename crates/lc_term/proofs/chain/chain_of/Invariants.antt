@@ -4,7 +4,7 @@ use Rattle.lc_term.specs.View.{column_of}
 use Rattle.lc_term.specs.declared.term.ColExpr.{size-ColExpr}
 use Rattle.lc_term.proofs.chain.chain_of.Given as goal
 
--- the stores so far are those round the rest
+-- the stores so far are those around the rest of the chain
 abbrev pub invariant-stores : goal.invariant-stores
 invariant-stores l =
     (size-ColExpr l.base ≤ size-ColExpr l.column) ×

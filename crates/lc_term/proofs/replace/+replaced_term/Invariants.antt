@@ -7,7 +7,7 @@ use Rattle.lc_term.specs.View.{column_of}
 use Rattle.lc_term.proofs.Chained.{ReplacedIn}
 use Rattle.lc_term.proofs.replace.+replaced_term.Given as goal
 
--- the stores that are left stand round what is replaced already
+-- the stores that are left are around what is replaced already
 abbrev pub invariant-replaced_column-stores : goal.invariant-replaced_column-stores
 invariant-replaced_column-stores g l =
     AreInside l.column l.chain.stores.items ×

@@ -4,11 +4,11 @@ use Rattle.lc_term.specs.View.{column_of}
 use Rattle.lc_text.proofs.Stores.{opened, IsWritten}
 use Rattle.lc_text.proofs.printing.+push_term.Given as goal
 
--- the words of so many stores are written
+-- the words of `counter` stores are written
 abbrev pub invariant-push_column-loop : goal.invariant-push_column-loop
 invariant-push_column-loop g l = string_bytes l.out ≡ string_bytes l.fn.out ++ opened l.counter
 
--- what stands below the stores that are left is written behind their words
+-- what is below the stores that are left is written after their words
 abbrev pub invariant-push_column-stores : goal.invariant-push_column-stores
 invariant-push_column-stores g l =
     AreInside l.fn.column l.chain.stores.items × IsWritten (g.S.Spelling.spelled l.spelling) l.depth (string_bytes l.fn.out) (string_bytes l.out) (column_of l.fn.column) l.chain.stores.items

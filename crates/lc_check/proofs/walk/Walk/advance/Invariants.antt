@@ -3,7 +3,7 @@ use Rattle.lc_cond.specs.Stream.{parts_left}
 use Rattle.lc_check.specs.Walking.{IsAtDue}
 use Rattle.lc_check.proofs.walk.Walk.advance.Given as goal
 
--- the same conditions are due
+-- the same conditions are expected
 abbrev pub invariant-parts : goal.invariant-parts
 invariant-parts l = IsAtDue (development_shown l.development) l.fn.self l.self
 

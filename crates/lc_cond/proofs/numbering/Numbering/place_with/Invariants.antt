@@ -4,7 +4,7 @@ use Rattle.lc_cond.specs.Conditions.{conditions}
 use Rattle.lc_cond.specs.Numbering.{count_before, IsNumbering}
 use Rattle.lc_cond.proofs.numbering.Numbering.place_with.Given as goal
 
--- the part begins at the number or before, and what stands at the other place behind it
+-- the part begins at the number or before, and what is at the other place after it
 abbrev pub invariant-loop-low : goal.invariant-loop-low
 invariant-loop-low l = record {
   order : l.low ≤ l.high;

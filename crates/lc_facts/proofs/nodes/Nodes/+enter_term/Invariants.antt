@@ -2,7 +2,7 @@ use Rattle.std.proofs.Common.{vec_len}
 use Rattle.lc_term.specs.Chains.{AreInside}
 use Rattle.lc_facts.proofs.nodes.Nodes.+enter_term.Given as goal
 
--- the terms of the stores that are left stand inside
+-- the terms of the stores that are left are inside
 abbrev pub invariant-enter_column-stores : goal.invariant-enter_column-stores
 invariant-enter_column-stores l = AreInside l.column l.chain.stores.items
 

@@ -2,6 +2,6 @@ use Rattle.std.specs.List.{All}
 use Rattle.lc_facts.specs.Due.{IsDue}
 use Rattle.lc_facts.proofs.nodes.Nodes.take_term.Given as goal
 
--- what is due and what waits stand in the table
+-- what is in `due` and what waits is in the table
 abbrev pub invariant-loop : goal.invariant-loop
 invariant-loop l = IsDue l.terms l.due × All (IsDue l.terms) l.waiting.items

@@ -35,7 +35,7 @@ this c =
 coefficient : (c : In-Some) → FitsSigned w128 c.in-Some.coefficient.now
 coefficient c = subst (FitsSigned w128) (entry_found _ _ _ (this c)) (c.args.other.now.fits c.in-Some.atom.now)
 
--- where the multiple can be added, its product and sum fit
+-- if the multiple can be added, its product and sum fit
 fits : (c : In-Some) → CanAddScaled (numbers c.args.self) c.args.multiplier (numbers c.args.other.now) →
     FitsSigned w128 (c.args.multiplier *ℤ c.in-Some.coefficient.now) × FitsSigned w128 (numbers c.args.self (Some c.in-Some.atom.now) +ℤ c.args.multiplier *ℤ c.in-Some.coefficient.now)
 fits c can = next_fits (numbers c.args.self) c.args.other.now.constant _ _ _ _ _ (this c).whole (this c).fresh c.args.multiplier can

@@ -16,7 +16,7 @@ decreases-copied_term l = 2 * l.term.0 + 1
 abbrev pub decreases-copied_store : goal.decreases-copied_store
 decreases-copied_store l = 2 * l.store.0
 
--- what stands below the stores that are left is copied
+-- what is below the stores that are left is copied already
 abbrev pub invariant-copied_column-stores : goal.invariant-copied_column-stores
 invariant-copied_column-stores l =
     Keeps l.fn.self l.self × Copies l.other l.self l.copied × AreStores l.other l.fn.column.0 (column_in l.other l.fn.column) l.chain.stores.items ×

@@ -5,7 +5,7 @@ use Rattle.lc_term.proofs.Chained.{StandsIn}
 use Rattle.lc_table.specs.Tables.{column_in, IsColumn, Keeps}
 use Rattle.lc_table.proofs.table.Terms.+enter_term.Given as goal
 
--- the stores that are left stand round what is entered
+-- the stores that are left are around what is entered already
 abbrev pub invariant-enter_column-stores : goal.invariant-enter_column-stores
 invariant-enter_column-stores l =
     Keeps l.fn.self l.self × IsColumn l.self l.entered × AreInside l.column l.chain.stores.items × StandsIn (column_of l.column) (column_in l.self l.entered) l.chain.stores.items

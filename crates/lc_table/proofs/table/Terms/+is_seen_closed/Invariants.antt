@@ -7,7 +7,7 @@ use Rattle.lc_table.proofs.table.Terms.+is_seen_closed.Given as goal
 abbrev pub decreases-is_seen_closed : goal.decreases-is_seen_closed
 decreases-is_seen_closed l = l.part
 
--- what is left is no later, and where no bound variable stands in it, none does in the whole
+-- the rest is no later, and if no bound variable occurs in it, none occurs in the whole
 abbrev pub invariant-stores : goal.invariant-stores
 invariant-stores l =
     (l.rest ≤ l.fn.part) × (is_some (slice_get (parts l.self) l.rest) ≡ true) ×

@@ -21,13 +21,13 @@ decreases-replaced_term g l = 4 * l.term.0 + (if l.levels == 0 then 3 else 2)
 abbrev pub decreases-replaced_store : goal.decreases-replaced_store
 decreases-replaced_store g l = 4 * l.store.0
 
--- what stands below the stores that are left is replaced
+-- what is below the stores that are left is replaced already
 abbrev pub invariant-replaced_column-stores : goal.invariant-replaced_column-stores
 invariant-replaced_column-stores g l =
     Keeps l.fn.self l.self × Stands g.R.Filled.replacement l.self l.put l.done × AreStores l.fn.self l.fn.column.0 (column_in l.fn.self l.fn.column) l.chain.stores.items ×
     HasColumn l.self l.replaced (replace_column (under_many l.depth g.R.Filled.replacement) (below_stores (column_in l.fn.self l.fn.column) l.chain.stores.items))
 
--- what is remembered stands in the table
+-- what is remembered is in the table
 abbrev pub invariant-replace_below-loop-term : goal.invariant-replace_below-loop-term
 invariant-replace_below-loop-term g l = Keeps l.fn.self l.self × Stands g.R.Filled.replacement l.self l.put l.done
 

@@ -22,7 +22,7 @@ decreases-shifted_term l = 4 * l.term.0 + (if l.levels == 0 then 3 else 2)
 abbrev pub decreases-shifted_store : goal.decreases-shifted_store
 decreases-shifted_store l = 4 * l.store.0
 
--- what stands below the stores that are left is moved
+-- what is below the stores that are left is moved already
 abbrev pub invariant-shifted_column-stores : goal.invariant-shifted_column-stores
 invariant-shifted_column-stores l =
     Keeps l.fn.self l.self × AreReplaced (shifting l.added l.cutoff) (parts l.self) l.done.entries × AreStores l.fn.self l.fn.column.0 (column_in l.fn.self l.fn.column) l.chain.stores.items ×

@@ -16,7 +16,7 @@ decreases-boxed_term l = 2 * l.term.0 + 2
 abbrev pub decreases-with_store_tree : goal.decreases-with_store_tree
 decreases-with_store_tree l = 2 * l.store.0
 
--- what stands below the stores that are left has its tree
+-- what is below the stores that are left has its tree already
 abbrev pub invariant-column-stores : goal.invariant-column-stores
 invariant-column-stores l =
     AreStores l.self l.fn.column.0 (column_in l.self l.fn.column) l.chain.stores.items × (column_of l.tree ≡ below_stores (column_in l.self l.fn.column) l.chain.stores.items)

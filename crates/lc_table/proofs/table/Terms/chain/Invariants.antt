@@ -1,7 +1,7 @@
 use Rattle.lc_table.proofs.Chained.{GoneDown}
 use Rattle.lc_table.proofs.table.Terms.chain.Given as goal
 
--- the stores so far stand round the base
+-- the stores so far are around the base
 abbrev pub invariant-stores : goal.invariant-stores
 invariant-stores l = GoneDown l.self l.fn.column l.stores.items l.base
 

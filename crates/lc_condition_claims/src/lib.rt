@@ -1,0 +1,5 @@
+//! What the calls that list conditions promise: each promise again, over the call that keeps it. The planted bugs of these calls
+//! are here: bodies that return something wrong where the call returns what is right.
+#![tactic(auto)]
+
+pub mod conditions;

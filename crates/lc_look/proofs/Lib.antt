@@ -1,0 +1,4 @@
+mod Fitting
+mod Numbers
+mod Seeing
+mod Trying

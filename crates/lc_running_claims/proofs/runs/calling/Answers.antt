@@ -1,0 +1,16 @@
+use Rattle.lc_running_claims.proofs.runs.calling.Goals as goal
+
+pub returns-clause-ok : goal.returns-clause-ok
+returns-clause-ok g c = c.call.ensures.ok
+
+pub returns-clause-err : goal.returns-clause-err
+returns-clause-err g c = c.call.ensures.err
+
+pub returns-clause-busy : goal.returns-clause-busy
+returns-clause-busy g c = c.call.ensures.busy
+
+pub returns-clause-never : goal.returns-clause-never
+returns-clause-never g c = c.call.ensures.never
+
+pub returns-clause-same : goal.returns-clause-same
+returns-clause-same g c = c.call.ensures.same

@@ -1,0 +1,28 @@
+use Rattle.lc_running_claims.proofs.runs.taking_a_step.Goals as goal
+
+pub returns-clause-grown : goal.returns-clause-grown
+returns-clause-grown g c = c.take_step.ensures.grown
+
+pub returns-clause-idle : goal.returns-clause-idle
+returns-clause-idle g c = c.take_step.ensures.idle
+
+pub returns-clause-fault : goal.returns-clause-fault
+returns-clause-fault g c = c.take_step.ensures.fault
+
+pub returns-clause-labels : goal.returns-clause-labels
+returns-clause-labels g c = c.take_step.ensures.labels
+
+pub returns-clause-world : goal.returns-clause-world
+returns-clause-world g c = c.take_step.ensures.world
+
+pub returns-clause-made : goal.returns-clause-made
+returns-clause-made g c = c.take_step.ensures.made
+
+pub returns-clause-development : goal.returns-clause-development
+returns-clause-development g c = c.take_step.ensures.development
+
+pub returns-clause-clients : goal.returns-clause-clients
+returns-clause-clients g c = c.take_step.ensures.clients
+
+pub returns-clause-same : goal.returns-clause-same
+returns-clause-same g c = c.take_step.ensures.same
