@@ -1,7 +1,7 @@
 //! Which column of a new development has the name of an old one.
 ghost use Rattle.std.specs.Prelude.{◌≡◌, IfOk, option_map};
 ghost use Rattle.lc_carry.specs.Carried.{column_between};
-ghost use Rattle.lc_outline.specs.DevelopmentView.{development_shown};
+ghost use Rattle.lc_outline.specs.DevelopmentView.{development_view};
 ghost use Rattle.lc_reading.specs.Listed.{place_of};
 ghost use Rattle.lc_reading.specs.TableView.{listed};
 ghost use Rattle.lc_rename.specs.Renaming.{column_for};
@@ -33,7 +33,7 @@ pub(crate) fn columns_between(
     old: &Development,
     new: &Development,
 ) -> Result<Vec<Option<ColId>>, OutOfMemory>
-    ensures { IfOk result (λ columns. column_for columns.items ≡ column_between (development_shown old.now) (development_shown new.now)) }
+    ensures { IfOk result (λ columns. column_for columns.items ≡ column_between (development_view old.now) (development_view new.now)) }
 {
     let names = column_names(alloc, old.parts())?;
     let others = column_names(alloc, new.parts())?;

@@ -9,7 +9,7 @@ ghost use Rattle.lc_cond.specs.ConditionView.{condition_in, IsCondition, AreCond
 ghost use Rattle.lc_cond_text.specs.ConditionText.{spelled, statement_text};
 ghost use Rattle.lc_cond_text.specs.Recalled.{Recalls};
 ghost use Rattle.lc_kernel.specs.View.{proof_of};
-ghost use Rattle.lc_outline.specs.DevelopmentView.{development_shown};
+ghost use Rattle.lc_outline.specs.DevelopmentView.{development_view};
 
 use crate::old_proofs::OldProofs;
 use lc_base::OutOfMemory;
@@ -46,10 +46,10 @@ fn push_carried(
     condition: &Condition,
 ) -> Result<(), OutOfMemory>
     requires condition { IsCondition terms.now condition.now }
-    requires recalls { Recalls (spelled (development_shown development.now)) terms.now texts.old }
-    ensures entries { let E = development_shown development.now in
+    requires recalls { Recalls (spelled (development_view development.now)) terms.now texts.old }
+    ensures entries { let E = development_view development.now in
         OnOk result (entries_of entries.new.items ≡ entries_of entries.old.items ++ entry_for number (proof_for proofs.now (statement_text E (condition_in terms.now condition.now)))) }
-    ensures recalls { OnOk result (Recalls (spelled (development_shown development.now)) terms.now texts.new) }
+    ensures recalls { OnOk result (Recalls (spelled (development_view development.now)) terms.now texts.new) }
 {
     let alloc = *entries.allocator();
     let mut text = Vec::new(alloc);
@@ -68,7 +68,7 @@ fn push_part(
     part: &[Condition],
 ) -> Result<(), OutOfMemory>
     requires { AreConditions terms.now part.now }
-    ensures { let E = development_shown development.now in
+    ensures { let E = development_view development.now in
         OnOk result (entries_of entries.new.items ≡ entries_of entries.old.items ++ carried_from E (proof_for proofs.now) first (map (condition_in terms.now) part.now)) }
 {
     let mut texts = no_texts(*entries.allocator());
@@ -95,7 +95,7 @@ pub fn carried_entries(
     certificate: &Certificate,
     development: &Development,
 ) -> Result<Vec<Entry>, OutOfMemory>
-    ensures exactly { IfOk result (λ entries. entries_of entries.items ≡ carried (development_shown old.now) (entries_in certificate.now) (development_shown development.now)) }
+    ensures exactly { IfOk result (λ entries. entries_of entries.items ≡ carried (development_view old.now) (entries_in certificate.now) (development_view development.now)) }
     ensures few { HaveFewSteps (entries_in certificate.now) → IfOk result (λ entries. HaveFewSteps (entries_of entries.items)) }
 {
     let proofs = OldProofs::new(alloc, old, certificate, development)?;

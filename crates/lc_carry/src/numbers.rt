@@ -9,7 +9,7 @@ ghost use Rattle.lc_cond.specs.Conditions.{conditions};
 ghost use Rattle.lc_cond.specs.ConditionView.{condition_in, IsCondition, AreConditions};
 ghost use Rattle.lc_cond_text.specs.ConditionText.{spelled};
 ghost use Rattle.lc_cond_text.specs.Recalled.{Recalls};
-ghost use Rattle.lc_outline.specs.DevelopmentView.{development_shown};
+ghost use Rattle.lc_outline.specs.DevelopmentView.{development_view};
 ghost use Rattle.lc_rename.specs.Renaming.{column_for};
 
 use crate::text_numbers::TextNumbers;
@@ -50,11 +50,11 @@ fn note_condition(
     condition: &Condition,
 ) -> Result<(), OutOfMemory>
     requires condition { IsCondition terms.now condition.now }
-    requires recalls { Recalls (spelled (development_shown old.now.development.now)) terms.now texts.old }
-    ensures noted { let D = development_shown old.now.development.now in
+    requires recalls { Recalls (spelled (development_view old.now.development.now)) terms.now texts.old }
+    ensures noted { let D = development_view old.now.development.now in
         OnOk result ((t : List ℕ) → number_of numbers.new t ≡ option_or (number_of numbers.old t)
         (number_here D (entries_in old.now.certificate.now) (column_for old.now.columns.now) t number (condition_in terms.now condition.now))) }
-    ensures recalls { OnOk result (Recalls (spelled (development_shown old.now.development.now)) terms.now texts.new) }
+    ensures recalls { OnOk result (Recalls (spelled (development_view old.now.development.now)) terms.now texts.new) }
 {
     if !has_carried(old, number) {
         return Ok(());
@@ -73,7 +73,7 @@ fn note_part(
     part: &[Condition],
 ) -> Result<(), OutOfMemory>
     requires { AreConditions terms.now part.now }
-    ensures { let D = development_shown old.now.development.now in
+    ensures { let D = development_view old.now.development.now in
         OnOk result ((t : List ℕ) → number_of numbers.new t ≡ option_or (number_of numbers.old t)
         (least_number D (entries_in old.now.certificate.now) (column_for old.now.columns.now) t first (map (condition_in terms.now) part.now))) }
 {
@@ -89,7 +89,7 @@ fn note_part(
 /// The numbers of the conditions of the old development whose proofs can be carried, by what they say; of those that say the
 /// same the least.
 pub(crate) fn numbers_of(alloc: Global, old: &Old<'_>) -> Result<TextNumbers, OutOfMemory>
-    ensures { let D = development_shown old.now.development.now in
+    ensures { let D = development_view old.now.development.now in
         IfOk result (λ numbers. (t : List ℕ) → number_of numbers t ≡ least_number D (entries_in old.now.certificate.now) (column_for old.now.columns.now) t 0 (conditions D)) }
 {
     let mut numbers = TextNumbers::new(alloc);

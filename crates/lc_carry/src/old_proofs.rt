@@ -32,7 +32,7 @@ impl<'a> OldProofs<'a> {
     ghost use Rattle.lc_carry.specs.OldProofs.{proof_for};
     ghost use Rattle.lc_cert.specs.CertificateView.{entries_in};
     ghost use Rattle.lc_kernel.specs.View.{proof_of};
-    ghost use Rattle.lc_outline.specs.DevelopmentView.{development_shown};
+    ghost use Rattle.lc_outline.specs.DevelopmentView.{development_view};
 
     /// The proofs of an old development, whose certificate this is, that can be carried to a new one.
     pub(crate) fn new(
@@ -41,7 +41,7 @@ impl<'a> OldProofs<'a> {
         certificate: &'a Certificate,
         new: &Development,
     ) -> Result<OldProofs<'a>, OutOfMemory>
-        ensures { IfOk result (λ proofs. (t : List ℕ) → proof_for proofs t ≡ carried_proof (development_shown old.now) (entries_in certificate.now) (development_shown new.now) t) }
+        ensures { IfOk result (λ proofs. (t : List ℕ) → proof_for proofs t ≡ carried_proof (development_view old.now) (entries_in certificate.now) (development_view new.now) t) }
     {
         let columns = columns_between(alloc, old, new)?;
         let numbers = numbers_of(

@@ -29,7 +29,7 @@ impl CertReader {
     ghost use Rattle.lc_sexp.specs.declared.part.Part.{Part as FilePart};
     ghost use Rattle.lc_reading.specs.TableView.{listed};
     ghost use Rattle.lc_outline.specs.Development.{Development as Shown};
-    ghost use Rattle.lc_outline.specs.DevelopmentView.{development_shown};
+    ghost use Rattle.lc_outline.specs.DevelopmentView.{development_view};
     ghost use Rattle.lc_cert.specs.Certificates.{Entry as Proved};
     ghost use Rattle.lc_cert.specs.EntryView.{entry_of};
     ghost use Rattle.lc_naming.specs.ColumnNames.{column_names};
@@ -37,7 +37,7 @@ impl CertReader {
 
     /// A reader of a certificate of this development, which has been fed nothing.
     pub fn new(alloc: Global, development: &Development) -> Result<CertReader, OutOfMemory>
-        ensures start { IfOk result (λ reader. IsAfterTaking (development_shown development.now) [] [] reader) }
+        ensures start { IfOk result (λ reader. IsAfterTaking (development_view development.now) [] [] reader) }
         ensures none { IfOk result (λ reader. waiting reader ≡ []) }
         ensures memory { IfOk result (λ reader. is_spent reader ≡ false) }
     {
@@ -83,9 +83,9 @@ impl CertReader {
     /// Reads the parts that have ended. The names of columns are listed only if there is one.
     fn read_ready(&mut self, development: &Development) -> Result<(), OutOfMemory>
         ensures { OnOk result (is_reader_spent self.old.reader ≡ false → (fed : List ℕ) → (parts : List FilePart) → (taken : List Proved) →
-            IsForm (column_names (development_shown development.now)) (development_shown development.now).object.name parts taken self.old.form →
+            IsForm (column_names (development_view development.now)) (development_view development.now).object.name parts taken self.old.form →
             IsReaderAfter fed parts self.old.reader →
-            IsAfterTaking (development_shown development.now) fed taken self.new) }
+            IsAfterTaking (development_view development.now) fed taken self.new) }
     {
         let Some(first) = self.reader.take() else {
             return Ok(());
@@ -101,8 +101,8 @@ impl CertReader {
 
     /// Takes bytes that come after what was fed.
     fn feed_all(&mut self, development: &Development, piece: &[u8]) -> Result<(), OutOfMemory>
-        ensures { OnOk result ((fed : List ℕ) → (taken : List Proved) → IsAfterTaking (development_shown development.now) fed taken self.old →
-            IsAfterTaking (development_shown development.now) (fed ++ piece.now) taken self.new) }
+        ensures { OnOk result ((fed : List ℕ) → (taken : List Proved) → IsAfterTaking (development_view development.now) fed taken self.old →
+            IsAfterTaking (development_view development.now) (fed ++ piece.now) taken self.new) }
     {
         self.reader.feed(piece)?;
         self.read_ready(development)
@@ -110,8 +110,8 @@ impl CertReader {
 
     /// Takes the next piece of the certificate, which may be empty.
     pub fn feed(&mut self, development: &Development, piece: &[u8]) -> Result<(), OutOfMemory>
-        ensures fed { OnOk result ((fed : List ℕ) → (taken : List Proved) → IsAfterTaking (development_shown development.now) fed taken self.old →
-            IsAfterTaking (development_shown development.now) (fed ++ piece.now) taken self.new) }
+        ensures fed { OnOk result ((fed : List ℕ) → (taken : List Proved) → IsAfterTaking (development_view development.now) fed taken self.old →
+            IsAfterTaking (development_view development.now) (fed ++ piece.now) taken self.new) }
         ensures spent { is_spent self.new ≡ is_err result }
         ensures never_again { is_spent self.old ≡ true → is_err result ≡ true }
     {
@@ -143,8 +143,8 @@ impl CertReader {
 
     /// Whether the file, which ends here, is a certificate; else its first refusal. Proofs that were not taken are dropped.
     pub fn finish(self, development: &Development) -> Result<(), Fault>
-        ensures answer { (fed : List ℕ) → (taken : List Proved) → IsAfterTaking (development_shown development.now) fed taken self →
-            IsAnswerOf (development_shown development.now) fed (taken ++ waiting self) result }
+        ensures answer { (fed : List ℕ) → (taken : List Proved) → IsAfterTaking (development_view development.now) fed taken self →
+            IsAnswerOf (development_view development.now) fed (taken ++ waiting self) result }
         ensures never_again { is_spent self ≡ true → result ≡ Err NoMemory }
     {
         if self.out_of_memory {

@@ -84,14 +84,14 @@ impl<'a> EntryReader<'a> {
     ghost use Rattle.std.specs.Prelude.{◌≡◌, ◌≤◌, IfOk, IfSome};
     ghost use Rattle.lc_kernel.specs.Proofs.{size};
     ghost use Rattle.lc_kernel.specs.View.{proof_of};
-    ghost use Rattle.lc_outline.specs.PartsView.{parts_shown};
+    ghost use Rattle.lc_outline.specs.PartsView.{parts_view};
     ghost use Rattle.lc_naming.specs.ColumnNames.{column_names};
     ghost use Rattle.lc_cert.specs.ColumnNames.{names_with};
     ghost use Rattle.lc_cert.specs.OneByOne.{names_known, IsSingleRead};
 
     /// A reader of entries of certificates of this development.
     pub fn new(alloc: Global, development: &'a Parts) -> Result<EntryReader<'a>, OutOfMemory>
-        ensures { IfOk result (λ reader. names_known reader ≡ names_with (column_names (parts_shown development.now))) }
+        ensures { IfOk result (λ reader. names_known reader ≡ names_with (column_names (parts_view development.now))) }
     {
         let names = column_names(alloc, development)?;
         let columns = table_of(alloc, &names)?;

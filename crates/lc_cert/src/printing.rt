@@ -1,6 +1,6 @@
 //! How certificates are printed.
 ghost use Rattle.std.specs.Prelude.{◌≡◌, ◌++◌, IfOk, OnOk, codes, string_bytes};
-ghost use Rattle.lc_outline.specs.DevelopmentView.{development_shown};
+ghost use Rattle.lc_outline.specs.DevelopmentView.{development_view};
 ghost use Rattle.lc_reading.specs.Words.{names_in};
 ghost use Rattle.lc_sexp.specs.Printed.{printed_tree, printed_others};
 ghost use Rattle.lc_cert.specs.CertificateView.{entries_in};
@@ -68,7 +68,7 @@ pub fn certificate_text(
     development: &Development,
     certificate: &Certificate,
 ) -> Result<Vec<u8>, OutOfMemory>
-    ensures { IfOk result (λ text. text.items ≡ certificate_line (development_shown development.now) (entries_in certificate.now)) }
+    ensures { IfOk result (λ text. text.items ≡ certificate_line (development_view development.now) (entries_in certificate.now)) }
 {
     let parts = development.parts();
     let columns = column_names(alloc, parts)?;

@@ -5,7 +5,7 @@ ghost use Rattle.lc_kernel.specs.View.{proof_of};
 ghost use Rattle.lc_reading.specs.Parts.{tree_of, place_of};
 ghost use Rattle.lc_reading.specs.Results.{IsReading};
 ghost use Rattle.lc_reading.specs.TableView.{listed};
-ghost use Rattle.lc_outline.specs.DevelopmentView.{development_shown};
+ghost use Rattle.lc_outline.specs.DevelopmentView.{development_view};
 ghost use Rattle.lc_proof_text.specs.Files.{only};
 ghost use Rattle.lc_proof_text.specs.Proofs.{proof_reading};
 ghost use Rattle.lc_cert.specs.Certificates.{is_above};
@@ -207,7 +207,7 @@ pub fn certificate_of(
     development: &Development,
     bytes: &[u8],
 ) -> Result<Certificate, Fault>
-    ensures { IsAnswerTo (development_shown development.now) bytes.now result }
+    ensures { IsAnswerTo (development_view development.now) bytes.now result }
 {
     let forms = match Forms::read(alloc, bytes) {
         Ok(forms) => forms,

@@ -33,13 +33,13 @@ pub still_known : (old new : Table) (cs : List Condition) → AreConditions old 
 still_known old new [] h kept = tt
 still_known old new (c ∷ cs) h kept = ((are_formulas_still old new c.goal.hypotheses h.0.0 kept, is_formula_still old new c.goal.goal h.0.1 kept), still_known old new cs h.1 kept)
 
-pub still_seen : (old new : Table) (cs : List Condition) → AreConditions old cs → Keeps old new → map (condition_in new) cs ≡ map (condition_in old) cs
-still_seen old new [] h kept = refl
-still_seen old new (c ∷ cs) h kept =
+pub conditions_are_kept : (old new : Table) (cs : List Condition) → AreConditions old cs → Keeps old new → map (condition_in new) cs ≡ map (condition_in old) cs
+conditions_are_kept old new [] h kept = refl
+conditions_are_kept old new (c ∷ cs) h kept =
     let here : condition_in new c ≡ condition_in old c =
     ap₂ (λ hs g. record { kind = kind_of c.kind; place = place_of c.place; variables = c.goal.vars; hypotheses = hs; goal = g })
     (formulas_still old new c.goal.hypotheses h.0.0 kept) (formula_still old new c.goal.goal h.0.1 kept) in
-    ap₂ (λ x xs. x ∷ xs) here (still_seen old new cs h.1 kept)
+    ap₂ (λ x xs. x ∷ xs) here (conditions_are_kept old new cs h.1 kept)
 
 -- ---- the next condition
 
@@ -84,7 +84,7 @@ next_bounded d taken p c cs uses few h due =
 pub still_due : (d : Development) (old new : Walk) (rest : List Condition) → new.stream ≡ old.stream → drop new.place new.part.items ≡ rest → AreConditions old.terms rest → Keeps old.terms new.terms
     → due_behind d old.terms rest old ≡ conditions_due d new
 still_due d old new rest stream is known kept =
-    ap₂ (λ l s. l ++ conditions_left d s) (sym (ap (map (condition_in new.terms)) is ∙ still_seen old.terms new.terms rest known kept)) (sym stream)
+    ap₂ (λ l s. l ++ conditions_left d s) (sym (ap (map (condition_in new.terms)) is ∙ conditions_are_kept old.terms new.terms rest known kept)) (sym stream)
 
 -- ---- what is done and what is expected
 

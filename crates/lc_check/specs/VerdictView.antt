@@ -3,7 +3,7 @@ use Rattle.std.specs.Prelude.{◌≡◌, ℕ, List, length, Result, Ok, Err}
 use Rattle.lc_base.specs.declared.refusal.Fault.{Fault}
 use Rattle.lc_base.specs.declared.refusal.Fault.TheVariants.{Refused as IsRefusedAs, OutOfMemory}
 use Rattle.lc_outline.specs.Development.{Development}
-use Rattle.lc_outline.specs.DevelopmentView.{development_shown}
+use Rattle.lc_outline.specs.DevelopmentView.{development_view}
 use Rattle.lc_cond.specs.Conditions.{conditions}
 use Rattle.lc_check.specs.Verdicts.{IsProvenBy, IsCertificateRefusal, IsAccepted, IsRefused}
 use Rattle.lc_check.specs.declared.verdict.Accepted.{Accepted}
@@ -12,7 +12,7 @@ use Rattle.lc_check.specs.declared.verdict.Verdict.TheVariants.{Accepted as Acce
 
 -- the development that is accepted
 abbrev pub development_in : Accepted → Development
-development_in a = development_shown a.development
+development_in a = development_view a.development
 
 -- the verdict on a development and a certificate file
 abbrev pub IsVerdictOn : Development → List ℕ → Verdict → Type 0

@@ -1,6 +1,6 @@
 //! A certificate of a development that was read, checked in pieces.
 ghost use Rattle.std.specs.Prelude.{◌++◌, ℕ, List, OnOk};
-ghost use Rattle.lc_outline.specs.DevelopmentView.{development_shown};
+ghost use Rattle.lc_outline.specs.DevelopmentView.{development_view};
 ghost use Rattle.lc_sound.specs.Derived.{AreDerived};
 ghost use Rattle.lc_sound.specs.Linearizable.{IsLinearizableObject};
 ghost use Rattle.lc_check.specs.UpTo.{IsUpTo};
@@ -54,18 +54,18 @@ impl Model for CertificateSession {
 
     ghost coded = { stage_contracts.the_row.coded };
 
-    ghost use Rattle.lc_outline.specs.DevelopmentView.{development_shown};
+    ghost use Rattle.lc_outline.specs.DevelopmentView.{development_view};
     ghost use Rattle.lc_check.specs.UpTo.{IsUpTo};
 
     ghost view = { λ s. s.stage };
 
-    ghost invariant = { λ s. s.stage.out_of_memory ≡ false → (fed : List ℕ) × IsUpTo (development_shown s.stage.development) fed s.stage.reader s.stage.progress };
+    ghost invariant = { λ s. s.stage.out_of_memory ≡ false → (fed : List ℕ) × IsUpTo (development_view s.stage.development) fed s.stage.reader s.stage.progress };
 }
 
 /// If each condition of a development has a derivation, its object is linearizable by its specification.
 pub(crate) fn derived_is_linearizable(development: &Development)
-    requires { AreDerived (development_shown development.now) }
-    ensures { IsLinearizableObject (development_shown development.now).specification (development_shown development.now).object }
+    requires { AreDerived (development_view development.now) }
+    ensures { IsLinearizableObject (development_view development.now).specification (development_view development.now).object }
 {
     derived_conditions_are_valid(development);
     linearizable_runs(development);
@@ -80,9 +80,9 @@ pub(crate) fn feed_all<P: Prover>(
     progress: &mut Progress,
     piece: &[u8],
 ) -> Result<(), OutOfMemory>
-    requires { (fed : List ℕ) × IsUpTo (development_shown development.now) fed reader.old progress.old }
-    ensures { OnOk result ((fed : List ℕ) → IsUpTo (development_shown development.now) fed reader.old progress.old →
-        IsUpTo (development_shown development.now) (fed ++ piece.now) reader.new progress.new) }
+    requires { (fed : List ℕ) × IsUpTo (development_view development.now) fed reader.old progress.old }
+    ensures { OnOk result ((fed : List ℕ) → IsUpTo (development_view development.now) fed reader.old progress.old →
+        IsUpTo (development_view development.now) (fed ++ piece.now) reader.new progress.new) }
 {
     reader.feed(development, piece)?;
     'entries: loop {
@@ -95,15 +95,15 @@ pub(crate) fn feed_all<P: Prover>(
 
 impl Stage {
     ghost use Rattle.std.specs.Prelude.{ℕ, List, IfOk};
-    ghost use Rattle.lc_outline.specs.DevelopmentView.{development_shown};
+    ghost use Rattle.lc_outline.specs.DevelopmentView.{development_view};
     ghost use Rattle.lc_sound.specs.Linearizable.{IsLinearizableObject};
     ghost use Rattle.lc_check.specs.UpTo.{IsUpTo};
     ghost use Rattle.lc_check.specs.VerdictView.{development_in, IsAnswerOn};
 
     /// What is accepted of the development and the certificate file, which ends here, if they are.
     fn proven(self) -> Result<Accepted, Fault>
-        requires { (fed : List ℕ) × IsUpTo (development_shown self.development) fed self.reader self.progress }
-        ensures exactly { (cert : List ℕ) → IsUpTo (development_shown self.development) cert self.reader self.progress → IsAnswerOn (development_shown self.development) cert result }
+        requires { (fed : List ℕ) × IsUpTo (development_view self.development) fed self.reader self.progress }
+        ensures exactly { (cert : List ℕ) → IsUpTo (development_view self.development) cert self.reader self.progress → IsAnswerOn (development_view self.development) cert result }
         ensures linearizable { IfOk result (λ a. IsLinearizableObject (development_in a).specification (development_in a).object) }
     {
         let Stage {
@@ -124,14 +124,14 @@ impl Stage {
 impl CertificateSession {
     ghost use Rattle.std.specs.Prelude.{◌≡◌, ◌++◌, ℕ, List, [], true, false, IfOk, OnOk, is_err};
     ghost use Rattle.lc_outline.specs.Development.{Development as Shown};
-    ghost use Rattle.lc_outline.specs.DevelopmentView.{development_shown};
+    ghost use Rattle.lc_outline.specs.DevelopmentView.{development_view};
     ghost use Rattle.lc_sound.specs.Linearizable.{IsLinearizableObject};
     ghost use Rattle.lc_check.specs.Stages.{IsFedOn, is_spent_on};
     ghost use Rattle.lc_check.specs.VerdictView.{IsVerdictOn, IfAccepted};
 
     /// A session of this development, which has been fed nothing.
     pub fn new(alloc: Global, development: Development) -> Result<CertificateSession, OutOfMemory>
-        ensures start { IfOk result (λ session. IsFedOn (development_shown development) [] session) }
+        ensures start { IfOk result (λ session. IsFedOn (development_view development) [] session) }
         ensures memory { IfOk result (λ session. is_spent_on session ≡ false) }
     {
         let reader = CertReader::new(alloc, &development)?;

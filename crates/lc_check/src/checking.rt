@@ -2,7 +2,7 @@
 ghost use Rattle.std.specs.Prelude.{ℕ, List, Err, IfOk};
 ghost use Rattle.lc_reading.specs.Files.{Says};
 ghost use Rattle.lc_outline.specs.Development.{Development as Shown};
-ghost use Rattle.lc_outline.specs.DevelopmentView.{development_shown};
+ghost use Rattle.lc_outline.specs.DevelopmentView.{development_view};
 ghost use Rattle.lc_outline_text.specs.Developments.{file_reading};
 ghost use Rattle.lc_sound.specs.Linearizable.{IsLinearizableObject};
 ghost use Rattle.lc_check.specs.VerdictView.{IsVerdictOn, IsVerdict, IfAccepted, IsCountOn};
@@ -29,7 +29,7 @@ pub fn check_certificate(
     development: Development,
     cert: &[u8],
 ) -> Result<Verdict, OutOfMemory>
-    ensures exactly { IfOk result (IsVerdictOn (development_shown development) cert.now) }
+    ensures exactly { IfOk result (IsVerdictOn (development_view development) cert.now) }
     ensures linearizable { IfAccepted result (λ D. IsLinearizableObject D.specification D.object) }
 {
     let mut session = CertificateSession::new(alloc, development)?;
@@ -56,7 +56,7 @@ pub fn check(alloc: Global, dev: &[u8], cert: &[u8]) -> Result<Verdict, OutOfMem
 /// How many conditions a development has, if a file is a certificate of it that is accepted; else the refusal that
 /// `check_certificate` tells. `OutOfMemory` says nothing about the file.
 pub fn proven_count(alloc: Global, development: &Development, cert: &[u8]) -> Result<u64, Fault>
-    ensures { IsCountOn (development_shown development.now) cert.now result }
+    ensures { IsCountOn (development_view development.now) cert.now result }
 {
     proven_count_by(alloc, development, &mut Alone, cert)
 }
@@ -68,7 +68,7 @@ pub fn proven_count_by<P: Prover>(
     prover: &mut P,
     cert: &[u8],
 ) -> Result<u64, Fault>
-    ensures { IsCountOn (development_shown development.now) cert.now result }
+    ensures { IsCountOn (development_view development.now) cert.now result }
 {
     let mut reader = CertReader::new(alloc, development)?;
     let mut progress = Progress::new(alloc, development)?;
@@ -96,8 +96,8 @@ pub fn verdict_by_count(
     cert: &[u8],
     count: Result<u64, Fault>,
 ) -> Result<Verdict, OutOfMemory>
-    requires { IsCountOn (development_shown development) cert.now count }
-    ensures exactly { IfOk result (IsVerdictOn (development_shown development) cert.now) }
+    requires { IsCountOn (development_view development) cert.now count }
+    ensures exactly { IfOk result (IsVerdictOn (development_view development) cert.now) }
     ensures linearizable { IfAccepted result (λ D. IsLinearizableObject D.specification D.object) }
 {
     let _ = cert;

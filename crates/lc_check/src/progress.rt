@@ -26,7 +26,7 @@ impl Progress {
     ghost use Rattle.lc_base.specs.Limits.{file_limit};
     ghost use Rattle.lc_kernel.specs.Proofs.{size};
     ghost use Rattle.lc_kernel.specs.View.{proof_of};
-    ghost use Rattle.lc_outline.specs.DevelopmentView.{development_shown};
+    ghost use Rattle.lc_outline.specs.DevelopmentView.{development_view};
     ghost use Rattle.lc_cert.specs.Certificates.{Entry as Proved, is_rising};
     ghost use Rattle.lc_cert.specs.EntryView.{entry_of};
     ghost use Rattle.lc_cond.specs.Conditions.{conditions};
@@ -36,7 +36,7 @@ impl Progress {
 
     /// No proof was taken.
     pub(crate) fn new(alloc: Global, development: &Development) -> Result<Progress, OutOfMemory>
-        ensures { IfOk result (λ progress. IsProgress (development_shown development.now) [] progress) }
+        ensures { IfOk result (λ progress. IsProgress (development_view development.now) [] progress) }
     {
         let walk = Walk::new(alloc, development)?;
         Ok(Progress { walk, told: None })
@@ -50,12 +50,12 @@ impl Progress {
         prover: &mut P,
         proof: &Proof,
     ) -> Result<(), OutOfMemory>
-        requires in_turn { (taken : List Proved) × IsInTurn (development_shown development.now) taken self.old.walk }
+        requires in_turn { (taken : List Proved) × IsInTurn (development_view development.now) taken self.old.walk }
         requires untold { self.old.told ≡ None }
         requires stands { HasNext self.old.walk }
         requires steps { size (proof_of proof.now) ≤ file_limit }
-        ensures { OnOk result ((taken : List Proved) → IsInTurn (development_shown development.now) taken self.old.walk →
-            IsProgress (development_shown development.now) (taken ++ (record { number = self.old.walk.next; proof = proof_of proof.now } ∷ [])) self.new) }
+        ensures { OnOk result ((taken : List Proved) → IsInTurn (development_view development.now) taken self.old.walk →
+            IsProgress (development_view development.now) (taken ++ (record { number = self.old.walk.next; proof = proof_of proof.now } ∷ [])) self.new) }
     {
         match self.walk.prove_next_by(alloc, development, prover, proof) {
             Ok(()) => Ok(()),
@@ -76,10 +76,10 @@ impl Progress {
         prover: &mut P,
         entry: &Entry,
     ) -> Result<(), OutOfMemory>
-        requires known { (taken : List Proved) × IsProgress (development_shown development.now) taken self.old }
+        requires known { (taken : List Proved) × IsProgress (development_view development.now) taken self.old }
         requires steps { size (proof_of entry.now.proof) ≤ file_limit }
-        ensures { OnOk result ((taken : List Proved) → IsProgress (development_shown development.now) taken self.old →
-            IsProgress (development_shown development.now) (taken ++ (entry_of entry.now ∷ [])) self.new) }
+        ensures { OnOk result ((taken : List Proved) → IsProgress (development_view development.now) taken self.old →
+            IsProgress (development_view development.now) (taken ++ (entry_of entry.now ∷ [])) self.new) }
     {
         if self.told.is_some() {
             return Ok(());
@@ -98,8 +98,8 @@ impl Progress {
     /// How many conditions there are, if those that were taken are all proofs, and each condition is proved, and there is no
     /// other proof; else why they are refused.
     pub(crate) fn answer(&mut self, alloc: Global, development: &Development) -> Result<u64, Fault>
-        ensures { (taken : List Proved) → IsProgress (development_shown development.now) taken self.old → is_rising None taken ≡ true →
-            CountsAll taken (conditions (development_shown development.now)) result }
+        ensures { (taken : List Proved) → IsProgress (development_view development.now) taken self.old → is_rising None taken ≡ true →
+            CountsAll taken (conditions (development_view development.now)) result }
     {
         if let Some(refusal) = self.told {
             return Err(Fault::Refused(refusal));

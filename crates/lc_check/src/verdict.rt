@@ -1,6 +1,6 @@
 //! What is said of a development and a certificate: accepted, or the first refusal.
 ghost use Rattle.std.specs.Prelude.{◌≡◌, length};
-ghost use Rattle.lc_outline.specs.DevelopmentView.{development_shown};
+ghost use Rattle.lc_outline.specs.DevelopmentView.{development_view};
 ghost use Rattle.lc_cond.specs.Conditions.{conditions};
 ghost use Rattle.lc_sound.specs.Derived.{AreDerived};
 
@@ -21,29 +21,29 @@ pub enum Verdict {
 pub struct Accepted {
     development: Development,
     count: u64,
-    ghost derived: { ∥ AreDerived (development_shown development) ∥₁ },
-    ghost counted: { count ≡ length (conditions (development_shown development)) },
+    ghost derived: { ∥ AreDerived (development_view development) ∥₁ },
+    ghost counted: { count ≡ length (conditions (development_view development)) },
 }
 
 impl Accepted {
     ghost use Rattle.std.specs.Prelude.{◌≡◌, length};
-    ghost use Rattle.lc_outline.specs.DevelopmentView.{development_shown};
+    ghost use Rattle.lc_outline.specs.DevelopmentView.{development_view};
     ghost use Rattle.lc_cond.specs.Conditions.{conditions};
     ghost use Rattle.lc_sound.specs.Derived.{AreDerived};
     ghost use Rattle.lc_check.specs.VerdictView.{development_in};
 
     /// The development, each of whose conditions has a derivation; `count` is their number.
     pub fn new(development: Development, count: u64) -> Accepted
-        requires derived { ∥ AreDerived (development_shown development) ∥₁ }
-        requires counted { count ≡ length (conditions (development_shown development)) }
-        ensures { development_in result ≡ development_shown development }
+        requires derived { ∥ AreDerived (development_view development) ∥₁ }
+        requires counted { count ≡ length (conditions (development_view development)) }
+        ensures { development_in result ≡ development_view development }
     {
         Accepted { development, count }
     }
 
     /// The development.
     pub fn development(&self) -> &Development
-        ensures shown { development_shown result.now ≡ development_in self.now }
+        ensures shown { development_view result.now ≡ development_in self.now }
         ensures derived { ∥ AreDerived (development_in self.now) ∥₁ }
     {
         &self.development

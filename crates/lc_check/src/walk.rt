@@ -63,13 +63,13 @@ impl Walk {
     ghost use Rattle.std.specs.Prelude.{◌≡◌, ◌≤◌, List, [], IfOk};
     ghost use Rattle.lc_kernel.specs.Proofs.{size};
     ghost use Rattle.lc_kernel.specs.View.{proof_of};
-    ghost use Rattle.lc_outline.specs.DevelopmentView.{development_shown};
+    ghost use Rattle.lc_outline.specs.DevelopmentView.{development_view};
     ghost use Rattle.lc_cert.specs.Certificates.{Entry as Proved};
     ghost use Rattle.lc_check.specs.Walking.{HasNext, IsInTurn, IsAdvanced, IsProvenOn};
 
     /// No proof was taken.
     pub fn new(alloc: Global, development: &Development) -> Result<Walk, OutOfMemory>
-        ensures { IfOk result (λ walk. IsInTurn (development_shown development.now) [] walk) }
+        ensures { IfOk result (λ walk. IsInTurn (development_view development.now) [] walk) }
     {
         let stream = ConditionStream::new(alloc, development)?;
         let terms = Terms::new(alloc);
@@ -86,7 +86,7 @@ impl Walk {
 
     /// Goes on to the next condition, past parts with none left; whether there is one.
     pub fn advance(&mut self, alloc: Global, development: &Development) -> Result<bool, OutOfMemory>
-        ensures { IfOk result (IsAdvanced (development_shown development.now) self.old self.new) }
+        ensures { IfOk result (IsAdvanced (development_view development.now) self.old self.new) }
     {
         'parts: while self.place >= self.part.len() {
             // A part enters all its formulas, whether or not they are in the table already, so the time stays in proportion to
@@ -112,10 +112,10 @@ impl Walk {
         development: &Development,
         proof: &Proof,
     ) -> Result<(), Fault>
-        requires in_turn { (taken : List Proved) × IsInTurn (development_shown development.now) taken self.old }
+        requires in_turn { (taken : List Proved) × IsInTurn (development_view development.now) taken self.old }
         requires stands { HasNext self.old }
         requires steps { size (proof_of proof.now) ≤ file_limit }
-        ensures { IsProvenOn (development_shown development.now) (proof_of proof.now) self.old self.new result }
+        ensures { IsProvenOn (development_view development.now) (proof_of proof.now) self.old self.new result }
     {
         self.prove_next_by(alloc, development, &mut Alone, proof)
     }
@@ -128,10 +128,10 @@ impl Walk {
         prover: &mut P,
         proof: &Proof,
     ) -> Result<(), Fault>
-        requires in_turn { (taken : List Proved) × IsInTurn (development_shown development.now) taken self.old }
+        requires in_turn { (taken : List Proved) × IsInTurn (development_view development.now) taken self.old }
         requires stands { HasNext self.old }
         requires steps { size (proof_of proof.now) ≤ file_limit }
-        ensures { IsProvenOn (development_shown development.now) (proof_of proof.now) self.old self.new result }
+        ensures { IsProvenOn (development_view development.now) (proof_of proof.now) self.old self.new result }
     {
         conditions_use_their_variables(development);
         conditions_have_few_variables(development);

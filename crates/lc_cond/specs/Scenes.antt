@@ -18,7 +18,7 @@ use Rattle.lc_rider.specs.declared.duty.Duty as M
 use Rattle.lc_rider.specs.declared.path.Path as P
 use Rattle.lc_outline.specs.Development as D
 use Rattle.lc_outline.specs.Development.{first_system, invariant_of, on_at, asserts_to}
-use Rattle.lc_outline.specs.DevelopmentView.{development_shown, on_of}
+use Rattle.lc_outline.specs.DevelopmentView.{development_view, on_of}
 use Rattle.lc_cond.specs.Conditions as S
 use Rattle.lc_cond.specs.Conditions.{reply_goals, body_hypotheses, conditions_of, alone_on_path, on_path, duty_condition, on_conditions, path_conditions, at_end}
 use Rattle.lc_cond.specs.Adding.{HasFormulas, HasTerms, HasColumns, Adds, Under, Over}
@@ -31,7 +31,7 @@ use Rattle.lc_cond.specs.declared.matching.Acting.{Acting}
 use Rattle.lc_cond.specs.declared.scene.Scene.{Scene}
 
 abbrev pub development_in : Scene → D.Development
-development_in s = development_shown s.development.now
+development_in s = development_view s.development.now
 
 abbrev pub code_in : Scene → Edge
 code_in s = edge_of s.code.now

@@ -9,7 +9,7 @@ ghost use Rattle.lc_action.specs.ActionView.{first_of};
 ghost use Rattle.lc_object.specs.View.{operation_of};
 ghost use Rattle.lc_object.specs.WellFormed.{has_limits};
 ghost use Rattle.lc_outline.specs.Development.{invariant_of, asserts_at};
-ghost use Rattle.lc_outline.specs.DevelopmentView.{development_shown};
+ghost use Rattle.lc_outline.specs.DevelopmentView.{development_view};
 ghost use Rattle.lc_cond.specs.Adding.{HasFormulas, HasTerms, HasColumns, Adds, Under, Over};
 ghost use Rattle.lc_cond.specs.Conditions as S;
 ghost use Rattle.lc_cond.specs.Conditions.{at_entry, conditions_of, enter_variables, entry_conditions};
@@ -86,9 +86,9 @@ fn push_entered(
     conditions: &mut Vec<Condition>,
 ) -> Result<(), OutOfMemory>
     requires limits { has_limits (operation_of body.now) ≡ true }
-    requires invariant { HasFormulas terms.old invariant.now (invariant_of (development_shown development.now)) }
+    requires invariant { HasFormulas terms.old invariant.now (invariant_of (development_view development.now)) }
     requires columns { AreColumns terms.old columns.now }
-    ensures list { let d = development_shown development.now in
+    ensures list { let d = development_view development.now in
         let o = operation_of body.now in
         OnOk result (Under terms.old known.now (λ hs. Over terms.old columns.now (λ σ. Adds conditions.old.items terms.new conditions.new.items
         (conditions_of (at_entry S.Entry o) hs (map (told σ (S.entry_variables o)) (invariant_of d))
@@ -124,7 +124,7 @@ pub(crate) fn push_entry(
 ) -> Result<(), OutOfMemory>
     requires { has_limits (operation_of body.now) ≡ true }
     ensures list { OnOk result (Adds conditions.old.items terms.new conditions.new.items
-        (entry_conditions (development_shown development.now) operation.0 (operation_of body.now))) }
+        (entry_conditions (development_view development.now) operation.0 (operation_of body.now))) }
     ensures kept { Keeps terms.old terms.new }
 {
     let invariant = entered_invariant(alloc, terms, &development.parts().tie)?;

@@ -6,7 +6,7 @@ ghost use Rattle.lc_table.specs.Tables.{Keeps};
 ghost use Rattle.lc_object.specs.View.{operation_of};
 ghost use Rattle.lc_action.specs.ActionView.{first_of};
 ghost use Rattle.lc_outline.specs.Development.{invariant_of, asserts_at};
-ghost use Rattle.lc_outline.specs.DevelopmentView.{development_shown};
+ghost use Rattle.lc_outline.specs.DevelopmentView.{development_view};
 ghost use Rattle.lc_cond.specs.Adding.{HasFormulas};
 ghost use Rattle.lc_cond.specs.Conditions.{range, idle_frame, body_frame};
 
@@ -74,8 +74,8 @@ pub(crate) fn known_in_body(
     body: &Operation,
     point: PointId,
 ) -> Result<Vec<FormulaId>, OutOfMemory>
-    requires { HasFormulas terms.old invariant.now (invariant_of (development_shown development.now)) }
-    ensures list { let d = development_shown development.now in
+    requires { HasFormulas terms.old invariant.now (invariant_of (development_view development.now)) }
+    ensures list { let d = development_view development.now in
         IfOk result (λ ks. HasFormulas terms.new ks.items
         (body_frame (first_of system) operation.0 (length (operation_of body.now).arguments) ++ (invariant_of d ++ asserts_at d point.0))) }
     ensures kept { Keeps terms.old terms.new }
@@ -96,8 +96,8 @@ pub(crate) fn known_idle(
     invariant: &[FormulaId],
     system: SystemColumns,
 ) -> Result<Vec<FormulaId>, OutOfMemory>
-    requires { HasFormulas terms.old invariant.now (invariant_of (development_shown development.now)) }
-    ensures list { let d = development_shown development.now in
+    requires { HasFormulas terms.old invariant.now (invariant_of (development_view development.now)) }
+    ensures list { let d = development_view development.now in
         IfOk result (λ ks. HasFormulas terms.new ks.items (idle_frame (first_of system) ++ (invariant_of d ++ d.idle))) }
     ensures kept { Keeps terms.old terms.new }
 {

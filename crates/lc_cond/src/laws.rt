@@ -4,7 +4,7 @@ ghost use Rattle.lc_cond.specs.Listed.{PartsMakeTheList};
 ghost use Rattle.lc_cond.specs.Counted.{AreCounted};
 ghost use Rattle.lc_cond.specs.Uses.{AllUseTheirVariables};
 ghost use Rattle.lc_cond.specs.VariableCounts.{AllHaveFewVariables};
-ghost use Rattle.lc_outline.specs.DevelopmentView.{development_shown};
+ghost use Rattle.lc_outline.specs.DevelopmentView.{development_view};
 
 use lc_outline::Development;
 
@@ -17,19 +17,19 @@ pub fn parts_make_the_list()
 /// Each condition of a development uses no variables but those that it counts: the free variables of its hypotheses and of
 /// its goal have numbers below that count.
 pub fn conditions_use_their_variables(development: &Development)
-    ensures { AllUseTheirVariables (development_shown development.now) }
+    ensures { AllUseTheirVariables (development_view development.now) }
 {}
 
 /// No condition of a development has more than 26 variables: the number of clients, a client, three arguments and 16 locals,
 /// and after them another client and the parameters of its action.
 pub fn conditions_have_few_variables(development: &Development)
-    ensures { AllHaveFewVariables (development_shown development.now) }
+    ensures { AllHaveFewVariables (development_view development.now) }
 {}
 
 /// A development has as many conditions as its sizes come to: counts of what is asserted, of the ways in which riders are passed
 /// and of the columns in which is stored, without the conditions themselves.
 pub fn conditions_are_counted(development: &Development)
-    ensures { AreCounted (development_shown development.now) }
+    ensures { AreCounted (development_view development.now) }
 {}
 
 /// The counter has 59 conditions, in its list and by its sizes.

@@ -7,7 +7,7 @@ ghost use Rattle.lc_object.specs.Edges.{edges};
 ghost use Rattle.lc_object.specs.View.{operation_of, point_of};
 ghost use Rattle.lc_object.specs.WellFormed.{has_limits, variable_count};
 ghost use Rattle.lc_outline.specs.Development.{asserts_at, first_system};
-ghost use Rattle.lc_outline.specs.DevelopmentView.{development_shown};
+ghost use Rattle.lc_outline.specs.DevelopmentView.{development_view};
 ghost use Rattle.lc_cond.specs.Adding.{Adds};
 ghost use Rattle.lc_cond.specs.Conditions.{body_frame, entry_conditions, edge_conditions, point_stability, idle_stability, conditions};
 ghost use Rattle.lc_cond.specs.ConditionView.{condition_in, AreConditions};
@@ -31,21 +31,21 @@ use std::alloc::Global;
 
 /// The operations of the object.
 pub(crate) fn operations_of(development: &Development) -> &[Operation]
-    ensures { map operation_of result.now ≡ (development_shown development.now).object.operations }
+    ensures { map operation_of result.now ≡ (development_view development.now).object.operations }
 {
     &development.parts().object.parts().operations
 }
 
 /// The points of the object.
 pub(crate) fn points_of(development: &Development) -> &[Point]
-    ensures { map point_of result.now ≡ (development_shown development.now).object.points }
+    ensures { map point_of result.now ≡ (development_view development.now).object.points }
 {
     &development.parts().object.parts().points
 }
 
 /// The edges of the object.
 pub(crate) fn edges_of(alloc: Global, development: &Development) -> Result<Vec<Edge>, OutOfMemory>
-    ensures { IfOk result (λ es. map edge_of es.items ≡ edges (development_shown development.now).object) }
+    ensures { IfOk result (λ es. map edge_of es.items ≡ edges (development_view development.now).object) }
 {
     edges(alloc, &development.parts().object)
 }
@@ -57,7 +57,7 @@ fn push_entries(
     development: &Development,
     conditions: &mut Vec<Condition>,
 ) -> Result<(), OutOfMemory>
-    ensures list { let d = development_shown development.now in
+    ensures list { let d = development_view development.now in
         OnOk result (Adds conditions.old.items terms.new conditions.new.items (concat_places (entry_conditions d) 0 d.object.operations)) }
     ensures kept { Keeps terms.old terms.new }
 {
@@ -76,7 +76,7 @@ fn push_each_edge(
     edges: &[Edge],
     conditions: &mut Vec<Condition>,
 ) -> Result<(), OutOfMemory>
-    ensures list { OnOk result (Adds conditions.old.items terms.new conditions.new.items (concat_map (edge_conditions (development_shown development.now)) (map edge_of edges.now))) }
+    ensures list { OnOk result (Adds conditions.old.items terms.new conditions.new.items (concat_map (edge_conditions (development_view development.now)) (map edge_of edges.now))) }
     ensures kept { Keeps terms.old terms.new }
 {
     for edge in edges {
@@ -91,7 +91,7 @@ fn push_edges(
     development: &Development,
     conditions: &mut Vec<Condition>,
 ) -> Result<(), OutOfMemory>
-    ensures list { let d = development_shown development.now in
+    ensures list { let d = development_view development.now in
         OnOk result (Adds conditions.old.items terms.new conditions.new.items (concat_map (edge_conditions d) (edges d.object))) }
     ensures kept { Keeps terms.old terms.new }
 {
@@ -112,8 +112,8 @@ fn push_stay(
     conditions: &mut Vec<Condition>,
 ) -> Result<(), OutOfMemory>
     requires limits { has_limits (operation_of body.now) ≡ true }
-    requires asked { IsWithin (length (asserts_at (development_shown development.now) number.0)) asked }
-    ensures list { let d = development_shown development.now in
+    requires asked { IsWithin (length (asserts_at (development_view development.now) number.0)) asked }
+    ensures list { let d = development_view development.now in
         let o = operation_of body.now in
         OnOk result (Adds conditions.old.items terms.new conditions.new.items
         (stable_stretch d (Some number.0) (variable_count o) (body_frame (first_system d) operation.0 (length o.arguments)) (asserts_at d number.0) asked)) }
@@ -148,8 +148,8 @@ pub(crate) fn push_point_stretch(
     asked: Stretch,
     conditions: &mut Vec<Condition>,
 ) -> Result<(), OutOfMemory>
-    requires { IsWithin (length (asserts_at (development_shown development.now) number.0)) asked }
-    ensures list { OnOk result (Adds conditions.old.items terms.new conditions.new.items (point_stretch (development_shown development.now) number.0 (point_of point.now) asked)) }
+    requires { IsWithin (length (asserts_at (development_view development.now) number.0)) asked }
+    ensures list { OnOk result (Adds conditions.old.items terms.new conditions.new.items (point_stretch (development_view development.now) number.0 (point_of point.now) asked)) }
     ensures kept { Keeps terms.old terms.new }
 {
     let Some(body) = operation_at(development, point.operation) else {
@@ -176,7 +176,7 @@ pub(crate) fn push_point(
     point: &Point,
     conditions: &mut Vec<Condition>,
 ) -> Result<(), OutOfMemory>
-    ensures list { OnOk result (Adds conditions.old.items terms.new conditions.new.items (point_stability (development_shown development.now) number.0 (point_of point.now))) }
+    ensures list { OnOk result (Adds conditions.old.items terms.new conditions.new.items (point_stability (development_view development.now) number.0 (point_of point.now))) }
     ensures kept { Keeps terms.old terms.new }
 {
     let all = all_of(asserts_at(development, number).len());
@@ -190,7 +190,7 @@ fn push_points(
     development: &Development,
     conditions: &mut Vec<Condition>,
 ) -> Result<(), OutOfMemory>
-    ensures list { let d = development_shown development.now in
+    ensures list { let d = development_view development.now in
         OnOk result (Adds conditions.old.items terms.new conditions.new.items (concat_places (point_stability d) 0 d.object.points)) }
     ensures kept { Keeps terms.old terms.new }
 {
@@ -210,8 +210,8 @@ pub(crate) fn push_idle_stretch(
     asked: Stretch,
     conditions: &mut Vec<Condition>,
 ) -> Result<(), OutOfMemory>
-    requires { IsWithin (length (development_shown development.now).idle) asked }
-    ensures list { OnOk result (Adds conditions.old.items terms.new conditions.new.items (idle_stretch (development_shown development.now) asked)) }
+    requires { IsWithin (length (development_view development.now).idle) asked }
+    ensures list { OnOk result (Adds conditions.old.items terms.new conditions.new.items (idle_stretch (development_view development.now) asked)) }
     ensures kept { Keeps terms.old terms.new }
 {
     let system = system_columns(development);
@@ -239,7 +239,7 @@ pub(crate) fn push_idle(
     development: &Development,
     conditions: &mut Vec<Condition>,
 ) -> Result<(), OutOfMemory>
-    ensures list { OnOk result (Adds conditions.old.items terms.new conditions.new.items (idle_stability (development_shown development.now))) }
+    ensures list { OnOk result (Adds conditions.old.items terms.new conditions.new.items (idle_stability (development_view development.now))) }
     ensures kept { Keeps terms.old terms.new }
 {
     let all = all_of(idle_of(development).len());
@@ -254,7 +254,7 @@ fn push_code(
     development: &Development,
     conditions: &mut Vec<Condition>,
 ) -> Result<(), OutOfMemory>
-    ensures list { let d = development_shown development.now in
+    ensures list { let d = development_view development.now in
         OnOk result (Adds conditions.old.items terms.new conditions.new.items
         (concat_map (edge_conditions d) (edges d.object) ++ (concat_places (point_stability d) 0 d.object.points ++ idle_stability d))) }
     ensures kept { Keeps terms.old terms.new }
@@ -273,7 +273,7 @@ pub fn conditions(
     development: &Development,
 ) -> Result<Vec<Condition>, OutOfMemory>
     ensures are { IfOk result (λ cs. AreConditions terms.new cs.items) }
-    ensures list { IfOk result (λ cs. map (condition_in terms.new) cs.items ≡ conditions (development_shown development.now)) }
+    ensures list { IfOk result (λ cs. map (condition_in terms.new) cs.items ≡ conditions (development_view development.now)) }
     ensures kept { Keeps terms.old terms.new }
 {
     let mut list = Vec::new(alloc);

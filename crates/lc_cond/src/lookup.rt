@@ -6,7 +6,7 @@ ghost use Rattle.lc_rider.specs.RiderView.{riders_of};
 ghost use Rattle.lc_object.specs.View.{operation_of};
 ghost use Rattle.lc_object.specs.WellFormed.{has_limits, variable_count};
 ghost use Rattle.lc_outline.specs.Development.{same_kind, on_for, on_at, asserts_at, riders_in, first_system, asserts_to};
-ghost use Rattle.lc_outline.specs.DevelopmentView.{development_shown, on_of};
+ghost use Rattle.lc_outline.specs.DevelopmentView.{development_view, on_of};
 
 use lc_action::{Action, SystemColumns};
 use lc_base::{ColId, OpId, PointId};
@@ -18,7 +18,7 @@ use lc_term::Formula;
 /// The system columns, after the columns that are declared.
 #[tactic(auto, using(crate::proofs::Few::columns_few))]
 pub(crate) fn system_columns(development: &Development) -> SystemColumns
-    ensures { first_of result ≡ first_system (development_shown development.now) }
+    ensures { first_of result ≡ first_system (development_view development.now) }
 {
     let parts = development.parts();
     let concretes = parts.object.parts().concretes.len();
@@ -28,7 +28,7 @@ pub(crate) fn system_columns(development: &Development) -> SystemColumns
 
 /// The assertions at a point.
 pub(crate) fn asserts_at(development: &Development, point: PointId) -> &[Formula]
-    ensures { formulas_of result.now ≡ asserts_at (development_shown development.now) point.0 }
+    ensures { formulas_of result.now ≡ asserts_at (development_view development.now) point.0 }
 {
     match development.parts().outlines.get(point.0 as usize) {
         None => &[],
@@ -38,7 +38,7 @@ pub(crate) fn asserts_at(development: &Development, point: PointId) -> &[Formula
 
 /// The assertions at the point that is reached, or what holds of idle clients if none is.
 pub(crate) fn asserts_to(development: &Development, next: Option<PointId>) -> &[Formula]
-    ensures { formulas_of result.now ≡ asserts_to (development_shown development.now) (option_map (λ p. p.0) next) }
+    ensures { formulas_of result.now ≡ asserts_to (development_view development.now) (option_map (λ p. p.0) next) }
 {
     match next {
         None => &development.parts().idle,
@@ -71,7 +71,7 @@ fn on_for(ons: &[On], kind: EdgeKind) -> Option<&On>
 
 /// What is done at the edge of this kind of a point, if anything is.
 pub fn on_at(development: &Development, point: PointId, kind: EdgeKind) -> Option<&On>
-    ensures { option_map (λ o. on_of o.now) result ≡ on_at (development_shown development.now) point.0 kind }
+    ensures { option_map (λ o. on_of o.now) result ≡ on_at (development_view development.now) point.0 kind }
 {
     match development.parts().outlines.get(point.0 as usize) {
         None => None,
@@ -91,14 +91,14 @@ pub(crate) fn riders_in(on: Option<&On>) -> &[Rider]
 
 /// A declared action by its number, if there is one.
 pub(crate) fn action_at(development: &Development, action: ActionId) -> Option<&Action>
-    ensures { option_map (λ a. action_of a.now) result ≡ slice_get (development_shown development.now).actions action.0 }
+    ensures { option_map (λ a. action_of a.now) result ≡ slice_get (development_view development.now).actions action.0 }
 {
     development.parts().actions.get(action.0 as usize)
 }
 
 /// The operation of this number, whose body a point may be in, if there is one.
 pub(crate) fn operation_at(development: &Development, operation: OpId) -> Option<&Operation>
-    ensures { option_map (λ o. operation_of o.now) result ≡ slice_get (development_shown development.now).object.operations operation.0 }
+    ensures { option_map (λ o. operation_of o.now) result ≡ slice_get (development_view development.now).object.operations operation.0 }
 {
     development
         .parts()
@@ -110,7 +110,7 @@ pub(crate) fn operation_at(development: &Development, operation: OpId) -> Option
 
 /// The operation whose body a point is in, if there is such a point.
 pub(crate) fn body_at(development: &Development, point: PointId) -> Option<OpId>
-    ensures { option_map (λ o. o.0) result ≡ option_map (λ p. p.operation) (slice_get (development_shown development.now).object.points point.0) }
+    ensures { option_map (λ o. o.0) result ≡ option_map (λ p. p.operation) (slice_get (development_view development.now).object.points point.0) }
 {
     let point = development
         .parts()
@@ -123,7 +123,7 @@ pub(crate) fn body_at(development: &Development, point: PointId) -> Option<OpId>
 
 /// What holds of clients that have no call.
 pub(crate) fn idle_of(development: &Development) -> &[Formula]
-    ensures { formulas_of result.now ≡ (development_shown development.now).idle }
+    ensures { formulas_of result.now ≡ (development_view development.now).idle }
 {
     &development.parts().idle
 }

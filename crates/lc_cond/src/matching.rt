@@ -11,7 +11,7 @@ ghost use Rattle.lc_term.specs.View.{term_of};
 ghost use Rattle.lc_action.specs.Action as A;
 ghost use Rattle.lc_action.specs.Action.{acting_variables, guard_for, post_columns};
 ghost use Rattle.lc_action.specs.ActionView.{action_of, first_of};
-ghost use Rattle.lc_outline.specs.DevelopmentView.{development_shown, on_of};
+ghost use Rattle.lc_outline.specs.DevelopmentView.{development_view, on_of};
 ghost use Rattle.lc_cond.specs.Adding.{HasColumns, Adds, Under, Over};
 ghost use Rattle.lc_cond.specs.Conditions.{OfColumn, is_base, same_column, column_conditions, action_conditions};
 ghost use Rattle.lc_cond.specs.Heads.{condition_made};
@@ -282,7 +282,7 @@ pub(crate) fn entered_on(
     development: &Development,
     on: Option<&On>,
 ) -> Result<Option<Acting>, OutOfMemory>
-    ensures acting { IfOk result (λ k. IsActing terms.new k (acting_on (development_shown development.now) (option_map (λ o. on_of o.now) on.entry))) }
+    ensures acting { IfOk result (λ k. IsActing terms.new k (acting_on (development_view development.now) (option_map (λ o. on_of o.now) on.entry))) }
     ensures kept { Keeps terms.old terms.new }
 {
     let Some(on) = on else {

@@ -3,7 +3,7 @@ ghost use Rattle.std.specs.Prelude.{◌≡◌, ◌+◌, ◌*◌, ◌≤◌, leng
 ghost use Rattle.lc_base.specs.Limits.{condition_limit};
 ghost use Rattle.lc_object.specs.EdgeView.{edge_of};
 ghost use Rattle.lc_outline.specs.Development.{invariant_of};
-ghost use Rattle.lc_outline.specs.DevelopmentView.{development_shown};
+ghost use Rattle.lc_outline.specs.DevelopmentView.{development_view};
 ghost use Rattle.lc_cond.specs.Conditions.{conditions_in, edge_conditions};
 ghost use Rattle.lc_cond.specs.PartView.{part_of};
 
@@ -38,7 +38,7 @@ pub struct NumberedPart {
 
 // How many conditions it is that the invariant holds, and these conjuncts.
 fn count_with_invariant(development: &Development, conjuncts: &[Formula]) -> u64
-    ensures { result ≡ length (invariant_of (development_shown development.now)) + length conjuncts.now }
+    ensures { result ≡ length (invariant_of (development_view development.now)) + length conjuncts.now }
 {
     let invariant = development.parts().tie.conjuncts();
     (invariant.len() + conjuncts.len()) as u64
@@ -46,15 +46,15 @@ fn count_with_invariant(development: &Development, conjuncts: &[Formula]) -> u64
 
 // How many conditions it is that these conjuncts stay, under each action of another client.
 fn stable_count(development: &Development, conjuncts: &[Formula]) -> u64
-    requires { length conjuncts.now * (length (development_shown development.now).actions + 2) ≤ condition_limit }
-    ensures { result ≡ length conjuncts.now * (length (development_shown development.now).actions + 2) }
+    requires { length conjuncts.now * (length (development_view development.now).actions + 2) ≤ condition_limit }
+    ensures { result ≡ length conjuncts.now * (length (development_view development.now).actions + 2) }
 {
     (conjuncts.len() * action_count(development)) as u64
 }
 
 // How many conditions an edge has: they are made, and dropped.
 fn edge_count(alloc: Global, development: &Development, edge: &Edge) -> Result<u64, OutOfMemory>
-    ensures { IfOk result (λ n. n ≡ length (edge_conditions (development_shown development.now) (edge_of edge.now))) }
+    ensures { IfOk result (λ n. n ≡ length (edge_conditions (development_view development.now) (edge_of edge.now))) }
 {
     let mut terms = Terms::new(alloc);
     let mut conditions = Vec::new(alloc);
@@ -64,7 +64,7 @@ fn edge_count(alloc: Global, development: &Development, edge: &Edge) -> Result<u
 
 // How many conditions a part has. Those of an edge are counted one by one, as they depend on the ways past its riders.
 fn part_count(alloc: Global, development: &Development, part: Part<'_>) -> Result<u64, OutOfMemory>
-    ensures { IfOk result (λ n. n ≡ length (conditions_in (development_shown development.now) (part_of part.entry))) }
+    ensures { IfOk result (λ n. n ≡ length (conditions_in (development_view development.now) (part_of part.entry))) }
 {
     match part {
         Part::Start => Ok(count_with_invariant(development, idle_of(development))),
@@ -84,13 +84,13 @@ impl Numbering {
     ghost use Rattle.std.specs.Prelude.{◌≡◌, ◌+◌, ◌<◌, ◌≤◌, suc, length, IfOk};
     ghost use Rattle.lc_table.specs.Tables.{Keeps};
     ghost use Rattle.lc_outline.specs.Development.{Development as Shown};
-    ghost use Rattle.lc_outline.specs.DevelopmentView.{development_shown};
+    ghost use Rattle.lc_outline.specs.DevelopmentView.{development_view};
     ghost use Rattle.lc_cond.specs.Conditions.{parts, conditions};
     ghost use Rattle.lc_cond.specs.Numbering.{count_before, IsNumbering, IsPartWith};
 
     /// The parts of the list of this development's conditions.
     pub fn new(alloc: Global, development: &Development) -> Result<Numbering, OutOfMemory>
-        ensures { IfOk result (IsNumbering (development_shown development.now)) }
+        ensures { IfOk result (IsNumbering (development_view development.now)) }
     {
         let edges = edges_of(alloc, development)?;
         let mut firsts = Vec::new(alloc);
@@ -142,8 +142,8 @@ impl Numbering {
         terms: &mut Terms,
         number: u64,
     ) -> Result<NumberedPart, OutOfMemory>
-        requires { IsNumbering (development_shown development.now) self.now }
-        ensures part { IfOk result (IsPartWith (development_shown development.now) terms.new number) }
+        requires { IsNumbering (development_view development.now) self.now }
+        ensures part { IfOk result (IsPartWith (development_view development.now) terms.new number) }
         ensures kept { Keeps terms.old terms.new }
     {
         let place = self.place_with(number);

@@ -4,7 +4,7 @@ ghost use Rattle.lc_term.specs.Lists.{numbered};
 ghost use Rattle.lc_table.specs.Tables.{Keeps};
 ghost use Rattle.lc_object.specs.EdgeView.{edge_of};
 ghost use Rattle.lc_object.specs.View.{point_of};
-ghost use Rattle.lc_outline.specs.DevelopmentView.{development_shown};
+ghost use Rattle.lc_outline.specs.DevelopmentView.{development_view};
 ghost use Rattle.lc_cond.specs.Adding.{Adds};
 ghost use Rattle.lc_cond.specs.Conditions as S;
 ghost use Rattle.lc_cond.specs.Conditions.{conditions_in, point_stability, idle_stability};
@@ -38,7 +38,7 @@ pub(crate) enum Part<'a> {
 
 // The part at this place from the first point on: a point, or idle after the points.
 fn point_part(development: &Development, place: usize) -> Option<Part<'_>>
-    ensures { let d = development_shown development.now in
+    ensures { let d = development_view development.now in
         option_map part_of result ≡ slice_get (numbered S.Stay 0 d.object.points ++ S.StayIdle ∷ []) place }
 {
     let points = points_of(development);
@@ -53,7 +53,7 @@ fn point_part(development: &Development, place: usize) -> Option<Part<'_>>
 
 // The part at this place from the first edge on.
 fn edge_part<'a>(development: &'a Development, edges: &'a [Edge], place: usize) -> Option<Part<'a>>
-    ensures { let d = development_shown development.now in
+    ensures { let d = development_view development.now in
         option_map part_of result ≡ slice_get (map S.Pass (map edge_of edges.now) ++ (numbered S.Stay 0 d.object.points ++ S.StayIdle ∷ [])) place }
 {
     if place < edges.len() {
@@ -64,7 +64,7 @@ fn edge_part<'a>(development: &'a Development, edges: &'a [Edge], place: usize) 
 
 // The part at this place from the first operation on.
 fn entry_part<'a>(development: &'a Development, edges: &'a [Edge], place: usize) -> Option<Part<'a>>
-    ensures { let d = development_shown development.now in
+    ensures { let d = development_view development.now in
         option_map part_of result
         ≡ slice_get (numbered S.Begin 0 d.object.operations ++ (map S.Pass (map edge_of edges.now) ++ (numbered S.Stay 0 d.object.points ++ S.StayIdle ∷ []))) place }
 {
@@ -81,7 +81,7 @@ pub(crate) fn part_at<'a>(
     edges: &'a [Edge],
     place: usize,
 ) -> Option<Part<'a>>
-    ensures { option_map part_of result ≡ slice_get (parts_along (development_shown development.now) (map edge_of edges.now)) place }
+    ensures { option_map part_of result ≡ slice_get (parts_along (development_view development.now) (map edge_of edges.now)) place }
 {
     if place == 0 {
         return Some(Part::Start);
@@ -98,7 +98,7 @@ pub(crate) fn push_part(
     conditions: &mut Vec<Condition>,
 ) -> Result<(), OutOfMemory>
     requires { HasLimits part }
-    ensures list { OnOk result (Adds conditions.old.items terms.new conditions.new.items (conditions_in (development_shown development.now) (part_of part.entry))) }
+    ensures list { OnOk result (Adds conditions.old.items terms.new conditions.new.items (conditions_in (development_view development.now) (part_of part.entry))) }
     ensures kept { Keeps terms.old terms.new }
 {
     match part {
@@ -117,7 +117,7 @@ pub(crate) fn push_part(
 /// Under how many actions of another client it is asked that a conjunct stays: those that are declared, and that a call begins or
 /// ends.
 pub(crate) fn action_count(development: &Development) -> usize
-    ensures { result ≡ length (development_shown development.now).actions + 2 }
+    ensures { result ≡ length (development_view development.now).actions + 2 }
 {
     development.parts().actions.len() + 2
 }
@@ -139,7 +139,7 @@ fn push_point_with(
     wanted: Wanted,
     conditions: &mut Vec<Condition>,
 ) -> Result<u64, OutOfMemory>
-    ensures with { IfOk result (λ first. AddsWith conditions.old.items terms.new conditions.new.items (point_stability (development_shown development.now) number.0 (point_of point.now)) wanted.place first) }
+    ensures with { IfOk result (λ first. AddsWith conditions.old.items terms.new conditions.new.items (point_stability (development_view development.now) number.0 (point_of point.now)) wanted.place first) }
     ensures kept { Keeps terms.old terms.new }
 {
     let each = action_count(development);
@@ -157,7 +157,7 @@ fn push_idle_with(
     wanted: Wanted,
     conditions: &mut Vec<Condition>,
 ) -> Result<u64, OutOfMemory>
-    ensures with { IfOk result (λ first. AddsWith conditions.old.items terms.new conditions.new.items (idle_stability (development_shown development.now)) wanted.place first) }
+    ensures with { IfOk result (λ first. AddsWith conditions.old.items terms.new conditions.new.items (idle_stability (development_view development.now)) wanted.place first) }
     ensures kept { Keeps terms.old terms.new }
 {
     let each = action_count(development);
@@ -179,7 +179,7 @@ pub(crate) fn push_with(
     conditions: &mut Vec<Condition>,
 ) -> Result<u64, OutOfMemory>
     requires { HasLimits part }
-    ensures with { IfOk result (λ first. AddsWith conditions.old.items terms.new conditions.new.items (conditions_in (development_shown development.now) (part_of part.entry)) wanted.place first) }
+    ensures with { IfOk result (λ first. AddsWith conditions.old.items terms.new conditions.new.items (conditions_in (development_view development.now) (part_of part.entry)) wanted.place first) }
     ensures kept { Keeps terms.old terms.new }
 {
     match part {

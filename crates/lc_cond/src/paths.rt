@@ -5,7 +5,7 @@ ghost use Rattle.lc_table.specs.Tables.{formulas_in, Keeps};
 ghost use Rattle.lc_object.specs.EdgeView.{edge_of};
 ghost use Rattle.lc_object.specs.View.{operation_of};
 ghost use Rattle.lc_object.specs.WellFormed.{has_limits};
-ghost use Rattle.lc_outline.specs.DevelopmentView.{development_shown};
+ghost use Rattle.lc_outline.specs.DevelopmentView.{development_view};
 ghost use Rattle.lc_rider.specs.PathView.{path_in, IsPath, ArePaths};
 ghost use Rattle.lc_cond.specs.Adding.{Adds, Under};
 ghost use Rattle.lc_cond.specs.Conditions.{edge_conditions, edge_conditions_in};
@@ -135,7 +135,7 @@ fn push_edge_in(
 ) -> Result<(), OutOfMemory>
     requires { has_limits (operation_of body.now) ≡ true }
     ensures list { OnOk result (Adds conditions.old.items terms.new conditions.new.items
-        (edge_conditions_in (development_shown development.now) operation.0 (operation_of body.now) (edge_of code.now))) }
+        (edge_conditions_in (development_view development.now) operation.0 (operation_of body.now) (edge_of code.now))) }
     ensures kept { Keeps terms.old terms.new }
 {
     let scene = set_scene(alloc, terms, development, operation, body, code)?;
@@ -159,7 +159,7 @@ pub(crate) fn push_edge(
     conditions: &mut Vec<Condition>,
 ) -> Result<(), OutOfMemory>
     ensures list { OnOk result (Adds conditions.old.items terms.new conditions.new.items
-        (edge_conditions (development_shown development.now) (edge_of code.now))) }
+        (edge_conditions (development_view development.now) (edge_of code.now))) }
     ensures kept { Keeps terms.old terms.new }
 {
     let Some(operation) = body_at(development, code.point) else {

@@ -9,7 +9,7 @@ ghost use Rattle.lc_object.specs.View.{operation_of};
 ghost use Rattle.lc_object.specs.WellFormed.{has_limits};
 ghost use Rattle.lc_action.specs.ActionView.{first_of};
 ghost use Rattle.lc_outline.specs.Development.{invariant_of};
-ghost use Rattle.lc_outline.specs.DevelopmentView.{development_shown};
+ghost use Rattle.lc_outline.specs.DevelopmentView.{development_view};
 ghost use Rattle.lc_rider.specs.Paths.{edge_variables};
 ghost use Rattle.lc_cond.specs.Adding.{HasFormulas, HasTerms};
 ghost use Rattle.lc_cond.specs.Conditions.{body_hypotheses, reply_goals};
@@ -140,9 +140,9 @@ fn edge_hypotheses(
     body: &Operation,
     code: &Edge,
 ) -> Result<Vec<FormulaId>, OutOfMemory>
-    requires { HasFormulas terms.old invariant.now (invariant_of (development_shown development.now)) }
+    requires { HasFormulas terms.old invariant.now (invariant_of (development_view development.now)) }
     ensures list { IfOk result (λ ks. HasFormulas terms.new ks.items
-        (body_hypotheses (development_shown development.now) operation.0 (operation_of body.now) (edge_of code.now).point ++ (edge_of code.now).facts)) }
+        (body_hypotheses (development_view development.now) operation.0 (operation_of body.now) (edge_of code.now).point ++ (edge_of code.now).facts)) }
     ensures kept { Keeps terms.old terms.new }
 {
     let system = system_columns(development);
@@ -172,7 +172,7 @@ pub(crate) fn set_scene<'a>(
     code: &'a Edge,
 ) -> Result<Scene<'a>, OutOfMemory>
     requires { has_limits (operation_of body.now) ≡ true }
-    ensures scene { IfOk result (λ s. IsSceneOf terms.new (development_shown development.now) operation.0 (operation_of body.now) (edge_of code.now) s) }
+    ensures scene { IfOk result (λ s. IsSceneOf terms.new (development_view development.now) operation.0 (operation_of body.now) (edge_of code.now) s) }
     ensures kept { Keeps terms.old terms.new }
 {
     let invariant = entered_invariant(alloc, terms, &development.parts().tie)?;

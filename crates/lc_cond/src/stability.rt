@@ -10,7 +10,7 @@ ghost use Rattle.lc_term.specs.View.{term_of, formulas_of};
 ghost use Rattle.lc_action.specs.Action.{post_columns};
 ghost use Rattle.lc_action.specs.ActionView.{action_of, first_of};
 ghost use Rattle.lc_outline.specs.Development.{invariant_of, all_actions, first_system};
-ghost use Rattle.lc_outline.specs.DevelopmentView.{development_shown};
+ghost use Rattle.lc_outline.specs.DevelopmentView.{development_view};
 ghost use Rattle.lc_outline.specs.Resolved.{IsBelow};
 ghost use Rattle.lc_cond.specs.Adding.{HasFormulas, HasTerms, Adds, Under};
 ghost use Rattle.lc_cond.specs.Conditions.{stable_variables};
@@ -135,7 +135,7 @@ fn told_behind(
     parameters: &[Term],
     given: &Given<'_>,
 ) -> Result<(Vec<FormulaId>, Vec<FormulaId>), OutOfMemory>
-    requires { IsGiven terms.old (development_shown development.now) given.now }
+    requires { IsGiven terms.old (development_view development.now) given.now }
     ensures invariant { let σ = post_columns (action_of action.now) (Variable given.now.client) (map term_of parameters.now) in
         IfOk result (λ p. HasFormulas terms.new p.0.items (map (replace (replacing σ Variable)) (formulas_in terms.old given.now.invariant.now))) }
     ensures asserts { let σ = post_columns (action_of action.now) (Variable given.now.client) (map term_of parameters.now) in
@@ -226,8 +226,8 @@ fn cross(
     given: &Given<'_>,
 ) -> Result<Crossing, OutOfMemory>
     requires action { TakesFew (action_of action.now) }
-    requires given { IsGiven terms.old (development_shown development.now) given.now }
-    ensures crossing { IfOk result (λ c. Crosses terms.old terms.new (development_shown development.now) given.now.client given.now.known.now given.now.asserts.now (action_of action.now) c) }
+    requires given { IsGiven terms.old (development_view development.now) given.now }
+    ensures crossing { IfOk result (λ c. Crosses terms.old terms.new (development_view development.now) given.now.client given.now.known.now given.now.asserts.now (action_of action.now) c) }
     ensures kept { Keeps terms.old terms.new }
 {
     let variables = variables_with(action, given.client);
@@ -250,8 +250,8 @@ fn declared_crossings(
     development: &Development,
     given: &Given<'_>,
 ) -> Result<Vec<Crossing>, OutOfMemory>
-    requires { IsGiven terms.old (development_shown development.now) given.now }
-    ensures crossings { let d = development_shown development.now in
+    requires { IsGiven terms.old (development_view development.now) given.now }
+    ensures crossings { let d = development_view development.now in
         IfOk result (λ cs. AllCross terms.old terms.new d given.now.client given.now.known.now given.now.asserts.now d.actions cs.items) }
     ensures kept { Keeps terms.old terms.new }
 {
@@ -266,7 +266,7 @@ fn declared_crossings(
 
 // The actions that are declared.
 fn actions_of(development: &Development) -> &[Action]
-    ensures { map action_of result.now ≡ (development_shown development.now).actions }
+    ensures { map action_of result.now ≡ (development_view development.now).actions }
 {
     &development.parts().actions
 }
@@ -282,8 +282,8 @@ fn with_crossing(
     given: &Given<'_>,
 ) -> Result<Vec<Crossing>, OutOfMemory>
     requires action { TakesFew (action_of action.now) }
-    requires given { IsGiven terms.old (development_shown development.now) given.now }
-    ensures crossings { IfOk result (λ cs. CrossesToo terms.old terms.new (development_shown development.now) given.now.client given.now.known.now given.now.asserts.now (action_of action.now) crossings.items cs.items) }
+    requires given { IsGiven terms.old (development_view development.now) given.now }
+    ensures crossings { IfOk result (λ cs. CrossesToo terms.old terms.new (development_view development.now) given.now.client given.now.known.now given.now.asserts.now (action_of action.now) crossings.items cs.items) }
     ensures kept { Keeps terms.old terms.new }
 {
     let next = cross(alloc, terms, development, action, given)?;
@@ -300,9 +300,9 @@ fn all_crossings(
     system: SystemColumns,
     given: &Given<'_>,
 ) -> Result<Vec<Crossing>, OutOfMemory>
-    requires system { first_of system ≡ first_system (development_shown development.now) }
-    requires given { IsGiven terms.old (development_shown development.now) given.now }
-    ensures crossings { let d = development_shown development.now in
+    requires system { first_of system ≡ first_system (development_view development.now) }
+    requires given { IsGiven terms.old (development_view development.now) given.now }
+    ensures crossings { let d = development_view development.now in
         IfOk result (λ cs. AllCross terms.old terms.new d given.now.client given.now.known.now given.now.asserts.now (all_actions d) cs.items) }
     ensures kept { Keeps terms.old terms.new }
 {
@@ -348,7 +348,7 @@ fn entered_crossings(
     requires frame { AreFormulas terms.old frame.now }
     requires asked { IsWithin (length asserted.conjuncts.now) asserted.asked }
     requires below { Every (IsBelow code_variable_limit) (formulas_of asserted.conjuncts.now) }
-    ensures crossings { let d = development_shown development.now in
+    ensures crossings { let d = development_view development.now in
         let fs = formulas_of asserted.entry.conjuncts.now in
         IfOk result (λ cs. Under terms.old frame.now (λ hs. AreCrossings terms.new d client (hs ++ (invariant_of d ++ fs)) (stretch_of asserted.entry.asked fs) (all_actions d) cs.items)) }
     ensures kept { Keeps terms.old terms.new }
@@ -432,9 +432,9 @@ pub(crate) fn push_stable(
     requires frame { AreFormulas terms.old frame.now }
     requires asked { IsWithin (length asserted.conjuncts.now) asserted.asked }
     requires below { Every (IsBelow code_variable_limit) (formulas_of asserted.conjuncts.now) }
-    requires few { length asserted.conjuncts.now * (length (development_shown development.now).actions + 2) ≤ condition_limit }
+    requires few { length asserted.conjuncts.now * (length (development_view development.now).actions + 2) ≤ condition_limit }
     ensures list { OnOk result (Under terms.old frame.now (λ hs. Adds conditions.old.items terms.new conditions.new.items
-        (stable_stretch (development_shown development.now) (option_map (λ p. p.0) point) variables hs (formulas_of asserted.entry.conjuncts.now) asserted.entry.asked))) }
+        (stable_stretch (development_view development.now) (option_map (λ p. p.0) point) variables hs (formulas_of asserted.entry.conjuncts.now) asserted.entry.asked))) }
     ensures kept { Keeps terms.old terms.new }
 {
     let Stretch { from, to } = asserted.asked;

@@ -6,7 +6,7 @@ ghost use Rattle.lc_term.specs.Syntax.{Number, Variable, Le};
 ghost use Rattle.lc_table.specs.Tables.{Keeps};
 ghost use Rattle.lc_term.specs.View.{column_of, formulas_of};
 ghost use Rattle.lc_outline.specs.Development.{invariant_of};
-ghost use Rattle.lc_outline.specs.DevelopmentView.{development_shown};
+ghost use Rattle.lc_outline.specs.DevelopmentView.{development_view};
 ghost use Rattle.lc_cond.specs.Adding.{HasFormulas, Adds};
 ghost use Rattle.lc_cond.specs.Conditions as S;
 ghost use Rattle.lc_cond.specs.Conditions.{at_start, conditions_of, start_conditions};
@@ -66,7 +66,7 @@ fn push_init(
 ) -> Result<(), OutOfMemory>
     ensures list { OnOk result (Adds conditions.old.items terms.new conditions.new.items
         (conditions_of (at_start S.Init 1) (Le (Number (pos 0)) (Variable 0) ∷ [])
-        (map (replace (replacing (column_by_number (map column_of columns.now)) Variable)) (invariant_of (development_shown development.now))))) }
+        (map (replace (replacing (column_by_number (map column_of columns.now)) Variable)) (invariant_of (development_view development.now))))) }
     ensures kept { Keeps terms.old terms.new }
 {
     let put = Put {
@@ -91,7 +91,7 @@ fn push_init_idle(
 ) -> Result<(), OutOfMemory>
     ensures list { OnOk result (Adds conditions.old.items terms.new conditions.new.items
         (conditions_of (at_start S.InitIdle 2) (S.range (Variable 1))
-        (map (replace (replacing (column_by_number (map column_of columns.now)) Variable)) (development_shown development.now).idle))) }
+        (map (replace (replacing (column_by_number (map column_of columns.now)) Variable)) (development_view development.now).idle))) }
     ensures kept { Keeps terms.old terms.new }
 {
     let put = Put {
@@ -113,7 +113,7 @@ pub(crate) fn push_start(
     development: &Development,
     conditions: &mut Vec<Condition>,
 ) -> Result<(), OutOfMemory>
-    ensures list { OnOk result (Adds conditions.old.items terms.new conditions.new.items (start_conditions (development_shown development.now))) }
+    ensures list { OnOk result (Adds conditions.old.items terms.new conditions.new.items (start_conditions (development_view development.now))) }
     ensures kept { Keeps terms.old terms.new }
 {
     let columns = development.parts().tie.initial_columns(alloc)?;

@@ -30,13 +30,13 @@ pub struct ConditionStream {
 impl ConditionStream {
     ghost use Rattle.std.specs.Prelude.{◌≡◌, IfOk, OnErr};
     ghost use Rattle.lc_table.specs.Tables.{Keeps};
-    ghost use Rattle.lc_outline.specs.DevelopmentView.{development_shown};
+    ghost use Rattle.lc_outline.specs.DevelopmentView.{development_view};
     ghost use Rattle.lc_cond.specs.Conditions.{conditions};
     ghost use Rattle.lc_cond.specs.Stream.{conditions_left, next_number, IsNextPart};
 
     /// All conditions of a development, with none given yet.
     pub fn new(alloc: Global, development: &Development) -> Result<ConditionStream, OutOfMemory>
-        ensures left { let d = development_shown development.now in
+        ensures left { let d = development_view development.now in
             IfOk result (λ s. conditions_left d s ≡ conditions d) }
         ensures number { IfOk result (λ s. next_number s ≡ 0) }
     {
@@ -63,7 +63,7 @@ impl ConditionStream {
         development: &Development,
         terms: &mut Terms,
     ) -> Result<Option<Vec<Condition>>, OutOfMemory>
-        ensures next { IfOk result (λ part. IsNextPart (development_shown development.now) terms.new self.old self.new part) }
+        ensures next { IfOk result (λ part. IsNextPart (development_view development.now) terms.new self.old self.new part) }
         ensures unchanged { OnErr result (self.new ≡ self.old) }
         ensures kept { Keeps terms.old terms.new }
     {

@@ -1,7 +1,7 @@
 //! The lines of the conditions of a development, in pieces.
 ghost use Rattle.std.specs.Prelude.{◌≡◌, ◌++◌, ◌<◌, ◌≤◌, length, true, false, IfOk, OnOk, is_err};
 ghost use Rattle.lc_text.specs.Spelling.{Spelled};
-ghost use Rattle.lc_outline.specs.DevelopmentView.{development_shown};
+ghost use Rattle.lc_outline.specs.DevelopmentView.{development_view};
 ghost use Rattle.lc_cond_text.specs.ConditionText.{total_line, conditions_text};
 ghost use Rattle.lc_cond_text.specs.Recalled.{Recalls};
 ghost use Rattle.lc_cond_text.specs.LinesView.{text_left, is_spent, IsLeft, IsNextPiece, GoesOn, Passes};
@@ -70,15 +70,15 @@ pub struct ConditionLines<'d> {
 
 impl<'d> Model for ConditionLines<'d> {
     ghost use Rattle.std.specs.Prelude.{◌≡◌};
-    ghost use Rattle.lc_outline.specs.DevelopmentView.{development_shown};
+    ghost use Rattle.lc_outline.specs.DevelopmentView.{development_view};
     ghost use Rattle.lc_cond_text.specs.LinesView.{LinesLeft, IsLeft, left_in};
     ghost use Rattle.lc_cond_text.specs.declared.lines.State.TheVariants.{Going};
 
     ghost Value = { LinesLeft };
 
-    ghost view = { λ l. left_in (development_shown l.development.now) l.state l.left };
+    ghost view = { λ l. left_in (development_view l.development.now) l.state l.left };
 
-    ghost invariant = { λ l. l.state ≡ Going → IsLeft (development_shown l.development.now) l.left };
+    ghost invariant = { λ l. l.state ≡ Going → IsLeft (development_view l.development.now) l.left };
 }
 
 impl Drop for ConditionLines<'_> {
@@ -106,9 +106,9 @@ fn push_line(
     left: &mut Left,
     development: &Development,
 ) -> Result<(), OutOfMemory>
-    requires left { IsLeft (development_shown development.now) left.old }
+    requires left { IsLeft (development_view development.now) left.old }
     requires some { left.old.written < length left.old.part.items }
-    ensures { OnOk result (GoesOn (development_shown development.now) piece.old.items left.old piece.new.items left.new) }
+    ensures { OnOk result (GoesOn (development_view development.now) piece.old.items left.old piece.new.items left.new) }
 {
     let condition = &left.part[left.written];
     push_condition(
@@ -145,9 +145,9 @@ fn make_part(
     left: &mut Left,
     development: &Development,
 ) -> Result<bool, OutOfMemory>
-    requires left { IsLeft (development_shown development.now) left.old }
+    requires left { IsLeft (development_view development.now) left.old }
     requires none { length left.old.part.items ≤ left.old.written }
-    ensures { IfOk result (λ more. Passes (development_shown development.now) piece.old.items left.old piece.new.items left.new more) }
+    ensures { IfOk result (λ more. Passes (development_view development.now) piece.old.items left.old piece.new.items left.new more) }
 {
     renew(alloc, &mut left.terms, &mut left.texts, left.most);
     let before = left.terms.len();
@@ -173,8 +173,8 @@ fn go_on(
     left: &mut Left,
     development: &Development,
 ) -> Result<bool, OutOfMemory>
-    requires { IsLeft (development_shown development.now) left.old }
-    ensures { IfOk result (λ more. Passes (development_shown development.now) piece.old.items left.old piece.new.items left.new more) }
+    requires { IsLeft (development_view development.now) left.old }
+    ensures { IfOk result (λ more. Passes (development_view development.now) piece.old.items left.old piece.new.items left.new more) }
 {
     if left.written < left.part.len() {
         push_line(piece, left, development)?;
@@ -191,8 +191,8 @@ fn fill(
     left: &mut Left,
     development: &Development,
 ) -> Result<bool, OutOfMemory>
-    requires { IsLeft (development_shown development.now) left.old }
-    ensures { IfOk result (λ more. Passes (development_shown development.now) piece.old.items left.old piece.new.items left.new more) }
+    requires { IsLeft (development_view development.now) left.old }
+    ensures { IfOk result (λ more. Passes (development_view development.now) piece.old.items left.old piece.new.items left.new more) }
 {
     loop {
         if !go_on(alloc, piece, left, development)? {
@@ -210,7 +210,7 @@ impl<'d> ConditionLines<'d> {
         alloc: Global,
         development: &'d Development,
     ) -> Result<ConditionLines<'d>, OutOfMemory>
-        ensures text { IfOk result (λ lines. text_left lines ≡ conditions_text (development_shown development.entry.now)) }
+        ensures text { IfOk result (λ lines. text_left lines ≡ conditions_text (development_view development.entry.now)) }
         ensures memory { IfOk result (λ lines. is_spent lines ≡ false) }
     {
         let left = Left {

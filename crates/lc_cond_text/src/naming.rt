@@ -1,6 +1,6 @@
 //! The names by which conditions are reported.
 ghost use Rattle.std.specs.Prelude.{◌≡◌, [], ◌∷◌, codes};
-ghost use Rattle.lc_outline.specs.DevelopmentView.{development_shown};
+ghost use Rattle.lc_outline.specs.DevelopmentView.{development_view};
 ghost use Rattle.lc_naming.specs.ColumnNames.{name_at, column_names};
 ghost use Rattle.lc_cond_text.specs.ConditionText.{point_names, action_names};
 
@@ -9,14 +9,14 @@ use lc_outline::Development;
 
 /// The name of a column; an empty text after the last.
 pub(crate) fn column_name(development: &Development, column: ColId) -> &str
-    ensures { result.now ≡ name_at (column_names (development_shown development.now)) column.0 }
+    ensures { result.now ≡ name_at (column_names (development_view development.now)) column.0 }
 {
     lc_naming::column_name(development.parts(), column)
 }
 
 /// The name of a point; an empty text after the last.
 pub(crate) fn point_name(development: &Development, point: PointId) -> &str
-    ensures { result.now ≡ name_at (point_names (development_shown development.now)) point.0 }
+    ensures { result.now ≡ name_at (point_names (development_view development.now)) point.0 }
 {
     let place = point.0 as usize;
     let points = &development.parts().object.parts().points;
@@ -40,7 +40,7 @@ fn built_in_name(place: usize) -> &'static str
 
 /// The name of an action; an empty text after the last.
 pub(crate) fn action_name(development: &Development, place: usize) -> &str
-    ensures { result.now ≡ name_at (action_names (development_shown development.now)) place }
+    ensures { result.now ≡ name_at (action_names (development_view development.now)) place }
 {
     let actions = &development.parts().actions;
     if place < actions.len() {

@@ -4,7 +4,7 @@ ghost use Rattle.std.specs.Fmt.{decimal, signed_decimal};
 ghost use Rattle.lc_term.specs.Syntax.{formulas};
 ghost use Rattle.lc_table.specs.Tables.{formula_in, formulas_in, IsFormula, AreFormulas};
 ghost use Rattle.lc_text.specs.Spelled.{binder, one_deeper, spaced, spelled_formula, spelled_parts};
-ghost use Rattle.lc_outline.specs.DevelopmentView.{development_shown};
+ghost use Rattle.lc_outline.specs.DevelopmentView.{development_view};
 ghost use Rattle.lc_cond_text.specs.ConditionText.{spelled};
 
 use crate::term_text::push_pair;
@@ -104,7 +104,7 @@ pub(crate) fn push_formula(
     formula: FormulaId,
 ) -> Result<(), OutOfMemory>
     requires { IsFormula terms.now formula }
-    ensures { OnOk result (out.new.items ≡ out.old.items ++ spelled_formula (spelled (development_shown development.now)) depth (formula_in terms.now formula)) }
+    ensures { OnOk result (out.new.items ≡ out.old.items ++ spelled_formula (spelled (development_view development.now)) depth (formula_in terms.now formula)) }
 {
     match terms.formula_node(formula) {
         FormulaNode::Le(left, right) => {
@@ -148,7 +148,7 @@ fn push_below(
 ) -> Result<(), OutOfMemory>
     requires { IsFormula terms.now body }
     ensures { OnOk result (out.new.items ≡ out.old.items ++
-        (word.now ++ binder depth ++ spaced (spelled_formula (spelled (development_shown development.now)) (one_deeper depth) (formula_in terms.now body)) ++ codes ")")) }
+        (word.now ++ binder depth ++ spaced (spelled_formula (spelled (development_view development.now)) (one_deeper depth) (formula_in terms.now body)) ++ codes ")")) }
 {
     push_text(out, word)?;
     push_binder(out, depth)?;
@@ -169,7 +169,7 @@ fn push_parts(
 ) -> Result<(), OutOfMemory>
     requires { AreFormulas terms.now parts.now }
     ensures { OnOk result (out.new.items ≡ out.old.items ++
-        (word.now ++ spelled_parts (spelled (development_shown development.now)) depth (formulas (formulas_in terms.now parts.now)) ++ codes ")")) }
+        (word.now ++ spelled_parts (spelled (development_view development.now)) depth (formulas (formulas_in terms.now parts.now)) ++ codes ")")) }
 {
     push_text(out, word)?;
     for part in parts {

@@ -3,7 +3,7 @@ ghost use Rattle.std.specs.Prelude.{◌≡◌, ◌++◌, OnOk};
 ghost use Rattle.lc_cond.specs.ConditionView.{condition_in, IsCondition};
 ghost use Rattle.lc_cond_text.specs.ConditionText.{spelled, statement_text};
 ghost use Rattle.lc_cond_text.specs.Recalled.{Recalls};
-ghost use Rattle.lc_outline.specs.DevelopmentView.{development_shown};
+ghost use Rattle.lc_outline.specs.DevelopmentView.{development_view};
 
 use crate::text::{push_claim, push_known};
 use crate::texts::FormulaTexts;
@@ -22,9 +22,9 @@ pub fn push_statement(
     condition: &Condition,
 ) -> Result<(), OutOfMemory>
     requires condition { IsCondition terms.now condition.now }
-    requires recalls { Recalls (spelled (development_shown development.now)) terms.now texts.old }
-    ensures text { OnOk result (out.new.items ≡ out.old.items ++ statement_text (development_shown development.now) (condition_in terms.now condition.now)) }
-    ensures recalls { OnOk result (Recalls (spelled (development_shown development.now)) terms.now texts.new) }
+    requires recalls { Recalls (spelled (development_view development.now)) terms.now texts.old }
+    ensures text { OnOk result (out.new.items ≡ out.old.items ++ statement_text (development_view development.now) (condition_in terms.now condition.now)) }
+    ensures recalls { OnOk result (Recalls (spelled (development_view development.now)) terms.now texts.new) }
 {
     push_known(out, texts, terms, development, &condition.goal)?;
     push_claim(out, texts, terms, development, condition.goal.goal)

@@ -6,7 +6,7 @@ ghost use Rattle.lc_table.specs.Tables.{term_in, column_in, IsTerm, IsColumn};
 ghost use Rattle.lc_table.specs.NodeTables.{Table};
 ghost use Rattle.lc_text.specs.Spelling.{Spelled};
 ghost use Rattle.lc_text.specs.Spelled.{spaced, spelled_term, spelled_column};
-ghost use Rattle.lc_outline.specs.DevelopmentView.{development_shown};
+ghost use Rattle.lc_outline.specs.DevelopmentView.{development_view};
 ghost use Rattle.lc_cond_text.specs.ConditionText.{spelled};
 ghost use Rattle.lc_outline.specs.Development.{Development as Shown};
 ghost use Rattle.lc_table.specs.declared.node.ColExprId.{ColExprId};
@@ -205,7 +205,7 @@ fn begin_column(
 ) -> Result<(), OutOfMemory>
     requires column { IsColumn terms.now column }
     requires waiting { AreWaiting terms.now waiting.old.items }
-    ensures { let by = spelled (development_shown development.now) in
+    ensures { let by = spelled (development_view development.now) in
         (d : ℕ) → OnOk result (GoesOn by d terms.now out.old.items waiting.old.items (spelled_column by d (column_in terms.now column)) out.new.items waiting.new.items) }
 {
     let mut below = column;
@@ -233,7 +233,7 @@ fn go_on(
 ) -> Result<(), OutOfMemory>
     requires next { IsWaiting terms.now next }
     requires waiting { AreWaiting terms.now waiting.old.items }
-    ensures { let by = spelled (development_shown development.now) in
+    ensures { let by = spelled (development_view development.now) in
         OnOk result (GoesOn by depth terms.now out.old.items waiting.old.items (waiting_text by depth terms.now (next ∷ [])) out.new.items waiting.new.items) }
 {
     match next {
@@ -268,7 +268,7 @@ fn push_read(
     term: TermId,
 ) -> Result<bool, OutOfMemory>
     requires { IsTerm terms.now term }
-    ensures written { IfOk result (λ read. read ≡ true → out.new.items ≡ out.old.items ++ spelled_term (spelled (development_shown development.now)) depth (term_in terms.now term)) }
+    ensures written { IfOk result (λ read. read ≡ true → out.new.items ≡ out.old.items ++ spelled_term (spelled (development_view development.now)) depth (term_in terms.now term)) }
     ensures nothing { IfOk result (λ read. read ≡ false → out.new.items ≡ out.old.items) }
 {
     let TermNode::Read(column, index) = terms.term_node(term) else {
@@ -297,7 +297,7 @@ fn push_term(
     term: TermId,
 ) -> Result<(), OutOfMemory>
     requires { IsTerm terms.now term }
-    ensures { OnOk result (out.new.items ≡ out.old.items ++ spelled_term (spelled (development_shown development.now)) depth (term_in terms.now term)) }
+    ensures { OnOk result (out.new.items ≡ out.old.items ++ spelled_term (spelled (development_view development.now)) depth (term_in terms.now term)) }
 {
     if push_simple(out, terms, depth, term)? {
         return Ok(());
@@ -328,7 +328,7 @@ pub(crate) fn push_pair(
 ) -> Result<(), OutOfMemory>
     requires left { IsTerm terms.now left }
     requires right { IsTerm terms.now right }
-    ensures { let by = spelled (development_shown development.now) in
+    ensures { let by = spelled (development_view development.now) in
         OnOk result (out.new.items ≡ out.old.items ++ (word.now ++ spelled_term by depth (term_in terms.now left) ++ spaced (spelled_term by depth (term_in terms.now right)) ++ codes ")")) }
 {
     push_text(out, word)?;

@@ -4,7 +4,7 @@ ghost use Rattle.std.specs.Fmt.{decimal};
 ghost use Rattle.lc_table.specs.Tables.{formula_in, formulas_in, IsFormula, AreFormulas};
 ghost use Rattle.lc_text.specs.Spelled.{spaced, spelled_formula};
 ghost use Rattle.lc_rider.specs.DutyView.{owing_of};
-ghost use Rattle.lc_outline.specs.DevelopmentView.{development_shown};
+ghost use Rattle.lc_outline.specs.DevelopmentView.{development_view};
 ghost use Rattle.lc_cond.specs.ConditionView.{kind_of, passage_of, which_of, place_of, condition_in, IsCondition};
 ghost use Rattle.lc_cond_text.specs.Recalled.{Recalls};
 ghost use Rattle.lc_naming.specs.ColumnNames.{name_at};
@@ -73,7 +73,7 @@ fn push_point(
     development: &Development,
     point: Option<PointId>,
 ) -> Result<(), OutOfMemory>
-    ensures { OnOk result (out.new.items ≡ out.old.items ++ spaced (or_hyphen (name_at (point_names (development_shown development.now))) (option_map (λ p. p.0) point))) }
+    ensures { OnOk result (out.new.items ≡ out.old.items ++ spaced (or_hyphen (name_at (point_names (development_view development.now))) (option_map (λ p. p.0) point))) }
 {
     match point {
         None => push_spaced(out, "-"),
@@ -86,7 +86,7 @@ fn push_passage(
     development: &Development,
     passage: Passage,
 ) -> Result<(), OutOfMemory>
-    ensures { OnOk result (out.new.items ≡ out.old.items ++ spaced (passage_text (development_shown development.now) (passage_of passage))) }
+    ensures { OnOk result (out.new.items ≡ out.old.items ++ spaced (passage_text (development_view development.now) (passage_of passage))) }
 {
     match passage {
         Passage::Nothing => push_spaced(out, "-"),
@@ -105,7 +105,7 @@ fn push_path(out: &mut Vec<u8>, path: Option<usize>) -> Result<(), OutOfMemory>
 }
 
 fn push_which(out: &mut Vec<u8>, development: &Development, which: Which) -> Result<(), OutOfMemory>
-    ensures { OnOk result (out.new.items ≡ out.old.items ++ spaced (which_text (development_shown development.now) (which_of which))) }
+    ensures { OnOk result (out.new.items ≡ out.old.items ++ spaced (which_text (development_view development.now) (which_of which))) }
 {
     match which {
         Which::Alone => push_spaced(out, "-"),
@@ -120,7 +120,7 @@ fn push_place(
     development: &Development,
     place: &Place,
 ) -> Result<(), OutOfMemory>
-    ensures { let d = development_shown development.now in
+    ensures { let d = development_view development.now in
         let p = place_of place.now in
         OnOk result (out.new.items ≡ out.old.items ++ (spaced (or_hyphen (name_at (point_names d)) p.point) ++ spaced (passage_text d p.passage) ++ spaced (or_hyphen decimal p.path) ++ spaced (which_text d p.which))) }
 {
@@ -139,9 +139,9 @@ fn push_hypotheses(
     formulas: &[FormulaId],
 ) -> Result<(), OutOfMemory>
     requires formulas { AreFormulas terms.now formulas.now }
-    requires recalls { Recalls (spelled (development_shown development.now)) terms.now texts.old }
-    ensures text { OnOk result (out.new.items ≡ out.old.items ++ formulas_text (spelled (development_shown development.now)) (formulas_in terms.now formulas.now)) }
-    ensures recalls { OnOk result (Recalls (spelled (development_shown development.now)) terms.now texts.new) }
+    requires recalls { Recalls (spelled (development_view development.now)) terms.now texts.old }
+    ensures text { OnOk result (out.new.items ≡ out.old.items ++ formulas_text (spelled (development_view development.now)) (formulas_in terms.now formulas.now)) }
+    ensures recalls { OnOk result (Recalls (spelled (development_view development.now)) terms.now texts.new) }
 {
     for formula in formulas {
         push_space(out)?;
@@ -157,7 +157,7 @@ fn push_head(
     number: u64,
     condition: &Condition,
 ) -> Result<(), OutOfMemory>
-    ensures { let d = development_shown development.now in
+    ensures { let d = development_view development.now in
         let p = place_of condition.now.place in
         OnOk result (out.new.items ≡ out.old.items ++ (codes "(condition " ++ decimal number ++ spaced (kind_word (kind_of condition.now.kind))
         ++ (spaced (or_hyphen (name_at (point_names d)) p.point) ++ spaced (passage_text d p.passage) ++ spaced (or_hyphen decimal p.path) ++ spaced (which_text d p.which)))) }
@@ -177,9 +177,9 @@ pub(crate) fn push_known(
     goal: &Goal,
 ) -> Result<(), OutOfMemory>
     requires formulas { AreFormulas terms.now goal.now.hypotheses }
-    requires recalls { Recalls (spelled (development_shown development.now)) terms.now texts.old }
-    ensures text { OnOk result (out.new.items ≡ out.old.items ++ (codes " (vars " ++ decimal goal.now.vars ++ codes ") (hyps" ++ formulas_text (spelled (development_shown development.now)) (formulas_in terms.now goal.now.hypotheses))) }
-    ensures recalls { OnOk result (Recalls (spelled (development_shown development.now)) terms.now texts.new) }
+    requires recalls { Recalls (spelled (development_view development.now)) terms.now texts.old }
+    ensures text { OnOk result (out.new.items ≡ out.old.items ++ (codes " (vars " ++ decimal goal.now.vars ++ codes ") (hyps" ++ formulas_text (spelled (development_view development.now)) (formulas_in terms.now goal.now.hypotheses))) }
+    ensures recalls { OnOk result (Recalls (spelled (development_view development.now)) terms.now texts.new) }
 {
     push_text(out, " (vars ")?;
     push_number(out, u64::from(goal.vars))?;
@@ -196,9 +196,9 @@ pub(crate) fn push_claim(
     claim: FormulaId,
 ) -> Result<(), OutOfMemory>
     requires formula { IsFormula terms.now claim }
-    requires recalls { Recalls (spelled (development_shown development.now)) terms.now texts.old }
-    ensures text { OnOk result (out.new.items ≡ out.old.items ++ (codes ") (goal" ++ spaced (spelled_formula (spelled (development_shown development.now)) 0 (formula_in terms.now claim)) ++ codes "))")) }
-    ensures recalls { OnOk result (Recalls (spelled (development_shown development.now)) terms.now texts.new) }
+    requires recalls { Recalls (spelled (development_view development.now)) terms.now texts.old }
+    ensures text { OnOk result (out.new.items ≡ out.old.items ++ (codes ") (goal" ++ spaced (spelled_formula (spelled (development_view development.now)) 0 (formula_in terms.now claim)) ++ codes "))")) }
+    ensures recalls { OnOk result (Recalls (spelled (development_view development.now)) terms.now texts.new) }
 {
     push_text(out, ") (goal ")?;
     if is_met(texts, claim)? {
@@ -220,9 +220,9 @@ pub(crate) fn push_condition(
     condition: &Condition,
 ) -> Result<(), OutOfMemory>
     requires condition { IsCondition terms.now condition.now }
-    requires recalls { Recalls (spelled (development_shown development.now)) terms.now texts.old }
-    ensures text { OnOk result (out.new.items ≡ out.old.items ++ condition_text (development_shown development.now) number (condition_in terms.now condition.now)) }
-    ensures recalls { OnOk result (Recalls (spelled (development_shown development.now)) terms.now texts.new) }
+    requires recalls { Recalls (spelled (development_view development.now)) terms.now texts.old }
+    ensures text { OnOk result (out.new.items ≡ out.old.items ++ condition_text (development_view development.now) number (condition_in terms.now condition.now)) }
+    ensures recalls { OnOk result (Recalls (spelled (development_view development.now)) terms.now texts.new) }
 {
     push_head(out, development, number, condition)?;
     push_known(out, texts, terms, development, &condition.goal)?;
@@ -239,7 +239,7 @@ pub fn condition_text(
     condition: &Condition,
 ) -> Result<Vec<u8>, OutOfMemory>
     requires { IsCondition terms.now condition.now }
-    ensures { IfOk result (λ text. text.items ≡ condition_text (development_shown development.now) number (condition_in terms.now condition.now)) }
+    ensures { IfOk result (λ text. text.items ≡ condition_text (development_view development.now) number (condition_in terms.now condition.now)) }
 {
     let mut out = Vec::new(alloc);
     let mut texts = no_texts(alloc);

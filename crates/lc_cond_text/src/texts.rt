@@ -4,7 +4,7 @@ ghost use Rattle.lc_table.specs.NodeTables.{Table};
 ghost use Rattle.lc_table.specs.Tables.{formula_in, IsFormula};
 ghost use Rattle.lc_text.specs.Spelling.{Spelled};
 ghost use Rattle.lc_text.specs.Spelled.{spelled_formula};
-ghost use Rattle.lc_outline.specs.DevelopmentView.{development_shown};
+ghost use Rattle.lc_outline.specs.DevelopmentView.{development_view};
 ghost use Rattle.lc_cond_text.specs.ConditionText.{spelled};
 ghost use Rattle.lc_cond_text.specs.Recalled.{LiesAt, Recalls};
 
@@ -77,9 +77,9 @@ fn spell(
     formula: FormulaId,
 ) -> Result<Place, OutOfMemory>
     requires formula { IsFormula terms.now formula }
-    requires recalls { Recalls (spelled (development_shown development.now)) terms.now texts.old }
-    ensures place { IfOk result (LiesAt (spelled_formula (spelled (development_shown development.now)) 0 (formula_in terms.now formula)) texts.new.bytes.items) }
-    ensures recalls { OnOk result (Recalls (spelled (development_shown development.now)) terms.now texts.new) }
+    requires recalls { Recalls (spelled (development_view development.now)) terms.now texts.old }
+    ensures place { IfOk result (LiesAt (spelled_formula (spelled (development_view development.now)) 0 (formula_in terms.now formula)) texts.new.bytes.items) }
+    ensures recalls { OnOk result (Recalls (spelled (development_view development.now)) terms.now texts.new) }
 {
     let number = formula.0 as usize;
     make_room(&mut texts.places, number)?;
@@ -110,9 +110,9 @@ pub(crate) fn push_repeated(
     formula: FormulaId,
 ) -> Result<(), OutOfMemory>
     requires formula { IsFormula terms.now formula }
-    requires recalls { Recalls (spelled (development_shown development.now)) terms.now texts.old }
-    ensures text { OnOk result (out.new.items ≡ out.old.items ++ spelled_formula (spelled (development_shown development.now)) 0 (formula_in terms.now formula)) }
-    ensures recalls { OnOk result (Recalls (spelled (development_shown development.now)) terms.now texts.new) }
+    requires recalls { Recalls (spelled (development_view development.now)) terms.now texts.old }
+    ensures text { OnOk result (out.new.items ≡ out.old.items ++ spelled_formula (spelled (development_view development.now)) 0 (formula_in terms.now formula)) }
+    ensures recalls { OnOk result (Recalls (spelled (development_view development.now)) terms.now texts.new) }
 {
     if let Some(place) = place_of(texts, formula) {
         return push_at(out, texts, place);

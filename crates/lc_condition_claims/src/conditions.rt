@@ -8,8 +8,8 @@ ghost use Rattle.lc_listing.specs.Chosen.{chosen_text};
 ghost use Rattle.lc_listing.specs.Shown.{IsLaid, line_at};
 ghost use Rattle.lc_naming.specs.ColumnNames.{column_names, name_at};
 ghost use Rattle.lc_naming.specs.EdgeWords.{edge_word};
-ghost use Rattle.lc_outline.specs.DevelopmentView.{development_shown};
-ghost use Rattle.lc_outline.specs.PartsView.{parts_shown};
+ghost use Rattle.lc_outline.specs.DevelopmentView.{development_view};
+ghost use Rattle.lc_outline.specs.PartsView.{parts_view};
 ghost use Rattle.lc_reading.specs.Words.{names_in};
 ghost use Rattle.lc_table.specs.Tables.{Keeps};
 
@@ -29,7 +29,7 @@ pub fn listing_conditions(
     development: &Development,
 ) -> Result<Vec<Condition>, OutOfMemory>
     ensures are { IfOk result (λ cs. AreConditions terms.new cs.items) }
-    ensures list { IfOk result (λ cs. map (condition_in terms.new) cs.items ≡ conditions (development_shown development.now)) }
+    ensures list { IfOk result (λ cs. map (condition_in terms.new) cs.items ≡ conditions (development_view development.now)) }
     ensures kept { Keeps terms.old terms.new }
 {
     conditions(alloc, terms, development)
@@ -42,7 +42,7 @@ pub fn listing_a_part(
     development: &Development,
     terms: &mut Terms,
 ) -> Result<Option<Vec<Condition>>, OutOfMemory>
-    ensures next { IfOk result (IsNextPart (development_shown development.now) terms.new stream.old stream.new) }
+    ensures next { IfOk result (IsNextPart (development_view development.now) terms.new stream.old stream.new) }
     ensures unchanged { OnErr result (stream.new ≡ stream.old) }
     ensures kept { Keeps terms.old terms.new }
 {
@@ -57,8 +57,8 @@ pub fn making_a_part(
     terms: &mut Terms,
     number: u64,
 ) -> Result<NumberedPart, OutOfMemory>
-    requires { IsNumbering (development_shown development.now) numbering.now }
-    ensures part { IfOk result (IsPartWith (development_shown development.now) terms.new number) }
+    requires { IsNumbering (development_view development.now) numbering.now }
+    ensures part { IfOk result (IsPartWith (development_view development.now) terms.new number) }
     ensures kept { Keeps terms.old terms.new }
 {
     numbering.part_with(alloc, development, terms, number)
@@ -66,14 +66,14 @@ pub fn making_a_part(
 
 /// The names of all columns are returned by the numbers of the columns, those of the system columns last.
 pub fn naming_columns<'a>(alloc: Global, parts: &'a Parts) -> Result<Vec<&'a str>, OutOfMemory>
-    ensures { IfOk result (λ all. names_in all.items ≡ column_names (parts_shown parts.now)) }
+    ensures { IfOk result (λ all. names_in all.items ≡ column_names (parts_view parts.now)) }
 {
     column_names(alloc, parts)
 }
 
 /// The name of a column is the one in this list, and no text after the last column.
 pub fn naming_a_column(parts: &Parts, column: ColId) -> &str
-    ensures { result.now ≡ name_at (column_names (parts_shown parts.now)) column.0 }
+    ensures { result.now ≡ name_at (column_names (parts_view parts.now)) column.0 }
 {
     column_name(parts, column)
 }
@@ -91,7 +91,7 @@ pub fn laying_out_a_condition(
     development: &Development,
     number: u64,
 ) -> Result<Option<Vec<u8>>, OutOfMemory>
-    ensures { IfOk result (IsLaid (line_at (development_shown development.now) number)) }
+    ensures { IfOk result (IsLaid (line_at (development_view development.now) number)) }
 {
     condition_over_lines(alloc, development, number)
 }
@@ -103,7 +103,7 @@ pub fn choosing_conditions(
     point: Option<&str>,
     kind: Option<&str>,
 ) -> Result<Vec<u8>, OutOfMemory>
-    ensures { IfOk result (λ text. text.items ≡ chosen_text (option_map (λ a. a.now) point.entry) (option_map (λ a. a.now) kind.entry) (development_shown development.now)) }
+    ensures { IfOk result (λ text. text.items ≡ chosen_text (option_map (λ a. a.now) point.entry) (option_map (λ a. a.now) kind.entry) (development_view development.now)) }
 {
     chosen_conditions(alloc, development, point, kind)
 }

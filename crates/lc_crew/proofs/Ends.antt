@@ -3,7 +3,7 @@ use Rattle.std.proofs.Common.{◌≡◌, ℕ, zero, suc, ◌+◌, ◌<◌, List,
 use Rattle.std.specs.Prelude.{All, IfSome, slice_get}
 use Rattle.lc_run.specs.Labels.{is_unfinished, labels_by}
 use Rattle.lc_run.specs.LabelView.{labels_of}
-use Rattle.lc_run.specs.Ordering.{entries_shown}
+use Rattle.lc_run.specs.Ordering.{order_entries}
 use Rattle.lc_run.specs.Seated.{HasOwn}
 use Rattle.lc_run.specs.declared.held.Seat.{Seat}
 use Rattle.lc_hist.specs.Histories.{events_in}
@@ -57,8 +57,8 @@ module _ {J : Type 0} where
 
   -- what has run, if all seats were handed in with their clients' ends
   pub ended : (D : Development) (n : ℕ) (ran : Ran) (seats : List (Seat J)) → ∥ ((w : World) × IsRun D n (labels_of ran.log.labels.items) w) ∥₁
-      → events_in ran.log.history ≡ history (labels_of ran.log.labels.items) → entries_shown ran.log.order.items ≡ order (labels_of ran.log.labels.items)
-      → ∥ Linearizes (text_step D.specification.operations) (start_of D.specification.columns) (events_in ran.log.history) (entries_shown ran.log.order.items) ∥₁
+      → events_in ran.log.history ≡ history (labels_of ran.log.labels.items) → order_entries ran.log.order.items ≡ order (labels_of ran.log.labels.items)
+      → ∥ Linearizes (text_step D.specification.operations) (start_of D.specification.columns) (events_in ran.log.history) (order_entries ran.log.order.items) ∥₁
       → All (HasOwn (labels_of ran.log.labels.items)) seats → AreAllEnded n ran.ends.items → AreEndsOf seats ran.ends.items → IsRunOf D n ran
   ended D n ran seats run its_history its_order linearizes own all ends = record {
     ordered = record {

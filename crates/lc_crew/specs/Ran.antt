@@ -6,7 +6,7 @@ use Rattle.lc_machine.specs.World.{World}
 use Rattle.lc_outline.specs.Development.{Development}
 use Rattle.lc_run.specs.Labels.{is_unfinished, labels_by}
 use Rattle.lc_run.specs.LabelView.{labels_of}
-use Rattle.lc_run.specs.Ordering.{entries_shown}
+use Rattle.lc_run.specs.Ordering.{order_entries}
 use Rattle.lc_seq.specs.TextStep.{text_step, start_of}
 use Rattle.lc_sound.specs.Instrumented.{Label, IsRun, history}
 use Rattle.lc_sound.specs.Order.{order}
@@ -39,4 +39,4 @@ pub record IsOrdered (D : Development) (n : ℕ) (labels : List Label) (ends : L
 pub record IsRunOf (D : Development) (n : ℕ) (ran : Ran) : Type 0 where
   pub ordered : IsOrdered D n (labels_of ran.log.labels.items) ran.ends.items
   pub events : events_in ran.log.history ≡ history (labels_of ran.log.labels.items)
-  pub entries : entries_shown ran.log.order.items ≡ order (labels_of ran.log.labels.items)
+  pub entries : order_entries ran.log.order.items ≡ order (labels_of ran.log.labels.items)

@@ -8,7 +8,7 @@ ghost use Rattle.lc_cond.specs.ConditionView.{condition_in, AreConditions, IsCon
 ghost use Rattle.lc_cond.specs.Numbering.{IsNumbering};
 ghost use Rattle.lc_kernel.specs.Proofs.{size};
 ghost use Rattle.lc_kernel.specs.View.{proof_of};
-ghost use Rattle.lc_outline.specs.DevelopmentView.{development_shown};
+ghost use Rattle.lc_outline.specs.DevelopmentView.{development_view};
 ghost use Rattle.lc_table.specs.Tables.{Keeps};
 ghost use Rattle.lc_term.specs.Lists.{Every};
 
@@ -100,7 +100,7 @@ fn push_all(
     numbering: &Numbering,
 ) -> Result<(), OutOfMemory>
     requires steps { HaveFewSteps (entries_in certificate.now) }
-    requires numbering { IsNumbering (development_shown development.now) numbering.now }
+    requires numbering { IsNumbering (development_view development.now) numbering.now }
 {
     let count = numbering.count();
     let mut number = 0;

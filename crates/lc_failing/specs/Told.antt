@@ -2,7 +2,7 @@
 use Rattle.std.specs.Prelude.{◌≡◌, ◌↔◌, ℕ, List}
 use Rattle.lc_term.specs.State.{state_of}
 use Rattle.lc_term.specs.Syntax.{Formula}
-use Rattle.lc_term.specs.UpdateView.{writes_shown}
+use Rattle.lc_term.specs.UpdateView.{writes_view}
 use Rattle.lc_failing.specs.declared.failing.Failing.TheVariants as F
 use Rattle.lc_failing.specs.declared.telling.Told.{Told}
 use Rattle.lc_failing.specs.Failing.{Fails, FailsButForQuantifiers}
@@ -15,4 +15,4 @@ pub record IsTold (columns : ℕ) (hypotheses : List Formula) (goal : Formula) (
   pub fails : told.failing ≡ F.Fails ↔ Fails told.situation.state told.situation.env hypotheses (instance_at told.numbers.items goal)
   pub but : told.failing ≡ F.FailsButForQuantifiers →
       FailsButForQuantifiers told.situation.state told.situation.env hypotheses (instance_at told.numbers.items goal)
-  pub state : IsOf told.situation.content columns (state_of told.situation.state) (writes_shown told.situation.cells.items)
+  pub state : IsOf told.situation.content columns (state_of told.situation.state) (writes_view told.situation.cells.items)

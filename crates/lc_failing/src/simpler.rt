@@ -1,7 +1,7 @@
 //! States that say the same with fewer or smaller numbers.
 ghost use Rattle.std.specs.Prelude.{◌≡◌, IfOk, OnOk};
 ghost use Rattle.lc_term.specs.State.{state_of};
-ghost use Rattle.lc_term.specs.UpdateView.{writes_shown};
+ghost use Rattle.lc_term.specs.UpdateView.{writes_view};
 ghost use Rattle.lc_failing.specs.Situation.{AreCells, IsOf};
 
 use crate::reads::cell_read;
@@ -12,8 +12,8 @@ use std::alloc::Global;
 
 /// A cell after others, unless it is among them, or its column is not below `columns`.
 fn push_once(cells: &mut Vec<Write>, columns: u32, cell: Write) -> Result<(), OutOfMemory>
-    requires { AreCells columns (writes_shown cells.old.items) }
-    ensures { OnOk result (AreCells columns (writes_shown cells.new.items)) }
+    requires { AreCells columns (writes_view cells.old.items) }
+    ensures { OnOk result (AreCells columns (writes_view cells.new.items)) }
 {
     if cell.column.0 >= columns || is_among(cell, cells) {
         return Ok(());
@@ -29,7 +29,7 @@ fn cells_with(
     situation: &Situation,
     reads: &[&Term],
 ) -> Result<Vec<Write>, OutOfMemory>
-    ensures { IfOk result (λ cells. AreCells columns (writes_shown cells.items)) }
+    ensures { IfOk result (λ cells. AreCells columns (writes_view cells.items)) }
 {
     let mut cells = Vec::new(alloc);
     for read in reads {
@@ -51,7 +51,7 @@ pub(crate) fn completed(
     situation: &Situation,
     reads: &[&Term],
 ) -> Result<Situation, OutOfMemory>
-    ensures { IfOk result (λ made. IsOf made.content columns (state_of made.state) (writes_shown made.cells.items)) }
+    ensures { IfOk result (λ made. IsOf made.content columns (state_of made.state) (writes_view made.cells.items)) }
 {
     let cells = cells_with(alloc, columns, situation, reads)?;
     let content = Content::Zero;
@@ -116,7 +116,7 @@ impl Lowering {
         columns: u32,
         cells: &[Write],
     ) -> Result<Vec<Write>, OutOfMemory>
-        ensures { IfOk result (λ lowered. AreCells columns (writes_shown lowered.items)) }
+        ensures { IfOk result (λ lowered. AreCells columns (writes_view lowered.items)) }
     {
         let mut lowered = Vec::new(alloc);
         for cell in cells {
@@ -146,7 +146,7 @@ impl Lowering {
         columns: u32,
         situation: &Situation,
     ) -> Result<Situation, OutOfMemory>
-        ensures { IfOk result (λ made. IsOf made.content columns (state_of made.state) (writes_shown made.cells.items)) }
+        ensures { IfOk result (λ made. IsOf made.content columns (state_of made.state) (writes_view made.cells.items)) }
     {
         let cells = self.of_cells(alloc, columns, &situation.cells)?;
         let content = situation.content;

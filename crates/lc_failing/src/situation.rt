@@ -2,7 +2,7 @@
 ghost use Rattle.std.specs.Prelude.{◌≡◌, ◌<◌, IfOk, IfSome, OnOk, IsFalse};
 ghost use Rattle.lc_term.specs.Lists.{Every};
 ghost use Rattle.lc_term.specs.State.{column_count, state_of};
-ghost use Rattle.lc_term.specs.UpdateView.{writes_shown};
+ghost use Rattle.lc_term.specs.UpdateView.{writes_view};
 ghost use Rattle.lc_failing.specs.Situation.{AreCells, AreNumbers, IsBlank, IsElsewhere, IsOf, numbers_of};
 
 use lc_base::{ColId, OutOfMemory};
@@ -92,7 +92,7 @@ fn cell_of(numbered: &Numbered, state: &State, env: &Env) -> Option<Write>
 
 /// Whether a cell is among others.
 pub(crate) fn is_among(cell: Write, cells: &[Write]) -> bool
-    ensures { IsFalse result → Every (IsElsewhere cell.column.0 cell.index) (writes_shown cells.now) }
+    ensures { IsFalse result → Every (IsElsewhere cell.column.0 cell.index) (writes_view cells.now) }
 {
     for other in cells {
         if other.column.0 == cell.column.0 && other.index == cell.index {
@@ -109,8 +109,8 @@ fn push_cell(
     state: &State,
     env: &Env,
 ) -> Result<(), OutOfMemory>
-    requires { AreCells (column_count state.now) (writes_shown cells.old.items) }
-    ensures { OnOk result (AreCells (column_count state.now) (writes_shown cells.new.items)) }
+    requires { AreCells (column_count state.now) (writes_view cells.old.items) }
+    ensures { OnOk result (AreCells (column_count state.now) (writes_view cells.new.items)) }
 {
     let Some(cell) = cell_of(numbered, state, env) else {
         return Ok(());
@@ -129,7 +129,7 @@ fn cells_in(
     env: &Env,
     numbers: &[Numbered],
 ) -> Result<Vec<Write>, OutOfMemory>
-    ensures { IfOk result (λ cells. AreCells (column_count state.now) (writes_shown cells.items)) }
+    ensures { IfOk result (λ cells. AreCells (column_count state.now) (writes_view cells.items)) }
 {
     let mut cells = Vec::new(alloc);
     for numbered in numbers {
@@ -179,9 +179,9 @@ pub(crate) fn state_with(
     content: Content,
     cells: &[Write],
 ) -> Result<State, OutOfMemory>
-    requires { AreCells columns (writes_shown cells.now) }
+    requires { AreCells columns (writes_view cells.now) }
     ensures columns { IfOk result (λ state. column_count state ≡ columns) }
-    ensures cells { IfOk result (λ state. IsOf content columns (state_of state) (writes_shown cells.now)) }
+    ensures cells { IfOk result (λ state. IsOf content columns (state_of state) (writes_view cells.now)) }
 {
     let mut state = blank_state(alloc, columns, content)?;
     state.write_all(alloc, cells)?;
@@ -197,7 +197,7 @@ pub(crate) fn situation_of(
     numbers: &[Numbered],
     content: Content,
 ) -> Result<Situation, OutOfMemory>
-    ensures { IfOk result (λ made. IsOf made.content columns (state_of made.state) (writes_shown made.cells.items)) }
+    ensures { IfOk result (λ made. IsOf made.content columns (state_of made.state) (writes_view made.cells.items)) }
 {
     let count = variable_count(variables as usize, numbers);
     let env = Env {

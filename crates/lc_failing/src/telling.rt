@@ -1,7 +1,7 @@
 //! What is reported about a goal for which a search found no proof.
 ghost use Rattle.std.specs.Prelude.{ℕ, IfOk, IfSome};
 ghost use Rattle.lc_term.specs.State.{state_of};
-ghost use Rattle.lc_term.specs.UpdateView.{writes_shown};
+ghost use Rattle.lc_term.specs.UpdateView.{writes_view};
 ghost use Rattle.lc_term.specs.View.{formula_of, formulas_of};
 ghost use Rattle.lc_failing.specs.Situation.{IsOf};
 ghost use Rattle.lc_failing.specs.Told.{IsTold};
@@ -39,7 +39,7 @@ struct Asked<'a> {
 
 /// What is known of a goal in a state.
 fn told_in(alloc: Global, situation: Situation, asked: Asked<'_>) -> Result<Told, OutOfMemory>
-    requires { IsOf situation.content asked.columns (state_of situation.state) (writes_shown situation.cells.items) }
+    requires { IsOf situation.content asked.columns (state_of situation.state) (writes_view situation.cells.items) }
     ensures { IfOk result (IsTold asked.entry.columns (formulas_of asked.entry.hypotheses.now) (formula_of asked.entry.goal.now)) }
 {
     let instance = instance_of(alloc, asked.goal, asked.witnesses, &situation.env)?;

@@ -7,7 +7,7 @@ ghost use Rattle.lc_find.specs.Certified.{IsCertifiedBy};
 ghost use Rattle.lc_find.specs.Found.{Finds};
 ghost use Rattle.lc_find.specs.GetsCarried.{GetsCarried};
 ghost use Rattle.lc_hints.specs.HintView.{proofs_in};
-ghost use Rattle.lc_outline.specs.DevelopmentView.{development_shown};
+ghost use Rattle.lc_outline.specs.DevelopmentView.{development_view};
 
 use crate::fault::FindFault;
 use crate::finding::find_beside;
@@ -38,9 +38,9 @@ pub fn carry(
     budget: u64,
 ) -> Result<Certificate, FindFault>
     requires { IsCertifiedBy (development_in accepted.now) (entries_in certificate.now) }
-    ensures finds { let E = development_shown development.now in
+    ensures finds { let E = development_view development.now in
         Finds E (carried (development_in accepted.now) (entries_in certificate.now) E ++ proofs_in hints.now) budget result }
-    ensures gets { IfOk result (λ c. GetsCarried (development_in accepted.now) (entries_in certificate.now) (development_shown development.now) (entries_in c)) }
+    ensures gets { IfOk result (λ c. GetsCarried (development_in accepted.now) (entries_in certificate.now) (development_view development.now) (entries_in c)) }
 {
     carry_with(
         alloc,
@@ -72,9 +72,9 @@ pub fn carry_with<P: Progress>(
     progress: &mut P,
 ) -> Result<Certificate, FindFault>
     requires { IsCertifiedBy (development_in accepted.now) (entries_in certificate.now) }
-    ensures finds { let E = development_shown development.now in
+    ensures finds { let E = development_view development.now in
         Finds E (carried (development_in accepted.now) (entries_in certificate.now) E ++ proofs_in hints.now) budget result }
-    ensures gets { IfOk result (λ c. GetsCarried (development_in accepted.now) (entries_in certificate.now) (development_shown development.now) (entries_in c)) }
+    ensures gets { IfOk result (λ c. GetsCarried (development_in accepted.now) (entries_in certificate.now) (development_view development.now) (entries_in c)) }
 {
     a_certificate_is_read_or_refused();
     the_least_is_carried();

@@ -1,6 +1,6 @@
 //! Certificates are found: each proof is checked before it is taken, and the text of all of them before it is given.
 ghost use Rattle.std.specs.Prelude.{◌++◌};
-ghost use Rattle.lc_outline.specs.DevelopmentView.{development_shown};
+ghost use Rattle.lc_outline.specs.DevelopmentView.{development_view};
 ghost use Rattle.lc_cert.specs.Certificates.{HaveFewSteps};
 ghost use Rattle.lc_cert.specs.EntryView.{entries_of};
 ghost use Rattle.lc_find.specs.Found.{AreFound, Finds};
@@ -28,7 +28,7 @@ fn found_entries<P: Progress>(
     progress: &mut P,
 ) -> Result<Vec<Entry>, FindFault>
     requires { HaveFewSteps (entries_of given.now) }
-    ensures { AreFound (development_shown development.now) (entries_of given.now ++ proofs_in hints.now) budget result }
+    ensures { AreFound (development_view development.now) (entries_of given.now ++ proofs_in hints.now) budget result }
 {
     let first = Candidates::new(alloc, given, hints.proofs())?;
     let mut walk = Walk::new(alloc, development)?;
@@ -67,7 +67,7 @@ pub fn find(
     hints: &Hints,
     budget: u64,
 ) -> Result<Certificate, FindFault>
-    ensures { Finds (development_shown development.now) (proofs_in hints.now) budget result }
+    ensures { Finds (development_view development.now) (proofs_in hints.now) budget result }
 {
     find_with(alloc, development, hints, budget, &mut Silent)
 }
@@ -80,7 +80,7 @@ pub fn find_with<P: Progress>(
     budget: u64,
     progress: &mut P,
 ) -> Result<Certificate, FindFault>
-    ensures { Finds (development_shown development.now) (proofs_in hints.now) budget result }
+    ensures { Finds (development_view development.now) (proofs_in hints.now) budget result }
 {
     find_beside(alloc, development, &[], hints, budget, progress)
 }
@@ -95,7 +95,7 @@ pub(crate) fn find_beside<P: Progress>(
     progress: &mut P,
 ) -> Result<Certificate, FindFault>
     requires { HaveFewSteps (entries_of given.now) }
-    ensures { Finds (development_shown development.now) (entries_of given.now ++ proofs_in hints.now) budget result }
+    ensures { Finds (development_view development.now) (entries_of given.now ++ proofs_in hints.now) budget result }
 {
     let entries = found_entries(alloc, development, given, hints, budget, progress)?;
     printed_certificates_read_back();

@@ -2,7 +2,7 @@
 ghost use Rattle.std.specs.Prelude.{◌≡◌, ◌≤◌, true, length, [], IfOk};
 ghost use Rattle.lc_base.specs.NameText.{is_name};
 ghost use Rattle.lc_base.specs.Limits.{name_limit};
-ghost use Rattle.lc_outline.specs.DevelopmentView.{development_shown};
+ghost use Rattle.lc_outline.specs.DevelopmentView.{development_view};
 ghost use Rattle.lc_cert.specs.EntryView.{entries_of};
 ghost use Rattle.lc_cert.specs.Files.{Certifies};
 ghost use Rattle.lc_cert.specs.Printed.{certificate_line};
@@ -21,7 +21,7 @@ use std::alloc::Global;
 
 /// If a development has no conditions, the certificate without proofs is accepted.
 fn an_empty_certificate_reads_back(development: &Development)
-    ensures { let D = development_shown development.now in Certifies D (certificate_line D []) [] }
+    ensures { let D = development_view development.now in Certifies D (certificate_line D []) [] }
 {
     printed_certificates_read_back();
     let _name = object_name(development);
@@ -29,7 +29,7 @@ fn an_empty_certificate_reads_back(development: &Development)
 
 /// The name of the object.
 fn object_name(development: &Development) -> &str
-    ensures text { result.now ≡ (development_shown development.now).object.name }
+    ensures text { result.now ≡ (development_view development.now).object.name }
     ensures name { is_name result.now ≡ true }
     ensures limit { length result.now ≤ name_limit }
 {
@@ -38,7 +38,7 @@ fn object_name(development: &Development) -> &str
 
 /// Whether a text is a certificate that is accepted.
 fn is_accepted(alloc: Global, development: &Development, text: &[u8]) -> Result<bool, OutOfMemory>
-    ensures { IfOk result (IsReadBack (development_shown development.now) text.now) }
+    ensures { IfOk result (IsReadBack (development_view development.now) text.now) }
 {
     match proven_count(alloc, development, text) {
         Ok(_) => Ok(true),
@@ -54,8 +54,8 @@ pub(crate) fn read_back(
     development: &Development,
     entries: Vec<Entry>,
 ) -> Result<Certificate, FindFault>
-    requires { ProveInTurn 0 (entries_of entries.items) (conditions (development_shown development.now)) }
-    ensures { IsGivenBack (development_shown development.now) (entries_of entries.items) result }
+    requires { ProveInTurn 0 (entries_of entries.items) (conditions (development_view development.now)) }
+    ensures { IsGivenBack (development_view development.now) (entries_of entries.items) result }
 {
     let count = entries.len() as u64;
     let certificate = Certificate::of_entries(entries);

@@ -1,6 +1,6 @@
 //! A proof of the next condition: the first that the hints have, if it holds; else one that is sought.
 ghost use Rattle.std.specs.Prelude.{◌≡◌, List, IfOk};
-ghost use Rattle.lc_outline.specs.DevelopmentView.{development_shown};
+ghost use Rattle.lc_outline.specs.DevelopmentView.{development_view};
 ghost use Rattle.lc_cert.specs.Certificates.{Entry as Proved, HaveFewSteps};
 ghost use Rattle.lc_check.specs.Walking.{HasNext, IsKnown, IsInTurn};
 ghost use Rattle.lc_find.specs.FirstView.{all_of};
@@ -24,10 +24,10 @@ fn hinted_entry(
     walk: &mut Walk,
     first: &Candidates<'_>,
 ) -> Result<Option<Entry>, OutOfMemory>
-    requires in_turn { (taken : List Proved) × IsInTurn (development_shown development.now) taken walk.old }
+    requires in_turn { (taken : List Proved) × IsInTurn (development_view development.now) taken walk.old }
     requires stands { HasNext walk.old }
     requires steps { HaveFewSteps (all_of first.now) }
-    ensures { IfOk result (IsHintTaken (development_shown development.now) (all_of first.now) walk.old walk.new) }
+    ensures { IfOk result (IsHintTaken (development_view development.now) (all_of first.now) walk.old walk.new) }
 {
     let number = walk.next;
     let Some(proof) = first.first(number) else {
@@ -64,9 +64,9 @@ fn sought_entry<P: Progress>(
     budget: u64,
     progress: &mut P,
 ) -> Result<Entry, FindFault>
-    requires in_turn { (taken : List Proved) × IsInTurn (development_shown development.now) taken walk.old }
+    requires in_turn { (taken : List Proved) × IsInTurn (development_view development.now) taken walk.old }
     requires stands { HasNext walk.old }
-    ensures { IsSought (development_shown development.now) budget walk.old walk.new result }
+    ensures { IsSought (development_view development.now) budget walk.old walk.new result }
 {
     let number = walk.next;
     if budget == 0 {
@@ -101,10 +101,10 @@ pub(crate) fn next_entry<P: Progress>(
     budget: u64,
     progress: &mut P,
 ) -> Result<Entry, FindFault>
-    requires in_turn { (taken : List Proved) × IsInTurn (development_shown development.now) taken walk.old }
+    requires in_turn { (taken : List Proved) × IsInTurn (development_view development.now) taken walk.old }
     requires stands { HasNext walk.old }
     requires steps { HaveFewSteps (all_of first.now) }
-    ensures { IsTaken (development_shown development.now) (all_of first.now) budget walk.old walk.new result }
+    ensures { IsTaken (development_view development.now) (all_of first.now) budget walk.old walk.new result }
 {
     match hinted_entry(alloc, development, walk, first) {
         Ok(Some(entry)) => Ok(entry),

@@ -4,7 +4,7 @@ ghost use Rattle.lc_sexp.specs.Reads.{ReadsAs};
 ghost use Rattle.lc_sexp.specs.Shown.{rest_of, number_of, owner_of};
 ghost use Rattle.lc_cert.specs.ColumnNames.{names_with};
 ghost use Rattle.lc_cert.specs.Printed.{EntryReadsBack};
-ghost use Rattle.lc_outline.specs.DevelopmentView.{development_shown};
+ghost use Rattle.lc_outline.specs.DevelopmentView.{development_view};
 ghost use Rattle.lc_proof_text.specs.Files.{only};
 ghost use Rattle.lc_reading.specs.Parts.{tree_of, place_of};
 ghost use Rattle.lc_reading.specs.Results.{IsReading};
@@ -210,8 +210,8 @@ fn read_file(
 /// as in `hints_of`.
 pub fn hints_in(alloc: Global, development: &Development, forms: Forms) -> Result<Hints, Fault>
     requires { (bytes : List ℕ) × ReadsAs bytes forms }
-    ensures answer { (bytes : List ℕ) → ReadsAs bytes forms → IsAnswerTo (development_shown development.now) bytes result }
-    ensures back { IfOk result (λ hints. Every (EntryReadsBack (development_shown development.now)) (proofs_in hints)) }
+    ensures answer { (bytes : List ℕ) → ReadsAs bytes forms → IsAnswerTo (development_view development.now) bytes result }
+    ensures back { IfOk result (λ hints. Every (EntryReadsBack (development_view development.now)) (proofs_in hints)) }
 {
     let parts = development.parts();
     let names = column_names(alloc, parts)?;
@@ -229,8 +229,8 @@ pub fn hints_in(alloc: Global, development: &Development, forms: Forms) -> Resul
 /// fault; else of `Shape`, `Unknown`, `Repeated`, `Auxiliary` and `Bound`, in this order, the first for which an item is
 /// wrong, with the least such item. `OutOfMemory` says nothing about the bytes.
 pub fn hints_of(alloc: Global, development: &Development, bytes: &[u8]) -> Result<Hints, Fault>
-    ensures answer { IsAnswerTo (development_shown development.now) bytes.now result }
-    ensures back { IfOk result (λ hints. Every (EntryReadsBack (development_shown development.now)) (proofs_in hints)) }
+    ensures answer { IsAnswerTo (development_view development.now) bytes.now result }
+    ensures back { IfOk result (λ hints. Every (EntryReadsBack (development_view development.now)) (proofs_in hints)) }
 {
     let forms = Forms::read(alloc, bytes)?;
     hints_in(alloc, development, forms)

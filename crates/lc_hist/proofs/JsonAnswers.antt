@@ -17,7 +17,7 @@ use Rattle.lc_seq.specs.declared.text_call.TextCall.{TextCall}
 use Rattle.lc_hist.specs.Histories.{events_in}
 use Rattle.lc_hist.specs.declared.event.Done.{Done}
 use Rattle.lc_hist.specs.declared.history.History.{History}
-use Rattle.lc_hist.specs.JsonHistories.{Parts, parts_of, parts_in, IsNext, AreNext, AreEvents, HasParts, IsRefusedAt, IsWrongItem, IsHistoryOf, SaysHistory, entries_seen}
+use Rattle.lc_hist.specs.JsonHistories.{Parts, parts_of, parts_in, IsNext, AreNext, AreEvents, HasParts, IsRefusedAt, IsWrongItem, IsHistoryOf, SaysHistory, entries_view}
 use Rattle.lc_hist.specs.JsonRecorded.{recorded_of as recorded_parts, recorded_in, HasRecorded, SaysRecorded, IsWrongRecordedItem, IsRecordedOf}
 use Rattle.lc_hist.specs.JsonSeen.{HasValue, AreInParts, IsWrongInParts, IsWrongEventItem, IsWrongEntryItem}
 use Rattle.lc_hist.specs.JsonValues.{all_in, event_in, entry_in}
@@ -115,7 +115,7 @@ Read = History × Vec (Done TextCall Pick (Vec ℤ Global)) Global
 
 -- what is returned for the parts of a text
 abbrev pub AreRead : List Operation → Parts → Result Read Fault → Type 0
-AreRead operations parts result = MatchResult result (λ answer. AreInParts operations parts (events_in answer.0) (entries_seen answer.1.items)) (IsRefusedAt (IsWrongInParts operations parts))
+AreRead operations parts result = MatchResult result (λ answer. AreInParts operations parts (events_in answer.0) (entries_view answer.1.items)) (IsRefusedAt (IsWrongInParts operations parts))
 
 -- is answered to the text
 pub history_of : (operations : List Operation) (bytes : List ℕ) (parts : Parts) → HasParts bytes parts → (result : Result Read Fault) → AreRead operations parts result → IsHistoryOf operations bytes result

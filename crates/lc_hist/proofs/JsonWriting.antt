@@ -245,9 +245,9 @@ says_only operations bytes events order reads differ kept_events kept_order = λ
     )
 
 -- the value of a history, from those of its parts
-pub history_seen : (x y : Data) (operations all : List Operation) (events known : List Event) (order : List Entry) → x ≡ list_data (map (event_data operations) events) → y ≡ list_data (map (entry_data operations) order)
+pub history_is_read : (x y : Data) (operations all : List Operation) (events known : List Event) (order : List Entry) → x ≡ list_data (map (event_data operations) events) → y ≡ list_data (map (entry_data operations) order)
     → operations ≡ all → events ≡ known → object (member (codes "events") x (member (codes "order") y no_members)) ≡ history_data all known order
-history_seen x y operations all events known order these those same found =
+history_is_read x y operations all events known order these those same found =
     (λ i. object (member (codes "events") (these i) (member (codes "order") (those i) no_members))) ∙ (λ i. history_data (same i) (found i) order)
 
 -- its text

@@ -111,12 +111,12 @@ IsWrongItem operations bytes item =
     ⊎ ((parts : Parts) × HasParts bytes parts × (IsWrongInEvents operations parts item ⊎ IsWrongInOrder operations parts item))
 
 -- an entry of a call of a specification
-abbrev pub entry_seen : Done TextCall Pick (Vec ℤ Global) → Entry
-entry_seen done = entry_of text_call_of choice_of (λ reply. reply.items) done
+abbrev pub entry_view : Done TextCall Pick (Vec ℤ Global) → Entry
+entry_view done = entry_of text_call_of choice_of (λ reply. reply.items) done
 
 -- the entries of an order of calls of a specification
-abbrev pub entries_seen : List (Done TextCall Pick (Vec ℤ Global)) → List Entry
-entries_seen order = map entry_seen order
+abbrev pub entries_view : List (Done TextCall Pick (Vec ℤ Global)) → List Entry
+entries_view order = map entry_view order
 
 -- a refusal at an item about which this is known, or `OutOfMemory`
 abbrev pub IsRefusedAt : (ℕ → Type 0) → Fault → Type 0
@@ -126,5 +126,5 @@ IsRefusedAt IsWrong OutOfMemory = Unit {0}
 
 -- The answer to a text: the history and the order that it says, else the first item that is wrong, or `OutOfMemory`
 abbrev pub IsHistoryOf : List Operation → List ℕ → Result (History × Vec (Done TextCall Pick (Vec ℤ Global)) Global) Fault → Type 0
-IsHistoryOf operations bytes (Ok answer) = SaysHistory operations bytes (events_in answer.0) (entries_seen answer.1.items)
+IsHistoryOf operations bytes (Ok answer) = SaysHistory operations bytes (events_in answer.0) (entries_view answer.1.items)
 IsHistoryOf operations bytes (Err fault) = IsRefusedAt (IsWrongItem operations bytes) fault

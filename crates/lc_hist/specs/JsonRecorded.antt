@@ -12,7 +12,7 @@ use Rattle.lc_seq.specs.declared.choice.Pick.{Pick}
 use Rattle.lc_seq.specs.declared.text_call.TextCall.{TextCall}
 use Rattle.lc_hist.specs.History.{Event, Entry}
 use Rattle.lc_hist.specs.Histories.{events_in}
-use Rattle.lc_hist.specs.JsonHistories.{Parts, array_at, parts_of, AreEvents, AreEntries, IsWrongInEvents, IsWrongInOrder, IsRefusedAt, entries_seen}
+use Rattle.lc_hist.specs.JsonHistories.{Parts, array_at, parts_of, AreEvents, AreEntries, IsWrongInEvents, IsWrongInOrder, IsRefusedAt, entries_view}
 use Rattle.lc_hist.specs.declared.event.Done.{Done}
 use Rattle.lc_hist.specs.declared.history.History.{History}
 
@@ -28,8 +28,8 @@ abbrev pub recorded_in : Data → Option Parts
 recorded_in d = option_and_then (recorded_of d) (as_object d)
 
 -- the order that is read, if one is
-abbrev pub order_shown : Option (Vec (Done TextCall Pick (Vec ℤ Global)) Global) → Option (List Entry)
-order_shown order = option_map (λ order. entries_seen order.items) order
+abbrev pub order_view : Option (Vec (Done TextCall Pick (Vec ℤ Global)) Global) → Option (List Entry)
+order_view order = option_map (λ order. entries_view order.items) order
 
 -- the bytes are within the limit of a file, and JSON of such an object
 pub record HasRecorded (bytes : List ℕ) (parts : Parts) : Type 0 where
@@ -52,5 +52,5 @@ IsWrongRecordedItem operations bytes item =
 
 -- The answer to a text: the history that it says, and its order; else the first item that is wrong, or `OutOfMemory`
 abbrev pub IsRecordedOf : List Operation → List ℕ → Result (History × Vec (Done TextCall Pick (Vec ℤ Global)) Global) Fault → Type 0
-IsRecordedOf operations bytes (Ok answer) = SaysRecorded operations bytes (events_in answer.0) (entries_seen answer.1.items)
+IsRecordedOf operations bytes (Ok answer) = SaysRecorded operations bytes (events_in answer.0) (entries_view answer.1.items)
 IsRecordedOf operations bytes (Err fault) = IsRefusedAt (IsWrongRecordedItem operations bytes) fault

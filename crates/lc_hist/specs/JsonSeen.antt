@@ -48,17 +48,17 @@ opened (Called c call) = Some call.op
 opened (Replied c reply) = None
 
 -- the values of the parts
-abbrev pub parts_seen : SeenParts → Parts
-parts_seen parts = record { events = values_at parts.events; order = values_at parts.order }
+abbrev pub parts_view : SeenParts → Parts
+parts_view parts = record { events = values_at parts.events; order = values_at parts.order }
 
 -- the values of an order, none if there is no order
-abbrev pub order_seen : Option (List Token) → List Data
-order_seen None = []
-order_seen (Some order) = values_at order
+abbrev pub order_values : Option (List Token) → List Data
+order_values None = []
+order_values (Some order) = values_at order
 
 -- the values of the parts; the order may be left out
-abbrev pub recorded_seen : Recorded → Parts
-recorded_seen parts = record { events = values_at parts.events; order = order_seen parts.order }
+abbrev pub recorded_view : Recorded → Parts
+recorded_view parts = record { events = values_at parts.events; order = order_values parts.order }
 
 -- a member `order` of this value, if there is one
 abbrev pub order_member : Option Data → Members

@@ -11,7 +11,7 @@ ghost use Rattle.serde_json.specs.View.{number_view};
 ghost use Rattle.lc_hist.specs.JsonItems.{data_at, values_at, AreTokensOf};
 ghost use Rattle.lc_hist.specs.JsonHistories.{parts_in};
 ghost use Rattle.lc_hist.specs.JsonRecorded.{recorded_in};
-ghost use Rattle.lc_hist.specs.JsonSeen.{parts_seen, recorded_seen, members_with, HasNoParts, HasValue, IsNoJson};
+ghost use Rattle.lc_hist.specs.JsonSeen.{parts_view, recorded_view, members_with, HasNoParts, HasValue, IsNoJson};
 ghost use Rattle.lc_hist.specs.JsonValues.{values_in};
 
 use fast_float::Numeral;
@@ -217,7 +217,7 @@ impl<'t, 'a> Item<'t, 'a> {
 
     /// The values under the keys `events` and `order`, if these are arrays and there is no other key.
     pub(crate) fn parts(&self) -> Option<Parts<'t, 'a>>
-        ensures { option_map parts_seen result ≡ parts_in (data_at self.now) }
+        ensures { option_map parts_view result ≡ parts_in (data_at self.now) }
     {
         let (events, order) = self.keyed()?;
         Some(Parts {
@@ -228,7 +228,7 @@ impl<'t, 'a> Item<'t, 'a> {
 
     /// The same, if the key `order` may be left out.
     pub(crate) fn recorded(&self) -> Option<Recorded<'t, 'a>>
-        ensures { option_map recorded_seen result ≡ recorded_in (data_at self.now) }
+        ensures { option_map recorded_view result ≡ recorded_in (data_at self.now) }
     {
         let (events, order) = self.keyed()?;
         let events = events?.items()?;

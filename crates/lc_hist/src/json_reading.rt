@@ -2,10 +2,10 @@
 ghost use Rattle.std.specs.Prelude.{◌≡◌, ◌≤◌, ◌^◌, IfOk, IfSome, MatchResult};
 ghost use Rattle.lc_seq.specs.TextView.{specification_of};
 ghost use Rattle.lc_hist.specs.Histories.{events_in};
-ghost use Rattle.lc_hist.specs.JsonHistories.{Parts, IsRefusedAt, IsHistoryOf, AreEvents, AreEntries, entries_seen};
+ghost use Rattle.lc_hist.specs.JsonHistories.{Parts, IsRefusedAt, IsHistoryOf, AreEvents, AreEntries, entries_view};
 ghost use Rattle.lc_hist.specs.JsonItems.{values_at};
-ghost use Rattle.lc_hist.specs.JsonRecorded.{IsRecordedOf, order_shown};
-ghost use Rattle.lc_hist.specs.JsonSeen.{all_of, order_seen, may_follow, number_of, AreInText, AreInParts, IsWrongInParts, IsWrongEventItem, IsWrongEntryItem};
+ghost use Rattle.lc_hist.specs.JsonRecorded.{IsRecordedOf, order_view};
+ghost use Rattle.lc_hist.specs.JsonSeen.{all_of, order_values, may_follow, number_of, AreInText, AreInParts, IsWrongInParts, IsWrongEventItem, IsWrongEntryItem};
 ghost use Rattle.lc_hist.specs.View.{event_of};
 
 use crate::document::{Items, root, tokens_of};
@@ -74,7 +74,7 @@ fn read_order(
 ) -> Result<Vec<Done<TextCall, Pick, Vec<i64>>>, Fault>
     requires { before ≤ 2 ^ 63 }
     ensures { MatchResult result
-        (λ order. AreEntries (all_of operations.now) (values_at values.entry) (entries_seen order.items))
+        (λ order. AreEntries (all_of operations.now) (values_at values.entry) (entries_view order.items))
         (IsRefusedAt (IsWrongEntryItem (all_of operations.now) (values_at values.entry) before)) }
 {
     let mut order = Vec::new(alloc);
@@ -94,7 +94,7 @@ fn read_at_once(
     operations: &Operations<'_>,
     bytes: &[u8],
 ) -> Result<Option<(History, Option<Vec<Done<TextCall, Pick, Vec<i64>>>>)>, OutOfMemory>
-    ensures { IfOk result (λ found. IfSome found (λ answer. AreInText (all_of operations.now) bytes.now (events_in answer.0) (order_shown answer.1))) }
+    ensures { IfOk result (λ found. IfSome found (λ answer. AreInText (all_of operations.now) bytes.now (events_in answer.0) (order_view answer.1))) }
 {
     if bytes.len() as u64 > FILE_LIMIT || !simdutf8::is_utf8(bytes) {
         return Ok(None);
@@ -109,8 +109,8 @@ fn read_lists(
     events: Items<'_, '_>,
     order: Option<Items<'_, '_>>,
 ) -> Result<(History, Vec<Done<TextCall, Pick, Vec<i64>>>), Fault>
-    ensures { let parts : Parts = record { events = values_at events.entry; order = order_seen order.entry } in MatchResult result
-        (λ answer. AreInParts (all_of operations.now) parts (events_in answer.0) (entries_seen answer.1.items))
+    ensures { let parts : Parts = record { events = values_at events.entry; order = order_values order.entry } in MatchResult result
+        (λ answer. AreInParts (all_of operations.now) parts (events_in answer.0) (entries_view answer.1.items))
         (IsRefusedAt (IsWrongInParts (all_of operations.now) parts)) }
 {
     let history = read_events(alloc, operations, events)?;

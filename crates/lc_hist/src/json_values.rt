@@ -3,7 +3,7 @@ ghost use Rattle.std.specs.Prelude.{◌≡◌, IfOk, option_map, option_and_then
 ghost use Rattle.lc_seq.specs.SpecView.{text_call_of, choice_of};
 ghost use Rattle.lc_hist.specs.JsonItems.{data_at, values_at};
 ghost use Rattle.lc_hist.specs.JsonSeen.{all_of, said_in};
-ghost use Rattle.lc_hist.specs.JsonHistories.{entry_seen};
+ghost use Rattle.lc_hist.specs.JsonHistories.{entry_view};
 ghost use Rattle.lc_hist.specs.JsonValues.{number_in, numbers_in, client_in, is_word, call_in, invoke_from, respond_from, event_from, event_in, pick_in, choice_from, choice_with, done_from, entry_from, entry_in};
 ghost use Rattle.lc_hist.specs.View.{event_of};
 
@@ -221,7 +221,7 @@ fn read_done(
     reply: &Item<'_, '_>,
     choice: Option<&Item<'_, '_>>,
 ) -> Result<Option<Done<TextCall, Pick, Vec<i64>>>, OutOfMemory>
-    ensures { IfOk result (λ found. option_map entry_seen found ≡ done_from (all_of operations.now) (data_at client.now) (data_at name.now) (data_at numbers.now) (data_at reply.now) (said_in choice.entry)) }
+    ensures { IfOk result (λ found. option_map entry_view found ≡ done_from (all_of operations.now) (data_at client.now) (data_at name.now) (data_at numbers.now) (data_at reply.now) (said_in choice.entry)) }
 {
     let Some(client) = read_client(client) else {
         return Ok(None);
@@ -251,7 +251,7 @@ fn read_entry_items(
     operations: &Operations<'_>,
     mut items: Items<'_, '_>,
 ) -> Result<Option<Done<TextCall, Pick, Vec<i64>>>, OutOfMemory>
-    ensures { IfOk result (λ found. option_map entry_seen found ≡ entry_from (all_of operations.now) (values_at items.entry)) }
+    ensures { IfOk result (λ found. option_map entry_view found ≡ entry_from (all_of operations.now) (values_at items.entry)) }
 {
     let (Some(client), Some(name)) = (items.next(), items.next()) else {
         return Ok(None);
@@ -280,7 +280,7 @@ pub(crate) fn read_entry(
     operations: &Operations<'_>,
     value: &Item<'_, '_>,
 ) -> Result<Option<Done<TextCall, Pick, Vec<i64>>>, OutOfMemory>
-    ensures { IfOk result (λ found. option_map entry_seen found ≡ entry_in (all_of operations.now) (data_at value.now)) }
+    ensures { IfOk result (λ found. option_map entry_view found ≡ entry_in (all_of operations.now) (data_at value.now)) }
 {
     match value.items() {
         Some(items) => read_entry_items(alloc, operations, items),

@@ -5,7 +5,7 @@ ghost use Rattle.serde_json.specs.View.{view};
 ghost use Rattle.lc_seq.specs.SpecView.{operations_of};
 ghost use Rattle.lc_seq.specs.TextView.{specification_of};
 ghost use Rattle.lc_hist.specs.Histories.{events_in};
-ghost use Rattle.lc_hist.specs.JsonHistories.{entry_seen, entries_seen};
+ghost use Rattle.lc_hist.specs.JsonHistories.{entry_view, entries_view};
 ghost use Rattle.lc_hist.specs.JsonValues.{number_in};
 ghost use Rattle.lc_hist.specs.JsonKept.{AreKept, IsKeptEvent, IsKeptEntry, Each};
 ghost use Rattle.lc_hist.specs.JsonWritten.{list_data, number_data, numbers_data, name_data, event_data, entry_data, history_data, history_text, SaysOnly};
@@ -136,8 +136,8 @@ fn entry_value(
     operations: &[Operation],
     done: &Done<TextCall, Pick, Vec<i64>>,
 ) -> Result<Value, OutOfMemory>
-    ensures value { IfOk result (λ value. view value ≡ entry_data (operations_of operations.now) (entry_seen done.now)) }
-    ensures kept { IfOk result (λ value. IsKeptEntry (entry_seen done.now)) }
+    ensures value { IfOk result (λ value. view value ≡ entry_data (operations_of operations.now) (entry_view done.now)) }
+    ensures kept { IfOk result (λ value. IsKeptEntry (entry_view done.now)) }
 {
     let name = name_value(alloc, operations, done.call.op)?;
     let numbers = numbers_value(alloc, &done.call.numbers)?;
@@ -175,8 +175,8 @@ fn order_value(
     operations: &[Operation],
     order: &[Done<TextCall, Pick, Vec<i64>>],
 ) -> Result<Value, OutOfMemory>
-    ensures value { IfOk result (λ value. view value ≡ list_data (map (entry_data (operations_of operations.now)) (entries_seen order.now))) }
-    ensures kept { IfOk result (λ value. Each IsKeptEntry (entries_seen order.now)) }
+    ensures value { IfOk result (λ value. view value ≡ list_data (map (entry_data (operations_of operations.now)) (entries_view order.now))) }
+    ensures kept { IfOk result (λ value. Each IsKeptEntry (entries_view order.now)) }
 {
     let mut values = Vec::with_capacity(alloc, order.len())?;
     for done in order {
@@ -194,8 +194,8 @@ pub fn history_to_json(
     history: &History,
     order: &[Done<TextCall, Pick, Vec<i64>>],
 ) -> Result<Vec<u8>, OutOfMemory>
-    ensures text { IfOk result (λ bytes. bytes.items ≡ history_text (specification_of spec.now).operations (events_in history.now) (entries_seen order.now)) }
-    ensures reads_back { IfOk result (λ bytes. SaysOnly (specification_of spec.now).operations bytes.items (events_in history.now) (entries_seen order.now)) }
+    ensures text { IfOk result (λ bytes. bytes.items ≡ history_text (specification_of spec.now).operations (events_in history.now) (entries_view order.now)) }
+    ensures reads_back { IfOk result (λ bytes. SaysOnly (specification_of spec.now).operations bytes.items (events_in history.now) (entries_view order.now)) }
 {
     let operations = spec.operations();
     let events = events_value(alloc, operations, history.events())?;

@@ -2,8 +2,8 @@
 ghost use Rattle.std.specs.Prelude.{◌≡◌, Some, IfOk, IfSome};
 ghost use Rattle.lc_seq.specs.SpecView.{choice_of};
 ghost use Rattle.lc_hist.specs.Histories.{events_in};
-ghost use Rattle.lc_hist.specs.JsonHistories.{entry_seen, entries_seen};
-ghost use Rattle.lc_hist.specs.JsonRecorded.{order_shown};
+ghost use Rattle.lc_hist.specs.JsonHistories.{entry_view, entries_view};
+ghost use Rattle.lc_hist.specs.JsonRecorded.{order_view};
 ghost use Rattle.lc_hist.specs.JsonSeen.{all_of};
 ghost use Rattle.lc_hist.specs.JsonTokens.{Says, SayDeed, SayPick, SayEvents, SayEntries, AreLast, AreMembers, AreSaid};
 ghost use Rattle.lc_hist.specs.JsonValues.{event_in, entry_in, pick_in};
@@ -129,7 +129,7 @@ fn next_entry(
     operations: &Operations<'_>,
     reader: &mut Cursor<'_>,
 ) -> Result<Option<Done<TextCall, Pick, Vec<i64>>>, OutOfMemory>
-    ensures { IfOk result (λ found. IfSome found (λ entry. Says 3 (entry_in (all_of operations.now)) reader.old (entry_seen entry) reader.new)) }
+    ensures { IfOk result (λ found. IfSome found (λ entry. Says 3 (entry_in (all_of operations.now)) reader.old (entry_view entry) reader.new)) }
 {
     if !reader.begins_array() {
         return Ok(None);
@@ -190,7 +190,7 @@ fn next_order(
     operations: &Operations<'_>,
     reader: &mut Cursor<'_>,
 ) -> Result<Option<Vec<Done<TextCall, Pick, Vec<i64>>>>, OutOfMemory>
-    ensures { IfOk result (λ found. IfSome found (λ order. SayEntries (all_of operations.now) reader.old (entries_seen order.items) reader.new)) }
+    ensures { IfOk result (λ found. IfSome found (λ order. SayEntries (all_of operations.now) reader.old (entries_view order.items) reader.new)) }
 {
     if !reader.begins_array() {
         return Ok(None);
@@ -211,7 +211,7 @@ fn next_last(
     operations: &Operations<'_>,
     reader: &mut Cursor<'_>,
 ) -> Result<Option<Vec<Done<TextCall, Pick, Vec<i64>>>>, OutOfMemory>
-    ensures { IfOk result (λ found. IfSome found (λ order. AreLast (all_of operations.now) reader.old (entries_seen order.items))) }
+    ensures { IfOk result (λ found. IfSome found (λ order. AreLast (all_of operations.now) reader.old (entries_view order.items))) }
 {
     if !reader.takes_key(b"order".as_slice()) {
         return Ok(None);
@@ -231,7 +231,7 @@ fn next_parts(
     operations: &Operations<'_>,
     reader: &mut Cursor<'_>,
 ) -> Result<Option<(History, Option<Vec<Done<TextCall, Pick, Vec<i64>>>>)>, OutOfMemory>
-    ensures { IfOk result (λ found. IfSome found (λ answer. AreMembers (all_of operations.now) reader.old (events_in answer.0) (order_shown answer.1))) }
+    ensures { IfOk result (λ found. IfSome found (λ answer. AreMembers (all_of operations.now) reader.old (events_in answer.0) (order_view answer.1))) }
 {
     if !reader.takes_key(b"events".as_slice()) {
         return Ok(None);
@@ -255,7 +255,7 @@ pub(crate) fn read_right(
     operations: &Operations<'_>,
     text: &[u8],
 ) -> Result<Option<(History, Option<Vec<Done<TextCall, Pick, Vec<i64>>>>)>, OutOfMemory>
-    ensures { IfOk result (λ found. IfSome found (λ answer. AreSaid (all_of operations.now) text.now (events_in answer.0) (order_shown answer.1))) }
+    ensures { IfOk result (λ found. IfSome found (λ answer. AreSaid (all_of operations.now) text.now (events_in answer.0) (order_view answer.1))) }
 {
     let mut reader = Cursor::new(text);
     if !reader.begins_object() {

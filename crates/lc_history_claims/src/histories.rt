@@ -1,7 +1,7 @@
 //! Histories, the judge of orders, and their texts.
 ghost use Rattle.std.specs.Prelude.{◌≡◌, IfOk};
 ghost use Rattle.lc_hist.specs.Histories.{events_in, IsHistory};
-ghost use Rattle.lc_hist.specs.JsonHistories.{entries_seen, IsHistoryOf};
+ghost use Rattle.lc_hist.specs.JsonHistories.{entries_view, IsHistoryOf};
 ghost use Rattle.lc_hist.specs.JsonWritten.{history_text, SaysOnly};
 ghost use Rattle.lc_hist.specs.Judged.{IsJudged};
 ghost use Rattle.lc_hist.specs.View.{entries_in, events_of};
@@ -51,8 +51,8 @@ pub fn writing_a_history(
     history: &History,
     order: &[Done<TextCall, Pick, Vec<i64>>],
 ) -> Result<Vec<u8>, OutOfMemory>
-    ensures text { IfOk result (λ bytes. bytes.items ≡ history_text (specification_of spec.now).operations (events_in history.now) (entries_seen order.now)) }
-    ensures reads_back { IfOk result (λ bytes. SaysOnly (specification_of spec.now).operations bytes.items (events_in history.now) (entries_seen order.now)) }
+    ensures text { IfOk result (λ bytes. bytes.items ≡ history_text (specification_of spec.now).operations (events_in history.now) (entries_view order.now)) }
+    ensures reads_back { IfOk result (λ bytes. SaysOnly (specification_of spec.now).operations bytes.items (events_in history.now) (entries_view order.now)) }
 {
     history_to_json(alloc, spec, history, order)
 }

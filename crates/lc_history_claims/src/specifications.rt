@@ -12,7 +12,7 @@ ghost use Rattle.lc_seq.specs.TextView.{specification_of, text_state_of, IsState
 ghost use Rattle.lc_term.specs.Computed.{IsComputed};
 ghost use Rattle.lc_term.specs.State.{state_of, env_of, column_count, variable_count};
 ghost use Rattle.lc_term.specs.Updates.{AreWithin};
-ghost use Rattle.lc_term.specs.UpdateView.{writes_shown};
+ghost use Rattle.lc_term.specs.UpdateView.{writes_view};
 
 use lc_base::{Name, OutOfMemory};
 use lc_seq::{
@@ -65,7 +65,7 @@ pub fn running(
     requires { list_all (branch_is_resolved (column_count state.now) (variable_count env.now)) (chosen (choice_of pick.now) (branches_of branches.now)) ≡ true }
     ensures computed { let bs = chosen (choice_of pick.now) (branches_of branches.now) in
         IsComputed seq_says outcome_in (RunFits (state_of state.now) (env_of env.now) bs) (run (state_of state.now) (env_of env.now) bs) result }
-    ensures columns { IfOk result (λ found. IfSome found (λ outcome. AreWithin (column_count state.now) (writes_shown outcome.writes.items))) }
+    ensures columns { IfOk result (λ found. IfSome found (λ outcome. AreWithin (column_count state.now) (writes_view outcome.writes.items))) }
 {
     run(alloc, branches, pick, state, env)
 }

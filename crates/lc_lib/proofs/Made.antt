@@ -5,7 +5,7 @@ use Rattle.std.specs.declared.alloc.Global.{Global}
 use Rattle.lc_base.specs.declared.refusal.Refusal.{Refusal}
 use Rattle.lc_reading.specs.Files.{Says, IsFirstRefusal}
 use Rattle.lc_outline.specs.Development.{Development}
-use Rattle.lc_outline.specs.DevelopmentView.{development_shown}
+use Rattle.lc_outline.specs.DevelopmentView.{development_view}
 use Rattle.lc_outline.specs.declared.development.Development.{Development as Value}
 use Rattle.lc_outline_text.specs.Developments.{file_reading}
 use Rattle.lc_cert.specs.CertificateView.{entries_in}
@@ -28,9 +28,9 @@ use Rattle.lc_lib_texts.specs.declared.library.Lib.{Lib}
 
 -- ---- the texts are read
 
-pub development_read : (lib : Lib) (bytes : List ℕ) (value : Value) → bytes ≡ development_bytes lib → Says file_reading bytes (development_shown value)
-    → Says file_reading (development_bytes lib) (development_shown value)
-development_read lib bytes value is says = subst (λ b. Says file_reading b (development_shown value)) is says
+pub development_read : (lib : Lib) (bytes : List ℕ) (value : Value) → bytes ≡ development_bytes lib → Says file_reading bytes (development_view value)
+    → Says file_reading (development_bytes lib) (development_view value)
+development_read lib bytes value is says = subst (λ b. Says file_reading b (development_view value)) is says
 
 pub development_unread : (lib : Lib) (bytes : List ℕ) (refusal : Refusal) → bytes ≡ development_bytes lib → IsFirstRefusal file_reading bytes refusal
     → IsReadDevelopment lib (Err (NotFound 0))

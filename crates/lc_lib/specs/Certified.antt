@@ -4,7 +4,7 @@ use Rattle.std.specs.declared.alloc.Global.{Global}
 use Rattle.lc_base.specs.declared.refusal.Refusal.{Refusal}
 use Rattle.lc_reading.specs.Files.{Says, IsFirstRefusal}
 use Rattle.lc_outline.specs.Development.{Development}
-use Rattle.lc_outline.specs.DevelopmentView.{development_shown}
+use Rattle.lc_outline.specs.DevelopmentView.{development_view}
 use Rattle.lc_outline.specs.declared.development.Development.{Development as Value}
 use Rattle.lc_outline_text.specs.Developments.{file_reading}
 use Rattle.lc_cert.specs.Certificates.{Entry}
@@ -58,7 +58,7 @@ IsCertificateAnswer lib (Err OutOfMemory) = Unit {0}
 
 -- the development of the object is read; or its text is none
 abbrev pub IsReadDevelopment : Lib → Result Value FindFault → Type 0
-IsReadDevelopment lib (Ok value) = Says file_reading (development_bytes lib) (development_shown value)
+IsReadDevelopment lib (Ok value) = Says file_reading (development_bytes lib) (development_view value)
 IsReadDevelopment lib (Err (NotFound k)) = (k ≡ 0) × ((refusal : Refusal) × IsFirstRefusal file_reading (development_bytes lib) refusal)
 IsReadDevelopment lib (Err (Budget k)) = ⊥
 IsReadDevelopment lib (Err (Large k)) = ⊥

@@ -1,7 +1,7 @@
 //! The certificates of the library's objects, made of their hints.
 ghost use Rattle.std.specs.Prelude.{IfOk};
 ghost use Rattle.lc_outline.specs.Development.{Development as Shown};
-ghost use Rattle.lc_outline.specs.DevelopmentView.{development_shown};
+ghost use Rattle.lc_outline.specs.DevelopmentView.{development_view};
 ghost use Rattle.lc_check.specs.Verdicts.{IsAccepted};
 ghost use Rattle.lc_hints.specs.HintView.{proofs_in};
 ghost use Rattle.lc_lib.specs.Certified.{AreReadHints, IsByProofs, IsCertificateAnswer, IsReadDevelopment};
@@ -29,7 +29,7 @@ fn read_development(alloc: Global, lib: Lib) -> Result<Development, FindFault>
 
 /// The hints of an object, for its development.
 fn read_hints(alloc: Global, lib: Lib, development: &Development) -> Result<Hints, FindFault>
-    ensures { AreReadHints lib (development_shown development.now) result }
+    ensures { AreReadHints lib (development_view development.now) result }
 {
     match hints_of(alloc, development, hints(lib)) {
         Ok(hints) => Ok(hints),
@@ -44,7 +44,7 @@ fn certificate_by(
     development: &Development,
     hints: &Hints,
 ) -> Result<Vec<u8>, FindFault>
-    ensures { IsByProofs (development_shown development.now) (proofs_in hints.now) result }
+    ensures { IsByProofs (development_view development.now) (proofs_in hints.now) result }
 {
     let certificate = match find(alloc, development, hints, 0) {
         Ok(certificate) => certificate,

@@ -2,7 +2,7 @@
 ghost use Rattle.std.specs.Prelude.{◌≡◌, ◌+◌, ◌++◌, [], ◌∷◌, suc, map, IfOk, OnOk, option_map};
 ghost use Rattle.lc_cond.specs.ConditionView.{condition_in, AreConditions, IsCondition};
 ghost use Rattle.lc_cond_text.specs.ConditionText.{condition_text};
-ghost use Rattle.lc_outline.specs.DevelopmentView.{development_shown};
+ghost use Rattle.lc_outline.specs.DevelopmentView.{development_view};
 ghost use Rattle.lc_listing.specs.Chosen.{chosen_count, chosen_from, chosen_text, is_asked, is_chosen};
 
 use crate::words::point_word;
@@ -37,7 +37,7 @@ fn is_chosen(
     terms: &Terms,
     condition: &Condition,
 ) -> bool
-    ensures { result ≡ is_chosen (option_map (λ a. a.now) words.entry.point) (option_map (λ a. a.now) words.entry.kind) (development_shown development.now) (condition_in terms.now condition.now) }
+    ensures { result ≡ is_chosen (option_map (λ a. a.now) words.entry.point) (option_map (λ a. a.now) words.entry.kind) (development_view development.now) (condition_in terms.now condition.now) }
 {
     let _ = terms;
     is_asked(words.point, point_word(development, condition.place.point))
@@ -53,7 +53,7 @@ fn push_line(
     condition: &Condition,
 ) -> Result<(), OutOfMemory>
     requires { IsCondition terms.now condition.now }
-    ensures { OnOk result (text.new.items ≡ text.old.items ++ (condition_text (development_shown development.now) number (condition_in terms.now condition.now) ++ 10 ∷ [])) }
+    ensures { OnOk result (text.new.items ≡ text.old.items ++ (condition_text (development_view development.now) number (condition_in terms.now condition.now) ++ 10 ∷ [])) }
 {
     let line = condition_text(*text.allocator(), terms, development, number, condition)?;
     text.extend_from_slice(&line)?;
@@ -80,8 +80,8 @@ fn push_part(
     before: u64,
 ) -> Result<u64, OutOfMemory>
     requires { AreConditions terms.now part.now }
-    ensures lines { OnOk result (text.new.items ≡ text.old.items ++ chosen_from (option_map (λ a. a.now) words.entry.point) (option_map (λ a. a.now) words.entry.kind) (development_shown development.now) first (map (condition_in terms.now) part.now)) }
-    ensures count { IfOk result (λ count. count ≡ before + chosen_count (option_map (λ a. a.now) words.entry.point) (option_map (λ a. a.now) words.entry.kind) (development_shown development.now) (map (condition_in terms.now) part.now)) }
+    ensures lines { OnOk result (text.new.items ≡ text.old.items ++ chosen_from (option_map (λ a. a.now) words.entry.point) (option_map (λ a. a.now) words.entry.kind) (development_view development.now) first (map (condition_in terms.now) part.now)) }
+    ensures count { IfOk result (λ count. count ≡ before + chosen_count (option_map (λ a. a.now) words.entry.point) (option_map (λ a. a.now) words.entry.kind) (development_view development.now) (map (condition_in terms.now) part.now)) }
 {
     let mut number = first;
     let mut count = before;
@@ -102,7 +102,7 @@ pub fn chosen_conditions(
     point: Option<&str>,
     kind: Option<&str>,
 ) -> Result<Vec<u8>, OutOfMemory>
-    ensures { IfOk result (λ text. text.items ≡ chosen_text (option_map (λ a. a.now) point.entry) (option_map (λ a. a.now) kind.entry) (development_shown development.now)) }
+    ensures { IfOk result (λ text. text.items ≡ chosen_text (option_map (λ a. a.now) point.entry) (option_map (λ a. a.now) kind.entry) (development_view development.now)) }
 {
     let words = Words { point, kind };
     let mut stream = ConditionStream::new(alloc, development)?;

@@ -1,6 +1,6 @@
 //! One condition, laid out over lines.
 ghost use Rattle.std.specs.Prelude.{◌≡◌, IfOk, option_map};
-ghost use Rattle.lc_outline.specs.DevelopmentView.{development_shown};
+ghost use Rattle.lc_outline.specs.DevelopmentView.{development_view};
 ghost use Rattle.lc_listing.specs.Shown.{IsLaid, IsLaidLine, line_at};
 
 use lc_base::{Fault, OutOfMemory};
@@ -18,7 +18,7 @@ fn line_at(
     development: &Development,
     number: u64,
 ) -> Result<Option<Vec<u8>>, OutOfMemory>
-    ensures { IfOk result (λ line. option_map (λ l. l.items) line ≡ line_at (development_shown development.now) number) }
+    ensures { IfOk result (λ line. option_map (λ l. l.items) line ≡ line_at (development_view development.now) number) }
 {
     let mut stream = ConditionStream::new(alloc, development)?;
     'parts: loop {
@@ -55,7 +55,7 @@ pub fn condition_over_lines(
     development: &Development,
     number: u64,
 ) -> Result<Option<Vec<u8>>, OutOfMemory>
-    ensures { IfOk result (IsLaid (line_at (development_shown development.now) number)) }
+    ensures { IfOk result (IsLaid (line_at (development_view development.now) number)) }
 {
     match line_at(alloc, development, number)? {
         Some(line) => Ok(Some(laid_line(alloc, line)?)),

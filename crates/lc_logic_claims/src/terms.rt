@@ -8,7 +8,7 @@ ghost use Rattle.lc_term.specs.Reached.{FormulaFits};
 ghost use Rattle.lc_term.specs.State.{column_count, env_of, state_of, variable_count, with_cell};
 ghost use Rattle.lc_term.specs.Substitution.{shifted_term, substituted};
 ghost use Rattle.lc_term.specs.Truth.{is_ground};
-ghost use Rattle.lc_term.specs.UpdateView.{writes_shown};
+ghost use Rattle.lc_term.specs.UpdateView.{writes_view};
 ghost use Rattle.lc_term.specs.Updates.{AreWithin};
 ghost use Rattle.lc_term.specs.View.{formula_of, term_of};
 
@@ -74,7 +74,7 @@ pub fn writing(state: &mut State, column: ColId, index: i64, number: i64) -> Res
 
 /// Writes to a draft do not change what is saved.
 pub fn drafting(draft: &mut Draft, writes: &[Write]) -> Result<(), OutOfMemory>
-    requires { AreWithin (draft_columns draft.old) (writes_shown writes.now) }
+    requires { AreWithin (draft_columns draft.old) (writes_view writes.now) }
     ensures { saved_in_draft draft.new ≡ saved_in_draft draft.old }
 {
     draft.write_all(writes)

@@ -3,7 +3,7 @@ use Rattle.std.specs.Prelude.{◌≡◌, ◌≤◌, List, length, Some, Result, 
 use Rattle.lc_base.specs.Limits.{reply_limit}
 use Rattle.lc_term.specs.Meaning.{State}
 use Rattle.lc_term.specs.Updates.{Write, stored_all, AreWithin}
-use Rattle.lc_term.specs.UpdateView.{writes_shown}
+use Rattle.lc_term.specs.UpdateView.{writes_view}
 use Rattle.lc_object.specs.Syntax.{Instr, Object}
 use Rattle.lc_object.specs.declared.instr.EdgeKind.{EdgeKind}
 use Rattle.lc_machine.specs.World.{initial_numbers}
@@ -23,7 +23,7 @@ outcome_of (Goes place) = S.Goes place.point.0 (variables_of place)
 outcome_of (Answers numbers) = S.Answers numbers.items
 
 abbrev pub writes_in : Effect → List Write
-writes_in effect = writes_shown effect.writes.items
+writes_in effect = writes_view effect.writes.items
 
 -- an effect has this edge, stores this, and this becomes of the client
 abbrev pub HasParts : EdgeKind → List Write → Outcome → Effect → Type 0

@@ -1,7 +1,7 @@
 //! Where a client is, and what becomes of it by a step.
 ghost use Rattle.std.specs.Prelude.{◌≡◌, ◌≤◌, length, true};
 ghost use Rattle.lc_term.specs.State.{state_of, column_count};
-ghost use Rattle.lc_object.specs.Objects.{object_shown};
+ghost use Rattle.lc_object.specs.Objects.{object_view};
 ghost use Rattle.lc_machine.specs.World.{initial_numbers};
 ghost use Rattle.lc_machine.specs.Placed.{is_placed};
 ghost use Rattle.lc_machine.specs.View.{client_of};
@@ -40,10 +40,10 @@ pub(crate) fn step(
     state: &mut State,
     client: &mut Client,
 ) -> Result<Moved, StepFault>
-    requires placed { is_placed (object_shown object.now) (client_of client.old) ≡ true }
-    requires columns { length (initial_numbers (object_shown object.now)) ≤ column_count state.old }
-    ensures stepped { IsStepped (object_shown object.now) (state_of state.old) (client_of client.old) (state_of state.new) (client_of client.new) result }
-    ensures placed { is_placed (object_shown object.now) (client_of client.new) ≡ true }
+    requires placed { is_placed (object_view object.now) (client_of client.old) ≡ true }
+    requires columns { length (initial_numbers (object_view object.now)) ≤ column_count state.old }
+    ensures stepped { IsStepped (object_view object.now) (state_of state.old) (client_of client.old) (state_of state.new) (client_of client.new) result }
+    ensures placed { is_placed (object_view object.now) (client_of client.new) ≡ true }
     ensures columns { column_count state.new ≡ column_count state.old }
 {
     let Client::In(place) = client else {

@@ -3,7 +3,7 @@ ghost use Rattle.std.specs.Prelude.{◌≡◌, [], length, OnOk, OnErr, IfOk};
 ghost use Rattle.lc_term.specs.State.{state_of, column_count};
 ghost use Rattle.lc_term.specs.Updates.{stored_all, AreWithin};
 ghost use Rattle.lc_machine.specs.Effects.{writes_in, outcome_of, HasParts};
-ghost use Rattle.lc_term.specs.UpdateView.{writes_shown};
+ghost use Rattle.lc_term.specs.UpdateView.{writes_view};
 ghost use Rattle.lc_object.specs.declared.instr.EdgeKind.TheVariants.{Next};
 ghost use Rattle.lc_machine.specs.Step.{Goes, Answers, assigned};
 ghost use Rattle.lc_object.specs.View.{locals_of};
@@ -83,7 +83,7 @@ pub(crate) fn moving(
     writes: ArrayVec<Write, WIDTH_LIMIT>,
     next: PointId,
 ) -> Result<Effect, OutOfMemory>
-    ensures { IfOk result (HasParts edge (writes_shown writes.items) (Goes next.0 variables.now.values.items)) }
+    ensures { IfOk result (HasParts edge (writes_view writes.items) (Goes next.0 variables.now.values.items)) }
 {
     let place = Place {
         point: next,

@@ -3,7 +3,7 @@ ghost use Rattle.std.specs.Prelude.{◌≡◌, ◌≤◌, ◌<◌, length, Some,
 ghost use Rattle.lc_base.specs.Limits.{width_limit};
 ghost use Rattle.lc_term.specs.State.{state_of, column_count, variable_count};
 ghost use Rattle.lc_term.specs.View.{term_of, formula_of};
-ghost use Rattle.lc_object.specs.Objects.{object_shown};
+ghost use Rattle.lc_object.specs.Objects.{object_view};
 ghost use Rattle.lc_object.specs.Syntax as S;
 ghost use Rattle.lc_object.specs.View.{columns_of, locals_of, terms_of, instruction_of};
 ghost use Rattle.lc_machine.specs.World.{initial_numbers};
@@ -25,10 +25,10 @@ use std::alloc::Global;
 
 // The columns of an array.
 fn row_columns(object: &Object, array: ArrayId) -> &[ColId]
-    requires { array.0 < length (object_shown object.now).arrays }
-    ensures columns { columns_of result.now ≡ array_columns (object_shown object.now) array.0 }
+    requires { array.0 < length (object_view object.now).arrays }
+    ensures columns { columns_of result.now ≡ array_columns (object_view object.now) array.0 }
     ensures few { length result.now ≤ width_limit }
-    ensures there { AreBelow (length (initial_numbers (object_shown object.now))) (columns_of result.now) }
+    ensures there { AreBelow (length (initial_numbers (object_view object.now))) (columns_of result.now) }
 {
     &object.parts().arrays[array.0 as usize].columns
 }
@@ -44,9 +44,9 @@ fn load_effect(
     targets: &[LocalId],
     next: PointId,
 ) -> Result<Effect, StepFault>
-    requires may_run { MayRun (object_shown object.now) (variable_count variables.now) (S.Load array.0 (term_of index.now) (locals_of targets.now) next.0) }
-    requires columns { length (initial_numbers (object_shown object.now)) ≤ column_count state.now }
-    ensures { IsEffect (object_shown object.now) (S.Load array.0 (term_of index.now) (locals_of targets.now) next.0) (state_of state.now) variables.now.values.items result }
+    requires may_run { MayRun (object_view object.now) (variable_count variables.now) (S.Load array.0 (term_of index.now) (locals_of targets.now) next.0) }
+    requires columns { length (initial_numbers (object_view object.now)) ≤ column_count state.now }
+    ensures { IsEffect (object_view object.now) (S.Load array.0 (term_of index.now) (locals_of targets.now) next.0) (state_of state.now) variables.now.values.items result }
 {
     let index = eval_term(index, state, variables)?;
     let numbers = read_row(state, row_columns(object, array), index)?;
@@ -64,9 +64,9 @@ fn store_effect(
     values: &[Term],
     next: PointId,
 ) -> Result<Effect, StepFault>
-    requires may_run { MayRun (object_shown object.now) (variable_count variables.now) (S.Store array.0 (term_of index.now) (terms_of values.now) next.0) }
-    requires columns { length (initial_numbers (object_shown object.now)) ≤ column_count state.now }
-    ensures { IsEffect (object_shown object.now) (S.Store array.0 (term_of index.now) (terms_of values.now) next.0) (state_of state.now) variables.now.values.items result }
+    requires may_run { MayRun (object_view object.now) (variable_count variables.now) (S.Store array.0 (term_of index.now) (terms_of values.now) next.0) }
+    requires columns { length (initial_numbers (object_view object.now)) ≤ column_count state.now }
+    ensures { IsEffect (object_view object.now) (S.Store array.0 (term_of index.now) (terms_of values.now) next.0) (state_of state.now) variables.now.values.items result }
 {
     let index = eval_term(index, state, variables)?;
     let numbers = compute(values, state, variables)?;
@@ -86,9 +86,9 @@ fn faa_effect(
     added: &[Term],
     next: PointId,
 ) -> Result<Effect, StepFault>
-    requires may_run { MayRun (object_shown object.now) (variable_count variables.now) (S.Faa array.0 (term_of index.now) (locals_of targets.now) (terms_of added.now) next.0) }
-    requires columns { length (initial_numbers (object_shown object.now)) ≤ column_count state.now }
-    ensures { IsEffect (object_shown object.now) (S.Faa array.0 (term_of index.now) (locals_of targets.now) (terms_of added.now) next.0) (state_of state.now) variables.now.values.items result }
+    requires may_run { MayRun (object_view object.now) (variable_count variables.now) (S.Faa array.0 (term_of index.now) (locals_of targets.now) (terms_of added.now) next.0) }
+    requires columns { length (initial_numbers (object_view object.now)) ≤ column_count state.now }
+    ensures { IsEffect (object_view object.now) (S.Faa array.0 (term_of index.now) (locals_of targets.now) (terms_of added.now) next.0) (state_of state.now) variables.now.values.items result }
 {
     let index = eval_term(index, state, variables)?;
     let added = compute(added, state, variables)?;
@@ -120,9 +120,9 @@ fn cas_effect(
     new: &[Term],
     labels: Labels,
 ) -> Result<Effect, StepFault>
-    requires may_run { MayRun (object_shown object.now) (variable_count variables.now) (S.Cas array.0 (term_of index.now) (terms_of old.now) (terms_of new.now) labels.then.0 labels.otherwise.0) }
-    requires columns { length (initial_numbers (object_shown object.now)) ≤ column_count state.now }
-    ensures { IsEffect (object_shown object.now) (S.Cas array.0 (term_of index.now) (terms_of old.now) (terms_of new.now) labels.then.0 labels.otherwise.0) (state_of state.now) variables.now.values.items result }
+    requires may_run { MayRun (object_view object.now) (variable_count variables.now) (S.Cas array.0 (term_of index.now) (terms_of old.now) (terms_of new.now) labels.then.0 labels.otherwise.0) }
+    requires columns { length (initial_numbers (object_view object.now)) ≤ column_count state.now }
+    ensures { IsEffect (object_view object.now) (S.Cas array.0 (term_of index.now) (terms_of old.now) (terms_of new.now) labels.then.0 labels.otherwise.0) (state_of state.now) variables.now.values.items result }
 {
     let index = eval_term(index, state, variables)?;
     let old = compute(old, state, variables)?;
@@ -150,8 +150,8 @@ fn set_effect(
     values: &[Term],
     next: PointId,
 ) -> Result<Effect, StepFault>
-    requires { MayRun (object_shown object.now) (variable_count variables.now) (S.Set (locals_of targets.now) (terms_of values.now) next.0) }
-    ensures { IsEffect (object_shown object.now) (S.Set (locals_of targets.now) (terms_of values.now) next.0) (state_of state.now) variables.now.values.items result }
+    requires { MayRun (object_view object.now) (variable_count variables.now) (S.Set (locals_of targets.now) (terms_of values.now) next.0) }
+    ensures { IsEffect (object_view object.now) (S.Set (locals_of targets.now) (terms_of values.now) next.0) (state_of state.now) variables.now.values.items result }
 {
     let assigned = compute(values, state, variables)?;
     Ok(assigning(alloc, variables, targets, &assigned, next)?)
@@ -166,8 +166,8 @@ fn if_effect(
     condition: &Formula,
     labels: Labels,
 ) -> Result<Effect, StepFault>
-    requires { MayRun (object_shown object.now) (variable_count variables.now) (S.If (formula_of condition.now) labels.then.0 labels.otherwise.0) }
-    ensures { IsEffect (object_shown object.now) (S.If (formula_of condition.now) labels.then.0 labels.otherwise.0) (state_of state.now) variables.now.values.items result }
+    requires { MayRun (object_view object.now) (variable_count variables.now) (S.If (formula_of condition.now) labels.then.0 labels.otherwise.0) }
+    ensures { IsEffect (object_view object.now) (S.If (formula_of condition.now) labels.then.0 labels.otherwise.0) (state_of state.now) variables.now.values.items result }
 {
     if eval(condition, state, variables)? {
         Ok(moving(
@@ -195,8 +195,8 @@ fn return_effect(
     variables: &Env,
     values: &[Term],
 ) -> Result<Effect, StepFault>
-    requires { MayRun (object_shown object.now) (variable_count variables.now) (S.Return (terms_of values.now)) }
-    ensures { IsEffect (object_shown object.now) (S.Return (terms_of values.now)) (state_of state.now) variables.now.values.items result }
+    requires { MayRun (object_view object.now) (variable_count variables.now) (S.Return (terms_of values.now)) }
+    ensures { IsEffect (object_view object.now) (S.Return (terms_of values.now)) (state_of state.now) variables.now.values.items result }
 {
     let numbers = compute(values, state, variables)?;
     Ok(answering(alloc, &numbers)?)
@@ -209,9 +209,9 @@ fn effect_of(
     variables: &Env,
     instruction: &Instr,
 ) -> Result<Effect, StepFault>
-    requires may_run { MayRun (object_shown object.now) (variable_count variables.now) (instruction_of instruction.now) }
-    requires columns { length (initial_numbers (object_shown object.now)) ≤ column_count state.now }
-    ensures { IsEffect (object_shown object.now) (instruction_of instruction.now) (state_of state.now) variables.now.values.items result }
+    requires may_run { MayRun (object_view object.now) (variable_count variables.now) (instruction_of instruction.now) }
+    requires columns { length (initial_numbers (object_view object.now)) ≤ column_count state.now }
+    ensures { IsEffect (object_view object.now) (instruction_of instruction.now) (state_of state.now) variables.now.values.items result }
 {
     match instruction {
         Instr::Load {
@@ -285,10 +285,10 @@ pub fn effect(
     state: &State,
     place: &Place,
 ) -> Result<Effect, StepFault>
-    requires place { variables_at (object_shown object.now) place.now.point.0 ≡ Some (variable_count place.now.variables) }
-    requires columns { length (initial_numbers (object_shown object.now)) ≤ column_count state.now }
-    ensures { (point : S.Point) → slice_get (object_shown object.now).points place.now.point.0 ≡ Some point →
-        IsEffect (object_shown object.now) point.instruction (state_of state.now) (variables_of place.now) result }
+    requires place { variables_at (object_view object.now) place.now.point.0 ≡ Some (variable_count place.now.variables) }
+    requires columns { length (initial_numbers (object_view object.now)) ≤ column_count state.now }
+    ensures { (point : S.Point) → slice_get (object_view object.now).points place.now.point.0 ≡ Some point →
+        IsEffect (object_view object.now) point.instruction (state_of state.now) (variables_of place.now) result }
 {
     let point = &object.parts().points[place.point.0 as usize];
     effect_of(alloc, object, state, &place.variables, &point.instruction)

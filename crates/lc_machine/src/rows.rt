@@ -7,7 +7,7 @@ ghost use Rattle.lc_object.specs.View.{columns_of};
 ghost use Rattle.lc_term.specs.State.{state_of, column_count};
 ghost use Rattle.lc_term.specs.Computed.{IsComputed, overflow_says};
 ghost use Rattle.lc_term.specs.Updates.{cell_writes};
-ghost use Rattle.lc_term.specs.UpdateView.{writes_shown};
+ghost use Rattle.lc_term.specs.UpdateView.{writes_view};
 ghost use Rattle.lc_machine.specs.Step.{row};
 ghost use Rattle.lc_machine.specs.Fits.{RowFits, ComparisonFits};
 ghost use Rattle.lc_machine.specs.Below.{AreBelow};
@@ -61,7 +61,7 @@ pub(crate) fn row_writes(
 ) -> ArrayVec<Write, WIDTH_LIMIT>
     requires few { length columns.now ≤ width_limit }
     requires each { length columns.now ≡ length numbers.now }
-    ensures { writes_shown result.items ≡ cell_writes (columns_of columns.now) index numbers.now }
+    ensures { writes_view result.items ≡ cell_writes (columns_of columns.now) index numbers.now }
 {
     let mut writes = ArrayVec::new();
     for (i, column) in columns.iter().enumerate() {

@@ -7,7 +7,7 @@ ghost use Rattle.lc_machine.specs.Machine.{object_in, world_of};
 ghost use Rattle.lc_machine.specs.MayRun.{variables_at};
 ghost use Rattle.lc_machine.specs.View.{variables_of};
 ghost use Rattle.lc_machine.specs.World.{initial_numbers, initial_world};
-ghost use Rattle.lc_object.specs.Objects.{object_shown};
+ghost use Rattle.lc_object.specs.Objects.{object_view};
 ghost use Rattle.lc_object.specs.Syntax as S;
 ghost use Rattle.lc_term.specs.State.{state_of, column_count, variable_count};
 ghost use Rattle.lc_term.specs.Updates.{stored_all, AreWithin};
@@ -24,8 +24,8 @@ pub fn starting<'a>(
     object: &'a Object,
     clients: u32,
 ) -> Result<Bare<'a>, OutOfMemory>
-    ensures object { IfOk result (λ bare. object_in bare ≡ object_shown object.entry.now) }
-    ensures world { IfOk result (λ bare. world_of bare ≡ initial_world (object_shown object.entry.now) clients) }
+    ensures object { IfOk result (λ bare. object_in bare ≡ object_view object.entry.now) }
+    ensures world { IfOk result (λ bare. world_of bare ≡ initial_world (object_view object.entry.now) clients) }
 {
     Bare::new(alloc, object, clients)
 }
@@ -66,10 +66,10 @@ pub fn foreseeing(
     state: &State,
     place: &Place,
 ) -> Result<Effect, StepFault>
-    requires place { variables_at (object_shown object.now) place.now.point.0 ≡ Some (variable_count place.now.variables) }
-    requires columns { length (initial_numbers (object_shown object.now)) ≤ column_count state.now }
-    ensures { (point : S.Point) → slice_get (object_shown object.now).points place.now.point.0 ≡ Some point →
-        IsEffect (object_shown object.now) point.instruction (state_of state.now) (variables_of place.now) result }
+    requires place { variables_at (object_view object.now) place.now.point.0 ≡ Some (variable_count place.now.variables) }
+    requires columns { length (initial_numbers (object_view object.now)) ≤ column_count state.now }
+    ensures { (point : S.Point) → slice_get (object_view object.now).points place.now.point.0 ≡ Some point →
+        IsEffect (object_view object.now) point.instruction (state_of state.now) (variables_of place.now) result }
 {
     effect(alloc, object, state, place)
 }

@@ -3,7 +3,7 @@ ghost use Rattle.std.specs.Prelude.{◌≡◌, ℕ, ◌<◌, ◌≤◌, ◌^◌,
 ghost use Rattle.std.specs.List.{list_all};
 ghost use Rattle.lc_action.specs.ActionView.{first_of};
 ghost use Rattle.lc_base.specs.Limits.{argument_limit};
-ghost use Rattle.lc_ride.specs.RideView.{AreThere, IsRidden, rider_is_seen};
+ghost use Rattle.lc_ride.specs.RideView.{AreThere, IsRidden, rider_is_evaluable};
 ghost use Rattle.lc_ride.specs.Riding.{do_all};
 ghost use Rattle.lc_ride.specs.RidingFits.{RidersFit};
 ghost use Rattle.lc_rider.specs.RiderView.{riders_of};
@@ -29,7 +29,7 @@ pub fn riding(
     requires there { AreThere (operations_of rides.now.operations.now) (first_of rides.now.system) (draft_columns draft.old) }
     requires few { (o : ℕ) → arity (operations_of rides.now.operations.now) o ≤ argument_limit }
     requires client { rides.now.client < 2 ^ 63 }
-    requires seen { list_all (rider_is_seen (draft_columns draft.old) (variable_count rides.now.env.now)) (riders_of riders.now) ≡ true }
+    requires seen { list_all (rider_is_evaluable (draft_columns draft.old) (variable_count rides.now.env.now)) (riders_of riders.now) ≡ true }
     ensures done { let ops = operations_of rides.now.operations.now in
         let m = written_in_draft draft.old in
         let first = first_of rides.now.system in

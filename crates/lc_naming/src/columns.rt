@@ -4,8 +4,8 @@ ghost use Rattle.lc_term.specs.SystemColumns.{system_columns};
 ghost use Rattle.lc_seq.specs.Specification as Q;
 ghost use Rattle.lc_seq.specs.SpecView.{columns_of};
 ghost use Rattle.lc_object.specs.Syntax as O;
-ghost use Rattle.lc_object.specs.View.{column_shown};
-ghost use Rattle.lc_outline.specs.PartsView.{parts_shown};
+ghost use Rattle.lc_object.specs.View.{column_view};
+ghost use Rattle.lc_outline.specs.PartsView.{parts_view};
 ghost use Rattle.lc_reading.specs.Words.{names_in};
 ghost use Rattle.lc_naming.specs.ColumnNames.{column_names, name_at};
 
@@ -38,7 +38,7 @@ fn with_concretes<'a>(
     names: Vec<&'a str>,
     columns: &'a [lc_object::Column],
 ) -> Result<Vec<&'a str>, OutOfMemory>
-    ensures { IfOk result (λ all. names_in all.items ≡ names_in names.entry.items ++ map (λ (c : O.Column). c.name) (map column_shown columns.now)) }
+    ensures { IfOk result (λ all. names_in all.items ≡ names_in names.entry.items ++ map (λ (c : O.Column). c.name) (map column_view columns.now)) }
 {
     let mut names = names;
     for column in columns {
@@ -58,7 +58,7 @@ fn with_system_columns<'a>(names: Vec<&'a str>) -> Result<Vec<&'a str>, OutOfMem
 
 /// The names of all columns, by their numbers.
 pub fn column_names<'a>(alloc: Global, parts: &'a Parts) -> Result<Vec<&'a str>, OutOfMemory>
-    ensures { IfOk result (λ all. names_in all.items ≡ column_names (parts_shown parts.now)) }
+    ensures { IfOk result (λ all. names_in all.items ≡ column_names (parts_view parts.now)) }
 {
     let names = with_columns(Vec::new(alloc), parts.specification.columns())?;
     let names = with_concretes(names, &parts.object.parts().concretes)?;
@@ -78,7 +78,7 @@ fn system_name(place: usize) -> &'static str
 
 /// The name of an auxiliary column, or of a system column after them.
 fn late_name(parts: &Parts, place: usize) -> &str
-    ensures { result.now ≡ name_at (map (λ (c : Q.Column). c.name) (parts_shown parts.now).auxiliaries ++ system_columns) place }
+    ensures { result.now ≡ name_at (map (λ (c : Q.Column). c.name) (parts_view parts.now).auxiliaries ++ system_columns) place }
 {
     let auxiliaries = &parts.auxiliaries;
     if place < auxiliaries.len() {
@@ -90,7 +90,7 @@ fn late_name(parts: &Parts, place: usize) -> &str
 
 /// The name of a column of the object, or of one after them.
 fn later_name(parts: &Parts, place: usize) -> &str
-    ensures { let D = parts_shown parts.now in
+    ensures { let D = parts_view parts.now in
         result.now ≡ name_at (map (λ (c : O.Column). c.name) D.object.concretes ++ (map (λ (c : Q.Column). c.name) D.auxiliaries ++ system_columns)) place }
 {
     let concretes = &parts.object.parts().concretes;
@@ -103,7 +103,7 @@ fn later_name(parts: &Parts, place: usize) -> &str
 
 /// The name of a column; an empty text after the last.
 pub fn column_name(parts: &Parts, column: ColId) -> &str
-    ensures { result.now ≡ name_at (column_names (parts_shown parts.now)) column.0 }
+    ensures { result.now ≡ name_at (column_names (parts_view parts.now)) column.0 }
 {
     let place = column.0 as usize;
     let abstracts = parts.specification.columns();

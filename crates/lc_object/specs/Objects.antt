@@ -3,5 +3,5 @@ use Rattle.lc_object.specs.Syntax as S
 use Rattle.lc_object.specs.View.{parts_of}
 use Rattle.lc_object.specs.declared.object.Object.{Object}
 
-abbrev pub object_shown : Object → S.Object
-object_shown object = parts_of object.parts
+abbrev pub object_view : Object → S.Object
+object_view object = parts_of object.parts

@@ -38,8 +38,8 @@ instruction_of (Faa a t rs ds l) = S.Faa a.0 (term_of t) (locals_of rs.items) (t
 instruction_of (If f l m) = S.If (formula_of (arc_value f)) l.0 m.0
 instruction_of (Return vs) = S.Return (terms_of vs.items)
 
-abbrev pub column_shown : Column → S.Column
-column_shown c = record { name = bytes_of c.name; slope = c.slope; start = c.start }
+abbrev pub column_view : Column → S.Column
+column_view c = record { name = bytes_of c.name; slope = c.slope; start = c.start }
 
 abbrev pub array_of : Array → S.Array
 array_of a = record { name = bytes_of a.name; columns = columns_of a.columns.items }
@@ -55,7 +55,7 @@ abbrev pub parts_of : Parts → S.Object
 parts_of p = record {
   name = bytes_of p.name;
   abstracts = names_of p.abstracts.items;
-  concretes = map column_shown p.concretes.items;
+  concretes = map column_view p.concretes.items;
   auxiliaries = names_of p.auxiliaries.items;
   arrays = map array_of p.arrays.items;
   operations = map operation_of p.operations.items;

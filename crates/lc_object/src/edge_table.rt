@@ -5,7 +5,7 @@ ghost use Rattle.lc_term.specs.Syntax.{Read, Base};
 ghost use Rattle.lc_term.specs.View.{term_of, formula_of, formulas_of};
 ghost use Rattle.lc_object.specs.Edges.{array_columns, reads, row_updates, row_sums, row_facts, edges_at, edges};
 ghost use Rattle.lc_object.specs.EdgeView.{update_of, facts_of, edge_of};
-ghost use Rattle.lc_object.specs.Objects.{object_shown};
+ghost use Rattle.lc_object.specs.Objects.{object_view};
 ghost use Rattle.lc_object.specs.Syntax as S;
 ghost use Rattle.lc_object.specs.View.{columns_of, locals_of, terms_of, instruction_of};
 
@@ -46,7 +46,7 @@ pub struct Edge {
 }
 
 fn row_columns(object: &Object, array: ArrayId) -> &[ColId]
-    ensures { columns_of result.now ≡ array_columns (object_shown object.now) array.0 }
+    ensures { columns_of result.now ≡ array_columns (object_view object.now) array.0 }
 {
     match object.parts().arrays.get(array.0 as usize) {
         None => &[],
@@ -178,7 +178,7 @@ fn load_edge(
     targets: &[LocalId],
     next: PointId,
 ) -> Result<Edge, OutOfMemory>
-    ensures { IfOk result (λ edge. edge_of edge ∷ [] ≡ edges_at (object_shown object.now) point.0 (S.Load array.0 (term_of index.now) (locals_of targets.now) next.0)) }
+    ensures { IfOk result (λ edge. edge_of edge ∷ [] ≡ edges_at (object_view object.now) point.0 (S.Load array.0 (term_of index.now) (locals_of targets.now) next.0)) }
 {
     let mut edge = plain(alloc, point, EdgeKind::Next, Some(next));
     edge.targets = copy_locals(alloc, targets)?;
@@ -196,7 +196,7 @@ fn store_edge(
     values: &[Term],
     next: PointId,
 ) -> Result<Edge, OutOfMemory>
-    ensures { IfOk result (λ edge. edge_of edge ∷ [] ≡ edges_at (object_shown object.now) point.0 (S.Store array.0 (term_of index.now) (terms_of values.now) next.0)) }
+    ensures { IfOk result (λ edge. edge_of edge ∷ [] ≡ edges_at (object_view object.now) point.0 (S.Store array.0 (term_of index.now) (terms_of values.now) next.0)) }
 {
     let mut edge = plain(alloc, point, EdgeKind::Next, Some(next));
     edge.updates = row_updates(alloc, row_columns(object, array), index, values)?;
@@ -224,7 +224,7 @@ fn cas_edges(
     equal: PointId,
     different: PointId,
 ) -> Result<(Edge, Edge), OutOfMemory>
-    ensures { IfOk result (λ both. edge_of both.0 ∷ edge_of both.1 ∷ [] ≡ edges_at (object_shown object.now) point.0 (S.Cas array.0 (term_of index.now) (terms_of old.now) (terms_of new.now) equal.0 different.0)) }
+    ensures { IfOk result (λ both. edge_of both.0 ∷ edge_of both.1 ∷ [] ≡ edges_at (object_view object.now) point.0 (S.Cas array.0 (term_of index.now) (terms_of old.now) (terms_of new.now) equal.0 different.0)) }
 {
     let columns = row_columns(object, array);
     let mut then = plain(alloc, point, EdgeKind::Then, Some(equal));
@@ -245,7 +245,7 @@ fn set_edge(
     values: &[Term],
     next: PointId,
 ) -> Result<Edge, OutOfMemory>
-    ensures { IfOk result (λ edge. edge_of edge ∷ [] ≡ edges_at (object_shown object.now) point.0 (S.Set (locals_of targets.now) (terms_of values.now) next.0)) }
+    ensures { IfOk result (λ edge. edge_of edge ∷ [] ≡ edges_at (object_view object.now) point.0 (S.Set (locals_of targets.now) (terms_of values.now) next.0)) }
 {
     let mut edge = plain(alloc, point, EdgeKind::Next, Some(next));
     edge.targets = copy_locals(alloc, targets)?;
@@ -264,7 +264,7 @@ fn faa_edge(
     added: &[Term],
     next: PointId,
 ) -> Result<Edge, OutOfMemory>
-    ensures { IfOk result (λ edge. edge_of edge ∷ [] ≡ edges_at (object_shown object.now) point.0 (S.Faa array.0 (term_of index.now) (locals_of targets.now) (terms_of added.now) next.0)) }
+    ensures { IfOk result (λ edge. edge_of edge ∷ [] ≡ edges_at (object_view object.now) point.0 (S.Faa array.0 (term_of index.now) (locals_of targets.now) (terms_of added.now) next.0)) }
 {
     let columns = row_columns(object, array);
     let mut edge = plain(alloc, point, EdgeKind::Next, Some(next));
@@ -284,7 +284,7 @@ fn if_edges(
     holds: PointId,
     fails: PointId,
 ) -> Result<(Edge, Edge), OutOfMemory>
-    ensures { IfOk result (λ both. edge_of both.0 ∷ edge_of both.1 ∷ [] ≡ edges_at (object_shown object.now) point.0 (S.If (formula_of (arc_value condition.now)) holds.0 fails.0)) }
+    ensures { IfOk result (λ both. edge_of both.0 ∷ edge_of both.1 ∷ [] ≡ edges_at (object_view object.now) point.0 (S.If (formula_of (arc_value condition.now)) holds.0 fails.0)) }
 {
     let mut then = plain(alloc, point, EdgeKind::Then, Some(holds));
     then.facts = Facts::Holds(condition.clone()?);
@@ -300,7 +300,7 @@ fn return_edge(
     point: PointId,
     values: &[Term],
 ) -> Result<Edge, OutOfMemory>
-    ensures { IfOk result (λ edge. edge_of edge ∷ [] ≡ edges_at (object_shown object.now) point.0 (S.Return (terms_of values.now))) }
+    ensures { IfOk result (λ edge. edge_of edge ∷ [] ≡ edges_at (object_view object.now) point.0 (S.Return (terms_of values.now))) }
 {
     let mut edge = plain(alloc, point, EdgeKind::Next, None);
     edge.replies = copy_terms(alloc, values)?;
@@ -325,7 +325,7 @@ fn push_edges(
     instruction: &Instr,
     edges: &mut Vec<Edge>,
 ) -> Result<(), OutOfMemory>
-    ensures { OnOk result (map edge_of edges.new.items ≡ map edge_of edges.old.items ++ edges_at (object_shown object.now) point.0 (instruction_of instruction.now)) }
+    ensures { OnOk result (map edge_of edges.new.items ≡ map edge_of edges.old.items ++ edges_at (object_view object.now) point.0 (instruction_of instruction.now)) }
 {
     match instruction {
         Instr::Load {
@@ -380,7 +380,7 @@ fn push_edges(
 
 /// The edges of an object's points, in the order of the points; of a point with two, `Then` comes first.
 pub fn edges(alloc: Global, object: &Object) -> Result<Vec<Edge>, OutOfMemory>
-    ensures { IfOk result (λ es. map edge_of es.items ≡ edges (object_shown object.now)) }
+    ensures { IfOk result (λ es. map edge_of es.items ≡ edges (object_view object.now)) }
 {
     let mut edges = Vec::new(alloc);
     for (i, point) in object.parts().points.iter().enumerate() {

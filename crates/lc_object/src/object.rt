@@ -18,11 +18,11 @@ impl Object {
     ghost use Rattle.std.specs.Prelude.{◌≡◌, true, false, MatchOption};
     ghost use Rattle.lc_object.specs.WellFormed.{is_object};
     ghost use Rattle.lc_object.specs.View.{parts_of};
-    ghost use Rattle.lc_object.specs.Objects.{object_shown};
+    ghost use Rattle.lc_object.specs.Objects.{object_view};
 
     /// The object of these parts, if they are well-formed.
     pub fn new(parts: Parts) -> Option<Object>
-        ensures { MatchOption result (is_object (parts_of parts) ≡ false) (λ object. object_shown object ≡ parts_of parts) }
+        ensures { MatchOption result (is_object (parts_of parts) ≡ false) (λ object. object_view object ≡ parts_of parts) }
     {
         if is_object(&parts) {
             Some(Object { parts })
@@ -34,14 +34,14 @@ impl Object {
     /// The object of these parts, which are well-formed.
     pub fn of_parts(parts: Parts) -> Object
         requires { is_object (parts_of parts) ≡ true }
-        ensures { object_shown result ≡ parts_of parts }
+        ensures { object_view result ≡ parts_of parts }
     {
         Object { parts }
     }
 
     /// Its parts.
     pub fn parts(&self) -> &Parts
-        ensures shown { parts_of result.now ≡ object_shown self.now }
+        ensures shown { parts_of result.now ≡ object_view self.now }
         ensures well_formed { is_object (parts_of result.now) ≡ true }
     {
         &self.parts

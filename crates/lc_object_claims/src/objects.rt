@@ -6,7 +6,7 @@ ghost use Rattle.lc_object_text.specs.Counts.{count_reading};
 ghost use Rattle.lc_object_text.specs.Declaring.{names_reading};
 ghost use Rattle.lc_object_text.specs.Instructions.{instruction_reading};
 ghost use Rattle.lc_object_text.specs.Sections.{sections_at};
-ghost use Rattle.lc_object_text.specs.Seen.{items_of, sections_seen};
+ghost use Rattle.lc_object_text.specs.Seen.{items_of, sections_view};
 ghost use Rattle.lc_reading.specs.Files.{IsAnswerTo};
 ghost use Rattle.lc_reading.specs.Listed.{names_among, place_of as listed_place};
 ghost use Rattle.lc_reading.specs.Parts.{tree_of, place_of};
@@ -86,7 +86,7 @@ pub fn reading_names(
 
 /// The sections of a file begin where they are defined to, whatever is wrong in the file.
 pub fn finding_sections<'a>(forms: Cursor<'a>) -> Sections<'a>
-    ensures { sections_seen result ≡ sections_at (items_of forms.entry) }
+    ensures { sections_view result ≡ sections_at (items_of forms.entry) }
 {
     find_sections(forms)
 }

@@ -6,7 +6,7 @@ ghost use Rattle.lc_reading.specs.Parts.{tree_of, place_of};
 ghost use Rattle.lc_reading.specs.Results.{IsReading};
 ghost use Rattle.lc_rider.specs.RiderView.{rider_of};
 ghost use Rattle.lc_rider_text.specs.Actions.{action_reading};
-ghost use Rattle.lc_rider_text.specs.KnownView.{known_seen, names_beside, ways_there};
+ghost use Rattle.lc_rider_text.specs.KnownView.{known_view, names_beside, ways_there};
 ghost use Rattle.lc_rider_text.specs.Ons.{on_reading, ons_reading, path_cap};
 ghost use Rattle.lc_rider_text.specs.Paths.{path_count};
 ghost use Rattle.lc_rider_text.specs.Riders.{rider_reading};
@@ -31,7 +31,7 @@ pub fn reading_an_action(
     place: u32,
     part: Part<'_>,
 ) -> Result<Action, ReadFault>
-    ensures { IsReading action_of (action_reading (known_seen known.entry) place (place_of part.entry) (tree_of part.entry)) result }
+    ensures { IsReading action_of (action_reading (known_view known.entry) place (place_of part.entry) (tree_of part.entry)) result }
 {
     Actions(known).read(alloc, place, part)
 }
@@ -44,7 +44,7 @@ pub fn reading_a_rider<S: Scope>(
     own: Option<&Ways<'_>>,
     part: Part<'_>,
 ) -> Result<Rider, ReadFault>
-    ensures { IsReading rider_of (rider_reading (known_seen known.entry) (S.names scope.now) (ways_there own.entry) (place_of part.entry) (tree_of part.entry)) result }
+    ensures { IsReading rider_of (rider_reading (known_view known.entry) (S.names scope.now) (ways_there own.entry) (place_of part.entry) (tree_of part.entry)) result }
 {
     read_rider(alloc, known, scope, own, part)
 }
@@ -58,7 +58,7 @@ pub fn reading_an_edge<'a, 'b, S: Scope>(
     edges: Edges,
     part: Part<'_>,
 ) -> Result<On, ReadFault>
-    ensures { IsReading on_of (on_reading (known_seen known.entry) (S.names scope.now) (ways_there own.entry) edges (place_of part.entry) (tree_of part.entry)) result }
+    ensures { IsReading on_of (on_reading (known_view known.entry) (S.names scope.now) (ways_there own.entry) edges (place_of part.entry) (tree_of part.entry)) result }
 {
     read_on(alloc, known, scope, own, edges, part)
 }
@@ -72,14 +72,14 @@ pub fn reading_edges<'a, 'b, S: Scope>(
     edges: Edges,
     list: Cursor<'_>,
 ) -> Result<Vec<On>, ReadFault>
-    ensures { IsReading (λ ons. map on_of ons.items) (ons_reading (known_seen known.entry) (S.names scope.now) (ways_there own.entry) edges (number_of list.entry) (rest_of list.entry)) result }
+    ensures { IsReading (λ ons. map on_of ons.items) (ons_reading (known_view known.entry) (S.names scope.now) (ways_there own.entry) edges (number_of list.entry) (rest_of list.entry)) result }
 {
     read_ons(alloc, known, scope, own, edges, list)
 }
 
 /// Paths are counted up to the first count that is beyond their limit.
 pub fn counting_paths(known: Known<'_, '_>, own: Option<&Ways<'_>>, list: Cursor<'_>) -> u64
-    ensures { result ≡ min path_cap (path_count (known_seen known.entry) (ways_there own.entry) (rest_of list.entry)) }
+    ensures { result ≡ min path_cap (path_count (known_view known.entry) (ways_there own.entry) (rest_of list.entry)) }
 {
     path_count(known, own, list)
 }

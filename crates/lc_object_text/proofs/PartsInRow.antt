@@ -19,7 +19,7 @@ use Rattle.lc_object_text.specs.Instructions.{place_reading, exchange_reading, c
 use Rattle.lc_object_text.specs.ObjectNames.{Declared, call_or}
 use Rattle.lc_object_text.specs.Objects.{signature_of, call_reading, operation_name_reading, signature_parts}
 use Rattle.lc_object_text.specs.Own.{IsLeft}
-use Rattle.lc_object_text.specs.Texts.{signature_shown}
+use Rattle.lc_object_text.specs.Texts.{signature_view}
 use Rattle.lc_object_text.specs.declared.signatures.Signature.{Signature}
 
 left_two : (m : ℕ) (a b : Tree) (us : Trees) (rest : Cursor) → us ≡ a ▸ b ▸ rest_of rest → number_of rest ≡ m + item_count a + item_count b → IsLeft 2 m us rest
@@ -123,11 +123,11 @@ signature_from declared k n o m i j p t u v ts us same owner first second third 
 -- the three parts of an operation
 pub signature_read : (declared : Declared) (k owner : ℕ) (l l₁ l₂ l₃ : Cursor) (name arguments replies : Part) (result : Result Signature ReadFault)
     → IsNext l (Ok name) l₁ → IsNext l₁ (Ok arguments) l₂ → IsNext l₂ (Ok replies) l₃ → owner ≡ owner_of l
-    → IsReading signature_shown (both signature_of (operation_name_reading declared k owner (place_of name) (tree_of name))
+    → IsReading signature_view (both signature_of (operation_name_reading declared k owner (place_of name) (tree_of name))
     (call_reading (call_or (slice_get declared.calls k)).arguments (place_of arguments) (tree_of arguments) (place_of replies) (tree_of replies))) result
-    → IsReading signature_shown (signature_parts declared k (owner_of l) (number_of l) (rest_of l)) result
+    → IsReading signature_view (signature_parts declared k (owner_of l) (number_of l) (rest_of l)) result
 signature_read declared k owner l l₁ l₂ l₃ name arguments replies result (at1, b1) (at2, b2) (at3, b3) own h =
-    subst (λ r. IsReading signature_shown r result)
+    subst (λ r. IsReading signature_view r result)
     (sym (signature_from declared k (owner_of l) owner (number_of l) (place_of name) (place_of arguments) (place_of replies) (tree_of name) (tree_of arguments) (tree_of replies) (rest_of l₃) (rest_of l)
     (b1.rest ∙ ap (λ us. tree_of name ▸ us) (b2.rest ∙ ap (λ us. tree_of arguments ▸ us) b3.rest)) own at1 (at2 ∙ b1.number) (at3 ∙ b2.number ∙ ap (λ m. m + item_count (tree_of arguments)) b1.number)))
     h

@@ -19,13 +19,13 @@ abbrev size_of : Item → ℕ
 size_of (AtomItem a) = 1
 size_of (ListItem c) = item_count_of_all (rest_of c) + 1
 
-size_shown : (n : ℕ) (t : Tree) (item : Item) → ShowsItem n t item → size_of item ≡ item_count t
-size_shown n t (AtomItem a) h = sym (ap item_count h.1)
-size_shown n t (ListItem c) (ts, e, w) = ap (λ us. item_count_of_all us + 1) w.rest ∙ sym (ap item_count e)
+size_of_shown : (n : ℕ) (t : Tree) (item : Item) → ShowsItem n t item → size_of item ≡ item_count t
+size_of_shown n t (AtomItem a) h = sym (ap item_count h.1)
+size_of_shown n t (ListItem c) (ts, e, w) = ap (λ us. item_count_of_all us + 1) w.rest ∙ sym (ap item_count e)
 
 taken_from : (c c' : Cursor) (item : Item) (ts : Trees) → IsPart any_fit ShowsItem c ts (Ok item) c' → size_of item + item_count_of_all (rest_of c') ≡ item_count_of_all ts
 taken_from c c' item none h = absurd (let e : Ok item ≡ Err _ = h.0 in cc)
-taken_from c c' item (t ▸ ts) h = omega (arith, size_shown (number_of c) t item h.0, ap item_count_of_all h.1.rest)
+taken_from c c' item (t ▸ ts) h = omega (arith, size_of_shown (number_of c) t item h.0, ap item_count_of_all h.1.rest)
 
 -- the rest after an item
 taken : (c c' : Cursor) (item : Item) → GivesPart any_fit ShowsItem c (Ok item) c' → size_of item + item_count_of_all (rest_of c') ≡ item_count_of_all (rest_of c)

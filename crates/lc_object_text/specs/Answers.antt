@@ -4,7 +4,7 @@ use Rattle.lc_base.specs.declared.refusal.Fault.{Fault}
 use Rattle.lc_base.specs.declared.refusal.Fault.TheVariants.{Refused, OutOfMemory}
 use Rattle.lc_base.specs.declared.refusal.Refusal.{Refusal}
 use Rattle.lc_sexp.specs.Trees.{Trees}
-use Rattle.lc_object.specs.Objects.{object_shown}
+use Rattle.lc_object.specs.Objects.{object_view}
 use Rattle.lc_object.specs.Syntax as S
 use Rattle.lc_object.specs.declared.object.Object.{Object}
 use Rattle.lc_reading.specs.Flaws.{refusal_of}
@@ -22,6 +22,6 @@ IsFirstRefusal ts refusal = (f : Flaw) × (file_reading ts ≡ flawed f) × (ref
 
 -- The object that they say, else the first refusal, or out of memory
 abbrev pub IsAnswerOf : Trees → Result Object Fault → Type 0
-IsAnswerOf ts (Ok object) = Says ts (object_shown object)
+IsAnswerOf ts (Ok object) = Says ts (object_view object)
 IsAnswerOf ts (Err (Refused refusal)) = IsFirstRefusal ts refusal
 IsAnswerOf ts (Err OutOfMemory) = Unit {0}

@@ -10,19 +10,19 @@ use Rattle.lc_object_text.specs.declared.declared.Call.{Call}
 use Rattle.lc_object_text.specs.declared.declared.Body.{Body}
 use Rattle.lc_object_text.specs.declared.declared.Declared.{Declared}
 
-abbrev pub span_seen : Span → N.Span
-span_seen span = record { first = span.first; width = span.width }
+abbrev pub span_view : Span → N.Span
+span_view span = record { first = span.first; width = span.width }
 
-abbrev pub call_seen : Call → N.Call
-call_seen call = record { arguments = names_among (rest_of call.arguments); replies = call.replies }
+abbrev pub call_view : Call → N.Call
+call_view call = record { arguments = names_among (rest_of call.arguments); replies = call.replies }
 
 -- a call that is referred to, or none
 abbrev pub call_found : Option (Bor Call) → N.Call
-call_found (Some call) = call_seen call.now
+call_found (Some call) = call_view call.now
 call_found None = N.no_call
 
-abbrev pub body_seen : Body → N.Body
-body_seen b = record {
+abbrev pub body_view : Body → N.Body
+body_view b = record {
   operation = b.operation.now;
   first = b.first;
   call = record { arguments = names_among (rest_of b.arguments); replies = b.replies };
@@ -30,24 +30,24 @@ body_seen b = record {
   labels = listed b.labels;
 }
 
-abbrev pub spans_seen : List Span → List N.Span
-spans_seen spans = map span_seen spans
+abbrev pub spans_view : List Span → List N.Span
+spans_view spans = map span_view spans
 
-abbrev pub calls_seen : List Call → List N.Call
-calls_seen calls = map call_seen calls
+abbrev pub calls_view : List Call → List N.Call
+calls_view calls = map call_view calls
 
-abbrev pub bodies_seen : List Body → List N.Body
-bodies_seen bodies = map body_seen bodies
+abbrev pub bodies_view : List Body → List N.Body
+bodies_view bodies = map body_view bodies
 
-abbrev pub declared_seen : Declared → N.Declared
-declared_seen d = record {
+abbrev pub declared_view : Declared → N.Declared
+declared_view d = record {
   columns = listed d.columns;
   abstracts = d.abstracts;
   auxiliaries = d.auxiliaries;
   arrays = listed d.arrays;
-  spans = spans_seen d.spans.items;
+  spans = spans_view d.spans.items;
   operations = listed d.operations;
-  calls = calls_seen d.calls.items;
+  calls = calls_view d.calls.items;
   points = listed d.points;
-  bodies = bodies_seen d.bodies.items;
+  bodies = bodies_view d.bodies.items;
 }

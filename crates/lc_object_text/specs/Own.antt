@@ -38,29 +38,29 @@ IsOwn read k l (Ok r) = IsReading instruction_of read r.0 × IsLeft k (number_of
 IsOwn read k l (Err misfit) = (misfit ≡ Misshapen (owner_of l)) × (read ≡ wrong Shape (owner_of l)) × IsShort k (rest_of l)
 
 -- what parts that are read together stand for
-abbrev pub place_seen : ArrayId × Term → ℕ × T.Term
-place_seen p = (p.0.0, term_of p.1)
+abbrev pub place_view : ArrayId × Term → ℕ × T.Term
+place_view p = (p.0.0, term_of p.1)
 
-abbrev pub labels_seen : PointId × PointId → ℕ × ℕ
-labels_seen p = (p.0.0, p.1.0)
+abbrev pub labels_view : PointId × PointId → ℕ × ℕ
+labels_view p = (p.0.0, p.1.0)
 
-abbrev pub moved_seen : Vec LocalId Global × PointId → List ℕ × ℕ
-moved_seen p = (locals_of p.0.items, p.1.0)
+abbrev pub moved_view : Vec LocalId Global × PointId → List ℕ × ℕ
+moved_view p = (locals_of p.0.items, p.1.0)
 
-abbrev pub stored_seen : Vec Term Global × PointId → List T.Term × ℕ
-stored_seen p = (terms_of p.0.items, p.1.0)
+abbrev pub stored_view : Vec Term Global × PointId → List T.Term × ℕ
+stored_view p = (terms_of p.0.items, p.1.0)
 
-abbrev pub rows_seen : Vec Term Global × Vec Term Global → List T.Term × List T.Term
-rows_seen p = (terms_of p.0.items, terms_of p.1.items)
+abbrev pub rows_view : Vec Term Global × Vec Term Global → List T.Term × List T.Term
+rows_view p = (terms_of p.0.items, terms_of p.1.items)
 
-abbrev pub exchange_seen : (Vec Term Global × Vec Term Global) × (PointId × PointId) → (List T.Term × List T.Term) × (ℕ × ℕ)
-exchange_seen p = (rows_seen p.0, labels_seen p.1)
+abbrev pub exchange_view : (Vec Term Global × Vec Term Global) × (PointId × PointId) → (List T.Term × List T.Term) × (ℕ × ℕ)
+exchange_view p = (rows_view p.0, labels_view p.1)
 
-abbrev pub adding_seen : Vec LocalId Global × (Vec Term Global × PointId) → List ℕ × (List T.Term × ℕ)
-adding_seen p = (locals_of p.0.items, stored_seen p.1)
+abbrev pub adding_view : Vec LocalId Global × (Vec Term Global × PointId) → List ℕ × (List T.Term × ℕ)
+adding_view p = (locals_of p.0.items, stored_view p.1)
 
-abbrev pub assigned_seen : LocalId × Term → ℕ × T.Term
-assigned_seen p = (p.0.0, term_of p.1)
+abbrev pub assigned_view : LocalId × Term → ℕ × T.Term
+assigned_view p = (p.0.0, term_of p.1)
 
-abbrev pub assignments_seen : Vec (LocalId × Term) Global → List (ℕ × T.Term)
-assignments_seen cells = map assigned_seen cells.items
+abbrev pub assignments_view : Vec (LocalId × Term) Global → List (ℕ × T.Term)
+assignments_view cells = map assigned_view cells.items

@@ -10,8 +10,8 @@ use Rattle.lc_object_text.specs.declared.sections.Sections.{Sections as SeenSect
 abbrev pub items_of : Cursor → Items
 items_of c = record { number = number_of c; trees = rest_of c }
 
-abbrev pub sections_seen : SeenSections → Sections
-sections_seen s = record {
+abbrev pub sections_view : SeenSections → Sections
+sections_view s = record {
   abstracts = items_of s.abstracts;
   operations = items_of s.operations;
   object = items_of s.object;

@@ -3,7 +3,7 @@ use Rattle.std.specs.Prelude.{ℕ, List, map, Vec}
 use Rattle.std.specs.declared.alloc.Global.{Global}
 use Rattle.lc_base.specs.Name.{bytes_of}
 use Rattle.lc_base.specs.declared.name.Name.{Name}
-use Rattle.lc_object.specs.View.{names_of, column_shown, point_of}
+use Rattle.lc_object.specs.View.{names_of, column_view, point_of}
 use Rattle.lc_object.specs.declared.parts.Point.{Point}
 use Rattle.lc_object.specs.Syntax as S
 use Rattle.lc_object_text.specs.Objects as O
@@ -14,30 +14,30 @@ use Rattle.lc_object_text.specs.declared.signatures.Signature.{Signature}
 use Rattle.lc_object_text.specs.declared.signatures.SpecificationText.{SpecificationText}
 use Rattle.lc_object_text.specs.declared.tables.Tables.{Tables}
 
-abbrev pub array_shown : ArrayText → O.ArrayText
-array_shown a = record { name = bytes_of a.name; columns = map column_shown a.columns.items }
+abbrev pub array_view : ArrayText → O.ArrayText
+array_view a = record { name = bytes_of a.name; columns = map column_view a.columns.items }
 
-abbrev pub call_shown : Vec Name Global × ℕ → List (List ℕ) × ℕ
-call_shown call = (names_of call.0.items, call.1)
+abbrev pub call_names_view : Vec Name Global × ℕ → List (List ℕ) × ℕ
+call_names_view call = (names_of call.0.items, call.1)
 
-abbrev pub signature_shown : Signature → O.Signature
-signature_shown s = record { name = bytes_of s.name; arguments = names_of s.arguments.items; replies = s.replies }
+abbrev pub signature_view : Signature → O.Signature
+signature_view s = record { name = bytes_of s.name; arguments = names_of s.arguments.items; replies = s.replies }
 
-abbrev pub specification_shown : SpecificationText → O.SpecificationText
-specification_shown s = record { abstracts = names_of s.abstracts.items; signatures = map signature_shown s.signatures.items }
+abbrev pub specification_view : SpecificationText → O.SpecificationText
+specification_view s = record { abstracts = names_of s.abstracts.items; signatures = map signature_view s.signatures.items }
 
-abbrev pub body_shown : {T X : Type 0} → (T → X) → BodyText T → P.BodyText X
-body_shown view b = record { locals = names_of b.locals.items; points = map view b.points.items }
+abbrev pub body_text_view : {T X : Type 0} → (T → X) → BodyText T → P.BodyText X
+body_text_view view b = record { locals = names_of b.locals.items; points = map view b.points.items }
 
-abbrev pub arrays_shown : Name × Vec ArrayText Global → List ℕ × List O.ArrayText
-arrays_shown p = (bytes_of p.0, map array_shown p.1.items)
+abbrev pub arrays_view : Name × Vec ArrayText Global → List ℕ × List O.ArrayText
+arrays_view p = (bytes_of p.0, map array_view p.1.items)
 
-abbrev pub tables_shown : Tables → O.Tables
-tables_shown t = record { name = bytes_of t.name; arrays = map array_shown t.arrays.items; auxiliaries = names_of t.auxiliaries.items }
+abbrev pub tables_view : Tables → O.Tables
+tables_view t = record { name = bytes_of t.name; arrays = map array_view t.arrays.items; auxiliaries = names_of t.auxiliaries.items }
 
-abbrev pub bodies_shown : Vec (BodyText Point) Global → List (P.BodyText S.Point)
-bodies_shown bodies = map (body_shown point_of) bodies.items
+abbrev pub body_texts_view : Vec (BodyText Point) Global → List (P.BodyText S.Point)
+body_texts_view bodies = map (body_text_view point_of) bodies.items
 
 -- the tables and the bodies of an object
 abbrev pub object_parts : Tables × Vec (BodyText Point) Global → O.Tables × List (P.BodyText S.Point)
-object_parts p = (tables_shown p.0, bodies_shown p.1)
+object_parts p = (tables_view p.0, body_texts_view p.1)

@@ -2,13 +2,13 @@
 ghost use Rattle.std.specs.Prelude.{◌≡◌, map, slice_get};
 ghost use Rattle.lc_base.specs.Name.{bytes_of};
 ghost use Rattle.lc_sexp.specs.Shown.{rest_of, number_of, owner_of};
-ghost use Rattle.lc_object.specs.View.{column_shown};
+ghost use Rattle.lc_object.specs.View.{column_view};
 ghost use Rattle.lc_reading.specs.Parts.{tree_of, place_of};
 ghost use Rattle.lc_reading.specs.Results.{IsReading};
 ghost use Rattle.lc_reading.specs.TableView.{listed};
-ghost use Rattle.lc_object_text.specs.DeclaredView.{declared_seen, spans_seen};
+ghost use Rattle.lc_object_text.specs.DeclaredView.{declared_view, spans_view};
 ghost use Rattle.lc_object_text.specs.Objects.{first_column, own_name_reading, column_parts, column_reading, columns_reading, array_parts, array_reading};
-ghost use Rattle.lc_object_text.specs.Texts.{array_shown};
+ghost use Rattle.lc_object_text.specs.Texts.{array_view};
 
 use crate::declared::{Declared, Span};
 use crate::declaring::read_kth_name;
@@ -55,7 +55,7 @@ fn read_column_parts(
     place: u32,
     list: Cursor<'_>,
 ) -> Result<Column, ReadFault>
-    ensures { IsReading column_shown (column_parts (listed reader.now.names.now) reader.now.base place (owner_of list.entry) (number_of list.entry) (rest_of list.entry)) result }
+    ensures { IsReading column_view (column_parts (listed reader.now.names.now) reader.now.base place (owner_of list.entry) (number_of list.entry) (rest_of list.entry)) result }
 {
     let mut rest = list;
     let name = next_part(&mut rest)?;
@@ -68,7 +68,7 @@ fn read_column_parts(
 
 impl ReadsPlaced for Columns<'_, '_> {
     ghost use Rattle.lc_object.specs.Syntax.{Column};
-    ghost use Rattle.lc_object.specs.View.{column_shown};
+    ghost use Rattle.lc_object.specs.View.{column_view};
     ghost use Rattle.lc_reading.specs.TableView.{listed};
     ghost use Rattle.lc_object_text.specs.Objects.{column_reading};
 
@@ -76,7 +76,7 @@ impl ReadsPlaced for Columns<'_, '_> {
 
     ghost Meaning = { Column };
 
-    ghost meaning = { column_shown };
+    ghost meaning = { column_view };
 
     ghost reading = { λ reader. column_reading (listed reader.names.now) reader.base };
 
@@ -90,7 +90,7 @@ impl ReadsPlaced for Columns<'_, '_> {
 
 /// The place of the first column of an array.
 fn first_column(spans: &[Span], place: u32) -> u32
-    ensures { result ≡ first_column (slice_get (spans_seen spans.now) place) }
+    ensures { result ≡ first_column (slice_get (spans_view spans.now) place) }
 {
     match spans.get(place as usize) {
         Some(span) => span.first,
@@ -105,7 +105,7 @@ fn read_columns(
     place: u32,
     list: Cursor<'_>,
 ) -> Result<Vec<Column>, ReadFault>
-    ensures { IsReading (λ columns. map column_shown columns.items) (columns_reading (declared_seen declared.now) place (owner_of list.entry) (number_of list.entry) (rest_of list.entry)) result }
+    ensures { IsReading (λ columns. map column_view columns.items) (columns_reading (declared_view declared.now) place (owner_of list.entry) (number_of list.entry) (rest_of list.entry)) result }
 {
     if list.is_empty() {
         return Err(wrong(Pass::Shape, list.owner()));
@@ -124,7 +124,7 @@ fn read_array_parts(
     place: u32,
     list: Cursor<'_>,
 ) -> Result<ArrayText, ReadFault>
-    ensures { IsReading array_shown (array_parts (declared_seen declared.now) place (owner_of list.entry) (number_of list.entry) (rest_of list.entry)) result }
+    ensures { IsReading array_view (array_parts (declared_view declared.now) place (owner_of list.entry) (number_of list.entry) (rest_of list.entry)) result }
 {
     let mut rest = list;
     let name = next_part(&mut rest)?;
@@ -140,18 +140,18 @@ fn read_array_parts(
 pub struct Arrays<'a, 'b>(pub &'b Declared<'a>);
 
 impl ReadsPlaced for Arrays<'_, '_> {
-    ghost use Rattle.lc_object_text.specs.DeclaredView.{declared_seen};
+    ghost use Rattle.lc_object_text.specs.DeclaredView.{declared_view};
     ghost use Rattle.lc_object_text.specs.Objects as O;
     ghost use Rattle.lc_object_text.specs.Objects.{array_reading};
-    ghost use Rattle.lc_object_text.specs.Texts.{array_shown};
+    ghost use Rattle.lc_object_text.specs.Texts.{array_view};
 
     type Value = ArrayText;
 
     ghost Meaning = { O.ArrayText };
 
-    ghost meaning = { array_shown };
+    ghost meaning = { array_view };
 
-    ghost reading = { λ reader. array_reading (declared_seen reader.0.now) };
+    ghost reading = { λ reader. array_reading (declared_view reader.0.now) };
 
     fn read(&self, alloc: Global, place: u32, part: Part<'_>) -> Result<ArrayText, ReadFault> {
         let parts = behind_word(part, "array")?;

@@ -5,10 +5,10 @@ ghost use Rattle.lc_object.specs.View.{names_of};
 ghost use Rattle.lc_reading.specs.Parts.{tree_of, place_of};
 ghost use Rattle.lc_reading.specs.Results.{IsReading};
 ghost use Rattle.lc_reading.specs.TableView.{listed};
-ghost use Rattle.lc_object_text.specs.DeclaredView.{declared_seen, body_seen};
+ghost use Rattle.lc_object_text.specs.DeclaredView.{declared_view, body_view};
 ghost use Rattle.lc_object_text.specs.Objects.{bodies_reading};
 ghost use Rattle.lc_object_text.specs.Points.{is_of_another, locals_reading, body_parts, body_reading};
-ghost use Rattle.lc_object_text.specs.Texts.{body_shown};
+ghost use Rattle.lc_object_text.specs.Texts.{body_text_view};
 
 use crate::body_scope::InBody;
 use crate::declared::{Body, Declared};
@@ -55,7 +55,7 @@ fn read_locals(
     first: Part<'_>,
     second: Part<'_>,
 ) -> Result<Vec<Name>, ReadFault>
-    ensures { IsReading (λ names. names_of names.items) (locals_reading (declared_seen scope.entry.declared.now) (body_seen scope.entry.body.now)
+    ensures { IsReading (λ names. names_of names.items) (locals_reading (declared_view scope.entry.declared.now) (body_view scope.entry.body.now)
         (place_of first.entry) (tree_of first.entry) (place_of second.entry) (tree_of second.entry)) result }
 {
     let operation = read_use(&scope.declared.operations, first);
@@ -81,7 +81,7 @@ fn read_body_parts<B: ReadsBeside>(
     reader: &Points<'_, '_, '_, B>,
     list: Cursor<'_>,
 ) -> Result<BodyText<B::Value>, ReadFault>
-    ensures { IsReading (body_shown B.meaning) (body_parts (declared_seen reader.now.scope.declared.now) (body_seen reader.now.scope.body.now) (B.reading reader.now.beside.now)
+    ensures { IsReading (body_text_view B.meaning) (body_parts (declared_view reader.now.scope.declared.now) (body_view reader.now.scope.body.now) (B.reading reader.now.beside.now)
         reader.now.operation.0 (owner_of list.entry) (number_of list.entry) (rest_of list.entry)) result }
 {
     let mut rest = list;
@@ -104,7 +104,7 @@ pub fn read_body<B: ReadsBeside>(
     reader: &Points<'_, '_, '_, B>,
     part: Part<'_>,
 ) -> Result<BodyText<B::Value>, ReadFault>
-    ensures { IsReading (body_shown B.meaning) (body_reading (declared_seen reader.now.scope.declared.now) (body_seen reader.now.scope.body.now) (B.reading reader.now.beside.now)
+    ensures { IsReading (body_text_view B.meaning) (body_reading (declared_view reader.now.scope.declared.now) (body_view reader.now.scope.body.now) (B.reading reader.now.beside.now)
         reader.now.operation.0 (place_of part.entry) (tree_of part.entry)) result }
 {
     let parts = behind_word(part, "body")?;
@@ -119,18 +119,18 @@ pub struct Bodies<'a, 'b, 's, B> {
 }
 
 impl<B: ReadsBeside> ReadsPlaced for Bodies<'_, '_, '_, B> {
-    ghost use Rattle.lc_object_text.specs.DeclaredView.{declared_seen};
+    ghost use Rattle.lc_object_text.specs.DeclaredView.{declared_view};
     ghost use Rattle.lc_object_text.specs.Objects.{ith_body_reading};
     ghost use Rattle.lc_object_text.specs.Points as P;
-    ghost use Rattle.lc_object_text.specs.Texts.{body_shown};
+    ghost use Rattle.lc_object_text.specs.Texts.{body_text_view};
 
     type Value = BodyText<B::Value>;
 
     ghost Meaning = { P.BodyText B.Meaning };
 
-    ghost meaning = { body_shown B.meaning };
+    ghost meaning = { body_text_view B.meaning };
 
-    ghost reading = { λ reader. ith_body_reading (declared_seen reader.declared.now) (B.reading reader.beside.now) };
+    ghost reading = { λ reader. ith_body_reading (declared_view reader.declared.now) (B.reading reader.beside.now) };
 
     fn read(
         &self,
@@ -160,7 +160,7 @@ pub fn read_bodies<B: ReadsBeside>(
     object: u64,
     list: Cursor<'_>,
 ) -> Result<Vec<BodyText<B::Value>>, ReadFault>
-    ensures { IsReading (λ bodies. map (body_shown B.meaning) bodies.items) (bodies_reading (declared_seen reader.now.declared.now) (B.reading reader.now.beside.now)
+    ensures { IsReading (λ bodies. map (body_text_view B.meaning) bodies.items) (bodies_reading (declared_view reader.now.declared.now) (B.reading reader.now.beside.now)
         object (number_of list.entry) (rest_of list.entry)) result }
 {
     if list.len() < bodies_due(reader.declared.operations.len()) {

@@ -1,6 +1,6 @@
 //! The names that the instructions of a body see.
 ghost use Rattle.std.specs.Prelude.{◌≡◌, ◌<◌, ◌^◌, length, option_map};
-ghost use Rattle.lc_object_text.specs.DeclaredView.{spans_seen};
+ghost use Rattle.lc_object_text.specs.DeclaredView.{spans_view};
 ghost use Rattle.lc_object_text.specs.ObjectNames.{column_use, row_at};
 
 use crate::code_scope::{CodeScope, Row};
@@ -31,7 +31,7 @@ fn column_use(first: u32, end: u32, is_system: bool, place: Option<usize>) -> Co
 
 fn row_at(spans: &[Span], place: Option<usize>) -> Option<Row>
     requires { length spans.now < 2 ^ 32 }
-    ensures { option_map (λ row. (row.array.0, row.width)) result ≡ row_at (spans_seen spans.now) place }
+    ensures { option_map (λ row. (row.array.0, row.width)) result ≡ row_at (spans_view spans.now) place }
 {
     let place = place?;
     let span = spans.get(place)?;
@@ -42,10 +42,10 @@ fn row_at(spans: &[Span], place: Option<usize>) -> Option<Row>
 }
 
 impl Scope for InBody<'_, '_> {
-    ghost use Rattle.lc_object_text.specs.DeclaredView.{declared_seen, body_seen};
+    ghost use Rattle.lc_object_text.specs.DeclaredView.{declared_view, body_view};
     ghost use Rattle.lc_object_text.specs.ObjectNames.{code_names};
 
-    ghost names = { λ scope. code_names (declared_seen scope.declared.now) (body_seen scope.body.now) };
+    ghost names = { λ scope. code_names (declared_view scope.declared.now) (body_view scope.body.now) };
 
     fn variable(&self, name: &str) -> Option<u32> {
         if name == "self" {
@@ -72,10 +72,10 @@ impl Scope for InBody<'_, '_> {
 }
 
 impl CodeScope for InBody<'_, '_> {
-    ghost use Rattle.lc_object_text.specs.DeclaredView.{declared_seen, body_seen};
+    ghost use Rattle.lc_object_text.specs.DeclaredView.{declared_view, body_view};
     ghost use Rattle.lc_object_text.specs.ObjectNames.{body_names};
 
-    ghost code = { λ scope. body_names (declared_seen scope.declared.now) (body_seen scope.body.now) };
+    ghost code = { λ scope. body_names (declared_view scope.declared.now) (body_view scope.body.now) };
 
     fn array(&self, name: &str) -> Option<Row> {
         row_at(&self.declared.spans, self.declared.arrays.place(name))

@@ -6,7 +6,7 @@ ghost use Rattle.lc_reading.specs.Results.{IsReading};
 ghost use Rattle.lc_reading.specs.TableView.{listed};
 ghost use Rattle.lc_object.specs.View.{locals_of, terms_of};
 ghost use Rattle.lc_object_text.specs.Cells.{array_reading, label_reading, row_width, target_reading, targets_reading, values_reading, assignment_parts, assignment_reading, assignments_reading};
-ghost use Rattle.lc_object_text.specs.Own.{assigned_seen, assignments_seen};
+ghost use Rattle.lc_object_text.specs.Own.{assigned_view, assignments_view};
 
 use crate::code_scope::CodeScope;
 use crate::counts::read_count;
@@ -151,7 +151,7 @@ fn read_assignment_parts<S: Scope + CodeScope>(
     before: &NameTable<'_>,
     list: Cursor<'_>,
 ) -> Result<(LocalId, Term), ReadFault>
-    ensures { IsReading assigned_seen (assignment_parts (S.names scope.now) (S.code scope.now) (listed before.now) (owner_of list.entry) (number_of list.entry) (rest_of list.entry)) result }
+    ensures { IsReading assigned_view (assignment_parts (S.names scope.now) (S.code scope.now) (listed before.now) (owner_of list.entry) (number_of list.entry) (rest_of list.entry)) result }
 {
     let (first, second, rest) = two(list)?;
     let target = read_target(scope, before, first);
@@ -166,7 +166,7 @@ fn read_assignment<S: Scope + CodeScope>(
     before: &NameTable<'_>,
     part: Part<'_>,
 ) -> Result<(LocalId, Term), ReadFault>
-    ensures { IsReading assigned_seen (assignment_reading (S.names scope.now) (S.code scope.now) (listed before.now) (place_of part.entry) (tree_of part.entry)) result }
+    ensures { IsReading assigned_view (assignment_reading (S.names scope.now) (S.code scope.now) (listed before.now) (place_of part.entry) (tree_of part.entry)) result }
 {
     match part.item() {
         Item::Atom(atom) => Err(wrong(Pass::Shape, atom.number())),
@@ -183,13 +183,13 @@ impl<S: Scope + CodeScope> Declares for Assignments<'_, S> {
     ghost use Rattle.lc_term.specs.Syntax.{Term};
     ghost use Rattle.lc_reading.specs.Rows.{first_name};
     ghost use Rattle.lc_object_text.specs.Cells.{assignment_reading};
-    ghost use Rattle.lc_object_text.specs.Own.{assigned_seen};
+    ghost use Rattle.lc_object_text.specs.Own.{assigned_view};
 
     type Value = (LocalId, Term);
 
     ghost Meaning = { ℕ × Term };
 
-    ghost meaning = { assigned_seen };
+    ghost meaning = { assigned_view };
 
     ghost declares = { first_name };
 
@@ -219,7 +219,7 @@ pub(crate) fn read_assignments<S: Scope + CodeScope>(
     scope: &S,
     part: Part<'_>,
 ) -> Result<Vec<(LocalId, Term)>, ReadFault>
-    ensures { IsReading assignments_seen (assignments_reading (S.names scope.now) (S.code scope.now) (place_of part.entry) (tree_of part.entry)) result }
+    ensures { IsReading assignments_view (assignments_reading (S.names scope.now) (S.code scope.now) (place_of part.entry) (tree_of part.entry)) result }
 {
     let list = match part.item() {
         Item::Atom(atom) => return Err(wrong(Pass::Shape, atom.number())),

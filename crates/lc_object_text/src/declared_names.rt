@@ -3,11 +3,11 @@ ghost use Rattle.std.specs.Prelude.{◌≡◌, ◌+◌, ◌<◌, ◌++◌, ◌�
 ghost use Rattle.lc_sexp.specs.Shown.{rest_of};
 ghost use Rattle.lc_reading.specs.Listed.{names_among};
 ghost use Rattle.lc_reading.specs.TableView.{listed};
-ghost use Rattle.lc_object_text.specs.DeclaredView.{call_seen, call_found, body_seen, spans_seen, calls_seen, bodies_seen, declared_seen};
+ghost use Rattle.lc_object_text.specs.DeclaredView.{call_view, call_found, body_view, spans_view, calls_view, bodies_view, declared_view};
 ghost use Rattle.lc_object_text.specs.ObjectNames.{names_of_columns, later, span_of, columns_of_arrays, spans_from, reply_count, call_of, call_named, name_at, body_of, bodies_from, labels_of_bodies, declared_in_sections};
 ghost use Rattle.lc_object_text.specs.ObjectNames as N;
 ghost use Rattle.lc_object_text.specs.Sections.{forms_in, some_forms_in};
-ghost use Rattle.lc_object_text.specs.Seen.{sections_seen};
+ghost use Rattle.lc_object_text.specs.Seen.{sections_view};
 
 use crate::declared::{Body, Call, Declared, Operations, Span};
 use crate::section_finding::{behind_first, first_text, items_in_first, next_form, within_first};
@@ -60,7 +60,7 @@ struct Arrays<'a> {
 fn enter_array<'a>(arrays: Arrays<'a>, parts: Cursor<'a>) -> Result<Arrays<'a>, OutOfMemory>
     ensures columns { IfOk result (λ a. listed a.columns ≡ listed arrays.entry.columns ++ names_of_columns (later (rest_of parts.entry))) }
     ensures names { IfOk result (λ a. listed a.names ≡ listed arrays.entry.names ++ N.first_text (rest_of parts.entry) ∷ []) }
-    ensures spans { IfOk result (λ a. spans_seen a.spans.items ≡ spans_seen arrays.entry.spans.items ++ span_of (length (listed arrays.entry.columns)) (rest_of parts.entry) ∷ []) }
+    ensures spans { IfOk result (λ a. spans_view a.spans.items ≡ spans_view arrays.entry.spans.items ++ span_of (length (listed arrays.entry.columns)) (rest_of parts.entry) ∷ []) }
 {
     let Arrays {
         columns,
@@ -89,7 +89,7 @@ fn read_arrays<'a>(
 ) -> Result<Arrays<'a>, OutOfMemory>
     ensures columns { IfOk result (λ a. listed a.columns ≡ listed columns.entry ++ columns_of_arrays (forms_in (codes "array") (rest_of list.entry))) }
     ensures names { IfOk result (λ a. listed a.names ≡ map N.first_text (forms_in (codes "array") (rest_of list.entry))) }
-    ensures spans { IfOk result (λ a. spans_seen a.spans.items ≡ spans_from (length (listed columns.entry)) (forms_in (codes "array") (rest_of list.entry))) }
+    ensures spans { IfOk result (λ a. spans_view a.spans.items ≡ spans_from (length (listed columns.entry)) (forms_in (codes "array") (rest_of list.entry))) }
 {
     let mut arrays = Arrays {
         columns,
@@ -118,7 +118,7 @@ pub(crate) fn reply_count(mut list: Cursor<'_>) -> Option<u64>
 
 /// How the operation of these parts is called: `NAME (ARG ..) REPLIES ..`.
 fn read_call<'a>(alloc: Global, parts: Cursor<'a>) -> Result<Call<'a>, OutOfMemory>
-    ensures { IfOk result (λ call. call_seen call ≡ call_of (rest_of parts.entry)) }
+    ensures { IfOk result (λ call. call_view call ≡ call_of (rest_of parts.entry)) }
 {
     let behind_name = behind_first(parts);
     let arguments = within_first(behind_name);
@@ -134,7 +134,7 @@ fn read_call<'a>(alloc: Global, parts: Cursor<'a>) -> Result<Call<'a>, OutOfMemo
 /// The operations of a specification.
 fn read_operations<'a>(alloc: Global, mut list: Cursor<'a>) -> Result<Operations<'a>, OutOfMemory>
     ensures names { IfOk result (λ o. listed o.names ≡ map N.first_text (some_forms_in (codes "op") (rest_of list.entry))) }
-    ensures calls { IfOk result (λ o. calls_seen o.calls.items ≡ map call_of (some_forms_in (codes "op") (rest_of list.entry))) }
+    ensures calls { IfOk result (λ o. calls_view o.calls.items ≡ map call_of (some_forms_in (codes "op") (rest_of list.entry))) }
 {
     let mut names = NameTable::new(alloc);
     let mut texts = Vec::new(alloc);
@@ -177,7 +177,7 @@ fn enter_labels<'a>(
 
 /// How the operation of this name is called, if there is one.
 fn find_call<'a, 'b>(operations: &'b Operations<'a>, name: &str) -> Option<&'b Call<'a>>
-    ensures { call_found result ≡ call_named (listed operations.now.names) (calls_seen operations.now.calls.items) name.now }
+    ensures { call_found result ≡ call_named (listed operations.now.names) (calls_view operations.now.calls.items) name.now }
 {
     let place = operations.names.place(name)?;
     operations.calls.get(place)
@@ -228,7 +228,7 @@ fn body<'a>(
     labels: NameTable<'a>,
 ) -> Result<Body<'a>, OutOfMemory>
     requires { listed argument_names.value ≡ names_among (rest_of arguments) }
-    ensures { IfOk result (λ body. body_seen body ≡ record {
+    ensures { IfOk result (λ body. body_view body ≡ record {
       operation = operation.now;
       first = first;
       call = record { arguments = names_among (rest_of arguments.entry); replies = replies };
@@ -260,7 +260,7 @@ fn read_body<'a>(
     first: u32,
     parts: Cursor<'a>,
 ) -> Result<Body<'a>, OutOfMemory>
-    ensures { IfOk result (λ body. body_seen body ≡ body_of (listed operations.now.names) (calls_seen operations.now.calls.items) number first (rest_of parts.entry)) }
+    ensures { IfOk result (λ body. body_view body ≡ body_of (listed operations.now.names) (calls_view operations.now.calls.items) number first (rest_of parts.entry)) }
 {
     let behind_name = behind_first(parts);
     let local_items = within_first(behind_name);
@@ -287,8 +287,8 @@ fn read_bodies<'a>(
     due: usize,
     mut list: Cursor<'a>,
 ) -> Result<Bodies<'a>, OutOfMemory>
-    ensures bodies { IfOk result (λ b. bodies_seen b.bodies.items ≡ bodies_from (listed operations.now.names) (calls_seen operations.now.calls.items) 0 0 due (rest_of list.entry)) }
-    ensures points { IfOk result (λ b. listed b.points ≡ labels_of_bodies (bodies_from (listed operations.now.names) (calls_seen operations.now.calls.items) 0 0 due (rest_of list.entry))) }
+    ensures bodies { IfOk result (λ b. bodies_view b.bodies.items ≡ bodies_from (listed operations.now.names) (calls_view operations.now.calls.items) 0 0 due (rest_of list.entry)) }
+    ensures points { IfOk result (λ b. listed b.points ≡ labels_of_bodies (bodies_from (listed operations.now.names) (calls_view operations.now.calls.items) 0 0 due (rest_of list.entry))) }
 {
     let mut points = NameTable::new(alloc);
     let mut bodies = Vec::new(alloc);
@@ -320,7 +320,7 @@ pub fn read_declarations<'a>(
     alloc: Global,
     sections: &Sections<'a>,
 ) -> Result<Declared<'a>, OutOfMemory>
-    ensures { IfOk result (λ d. declared_seen d ≡ declared_in_sections (sections_seen sections.now)) }
+    ensures { IfOk result (λ d. declared_view d ≡ declared_in_sections (sections_view sections.now)) }
 {
     let nothing = NameTable::new(alloc);
     let abstract_items = items_in_first(sections.abstracts, "abstract");

@@ -6,11 +6,11 @@ ghost use Rattle.lc_object.specs.Syntax as S;
 ghost use Rattle.lc_object.specs.View.{parts_of, point_of};
 ghost use Rattle.lc_reading.specs.Results.{IsReading};
 ghost use Rattle.lc_object_text.specs.Answers.{IsAnswerOf};
-ghost use Rattle.lc_object_text.specs.DeclaredView.{declared_seen};
+ghost use Rattle.lc_object_text.specs.DeclaredView.{declared_view};
 ghost use Rattle.lc_object_text.specs.Objects.{object_reading, second_form_reading, forms_reading, file_reading};
 ghost use Rattle.lc_object_text.specs.Points.{code_alone};
-ghost use Rattle.lc_object_text.specs.Seen.{sections_seen};
-ghost use Rattle.lc_object_text.specs.Texts.{specification_shown, object_parts};
+ghost use Rattle.lc_object_text.specs.Seen.{sections_view};
+ghost use Rattle.lc_object_text.specs.Texts.{specification_view, object_parts};
 ghost use Rattle.lc_object_text.specs.Objects as O;
 ghost use Rattle.lc_object_text.specs.Points as P;
 ghost use Rattle.lc_reading.specs.Readings.{Reading, both};
@@ -37,7 +37,7 @@ fn read_object(
     sections: &Sections<'_>,
     object: u64,
 ) -> Result<(Tables, Vec<BodyText<Point>>), ReadFault>
-    ensures { IsReading object_parts (object_reading (declared_seen declared.now) (sections_seen sections.now) code_alone object) result }
+    ensures { IsReading object_parts (object_reading (declared_view declared.now) (sections_view sections.now) code_alone object) result }
 {
     let tables = read_tables(alloc, declared, sections, object);
     let reader = Bodies {
@@ -54,7 +54,7 @@ fn read_second_form(
     sections: &Sections<'_>,
     mut forms: Cursor<'_>,
 ) -> Result<(Tables, Vec<BodyText<Point>>), ReadFault>
-    ensures { IsReading object_parts (second_form_reading (declared_seen declared.now) (sections_seen sections.now) (number_of forms.entry) (rest_of forms.entry)) result }
+    ensures { IsReading object_parts (second_form_reading (declared_view declared.now) (sections_view sections.now) (number_of forms.entry) (rest_of forms.entry)) result }
 {
     let number = forms.number();
     let Ok(_) = next_part(&mut forms) else {
@@ -69,7 +69,7 @@ fn made_object(
     specification: Result<SpecificationText, ReadFault>,
     object: Result<(Tables, Vec<BodyText<Point>>), ReadFault>,
 ) -> Result<Parts, ReadFault>
-    ensures { (s : Reading O.SpecificationText) (o : Reading (O.Tables × List (P.BodyText S.Point))) → IsReading specification_shown s specification → IsReading object_parts o object →
+    ensures { (s : Reading O.SpecificationText) (o : Reading (O.Tables × List (P.BodyText S.Point))) → IsReading specification_view s specification → IsReading object_parts o object →
         IsReading parts_of (both O.object_of s o) result }
 {
     let (specification, object) = both(specification, object)?;
@@ -84,7 +84,7 @@ fn read_forms(
     sections: &Sections<'_>,
     mut forms: Cursor<'_>,
 ) -> Result<Parts, ReadFault>
-    ensures { IsReading parts_of (forms_reading (declared_seen declared.now) (sections_seen sections.now) (number_of forms.entry) (rest_of forms.entry)) result }
+    ensures { IsReading parts_of (forms_reading (declared_view declared.now) (sections_view sections.now) (number_of forms.entry) (rest_of forms.entry)) result }
 {
     let number = forms.number();
     let Ok(part) = next_part(&mut forms) else {

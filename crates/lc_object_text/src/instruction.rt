@@ -9,7 +9,7 @@ ghost use Rattle.lc_reading.specs.Readings.{Reading, both};
 ghost use Rattle.lc_reading.specs.Results.{IsReading};
 ghost use Rattle.lc_object_text.specs.Heads.{own_parts};
 ghost use Rattle.lc_object_text.specs.Instructions.{place_reading, labels_reading, moved_reading, stored_reading, rows_reading, exchange_reading, cas_of, set_of, load_reading, store_reading, cas_reading, set_reading, adding_reading, faa_of, faa_reading, if_of, if_reading, own_reading, headed_reading, return_reading, instruction_reading};
-ghost use Rattle.lc_object_text.specs.Own.{IsOwn, place_seen, labels_seen, moved_seen, stored_seen, rows_seen, exchange_seen, adding_seen, assignments_seen};
+ghost use Rattle.lc_object_text.specs.Own.{IsOwn, place_view, labels_view, moved_view, stored_view, rows_view, exchange_view, adding_view, assignments_view};
 
 use crate::cells::{
     read_array, read_assignments, read_label, read_targets, read_values, row_width,
@@ -35,7 +35,7 @@ fn read_place<S: Scope + CodeScope>(
     first: Part<'_>,
     second: Part<'_>,
 ) -> Result<(ArrayId, Term), ReadFault>
-    ensures { IsReading place_seen (place_reading (S.names scope.now) (S.code scope.now) (place_of first.entry) (tree_of first.entry) (place_of second.entry) (tree_of second.entry)) result }
+    ensures { IsReading place_view (place_reading (S.names scope.now) (S.code scope.now) (place_of first.entry) (tree_of first.entry) (place_of second.entry) (tree_of second.entry)) result }
 {
     both(read_array(scope, first), read_term(alloc, scope, second))
 }
@@ -46,7 +46,7 @@ fn read_labels<S: CodeScope>(
     first: Part<'_>,
     second: Part<'_>,
 ) -> Result<(PointId, PointId), ReadFault>
-    ensures { IsReading labels_seen (labels_reading (S.code scope.now) (place_of first.entry) (tree_of first.entry) (place_of second.entry) (tree_of second.entry)) result }
+    ensures { IsReading labels_view (labels_reading (S.code scope.now) (place_of first.entry) (tree_of first.entry) (place_of second.entry) (tree_of second.entry)) result }
 {
     both(read_label(scope, first), read_label(scope, second))
 }
@@ -59,7 +59,7 @@ fn read_moved<S: CodeScope>(
     first: Part<'_>,
     second: Part<'_>,
 ) -> Result<(Vec<LocalId>, PointId), ReadFault>
-    ensures { IsReading moved_seen (moved_reading (S.code scope.now) width (place_of first.entry) (tree_of first.entry) (place_of second.entry) (tree_of second.entry)) result }
+    ensures { IsReading moved_view (moved_reading (S.code scope.now) width (place_of first.entry) (tree_of first.entry) (place_of second.entry) (tree_of second.entry)) result }
 {
     both(
         read_targets(alloc, scope, width, first),
@@ -75,7 +75,7 @@ fn read_stored<S: Scope + CodeScope>(
     first: Part<'_>,
     second: Part<'_>,
 ) -> Result<(Vec<Term>, PointId), ReadFault>
-    ensures { IsReading stored_seen (stored_reading (S.names scope.now) (S.code scope.now) width (place_of first.entry) (tree_of first.entry) (place_of second.entry) (tree_of second.entry)) result }
+    ensures { IsReading stored_view (stored_reading (S.names scope.now) (S.code scope.now) width (place_of first.entry) (tree_of first.entry) (place_of second.entry) (tree_of second.entry)) result }
 {
     both(
         read_values(alloc, scope, width, first),
@@ -91,7 +91,7 @@ fn read_rows<S: Scope>(
     first: Part<'_>,
     second: Part<'_>,
 ) -> Result<(Vec<Term>, Vec<Term>), ReadFault>
-    ensures { IsReading rows_seen (rows_reading (S.names scope.now) width (place_of first.entry) (tree_of first.entry) (place_of second.entry) (tree_of second.entry)) result }
+    ensures { IsReading rows_view (rows_reading (S.names scope.now) width (place_of first.entry) (tree_of first.entry) (place_of second.entry) (tree_of second.entry)) result }
 {
     both(
         read_values(alloc, scope, width, first),
@@ -112,7 +112,7 @@ fn read_exchange<S: Scope + CodeScope>(
     third: Part<'_>,
     fourth: Part<'_>,
 ) -> Result<Exchange, ReadFault>
-    ensures { IsReading exchange_seen (exchange_reading (S.names scope.now) (S.code scope.now) width (place_of first.entry) (tree_of first.entry)
+    ensures { IsReading exchange_view (exchange_reading (S.names scope.now) (S.code scope.now) width (place_of first.entry) (tree_of first.entry)
         (place_of second.entry) (tree_of second.entry) (place_of third.entry) (tree_of third.entry) (place_of fourth.entry) (tree_of fourth.entry)) result }
 {
     both(
@@ -180,7 +180,7 @@ fn made_cas(
     place: Result<(ArrayId, Term), ReadFault>,
     exchange: Result<Exchange, ReadFault>,
 ) -> Result<Instr, ReadFault>
-    ensures { (p : Reading (ℕ × T.Term)) (e : Reading ((List T.Term × List T.Term) × (ℕ × ℕ))) → IsReading place_seen p place → IsReading exchange_seen e exchange →
+    ensures { (p : Reading (ℕ × T.Term)) (e : Reading ((List T.Term × List T.Term) × (ℕ × ℕ))) → IsReading place_view p place → IsReading exchange_view e exchange →
         IsReading instruction_of (both cas_of p e) result }
 {
     match both(place, exchange) {
@@ -222,8 +222,8 @@ fn split(
     alloc: Global,
     cells: Vec<(LocalId, Term)>,
 ) -> Result<(Vec<LocalId>, Vec<Term>), OutOfMemory>
-    ensures targets { IfOk result (λ r. locals_of r.0.items ≡ map (λ cell. cell.0) (assignments_seen cells)) }
-    ensures values { IfOk result (λ r. terms_of r.1.items ≡ map (λ cell. cell.1) (assignments_seen cells)) }
+    ensures targets { IfOk result (λ r. locals_of r.0.items ≡ map (λ cell. cell.0) (assignments_view cells)) }
+    ensures values { IfOk result (λ r. terms_of r.1.items ≡ map (λ cell. cell.1) (assignments_view cells)) }
 {
     let mut targets = Vec::with_capacity(alloc, cells.len())?;
     let mut values = Vec::with_capacity(alloc, cells.len())?;
@@ -240,7 +240,7 @@ fn made_set(
     cells: Result<Vec<(LocalId, Term)>, ReadFault>,
     label: Result<PointId, ReadFault>,
 ) -> Result<Instr, ReadFault>
-    ensures { (c : Reading (List (ℕ × T.Term))) (l : Reading ℕ) → IsReading assignments_seen c cells → IsReading (λ point. point.0) l label → IsReading instruction_of (both set_of c l) result }
+    ensures { (c : Reading (List (ℕ × T.Term))) (l : Reading ℕ) → IsReading assignments_view c cells → IsReading (λ point. point.0) l label → IsReading instruction_of (both set_of c l) result }
 {
     let (cells, next) = both(cells, label)?;
     let (targets, values) = split(alloc, cells)?;
@@ -277,7 +277,7 @@ fn read_adding<S: Scope + CodeScope>(
     second: Part<'_>,
     third: Part<'_>,
 ) -> Result<Adding, ReadFault>
-    ensures { IsReading adding_seen (adding_reading (S.names scope.now) (S.code scope.now) width (place_of first.entry) (tree_of first.entry)
+    ensures { IsReading adding_view (adding_reading (S.names scope.now) (S.code scope.now) width (place_of first.entry) (tree_of first.entry)
         (place_of second.entry) (tree_of second.entry) (place_of third.entry) (tree_of third.entry)) result }
 {
     both(
@@ -291,7 +291,7 @@ fn made_faa(
     place: Result<(ArrayId, Term), ReadFault>,
     adding: Result<Adding, ReadFault>,
 ) -> Result<Instr, ReadFault>
-    ensures { (p : Reading (ℕ × T.Term)) (q : Reading (List ℕ × (List T.Term × ℕ))) → IsReading place_seen p place → IsReading adding_seen q adding →
+    ensures { (p : Reading (ℕ × T.Term)) (q : Reading (List ℕ × (List T.Term × ℕ))) → IsReading place_view p place → IsReading adding_view q adding →
         IsReading instruction_of (both faa_of p q) result }
 {
     match both(place, adding) {
@@ -332,7 +332,7 @@ fn made_if(
     condition: Result<Formula, ReadFault>,
     labels: Result<(PointId, PointId), ReadFault>,
 ) -> Result<Instr, ReadFault>
-    ensures { (f : Reading T.Formula) (l : Reading (ℕ × ℕ)) → IsReading formula_of f condition → IsReading labels_seen l labels → IsReading instruction_of (both if_of f l) result }
+    ensures { (f : Reading T.Formula) (l : Reading (ℕ × ℕ)) → IsReading formula_of f condition → IsReading labels_view l labels → IsReading instruction_of (both if_of f l) result }
 {
     let (condition, (holds, fails)) = both(condition, labels)?;
     let condition = Arc::new(alloc, condition)?;

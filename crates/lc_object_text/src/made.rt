@@ -1,10 +1,10 @@
 //! The object of what was read.
 ghost use Rattle.std.specs.Prelude.{◌≡◌, ◌+◌, ◌-◌, ◌≤◌, map, IfOk};
-ghost use Rattle.lc_object.specs.View.{parts_of, columns_of, column_shown, array_of, operation_of, point_of};
+ghost use Rattle.lc_object.specs.View.{parts_of, columns_of, column_view, array_of, operation_of, point_of};
 ghost use Rattle.lc_object.specs.WellFormed.{numbers_from};
 ghost use Rattle.lc_object_text.specs.Objects as O;
 ghost use Rattle.lc_object_text.specs.Objects.{concretes_of, arrays_from, operations_from, points_of};
-ghost use Rattle.lc_object_text.specs.Texts.{array_shown, signature_shown, specification_shown, bodies_shown, object_parts};
+ghost use Rattle.lc_object_text.specs.Texts.{array_view, signature_view, specification_view, body_texts_view, object_parts};
 
 use crate::arrays::ArrayText;
 use crate::body::BodyText;
@@ -45,8 +45,8 @@ fn made_arrays(
     first: u32,
     texts: Vec<ArrayText>,
 ) -> Result<(Vec<Array>, Vec<Column>), OutOfMemory>
-    ensures arrays { IfOk result (λ r. map array_of r.0.items ≡ arrays_from first (map array_shown texts.items)) }
-    ensures columns { IfOk result (λ r. map column_shown r.1.items ≡ concretes_of (map array_shown texts.items)) }
+    ensures arrays { IfOk result (λ r. map array_of r.0.items ≡ arrays_from first (map array_view texts.items)) }
+    ensures columns { IfOk result (λ r. map column_view r.1.items ≡ concretes_of (map array_view texts.items)) }
 {
     let mut arrays = Vec::with_capacity(alloc, texts.len())?;
     let mut concretes = Vec::new(alloc);
@@ -71,8 +71,8 @@ fn made_code(
     signatures: Vec<Signature>,
     bodies: Vec<BodyText<Point>>,
 ) -> Result<(Vec<Operation>, Vec<Point>), OutOfMemory>
-    ensures operations { IfOk result (λ r. map operation_of r.0.items ≡ operations_from 0 (map signature_shown signatures.items) (bodies_shown bodies)) }
-    ensures points { IfOk result (λ r. map point_of r.1.items ≡ points_of (bodies_shown bodies)) }
+    ensures operations { IfOk result (λ r. map operation_of r.0.items ≡ operations_from 0 (map signature_view signatures.items) (body_texts_view bodies)) }
+    ensures points { IfOk result (λ r. map point_of r.1.items ≡ points_of (body_texts_view bodies)) }
 {
     let mut operations = Vec::with_capacity(alloc, signatures.len())?;
     let mut points = Vec::new(alloc);
@@ -102,7 +102,7 @@ pub fn made_parts(
     specification: SpecificationText,
     object: (Tables, Vec<BodyText<Point>>),
 ) -> Result<Parts, OutOfMemory>
-    ensures { IfOk result (λ parts. parts_of parts ≡ O.object_of (specification_shown specification) (object_parts object)) }
+    ensures { IfOk result (λ parts. parts_of parts ≡ O.object_of (specification_view specification) (object_parts object)) }
 {
     let SpecificationText {
         abstracts,

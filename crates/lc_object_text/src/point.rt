@@ -7,7 +7,7 @@ ghost use Rattle.lc_object.specs.View.{instruction_of, point_of};
 ghost use Rattle.lc_reading.specs.Parts.{tree_of, place_of};
 ghost use Rattle.lc_reading.specs.Readings.{Reading, both};
 ghost use Rattle.lc_reading.specs.Results.{IsReading};
-ghost use Rattle.lc_object_text.specs.DeclaredView.{declared_seen, body_seen};
+ghost use Rattle.lc_object_text.specs.DeclaredView.{declared_view, body_view};
 ghost use Rattle.lc_object_text.specs.Points as P;
 ghost use Rattle.lc_object_text.specs.Points.{IsShape, is_shaped, point_name_reading, point_parts, points_reading, sides_reading};
 
@@ -101,7 +101,7 @@ fn read_point_name(
     place: u32,
     part: Part<'_>,
 ) -> Result<Name, ReadFault>
-    ensures { IsReading bytes_of (point_name_reading (declared_seen scope.entry.declared.now) (scope.entry.body.now.first + place) number (place_of part.entry) (tree_of part.entry)) result }
+    ensures { IsReading bytes_of (point_name_reading (declared_view scope.entry.declared.now) (scope.entry.body.now.first + place) number (place_of part.entry) (tree_of part.entry)) result }
 {
     let before = u64::from(scope.body.first) + u64::from(place);
     let name = read_kth_name(&scope.declared.points, before, part);
@@ -115,7 +115,7 @@ fn read_point_parts<B: ReadsBeside>(
     place: u32,
     list: Cursor<'_>,
 ) -> Result<B::Value, ReadFault>
-    ensures { IsReading B.meaning (point_parts (declared_seen reader.now.scope.declared.now) (body_seen reader.now.scope.body.now) (B.reading reader.now.beside.now)
+    ensures { IsReading B.meaning (point_parts (declared_view reader.now.scope.declared.now) (body_view reader.now.scope.body.now) (B.reading reader.now.beside.now)
         reader.now.operation.0 place (owner_of list.entry) (number_of list.entry) (rest_of list.entry)) result }
 {
     let mut rest = list;
@@ -129,7 +129,7 @@ fn read_point_parts<B: ReadsBeside>(
 }
 
 impl<B: ReadsBeside> ReadsPlaced for Points<'_, '_, '_, B> {
-    ghost use Rattle.lc_object_text.specs.DeclaredView.{declared_seen, body_seen};
+    ghost use Rattle.lc_object_text.specs.DeclaredView.{declared_view, body_view};
     ghost use Rattle.lc_object_text.specs.Points.{point_reading};
 
     type Value = B::Value;
@@ -138,7 +138,7 @@ impl<B: ReadsBeside> ReadsPlaced for Points<'_, '_, '_, B> {
 
     ghost meaning = { B.meaning };
 
-    ghost reading = { λ reader. point_reading (declared_seen reader.scope.declared.now) (body_seen reader.scope.body.now) (B.reading reader.beside.now) reader.operation.0 };
+    ghost reading = { λ reader. point_reading (declared_view reader.scope.declared.now) (body_view reader.scope.body.now) (B.reading reader.beside.now) reader.operation.0 };
 
     fn read(&self, alloc: Global, place: u32, part: Part<'_>) -> Result<B::Value, ReadFault> {
         let parts = behind_word(part, "point")?;
@@ -152,7 +152,7 @@ pub(crate) fn read_points<B: ReadsBeside>(
     reader: &Points<'_, '_, '_, B>,
     list: Cursor<'_>,
 ) -> Result<Vec<B::Value>, ReadFault>
-    ensures { IsReading (λ points. map B.meaning points.items) (points_reading (declared_seen reader.now.scope.declared.now) (body_seen reader.now.scope.body.now)
+    ensures { IsReading (λ points. map B.meaning points.items) (points_reading (declared_view reader.now.scope.declared.now) (body_view reader.now.scope.body.now)
         (B.reading reader.now.beside.now) reader.now.operation.0 (owner_of list.entry) (number_of list.entry) (rest_of list.entry)) result }
 {
     if list.is_empty() {

@@ -3,7 +3,7 @@ ghost use Rattle.std.specs.Prelude.{◌≡◌, ◌≤◌};
 ghost use Rattle.lc_sexp.specs.Shown.{rest_of, number_of};
 ghost use Rattle.lc_object_text.specs.ObjectNames.{first_text, within_first, later, parts_in_first};
 ghost use Rattle.lc_object_text.specs.Sections.{items_in_first, behind_first, behind_forms, sections_at};
-ghost use Rattle.lc_object_text.specs.Seen.{items_of, sections_seen, size, IsNextForm};
+ghost use Rattle.lc_object_text.specs.Seen.{items_of, sections_view, size, IsNextForm};
 
 use crate::sections::Sections;
 use lc_sexp::{Cursor, Item};
@@ -49,7 +49,7 @@ fn behind_forms<'a>(list: Cursor<'a>, word: &str) -> Cursor<'a>
 
 /// The sections of the file of these forms. If one is missing nothing is left in it.
 pub fn find_sections<'a>(forms: Cursor<'a>) -> Sections<'a>
-    ensures { sections_seen result ≡ sections_at (items_of forms.entry) }
+    ensures { sections_view result ≡ sections_at (items_of forms.entry) }
 {
     let specification = items_in_first(forms, "spec");
     let object = items_in_first(behind_first(forms), "object");

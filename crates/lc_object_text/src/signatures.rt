@@ -7,10 +7,10 @@ ghost use Rattle.lc_reading.specs.TableView.{listed};
 ghost use Rattle.lc_reading.specs.Parts.{tree_of, place_of};
 ghost use Rattle.lc_reading.specs.Readings.{Reading, both};
 ghost use Rattle.lc_reading.specs.Results.{IsReading};
-ghost use Rattle.lc_object_text.specs.DeclaredView.{declared_seen, calls_seen};
+ghost use Rattle.lc_object_text.specs.DeclaredView.{declared_view, calls_view};
 ghost use Rattle.lc_object_text.specs.ObjectNames.{call_or};
 ghost use Rattle.lc_object_text.specs.Objects.{has_minus, signature_of, replies_reading, call_reading, operation_name_reading, signature_parts, signatures_reading, abstracts_reading, specification_parts, specification_reading};
-ghost use Rattle.lc_object_text.specs.Texts.{call_shown, signature_shown, specification_shown};
+ghost use Rattle.lc_object_text.specs.Texts.{call_names_view, signature_view, specification_view};
 
 use crate::declared::Declared;
 use crate::declaring::{ColumnNames, Names, read_kth_name, read_names, read_section};
@@ -72,7 +72,7 @@ fn read_call(
     first: Part<'_>,
     second: Part<'_>,
 ) -> Result<(Vec<Name>, u32), ReadFault>
-    ensures { IsReading call_shown (call_reading (listed arguments.now) (place_of first.entry) (tree_of first.entry) (place_of second.entry) (tree_of second.entry)) result }
+    ensures { IsReading call_names_view (call_reading (listed arguments.now) (place_of first.entry) (tree_of first.entry) (place_of second.entry) (tree_of second.entry)) result }
 {
     let names = Names {
         limit: ARGUMENT_LIMIT as u64,
@@ -90,7 +90,7 @@ fn read_call_of(
     first: Part<'_>,
     second: Part<'_>,
 ) -> Result<(Vec<Name>, u32), ReadFault>
-    ensures { IsReading call_shown (call_reading (call_or (slice_get (calls_seen declared.now.calls.items) place)).arguments (place_of first.entry) (tree_of first.entry)
+    ensures { IsReading call_names_view (call_reading (call_or (slice_get (calls_view declared.now.calls.items) place)).arguments (place_of first.entry) (tree_of first.entry)
         (place_of second.entry) (tree_of second.entry)) result }
 {
     match declared.calls.get(place as usize) {
@@ -106,7 +106,7 @@ fn read_operation_name(
     number: u64,
     part: Part<'_>,
 ) -> Result<Name, ReadFault>
-    ensures { IsReading bytes_of (operation_name_reading (declared_seen declared.now) place number (place_of part.entry) (tree_of part.entry)) result }
+    ensures { IsReading bytes_of (operation_name_reading (declared_view declared.now) place number (place_of part.entry) (tree_of part.entry)) result }
 {
     let name = read_kth_name(&declared.operations, u64::from(place), part);
     limited(OPERATION_LIMIT as u64 <= u64::from(place), number, name)
@@ -117,7 +117,7 @@ fn made_signature(
     name: Result<Name, ReadFault>,
     call: Result<(Vec<Name>, u32), ReadFault>,
 ) -> Result<Signature, ReadFault>
-    ensures { (n : Reading (List ℕ)) (c : Reading (List (List ℕ) × ℕ)) → IsReading bytes_of n name → IsReading call_shown c call → IsReading signature_shown (both signature_of n c) result }
+    ensures { (n : Reading (List ℕ)) (c : Reading (List (List ℕ) × ℕ)) → IsReading bytes_of n name → IsReading call_names_view c call → IsReading signature_view (both signature_of n c) result }
 {
     match both(name, call) {
         Ok((name, (arguments, replies))) => Ok(Signature {
@@ -136,7 +136,7 @@ fn read_signature_parts(
     place: u32,
     list: Cursor<'_>,
 ) -> Result<Signature, ReadFault>
-    ensures { IsReading signature_shown (signature_parts (declared_seen declared.now) place (owner_of list.entry) (number_of list.entry) (rest_of list.entry)) result }
+    ensures { IsReading signature_view (signature_parts (declared_view declared.now) place (owner_of list.entry) (number_of list.entry) (rest_of list.entry)) result }
 {
     let mut rest = list;
     let name = next_part(&mut rest)?;
@@ -154,18 +154,18 @@ fn read_signature_parts(
 pub struct Signatures<'a, 'b>(pub &'b Declared<'a>);
 
 impl ReadsPlaced for Signatures<'_, '_> {
-    ghost use Rattle.lc_object_text.specs.DeclaredView.{declared_seen};
+    ghost use Rattle.lc_object_text.specs.DeclaredView.{declared_view};
     ghost use Rattle.lc_object_text.specs.Objects as O;
     ghost use Rattle.lc_object_text.specs.Objects.{signature_reading};
-    ghost use Rattle.lc_object_text.specs.Texts.{signature_shown};
+    ghost use Rattle.lc_object_text.specs.Texts.{signature_view};
 
     type Value = Signature;
 
     ghost Meaning = { O.Signature };
 
-    ghost meaning = { signature_shown };
+    ghost meaning = { signature_view };
 
-    ghost reading = { λ reader. signature_reading (declared_seen reader.0.now) };
+    ghost reading = { λ reader. signature_reading (declared_view reader.0.now) };
 
     fn read(&self, alloc: Global, place: u32, part: Part<'_>) -> Result<Signature, ReadFault> {
         let parts = behind_word(part, "op")?;
@@ -180,7 +180,7 @@ fn read_abstracts(
     first: Part<'_>,
     second: Part<'_>,
 ) -> Result<Vec<Name>, ReadFault>
-    ensures { IsReading (λ names. names_of names.items) (abstracts_reading (declared_seen declared.now) (place_of first.entry) (tree_of first.entry) (place_of second.entry) (tree_of second.entry)) result }
+    ensures { IsReading (λ names. names_of names.items) (abstracts_reading (declared_view declared.now) (place_of first.entry) (tree_of first.entry) (place_of second.entry) (tree_of second.entry)) result }
 {
     let name = read_kth_name(&NameTable::new(alloc), 0, first);
     let columns = ColumnNames {
@@ -199,7 +199,7 @@ fn read_signatures(
     declared: &Declared<'_>,
     list: Cursor<'_>,
 ) -> Result<Vec<Signature>, ReadFault>
-    ensures { IsReading (λ signatures. map signature_shown signatures.items) (signatures_reading (declared_seen declared.now) (owner_of list.entry) (number_of list.entry) (rest_of list.entry)) result }
+    ensures { IsReading (λ signatures. map signature_view signatures.items) (signatures_reading (declared_view declared.now) (owner_of list.entry) (number_of list.entry) (rest_of list.entry)) result }
 {
     if list.is_empty() {
         return Err(wrong(Pass::Shape, list.owner()));
@@ -213,7 +213,7 @@ fn read_specification_parts(
     declared: &Declared<'_>,
     list: Cursor<'_>,
 ) -> Result<SpecificationText, ReadFault>
-    ensures { IsReading specification_shown (specification_parts (declared_seen declared.now) (owner_of list.entry) (number_of list.entry) (rest_of list.entry)) result }
+    ensures { IsReading specification_view (specification_parts (declared_view declared.now) (owner_of list.entry) (number_of list.entry) (rest_of list.entry)) result }
 {
     let mut rest = list;
     let name = next_part(&mut rest)?;
@@ -234,7 +234,7 @@ pub fn read_specification(
     declared: &Declared<'_>,
     part: Part<'_>,
 ) -> Result<SpecificationText, ReadFault>
-    ensures { IsReading specification_shown (specification_reading (declared_seen declared.now) (place_of part.entry) (tree_of part.entry)) result }
+    ensures { IsReading specification_view (specification_reading (declared_view declared.now) (place_of part.entry) (tree_of part.entry)) result }
 {
     let parts = behind_word(part, "spec")?;
     read_specification_parts(alloc, declared, parts)

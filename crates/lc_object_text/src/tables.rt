@@ -5,11 +5,11 @@ ghost use Rattle.lc_sexp.specs.Shown.{rest_of, number_of};
 ghost use Rattle.lc_object.specs.View.{names_of};
 ghost use Rattle.lc_reading.specs.Naming.{name_reading};
 ghost use Rattle.lc_reading.specs.Results.{IsReading};
-ghost use Rattle.lc_object_text.specs.DeclaredView.{declared_seen};
+ghost use Rattle.lc_object_text.specs.DeclaredView.{declared_view};
 ghost use Rattle.lc_object_text.specs.Declaring.{section_reading};
 ghost use Rattle.lc_object_text.specs.Objects.{first_reading, arrays_reading, conditions_reading, auxiliaries_reading, tables_reading};
-ghost use Rattle.lc_object_text.specs.Seen.{sections_seen};
-ghost use Rattle.lc_object_text.specs.Texts.{arrays_shown, tables_shown};
+ghost use Rattle.lc_object_text.specs.Seen.{sections_view};
+ghost use Rattle.lc_object_text.specs.Texts.{arrays_view, tables_view};
 
 use crate::arrays::{ArrayText, Arrays};
 use crate::declared::Declared;
@@ -47,7 +47,7 @@ fn read_arrays(
     sections: &Sections<'_>,
     object: u64,
 ) -> Result<(Name, Vec<ArrayText>), ReadFault>
-    ensures { IsReading arrays_shown (arrays_reading (declared_seen declared.now) (sections_seen sections.now) object) result }
+    ensures { IsReading arrays_view (arrays_reading (declared_view declared.now) (sections_view sections.now) object) result }
 {
     let name = read_object_name(alloc, object, sections.object);
     let arrays = read_lists(alloc, &Arrays(declared), "array", sections.arrays);
@@ -77,7 +77,7 @@ fn read_auxiliary_names(
     object: u64,
     mut list: Cursor<'_>,
 ) -> Result<Vec<Name>, ReadFault>
-    ensures { IsReading (λ names. names_of names.items) (first_reading (section_reading (codes "aux") (declared_seen declared.now).columns (declared_seen declared.now).auxiliaries) object (number_of list.entry) (rest_of list.entry)) result }
+    ensures { IsReading (λ names. names_of names.items) (first_reading (section_reading (codes "aux") (declared_view declared.now).columns (declared_view declared.now).auxiliaries) object (number_of list.entry) (rest_of list.entry)) result }
 {
     let columns = ColumnNames {
         names: &declared.columns,
@@ -96,7 +96,7 @@ fn read_auxiliaries(
     sections: &Sections<'_>,
     object: u64,
 ) -> Result<Vec<Name>, ReadFault>
-    ensures { IsReading (λ names. names_of names.items) (auxiliaries_reading (declared_seen declared.now) (sections_seen sections.now) object) result }
+    ensures { IsReading (λ names. names_of names.items) (auxiliaries_reading (declared_view declared.now) (sections_view sections.now) object) result }
 {
     let names = read_auxiliary_names(alloc, declared, object, sections.auxiliaries);
     match both(read_conditions(object, sections.invariant), names) {
@@ -112,7 +112,7 @@ pub fn read_tables(
     sections: &Sections<'_>,
     object: u64,
 ) -> Result<Tables, ReadFault>
-    ensures { IsReading tables_shown (tables_reading (declared_seen declared.now) (sections_seen sections.now) object) result }
+    ensures { IsReading tables_view (tables_reading (declared_view declared.now) (sections_view sections.now) object) result }
 {
     let arrays = read_arrays(alloc, declared, sections, object);
     let auxiliaries = read_auxiliaries(alloc, declared, sections, object);

@@ -3,7 +3,7 @@ use Rattle.std.specs.Prelude.{map}
 use Rattle.lc_term.specs.View.{term_of, formula_of}
 use Rattle.lc_seq.specs.SpecView.{column_of}
 use Rattle.lc_seq.specs.TextView.{specification_of}
-use Rattle.lc_object.specs.Objects.{object_shown}
+use Rattle.lc_object.specs.Objects.{object_view}
 use Rattle.lc_rider.specs.RiderView.{riders_of}
 use Rattle.lc_action.specs.ActionView.{action_of}
 use Rattle.lc_tie.specs.TieView.{conjuncts_in}
@@ -19,10 +19,10 @@ abbrev pub outline_of : Outline → S.Outline
 outline_of o = record { asserts = map formula_of o.asserts.items; ons = map on_of o.ons.items }
 
 -- the development of these parts
-abbrev pub parts_shown : Parts → S.Development
-parts_shown p = record {
+abbrev pub parts_view : Parts → S.Development
+parts_view p = record {
   specification = specification_of p.specification;
-  object = object_shown p.object;
+  object = object_view p.object;
   auxiliaries = map column_of p.auxiliaries.items;
   actions = map action_of p.actions.items;
   conjuncts = conjuncts_in p.tie;

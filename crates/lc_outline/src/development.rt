@@ -1,7 +1,7 @@
 //! The type of developments, which are resolved and within their limits.
 ghost use Rattle.std.specs.Prelude.{◌≡◌, true};
 ghost use Rattle.lc_outline.specs.Development.{start_numbers};
-ghost use Rattle.lc_outline.specs.PartsView.{parts_shown};
+ghost use Rattle.lc_outline.specs.PartsView.{parts_view};
 ghost use Rattle.lc_outline.specs.Limits.{is_limited};
 ghost use Rattle.lc_outline.specs.Resolved.{is_resolved};
 ghost use Rattle.lc_tie.specs.TieView.{numbers_in};
@@ -13,7 +13,7 @@ use crate::parts::Parts;
 #[derive(Drop)]
 pub struct Development {
     pub(crate) parts: Parts,
-    ghost resolved: { is_resolved (parts_shown parts) ≡ true },
-    ghost limited: { is_limited (parts_shown parts) ≡ true },
-    ghost initial: { numbers_in parts.tie ≡ start_numbers (parts_shown parts) },
+    ghost resolved: { is_resolved (parts_view parts) ≡ true },
+    ghost limited: { is_limited (parts_view parts) ≡ true },
+    ghost initial: { numbers_in parts.tie ≡ start_numbers (parts_view parts) },
 }

@@ -10,7 +10,7 @@ ghost use Rattle.lc_cert.specs.Printed.{certificate_line};
 ghost use Rattle.lc_hints.specs.Files.{IsAnswerTo as IsHintAnswerTo};
 ghost use Rattle.lc_kernel.specs.View.{proof_of};
 ghost use Rattle.lc_outline.specs.Development.{Development as Shown};
-ghost use Rattle.lc_outline.specs.DevelopmentView.{development_shown};
+ghost use Rattle.lc_outline.specs.DevelopmentView.{development_view};
 
 use lc_base::{Fault, OutOfMemory};
 use lc_cert::{
@@ -27,7 +27,7 @@ pub fn reading_a_certificate(
     development: &Development,
     bytes: &[u8],
 ) -> Result<Certificate, Fault>
-    ensures { IsAnswerTo (development_shown development.now) bytes.now result }
+    ensures { IsAnswerTo (development_view development.now) bytes.now result }
 {
     certificate_of(alloc, development, bytes)
 }
@@ -45,7 +45,7 @@ pub fn printing_a_certificate(
     development: &Development,
     certificate: &Certificate,
 ) -> Result<Vec<u8>, OutOfMemory>
-    ensures { IfOk result (λ text. text.items ≡ certificate_line (development_shown development.now) (entries_in certificate.now)) }
+    ensures { IfOk result (λ text. text.items ≡ certificate_line (development_view development.now) (entries_in certificate.now)) }
 {
     certificate_text(alloc, development, certificate)
 }
@@ -60,8 +60,8 @@ pub fn taking_a_proof(reader: &mut CertReader) -> Option<Entry>
 
 /// At the end it is reported whether everything is a certificate with just these proofs.
 pub fn finishing_a_certificate(reader: CertReader, development: &Development) -> Result<(), Fault>
-    ensures { (fed : List ℕ) → (taken : List Proved) → IsAfterTaking (development_shown development.now) fed taken reader →
-        IsAnswerOf (development_shown development.now) fed (taken ++ waiting reader) result }
+    ensures { (fed : List ℕ) → (taken : List Proved) → IsAfterTaking (development_view development.now) fed taken reader →
+        IsAnswerOf (development_view development.now) fed (taken ++ waiting reader) result }
 {
     reader.finish(development)
 }
@@ -81,7 +81,7 @@ pub fn reading_an_entry(
 
 /// For a file, its hints are returned, or its first refusal.
 pub fn reading_hints(alloc: Global, development: &Development, bytes: &[u8]) -> Result<Hints, Fault>
-    ensures { IsHintAnswerTo (development_shown development.now) bytes.now result }
+    ensures { IsHintAnswerTo (development_view development.now) bytes.now result }
 {
     hints_of(alloc, development, bytes)
 }

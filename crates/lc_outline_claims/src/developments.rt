@@ -3,7 +3,7 @@ ghost use Rattle.std.specs.Prelude.{◌≡◌, IfOk, is_err};
 ghost use Rattle.lc_cond.specs.ConditionView.{condition_in, IsCondition};
 ghost use Rattle.lc_cond_text.specs.ConditionText.{conditions_text, condition_text};
 ghost use Rattle.lc_cond_text.specs.LinesView.{is_spent, text_left, IsNextPiece};
-ghost use Rattle.lc_outline.specs.DevelopmentView.{development_shown};
+ghost use Rattle.lc_outline.specs.DevelopmentView.{development_view};
 ghost use Rattle.lc_outline_print.specs.Developments.{development_printed};
 ghost use Rattle.lc_outline_text.specs.Developments.{file_reading};
 ghost use Rattle.lc_reading.specs.Files.{IsAnswerTo};
@@ -19,7 +19,7 @@ use std::alloc::Global;
 
 /// For a file, its development is returned, or its first refusal.
 pub fn reading_a_development(alloc: Global, bytes: &[u8]) -> Result<Development, Fault>
-    ensures { IsAnswerTo development_shown file_reading bytes.now result }
+    ensures { IsAnswerTo development_view file_reading bytes.now result }
 {
     development_of(alloc, bytes)
 }
@@ -29,7 +29,7 @@ pub fn printing_a_development(
     alloc: Global,
     development: &Development,
 ) -> Result<Vec<u8>, OutOfMemory>
-    ensures { IfOk result (λ text. text.items ≡ development_printed (development_shown development.now)) }
+    ensures { IfOk result (λ text. text.items ≡ development_printed (development_view development.now)) }
 {
     development_text(alloc, development)
 }
@@ -43,7 +43,7 @@ pub fn printing_a_condition(
     condition: &Condition,
 ) -> Result<Vec<u8>, OutOfMemory>
     requires { IsCondition terms.now condition.now }
-    ensures { IfOk result (λ text. text.items ≡ condition_text (development_shown development.now) number (condition_in terms.now condition.now)) }
+    ensures { IfOk result (λ text. text.items ≡ condition_text (development_view development.now) number (condition_in terms.now condition.now)) }
 {
     condition_text(alloc, terms, development, number, condition)
 }
@@ -53,7 +53,7 @@ pub fn beginning_lines<'d>(
     alloc: Global,
     development: &'d Development,
 ) -> Result<ConditionLines<'d>, OutOfMemory>
-    ensures { IfOk result (λ lines. text_left lines ≡ conditions_text (development_shown development.entry.now)) }
+    ensures { IfOk result (λ lines. text_left lines ≡ conditions_text (development_view development.entry.now)) }
 {
     ConditionLines::new(alloc, development)
 }

@@ -1,5 +1,5 @@
 //! Plans of runs.
-ghost use Rattle.lc_outline.specs.DevelopmentView.{development_shown};
+ghost use Rattle.lc_outline.specs.DevelopmentView.{development_view};
 ghost use Rattle.lc_plan.specs.Readings.{plan_reading};
 ghost use Rattle.lc_plan.specs.View.{plan_of};
 ghost use Rattle.lc_reading.specs.Files.{IsAnswerTo};
@@ -11,7 +11,7 @@ use std::alloc::Global;
 
 /// For a file, its plan for a development is returned, or its first refusal.
 pub fn reading_a_plan(alloc: Global, development: &Development, bytes: &[u8]) -> Result<Plan, Fault>
-    ensures { IsAnswerTo plan_of (plan_reading (development_shown development.now)) bytes.now result }
+    ensures { IsAnswerTo plan_of (plan_reading (development_view development.now)) bytes.now result }
 {
     plan_of(alloc, development, bytes)
 }

@@ -5,7 +5,7 @@ use Rattle.std.proofs.lemmas.List.{length-map}
 use Rattle.std.proofs.lemmas.Option.{slice_get-map, slice_get_read, slice_get_past}
 use Rattle.lc_base.specs.Name.{bytes_of}
 use Rattle.lc_base.specs.declared.name.Name.{Name}
-use Rattle.lc_object.specs.View.{column_shown, names_of}
+use Rattle.lc_object.specs.View.{column_view, names_of}
 use Rattle.lc_object.specs.declared.parts.Column.{Column}
 use Rattle.lc_sexp.specs.Trees.{Tree, Trees, atom, list, none, ◌▸◌, row}
 use Rattle.lc_sexp.specs.Printed.{printed_tree, printed_others}
@@ -66,19 +66,19 @@ lines_text x y old a b c d empty first ended second closed =
 -- the text of a concrete column that is there
 pub concrete_there : (cs xs : List Column) (names : List Name) (column count place : ℕ) (c : Column) (old w : List ℕ) → place ≡ column - count → count ≡ length names → xs ≡ cs
     → place < length xs → c ≡ get_or xs place c → w ≡ old ++ codes " " ++ printed_tree (column_tree (bytes_of c.name) c.slope c.start)
-    → w ≡ old ++ printed_others (concrete_tree (slice_get (map column_shown cs) (column - length (names_of names))) none)
+    → w ≡ old ++ printed_others (concrete_tree (slice_get (map column_view cs) (column - length (names_of names))) none)
 concrete_there cs xs names column count place c old w at counted same below is written =
     let x = printed_tree (column_tree (bytes_of c.name) c.slope c.start) in
-    let found : slice_get (map column_shown cs) (column - length (names_of names)) ≡ Some (column_shown c) =
-    ap (λ n. slice_get (map column_shown cs) (column - n)) (length-map names bytes_of ∙ sym counted) ∙ ap (λ k. slice_get (map column_shown cs) k) (sym at)
-    ∙ ap (λ l. slice_get (map column_shown l) place) (sym same) ∙ slice_get-map column_shown xs place ∙ ap (option_map column_shown) (slice_get_read xs (length xs) place c refl below is) in
+    let found : slice_get (map column_view cs) (column - length (names_of names)) ≡ Some (column_view c) =
+    ap (λ n. slice_get (map column_view cs) (column - n)) (length-map names bytes_of ∙ sym counted) ∙ ap (λ k. slice_get (map column_view cs) k) (sym at)
+    ∙ ap (λ l. slice_get (map column_view l) place) (sym same) ∙ slice_get-map column_view xs place ∙ ap (option_map column_view) (slice_get_read xs (length xs) place c refl below is) in
     written ∙ append_assoc old (codes " ") x ∙ ap (λ w. old ++ (32 ∷ w)) (sym (append-nil x)) ∙ ap (λ o. old ++ printed_others (concrete_tree o none)) (sym found)
 
 -- of one that is not there nothing is printed
 pub concrete_past : (cs xs : List Column) (names : List Name) (column count place : ℕ) (old : List ℕ) → place ≡ column - count → count ≡ length names → xs ≡ cs → length xs ≤ place
-    → old ≡ old ++ printed_others (concrete_tree (slice_get (map column_shown cs) (column - length (names_of names))) none)
+    → old ≡ old ++ printed_others (concrete_tree (slice_get (map column_view cs) (column - length (names_of names))) none)
 concrete_past cs xs names column count place old at counted same past =
-    let missing : slice_get (map column_shown cs) (column - length (names_of names)) ≡ None =
-    ap (λ n. slice_get (map column_shown cs) (column - n)) (length-map names bytes_of ∙ sym counted) ∙ ap (λ k. slice_get (map column_shown cs) k) (sym at)
-    ∙ ap (λ l. slice_get (map column_shown l) place) (sym same) ∙ slice_get-map column_shown xs place ∙ ap (option_map column_shown) (slice_get_past xs place past) in
+    let missing : slice_get (map column_view cs) (column - length (names_of names)) ≡ None =
+    ap (λ n. slice_get (map column_view cs) (column - n)) (length-map names bytes_of ∙ sym counted) ∙ ap (λ k. slice_get (map column_view cs) k) (sym at)
+    ∙ ap (λ l. slice_get (map column_view l) place) (sym same) ∙ slice_get-map column_view xs place ∙ ap (option_map column_view) (slice_get_past xs place past) in
     sym (append-nil old) ∙ ap (λ o. old ++ printed_others (concrete_tree o none)) (sym missing)

@@ -1,7 +1,7 @@
 //! The text of a development.
 ghost use Rattle.std.specs.Prelude.{◌≡◌, ◌++◌, IfOk, OnOk, string_bytes};
-ghost use Rattle.lc_outline.specs.DevelopmentView.{development_shown};
-ghost use Rattle.lc_outline.specs.PartsView.{parts_shown};
+ghost use Rattle.lc_outline.specs.DevelopmentView.{development_view};
+ghost use Rattle.lc_outline.specs.PartsView.{parts_view};
 ghost use Rattle.lc_reading.specs.Words.{names_in};
 ghost use Rattle.lc_sexp.specs.Printed.{printed_tree, printed_others};
 ghost use Rattle.lc_sexp.specs.Trees.{none, ◌▸◌};
@@ -20,7 +20,7 @@ use std::alloc::Global;
 
 /// Writes `(aux COL*)` after a space.
 fn write_auxiliaries(out: &mut String, parts: &Parts) -> Result<(), OutOfMemory>
-    ensures { OnOk result (string_bytes out.new ≡ string_bytes out.old ++ printed_others (auxiliary_tree (parts_shown parts.now) ▸ none)) }
+    ensures { OnOk result (string_bytes out.new ≡ string_bytes out.old ++ printed_others (auxiliary_tree (parts_view parts.now) ▸ none)) }
 {
     out.push_str(" (aux")?;
     write_columns(out, &parts.auxiliaries)?;
@@ -30,8 +30,8 @@ fn write_auxiliaries(out: &mut String, parts: &Parts) -> Result<(), OutOfMemory>
 
 /// Writes `(invariant (NAME F)*)` after a space.
 fn write_invariant(out: &mut String, columns: &[&str], parts: &Parts) -> Result<(), OutOfMemory>
-    requires { names_in columns.now ≡ column_names (parts_shown parts.now) }
-    ensures { OnOk result (string_bytes out.new ≡ string_bytes out.old ++ printed_others (invariant_tree (parts_shown parts.now) ▸ none)) }
+    requires { names_in columns.now ≡ column_names (parts_view parts.now) }
+    ensures { OnOk result (string_bytes out.new ≡ string_bytes out.old ++ printed_others (invariant_tree (parts_view parts.now) ▸ none)) }
 {
     out.push_str(" (invariant")?;
     write_conjuncts(out, columns, parts.tie.conjuncts())?;
@@ -41,8 +41,8 @@ fn write_invariant(out: &mut String, columns: &[&str], parts: &Parts) -> Result<
 
 /// Writes `(idle F*)` after a space.
 fn write_idle(out: &mut String, columns: &[&str], parts: &Parts) -> Result<(), OutOfMemory>
-    requires { names_in columns.now ≡ column_names (parts_shown parts.now) }
-    ensures { OnOk result (string_bytes out.new ≡ string_bytes out.old ++ printed_others (idle_tree (parts_shown parts.now) ▸ none)) }
+    requires { names_in columns.now ≡ column_names (parts_view parts.now) }
+    ensures { OnOk result (string_bytes out.new ≡ string_bytes out.old ++ printed_others (idle_tree (parts_view parts.now) ▸ none)) }
 {
     let named = Named {
         columns,
@@ -62,8 +62,8 @@ fn write_tables(
     columns: &[&str],
     parts: &Parts,
 ) -> Result<(), OutOfMemory>
-    requires { names_in columns.now ≡ column_names (parts_shown parts.now) }
-    ensures { OnOk result (string_bytes out.new ≡ string_bytes out.old ++ printed_others (table_trees (parts_shown parts.now))) }
+    requires { names_in columns.now ≡ column_names (parts_view parts.now) }
+    ensures { OnOk result (string_bytes out.new ≡ string_bytes out.old ++ printed_others (table_trees (parts_view parts.now))) }
 {
     let object = parts.object.parts();
     write_arrays(out, object, &object.arrays)?;
@@ -78,8 +78,8 @@ fn write_conditions_and_bodies(
     columns: &[&str],
     parts: &Parts,
 ) -> Result<(), OutOfMemory>
-    requires { names_in columns.now ≡ column_names (parts_shown parts.now) }
-    ensures { OnOk result (string_bytes out.new ≡ string_bytes out.old ++ printed_others (conditions_and_bodies (parts_shown parts.now))) }
+    requires { names_in columns.now ≡ column_names (parts_view parts.now) }
+    ensures { OnOk result (string_bytes out.new ≡ string_bytes out.old ++ printed_others (conditions_and_bodies (parts_view parts.now))) }
 {
     write_invariant(out, columns, parts)?;
     write_idle(out, columns, parts)?;
@@ -94,8 +94,8 @@ fn write_object(
     columns: &[&str],
     parts: &Parts,
 ) -> Result<(), OutOfMemory>
-    requires { names_in columns.now ≡ column_names (parts_shown parts.now) }
-    ensures { OnOk result (string_bytes out.new ≡ string_bytes out.old ++ printed_tree (object_tree (parts_shown parts.now))) }
+    requires { names_in columns.now ≡ column_names (parts_view parts.now) }
+    ensures { OnOk result (string_bytes out.new ≡ string_bytes out.old ++ printed_tree (object_tree (parts_view parts.now))) }
 {
     let name = parts.object.parts().name;
     out.push_str("(object ")?;
@@ -108,7 +108,7 @@ fn write_object(
 
 /// The text of a development: two forms, each in a line.
 pub fn development_text(alloc: Global, development: &Development) -> Result<Vec<u8>, OutOfMemory>
-    ensures { IfOk result (λ text. text.items ≡ development_printed (development_shown development.now)) }
+    ensures { IfOk result (λ text. text.items ≡ development_printed (development_view development.now)) }
 {
     let parts = development.parts();
     let columns = column_names(alloc, parts)?;

@@ -1,8 +1,8 @@
 //! How the object of a development is printed, with what is beside its code.
 ghost use Rattle.std.specs.Prelude.{◌≡◌, ◌++◌, ◌-◌, OnOk, codes, string_bytes, length, map, option_map, slice_get};
 ghost use Rattle.lc_base.specs.Name.{bytes_of};
-ghost use Rattle.lc_object.specs.View.{column_shown, columns_of, array_of, point_of, operation_of, parts_of};
-ghost use Rattle.lc_outline.specs.PartsView.{outline_of, parts_shown};
+ghost use Rattle.lc_object.specs.View.{column_view, columns_of, array_of, point_of, operation_of, parts_of};
+ghost use Rattle.lc_outline.specs.PartsView.{outline_of, parts_view};
 ghost use Rattle.lc_reading.specs.Words.{names_in};
 ghost use Rattle.lc_sexp.specs.Printed.{printed_tree, printed_others};
 ghost use Rattle.lc_sexp.specs.Trees.{none, row};
@@ -93,7 +93,7 @@ fn write_outline<S: Spelling>(
     spelling: &S,
     outline: Option<&Outline>,
 ) -> Result<(), OutOfMemory>
-    ensures { OnOk result (string_bytes out.new ≡ string_bytes out.old ++ printed_others (outline_trees (parts_shown parts.now) (S.spelled spelling.now) (option_map (λ outline. outline_of outline.now) outline.entry))) }
+    ensures { OnOk result (string_bytes out.new ≡ string_bytes out.old ++ printed_others (outline_trees (parts_view parts.now) (S.spelled spelling.now) (option_map (λ outline. outline_of outline.now) outline.entry))) }
 {
     out.push_str(" (assert")?;
     match outline {
@@ -121,7 +121,7 @@ fn write_point<S: Spelling>(
     point: &Point,
     outline: Option<&Outline>,
 ) -> Result<(), OutOfMemory>
-    ensures { OnOk result (string_bytes out.new ≡ string_bytes out.old ++ codes " " ++ printed_tree (point_tree (parts_shown parts.now) (S.spelled spelling.now) (point_of point.now) (option_map (λ outline. outline_of outline.now) outline.entry))) }
+    ensures { OnOk result (string_bytes out.new ≡ string_bytes out.old ++ codes " " ++ printed_tree (point_tree (parts_view parts.now) (S.spelled spelling.now) (point_of point.now) (option_map (λ outline. outline_of outline.now) outline.entry))) }
 {
     out.push_str(" (point ")?;
     out.push_str(point.name.as_str())?;
@@ -134,7 +134,7 @@ fn write_point<S: Spelling>(
 
 /// What is beside the code of the point of this number.
 fn outline_at(parts: &Parts, number: usize) -> Option<&Outline>
-    ensures { option_map (λ outline. outline_of outline.now) result ≡ slice_get (parts_shown parts.now).outlines number }
+    ensures { option_map (λ outline. outline_of outline.now) result ≡ slice_get (parts_view parts.now).outlines number }
 {
     parts.outlines.get(number)
 }
@@ -147,7 +147,7 @@ fn write_points<S: Spelling>(
     operation: usize,
     points: &[Point],
 ) -> Result<(), OutOfMemory>
-    ensures { OnOk result (string_bytes out.new ≡ string_bytes out.old ++ printed_others (point_trees (parts_shown parts.now) (S.spelled spelling.now) operation 0 (map point_of points.now))) }
+    ensures { OnOk result (string_bytes out.new ≡ string_bytes out.old ++ printed_others (point_trees (parts_view parts.now) (S.spelled spelling.now) operation 0 (map point_of points.now))) }
 {
     for (number, point) in points.iter().enumerate() {
         if point.operation.0 as usize == operation {
@@ -165,7 +165,7 @@ fn write_body_with<S: Spelling>(
     number: usize,
     operation: &Operation,
 ) -> Result<(), OutOfMemory>
-    ensures { OnOk result (string_bytes out.new ≡ string_bytes out.old ++ codes " " ++ printed_tree (body_with (parts_shown parts.now) (S.spelled spelling.now) number (operation_of operation.now))) }
+    ensures { OnOk result (string_bytes out.new ≡ string_bytes out.old ++ codes " " ++ printed_tree (body_with (parts_view parts.now) (S.spelled spelling.now) number (operation_of operation.now))) }
 {
     out.push_str(" (body ")?;
     out.push_str(operation.name.as_str())?;
@@ -184,8 +184,8 @@ fn write_body(
     number: usize,
     operation: &Operation,
 ) -> Result<(), OutOfMemory>
-    requires { names_in columns.now ≡ column_names (parts_shown parts.now) }
-    ensures { OnOk result (string_bytes out.new ≡ string_bytes out.old ++ codes " " ++ printed_tree (body_tree (parts_shown parts.now) number (operation_of operation.now))) }
+    requires { names_in columns.now ≡ column_names (parts_view parts.now) }
+    ensures { OnOk result (string_bytes out.new ≡ string_bytes out.old ++ codes " " ++ printed_tree (body_tree (parts_view parts.now) number (operation_of operation.now))) }
 {
     let variables = variables_behind(alloc, &operation.arguments, &operation.locals)?;
     let named = Named {
@@ -203,8 +203,8 @@ pub(crate) fn write_bodies(
     parts: &Parts,
     operations: &[Operation],
 ) -> Result<(), OutOfMemory>
-    requires { names_in columns.now ≡ column_names (parts_shown parts.now) }
-    ensures { OnOk result (string_bytes out.new ≡ string_bytes out.old ++ printed_others (body_trees (parts_shown parts.now) 0 (map operation_of operations.now))) }
+    requires { names_in columns.now ≡ column_names (parts_view parts.now) }
+    ensures { OnOk result (string_bytes out.new ≡ string_bytes out.old ++ printed_others (body_trees (parts_view parts.now) 0 (map operation_of operations.now))) }
 {
     for (number, operation) in operations.iter().enumerate() {
         write_body(alloc, out, columns, parts, number, operation)?;

@@ -18,7 +18,7 @@ use Rattle.lc_object_text.specs.Rows.{lists_reading}
 use Rattle.lc_object_text.specs.Sections.{Sections, behind_first, sections_of}
 use Rattle.lc_outline.specs.Development.{Development, first_system}
 use Rattle.lc_outline.specs.Limits.{outlines_are_limited, is_limited}
-use Rattle.lc_outline.specs.PartsView.{parts_shown}
+use Rattle.lc_outline.specs.PartsView.{parts_view}
 use Rattle.lc_outline.specs.Sizes.{sizes_of, count}
 use Rattle.lc_outline.specs.declared.parts.Parts as P
 use Rattle.lc_rider_text.specs.Actions.{action_reading}
@@ -153,6 +153,6 @@ says_limited ts D e =
     (and_true (a && b) c (and_true a b (is_few (first_system D) column_limit few.columns) (is_few (length D.actions) action_limit few.actions)) few.outlines)
     (is_few (count (sizes_of D)) condition_limit conditions)
 
-pub read_limited : (ts : Trees) (result : Result P.Parts ReadFault) → IsFileRead ts result → IfOk result (λ parts. is_limited (parts_shown parts) ≡ true)
-read_limited ts (Ok parts) h = says_limited ts (parts_shown parts) h
+pub read_limited : (ts : Trees) (result : Result P.Parts ReadFault) → IsFileRead ts result → IfOk result (λ parts. is_limited (parts_view parts) ≡ true)
+read_limited ts (Ok parts) h = says_limited ts (parts_view parts) h
 read_limited ts (Err f) h = tt

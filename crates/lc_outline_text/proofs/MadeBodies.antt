@@ -5,7 +5,7 @@ use Rattle.lc_object.specs.Syntax as O
 use Rattle.lc_object.specs.View.{point_of}
 use Rattle.lc_object.specs.declared.parts.Point.{Point}
 use Rattle.lc_object_text.specs.Points as P
-use Rattle.lc_object_text.specs.Texts.{body_shown}
+use Rattle.lc_object_text.specs.Texts.{body_text_view}
 use Rattle.lc_object_text.specs.declared.body.BodyText.{BodyText}
 use Rattle.lc_outline.specs.Development as D
 use Rattle.lc_outline.specs.declared.parts.Outline.{Outline}
@@ -14,9 +14,9 @@ use Rattle.lc_outline_text.specs.Views.{body_outlined, bodies_outlined}
 
 -- the code of one more body
 pub code_more : (old new : List (BodyText Point)) (seen : List (BodyText (Point × Outline))) (b : BodyText (Point × Outline)) (x : BodyText Point) → new ≡ old ++ x ∷ []
-    → map (body_shown point_of) old ≡ map code_of (bodies_outlined seen) → body_shown point_of x ≡ code_of (body_outlined b) → map (body_shown point_of) new ≡ map code_of (bodies_outlined (seen ++ b ∷ []))
+    → map (body_text_view point_of) old ≡ map code_of (bodies_outlined seen) → body_text_view point_of x ≡ code_of (body_outlined b) → map (body_text_view point_of) new ≡ map code_of (bodies_outlined (seen ++ b ∷ []))
 code_more old new seen b x e h g =
-    ap (map (body_shown point_of)) e ∙ map-append (body_shown point_of) old (x ∷ []) ∙ ap₂ (λ xs y. xs ++ y ∷ []) h g
+    ap (map (body_text_view point_of)) e ∙ map-append (body_text_view point_of) old (x ∷ []) ∙ ap₂ (λ xs y. xs ++ y ∷ []) h g
     ∙ sym (map-append code_of (bodies_outlined seen) (body_outlined b ∷ [])) ∙ ap (map code_of) (sym (map-append body_outlined seen (b ∷ [])))
 
 -- the outlines of one more body

@@ -8,15 +8,15 @@ use Rattle.lc_outline_text.specs.Paths.{stands, only_way, common_way, leaves_cho
 use Rattle.lc_outline_text.proofs.Counting.{product_capped}
 use Rattle.lc_outline_text.proofs.Different.{same_different}
 use Rattle.lc_outline_text.proofs.Paths.{same_paths, set_apart}
-use Rattle.lc_outline_text.specs.StoredView.{row_way, none_stored, deed_seen, rider_seen, riders_seen}
+use Rattle.lc_outline_text.specs.StoredView.{row_way, none_stored, ways_of_deed, ways_of_rider, ways_of_riders}
 use Rattle.lc_outline_text.specs.Views.{capped, count_cap}
 
 -- ---- one rider after another
 
-pub next_rider : (rs : List Rider) (i : ℕ) (r : Rider) → i < length rs → r ≡ get_or rs i r → riders_seen (drop i rs) ≡ rider_seen r ∷ riders_seen (drop (i + 1) rs)
+pub next_rider : (rs : List Rider) (i : ℕ) (r : Rider) → i < length rs → r ≡ get_or rs i r → ways_of_riders (drop i rs) ≡ ways_of_rider r ∷ ways_of_riders (drop (i + 1) rs)
 next_rider rs i r below is =
     let step : suc i ≡ i + 1 = omega arith in
-    ap riders_seen (drop-cons rs i r below ∙ ap₂ (λ x k. x ∷ drop k rs) (sym is) step)
+    ap ways_of_riders (drop-cons rs i r below ∙ ap₂ (λ x k. x ∷ drop k rs) (sym is) step)
 
 -- ---- how many paths there are
 
@@ -48,8 +48,8 @@ get_joined [] ys k all = all k
 get_joined (x ∷ xs) ys zero all = refl
 get_joined (x ∷ xs) ys (suc k) all = get_joined xs ys k all
 
-pub deed_at : (r : Rider) (k : ℕ) → get_or (rider_seen r) k no_way ≡ get_or (deed_seen r.deed) k no_way
-deed_at r k = get_joined (deed_seen r.deed) (none_stored r.is_conditional) k (no_more r.is_conditional)
+pub deed_at : (r : Rider) (k : ℕ) → get_or (ways_of_rider r) k no_way ≡ get_or (ways_of_deed r.deed) k no_way
+deed_at r k = get_joined (ways_of_deed r.deed) (none_stored r.is_conditional) k (no_more r.is_conditional)
 
 -- some paths go on
 pub some_left : (l q : ℕ) → 1 ≤ l * q → 1 ≤ q

@@ -11,7 +11,7 @@ use Rattle.lc_object_text.specs.ObjectNames.{first_text, later}
 use Rattle.lc_object_text.specs.Sections.{parts_in}
 use Rattle.lc_reading.specs.TableView.{listed}
 use Rattle.lc_rider_text.specs.Known as K
-use Rattle.lc_rider_text.specs.KnownView.{ways_seen}
+use Rattle.lc_rider_text.specs.KnownView.{ways_view}
 use Rattle.lc_rider_text.specs.declared.known.Ways.{Ways}
 use Rattle.lc_outline_text.specs.Declarations.{branches_in, choices_in, ways_in, or_nothing, form_at}
 use Rattle.lc_outline_text.specs.Paths.{stands, way_kept, ways_kept}
@@ -81,9 +81,9 @@ names_in (Some f) ways e =
     sym (ap (λ (w : K.Ways). w.choices) same)
 
 -- the names of an operation's choices are those in the ways in which it goes
-pub names_there : (operations : List Trees) (ways : List Ways) (k : ℕ) (w : Ways) → map ways_seen ways ≡ map ways_in operations → k < length ways → w ≡ get_or ways k w
+pub names_there : (operations : List Trees) (ways : List Ways) (k : ℕ) (w : Ways) → map ways_view ways ≡ map ways_in operations → k < length ways → w ≡ get_or ways k w
     → listed w.choices ≡ map first_text (choices_in (form_at operations (Some k)))
-names_there operations ways k w counted few at = names_in (slice_get operations k) (ways_seen w) (sym (slice_get-map ways_in operations k) ∙ seen_there ways_seen ways (map ways_in operations) k w counted few at)
+names_there operations ways k w counted few at = names_in (slice_get operations k) (ways_view w) (sym (slice_get-map ways_in operations k) ∙ seen_there ways_view ways (map ways_in operations) k w counted few at)
 
 -- the one row at a choice's place
 one_row : (asked : ℕ) (g : Trees → ℕ → Bool) (rows : List (Vec ColId Global)) (choices : List Trees) (k : ℕ) → rows_kept rows ≡ map g (map behind_parameters choices) → k < length rows

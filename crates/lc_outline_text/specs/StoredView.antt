@@ -45,19 +45,19 @@ abbrev pub number_there : Option ColId → List ℕ
 number_there None = []
 number_there (Some c) = c.0 ∷ []
 
-abbrev pub deed_seen : Deed → List Way
-deed_seen (Set column) = record { asked = 0; columns = number_there column } ∷ []
-deed_seen (Marks asked rows) = map (row_way asked) rows.now
+abbrev pub ways_of_deed : Deed → List Way
+ways_of_deed (Set column) = record { asked = 0; columns = number_there column } ∷ []
+ways_of_deed (Marks asked rows) = map (row_way asked) rows.now
 
 -- the way on which a rider's condition does not hold, if it has one
 abbrev pub none_stored : Bool → List Way
 none_stored is_conditional = if is_conditional then no_way ∷ [] else []
 
-abbrev pub rider_seen : Rider → List Way
-rider_seen r = deed_seen r.deed ++ none_stored r.is_conditional
+abbrev pub ways_of_rider : Rider → List Way
+ways_of_rider r = ways_of_deed r.deed ++ none_stored r.is_conditional
 
-abbrev pub riders_seen : List Rider → List (List Way)
-riders_seen rs = map rider_seen rs
+abbrev pub ways_of_riders : List Rider → List (List Way)
+ways_of_riders rs = map ways_of_rider rs
 
 -- ---- rows of columns, by the columns in them
 
@@ -76,8 +76,8 @@ marked_kept is_note columns ts = stands (columns_marked is_note columns ts)
 abbrev pub both_kept : List (List ℕ) → List Trees → List (ℕ → Bool) × List (ℕ → Bool)
 both_kept columns forms = (map (marked_kept false columns) forms, map (marked_kept true columns) forms)
 
-abbrev pub rows_seen : Rows → List (ℕ → Bool) × List (ℕ → Bool)
-rows_seen rows = (rows_kept rows.settled.items, rows_kept rows.noted.items)
+abbrev pub rows_view : Rows → List (ℕ → Bool) × List (ℕ → Bool)
+rows_view rows = (rows_kept rows.settled.items, rows_kept rows.noted.items)
 
 abbrev pub marked_in : Bool → List (ℕ → Bool) × List (ℕ → Bool) → List (ℕ → Bool)
 marked_in true rows = rows.1
@@ -111,6 +111,6 @@ by_choices columns choices = both_kept columns (map behind_parameters choices)
 -- these are the columns in which is stored by what is declared
 pub record IsStored (d : Declarations) (s : Stored) : Type 0 where
   pub actions : rows_kept s.actions.items ≡ map (acted_kept d.declared.columns) d.actions
-  pub branches : map rows_seen s.branches.items ≡ map (by_branches d.declared.columns) d.operations
-  pub choices : map rows_seen s.choices.items ≡ map (λ operation. by_choices d.declared.columns (choices_in operation)) d.operations
-  pub nothing : rows_seen s.nothing ≡ both_kept d.declared.columns (none ∷ [])
+  pub branches : map rows_view s.branches.items ≡ map (by_branches d.declared.columns) d.operations
+  pub choices : map rows_view s.choices.items ≡ map (λ operation. by_choices d.declared.columns (choices_in operation)) d.operations
+  pub nothing : rows_view s.nothing ≡ both_kept d.declared.columns (none ∷ [])

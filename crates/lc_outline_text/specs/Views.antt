@@ -24,12 +24,12 @@ use Rattle.lc_object.specs.View.{point_of}
 use Rattle.lc_object.specs.declared.parts.Point.{Point}
 use Rattle.lc_object_text.specs.Objects as OT
 use Rattle.lc_object_text.specs.Points as PT
-use Rattle.lc_object_text.specs.Texts.{body_shown, specification_shown, tables_shown}
+use Rattle.lc_object_text.specs.Texts.{body_text_view, specification_view, tables_view}
 use Rattle.lc_object_text.specs.declared.body.BodyText.{BodyText}
 use Rattle.lc_object_text.specs.declared.signatures.SpecificationText.{SpecificationText}
 use Rattle.lc_object_text.specs.declared.tables.Tables.{Tables}
 use Rattle.lc_outline.specs.Development as D
-use Rattle.lc_outline.specs.PartsView.{outline_of, parts_shown}
+use Rattle.lc_outline.specs.PartsView.{outline_of, parts_view}
 use Rattle.lc_outline.specs.declared.parts.Outline.{Outline}
 use Rattle.lc_outline.specs.declared.parts.Parts.{Parts}
 use Rattle.lc_reading.specs.Flaws.{refusal_of}
@@ -51,33 +51,33 @@ abbrev pub outlined_of : Point × Outline → O.Point × D.Outline
 outlined_of p = (point_of p.0, outline_of p.1)
 
 abbrev pub body_outlined : BodyText (Point × Outline) → PT.BodyText (O.Point × D.Outline)
-body_outlined b = body_shown outlined_of b
+body_outlined b = body_text_view outlined_of b
 
-abbrev pub actions_shown : Vec Column Global × Vec Action Global → List Q.Column × List A.Action
-actions_shown p = (map column_of p.0.items, map action_of p.1.items)
+abbrev pub actions_view : Vec Column Global × Vec Action Global → List Q.Column × List A.Action
+actions_view p = (map column_of p.0.items, map action_of p.1.items)
 
-abbrev pub conditions_shown : Vec Conjunct Global × Vec Formula Global → List I.Conjunct × List T.Formula
-conditions_shown p = (map conjunct_of p.0.items, map formula_of p.1.items)
+abbrev pub conditions_view : Vec Conjunct Global × Vec Formula Global → List I.Conjunct × List T.Formula
+conditions_view p = (map conjunct_of p.0.items, map formula_of p.1.items)
 
-abbrev pub sides_shown : Sides → B.Sides
-sides_shown s = record {
+abbrev pub sides_view : Sides → B.Sides
+sides_view s = record {
   auxiliaries = map column_of s.auxiliaries.items;
   actions = map action_of s.actions.items;
   conjuncts = map conjunct_of s.conjuncts.items;
   idle = map formula_of s.idle.items;
 }
 
-abbrev pub specifications_shown : SpecificationText × TextSpec → OT.SpecificationText × Q.Specification
-specifications_shown p = (specification_shown p.0, specification_of p.1)
+abbrev pub specifications_view : SpecificationText × TextSpec → OT.SpecificationText × Q.Specification
+specifications_view p = (specification_view p.0, specification_of p.1)
 
 abbrev pub tables_and_sides : Tables × Sides → OT.Tables × B.Sides
-tables_and_sides p = (tables_shown p.0, sides_shown p.1)
+tables_and_sides p = (tables_view p.0, sides_view p.1)
 
 abbrev pub bodies_outlined : List (BodyText (Point × Outline)) → List (PT.BodyText (O.Point × D.Outline))
 bodies_outlined bodies = map body_outlined bodies
 
-abbrev pub object_seen : (Tables × Sides) × Vec (BodyText (Point × Outline)) Global → S.Parts
-object_seen p = (tables_and_sides p.0, bodies_outlined p.1.items)
+abbrev pub object_parts_view : (Tables × Sides) × Vec (BodyText (Point × Outline)) Global → S.Parts
+object_parts_view p = (tables_and_sides p.0, bodies_outlined p.1.items)
 
 -- the two numbers of each column: those of the specification, of the arrays, and the auxiliary ones
 abbrev pub declared_numbers : List Q.Column → List O.Column → List Q.Column → List (ℤ × ℤ)
@@ -100,8 +100,8 @@ abbrev pub columns_marked : Bool → List (List ℕ) → Trees → List ℕ
 columns_marked true = Z.columns_noted
 columns_marked false = Z.columns_settled
 
-abbrev pub totals_seen : Totals → Z.Totals
-totals_seen n = record { invariant = n.invariant; idle = n.idle; actions = n.actions }
+abbrev pub totals_view : Totals → Z.Totals
+totals_view n = record { invariant = n.invariant; idle = n.idle; actions = n.actions }
 
 -- what is left, if something is found
 abbrev pub rest_found : Option Cursor → Option Trees
@@ -122,6 +122,6 @@ is_told_before_limits (Err OutOfMemory) = false
 
 -- what the forms of a file say, else what is reported first about them
 abbrev pub IsFileRead : Trees → Result Parts ReadFault → Type 0
-IsFileRead ts (Ok parts) = file_reading ts ≡ fine (parts_shown parts)
+IsFileRead ts (Ok parts) = file_reading ts ≡ fine (parts_view parts)
 IsFileRead ts (Err (Flawed f)) = (g : Flaw) × (file_reading ts ≡ flawed g) × (refusal_of f ≡ refusal_of g)
 IsFileRead ts (Err OutOfMemory) = Unit {0}

@@ -1,11 +1,11 @@
 //! How the bodies of an object are read, with what is beside their code.
 ghost use Rattle.std.specs.Prelude.{◌≡◌, map, option_map, slice_get};
-ghost use Rattle.lc_object_text.specs.DeclaredView.{body_seen};
+ghost use Rattle.lc_object_text.specs.DeclaredView.{body_view};
 ghost use Rattle.lc_sexp.specs.Shown.{rest_of, number_of};
 ghost use Rattle.lc_reading.specs.Parts.{tree_of, place_of};
 ghost use Rattle.lc_reading.specs.Results.{IsReading};
 ghost use Rattle.lc_outline_text.specs.Bodies.{ith_reading, bodies_reading};
-ghost use Rattle.lc_outline_text.specs.DeclarationsView.{declarations_seen};
+ghost use Rattle.lc_outline_text.specs.DeclarationsView.{declarations_view};
 ghost use Rattle.lc_outline_text.specs.Views.{body_outlined};
 
 use crate::declarations::Declarations;
@@ -27,7 +27,7 @@ pub(crate) struct Bodies<'a, 'b>(pub(crate) &'b Declarations<'a>);
 
 /// What the body at this place declares, if one is expected there.
 fn due_body<'a, 'b>(declarations: &'b Declarations<'a>, place: u32) -> Option<&'b Body<'a>>
-    ensures { option_map (λ body. body_seen body.now) result ≡ slice_get (declarations_seen declarations.now).declared.bodies place }
+    ensures { option_map (λ body. body_view body.now) result ≡ slice_get (declarations_view declarations.now).declared.bodies place }
 {
     declarations.declared.bodies.get(place as usize)
 }
@@ -39,7 +39,7 @@ fn read_ith(
     place: u32,
     part: Part<'_>,
 ) -> Result<BodyText<(Point, Outline)>, ReadFault>
-    ensures { IsReading body_outlined (ith_reading (declarations_seen declarations.now) place (place_of part.entry) (tree_of part.entry)) result }
+    ensures { IsReading body_outlined (ith_reading (declarations_view declarations.now) place (place_of part.entry) (tree_of part.entry)) result }
 {
     let Some(body) = due_body(declarations, place) else {
         return Err(wrong(Pass::Shape, part.number()));
@@ -69,7 +69,7 @@ impl ReadsPlaced for Bodies<'_, '_> {
     ghost use Rattle.lc_outline.specs.Development as D;
     ghost use Rattle.lc_object_text.specs.Points as P;
     ghost use Rattle.lc_outline_text.specs.Bodies.{ith_reading};
-    ghost use Rattle.lc_outline_text.specs.DeclarationsView.{declarations_seen};
+    ghost use Rattle.lc_outline_text.specs.DeclarationsView.{declarations_view};
     ghost use Rattle.lc_outline_text.specs.Views.{body_outlined};
 
     type Value = BodyText<(Point, Outline)>;
@@ -78,7 +78,7 @@ impl ReadsPlaced for Bodies<'_, '_> {
 
     ghost meaning = { body_outlined };
 
-    ghost reading = { λ reader. ith_reading (declarations_seen reader.0.now) };
+    ghost reading = { λ reader. ith_reading (declarations_view reader.0.now) };
 
     fn read(
         &self,
@@ -97,7 +97,7 @@ pub(crate) fn read_bodies(
     object: u64,
     list: Cursor<'_>,
 ) -> Result<Vec<BodyText<(Point, Outline)>>, ReadFault>
-    ensures { IsReading (λ bodies. map body_outlined bodies.items) (bodies_reading (declarations_seen declarations.now) object (number_of list.entry) (rest_of list.entry)) result }
+    ensures { IsReading (λ bodies. map body_outlined bodies.items) (bodies_reading (declarations_view declarations.now) object (number_of list.entry) (rest_of list.entry)) result }
 {
     if list.len() < bodies_due(declarations.declared.operations.len()) {
         return Err(wrong(Pass::Shape, object));

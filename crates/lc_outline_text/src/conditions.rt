@@ -1,12 +1,12 @@
 //! How many conditions a development has, counted from its text up to a cap.
 ghost use Rattle.std.specs.Prelude.{◌≡◌, map, sum, sum_by, IfOk, OnOk};
 ghost use Rattle.lc_sexp.specs.Shown.{rest_of};
-ghost use Rattle.lc_object_text.specs.DeclaredView.{body_seen};
+ghost use Rattle.lc_object_text.specs.DeclaredView.{body_view};
 ghost use Rattle.lc_object_text.specs.ObjectNames.{points_in};
-ghost use Rattle.lc_object_text.specs.Seen.{sections_seen};
-ghost use Rattle.lc_outline_text.specs.DeclarationsView.{declarations_seen};
+ghost use Rattle.lc_object_text.specs.Seen.{sections_view};
+ghost use Rattle.lc_outline_text.specs.DeclarationsView.{declarations_view};
 ghost use Rattle.lc_outline_text.specs.StoredView.{IsSet, IsStored};
-ghost use Rattle.lc_outline_text.specs.Views.{capped, totals_seen};
+ghost use Rattle.lc_outline_text.specs.Views.{capped, totals_view};
 ghost use Rattle.lc_outline_text.specs.Sizes.{assert_count, point_conditions, body_conditions, bodies_conditions, totals_of, condition_count};
 
 use crate::column_set::ColumnSet;
@@ -56,10 +56,10 @@ fn points_conditions(
     set: &mut ColumnSet,
     list: Cursor<'_>,
 ) -> Result<u64, OutOfMemory>
-    requires stored { IsStored (declarations_seen counting.declarations.now) counting.stored.now }
+    requires stored { IsStored (declarations_view counting.declarations.now) counting.stored.now }
     requires set { IsSet set.old }
     ensures set { OnOk result (IsSet set.new) }
-    ensures count { IfOk result (λ count. count ≡ capped (sum_by (point_conditions (declarations_seen counting.entry.declarations.now) (totals_seen counting.entry.totals) counting.entry.operation (body_seen counting.entry.body.now) counting.entry.asserts.now) (points_in (rest_of list.entry)))) }
+    ensures count { IfOk result (λ count. count ≡ capped (sum_by (point_conditions (declarations_view counting.entry.declarations.now) (totals_view counting.entry.totals) counting.entry.operation (body_view counting.entry.body.now) counting.entry.asserts.now) (points_in (rest_of list.entry)))) }
 {
     let mut rest = behind_first(behind_first(list));
     let mut some = true;
@@ -88,10 +88,10 @@ fn body_conditions<'t>(
     body: &Body<'t>,
     list: Cursor<'_>,
 ) -> Result<u64, OutOfMemory>
-    requires stored { IsStored (declarations_seen declarations.now) stored.now }
+    requires stored { IsStored (declarations_view declarations.now) stored.now }
     requires set { IsSet set.old }
     ensures set { OnOk result (IsSet set.new) }
-    ensures count { IfOk result (λ count. count ≡ capped (body_conditions (declarations_seen declarations.now) (totals_seen totals) operation (body_seen body.now) (rest_of list.entry))) }
+    ensures count { IfOk result (λ count. count ≡ capped (body_conditions (declarations_view declarations.now) (totals_view totals) operation (body_view body.now) (rest_of list.entry))) }
 {
     let asserts = assert_counts(alloc, list)?;
     let entry = capped_sum(totals.invariant, count_at(&asserts, Some(0)));
@@ -117,10 +117,10 @@ fn bodies_conditions(
     totals: Totals,
     list: Cursor<'_>,
 ) -> Result<u64, OutOfMemory>
-    requires stored { IsStored (declarations_seen declarations.now) stored.now }
+    requires stored { IsStored (declarations_view declarations.now) stored.now }
     requires set { IsSet set.old }
     ensures set { OnOk result (IsSet set.new) }
-    ensures count { IfOk result (λ count. count ≡ capped (bodies_conditions (declarations_seen declarations.now) (totals_seen totals) 0 (declarations_seen declarations.now).declared.bodies (rest_of list.entry))) }
+    ensures count { IfOk result (λ count. count ≡ capped (bodies_conditions (declarations_view declarations.now) (totals_view totals) 0 (declarations_view declarations.now).declared.bodies (rest_of list.entry))) }
 {
     let mut rest = list;
     let mut operation = 0u32;
@@ -157,7 +157,7 @@ fn totals_of(
     declarations: &Declarations<'_>,
     sections: &Sections<'_>,
 ) -> Result<Totals, OutOfMemory>
-    ensures { IfOk result (λ totals. totals_seen totals ≡ totals_of (declarations_seen declarations.now) (sections_seen sections.now)) }
+    ensures { IfOk result (λ totals. totals_view totals ≡ totals_of (declarations_view declarations.now) (sections_view sections.now)) }
 {
     let invariant = items_in_first(sections.invariant, "invariant");
     let idle = items_in_first(behind_first(sections.invariant), "idle");
@@ -174,7 +174,7 @@ pub(crate) fn condition_count(
     declarations: &Declarations<'_>,
     sections: &Sections<'_>,
 ) -> Result<u64, OutOfMemory>
-    ensures { IfOk result (λ count. count ≡ capped (condition_count (declarations_seen declarations.now) (sections_seen sections.now))) }
+    ensures { IfOk result (λ count. count ≡ capped (condition_count (declarations_view declarations.now) (sections_view sections.now))) }
 {
     let totals = totals_of(declarations, sections)?;
     let start = capped_sum(totals.invariant, totals.idle);

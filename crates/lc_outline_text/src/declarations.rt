@@ -3,7 +3,7 @@ ghost use Rattle.std.specs.Prelude.{◌≡◌, map};
 ghost use Rattle.lc_sexp.specs.Shown.{rest_of};
 ghost use Rattle.lc_object_text.specs.ObjectNames.{first_text};
 ghost use Rattle.lc_reading.specs.TableView.{listed};
-ghost use Rattle.lc_rider_text.specs.KnownView.{ways_seen};
+ghost use Rattle.lc_rider_text.specs.KnownView.{ways_view};
 ghost use Rattle.lc_outline_text.specs.Declarations.{parameter_count, ways_in, choices_in};
 ghost use Rattle.lc_outline_text.specs.Rests.{lists_of_rests, same_once};
 
@@ -28,7 +28,7 @@ pub(crate) struct Declarations<'a> {
     pub(crate) choices: Vec<Vec<Cursor<'a>>>,
     ghost named: { listed action_names ≡ map first_text (map rest_of actions.items) },
     ghost parameters_counted: { parameters.items ≡ map parameter_count (map rest_of actions.items) },
-    ghost ways_counted: { map ways_seen ways.items ≡ map ways_in (map rest_of operations.items) },
+    ghost ways_counted: { map ways_view ways.items ≡ map ways_in (map rest_of operations.items) },
     ghost choices_found: { lists_of_rests choices.items ≡ map choices_in (map rest_of operations.items) } by { same_once (lists_of_rests choices.items) (map choices_in (map rest_of operations.items)) },
 }
 

@@ -2,11 +2,11 @@
 ghost use Rattle.std.specs.Prelude.{◌≡◌, map, IfOk};
 ghost use Rattle.lc_sexp.specs.Shown.{rest_of};
 ghost use Rattle.lc_object_text.specs.ObjectNames as N;
-ghost use Rattle.lc_object_text.specs.Seen.{sections_seen, forms_left};
+ghost use Rattle.lc_object_text.specs.Seen.{sections_view, forms_left};
 ghost use Rattle.lc_reading.specs.TableView.{listed};
-ghost use Rattle.lc_rider_text.specs.KnownView.{ways_seen};
+ghost use Rattle.lc_rider_text.specs.KnownView.{ways_view};
 ghost use Rattle.lc_outline_text.specs.Declarations.{branches_in, choices_in, parameter_count, ways_in, declarations_in};
-ghost use Rattle.lc_outline_text.specs.DeclarationsView.{declarations_seen};
+ghost use Rattle.lc_outline_text.specs.DeclarationsView.{declarations_view};
 ghost use Rattle.lc_outline_text.specs.Rests.{rests_of, lists_of_rests};
 
 use crate::declarations::Declarations;
@@ -67,7 +67,7 @@ fn read_ways<'a>(
     alloc: Global,
     operation: Cursor<'a>,
 ) -> Result<(Ways<'a>, Vec<Cursor<'a>>), OutOfMemory>
-    ensures ways { IfOk result (λ r. ways_seen r.0 ≡ ways_in (rest_of operation.entry)) }
+    ensures ways { IfOk result (λ r. ways_view r.0 ≡ ways_in (rest_of operation.entry)) }
     ensures choices { IfOk result (λ r. rests_of r.1.items ≡ choices_in (rest_of operation.entry)) }
 {
     let branches = branches_in(operation);
@@ -86,7 +86,7 @@ fn read_all_ways<'a>(
     alloc: Global,
     operations: &[Cursor<'a>],
 ) -> Result<(Vec<Ways<'a>>, Vec<Vec<Cursor<'a>>>), OutOfMemory>
-    ensures ways { IfOk result (λ r. map ways_seen r.0.items ≡ map ways_in (rests_of operations.now)) }
+    ensures ways { IfOk result (λ r. map ways_view r.0.items ≡ map ways_in (rests_of operations.now)) }
     ensures choices { IfOk result (λ r. lists_of_rests r.1.items ≡ map choices_in (rests_of operations.now)) }
 {
     let mut ways = Vec::with_capacity(alloc, operations.len())?;
@@ -104,7 +104,7 @@ pub(crate) fn read_all_declarations<'a>(
     alloc: Global,
     sections: &Sections<'a>,
 ) -> Result<Declarations<'a>, OutOfMemory>
-    ensures { IfOk result (λ d. declarations_seen d ≡ declarations_in (sections_seen sections.now)) }
+    ensures { IfOk result (λ d. declarations_view d ≡ declarations_in (sections_view sections.now)) }
 {
     let declared = read_declarations(alloc, sections)?;
     let behind_auxiliaries = behind_first(sections.auxiliaries);
@@ -127,13 +127,13 @@ impl<'a> Declarations<'a> {
     ghost use Rattle.std.specs.Prelude.{◌≡◌, map, IfOk};
     ghost use Rattle.lc_object_text.specs.ObjectNames.{first_text};
     ghost use Rattle.lc_reading.specs.Listed.{place_of};
-    ghost use Rattle.lc_rider_text.specs.KnownView.{known_seen, ways_there};
+    ghost use Rattle.lc_rider_text.specs.KnownView.{known_view, ways_there};
     ghost use Rattle.lc_outline_text.specs.Declarations.{choices_in, known_of, own_ways, form_at};
-    ghost use Rattle.lc_outline_text.specs.DeclarationsView.{declarations_seen};
+    ghost use Rattle.lc_outline_text.specs.DeclarationsView.{declarations_view};
 
     /// What is seen of it beside the code.
     pub(crate) fn known<'b>(&'b self) -> Result<Known<'a, 'b>, OutOfMemory>
-        ensures { IfOk result (λ known. known_seen known ≡ known_of (declarations_seen self.now)) }
+        ensures { IfOk result (λ known. known_view known ≡ known_of (declarations_view self.now)) }
     {
         let columns = Columns::new(&self.declared.columns, self.declared.auxiliaries)?;
         Ok(Known {
@@ -147,7 +147,7 @@ impl<'a> Declarations<'a> {
 
     /// How the operation goes that the body at this place names, if it names one that is declared.
     pub(crate) fn own_ways(&self, place: u32) -> Option<&Ways<'a>>
-        ensures { ways_there result ≡ own_ways (declarations_seen self.now) place }
+        ensures { ways_there result ≡ own_ways (declarations_view self.now) place }
     {
         let body = self.declared.bodies.get(place as usize)?;
         if body.replies.is_none() {
@@ -159,7 +159,7 @@ impl<'a> Declarations<'a> {
 
     /// The place of the choice of this name, of the operation at this place.
     pub(crate) fn choice_place(&self, operation: Option<usize>, name: &str) -> Option<usize>
-        ensures { result ≡ place_of (map first_text (choices_in (form_at (declarations_seen self.now).operations operation))) name.now }
+        ensures { result ≡ place_of (map first_text (choices_in (form_at (declarations_view self.now).operations operation))) name.now }
     {
         let ways = self.ways.get(operation?)?;
         ways.choices.place(name)

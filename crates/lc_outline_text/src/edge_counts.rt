@@ -1,12 +1,12 @@
 //! The conditions of edges and points, counted from a text up to a cap.
 ghost use Rattle.std.specs.Prelude.{◌≡◌, codes, IfOk, OnOk};
 ghost use Rattle.lc_sexp.specs.Shown.{rest_of};
-ghost use Rattle.lc_object_text.specs.DeclaredView.{declared_seen, body_seen};
+ghost use Rattle.lc_object_text.specs.DeclaredView.{declared_view, body_view};
 ghost use Rattle.lc_object_text.specs.ObjectNames.{first_text};
 ghost use Rattle.lc_object_text.specs.Sections.{forms_in};
-ghost use Rattle.lc_outline_text.specs.DeclarationsView.{declarations_seen};
+ghost use Rattle.lc_outline_text.specs.DeclarationsView.{declarations_view};
 ghost use Rattle.lc_outline_text.specs.StoredView.{IsSet, IsStored};
-ghost use Rattle.lc_outline_text.specs.Views.{capped, totals_seen, rest_found};
+ghost use Rattle.lc_outline_text.specs.Views.{capped, totals_view, rest_found};
 ghost use Rattle.lc_outline_text.specs.Sizes.{on_of, columns_written, edge_conditions, kind_conditions, point_conditions, assert_count};
 
 use crate::column_set::ColumnSet;
@@ -63,9 +63,9 @@ fn edge_conditions(
     kind: EdgeKind,
     code: Cursor<'_>,
 ) -> Result<u64, OutOfMemory>
-    requires stored { IsStored (declarations_seen declarations.now) stored.now }
+    requires stored { IsStored (declarations_view declarations.now) stored.now }
     requires set { IsSet set.old }
-    ensures count { IfOk result (λ count. count ≡ capped (edge_conditions (declarations_seen declarations.now) operation (rest_found on.entry) asked (columns_written (declared_seen declarations.now.declared) (first_text (rest_of code.entry)) kind (rest_of code.entry)))) }
+    ensures count { IfOk result (λ count. count ≡ capped (edge_conditions (declarations_view declarations.now) operation (rest_found on.entry) asked (columns_written (declared_view declarations.now.declared) (first_text (rest_of code.entry)) kind (rest_of code.entry)))) }
     ensures set { OnOk result (IsSet set.new) }
 {
     let Some(parts) = on else {
@@ -86,10 +86,10 @@ fn kind_conditions(
     point: Cursor<'_>,
     kind: EdgeKind,
 ) -> Result<u64, OutOfMemory>
-    requires stored { IsStored (declarations_seen counting.declarations.now) counting.stored.now }
+    requires stored { IsStored (declarations_view counting.declarations.now) counting.stored.now }
     requires set { IsSet set.old }
     ensures set { OnOk result (IsSet set.new) }
-    ensures count { IfOk result (λ count. count ≡ capped (kind_conditions (declarations_seen counting.entry.declarations.now) (totals_seen counting.entry.totals) counting.entry.operation (body_seen counting.entry.body.now) counting.entry.asserts.now (rest_of point.entry) kind)) }
+    ensures count { IfOk result (λ count. count ≡ capped (kind_conditions (declarations_view counting.entry.declarations.now) (totals_view counting.entry.totals) counting.entry.operation (body_view counting.entry.body.now) counting.entry.asserts.now (rest_of point.entry) kind)) }
 {
     let behind_name = behind_first(point);
     let code = within_first(behind_name);
@@ -117,10 +117,10 @@ pub(crate) fn point_conditions(
     set: &mut ColumnSet,
     point: Cursor<'_>,
 ) -> Result<u64, OutOfMemory>
-    requires stored { IsStored (declarations_seen counting.declarations.now) counting.stored.now }
+    requires stored { IsStored (declarations_view counting.declarations.now) counting.stored.now }
     requires set { IsSet set.old }
     ensures set { OnOk result (IsSet set.new) }
-    ensures count { IfOk result (λ count. count ≡ capped (point_conditions (declarations_seen counting.entry.declarations.now) (totals_seen counting.entry.totals) counting.entry.operation (body_seen counting.entry.body.now) counting.entry.asserts.now (rest_of point.entry))) }
+    ensures count { IfOk result (λ count. count ≡ capped (point_conditions (declarations_view counting.entry.declarations.now) (totals_view counting.entry.totals) counting.entry.operation (body_view counting.entry.body.now) counting.entry.asserts.now (rest_of point.entry))) }
 {
     let code = within_first(behind_first(point));
     let word = first_text(&code);

@@ -3,20 +3,20 @@ ghost use Rattle.std.specs.Prelude.{◌≡◌, ℕ, List, true, IfOk};
 ghost use Rattle.lc_sexp.specs.Reads.{ReadsAs};
 ghost use Rattle.lc_sexp.specs.Shown.{rest_of, number_of};
 ghost use Rattle.lc_object_text.specs.Sections.{sections_of};
-ghost use Rattle.lc_object_text.specs.Seen.{sections_seen};
+ghost use Rattle.lc_object_text.specs.Seen.{sections_view};
 ghost use Rattle.lc_outline.specs.Development.{start_numbers};
-ghost use Rattle.lc_outline.specs.DevelopmentView.{development_shown};
+ghost use Rattle.lc_outline.specs.DevelopmentView.{development_view};
 ghost use Rattle.lc_outline.specs.Limits.{is_limited};
-ghost use Rattle.lc_outline.specs.PartsView.{parts_shown};
+ghost use Rattle.lc_outline.specs.PartsView.{parts_view};
 ghost use Rattle.lc_outline.specs.Resolved.{is_resolved};
 ghost use Rattle.lc_reading.specs.Files.{IsAnswerTo};
 ghost use Rattle.lc_reading.specs.Parts.{tree_of, place_of};
 ghost use Rattle.lc_reading.specs.Results.{IsReading};
 ghost use Rattle.lc_tie.specs.TieView.{numbers_in};
 ghost use Rattle.lc_outline_text.specs.Declarations.{declarations_of};
-ghost use Rattle.lc_outline_text.specs.DeclarationsView.{declarations_seen};
+ghost use Rattle.lc_outline_text.specs.DeclarationsView.{declarations_view};
 ghost use Rattle.lc_outline_text.specs.Developments.{specification_reading, tables_reading, object_reading, second_form_reading, forms_reading, file_reading};
-ghost use Rattle.lc_outline_text.specs.Views.{specifications_shown, tables_and_sides, object_seen, IsFileRead, is_told_before_limits};
+ghost use Rattle.lc_outline_text.specs.Views.{specifications_view, tables_and_sides, object_parts_view, IsFileRead, is_told_before_limits};
 
 use crate::bodies::read_bodies;
 use crate::conditions::condition_count;
@@ -42,7 +42,7 @@ fn read_specification<'a>(
     declarations: &Declarations<'a>,
     part: Part<'a>,
 ) -> Result<(SpecificationText, TextSpec), ReadFault>
-    ensures { IsReading specifications_shown (specification_reading (declarations_seen declarations.now) (place_of part.entry) (tree_of part.entry)) result }
+    ensures { IsReading specifications_view (specification_reading (declarations_view declarations.now) (place_of part.entry) (tree_of part.entry)) result }
 {
     let text = read_text(alloc, &declarations.declared, part);
     match both(
@@ -61,7 +61,7 @@ fn read_tables_and_sides(
     sections: &Sections<'_>,
     object: u64,
 ) -> Result<(Tables, Sides), ReadFault>
-    ensures { IsReading tables_and_sides (tables_reading (declarations_seen declarations.now) (sections_seen sections.now) object) result }
+    ensures { IsReading tables_and_sides (tables_reading (declarations_view declarations.now) (sections_view sections.now) object) result }
 {
     let tables = read_tables(alloc, &declarations.declared, sections, object);
     match both(tables, read_sides(alloc, declarations, sections, object)) {
@@ -77,7 +77,7 @@ fn read_object(
     sections: &Sections<'_>,
     object: u64,
 ) -> Result<ObjectParts, ReadFault>
-    ensures { IsReading object_seen (object_reading (declarations_seen declarations.now) (sections_seen sections.now) object) result }
+    ensures { IsReading object_parts_view (object_reading (declarations_view declarations.now) (sections_view sections.now) object) result }
 {
     let tables = read_tables_and_sides(alloc, declarations, sections, object);
     match both(
@@ -96,7 +96,7 @@ fn read_second_form(
     sections: &Sections<'_>,
     mut forms: Cursor<'_>,
 ) -> Result<ObjectParts, ReadFault>
-    ensures { IsReading object_seen (second_form_reading (declarations_seen declarations.now) (sections_seen sections.now) (number_of forms.entry) (rest_of forms.entry)) result }
+    ensures { IsReading object_parts_view (second_form_reading (declarations_view declarations.now) (sections_view sections.now) (number_of forms.entry) (rest_of forms.entry)) result }
 {
     let number = forms.number();
     let Ok(_) = next_part(&mut forms) else {
@@ -113,11 +113,11 @@ fn read_forms<'a>(
     mut forms: Cursor<'a>,
 ) -> Result<Parts, ReadFault>
     requires start { number_of forms ≡ 0 }
-    requires declared { declarations_seen declarations.now ≡ declarations_of (rest_of forms) }
-    requires sections { sections_seen sections.now ≡ sections_of (rest_of forms) }
-    ensures read { IsReading parts_shown (forms_reading (declarations_of (rest_of forms.entry)) (sections_of (rest_of forms.entry)) 0 (rest_of forms.entry)) result }
-    ensures resolved { IfOk result (λ parts. is_resolved (parts_shown parts) ≡ true) }
-    ensures initial { IfOk result (λ parts. numbers_in parts.tie ≡ start_numbers (parts_shown parts)) }
+    requires declared { declarations_view declarations.now ≡ declarations_of (rest_of forms) }
+    requires sections { sections_view sections.now ≡ sections_of (rest_of forms) }
+    ensures read { IsReading parts_view (forms_reading (declarations_of (rest_of forms.entry)) (sections_of (rest_of forms.entry)) 0 (rest_of forms.entry)) result }
+    ensures resolved { IfOk result (λ parts. is_resolved (parts_view parts) ≡ true) }
+    ensures initial { IfOk result (λ parts. numbers_in parts.tie ≡ start_numbers (parts_view parts)) }
 {
     let number = forms.number();
     let Ok(part) = next_part(&mut forms) else {
@@ -145,9 +145,9 @@ fn is_told_before_limits(parts: &Result<Parts, ReadFault>) -> bool
 fn read_file(alloc: Global, forms: Cursor<'_>) -> Result<Parts, ReadFault>
     requires start { number_of forms ≡ 0 }
     ensures read { IsFileRead (rest_of forms.entry) result }
-    ensures resolved { IfOk result (λ parts. is_resolved (parts_shown parts) ≡ true) }
-    ensures limited { IfOk result (λ parts. is_limited (parts_shown parts) ≡ true) }
-    ensures initial { IfOk result (λ parts. numbers_in parts.tie ≡ start_numbers (parts_shown parts)) }
+    ensures resolved { IfOk result (λ parts. is_resolved (parts_view parts) ≡ true) }
+    ensures limited { IfOk result (λ parts. is_limited (parts_view parts) ≡ true) }
+    ensures initial { IfOk result (λ parts. numbers_in parts.tie ≡ start_numbers (parts_view parts)) }
 {
     let sections = find_sections(forms);
     let declarations = read_all_declarations(alloc, &sections)?;
@@ -162,7 +162,7 @@ fn read_file(alloc: Global, forms: Cursor<'_>) -> Result<Parts, ReadFault>
 /// The development of the file with these forms. If it is none, `Refused` has its first refusal, as in
 /// `development_of`.
 pub fn development_in(alloc: Global, forms: &Forms) -> Result<Development, Fault>
-    ensures { (bytes : List ℕ) → ReadsAs bytes forms.now → IsAnswerTo development_shown file_reading bytes result }
+    ensures { (bytes : List ℕ) → ReadsAs bytes forms.now → IsAnswerTo development_view file_reading bytes result }
 {
     let parts = read_file(alloc, forms.cursor())?;
     Ok(Development::of_parts(parts))
@@ -180,7 +180,7 @@ pub fn development_in(alloc: Global, forms: &Forms) -> Result<Development, Fault
 /// item. That there are more conditions than their limit is `Bound` at the item 0. `OutOfMemory` says nothing about the
 /// file.
 pub fn development_of(alloc: Global, bytes: &[u8]) -> Result<Development, Fault>
-    ensures { IsAnswerTo development_shown file_reading bytes.now result }
+    ensures { IsAnswerTo development_view file_reading bytes.now result }
 {
     let forms = Forms::read(alloc, bytes)?;
     development_in(alloc, &forms)

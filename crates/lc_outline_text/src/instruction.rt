@@ -3,9 +3,9 @@ ghost use Rattle.std.specs.Prelude.{◌≡◌, IfOk};
 ghost use Rattle.lc_sexp.specs.Shown.{rest_of};
 ghost use Rattle.lc_object.specs.View.{columns_of};
 ghost use Rattle.lc_object.specs.WellFormed.{numbers_from};
-ghost use Rattle.lc_object_text.specs.DeclaredView.{declared_seen, body_seen};
+ghost use Rattle.lc_object_text.specs.DeclaredView.{declared_view, body_view};
 ghost use Rattle.lc_object_text.specs.ObjectNames as N;
-ghost use Rattle.lc_outline_text.specs.Views.{totals_seen};
+ghost use Rattle.lc_outline_text.specs.Views.{totals_view};
 ghost use Rattle.lc_outline_text.specs.Sizes.{text_at, label_place, count_at, array_columns, columns_written, asked_behind};
 
 use crate::columns_stored::system_behind;
@@ -73,7 +73,7 @@ pub(crate) fn asked_behind(
     kind: EdgeKind,
     code: Cursor<'_>,
 ) -> Result<u64, OutOfMemory>
-    ensures { IfOk result (λ count. count ≡ asked_behind (totals_seen totals) (body_seen body.now) asserts.now (N.first_text (rest_of code.entry)) kind (rest_of code.entry)) }
+    ensures { IfOk result (λ count. count ≡ asked_behind (totals_view totals) (body_view body.now) asserts.now (N.first_text (rest_of code.entry)) kind (rest_of code.entry)) }
 {
     let word = first_text(&code);
     if word == "return" {
@@ -90,7 +90,7 @@ fn array_columns(
     declared: &Declared<'_>,
     name: &str,
 ) -> Result<Vec<ColId>, OutOfMemory>
-    ensures { IfOk result (λ columns. columns_of columns.items ≡ array_columns (declared_seen declared.now) name.now) }
+    ensures { IfOk result (λ columns. columns_of columns.items ≡ array_columns (declared_view declared.now) name.now) }
 {
     let Some(place) = declared.arrays.place(name) else {
         return Ok(Vec::new(alloc));
@@ -125,7 +125,7 @@ pub(crate) fn columns_written(
     kind: EdgeKind,
     code: Cursor<'_>,
 ) -> Result<Vec<ColId>, OutOfMemory>
-    ensures { IfOk result (λ columns. columns_of columns.items ≡ columns_written (declared_seen declared.now) (N.first_text (rest_of code.entry)) kind (rest_of code.entry)) }
+    ensures { IfOk result (λ columns. columns_of columns.items ≡ columns_written (declared_view declared.now) (N.first_text (rest_of code.entry)) kind (rest_of code.entry)) }
 {
     let word = first_text(&code);
     if word == "return" {

@@ -1,14 +1,14 @@
 //! The development of what was read.
 ghost use Rattle.std.specs.Prelude.{◌≡◌, ◌++◌, true, map, IfOk};
-ghost use Rattle.lc_object.specs.View.{point_of, column_shown};
+ghost use Rattle.lc_object.specs.View.{point_of, column_view};
 ghost use Rattle.lc_object.specs.WellFormed.{is_object};
-ghost use Rattle.lc_object_text.specs.Texts.{bodies_shown};
+ghost use Rattle.lc_object_text.specs.Texts.{body_texts_view};
 ghost use Rattle.lc_outline.specs.Development.{start_numbers};
 ghost use Rattle.lc_seq.specs.SpecView.{column_of};
-ghost use Rattle.lc_outline.specs.PartsView.{outline_of, parts_shown};
+ghost use Rattle.lc_outline.specs.PartsView.{outline_of, parts_view};
 ghost use Rattle.lc_tie.specs.TieView.{numbers_in};
 ghost use Rattle.lc_outline_text.specs.Developments.{code_of, outlines_of, development_of};
-ghost use Rattle.lc_outline_text.specs.Views.{outlined_of, bodies_outlined, specifications_shown, object_seen, declared_numbers};
+ghost use Rattle.lc_outline_text.specs.Views.{outlined_of, bodies_outlined, specifications_view, object_parts_view, declared_numbers};
 
 use crate::sides::Sides;
 use lc_base::OutOfMemory;
@@ -44,7 +44,7 @@ fn code_and_outlines(
     alloc: Global,
     bodies: Vec<BodyText<(Point, Outline)>>,
 ) -> Result<(Vec<BodyText<Point>>, Vec<Outline>), OutOfMemory>
-    ensures code { IfOk result (λ r. bodies_shown r.0 ≡ map code_of (bodies_outlined bodies.items)) }
+    ensures code { IfOk result (λ r. body_texts_view r.0 ≡ map code_of (bodies_outlined bodies.items)) }
     ensures outlines { IfOk result (λ r. map outline_of r.1.items ≡ outlines_of (bodies_outlined bodies.items)) }
 {
     let mut code = Vec::with_capacity(alloc, bodies.len())?;
@@ -65,7 +65,7 @@ fn start_numbers(
     concretes: &[Concrete],
     auxiliaries: &[Column],
 ) -> Result<Vec<(i64, i64)>, OutOfMemory>
-    ensures { IfOk result (λ numbers. numbers.items ≡ declared_numbers (map column_of abstracts.now) (map column_shown concretes.now) (map column_of auxiliaries.now)) }
+    ensures { IfOk result (λ numbers. numbers.items ≡ declared_numbers (map column_of abstracts.now) (map column_view concretes.now) (map column_of auxiliaries.now)) }
 {
     let mut numbers = Vec::new(alloc);
     for column in abstracts {
@@ -86,9 +86,9 @@ pub(crate) fn made_development(
     specification: (SpecificationText, TextSpec),
     object: ObjectParts,
 ) -> Result<Parts, OutOfMemory>
-    requires { is_object (development_of (specifications_shown specification) (object_seen object)).object ≡ true }
-    ensures shown { IfOk result (λ parts. parts_shown parts ≡ development_of (specifications_shown specification) (object_seen object)) }
-    ensures initial { IfOk result (λ parts. numbers_in parts.tie ≡ start_numbers (parts_shown parts)) }
+    requires { is_object (development_of (specifications_view specification) (object_parts_view object)).object ≡ true }
+    ensures shown { IfOk result (λ parts. parts_view parts ≡ development_of (specifications_view specification) (object_parts_view object)) }
+    ensures initial { IfOk result (λ parts. numbers_in parts.tie ≡ start_numbers (parts_view parts)) }
 {
     let (text, specification) = specification;
     let ((tables, sides), bodies) = object;

@@ -3,7 +3,7 @@ ghost use Rattle.std.specs.Prelude.{◌≡◌, ◌+◌, ◌++◌, ◌≤◌, [],
 ghost use Rattle.lc_object.specs.View.{columns_of};
 ghost use Rattle.lc_outline.specs.Sizes.{way_count};
 ghost use Rattle.lc_outline_text.specs.Paths.{stands, path_number, path_at};
-ghost use Rattle.lc_outline_text.specs.StoredView.{IsSet, listed_in, riders_seen};
+ghost use Rattle.lc_outline_text.specs.StoredView.{IsSet, listed_in, ways_of_riders};
 ghost use Rattle.lc_outline_text.specs.Views.{capped};
 
 use crate::column_set::{ColumnSet, put_all};
@@ -22,10 +22,10 @@ fn put_path(
     before: u64,
 ) -> Result<u64, OutOfMemory>
     requires set { IsSet set.old }
-    requires some { 1 ≤ path_number (riders_seen riders.now) }
-    ensures asked { IfOk result (λ asked. asked ≡ before + (path_at (riders_seen riders.now) number).asked) }
+    requires some { 1 ≤ path_number (ways_of_riders riders.now) }
+    ensures asked { IfOk result (λ asked. asked ≡ before + (path_at (ways_of_riders riders.now) number).asked) }
     ensures set { OnOk result (IsSet set.new) }
-    ensures stored { OnOk result (stands (listed_in set.new) ≡ stands (listed_in set.old ++ (path_at (riders_seen riders.now) number).columns)) }
+    ensures stored { OnOk result (stands (listed_in set.new) ≡ stands (listed_in set.old ++ (path_at (ways_of_riders riders.now) number).columns)) }
 {
     let mut asked = before;
     let mut left = number;
@@ -46,8 +46,8 @@ fn conditions_on(
     columns: &[ColId],
 ) -> Result<u64, OutOfMemory>
     requires set { IsSet set.old }
-    requires some { 1 ≤ path_number (riders_seen riders.now) }
-    ensures count { IfOk result (λ count. count ≡ way_count (Some []) [] (asked + (path_at (riders_seen riders.now) number).asked) (columns_of columns.now ++ (path_at (riders_seen riders.now) number).columns)) }
+    requires some { 1 ≤ path_number (ways_of_riders riders.now) }
+    ensures count { IfOk result (λ count. count ≡ way_count (Some []) [] (asked + (path_at (ways_of_riders riders.now) number).asked) (columns_of columns.now ++ (path_at (ways_of_riders riders.now) number).columns)) }
     ensures set { OnOk result (IsSet set.new) }
 {
     set.clear()?;
@@ -67,8 +67,8 @@ fn conditions_on_all(
     columns: &[ColId],
 ) -> Result<u64, OutOfMemory>
     requires set { IsSet set.old }
-    requires all { paths ≡ path_number (riders_seen riders.now) }
-    ensures count { IfOk result (λ count. count ≡ capped (way_count (Some []) (riders_seen riders.now) asked (columns_of columns.now))) }
+    requires all { paths ≡ path_number (ways_of_riders riders.now) }
+    ensures count { IfOk result (λ count. count ≡ capped (way_count (Some []) (ways_of_riders riders.now) asked (columns_of columns.now))) }
     ensures set { OnOk result (IsSet set.new) }
 {
     let mut count = 0;
@@ -94,7 +94,7 @@ pub(crate) fn path_conditions(
     columns: &[ColId],
 ) -> Result<u64, OutOfMemory>
     requires { IsSet set.old }
-    ensures count { IfOk result (λ count. count ≡ capped (way_count (Some (columns_of action.now)) (riders_seen riders.now) asked (columns_of columns.now))) }
+    ensures count { IfOk result (λ count. count ≡ capped (way_count (Some (columns_of action.now)) (ways_of_riders riders.now) asked (columns_of columns.now))) }
     ensures set { OnOk result (IsSet set.new) }
 {
     let paths = path_number(riders);

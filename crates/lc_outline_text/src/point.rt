@@ -6,7 +6,7 @@ ghost use Rattle.lc_outline.specs.PartsView.{outline_of};
 ghost use Rattle.lc_reading.specs.Parts.{tree_of, place_of};
 ghost use Rattle.lc_reading.specs.Readings.{Reading, both};
 ghost use Rattle.lc_reading.specs.Results.{IsReading};
-ghost use Rattle.lc_rider_text.specs.KnownView.{known_seen, names_beside, ways_there};
+ghost use Rattle.lc_rider_text.specs.KnownView.{known_view, names_beside, ways_there};
 ghost use Rattle.lc_text.specs.Terms.{pair};
 ghost use Rattle.lc_outline_text.specs.Needs.{edges_of};
 ghost use Rattle.lc_outline_text.specs.Points.{outline_reading};
@@ -39,7 +39,7 @@ fn read_outline(
     asserts: Part<'_>,
     ons: Cursor<'_>,
 ) -> Result<Outline, ReadFault>
-    ensures { IsReading outline_of (outline_reading (known_seen reader.now.known) (names_beside reader.now.scope) (ways_there reader.now.own) edges (place_of asserts.entry) (tree_of asserts.entry) (number_of ons.entry) (rest_of ons.entry)) result }
+    ensures { IsReading outline_of (outline_reading (known_view reader.now.known) (names_beside reader.now.scope) (ways_there reader.now.own) edges (place_of asserts.entry) (tree_of asserts.entry) (number_of ons.entry) (rest_of ons.entry)) result }
 {
     let asserts = read_formulas_in(alloc, &reader.scope, "assert", asserts);
     let ons = read_ons(alloc, reader.known, &reader.scope, reader.own, edges, ons);
@@ -59,7 +59,7 @@ fn read_outlined(
     ons: Cursor<'_>,
 ) -> Result<(Point, Outline), ReadFault>
     ensures { (r : Reading O.Point) → IsReading point_of r point → IsReading outlined_of
-        (both pair r (outline_reading (known_seen reader.now.known) (names_beside reader.now.scope) (ways_there reader.now.own) (edges_of word.now) (place_of asserts.entry) (tree_of asserts.entry) (number_of ons.entry) (rest_of ons.entry))) result }
+        (both pair r (outline_reading (known_view reader.now.known) (names_beside reader.now.scope) (ways_there reader.now.own) (edges_of word.now) (place_of asserts.entry) (tree_of asserts.entry) (number_of ons.entry) (rest_of ons.entry))) result }
 {
     let outline = read_outline(alloc, reader, edges_of(word), asserts, ons);
     both(point, outline)
@@ -69,13 +69,13 @@ impl Outlines<'_, '_> {
     ghost use Rattle.std.specs.Prelude.{◌≡◌, ◌&&◌, codes};
     ghost use Rattle.lc_sexp.specs.Shown.{rest_of};
     ghost use Rattle.lc_object_text.specs.Sections.{forms_in};
-    ghost use Rattle.lc_rider_text.specs.KnownView.{known_seen};
+    ghost use Rattle.lc_rider_text.specs.KnownView.{known_view};
     ghost use Rattle.lc_outline_text.specs.Needs.{lacks_on};
 
     /// Whether an edge of an instruction with this word, in which nothing is misshapen, lacks an `on` among the lists
     /// that come next.
     fn lacks_on(&self, is_shaped: bool, word: &str, list: Cursor<'_>) -> bool
-        ensures { result ≡ (is_shaped && lacks_on (known_seen self.now.known).actions word.now (forms_in (codes "on") (rest_of list.entry))) }
+        ensures { result ≡ (is_shaped && lacks_on (known_view self.now.known).actions word.now (forms_in (codes "on") (rest_of list.entry))) }
     {
         is_shaped && lacks_on(self.known.actions, word, list)
     }
@@ -84,7 +84,7 @@ impl Outlines<'_, '_> {
 impl ReadsBeside for Outlines<'_, '_> {
     ghost use Rattle.lc_object.specs.Syntax as O;
     ghost use Rattle.lc_outline.specs.Development as D;
-    ghost use Rattle.lc_rider_text.specs.KnownView.{known_seen, names_beside, ways_there};
+    ghost use Rattle.lc_rider_text.specs.KnownView.{known_view, names_beside, ways_there};
     ghost use Rattle.lc_outline_text.specs.Points.{beside};
     ghost use Rattle.lc_outline_text.specs.Views.{outlined_of};
 
@@ -94,7 +94,7 @@ impl ReadsBeside for Outlines<'_, '_> {
 
     ghost meaning = { outlined_of };
 
-    ghost reading = { λ reader. beside (known_seen reader.known) (names_beside reader.scope) (ways_there reader.own) };
+    ghost reading = { λ reader. beside (known_view reader.known) (names_beside reader.scope) (ways_there reader.own) };
 
     fn read(
         &self,

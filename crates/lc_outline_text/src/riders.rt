@@ -2,7 +2,7 @@
 ghost use Rattle.std.specs.Prelude.{◌≡◌, ℕ, ◌+◌, ◌++◌, length, get_or, map, IfOk, OnOk};
 ghost use Rattle.lc_outline.specs.Sizes.{no_way};
 ghost use Rattle.lc_outline_text.specs.Paths.{stands, path_number, only_way, common_way, branching};
-ghost use Rattle.lc_outline_text.specs.StoredView.{IsSet, listed_in, row_way, none_stored, deed_seen, rider_seen, riders_seen};
+ghost use Rattle.lc_outline_text.specs.StoredView.{IsSet, listed_in, row_way, none_stored, ways_of_deed, ways_of_rider, ways_of_riders};
 ghost use Rattle.lc_outline_text.specs.Views.{capped};
 
 use crate::column_set::{ColumnSet, put, put_all};
@@ -36,7 +36,7 @@ fn marked_count(rows: &[Vec<ColId>], is_conditional: bool) -> u64
 
 /// In how many ways a rider is passed.
 pub(crate) fn way_count(rider: &Rider<'_>) -> u64
-    ensures { result ≡ length (rider_seen rider.now) }
+    ensures { result ≡ length (ways_of_rider rider.now) }
 {
     match rider.deed {
         Deed::Set(_) if rider.is_conditional => 2,
@@ -47,7 +47,7 @@ pub(crate) fn way_count(rider: &Rider<'_>) -> u64
 
 /// How many paths pass these riders, up to the cap.
 pub(crate) fn path_number(riders: &[Rider<'_>]) -> u64
-    ensures { result ≡ capped (path_number (riders_seen riders.now)) }
+    ensures { result ≡ capped (path_number (ways_of_riders riders.now)) }
 {
     let mut number = 1;
     for rider in riders {
@@ -79,9 +79,9 @@ fn put_row(
 /// if there is none, nothing.
 fn put_deed(set: &mut ColumnSet, deed: Deed<'_>, place: u64) -> Result<u64, OutOfMemory>
     requires { IsSet set.old }
-    ensures asked { IfOk result (λ asked. asked ≡ (get_or (deed_seen deed.entry) place no_way).asked) }
+    ensures asked { IfOk result (λ asked. asked ≡ (get_or (ways_of_deed deed.entry) place no_way).asked) }
     ensures set { OnOk result (IsSet set.new) }
-    ensures stored { OnOk result (stands (listed_in set.new) ≡ stands (listed_in set.old ++ (get_or (deed_seen deed.entry) place no_way).columns)) }
+    ensures stored { OnOk result (stands (listed_in set.new) ≡ stands (listed_in set.old ++ (get_or (ways_of_deed deed.entry) place no_way).columns)) }
 {
     match deed {
         Deed::Marks { asked, rows } => {
@@ -103,9 +103,9 @@ pub(crate) fn put_way(
     place: u64,
 ) -> Result<u64, OutOfMemory>
     requires { IsSet set.old }
-    ensures asked { IfOk result (λ asked. asked ≡ (get_or (rider_seen rider.now) place no_way).asked) }
+    ensures asked { IfOk result (λ asked. asked ≡ (get_or (ways_of_rider rider.now) place no_way).asked) }
     ensures set { OnOk result (IsSet set.new) }
-    ensures stored { OnOk result (stands (listed_in set.new) ≡ stands (listed_in set.old ++ (get_or (rider_seen rider.now) place no_way).columns)) }
+    ensures stored { OnOk result (stands (listed_in set.new) ≡ stands (listed_in set.old ++ (get_or (ways_of_rider rider.now) place no_way).columns)) }
 {
     let asked = put_deed(set, rider.deed, place)?;
     Ok(asked)
@@ -115,9 +115,9 @@ pub(crate) fn put_way(
 /// asked on it.
 fn put_only(set: &mut ColumnSet, rider: &Rider<'_>) -> Result<u64, OutOfMemory>
     requires { IsSet set.old }
-    ensures asked { IfOk result (λ asked. asked ≡ (only_way (rider_seen rider.now)).asked) }
+    ensures asked { IfOk result (λ asked. asked ≡ (only_way (ways_of_rider rider.now)).asked) }
     ensures set { OnOk result (IsSet set.new) }
-    ensures stored { OnOk result (stands (listed_in set.new) ≡ stands (listed_in set.old ++ (only_way (rider_seen rider.now)).columns)) }
+    ensures stored { OnOk result (stands (listed_in set.new) ≡ stands (listed_in set.old ++ (only_way (ways_of_rider rider.now)).columns)) }
 {
     if way_count(rider) != 1 {
         return Ok(0);
@@ -133,9 +133,9 @@ pub(crate) fn put_common(
     before: u64,
 ) -> Result<u64, OutOfMemory>
     requires { IsSet set.old }
-    ensures asked { IfOk result (λ asked. asked ≡ before + (common_way (riders_seen riders.now)).asked) }
+    ensures asked { IfOk result (λ asked. asked ≡ before + (common_way (ways_of_riders riders.now)).asked) }
     ensures set { OnOk result (IsSet set.new) }
-    ensures stored { OnOk result (stands (listed_in set.new) ≡ stands (listed_in set.old ++ (common_way (riders_seen riders.now)).columns)) }
+    ensures stored { OnOk result (stands (listed_in set.new) ≡ stands (listed_in set.old ++ (common_way (ways_of_riders riders.now)).columns)) }
 {
     let mut asked = before;
     for rider in riders {
@@ -149,7 +149,7 @@ pub(crate) fn branching<'a>(
     alloc: Global,
     riders: &[Rider<'a>],
 ) -> Result<Vec<Rider<'a>>, OutOfMemory>
-    ensures { IfOk result (λ those. riders_seen those.items ≡ branching (riders_seen riders.now)) }
+    ensures { IfOk result (λ those. ways_of_riders those.items ≡ branching (ways_of_riders riders.now)) }
 {
     let mut those = Vec::new(alloc);
     for rider in riders {

@@ -5,13 +5,13 @@ ghost use Rattle.lc_seq.specs.SpecView.{column_of};
 ghost use Rattle.lc_term.specs.View.{formula_of};
 ghost use Rattle.lc_tie.specs.TieView.{conjunct_of};
 ghost use Rattle.lc_object_text.specs.Objects.{first_reading};
-ghost use Rattle.lc_object_text.specs.Seen.{sections_seen};
+ghost use Rattle.lc_object_text.specs.Seen.{sections_view};
 ghost use Rattle.lc_reading.specs.Parts.{tree_of, place_of};
 ghost use Rattle.lc_reading.specs.Results.{IsReading};
-ghost use Rattle.lc_outline_text.specs.DeclarationsView.{declarations_seen};
+ghost use Rattle.lc_outline_text.specs.DeclarationsView.{declarations_view};
 ghost use Rattle.lc_rider_text.specs.Scopes.{beside_names};
 ghost use Rattle.lc_outline_text.specs.Points.{formulas_in_reading};
-ghost use Rattle.lc_outline_text.specs.Views.{actions_shown, conditions_shown, sides_shown};
+ghost use Rattle.lc_outline_text.specs.Views.{actions_view, conditions_view, sides_view};
 ghost use Rattle.lc_outline_text.specs.Sides.{auxiliaries_reading, actions_reading, invariant_reading, conditions_reading, sides_reading};
 
 use crate::declarations::Declarations;
@@ -71,7 +71,7 @@ fn read_auxiliaries(
     declarations: &Declarations<'_>,
     part: Part<'_>,
 ) -> Result<Vec<Column>, ReadFault>
-    ensures { IsReading (λ columns. map column_of columns.items) (auxiliaries_reading (declarations_seen declarations.now) (place_of part.entry) (tree_of part.entry)) result }
+    ensures { IsReading (λ columns. map column_of columns.items) (auxiliaries_reading (declarations_view declarations.now) (place_of part.entry) (tree_of part.entry)) result }
 {
     let list = behind_word(part, "aux")?;
     let reader = AuxiliaryColumns {
@@ -88,7 +88,7 @@ fn read_first_auxiliaries(
     object: u64,
     mut list: Cursor<'_>,
 ) -> Result<Vec<Column>, ReadFault>
-    ensures { IsReading (λ columns. map column_of columns.items) (first_reading (auxiliaries_reading (declarations_seen declarations.now)) object (number_of list.entry) (rest_of list.entry)) result }
+    ensures { IsReading (λ columns. map column_of columns.items) (first_reading (auxiliaries_reading (declarations_view declarations.now)) object (number_of list.entry) (rest_of list.entry)) result }
 {
     match next_part(&mut list) {
         Ok(part) => read_auxiliaries(alloc, declarations, part),
@@ -103,7 +103,7 @@ fn read_actions(
     sections: &Sections<'_>,
     object: u64,
 ) -> Result<(Vec<Column>, Vec<Action>), ReadFault>
-    ensures { IsReading actions_shown (actions_reading (declarations_seen declarations.now) (sections_seen sections.now) object) result }
+    ensures { IsReading actions_view (actions_reading (declarations_view declarations.now) (sections_view sections.now) object) result }
 {
     let known = declarations.known()?;
     let auxiliaries = read_first_auxiliaries(alloc, declarations, object, sections.auxiliaries);
@@ -123,7 +123,7 @@ fn read_invariant(
     declarations: &Declarations<'_>,
     part: Part<'_>,
 ) -> Result<Vec<Conjunct>, ReadFault>
-    ensures { IsReading (λ conjuncts. map conjunct_of conjuncts.items) (invariant_reading (declarations_seen declarations.now) (place_of part.entry) (tree_of part.entry)) result }
+    ensures { IsReading (λ conjuncts. map conjunct_of conjuncts.items) (invariant_reading (declarations_view declarations.now) (place_of part.entry) (tree_of part.entry)) result }
 {
     let list = behind_word(part, "invariant")?;
     let declared = &declarations.declared;
@@ -140,7 +140,7 @@ fn read_idle(
     declarations: &Declarations<'_>,
     part: Part<'_>,
 ) -> Result<Vec<Formula>, ReadFault>
-    ensures { IsReading (λ formulas. map formula_of formulas.items) (formulas_in_reading (codes "idle") (beside_names (declarations_seen declarations.now).declared.columns (Some [])) (place_of part.entry) (tree_of part.entry)) result }
+    ensures { IsReading (λ formulas. map formula_of formulas.items) (formulas_in_reading (codes "idle") (beside_names (declarations_view declarations.now).declared.columns (Some [])) (place_of part.entry) (tree_of part.entry)) result }
 {
     let nobody = NameTable::new(alloc);
     let declared = &declarations.declared;
@@ -158,7 +158,7 @@ fn read_conditions(
     object: u64,
     list: Cursor<'_>,
 ) -> Result<(Vec<Conjunct>, Vec<Formula>), ReadFault>
-    ensures { IsReading conditions_shown (conditions_reading (declarations_seen declarations.now) object (number_of list.entry) (rest_of list.entry)) result }
+    ensures { IsReading conditions_view (conditions_reading (declarations_view declarations.now) object (number_of list.entry) (rest_of list.entry)) result }
 {
     let Ok((invariant, idle, _)) = two(list) else {
         return Err(wrong(Pass::Shape, object));
@@ -175,7 +175,7 @@ pub(crate) fn read_sides(
     sections: &Sections<'_>,
     object: u64,
 ) -> Result<Sides, ReadFault>
-    ensures { IsReading sides_shown (sides_reading (declarations_seen declarations.now) (sections_seen sections.now) object) result }
+    ensures { IsReading sides_view (sides_reading (declarations_view declarations.now) (sections_view sections.now) object) result }
 {
     let actions = read_actions(alloc, declarations, sections, object);
     let conditions = read_conditions(alloc, declarations, object, sections.invariant);

@@ -5,11 +5,11 @@ ghost use Rattle.lc_object.specs.View.{columns_of};
 ghost use Rattle.lc_object_text.specs.ObjectNames.{first_text};
 ghost use Rattle.lc_reading.specs.TableView.{listed};
 ghost use Rattle.lc_outline_text.specs.Declarations.{branches_in, form_at};
-ghost use Rattle.lc_outline_text.specs.DeclarationsView.{declarations_seen};
+ghost use Rattle.lc_outline_text.specs.DeclarationsView.{declarations_view};
 ghost use Rattle.lc_outline_text.specs.Paths.{stands, ways_kept};
 ghost use Rattle.lc_outline_text.specs.Rests.{rests_of, lists_of_rests};
 ghost use Rattle.lc_outline_text.specs.Sizes.{columns_stored, mark_ways, choice_named, choice_ways, columns_acted};
-ghost use Rattle.lc_outline_text.specs.StoredView.{IsSet, rows_kept, rows_seen, acted_kept, both_kept, branch_parts, behind_parameters, by_branches, by_choices, marked_kept, marked_in, kept_at, marked_at, row_way, IsStored};
+ghost use Rattle.lc_outline_text.specs.StoredView.{IsSet, rows_kept, rows_view, acted_kept, both_kept, branch_parts, behind_parameters, by_branches, by_choices, marked_kept, marked_in, kept_at, marked_at, row_way, IsStored};
 ghost use Rattle.lc_outline_text.specs.Views.{columns_marked};
 
 use crate::column_set::{ColumnSet, put_all};
@@ -155,7 +155,7 @@ fn rows_of(
     branches: &[Cursor<'_>],
 ) -> Result<Rows, OutOfMemory>
     requires { IsSet set.old }
-    ensures rows { IfOk result (λ rows. rows_seen rows ≡ both_kept (listed columns.now) (rests_of branches.now)) }
+    ensures rows { IfOk result (λ rows. rows_view rows ≡ both_kept (listed columns.now) (rests_of branches.now)) }
     ensures set { OnOk result (IsSet set.new) }
 {
     let settled = branch_rows(alloc, set, columns, false, branches)?;
@@ -196,7 +196,7 @@ fn rows_by_branches(
     operations: &[Cursor<'_>],
 ) -> Result<Vec<Rows>, OutOfMemory>
     requires { IsSet set.old }
-    ensures rows { IfOk result (λ rows. map rows_seen rows.items ≡ map (by_branches (listed columns.now)) (rests_of operations.now)) }
+    ensures rows { IfOk result (λ rows. map rows_view rows.items ≡ map (by_branches (listed columns.now)) (rests_of operations.now)) }
     ensures set { OnOk result (IsSet set.new) }
 {
     let mut rows = Vec::with_capacity(alloc, operations.len())?;
@@ -215,7 +215,7 @@ fn rows_by_choices(
     choices: &[Vec<Cursor<'_>>],
 ) -> Result<Vec<Rows>, OutOfMemory>
     requires { IsSet set.old }
-    ensures rows { IfOk result (λ rows. map rows_seen rows.items ≡ map (by_choices (listed columns.now)) (lists_of_rests choices.now)) }
+    ensures rows { IfOk result (λ rows. map rows_view rows.items ≡ map (by_choices (listed columns.now)) (lists_of_rests choices.now)) }
     ensures set { OnOk result (IsSet set.new) }
 {
     let mut rows = Vec::with_capacity(alloc, choices.len())?;
@@ -233,7 +233,7 @@ pub(crate) fn read_stored(
     declarations: &Declarations<'_>,
 ) -> Result<Stored, OutOfMemory>
     requires { IsSet set.old }
-    ensures stored { IfOk result (λ stored. IsStored (declarations_seen declarations.now) stored) }
+    ensures stored { IfOk result (λ stored. IsStored (declarations_view declarations.now) stored) }
     ensures set { OnOk result (IsSet set.new) }
 {
     let columns = &declarations.declared.columns;
@@ -264,14 +264,14 @@ fn row_at(rows: &[Vec<ColId>], place: Option<usize>) -> &[ColId]
 
 /// The rows for a call that is settled, or noted.
 fn rows_for(rows: &Rows, is_note: bool) -> &[Vec<ColId>]
-    ensures { rows_kept result.now ≡ marked_in is_note (rows_seen rows.now) }
+    ensures { rows_kept result.now ≡ marked_in is_note (rows_view rows.now) }
 {
     if is_note { &rows.noted } else { &rows.settled }
 }
 
 /// Those at this place, if there are some.
 fn rows_at(rows: &[Rows], place: Option<usize>, is_note: bool) -> &[Vec<ColId>]
-    ensures { rows_kept result.now ≡ marked_at is_note (map rows_seen rows.now) place }
+    ensures { rows_kept result.now ≡ marked_at is_note (map rows_view rows.now) place }
 {
     let Some(place) = place else {
         return &[];
@@ -288,8 +288,8 @@ pub(crate) fn columns_acted<'b>(
     stored: &'b Stored,
     name: &str,
 ) -> &'b [ColId]
-    requires { IsStored (declarations_seen declarations.now) stored.now }
-    ensures { stands (columns_of result.now) ≡ stands (columns_acted (declarations_seen declarations.now) name.now) }
+    requires { IsStored (declarations_view declarations.now) stored.now }
+    ensures { stands (columns_of result.now) ≡ stands (columns_acted (declarations_view declarations.now) name.now) }
 {
     row_at(&stored.actions, declarations.action_names.place(name))
 }
@@ -301,8 +301,8 @@ pub(crate) fn marked_by_branches<'b>(
     operation: Option<usize>,
     is_note: bool,
 ) -> &'b [Vec<ColId>]
-    requires { IsStored (declarations_seen declarations.now) stored.now }
-    ensures { let d = declarations_seen declarations.now in
+    requires { IsStored (declarations_view declarations.now) stored.now }
+    ensures { let d = declarations_view declarations.now in
         (asked : ℕ) → ways_kept (map (row_way asked) result.now) ≡ ways_kept (mark_ways (columns_marked is_note d.declared.columns) asked (branches_in (form_at d.operations operation))) }
 {
     rows_at(&stored.branches, operation, is_note)
@@ -317,8 +317,8 @@ pub(crate) fn marked_by_choice<'b>(
     name: &str,
     is_note: bool,
 ) -> &'b [Vec<ColId>]
-    requires { IsStored (declarations_seen declarations.now) stored.now }
-    ensures { let d = declarations_seen declarations.now in
+    requires { IsStored (declarations_view declarations.now) stored.now }
+    ensures { let d = declarations_view declarations.now in
         (asked : ℕ) → ways_kept (map (row_way asked) result.now) ≡ ways_kept (choice_ways (columns_marked is_note d.declared.columns) asked (choice_named (form_at d.operations operation) name.now)) }
 {
     let rows = rows_at(&stored.choices, operation, is_note);

@@ -1,10 +1,10 @@
 //! What riders do, read off a text.
 ghost use Rattle.std.specs.Prelude.{◌≡◌, map, IfOk};
 ghost use Rattle.lc_sexp.specs.Shown.{rest_of};
-ghost use Rattle.lc_outline_text.specs.DeclarationsView.{declarations_seen};
+ghost use Rattle.lc_outline_text.specs.DeclarationsView.{declarations_view};
 ghost use Rattle.lc_outline_text.specs.Paths.{ways_kept};
 ghost use Rattle.lc_outline_text.specs.Sizes.{ways_with, deed_ways, rider_ways, all_ways};
-ghost use Rattle.lc_outline_text.specs.StoredView.{deed_seen, rider_seen, riders_seen, IsStored};
+ghost use Rattle.lc_outline_text.specs.StoredView.{ways_of_deed, ways_of_rider, ways_of_riders, IsStored};
 
 use crate::columns_stored::column_of;
 use crate::declarations::Declarations;
@@ -25,8 +25,8 @@ fn deed_with<'b>(
     word: &str,
     list: Cursor<'_>,
 ) -> Result<Deed<'b>, OutOfMemory>
-    requires { IsStored (declarations_seen declarations.now) stored.now }
-    ensures { IfOk result (λ deed. ways_kept (deed_seen deed) ≡ ways_kept (ways_with (declarations_seen declarations.now) operation word.now (rest_of list.entry))) }
+    requires { IsStored (declarations_view declarations.now) stored.now }
+    ensures { IfOk result (λ deed. ways_kept (ways_of_deed deed) ≡ ways_kept (ways_with (declarations_view declarations.now) operation word.now (rest_of list.entry))) }
 {
     let own = Some(operation as usize);
     let other = declarations
@@ -77,8 +77,8 @@ fn deed_of<'b>(
     operation: u32,
     list: Cursor<'_>,
 ) -> Result<Deed<'b>, OutOfMemory>
-    requires { IsStored (declarations_seen declarations.now) stored.now }
-    ensures { IfOk result (λ deed. ways_kept (deed_seen deed) ≡ ways_kept (deed_ways (declarations_seen declarations.now) operation (rest_of list.entry))) }
+    requires { IsStored (declarations_view declarations.now) stored.now }
+    ensures { IfOk result (λ deed. ways_kept (ways_of_deed deed) ≡ ways_kept (deed_ways (declarations_view declarations.now) operation (rest_of list.entry))) }
 {
     let deed = deed_with(
         declarations,
@@ -97,8 +97,8 @@ fn rider_of<'b>(
     operation: u32,
     list: Cursor<'_>,
 ) -> Result<Rider<'b>, OutOfMemory>
-    requires { IsStored (declarations_seen declarations.now) stored.now }
-    ensures { IfOk result (λ rider. ways_kept (rider_seen rider) ≡ ways_kept (rider_ways (declarations_seen declarations.now) operation (rest_of list.entry))) }
+    requires { IsStored (declarations_view declarations.now) stored.now }
+    ensures { IfOk result (λ rider. ways_kept (ways_of_rider rider) ≡ ways_kept (rider_ways (declarations_view declarations.now) operation (rest_of list.entry))) }
 {
     if first_text(&list) != "when" {
         let deed = deed_of(declarations, stored, operation, list)?;
@@ -123,8 +123,8 @@ pub(crate) fn riders_in<'b>(
     operation: u32,
     list: Cursor<'_>,
 ) -> Result<Vec<Rider<'b>>, OutOfMemory>
-    requires { IsStored (declarations_seen declarations.now) stored.now }
-    ensures { IfOk result (λ riders. map ways_kept (riders_seen riders.items) ≡ map ways_kept (all_ways (declarations_seen declarations.now) operation (rest_of list.entry))) }
+    requires { IsStored (declarations_view declarations.now) stored.now }
+    ensures { IfOk result (λ riders. map ways_kept (ways_of_riders riders.items) ≡ map ways_kept (all_ways (declarations_view declarations.now) operation (rest_of list.entry))) }
 {
     let mut riders = Vec::new(alloc);
     let mut rest = list;

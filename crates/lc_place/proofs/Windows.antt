@@ -6,7 +6,7 @@ use Rattle.std.proofs.lemmas.List.{drop_more, take_more, reverse-append}
 use Rattle.std.proofs.lemmas.List.Folds.{list_any-append}
 use Rattle.std.proofs.lemmas.List.Sums.{sum_by-append, sum_by-cons, sum_by_push, take_while-cons}
 use Rattle.lc_place.specs.Lines.{is_feed, begins_character, back_to_line}
-use Rattle.lc_place.specs.Excerpt.{is_break, IsInLine, characters_in, line_shown, marks_shown, IsExcerpt}
+use Rattle.lc_place.specs.Excerpt.{is_break, IsInLine, characters_in, shown_line, shown_marks, IsExcerpt}
 
 -- a byte more at the front
 pub range_front : (bytes : List ℕ) (from to : ℕ) → 0 < from → from ≤ to → from ≤ length bytes → slice_range bytes (from - 1) to ≡ get_or bytes (from - 1) 0 ∷ slice_range bytes from to
@@ -109,7 +109,7 @@ few_joined bytes from start to room a b p q =
 -- the excerpt, by its parts
 pub excerpt_is : (bytes : List ℕ) (offset size start from to room : ℕ) (line marks : List ℕ) → start ≡ min offset (length bytes) → from ≤ start → IsInLine (slice_range bytes from start)
     → characters_in (slice_range bytes from start) ≤ 100 → room ≡ 160 - characters_in (slice_range bytes from start) → start ≤ to → to ≤ length bytes → IsInLine (slice_range bytes start to)
-    → characters_in (slice_range bytes start to) ≤ room → line ≡ line_shown bytes from to → marks ≡ marks_shown bytes from start (start + min size (to - start)) → IsExcerpt bytes offset size line marks
+    → characters_in (slice_range bytes start to) ≤ room → line ≡ shown_line bytes from to → marks ≡ shown_marks bytes from start (start + min size (to - start)) → IsExcerpt bytes offset size line marks
 excerpt_is bytes offset size start from to room line marks e a p q r b w l f t m =
     record {
       from = from;
@@ -120,5 +120,5 @@ excerpt_is bytes offset size start from to room line marks e a p q r b w l f t m
       in_line = line_joined bytes from start to a b p l;
       short = few_joined bytes from start to 160 a b (omega arith) (subst (λ n. characters_in (slice_range bytes start to) ≤ n) r f);
       line_is = t;
-      marks_are = m ∙ ap (λ n. marks_shown bytes from n (n + min size (to - n))) e;
+      marks_are = m ∙ ap (λ n. shown_marks bytes from n (n + min size (to - n))) e;
     }

@@ -55,12 +55,12 @@ abbrev pub characters_in : List ℕ → ℕ
 characters_in bytes = count_by begins_character bytes
 
 -- the bytes from one offset to another as they are shown
-abbrev pub line_shown : List ℕ → ℕ → ℕ → List ℕ
-line_shown bytes from to = cut_mark 46 (is_cut_before bytes from) ++ map shown (slice_range bytes from to) ++ cut_mark 46 (is_cut_at bytes to)
+abbrev pub shown_line : List ℕ → ℕ → ℕ → List ℕ
+shown_line bytes from to = cut_mark 46 (is_cut_before bytes from) ++ map shown (slice_range bytes from to) ++ cut_mark 46 (is_cut_at bytes to)
 
 -- what is shown under them: marks under the item, which begins and ends at offsets between
-abbrev pub marks_shown : List ℕ → ℕ → ℕ → ℕ → List ℕ
-marks_shown bytes from start until = cut_mark 32 (is_cut_before bytes from) ++ under_before (slice_range bytes from start) ++ under_item (slice_range bytes start until)
+abbrev pub shown_marks : List ℕ → ℕ → ℕ → ℕ → List ℕ
+shown_marks bytes from start until = cut_mark 32 (is_cut_before bytes from) ++ under_before (slice_range bytes from start) ++ under_item (slice_range bytes start until)
 
 -- The line of the item at the offset, or 160 characters of it, with at most 100 of them before the item, and marks under the item as far as it goes
 -- there.
@@ -72,5 +72,5 @@ pub record IsExcerpt (bytes : List ℕ) (offset size : ℕ) (line marks : List �
   pub within : to ≤ length bytes
   pub in_line : IsInLine (slice_range bytes from to)
   pub short : characters_in (slice_range bytes from to) ≤ 160
-  pub line_is : line ≡ line_shown bytes from to
-  pub marks_are : marks ≡ marks_shown bytes from (min offset (length bytes)) (min offset (length bytes) + min size (to - min offset (length bytes)))
+  pub line_is : line ≡ shown_line bytes from to
+  pub marks_are : marks ≡ shown_marks bytes from (min offset (length bytes)) (min offset (length bytes) + min size (to - min offset (length bytes)))

@@ -1,5 +1,5 @@
 ghost use Rattle.std.specs.Prelude.{◌≡◌, ◌++◌, ◌≤◌, map, drop, length as list_length, slice_range, OnOk, IfOk};
-ghost use Rattle.lc_place.specs.Excerpt.{is_break, shown, blank, caret, under_before, under_item, carets, cut_mark, is_cut_before, is_cut_at, IsInLine, characters_in, line_shown, marks_shown, IsExcerpt};
+ghost use Rattle.lc_place.specs.Excerpt.{is_break, shown, blank, caret, under_before, under_item, carets, cut_mark, is_cut_before, is_cut_at, IsInLine, characters_in, shown_line, shown_marks, IsExcerpt};
 
 use crate::place::{Place, begins_character};
 use crate::text::counted;
@@ -169,10 +169,10 @@ pub struct Excerpt {
 }
 
 /// The line that is shown.
-fn line_shown(alloc: Global, bytes: &[u8], from: usize, to: usize) -> Result<Vec<u8>, OutOfMemory>
+fn shown_line(alloc: Global, bytes: &[u8], from: usize, to: usize) -> Result<Vec<u8>, OutOfMemory>
     requires behind { from ≤ to }
     requires within { to ≤ list_length bytes.now }
-    ensures { IfOk result (λ line. line.items ≡ line_shown bytes.now from to) }
+    ensures { IfOk result (λ line. line.items ≡ shown_line bytes.now from to) }
 {
     let mut line = Vec::new(alloc);
     push_cut(&mut line, b'.', is_cut_before(bytes, from))?;
@@ -182,7 +182,7 @@ fn line_shown(alloc: Global, bytes: &[u8], from: usize, to: usize) -> Result<Vec
 }
 
 /// The marks under it.
-fn marks_shown(
+fn shown_marks(
     alloc: Global,
     bytes: &[u8],
     from: usize,
@@ -192,7 +192,7 @@ fn marks_shown(
     requires before { from ≤ start }
     requires item { start ≤ until }
     requires within { until ≤ list_length bytes.now }
-    ensures { IfOk result (λ marks. marks.items ≡ marks_shown bytes.now from start until) }
+    ensures { IfOk result (λ marks. marks.items ≡ shown_marks bytes.now from start until) }
 {
     let mut marks = Vec::new(alloc);
     push_cut(&mut marks, b' ', is_cut_before(bytes, from))?;
@@ -212,7 +212,7 @@ pub fn line_excerpt(alloc: Global, bytes: &[u8], place: Place) -> Result<Excerpt
     let room = SHOWN - characters_in(&bytes[from..start]);
     let to = window_end(bytes, start, room);
     let until = start + place.length.min(to - start);
-    let line = line_shown(alloc, bytes, from, to)?;
-    let marks = marks_shown(alloc, bytes, from, start, until)?;
+    let line = shown_line(alloc, bytes, from, to)?;
+    let marks = shown_marks(alloc, bytes, from, start, until)?;
     Ok(Excerpt { line, marks })
 }

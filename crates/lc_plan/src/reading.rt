@@ -2,7 +2,7 @@
 ghost use Rattle.std.specs.Prelude.{◌≡◌, ℕ, List, IfOk};
 ghost use Rattle.lc_sexp.specs.Reads.{ReadsAs};
 ghost use Rattle.lc_sexp.specs.Shown.{rest_of, number_of, owner_of};
-ghost use Rattle.lc_outline.specs.DevelopmentView.{development_shown};
+ghost use Rattle.lc_outline.specs.DevelopmentView.{development_view};
 ghost use Rattle.lc_reading.specs.Files.{IsAnswerTo};
 ghost use Rattle.lc_reading.specs.Parts.{tree_of, place_of};
 ghost use Rattle.lc_reading.specs.Results.{IsReading};
@@ -75,7 +75,7 @@ fn read_file(
 /// as in `plan_of`.
 pub fn plan_in(alloc: Global, development: &Development, forms: Forms) -> Result<Plan, Fault>
     requires { (bytes : List ℕ) × ReadsAs bytes forms }
-    ensures { (bytes : List ℕ) → ReadsAs bytes forms → IsAnswerTo plan_of (plan_reading (development_shown development.now)) bytes result }
+    ensures { (bytes : List ℕ) → ReadsAs bytes forms → IsAnswerTo plan_of (plan_reading (development_view development.now)) bytes result }
 {
     let specification = &development.parts().specification;
     let operations = Operations::new(alloc, specification.operations())?;
@@ -92,7 +92,7 @@ pub fn plan_in(alloc: Global, development: &Development, forms: Forms) -> Result
 /// fault; else of `Shape`, `Unknown`, `Repeated` and `Bound`, in this order, the first for which an item is wrong, with the
 /// least such item. `OutOfMemory` says nothing about the bytes.
 pub fn plan_of(alloc: Global, development: &Development, bytes: &[u8]) -> Result<Plan, Fault>
-    ensures { IsAnswerTo plan_of (plan_reading (development_shown development.now)) bytes.now result }
+    ensures { IsAnswerTo plan_of (plan_reading (development_view development.now)) bytes.now result }
 {
     let forms = Forms::read(alloc, bytes)?;
     plan_in(alloc, development, forms)

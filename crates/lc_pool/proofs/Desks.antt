@@ -12,7 +12,7 @@ use Rattle.lc_cond.specs.Uses.{AllUseTheirVariables}
 use Rattle.lc_cond.specs.VariableCounts.{AllHaveFewVariables}
 use Rattle.lc_cond.specs.declared.condition.Condition.{Condition}
 use Rattle.lc_cond.specs.declared.numbering.NumberedPart.{NumberedPart}
-use Rattle.lc_check.proofs.Walking.{all_bounded, still_known, still_seen}
+use Rattle.lc_check.proofs.Walking.{all_bounded, still_known, conditions_are_kept}
 use Rattle.lc_check.specs.Answers.{IsBounded}
 use Rattle.lc_pool.specs.Desks.{IsLaid}
 use Rattle.lc_pool.specs.declared.laid.Laid.{Laid}
@@ -40,5 +40,5 @@ bounded_at D k c uses few at = every_at IsBounded (conditions D) k c (all_bounde
 pub still_laid : (D : Development) (part : NumberedPart) (old new : Table) → Keeps old new → IsLaid D (record { terms = old; part = part }) → IsLaid D (record { terms = new; part = part })
 still_laid D part old new kept h = record {
   are = still_known old new part.conditions.items h.are kept;
-  stand = λ j x at. h.stand j x (ap (λ l. slice_get l j) (sym (still_seen old new part.conditions.items h.are kept)) ∙ at);
+  stand = λ j x at. h.stand j x (ap (λ l. slice_get l j) (sym (conditions_are_kept old new part.conditions.items h.are kept)) ∙ at);
 }

@@ -1,7 +1,7 @@
 -- What a worker has before it.
 use Rattle.std.specs.Prelude.{◌≡◌, ℕ, suc, ◌≤◌, map}
 use Rattle.lc_outline.specs.Development.{Development}
-use Rattle.lc_outline.specs.DevelopmentView.{development_shown}
+use Rattle.lc_outline.specs.DevelopmentView.{development_view}
 use Rattle.lc_cert.specs.ColumnNames.{names_with}
 use Rattle.lc_cert.specs.OneByOne.{names_known, piece_at}
 use Rattle.lc_cert.specs.declared.entry_reader.EntryReader.{EntryReader}
@@ -20,7 +20,7 @@ pub record IsLaid (D : Development) (l : Laid) : Type 0 where
   pub stand : StandFrom l.part.first (map (condition_in l.terms) l.part.conditions.items) (conditions D)
 
 abbrev pub development_in : Files → Development
-development_in f = development_shown f.development.now
+development_in f = development_view f.development.now
 
 -- where the file is cut, and the items that come after the cuts
 abbrev pub cuts_in : Files → ℕ → ℕ

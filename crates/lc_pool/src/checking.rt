@@ -1,7 +1,7 @@
 //! The verdict on a development file and a certificate file, by many workers.
 ghost use Rattle.std.specs.Prelude.{◌≡◌, ℕ, IfOk, IfSome, IsTrue, length};
 ghost use Rattle.lc_reading.specs.Files.{Says};
-ghost use Rattle.lc_outline.specs.DevelopmentView.{development_shown};
+ghost use Rattle.lc_outline.specs.DevelopmentView.{development_view};
 ghost use Rattle.lc_outline_text.specs.Developments.{file_reading};
 ghost use Rattle.lc_cert.specs.OneByOne.{IsFrame};
 ghost use Rattle.lc_cond.specs.Conditions.{conditions};
@@ -73,7 +73,7 @@ fn are_framed(
     cuts: &Cuts,
     count: u64,
 ) -> Result<bool, OutOfMemory>
-    ensures frame { IfOk result (λ b. IsTrue b → IsFrame (development_shown development.now) cert.now (at_place cuts.now.places.items 0) (at_place cuts.now.places.items count)) }
+    ensures frame { IfOk result (λ b. IsTrue b → IsFrame (development_view development.now) cert.now (at_place cuts.now.places.items 0) (at_place cuts.now.places.items count)) }
     ensures first { IfOk result (λ b. IsTrue b → at_place cuts.now.items.items 0 ≡ 3) }
 {
     let count = count as usize;
@@ -91,7 +91,7 @@ fn cut_and_number<R: Threads + Sync>(
     cert: &[u8],
     workers: u64,
 ) -> Result<(Option<Cuts>, Numbering), OutOfMemory>
-    ensures { IfOk result (λ both. IsNumbering (development_shown development.now) both.1) }
+    ensures { IfOk result (λ both. IsNumbering (development_view development.now) both.1) }
 {
     let (cuts, numbering) = thread::join(
         rt,
@@ -110,7 +110,7 @@ fn proven_in_pieces<R: Threads + Wait + Sync, G: Gate + Sync>(
     cert: &[u8],
     workers: u64,
 ) -> Result<Option<u64>, OutOfMemory>
-    ensures { let d = development_shown development.now in
+    ensures { let d = development_view development.now in
         IfOk result (λ count. IfSome count (λ n. (n ≡ length (conditions d)) × IsProvenBy d cert.now)) }
 {
     let (cuts, numbering) = cut_and_number(rt, alloc, development, cert, workers)?;
@@ -145,7 +145,7 @@ fn proven_count<R: Threads + Wait + Sync, G: Gate + Sync>(
     cert: &[u8],
     workers: u64,
 ) -> Result<u64, Fault>
-    ensures { IsCountOn (development_shown development.now) cert.now result }
+    ensures { IsCountOn (development_view development.now) cert.now result }
 {
     if workers > 1 {
         if let Some(count) = proven_in_pieces(rt, alloc, gate, development, cert, workers)? {
@@ -167,7 +167,7 @@ pub fn check_certificate_with<R: Threads + Wait + Sync, G: Gate + Sync>(
     workers: u64,
     gate: &G,
 ) -> Result<Verdict, OutOfMemory>
-    ensures exactly { IfOk result (IsVerdictOn (development_shown development) cert.now) }
+    ensures exactly { IfOk result (IsVerdictOn (development_view development) cert.now) }
     ensures linearizable { IfAccepted result (λ D. IsLinearizableObject D.specification D.object) }
 {
     let count = proven_count(rt, alloc, gate, &development, cert, workers);

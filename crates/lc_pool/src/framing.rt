@@ -3,7 +3,7 @@ ghost use Rattle.std.specs.Prelude.{◌≡◌, ◌++◌, IfOk, IfSome, IsTrue, [
 ghost use Rattle.lc_sexp.specs.CutFiles.{BeginsOpen, IsTail};
 ghost use Rattle.lc_sexp.specs.Reads.{ReadsAs};
 ghost use Rattle.lc_sexp.specs.Trees.{list, none, ◌▸◌};
-ghost use Rattle.lc_outline.specs.DevelopmentView.{development_shown};
+ghost use Rattle.lc_outline.specs.DevelopmentView.{development_view};
 ghost use Rattle.lc_cert.specs.OneByOne.{IsFrame};
 ghost use Rattle.lc_pool.specs.Frames.{IsHeadRow, IsHeadOf};
 
@@ -104,7 +104,7 @@ pub(crate) fn is_framed(
     from: usize,
     to: usize,
 ) -> Result<bool, OutOfMemory>
-    ensures { IfOk result (λ b. IsTrue b → IsFrame (development_shown development.now) file.now from to) }
+    ensures { IfOk result (λ b. IsTrue b → IsFrame (development_view development.now) file.now from to) }
 {
     if from > file.len() || to > file.len() || file.len() as u64 > FILE_LIMIT {
         return Ok(false);

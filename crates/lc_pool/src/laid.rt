@@ -4,7 +4,7 @@ ghost use Rattle.lc_base.specs.Limits.{file_limit};
 ghost use Rattle.lc_kernel.specs.Proofs.{size};
 ghost use Rattle.lc_kernel.specs.View.{proof_of};
 ghost use Rattle.lc_outline.specs.Development.{Development as Shown};
-ghost use Rattle.lc_outline.specs.DevelopmentView.{development_shown};
+ghost use Rattle.lc_outline.specs.DevelopmentView.{development_view};
 ghost use Rattle.lc_cond.specs.Numbering.{IsNumbering};
 ghost use Rattle.lc_pool.specs.Desks.{IsLaid};
 ghost use Rattle.lc_pool.specs.Known.{IsDerived};
@@ -62,9 +62,9 @@ pub(crate) fn lay_out(
     laid: &mut Laid,
     number: u64,
 ) -> Result<(), OutOfMemory>
-    requires numbering { IsNumbering (development_shown development.now) numbering.now }
-    requires laid { IsLaid (development_shown development.now) laid.old }
-    ensures { IsLaid (development_shown development.now) laid.new }
+    requires numbering { IsNumbering (development_view development.now) numbering.now }
+    requires laid { IsLaid (development_view development.now) laid.old }
+    ensures { IsLaid (development_view development.now) laid.new }
 {
     if place_of(laid, number).is_some() {
         return Ok(());
@@ -83,10 +83,10 @@ pub(crate) fn derives(
     number: u64,
     proof: &Proof,
 ) -> Result<bool, OutOfMemory>
-    requires laid { IsLaid (development_shown development.now) laid.old }
+    requires laid { IsLaid (development_view development.now) laid.old }
     requires steps { size (proof_of proof.now) ≤ file_limit }
-    ensures derived { IfOk result (λ good. IsTrue good → IsDerived (development_shown development.now) number (proof_of proof.now)) }
-    ensures laid { IsLaid (development_shown development.now) laid.new }
+    ensures derived { IfOk result (λ good. IsTrue good → IsDerived (development_view development.now) number (proof_of proof.now)) }
+    ensures laid { IsLaid (development_view development.now) laid.new }
 {
     let Some(place) = place_of(laid, number) else {
         return Ok(false);

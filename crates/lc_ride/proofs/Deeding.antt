@@ -11,7 +11,7 @@ use Rattle.lc_term.specs.Computed.{IsComputed}
 use Rattle.lc_term.specs.Meaning.{State}
 use Rattle.lc_term.specs.SystemColumns.{op_column}
 use Rattle.lc_term.specs.Updates.{Write, stored_all}
-use Rattle.lc_term.specs.UpdateView.{writes_shown}
+use Rattle.lc_term.specs.UpdateView.{writes_view}
 use Rattle.lc_term.proofs.Stores.{stored-append}
 use Rattle.lc_action.specs.ActionView.{first_of}
 use Rattle.lc_seq.specs.Run.{seq_says, outcome_in}
@@ -75,7 +75,7 @@ module _ (call : Call) (s m : State) (at : s ≡ m) (pick : Pick) where
 
   module _ (found : Option Outcome) (outcome : Outcome) (is : found ≡ Some outcome) (known : Takes s (Ok found)) where
     abbrev ws : List Write
-    ws = writes_shown outcome.writes.items
+    ws = writes_view outcome.writes.items
 
     abbrev reply : List ℤ
     reply = outcome.replies.items

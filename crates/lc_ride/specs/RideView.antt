@@ -24,21 +24,21 @@ abbrev pub marks_of : List Mark → List S.Mark
 marks_of ms = map mark_of ms
 
 -- columns and variables of a rider's own terms are below these counts, and its condition has no quantifier
-abbrev pub marking_is_seen : ℕ → ℕ → Marking → Bool
-marking_is_seen columns variables Own = true
-marking_is_seen columns variables (Other t p) = term_passes (known columns variables) t
-marking_is_seen columns variables Note = true
+abbrev pub marking_is_evaluable : ℕ → ℕ → Marking → Bool
+marking_is_evaluable columns variables Own = true
+marking_is_evaluable columns variables (Other t p) = term_passes (known columns variables) t
+marking_is_evaluable columns variables Note = true
 
-abbrev pub deed_is_seen : ℕ → ℕ → Deed → Bool
-deed_is_seen columns variables (Assign u) = update_is_resolved columns variables u
-deed_is_seen columns variables (Marks k by) = list_all (term_passes (known columns variables)) (given_in by) && marking_is_seen columns variables k
+abbrev pub deed_is_evaluable : ℕ → ℕ → Deed → Bool
+deed_is_evaluable columns variables (Assign u) = update_is_resolved columns variables u
+deed_is_evaluable columns variables (Marks k by) = list_all (term_passes (known columns variables)) (given_in by) && marking_is_evaluable columns variables k
 
-abbrev pub condition_is_seen : ℕ → ℕ → Option Formula → Bool
-condition_is_seen columns variables None = true
-condition_is_seen columns variables (Some f) = is_ground f && is_known columns variables f
+abbrev pub condition_is_evaluable : ℕ → ℕ → Option Formula → Bool
+condition_is_evaluable columns variables None = true
+condition_is_evaluable columns variables (Some f) = is_ground f && is_known columns variables f
 
-abbrev pub rider_is_seen : ℕ → ℕ → Rider → Bool
-rider_is_seen columns variables r = condition_is_seen columns variables r.condition && deed_is_seen columns variables r.deed
+abbrev pub rider_is_evaluable : ℕ → ℕ → Rider → Bool
+rider_is_evaluable columns variables r = condition_is_evaluable columns variables r.condition && deed_is_evaluable columns variables r.deed
 
 -- there are enough columns: the system columns, and those of the branches, which have no quantifier in their guards; and
 -- the variables of a branch are the number of clients, the client, the arguments and the branch's parameters

@@ -6,7 +6,7 @@ ghost use Rattle.lc_base.specs.Limits.{argument_limit};
 ghost use Rattle.lc_term.specs.SystemColumns.{op_column};
 ghost use Rattle.lc_seq.specs.Run.{seq_says};
 ghost use Rattle.lc_term.specs.State.{env_of, variable_count};
-ghost use Rattle.lc_term.specs.UpdateView.{update_of, writes_shown};
+ghost use Rattle.lc_term.specs.UpdateView.{update_of, writes_view};
 ghost use Rattle.lc_term.specs.Updates.{UpdatesFit, stored_all, write_of};
 ghost use Rattle.lc_action.specs.ActionView.{first_of};
 ghost use Rattle.lc_term.specs.Drafts.{written_in_draft, saved_in_draft, draft_columns};
@@ -110,7 +110,7 @@ fn client_of(number: i64) -> u64
 
 // Whether a branch stores nothing.
 fn stores_nothing(outcome: &Outcome) -> bool
-    ensures { IsTrue result ↔ (writes_shown outcome.now.writes.items ≡ []) }
+    ensures { IsTrue result ↔ (writes_view outcome.now.writes.items ≡ []) }
 {
     outcome.writes.is_empty()
 }

@@ -5,7 +5,7 @@ ghost use Rattle.std.specs.Ordering.{int_eq};
 ghost use Rattle.lc_term.specs.State.{state_of, column_count};
 ghost use Rattle.lc_term.specs.SystemColumns as columns;
 ghost use Rattle.lc_term.specs.Updates.{cell_writes, AreWithin};
-ghost use Rattle.lc_term.specs.UpdateView.{writes_shown};
+ghost use Rattle.lc_term.specs.UpdateView.{writes_view};
 ghost use Rattle.lc_action.specs.ActionView.{first_of};
 ghost use Rattle.lc_rider.specs.Rider.{mark_writes, note_writes};
 
@@ -42,7 +42,7 @@ fn push_writes(
     numbers: &[i64],
     writes: &mut Vec<Write>,
 ) -> Result<(), OutOfMemory>
-    ensures { OnOk result (writes_shown writes.new.items ≡ writes_shown writes.old.items ++ cell_writes (map (λ c. c.0) columns.now) index numbers.now) }
+    ensures { OnOk result (writes_view writes.new.items ≡ writes_view writes.old.items ++ cell_writes (map (λ c. c.0) columns.now) index numbers.now) }
 {
     for (i, column) in columns.iter().enumerate() {
         let Some(number) = numbers.get(i) else {
@@ -65,7 +65,7 @@ pub(crate) fn mark_writes(
     reply: &[i64],
 ) -> Result<Vec<Write>, OutOfMemory>
     requires { client < 2 ^ 63 }
-    ensures { IfOk result (λ writes. writes_shown writes.items ≡ mark_writes (first_of system) client reply.now) }
+    ensures { IfOk result (λ writes. writes_view writes.items ≡ mark_writes (first_of system) client reply.now) }
 {
     let mut writes = Vec::new(alloc);
     push_writes(&system.replies(), client as i64, reply, &mut writes)?;
@@ -81,7 +81,7 @@ pub(crate) fn note_writes(
     reply: &[i64],
 ) -> Result<Vec<Write>, OutOfMemory>
     requires { client < 2 ^ 63 }
-    ensures { IfOk result (λ writes. writes_shown writes.items ≡ note_writes (first_of system) client reply.now) }
+    ensures { IfOk result (λ writes. writes_view writes.items ≡ note_writes (first_of system) client reply.now) }
 {
     let mut writes = Vec::new(alloc);
     push_writes(&[system.noted()], client as i64, &[1], &mut writes)?;

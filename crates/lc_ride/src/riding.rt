@@ -13,7 +13,7 @@ ghost use Rattle.lc_rider.specs.RiderView.{rider_of, riders_of, choosing_of};
 ghost use Rattle.lc_ride.specs.Calls.{CanRide, Does};
 ghost use Rattle.lc_ride.specs.Riding.{do_rider, do_all};
 ghost use Rattle.lc_ride.specs.RidingFits.{RiderFits, RidersFit};
-ghost use Rattle.lc_ride.specs.RideView.{AreThere, IsRidden, deed_is_seen, rider_is_seen};
+ghost use Rattle.lc_ride.specs.RideView.{AreThere, IsRidden, deed_is_evaluable, rider_is_evaluable};
 
 use crate::choosing::pick_of;
 use crate::deeds::{assign, help, note, settle};
@@ -58,7 +58,7 @@ fn settle_own(
     marks: &mut Vec<Mark>,
 ) -> Result<bool, SeqFault>
     requires rides { CanRide rides.now (draft_columns draft.old) }
-    requires seen { deed_is_seen (draft_columns draft.old) (variable_count rides.now.env.now) (Marks Own (choosing_of by.now)) ≡ true }
+    requires seen { deed_is_evaluable (draft_columns draft.old) (variable_count rides.now.env.now) (Marks Own (choosing_of by.now)) ≡ true }
     ensures done { Does rides.now (written_in_draft draft.old) (Marks Own (choosing_of by.now)) marks.old.items marks.new.items (written_in_draft draft.new) result }
     ensures saved { saved_in_draft draft.new ≡ saved_in_draft draft.old }
     ensures columns { draft_columns draft.new ≡ draft_columns draft.old }
@@ -78,7 +78,7 @@ fn settle_other(
     marks: &mut Vec<Mark>,
 ) -> Result<bool, SeqFault>
     requires rides { CanRide rides.now (draft_columns draft.old) }
-    requires seen { deed_is_seen (draft_columns draft.old) (variable_count rides.now.env.now) (Marks (Other (term_of client.now) operation.0) (choosing_of by.now)) ≡ true }
+    requires seen { deed_is_evaluable (draft_columns draft.old) (variable_count rides.now.env.now) (Marks (Other (term_of client.now) operation.0) (choosing_of by.now)) ≡ true }
     ensures done { Does rides.now (written_in_draft draft.old) (Marks (Other (term_of client.now) operation.0) (choosing_of by.now)) marks.old.items marks.new.items (written_in_draft draft.new) result }
     ensures saved { saved_in_draft draft.new ≡ saved_in_draft draft.old }
     ensures columns { draft_columns draft.new ≡ draft_columns draft.old }
@@ -106,7 +106,7 @@ fn note_own(
     marks: &mut Vec<Mark>,
 ) -> Result<bool, SeqFault>
     requires rides { CanRide rides.now (draft_columns draft.old) }
-    requires seen { deed_is_seen (draft_columns draft.old) (variable_count rides.now.env.now) (Marks Note (choosing_of by.now)) ≡ true }
+    requires seen { deed_is_evaluable (draft_columns draft.old) (variable_count rides.now.env.now) (Marks Note (choosing_of by.now)) ≡ true }
     ensures done { Does rides.now (written_in_draft draft.old) (Marks Note (choosing_of by.now)) marks.old.items marks.new.items (written_in_draft draft.new) result }
     ensures saved { saved_in_draft draft.new ≡ saved_in_draft draft.old }
     ensures columns { draft_columns draft.new ≡ draft_columns draft.old }
@@ -124,7 +124,7 @@ fn do_deed(
     marks: &mut Vec<Mark>,
 ) -> Result<bool, SeqFault>
     requires rides { CanRide rides.now (draft_columns draft.old) }
-    requires seen { deed_is_seen (draft_columns draft.old) (variable_count rides.now.env.now) (rider_of rider.now).deed ≡ true }
+    requires seen { deed_is_evaluable (draft_columns draft.old) (variable_count rides.now.env.now) (rider_of rider.now).deed ≡ true }
     ensures done { Does rides.now (written_in_draft draft.old) (rider_of rider.now).deed marks.old.items marks.new.items (written_in_draft draft.new) result }
     ensures saved { saved_in_draft draft.new ≡ saved_in_draft draft.old }
     ensures columns { draft_columns draft.new ≡ draft_columns draft.old }
@@ -154,7 +154,7 @@ fn do_rider(
     marks: &mut Vec<Mark>,
 ) -> Result<bool, SeqFault>
     requires rides { CanRide rides.now (draft_columns draft.old) }
-    requires seen { rider_is_seen (draft_columns draft.old) (variable_count rides.now.env.now) (rider_of rider.now) ≡ true }
+    requires seen { rider_is_evaluable (draft_columns draft.old) (variable_count rides.now.env.now) (rider_of rider.now) ≡ true }
     ensures done { let ops = operations_of rides.now.operations.now in
         let m = written_in_draft draft.old in
         let first = first_of rides.now.system in
@@ -188,7 +188,7 @@ pub fn ride_all(
     requires there { AreThere (operations_of rides.now.operations.now) (first_of rides.now.system) (draft_columns draft.old) }
     requires few { (o : ℕ) → arity (operations_of rides.now.operations.now) o ≤ argument_limit }
     requires client { rides.now.client < 2 ^ 63 }
-    requires seen { list_all (rider_is_seen (draft_columns draft.old) (variable_count rides.now.env.now)) (riders_of riders.now) ≡ true }
+    requires seen { list_all (rider_is_evaluable (draft_columns draft.old) (variable_count rides.now.env.now)) (riders_of riders.now) ≡ true }
     ensures done { let ops = operations_of rides.now.operations.now in
         let m = written_in_draft draft.old in
         let first = first_of rides.now.system in

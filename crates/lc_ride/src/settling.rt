@@ -5,7 +5,7 @@ ghost use Rattle.lc_term.specs.State.{state_of, env_of, column_count, variable_c
 ghost use Rattle.lc_term.specs.SystemColumns as columns;
 ghost use Rattle.lc_term.specs.Computed.{IsComputed};
 ghost use Rattle.lc_term.specs.Updates.{AreWithin, row};
-ghost use Rattle.lc_term.specs.UpdateView.{writes_shown};
+ghost use Rattle.lc_term.specs.UpdateView.{writes_view};
 ghost use Rattle.lc_action.specs.ActionView.{first_of};
 ghost use Rattle.lc_seq.specs.Run.{seq_says, outcome_in};
 ghost use Rattle.lc_seq.specs.SpecView.{branches_of, operations_of, choice_of};
@@ -102,7 +102,7 @@ pub(crate) fn taken(
         let m = state_of state.now in
         let first = first_of call.entry.system in
         IsComputed seq_says outcome_in (TakenFits ops first m call.entry.client call.entry.operation.0 (choice_of pick.now)) (taken ops first m call.entry.client call.entry.operation.0 (choice_of pick.now)) result }
-    ensures columns { IfOk result (λ found. IfSome found (λ outcome. AreWithin (column_count state.now) (writes_shown outcome.writes.items))) }
+    ensures columns { IfOk result (λ found. IfSome found (λ outcome. AreWithin (column_count state.now) (writes_view outcome.writes.items))) }
 {
     if !stands(state, call.system.pend(), call.client, 1)? {
         return Ok(None);

@@ -23,8 +23,8 @@ known_to ts n [] h = tt
 known_to ts n (d ∷ ds) h = (h.0, known_to ts n ds h.1)
 
 -- facts as they are seen are as many
-known_seen : (ts : Table) (fs : List FormulaId) (ds : List Duty) → AreKnown (length fs) ds → AreKnown (length (formulas_in ts fs)) ds
-known_seen ts fs ds h = subst (λ n. AreKnown n ds) (sym (length-map fs (formula_in ts))) h
+formulas_are_known : (ts : Table) (fs : List FormulaId) (ds : List Duty) → AreKnown (length fs) ds → AreKnown (length (formulas_in ts fs)) ds
+formulas_are_known ts fs ds h = subst (λ n. AreKnown n ds) (sym (length-map fs (formula_in ts))) h
 
 -- one more fact
 pub fact_put : (ts : Table) (p r : Path) (k : FormulaId) → r.facts.items ≡ p.facts.items ++ k ∷ [] → r.columns.items ≡ p.columns.items → r.marks.items ≡ p.marks.items →
@@ -33,7 +33,7 @@ fact_put ts p r k facts columns marks q f h at =
     let fs = p.facts.items in
     let ds = p.marks.items in
     let seen : formulas_in ts r.facts.items ≡ formulas_in ts fs ++ f ∷ [] = ap (formulas_in ts) facts ∙ formulas_pushed ts ts fs k f h.is.facts (keeps_itself ts) at in
-    let kept = duties_kept (formulas_in ts fs) f (map (owed_in ts) ds) (known_to ts (length (formulas_in ts fs)) ds (known_seen ts fs ds p.are_known)) in
+    let kept = duties_kept (formulas_in ts fs) f (map (owed_in ts) ds) (known_to ts (length (formulas_in ts fs)) ds (formulas_are_known ts fs ds p.are_known)) in
     let duties : map (duty_in (formulas_in ts r.facts.items)) (map (owed_in ts) r.marks.items) ≡ map (duty_in (formulas_in ts fs)) (map (owed_in ts) ds) =
     (λ i. map (duty_in (seen i)) (map (owed_in ts) (marks i))) ∙ kept in
     let path : path_in ts r ≡ with_fact (path_in ts p) f = λ i. record { columns = columns_at ts (columns i); facts = seen i; duties = duties i } in

@@ -21,20 +21,20 @@ abbrev pub others_listed : Variables → Option (List (List ℕ))
 others_listed variables = listed_there variables.first variables.second
 
 -- how an operation goes
-abbrev pub ways_seen : Ways → K.Ways
-ways_seen ways = record { count = ways.count; choices = listed ways.choices; parameters = ways.parameters.items }
+abbrev pub ways_view : Ways → K.Ways
+ways_view ways = record { count = ways.count; choices = listed ways.choices; parameters = ways.parameters.items }
 
 -- how one goes that is referred to, if it is known
 abbrev pub ways_there : Option (Bor Ways) → Option K.Ways
 ways_there None = None
-ways_there (Some ways) = Some (ways_seen ways.now)
+ways_there (Some ways) = Some (ways_view ways.now)
 
-abbrev pub known_seen : Known → K.Known
-known_seen known = record {
+abbrev pub known_view : Known → K.Known
+known_view known = record {
   columns = columns_listed known.columns;
   auxiliaries = known.columns.auxiliaries;
   operations = listed known.operations.now;
-  ways = map ways_seen known.ways.now;
+  ways = map ways_view known.ways.now;
   actions = listed known.actions.now;
   parameters = known.parameters.now;
 }

@@ -29,14 +29,14 @@ update_parts p = ((p.0.0.0, term_of p.0.1), term_of p.1)
 abbrev pub names_of : Vec Name Global → List (List ℕ)
 names_of names = map bytes_of names.items
 
-abbrev pub heading_seen : Name × Vec Name Global → List ℕ × List (List ℕ)
-heading_seen p = (bytes_of p.0, names_of p.1)
+abbrev pub heading_view : Name × Vec Name Global → List ℕ × List (List ℕ)
+heading_view p = (bytes_of p.0, names_of p.1)
 
-abbrev pub effect_seen : Formula × Vec Update Global → T.Formula × List U.Update
-effect_seen p = (formula_of p.0, updates_of p.1.items)
+abbrev pub effect_view : Formula × Vec Update Global → T.Formula × List U.Update
+effect_view p = (formula_of p.0, updates_of p.1.items)
 
 abbrev pub action_parts : (Name × Vec Name Global) × (Formula × Vec Update Global) → (List ℕ × List (List ℕ)) × (T.Formula × List U.Update)
-action_parts p = (heading_seen p.0, effect_seen p.1)
+action_parts p = (heading_view p.0, effect_view p.1)
 
 -- what is done
 abbrev pub deed_of : Deed → R.Deed

@@ -10,8 +10,8 @@ ghost use Rattle.lc_term.specs.Updates as U;
 ghost use Rattle.lc_text.specs.Terms.{pair};
 ghost use Rattle.lc_object_text.specs.Declaring.{kth_name_reading};
 ghost use Rattle.lc_rider_text.specs.Actions.{effect_reading, action_parts_reading, the_action, headed_action_reading};
-ghost use Rattle.lc_rider_text.specs.KnownView.{known_seen};
-ghost use Rattle.lc_rider_text.specs.Seen.{names_of, heading_seen, effect_seen, action_parts};
+ghost use Rattle.lc_rider_text.specs.KnownView.{known_view};
+ghost use Rattle.lc_rider_text.specs.Seen.{names_of, heading_view, effect_view, action_parts};
 
 use crate::known::Known;
 use crate::parameters::read_parameters;
@@ -38,7 +38,7 @@ fn read_heading(
     parameters: Result<Vec<Name>, ReadFault>,
 ) -> Result<(Name, Vec<Name>), ReadFault>
     ensures { (r : Reading (List (List ℕ))) → IsReading names_of r parameters →
-        IsReading heading_seen (both pair (kth_name_reading (known_seen known.entry).actions place (place_of name.entry) (tree_of name.entry)) r) result }
+        IsReading heading_view (both pair (kth_name_reading (known_view known.entry).actions place (place_of name.entry) (tree_of name.entry)) r) result }
 {
     both(
         read_kth_name(known.actions, u64::from(place), name),
@@ -54,7 +54,7 @@ fn read_effect<S: Scope>(
     guard: Part<'_>,
     updates: Cursor<'_>,
 ) -> Result<(Formula, Vec<Update>), ReadFault>
-    ensures { IsReading effect_seen (effect_reading (known_seen known.entry) (S.names scope.now) (place_of guard.entry) (tree_of guard.entry) (number_of updates.entry) (rest_of updates.entry)) result }
+    ensures { IsReading effect_view (effect_reading (known_view known.entry) (S.names scope.now) (place_of guard.entry) (tree_of guard.entry) (number_of updates.entry) (rest_of updates.entry)) result }
 {
     let guard = read_formula(alloc, scope, guard);
     let known = known.expecting(updates);
@@ -68,7 +68,7 @@ fn read_action_parts(
     place: u32,
     list: Cursor<'_>,
 ) -> Result<ActionParts, ReadFault>
-    ensures { IsReading action_parts (action_parts_reading (known_seen known.entry) place (owner_of list.entry) (number_of list.entry) (rest_of list.entry)) result }
+    ensures { IsReading action_parts (action_parts_reading (known_view known.entry) place (owner_of list.entry) (number_of list.entry) (rest_of list.entry)) result }
 {
     let mut rest = list;
     let name = next_part(&mut rest)?;
@@ -103,7 +103,7 @@ fn read_action(
     place: u32,
     part: Part<'_>,
 ) -> Result<Action, ReadFault>
-    ensures { IsReading action_of (headed_action_reading (known_seen known.entry) place (place_of part.entry) (tree_of part.entry)) result }
+    ensures { IsReading action_of (headed_action_reading (known_view known.entry) place (place_of part.entry) (tree_of part.entry)) result }
 {
     let list = behind_word(part, "action")?;
     made_action(read_action_parts(alloc, known, place, list))
@@ -117,7 +117,7 @@ impl ReadsPlaced for Actions<'_, '_> {
     ghost use Rattle.lc_action.specs.Action.{Action};
     ghost use Rattle.lc_action.specs.ActionView.{action_of};
     ghost use Rattle.lc_rider_text.specs.Actions.{action_reading};
-    ghost use Rattle.lc_rider_text.specs.KnownView.{known_seen};
+    ghost use Rattle.lc_rider_text.specs.KnownView.{known_view};
 
     type Value = Action;
 
@@ -125,7 +125,7 @@ impl ReadsPlaced for Actions<'_, '_> {
 
     ghost meaning = { action_of };
 
-    ghost reading = { λ reader. action_reading (known_seen reader.0) };
+    ghost reading = { λ reader. action_reading (known_view reader.0) };
 
     fn read(&self, alloc: Global, place: u32, part: Part<'_>) -> Result<Action, ReadFault> {
         let action = read_action(alloc, self.0, place, part);

@@ -6,7 +6,7 @@ ghost use Rattle.lc_reading.specs.Parts.{tree_of, place_of};
 ghost use Rattle.lc_reading.specs.Results.{IsReading};
 ghost use Rattle.lc_rider.specs.RiderView.{choosing_of};
 ghost use Rattle.lc_rider_text.specs.Choices.{may_choose, may_go_in_order, in_order_reading, choice_use, terms_due, choice_reading, by_reading};
-ghost use Rattle.lc_rider_text.specs.KnownView.{ways_seen, ways_there};
+ghost use Rattle.lc_rider_text.specs.KnownView.{ways_view, ways_there};
 
 use crate::known::Ways;
 use crate::terms::read_arguments;
@@ -50,7 +50,7 @@ pub(crate) fn read_in_order(ways: Option<&Ways<'_>>, rider: u64) -> Result<Choos
 
 /// The name of a choice that the operation has.
 fn read_known_choice(ways: &Ways<'_>, part: Part<'_>) -> Result<Name, ReadFault>
-    ensures { IsReading bytes_of (choice_use (Some (ways_seen ways.now)) (place_of part.entry) (tree_of part.entry)) result }
+    ensures { IsReading bytes_of (choice_use (Some (ways_view ways.now)) (place_of part.entry) (tree_of part.entry)) result }
 {
     read_use(&ways.choices, part)?;
     let atom = match part.item() {

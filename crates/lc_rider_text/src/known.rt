@@ -27,11 +27,11 @@ impl Drop for Ways<'_> {
 impl Ways<'_> {
     ghost use Rattle.std.specs.Prelude.{◌≡◌};
     ghost use Rattle.lc_rider_text.specs.Known as K;
-    ghost use Rattle.lc_rider_text.specs.KnownView.{ways_seen};
+    ghost use Rattle.lc_rider_text.specs.KnownView.{ways_view};
 
     /// Whether it goes by choices, and not by branches.
     pub(crate) fn has_choices(&self) -> bool
-        ensures { result ≡ K.has_choices (ways_seen self.now) }
+        ensures { result ≡ K.has_choices (ways_view self.now) }
     {
         self.choices.len() > 0
     }
@@ -52,12 +52,12 @@ pub struct Known<'a, 'b> {
 impl<'a, 'b> Known<'a, 'b> {
     ghost use Rattle.std.specs.Prelude.{◌≡◌};
     ghost use Rattle.lc_reading.specs.Parts.{tree_of};
-    ghost use Rattle.lc_rider_text.specs.KnownView.{known_seen, ways_there};
+    ghost use Rattle.lc_rider_text.specs.KnownView.{known_view, ways_there};
     ghost use Rattle.lc_rider_text.specs.Riders.{ways_named};
 
     /// The same, if the column of the first of these updates is asked for next, as in most lists all are of one column.
     pub(crate) fn expecting(self, updates: Cursor<'_>) -> Known<'a, 'b>
-        ensures { known_seen result ≡ known_seen self.entry }
+        ensures { known_view result ≡ known_view self.entry }
     {
         let mut known = self;
         known.columns = self.columns.expecting(first_text(&within_first(updates)));
@@ -66,7 +66,7 @@ impl<'a, 'b> Known<'a, 'b> {
 
     /// How the operation goes that an item names, if it names one.
     pub(crate) fn ways_named(self, part: Part<'_>) -> Option<&'b Ways<'a>>
-        ensures { ways_there result ≡ ways_named (known_seen self.entry) (tree_of part.entry) }
+        ensures { ways_there result ≡ ways_named (known_view self.entry) (tree_of part.entry) }
     {
         let atom = match part.item() {
             Item::Atom(atom) => atom,

@@ -11,7 +11,7 @@ ghost use Rattle.lc_rider.specs.Rider as R;
 ghost use Rattle.lc_rider.specs.RiderView.{riders_of};
 ghost use Rattle.lc_term.specs.Syntax as T;
 ghost use Rattle.lc_rider_text.specs.Known as K;
-ghost use Rattle.lc_rider_text.specs.KnownView.{known_seen, ways_there};
+ghost use Rattle.lc_rider_text.specs.KnownView.{known_view, ways_there};
 ghost use Rattle.lc_rider_text.specs.Ons.{action_use, arguments_due, call_parts_reading, call_reading, step_reading, the_on, on_parts_reading, on_reading, ons_reading};
 ghost use Rattle.lc_rider_text.specs.Paths.{path_count};
 ghost use Rattle.lc_rider_text.specs.Seen.{terms_of, call_parts, step_parts};
@@ -45,7 +45,7 @@ fn is_built_in(name: &str) -> bool
 
 /// The declared action that an item names.
 fn read_action_use(known: Known<'_, '_>, part: Part<'_>) -> Result<ActionId, ReadFault>
-    ensures { IsReading (λ action. action.0) (action_use (known_seen known.entry) (place_of part.entry) (tree_of part.entry)) result }
+    ensures { IsReading (λ action. action.0) (action_use (known_view known.entry) (place_of part.entry) (tree_of part.entry)) result }
 {
     match part.item() {
         Item::Atom(atom) if is_built_in(atom.text()) => Err(wrong(Pass::Shape, atom.number())),
@@ -56,7 +56,7 @@ fn read_action_use(known: Known<'_, '_>, part: Part<'_>) -> Result<ActionId, Rea
 
 /// How many terms the call of an action has, if an item names one.
 fn arguments_due(known: Known<'_, '_>, part: Part<'_>) -> Option<u64>
-    ensures { result ≡ arguments_due (known_seen known.entry) (tree_of part.entry) }
+    ensures { result ≡ arguments_due (known_view known.entry) (tree_of part.entry) }
 {
     let atom = match part.item() {
         Item::Atom(atom) => atom,
@@ -76,7 +76,7 @@ fn read_call_parts<S: Scope>(
     scope: &S,
     list: Cursor<'_>,
 ) -> Result<(ActionId, Vec<Term>), ReadFault>
-    ensures { IsReading call_parts (call_parts_reading (known_seen known.entry) (S.names scope.now) (owner_of list.entry) (number_of list.entry) (rest_of list.entry)) result }
+    ensures { IsReading call_parts (call_parts_reading (known_view known.entry) (S.names scope.now) (owner_of list.entry) (number_of list.entry) (rest_of list.entry)) result }
 {
     let mut rest = list;
     let action = next_part(&mut rest)?;
@@ -94,7 +94,7 @@ fn read_call<S: Scope>(
     scope: &S,
     part: Part<'_>,
 ) -> Result<(ActionId, Vec<Term>), ReadFault>
-    ensures { IsReading call_parts (call_reading (known_seen known.entry) (S.names scope.now) (place_of part.entry) (tree_of part.entry)) result }
+    ensures { IsReading call_parts (call_reading (known_view known.entry) (S.names scope.now) (place_of part.entry) (tree_of part.entry)) result }
 {
     match part.item() {
         Item::Atom(atom) => Err(wrong(Pass::Shape, atom.number())),
@@ -113,7 +113,7 @@ fn read_step<S: Scope>(
     edge: Part<'_>,
     call: Part<'_>,
 ) -> Result<Step, ReadFault>
-    ensures { IsReading step_parts (step_reading (known_seen known.entry) (S.names scope.now) (place_of edge.entry) (tree_of edge.entry) (place_of call.entry) (tree_of call.entry)) result }
+    ensures { IsReading step_parts (step_reading (known_view known.entry) (S.names scope.now) (place_of edge.entry) (tree_of edge.entry) (place_of call.entry) (tree_of call.entry)) result }
 {
     both(read_edge(edge), read_call(alloc, known, scope, call))
 }
@@ -146,7 +146,7 @@ fn read_on_parts<'a, 'b, S: Scope>(
     edges: Edges,
     list: Cursor<'_>,
 ) -> Result<On, ReadFault>
-    ensures { IsReading on_of (on_parts_reading (known_seen known.entry) (S.names scope.now) (ways_there own.entry) edges (owner_of list.entry) (number_of list.entry) (rest_of list.entry)) result }
+    ensures { IsReading on_of (on_parts_reading (known_view known.entry) (S.names scope.now) (ways_there own.entry) edges (owner_of list.entry) (number_of list.entry) (rest_of list.entry)) result }
 {
     let mut rest = list;
     let edge = next_part(&mut rest)?;
@@ -170,7 +170,7 @@ pub fn read_on<'a, 'b, S: Scope>(
     edges: Edges,
     part: Part<'_>,
 ) -> Result<On, ReadFault>
-    ensures { IsReading on_of (on_reading (known_seen known.entry) (S.names scope.now) (ways_there own.entry) edges (place_of part.entry) (tree_of part.entry)) result }
+    ensures { IsReading on_of (on_reading (known_view known.entry) (S.names scope.now) (ways_there own.entry) edges (place_of part.entry) (tree_of part.entry)) result }
 {
     let list = behind_word(part, "on")?;
     read_on_parts(alloc, known, scope, own, edges, list)
@@ -186,7 +186,7 @@ pub fn read_ons<'a, 'b, S: Scope>(
     edges: Edges,
     list: Cursor<'_>,
 ) -> Result<Vec<On>, ReadFault>
-    ensures { IsReading (λ ons. map on_of ons.items) (ons_reading (known_seen known.entry) (S.names scope.now) (ways_there own.entry) edges (number_of list.entry) (rest_of list.entry)) result }
+    ensures { IsReading (λ ons. map on_of ons.items) (ons_reading (known_view known.entry) (S.names scope.now) (ways_there own.entry) edges (number_of list.entry) (rest_of list.entry)) result }
 {
     let mut rest = list;
     let mut left = edges;

@@ -3,7 +3,7 @@ ghost use Rattle.std.specs.Prelude.{◌≡◌, min};
 ghost use Rattle.lc_rider_text.specs.Ons.{path_cap};
 ghost use Rattle.lc_sexp.specs.Shown.{rest_of};
 ghost use Rattle.lc_reading.specs.Parts.{tree_of};
-ghost use Rattle.lc_rider_text.specs.KnownView.{known_seen, ways_there};
+ghost use Rattle.lc_rider_text.specs.KnownView.{known_view, ways_there};
 ghost use Rattle.lc_rider_text.specs.Paths.{mark_ways, other_ways, ways_with, deed_ways, when_ways, rider_ways, path_count};
 
 use crate::known::{Known, Ways};
@@ -34,7 +34,7 @@ fn mark_ways(ways: Option<&Ways<'_>>) -> u64
 
 /// `T OP`: in how many ways the call of another client is settled, up to the cap.
 fn other_ways(known: Known<'_, '_>, list: Cursor<'_>) -> u64
-    ensures { result ≡ min path_cap (other_ways (known_seen known.entry) (rest_of list.entry)) }
+    ensures { result ≡ min path_cap (other_ways (known_view known.entry) (rest_of list.entry)) }
 {
     match two(list) {
         Ok((_, operation, _)) => mark_ways(known.ways_named(operation)),
@@ -50,7 +50,7 @@ fn ways_with(
     head: Option<Head>,
     list: Cursor<'_>,
 ) -> u64
-    ensures { result ≡ min path_cap (ways_with (known_seen known.entry) (ways_there own.entry) (rest_of list.entry) head) }
+    ensures { result ≡ min path_cap (ways_with (known_view known.entry) (ways_there own.entry) (rest_of list.entry) head) }
 {
     match head {
         Some(Head::Lin | Head::Note) => mark_ways(own),
@@ -61,7 +61,7 @@ fn ways_with(
 
 /// In how many ways a rider is passed that is no `when`, up to the cap.
 fn deed_ways(known: Known<'_, '_>, own: Option<&Ways<'_>>, part: Part<'_>) -> u64
-    ensures { result ≡ min path_cap (deed_ways (known_seen known.entry) (ways_there own.entry) (tree_of part.entry)) }
+    ensures { result ≡ min path_cap (deed_ways (known_view known.entry) (ways_there own.entry) (tree_of part.entry)) }
 {
     let list = match part.item() {
         Item::Atom(_) => return 1,
@@ -75,7 +75,7 @@ fn deed_ways(known: Known<'_, '_>, own: Option<&Ways<'_>>, part: Part<'_>) -> u6
 
 /// `F RIDER`: one way more; up to the cap.
 fn when_ways(known: Known<'_, '_>, own: Option<&Ways<'_>>, list: Cursor<'_>) -> u64
-    ensures { result ≡ min path_cap (when_ways (known_seen known.entry) (ways_there own.entry) (rest_of list.entry)) }
+    ensures { result ≡ min path_cap (when_ways (known_view known.entry) (ways_there own.entry) (rest_of list.entry)) }
 {
     match two(list) {
         Ok((_, rider, _)) => capped(1 + deed_ways(known, own, rider)),
@@ -86,7 +86,7 @@ fn when_ways(known: Known<'_, '_>, own: Option<&Ways<'_>>, list: Cursor<'_>) -> 
 /// In how many ways a rider is passed, in the body of an operation that goes so, if it is known; `COUNT_CAP` if there are more
 /// than the limit.
 pub fn rider_ways(known: Known<'_, '_>, own: Option<&Ways<'_>>, part: Part<'_>) -> u64
-    ensures { result ≡ min path_cap (rider_ways (known_seen known.entry) (ways_there own.entry) (tree_of part.entry)) }
+    ensures { result ≡ min path_cap (rider_ways (known_view known.entry) (ways_there own.entry) (tree_of part.entry)) }
 {
     let list = match part.item() {
         Item::Atom(_) => return 1,
@@ -102,7 +102,7 @@ pub fn rider_ways(known: Known<'_, '_>, own: Option<&Ways<'_>>, part: Part<'_>) 
 /// How many paths the riders make that are left in a list, in the body of an operation that goes so, if it is known;
 /// `COUNT_CAP` if there are more than the limit.
 pub fn path_count(known: Known<'_, '_>, own: Option<&Ways<'_>>, list: Cursor<'_>) -> u64
-    ensures { result ≡ min path_cap (path_count (known_seen known.entry) (ways_there own.entry) (rest_of list.entry)) }
+    ensures { result ≡ min path_cap (path_count (known_view known.entry) (ways_there own.entry) (rest_of list.entry)) }
 {
     let mut rest = list;
     let mut count = 1;

@@ -12,7 +12,7 @@ ghost use Rattle.lc_term.specs.Syntax as T;
 ghost use Rattle.lc_term.specs.Updates as U;
 ghost use Rattle.lc_term.specs.UpdateView.{update_of};
 ghost use Rattle.lc_text.specs.Formulas.{formula_reading};
-ghost use Rattle.lc_rider_text.specs.KnownView.{known_seen, ways_there};
+ghost use Rattle.lc_rider_text.specs.KnownView.{known_view, ways_there};
 ghost use Rattle.lc_rider_text.specs.Riders.{other_reading, mark_of_other, lin_other_reading, lin_other_by_reading, headed_reading, deed_with, deed_reading, when_reading, always, where_holds, rider_reading, riders_reading};
 ghost use Rattle.lc_rider_text.specs.Scopes.{quiet};
 ghost use Rattle.lc_rider_text.specs.Seen.{deed_of, other_parts, when_parts};
@@ -37,7 +37,7 @@ use std::alloc::Global;
 
 /// The operation that an item names.
 fn read_operation(known: Known<'_, '_>, part: Part<'_>) -> Result<OpId, ReadFault>
-    ensures { IsReading (λ operation. operation.0) (use_reading (known_seen known.entry).operations (place_of part.entry) (tree_of part.entry)) result }
+    ensures { IsReading (λ operation. operation.0) (use_reading (known_view known.entry).operations (place_of part.entry) (tree_of part.entry)) result }
 {
     Ok(OpId(number_at(read_use(known.operations, part)?)?))
 }
@@ -50,7 +50,7 @@ fn read_other<S: Scope>(
     client: Part<'_>,
     operation: Part<'_>,
 ) -> Result<(Term, OpId), ReadFault>
-    ensures { IsReading other_parts (other_reading (known_seen known.entry) (S.names scope.now) (place_of client.entry) (tree_of client.entry) (place_of operation.entry) (tree_of operation.entry)) result }
+    ensures { IsReading other_parts (other_reading (known_view known.entry) (S.names scope.now) (place_of client.entry) (tree_of client.entry) (place_of operation.entry) (tree_of operation.entry)) result }
 {
     both(
         read_term(alloc, scope, client),
@@ -82,7 +82,7 @@ fn read_lin_other<S: Scope>(
     scope: &S,
     list: Cursor<'_>,
 ) -> Result<Deed, ReadFault>
-    ensures { IsReading deed_of (lin_other_reading (known_seen known.entry) (S.names scope.now) (owner_of list.entry) (number_of list.entry) (rest_of list.entry)) result }
+    ensures { IsReading deed_of (lin_other_reading (known_view known.entry) (S.names scope.now) (owner_of list.entry) (number_of list.entry) (rest_of list.entry)) result }
 {
     let (client, operation, rest) = two(list)?;
     let call = read_other(alloc, known, scope, client, operation);
@@ -97,7 +97,7 @@ fn read_lin_other_by<S: Scope>(
     scope: &S,
     list: Cursor<'_>,
 ) -> Result<Deed, ReadFault>
-    ensures { IsReading deed_of (lin_other_by_reading (known_seen known.entry) (S.names scope.now) (owner_of list.entry) (number_of list.entry) (rest_of list.entry)) result }
+    ensures { IsReading deed_of (lin_other_by_reading (known_view known.entry) (S.names scope.now) (owner_of list.entry) (number_of list.entry) (rest_of list.entry)) result }
 {
     let mut rest = list;
     let client = next_part(&mut rest)?;
@@ -137,7 +137,7 @@ fn read_headed<S: Scope>(
     head: Head,
     list: Cursor<'_>,
 ) -> Result<Deed, ReadFault>
-    ensures { IsReading deed_of (headed_reading (known_seen known.entry) (S.names scope.now) (ways_there own.entry) head (owner_of list.entry) (number_of list.entry) (rest_of list.entry)) result }
+    ensures { IsReading deed_of (headed_reading (known_view known.entry) (S.names scope.now) (ways_there own.entry) head (owner_of list.entry) (number_of list.entry) (rest_of list.entry)) result }
 {
     match head {
         Head::Set => made_store(read_update(alloc, Stores::InAuxiliary, known, scope, list)),
@@ -159,7 +159,7 @@ fn read_deed_with<S: Scope>(
     head: Option<Head>,
     list: Cursor<'_>,
 ) -> Result<Deed, ReadFault>
-    ensures { IsReading deed_of (deed_with (known_seen known.entry) (S.names scope.now) (ways_there own.entry) (owner_of list.entry) (number_of list.entry) (rest_of list.entry) head) result }
+    ensures { IsReading deed_of (deed_with (known_view known.entry) (S.names scope.now) (ways_there own.entry) (owner_of list.entry) (number_of list.entry) (rest_of list.entry) head) result }
 {
     match head {
         Some(head) => read_headed(alloc, known, scope, own, head, list),
@@ -175,7 +175,7 @@ fn read_deed<S: Scope>(
     own: Option<&Ways<'_>>,
     part: Part<'_>,
 ) -> Result<Deed, ReadFault>
-    ensures { IsReading deed_of (deed_reading (known_seen known.entry) (S.names scope.now) (ways_there own.entry) (place_of part.entry) (tree_of part.entry)) result }
+    ensures { IsReading deed_of (deed_reading (known_view known.entry) (S.names scope.now) (ways_there own.entry) (place_of part.entry) (tree_of part.entry)) result }
 {
     let list = match part.item() {
         Item::Atom(atom) => return Err(wrong(Pass::Shape, atom.number())),
@@ -204,7 +204,7 @@ fn read_when<S: Scope>(
     own: Option<&Ways<'_>>,
     list: Cursor<'_>,
 ) -> Result<(When, Deed), ReadFault>
-    ensures { IsReading when_parts (when_reading (known_seen known.entry) (S.names scope.now) (ways_there own.entry) (owner_of list.entry) (number_of list.entry) (rest_of list.entry)) result }
+    ensures { IsReading when_parts (when_reading (known_view known.entry) (S.names scope.now) (ways_there own.entry) (owner_of list.entry) (number_of list.entry) (rest_of list.entry)) result }
 {
     let (first, second, rest) = two(list)?;
     let condition = read_condition(alloc, scope, first);
@@ -235,7 +235,7 @@ pub fn read_rider<S: Scope>(
     own: Option<&Ways<'_>>,
     part: Part<'_>,
 ) -> Result<Rider, ReadFault>
-    ensures { IsReading rider_of (rider_reading (known_seen known.entry) (S.names scope.now) (ways_there own.entry) (place_of part.entry) (tree_of part.entry)) result }
+    ensures { IsReading rider_of (rider_reading (known_view known.entry) (S.names scope.now) (ways_there own.entry) (place_of part.entry) (tree_of part.entry)) result }
 {
     let list = match part.item() {
         Item::Atom(atom) => return Err(wrong(Pass::Shape, atom.number())),
@@ -259,7 +259,7 @@ struct Riders<'a, 'b, 's, S> {
 impl<S: Scope> ReadsPlaced for Riders<'_, '_, '_, S> {
     ghost use Rattle.lc_rider.specs.Rider.{Rider};
     ghost use Rattle.lc_rider.specs.RiderView.{rider_of};
-    ghost use Rattle.lc_rider_text.specs.KnownView.{known_seen, ways_there};
+    ghost use Rattle.lc_rider_text.specs.KnownView.{known_view, ways_there};
     ghost use Rattle.lc_rider_text.specs.Riders.{ith_rider_reading};
 
     type Value = Rider;
@@ -268,7 +268,7 @@ impl<S: Scope> ReadsPlaced for Riders<'_, '_, '_, S> {
 
     ghost meaning = { rider_of };
 
-    ghost reading = { λ reader. ith_rider_reading (known_seen reader.known) (S.names reader.scope.now) (ways_there reader.own) };
+    ghost reading = { λ reader. ith_rider_reading (known_view reader.known) (S.names reader.scope.now) (ways_there reader.own) };
 
     fn read(&self, alloc: Global, place: u32, part: Part<'_>) -> Result<Rider, ReadFault> {
         let rider = read_rider(alloc, self.known, self.scope, self.own, part);
@@ -284,7 +284,7 @@ pub fn read_riders<'a, 'b, S: Scope>(
     own: Option<&'b Ways<'a>>,
     list: Cursor<'_>,
 ) -> Result<Vec<Rider>, ReadFault>
-    ensures { IsReading (λ riders. riders_of riders.items) (riders_reading (known_seen known.entry) (S.names scope.now) (ways_there own.entry) (number_of list.entry) (rest_of list.entry)) result }
+    ensures { IsReading (λ riders. riders_of riders.items) (riders_reading (known_view known.entry) (S.names scope.now) (ways_there own.entry) (number_of list.entry) (rest_of list.entry)) result }
 {
     read_placed(alloc, &Riders { known, scope, own }, list)
 }

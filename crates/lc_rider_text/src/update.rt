@@ -4,7 +4,7 @@ ghost use Rattle.lc_sexp.specs.Shown.{rest_of, number_of, owner_of};
 ghost use Rattle.lc_reading.specs.Parts.{tree_of, place_of};
 ghost use Rattle.lc_reading.specs.Results.{IsReading};
 ghost use Rattle.lc_term.specs.UpdateView.{update_of};
-ghost use Rattle.lc_rider_text.specs.KnownView.{known_seen};
+ghost use Rattle.lc_rider_text.specs.KnownView.{known_view};
 ghost use Rattle.lc_rider_text.specs.Seen.{update_parts};
 ghost use Rattle.lc_rider_text.specs.Updates.{is_open, stored_reading, update_parts_reading, update_reading, listed_update_reading};
 
@@ -27,7 +27,7 @@ pub(crate) enum Stores {
 
 /// Whether this column is one in which is stored so.
 fn is_open(stores: Stores, known: Known<'_, '_>, column: u32) -> bool
-    ensures { result ≡ is_open stores (known_seen known.entry) column }
+    ensures { result ≡ is_open stores (known_view known.entry) column }
 {
     match stores {
         Stores::InAll => true,
@@ -39,7 +39,7 @@ fn is_open(stores: Stores, known: Known<'_, '_>, column: u32) -> bool
 
 /// The column of an update.
 fn read_stored(stores: Stores, known: Known<'_, '_>, part: Part<'_>) -> Result<ColId, ReadFault>
-    ensures { IsReading (λ column. column.0) (stored_reading stores (known_seen known.entry) (place_of part.entry) (tree_of part.entry)) result }
+    ensures { IsReading (λ column. column.0) (stored_reading stores (known_view known.entry) (place_of part.entry) (tree_of part.entry)) result }
 {
     let name = name_at(part)?;
     match known.columns.place(name.text()) {
@@ -56,7 +56,7 @@ fn read_update_parts<S: Scope>(
     scope: &S,
     list: Cursor<'_>,
 ) -> Result<((ColId, Term), Term), ReadFault>
-    ensures { IsReading update_parts (update_parts_reading stores (known_seen known.entry) (S.names scope.now) (owner_of list.entry) (number_of list.entry) (rest_of list.entry)) result }
+    ensures { IsReading update_parts (update_parts_reading stores (known_view known.entry) (S.names scope.now) (owner_of list.entry) (number_of list.entry) (rest_of list.entry)) result }
 {
     let (first, second, third, rest) = three(list)?;
     let column = read_stored(stores, known, first);
@@ -73,7 +73,7 @@ pub(crate) fn read_update<S: Scope>(
     scope: &S,
     list: Cursor<'_>,
 ) -> Result<Update, ReadFault>
-    ensures { IsReading update_of (update_reading stores (known_seen known.entry) (S.names scope.now) (owner_of list.entry) (number_of list.entry) (rest_of list.entry)) result }
+    ensures { IsReading update_of (update_reading stores (known_view known.entry) (S.names scope.now) (owner_of list.entry) (number_of list.entry) (rest_of list.entry)) result }
 {
     let ((column, index), value) = read_update_parts(alloc, stores, known, scope, list)?;
     Ok(Update {
@@ -90,7 +90,7 @@ fn read_listed_update<S: Scope>(
     scope: &S,
     part: Part<'_>,
 ) -> Result<Update, ReadFault>
-    ensures { IsReading update_of (listed_update_reading (known_seen known.entry) (S.names scope.now) (place_of part.entry) (tree_of part.entry)) result }
+    ensures { IsReading update_of (listed_update_reading (known_view known.entry) (S.names scope.now) (place_of part.entry) (tree_of part.entry)) result }
 {
     match part.item() {
         Item::Atom(atom) => Err(wrong(Pass::Shape, atom.number())),
@@ -108,7 +108,7 @@ pub(crate) struct Updates<'a, 'b, 's, S> {
 impl<S: Scope> Reads for Updates<'_, '_, '_, S> {
     ghost use Rattle.lc_term.specs.UpdateView.{update_of};
     ghost use Rattle.lc_term.specs.Updates.{Update};
-    ghost use Rattle.lc_rider_text.specs.KnownView.{known_seen};
+    ghost use Rattle.lc_rider_text.specs.KnownView.{known_view};
     ghost use Rattle.lc_rider_text.specs.Updates.{listed_update_reading};
 
     type Value = Update;
@@ -117,7 +117,7 @@ impl<S: Scope> Reads for Updates<'_, '_, '_, S> {
 
     ghost meaning = { update_of };
 
-    ghost reading = { λ reader. listed_update_reading (known_seen reader.known) (S.names reader.scope.now) };
+    ghost reading = { λ reader. listed_update_reading (known_view reader.known) (S.names reader.scope.now) };
 
     fn read(&self, alloc: Global, part: Part<'_>) -> Result<Update, ReadFault> {
         read_listed_update(alloc, self.known, self.scope, part)

@@ -20,7 +20,7 @@ use Rattle.lc_sound.specs.Happening.{Happens, Marked, counted, returns_next, cli
 use Rattle.lc_sound.specs.Instrumented.{Label, event_of}
 use Rattle.lc_sound.specs.Order.{called_last, marked, happenings, no_call}
 use Rattle.lc_run.specs.LabelView.{labels_of}
-use Rattle.lc_run.specs.Ordering.{entries_shown, call_of, call_in, calls_in, happening_of, happenings_of, has_client, returns_in, is_within, counted_first, is_small}
+use Rattle.lc_run.specs.Ordering.{order_entries, call_of, call_in, calls_in, happening_of, happenings_of, has_client, returns_in, is_within, counted_first, is_small}
 use Rattle.lc_run.specs.declared.label.Label as code
 use Rattle.lc_run.specs.declared.ordering.Happening.{Happening}
 
@@ -100,7 +100,7 @@ map-reverse f (x ∷ xs) =
     ap (map f) (reverse-append (x ∷ []) xs) ∙ (map-append f (reverse xs) (reverse (x ∷ [])) ∙ (ap (λ ys. ys ++ f x ∷ []) (map-reverse f xs) ∙ sym (reverse-append (f x ∷ []) (map f xs))))
 
 -- entries from the last to the first
-pub shown-reverse : (es : List (Done TextCall Pick (Vec ℤ Global))) → entries_shown (reverse es) ≡ reverse (entries_shown es)
+pub shown-reverse : (es : List (Done TextCall Pick (Vec ℤ Global))) → order_entries (reverse es) ≡ reverse (order_entries es)
 shown-reverse es = map-reverse (H.entry_of text_call_of choice_of (λ (reply : Vec ℤ Global). reply.items)) es
 
 -- ---- the clients of labels

@@ -19,8 +19,8 @@ use Rattle.lc_run.specs.declared.ordering.Begun.{Begun}
 use Rattle.lc_run.specs.declared.ordering.Happening.{Happening}
 use Rattle.lc_run.specs.declared.ordering.Happening.TheVariants.{Called, Replied, Marked}
 
-abbrev pub entries_shown : List (Done TextCall Pick (Vec ℤ Global)) → List Entry
-entries_shown entries = entries_in text_call_of choice_of (λ reply. reply.items) entries
+abbrev pub order_entries : List (Done TextCall Pick (Vec ℤ Global)) → List Entry
+order_entries entries = entries_in text_call_of choice_of (λ reply. reply.items) entries
 
 -- the entry of a mark for this call
 abbrev pub entry_of : Call → Mark → Entry

@@ -6,7 +6,7 @@ ghost use Rattle.lc_sound.specs.Order.{order};
 ghost use Rattle.lc_run.specs.LabelView.{labels_of};
 ghost use Rattle.lc_run.specs.Finished.{AreOwn};
 ghost use Rattle.lc_run.specs.Locked.{clients_held, labels_held};
-ghost use Rattle.lc_run.specs.Ordering.{entries_shown};
+ghost use Rattle.lc_run.specs.Ordering.{order_entries};
 ghost use Rattle.lc_check.specs.VerdictView.{development_in};
 ghost use Rattle.lc_run.specs.Seated.{AreAllThere, HasOwn, IsWhole, IsWhy};
 
@@ -89,7 +89,7 @@ fn room_for(alloc: Global, clients: u32) -> Result<Vec<Vec<Label>>, OutOfMemory>
 // The history and the order of what is held, and room for the lists of its clients.
 fn summary_of<J: Ledger>(alloc: Global, shared: &Shared<J>) -> Result<Summary, OutOfMemory>
     ensures history { IfOk result (λ summary. events_in summary.history ≡ history (labels_held shared.now)) }
-    ensures order { IfOk result (λ summary. entries_shown summary.order.items ≡ order (labels_held shared.now)) }
+    ensures order { IfOk result (λ summary. order_entries summary.order.items ≡ order (labels_held shared.now)) }
     ensures room { IfOk result (λ summary. vec_len summary.room ≡ clients_held shared.now) }
 {
     orders_linearize();
@@ -116,7 +116,7 @@ fn conclusion<J: Ledger>(
 ) -> Result<Summary, Why>
     ensures whole { IfOk result (λ _. IsWhole shared.now (development_in accepted.now) clients seats.now) }
     ensures history { IfOk result (λ summary. events_in summary.history ≡ history (labels_held shared.now)) }
-    ensures order { IfOk result (λ summary. entries_shown summary.order.items ≡ order (labels_held shared.now)) }
+    ensures order { IfOk result (λ summary. order_entries summary.order.items ≡ order (labels_held shared.now)) }
     ensures room { IfOk result (λ summary. vec_len summary.room ≡ clients_held shared.now) }
     ensures why { IfErr result (IsWhy shared.now (development_in accepted.now) clients seats.now) }
 {
@@ -153,7 +153,7 @@ fn log_of<J: Ledger>(summary: Summary, shared: Shared<J>, seats: Vec<Seat<J>>) -
     requires there { AreAllThere (clients_held shared) seats.items }
     requires own { All (HasOwn (labels_held shared)) seats.items }
     ensures history { events_in result.history ≡ events_in summary.history }
-    ensures order { entries_shown result.order.items ≡ entries_shown summary.order.items }
+    ensures order { order_entries result.order.items ≡ order_entries summary.order.items }
     ensures labels { labels_of result.labels.items ≡ labels_held shared }
     ensures count { vec_len result.own ≡ clients_held shared }
     ensures own { AreOwn (labels_held shared) (clients_held shared) result.own.items }
@@ -182,7 +182,7 @@ impl<J: Ledger> Runner<J> {
     ghost use Rattle.lc_sound.specs.Order.{order};
     ghost use Rattle.lc_run.specs.Finished.{AreOwn, lists_in};
     ghost use Rattle.lc_run.specs.LabelView.{labels_of};
-    ghost use Rattle.lc_run.specs.Ordering.{entries_shown};
+    ghost use Rattle.lc_run.specs.Ordering.{order_entries};
     ghost use Rattle.lc_run.specs.Running.{development_of, clients_of};
     ghost use Rattle.lc_run.specs.Seated.{AreAllThere, IsLeastMissing, HasOwn, IsWhy};
     ghost use Rattle.lc_run.specs.declared.held.Shared.{Shared};
@@ -191,9 +191,9 @@ impl<J: Ledger> Runner<J> {
     pub fn finish(self, seats: Vec<Seat<J>>) -> Result<RunLog, Unfinished<J>>
         ensures run { IfOk result (λ log. ∥ ((w : World) × IsRun (development_of self) (clients_of self) (labels_of log.labels.items) w) ∥₁) }
         ensures history { IfOk result (λ log. events_in log.history ≡ history (labels_of log.labels.items)) }
-        ensures order { IfOk result (λ log. entries_shown log.order.items ≡ order (labels_of log.labels.items)) }
+        ensures order { IfOk result (λ log. order_entries log.order.items ≡ order (labels_of log.labels.items)) }
         ensures linearizes { IfOk result (λ log. let D = development_of self in
-            ∥ Linearizes (text_step D.specification.operations) (start_of D.specification.columns) (events_in log.history) (entries_shown log.order.items) ∥₁) }
+            ∥ Linearizes (text_step D.specification.operations) (start_of D.specification.columns) (events_in log.history) (order_entries log.order.items) ∥₁) }
         ensures count { IfOk result (λ log. vec_len log.own ≡ clients_of self) }
         ensures own { IfOk result (λ log. AreOwn (labels_of log.labels.items) (clients_of self) log.own.items) }
         ensures together { IfOk result (λ log. sum (map length (lists_in log.own.items)) ≡ length (labels_of log.labels.items)) }

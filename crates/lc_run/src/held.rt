@@ -99,7 +99,7 @@ impl<J: Ledger> Shared<J> {
     ghost use Rattle.lc_machine.specs.Placed.{is_placed};
     ghost use Rattle.lc_machine.specs.Step.{Invoked};
     ghost use Rattle.lc_machine.specs.View.{client_of};
-    ghost use Rattle.lc_outline.specs.DevelopmentView.{development_shown};
+    ghost use Rattle.lc_outline.specs.DevelopmentView.{development_view};
     ghost use Rattle.lc_ride.specs.RideView.{marks_of};
     ghost use Rattle.lc_sound.specs.Instrumented.{Instrumented};
     ghost use Rattle.lc_steps.specs.StepView.{what_of, GoesOn};
@@ -166,7 +166,7 @@ impl<J: Ledger> Shared<J> {
 
     /// The development.
     pub fn development(&self) -> &Development
-        ensures { development_shown result.now ≡ development_held self.now }
+        ensures { development_view result.now ≡ development_held self.now }
     {
         self.accepted.development()
     }

@@ -9,7 +9,7 @@ ghost use Rattle.lc_machine.specs.Step.{Invoked};
 ghost use Rattle.lc_machine.specs.View.{client_of, clients_of};
 ghost use Rattle.lc_machine.specs.World.{Idle};
 ghost use Rattle.lc_outline.specs.Development.{first_system};
-ghost use Rattle.lc_outline.specs.DevelopmentView.{development_shown};
+ghost use Rattle.lc_outline.specs.DevelopmentView.{development_view};
 ghost use Rattle.lc_ride.specs.RideView.{marks_of};
 ghost use Rattle.lc_sound.specs.Instrumented.{Instrumented};
 ghost use Rattle.lc_steps.specs.StepView.{what_of, world_in, GoesOn, MayBegin};
@@ -85,7 +85,7 @@ pub(crate) fn may_call(
     numbers: &[i64],
     held: usize,
 ) -> Result<(), RunFault>
-    ensures { MayCall (development_shown development.now) (clients_of clients.now) client operation.0 numbers.now held result }
+    ensures { MayCall (development_view development.now) (clients_of clients.now) client operation.0 numbers.now held result }
 {
     let Some(body) = body_of(development, operation) else {
         return Err(RunFault::NoOp);

@@ -8,7 +8,7 @@ ghost use Rattle.lc_sound.specs.Instrumented.{event_of};
 ghost use Rattle.lc_sound.specs.Order.{called_last, marked, happenings, order, no_call};
 ghost use Rattle.lc_steps.specs.StepView.{what_of};
 ghost use Rattle.lc_run.specs.LabelView.{labels_of};
-ghost use Rattle.lc_run.specs.Ordering.{entry_of, entries_shown, call_in, calls_in, happening_of, happenings_of, has_client, returns_in, is_within, counted_first, is_small};
+ghost use Rattle.lc_run.specs.Ordering.{entry_of, order_entries, call_in, calls_in, happening_of, happenings_of, has_client, returns_in, is_within, counted_first, is_small};
 
 use crate::label::{Label, copied, copied_pick};
 use lc_base::{OpId, OutOfMemory};
@@ -172,7 +172,7 @@ fn push_entry(
     entries: &mut Vec<Done<TextCall, Pick, Vec<i64>>>,
 ) -> Result<(), OutOfMemory>
     requires { mark.now.client < 2 ^ 32 }
-    ensures { OnOk result (entries_shown entries.new.items ≡ entries_shown entries.old.items ++ entry_of (call_in call.now) (mark_of mark.now) ∷ []) }
+    ensures { OnOk result (order_entries entries.new.items ≡ order_entries entries.old.items ++ entry_of (call_in call.now) (mark_of mark.now) ∷ []) }
 {
     let Ok(client) = u32::try_from(mark.client) else {
         unreachable!()
@@ -197,7 +197,7 @@ fn push_counted(
     entries: &mut Vec<Done<TextCall, Pick, Vec<i64>>>,
 ) -> Result<(), OutOfMemory>
     requires { list_all is_small (counted_first (returns_in returns.now) (happening_of happening.now)) ≡ true }
-    ensures { OnOk result (entries_shown entries.new.items ≡ entries_shown entries.old.items ++ counted_first (returns_in returns.now) (happening_of happening.now)) }
+    ensures { OnOk result (order_entries entries.new.items ≡ order_entries entries.old.items ++ counted_first (returns_in returns.now) (happening_of happening.now)) }
 {
     match happening {
         Happening::Called { .. } | Happening::Replied { .. } => Ok(()),
@@ -243,7 +243,7 @@ fn entries(
 ) -> Result<Vec<Done<TextCall, Pick, Vec<i64>>>, OutOfMemory>
     requires within { list_all (is_within clients) (happenings_of happenings.now) ≡ true }
     requires small { list_all is_small (counted (happenings_of happenings.now)) ≡ true }
-    ensures { IfOk result (λ entries. entries_shown entries.items ≡ counted (happenings_of happenings.now)) }
+    ensures { IfOk result (λ entries. order_entries entries.items ≡ counted (happenings_of happenings.now)) }
 {
     let mut returns = no_returns(alloc, clients)?;
     let mut entries = Vec::new(alloc);
@@ -264,7 +264,7 @@ pub(crate) fn order_of(
 ) -> Result<Vec<Done<TextCall, Pick, Vec<i64>>>, OutOfMemory>
     requires clients { list_all (has_client clients) (labels_of labels.now) ≡ true }
     requires small { list_all is_small (order (labels_of labels.now)) ≡ true }
-    ensures { IfOk result (λ entries. entries_shown entries.items ≡ order (labels_of labels.now)) }
+    ensures { IfOk result (λ entries. order_entries entries.items ≡ order (labels_of labels.now)) }
 {
     let happenings = happenings(alloc, labels, clients)?;
     entries(alloc, &happenings, clients)

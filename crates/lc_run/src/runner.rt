@@ -88,7 +88,7 @@ impl<J: Ledger> Runner<J> {
     ghost use Rattle.std.specs.Arc.{arc_value};
     ghost use Rattle.lc_base.specs.Limits.{seat_limit};
     ghost use Rattle.lc_machine.specs.Step.{Invoked};
-    ghost use Rattle.lc_outline.specs.DevelopmentView.{development_shown};
+    ghost use Rattle.lc_outline.specs.DevelopmentView.{development_view};
     ghost use Rattle.lc_check.specs.VerdictView.{development_in};
     ghost use Rattle.lc_run.specs.Labels.{is_unfinished, HasMade};
     ghost use Rattle.lc_run.specs.Locked.{client_in, labels_made};
@@ -129,7 +129,7 @@ impl<J: Ledger> Runner<J> {
 
     /// The development that it runs.
     pub fn development(&self) -> &Development
-        ensures { development_shown result.now ≡ development_of self.now }
+        ensures { development_view result.now ≡ development_of self.now }
     {
         self.accepted.development()
     }

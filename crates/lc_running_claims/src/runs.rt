@@ -8,7 +8,7 @@ ghost use Rattle.lc_run.specs.Finished.{AreOwn, lists_in};
 ghost use Rattle.lc_run.specs.LabelView.{labels_of};
 ghost use Rattle.lc_run.specs.Labels.{is_unfinished, HasMade};
 ghost use Rattle.lc_run.specs.Locked.{development_held, clients_held, labels_held, world_held, client_in, labels_made};
-ghost use Rattle.lc_run.specs.Ordering.{entries_shown};
+ghost use Rattle.lc_run.specs.Ordering.{order_entries};
 ghost use Rattle.lc_run.specs.Running.{development_of, clients_of, IsCalled, IsLeft, IsSaid};
 ghost use Rattle.lc_run.specs.Seated.{AreAllThere, HasOwn, IsLeastMissing, IsWhy};
 ghost use Rattle.lc_run.specs.Taken.{HasGrown, IsStepFault};
@@ -85,9 +85,9 @@ pub fn calling<J: Ledger, R: Wait>(
 pub fn finishing<J: Ledger>(runner: Runner<J>, seats: Vec<Seat<J>>) -> Result<RunLog, Unfinished<J>>
     ensures run { IfOk result (λ log. ∥ ((w : World) × IsRun (development_of runner) (clients_of runner) (labels_of log.labels.items) w) ∥₁) }
     ensures history { IfOk result (λ log. events_in log.history ≡ history (labels_of log.labels.items)) }
-    ensures order { IfOk result (λ log. entries_shown log.order.items ≡ order (labels_of log.labels.items)) }
+    ensures order { IfOk result (λ log. order_entries log.order.items ≡ order (labels_of log.labels.items)) }
     ensures linearizes { IfOk result (λ log. let D = development_of runner in
-        ∥ Linearizes (text_step D.specification.operations) (start_of D.specification.columns) (events_in log.history) (entries_shown log.order.items) ∥₁) }
+        ∥ Linearizes (text_step D.specification.operations) (start_of D.specification.columns) (events_in log.history) (order_entries log.order.items) ∥₁) }
     ensures count { IfOk result (λ log. vec_len log.own ≡ clients_of runner) }
     ensures own { IfOk result (λ log. AreOwn (labels_of log.labels.items) (clients_of runner) log.own.items) }
     ensures together { IfOk result (λ log. sum (map length (lists_in log.own.items)) ≡ length (labels_of log.labels.items)) }

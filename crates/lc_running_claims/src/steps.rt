@@ -3,7 +3,7 @@ ghost use Rattle.std.specs.Prelude.{◌≡◌, true, IfOk, IfSome};
 ghost use Rattle.lc_machine.specs.Placed.{is_placed, are_placed};
 ghost use Rattle.lc_machine.specs.View.{client_of, clients_of};
 ghost use Rattle.lc_outline.specs.Development.{first_system, start_columns};
-ghost use Rattle.lc_outline.specs.DevelopmentView.{development_shown};
+ghost use Rattle.lc_outline.specs.DevelopmentView.{development_view};
 ghost use Rattle.lc_steps.specs.StepView.{world_in, IsAdvanced, IsBegun};
 ghost use Rattle.lc_term.specs.Drafts.{written_in_draft, saved_in_draft, draft_columns};
 ghost use Rattle.lc_term.specs.State.{state_of, column_count as columns_of};
@@ -24,10 +24,10 @@ pub fn advancing(
     clients: &[Client],
     client: u32,
 ) -> Result<Option<Step>, StepFault>
-    requires columns { draft_columns draft.old ≡ column_count (first_system (development_shown development.now)) }
-    requires placed { are_placed (development_shown development.now).object (clients_of clients.now) ≡ true }
-    ensures advanced { IsAdvanced (development_shown development.now) (world_in draft.old clients.now) client (written_in_draft draft.new) result }
-    ensures placed { IfOk result (λ found. IfSome found (λ step. is_placed (development_shown development.now).object (client_of step.client) ≡ true)) }
+    requires columns { draft_columns draft.old ≡ column_count (first_system (development_view development.now)) }
+    requires placed { are_placed (development_view development.now).object (clients_of clients.now) ≡ true }
+    ensures advanced { IsAdvanced (development_view development.now) (world_in draft.old clients.now) client (written_in_draft draft.new) result }
+    ensures placed { IfOk result (λ found. IfSome found (λ step. is_placed (development_view development.now).object (client_of step.client) ≡ true)) }
     ensures saved { saved_in_draft draft.new ≡ saved_in_draft draft.old }
     ensures columns { draft_columns draft.new ≡ draft_columns draft.old }
 {
@@ -44,9 +44,9 @@ pub fn beginning(
     op: OpId,
     numbers: &[i64],
 ) -> Result<Step, StepFault>
-    requires { draft_columns draft.old ≡ column_count (first_system (development_shown development.now)) }
-    ensures begun { IsBegun (development_shown development.now) (world_in draft.old clients.now) client op.0 numbers.now (written_in_draft draft.new) result }
-    ensures placed { IfOk result (λ step. is_placed (development_shown development.now).object (client_of step.client) ≡ true) }
+    requires { draft_columns draft.old ≡ column_count (first_system (development_view development.now)) }
+    ensures begun { IsBegun (development_view development.now) (world_in draft.old clients.now) client op.0 numbers.now (written_in_draft draft.new) result }
+    ensures placed { IfOk result (λ step. is_placed (development_view development.now).object (client_of step.client) ≡ true) }
     ensures saved { saved_in_draft draft.new ≡ saved_in_draft draft.old }
     ensures columns { draft_columns draft.new ≡ draft_columns draft.old }
 {
@@ -55,8 +55,8 @@ pub fn beginning(
 
 /// The columns of a development in which nothing is written, with the system columns after them.
 pub fn starting(alloc: Global, development: &Development) -> Result<State, OutOfMemory>
-    ensures state { IfOk result (λ state. state_of state ≡ start_columns (development_shown development.now)) }
-    ensures columns { IfOk result (λ state. columns_of state ≡ column_count (first_system (development_shown development.now))) }
+    ensures state { IfOk result (λ state. state_of state ≡ start_columns (development_view development.now)) }
+    ensures columns { IfOk result (λ state. columns_of state ≡ column_count (first_system (development_view development.now))) }
 {
     start(alloc, development)
 }

@@ -11,7 +11,7 @@ use Rattle.lc_term.specs.Places.{known, term_passes, is_known}
 use Rattle.lc_term.specs.Reached.{TermFits, FormulaFits}
 use Rattle.lc_term.specs.Computed.{IsComputed}
 use Rattle.lc_term.specs.Updates.{Update, Write, AreWithin}
-use Rattle.lc_term.specs.UpdateView.{writes_shown}
+use Rattle.lc_term.specs.UpdateView.{writes_view}
 use Rattle.lc_term.specs.Syntax.{Term, Formula}
 use Rattle.lc_term.specs.Truth.{is_ground, truth}
 use Rattle.std.specs.Prelude.{Vec}
@@ -172,7 +172,7 @@ pub none_applied : (t : State) (f : Env) (cs : List Branch) → IsComputed seq_s
 none_applied t f cs known = (known.0, ap (option_map (outcome t)) (sym known.1))
 
 pub some_applied : (t : State) (f : Env) (cs : List Branch) (o : Outcome) → IsComputed seq_says outcome_in (RunFits t f cs) (run t f cs) (Ok (Some o))
-    → RunFits t f cs × (option_map (outcome t) (run t f cs) ≡ Some (stored_all t (writes_shown o.writes.items), o.replies.items))
+    → RunFits t f cs × (option_map (outcome t) (run t f cs) ≡ Some (stored_all t (writes_view o.writes.items), o.replies.items))
 some_applied t f cs o known = (known.0, ap (option_map (outcome t)) (sym known.1))
 
 pub fault_applied : (t : State) (f : Env) (cs : List Branch) (new : State) (r : Result (Option (Vec ℤ Global)) SeqFault) (fault : SeqFault) → new ≡ t → IsErrAnd r (λ y. y ≡ fault)

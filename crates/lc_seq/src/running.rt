@@ -7,7 +7,7 @@ ghost use Rattle.lc_term.specs.View.{term_of};
 ghost use Rattle.lc_term.specs.Computed.{IsComputed};
 ghost use Rattle.lc_term.specs.Reached.{TermsFit};
 ghost use Rattle.lc_term.specs.Updates.{UpdatesFit, AreWithin, writes_of, values_of};
-ghost use Rattle.lc_term.specs.UpdateView.{updates_of, writes_shown};
+ghost use Rattle.lc_term.specs.UpdateView.{updates_of, writes_view};
 ghost use Rattle.lc_seq.specs.Run.{seq_says, outcome_of, outcome_in};
 ghost use Rattle.lc_seq.specs.Specification.{update_is_resolved, branch_is_resolved, chosen};
 ghost use Rattle.lc_seq.specs.SpecView.{branch_of, branches_of, choice_of};
@@ -72,8 +72,8 @@ pub fn writes_of(
     env: &Env,
 ) -> Result<Vec<Write>, SeqFault>
     requires { list_all (update_is_resolved (column_count state.now) (variable_count env.now)) (updates_of updates.now) ≡ true }
-    ensures computed { IsComputed seq_says (λ writes. writes_shown writes.items) (UpdatesFit (state_of state.now) (env_of env.now) (updates_of updates.now)) (writes_of (state_of state.now) (env_of env.now) (updates_of updates.now)) result }
-    ensures columns { IfOk result (λ writes. AreWithin (column_count state.now) (writes_shown writes.items)) }
+    ensures computed { IsComputed seq_says (λ writes. writes_view writes.items) (UpdatesFit (state_of state.now) (env_of env.now) (updates_of updates.now)) (writes_of (state_of state.now) (env_of env.now) (updates_of updates.now)) result }
+    ensures columns { IfOk result (λ writes. AreWithin (column_count state.now) (writes_view writes.items)) }
 {
     let mut writes = Vec::new(alloc);
     for update in updates {
@@ -113,7 +113,7 @@ pub fn run(
     requires { list_all (branch_is_resolved (column_count state.now) (variable_count env.now)) (chosen (choice_of pick.now) (branches_of branches.now)) ≡ true }
     ensures computed { let bs = chosen (choice_of pick.now) (branches_of branches.now) in
         IsComputed seq_says outcome_in (RunFits (state_of state.now) (env_of env.now) bs) (run (state_of state.now) (env_of env.now) bs) result }
-    ensures columns { IfOk result (λ found. IfSome found (λ outcome. AreWithin (column_count state.now) (writes_shown outcome.writes.items))) }
+    ensures columns { IfOk result (λ found. IfSome found (λ outcome. AreWithin (column_count state.now) (writes_view outcome.writes.items))) }
 {
     for branch in branches {
         if !branch.label.agrees(pick) {

@@ -392,13 +392,13 @@ unfolding shown
 told_apart true = refl
 told_apart false = refl
 
-same_shown : (c d : Bool) → shown c ≡ shown d → c ≡ d
-same_shown c d e = sym (told_apart c) ∙ ap (λ x. x == 32) e ∙ told_apart d
+shown_is_injective : (c d : Bool) → shown c ≡ shown d → c ≡ d
+shown_is_injective c d e = sym (told_apart c) ∙ ap (λ x. x == 32) e ∙ told_apart d
 
 -- whether a comment goes on after bytes
 comment_behind : (c d : Bool) (w seen : List ℕ) → ((rest : List ℕ) → uncommented c (w ++ rest) ≡ seen ++ uncommented d rest) → d ≡ ends_in_comment c w
 comment_behind c d w seen u =
-    same_shown d (ends_in_comment c w)
+    shown_is_injective d (ends_in_comment c w)
     (same_last seen (uncommented c w) (shown d) (shown (ends_in_comment c w))
     (ap (λ x. seen ++ x) (sym (shows d)) ∙ sym (u (97 ∷ [])) ∙ uncommented_behind c w (97 ∷ [])
     ∙ ap (λ x. uncommented c w ++ x) (shows (ends_in_comment c w))))

@@ -3,15 +3,15 @@ use Rattle.std.proofs.Common.{List, [], ◌∷◌}
 use Rattle.lc_term.specs.Lists.{Every}
 use Rattle.lc_kernel.proofs.Sound.{valid}
 use Rattle.lc_outline.proofs.Resolving.{resolved}
-use Rattle.lc_outline.specs.DevelopmentView.{development_shown}
+use Rattle.lc_outline.specs.DevelopmentView.{development_view}
 use Rattle.lc_outline.specs.declared.development.Development.{Development}
 use Rattle.lc_cond.specs.Conditions.{Condition}
 use Rattle.lc_sound.specs.Claims.{IsProven}
 use Rattle.lc_sound.specs.Derived.{IsDerived}
 use Rattle.lc_sound.specs.Valid.{IsValid, AreValid}
 
-pub proven : (d : Development) → AreValid (development_shown d) → IsProven (development_shown d)
-proven d all = record { resolved = resolved (development_shown d) d.resolved; valid = all }
+pub proven : (d : Development) → AreValid (development_view d) → IsProven (development_view d)
+proven d all = record { resolved = resolved (development_view d) d.resolved; valid = all }
 
 derived_valid : (c : Condition) → IsDerived c → IsValid c
 derived_valid c d = valid c.variables c.hypotheses c.goal d.proof d.derives d.hypotheses d.goal

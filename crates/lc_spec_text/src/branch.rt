@@ -8,7 +8,7 @@ ghost use Rattle.lc_reading.specs.Results.{IsReading};
 ghost use Rattle.lc_seq.specs.Specification as S;
 ghost use Rattle.lc_seq.specs.SpecView.{branch_of};
 ghost use Rattle.lc_spec_text.specs.Branches.{updates_reading, replies_reading, branch_parts_reading, the_branch, branch_reading};
-ghost use Rattle.lc_spec_text.specs.ScopeView.{columns_seen};
+ghost use Rattle.lc_spec_text.specs.ScopeView.{columns_view};
 ghost use Rattle.lc_spec_text.specs.Seen.{updates_of, terms_of, branch_parts};
 
 use crate::scope::Columns;
@@ -29,7 +29,7 @@ fn read_updates<S: Scope>(
     scope: &S,
     part: Part<'_>,
 ) -> Result<Vec<Update>, ReadFault>
-    ensures { IsReading updates_of (updates_reading (columns_seen columns.entry) (S.names scope.now) (place_of part.entry) (tree_of part.entry)) result }
+    ensures { IsReading updates_of (updates_reading (columns_view columns.entry) (S.names scope.now) (place_of part.entry) (tree_of part.entry)) result }
 {
     match part.item() {
         Item::Atom(atom) => Err(wrong(Pass::Shape, atom.number())),
@@ -63,7 +63,7 @@ pub(crate) fn read_branch_parts<S: Scope>(
     count: Option<u64>,
     list: Cursor<'_>,
 ) -> Result<((Formula, Vec<Update>), Vec<Term>), ReadFault>
-    ensures { IsReading branch_parts (branch_parts_reading (columns_seen columns.entry) (S.names scope.now) count (owner_of list.entry) (number_of list.entry) (rest_of list.entry)) result }
+    ensures { IsReading branch_parts (branch_parts_reading (columns_view columns.entry) (S.names scope.now) count (owner_of list.entry) (number_of list.entry) (rest_of list.entry)) result }
 {
     let (first, second, third, rest) = three(list)?;
     let guard = read_formula(alloc, scope, first);
@@ -95,7 +95,7 @@ fn read_branch<S: Scope>(
     count: Option<u64>,
     part: Part<'_>,
 ) -> Result<Branch, ReadFault>
-    ensures { IsReading branch_of (branch_reading (columns_seen columns.entry) (S.names scope.now) count (place_of part.entry) (tree_of part.entry)) result }
+    ensures { IsReading branch_of (branch_reading (columns_view columns.entry) (S.names scope.now) count (place_of part.entry) (tree_of part.entry)) result }
 {
     let list = behind_word(part, "branch")?;
     made_branch(read_branch_parts(alloc, columns, scope, count, list))
@@ -113,7 +113,7 @@ impl<S: Scope> Reads for Branches<'_, '_, '_, S> {
     ghost use Rattle.lc_seq.specs.SpecView.{branch_of};
     ghost use Rattle.lc_seq.specs.Specification.{Branch};
     ghost use Rattle.lc_spec_text.specs.Branches.{branch_reading};
-    ghost use Rattle.lc_spec_text.specs.ScopeView.{columns_seen};
+    ghost use Rattle.lc_spec_text.specs.ScopeView.{columns_view};
 
     type Value = Branch;
 
@@ -121,7 +121,7 @@ impl<S: Scope> Reads for Branches<'_, '_, '_, S> {
 
     ghost meaning = { branch_of };
 
-    ghost reading = { λ reader. branch_reading (columns_seen reader.columns) (S.names reader.scope.now) reader.count };
+    ghost reading = { λ reader. branch_reading (columns_view reader.columns) (S.names reader.scope.now) reader.count };
 
     fn read(&self, alloc: Global, part: Part<'_>) -> Result<Branch, ReadFault> {
         read_branch(alloc, self.columns, self.scope, self.count, part)

@@ -14,7 +14,7 @@ ghost use Rattle.lc_text.specs.Terms.{pair};
 ghost use Rattle.lc_seq.specs.Specification as S;
 ghost use Rattle.lc_seq.specs.SpecView.{branch_of};
 ghost use Rattle.lc_spec_text.specs.Choices.{is_one_of, parameters_reading, parameters_in, choice_parts_reading, the_choice, choice_reading};
-ghost use Rattle.lc_spec_text.specs.ScopeView.{columns_seen};
+ghost use Rattle.lc_spec_text.specs.ScopeView.{columns_view};
 ghost use Rattle.lc_spec_text.specs.Seen.{names_of, branches_of, label_parts, choice_parts};
 
 use crate::branch::read_branch_parts;
@@ -125,7 +125,7 @@ fn read_choice_parts(
     before: &NameTable<'_>,
     list: Cursor<'_>,
 ) -> Result<((Name, Vec<Name>), ((Formula, Vec<Update>), Vec<Term>)), ReadFault>
-    ensures { IsReading choice_parts (choice_parts_reading (columns_seen columns.entry) (listed variables.now) count (listed before.now) (owner_of list.entry) (number_of list.entry) (rest_of list.entry)) result }
+    ensures { IsReading choice_parts (choice_parts_reading (columns_view columns.entry) (listed variables.now) count (listed before.now) (owner_of list.entry) (number_of list.entry) (rest_of list.entry)) result }
 {
     let mut rest = list;
     let name = next_part(&mut rest)?;
@@ -162,7 +162,7 @@ fn read_choice(
     before: &NameTable<'_>,
     part: Part<'_>,
 ) -> Result<Branch, ReadFault>
-    ensures { IsReading branch_of (choice_reading (columns_seen columns.entry) (listed variables.now) count (listed before.now) (place_of part.entry) (tree_of part.entry)) result }
+    ensures { IsReading branch_of (choice_reading (columns_view columns.entry) (listed variables.now) count (listed before.now) (place_of part.entry) (tree_of part.entry)) result }
 {
     let list = behind_word(part, "choice")?;
     made_choice(read_choice_parts(alloc, columns, variables, count, before, list))
@@ -182,7 +182,7 @@ impl Declares for Choices<'_, '_> {
     ghost use Rattle.lc_seq.specs.SpecView.{branch_of};
     ghost use Rattle.lc_seq.specs.Specification.{Branch};
     ghost use Rattle.lc_spec_text.specs.Choices.{choice_reading};
-    ghost use Rattle.lc_spec_text.specs.ScopeView.{columns_seen};
+    ghost use Rattle.lc_spec_text.specs.ScopeView.{columns_view};
 
     type Value = Branch;
 
@@ -190,7 +190,7 @@ impl Declares for Choices<'_, '_> {
 
     ghost meaning = { branch_of };
 
-    ghost reading = { λ reader. choice_reading (columns_seen reader.columns) (listed reader.variables.now) reader.count };
+    ghost reading = { λ reader. choice_reading (columns_view reader.columns) (listed reader.variables.now) reader.count };
 
     ghost declares = { second_name };
 
@@ -227,7 +227,7 @@ pub(crate) fn read_choices(
     count: Option<u64>,
     list: Cursor<'_>,
 ) -> Result<Vec<Branch>, ReadFault>
-    ensures { IsReading branches_of (declared_reading (choice_reading (columns_seen columns.entry) (listed variables.now) count) second_name [] (number_of list.entry) (rest_of list.entry)) result }
+    ensures { IsReading branches_of (declared_reading (choice_reading (columns_view columns.entry) (listed variables.now) count) second_name [] (number_of list.entry) (rest_of list.entry)) result }
 {
     let choices = Choices {
         columns,

@@ -8,7 +8,7 @@ ghost use Rattle.lc_reading.specs.TableView.{listed};
 ghost use Rattle.lc_seq.specs.Specification as S;
 ghost use Rattle.lc_seq.specs.SpecView.{operation_of};
 ghost use Rattle.lc_spec_text.specs.Operations.{operation_parts_reading, the_operation, operation_reading};
-ghost use Rattle.lc_spec_text.specs.ScopeView.{columns_seen};
+ghost use Rattle.lc_spec_text.specs.ScopeView.{columns_view};
 ghost use Rattle.lc_spec_text.specs.Seen.{operation_parts};
 
 use crate::scope::Columns;
@@ -29,7 +29,7 @@ fn read_operation_parts(
     before: &NameTable<'_>,
     list: Cursor<'_>,
 ) -> Result<(((Name, Vec<Name>), u32), Vec<Branch>), ReadFault>
-    ensures { IsReading operation_parts (operation_parts_reading (columns_seen columns.entry) (listed before.now) (owner_of list.entry) (number_of list.entry) (rest_of list.entry)) result }
+    ensures { IsReading operation_parts (operation_parts_reading (columns_view columns.entry) (listed before.now) (owner_of list.entry) (number_of list.entry) (rest_of list.entry)) result }
 {
     let mut rest = list;
     let name = next_part(&mut rest)?;
@@ -65,7 +65,7 @@ fn read_form(
     before: &NameTable<'_>,
     part: Part<'_>,
 ) -> Result<Operation, ReadFault>
-    ensures { IsReading operation_of (mapped the_operation (behind_reading (codes "op") (operation_parts_reading (columns_seen columns.entry) (listed before.now)) (place_of part.entry) (tree_of part.entry))) result }
+    ensures { IsReading operation_of (mapped the_operation (behind_reading (codes "op") (operation_parts_reading (columns_view columns.entry) (listed before.now)) (place_of part.entry) (tree_of part.entry))) result }
 {
     let list = behind_word(part, "op")?;
     made_operation(read_operation_parts(alloc, columns, before, list))
@@ -78,7 +78,7 @@ fn read_operation(
     before: &NameTable<'_>,
     part: Part<'_>,
 ) -> Result<Operation, ReadFault>
-    ensures { IsReading operation_of (operation_reading (columns_seen columns.entry) (listed before.now) (place_of part.entry) (tree_of part.entry)) result }
+    ensures { IsReading operation_of (operation_reading (columns_view columns.entry) (listed before.now) (place_of part.entry) (tree_of part.entry)) result }
 {
     let operation = read_form(alloc, columns, before, part);
     limited(
@@ -97,7 +97,7 @@ impl Declares for Operations<'_, '_> {
     ghost use Rattle.lc_seq.specs.SpecView.{operation_of};
     ghost use Rattle.lc_seq.specs.Specification.{Operation};
     ghost use Rattle.lc_spec_text.specs.Operations.{operation_reading};
-    ghost use Rattle.lc_spec_text.specs.ScopeView.{columns_seen};
+    ghost use Rattle.lc_spec_text.specs.ScopeView.{columns_view};
 
     type Value = Operation;
 
@@ -105,7 +105,7 @@ impl Declares for Operations<'_, '_> {
 
     ghost meaning = { operation_of };
 
-    ghost reading = { λ reader. operation_reading (columns_seen reader.0) };
+    ghost reading = { λ reader. operation_reading (columns_view reader.0) };
 
     ghost declares = { second_name };
 

@@ -22,14 +22,14 @@ impl<'a, 'b> Columns<'a, 'b> {
     ghost use Rattle.std.specs.Prelude.{◌≡◌, IfOk};
     ghost use Rattle.lc_reading.specs.Listed.{place_of};
     ghost use Rattle.lc_reading.specs.TableView.{listed};
-    ghost use Rattle.lc_spec_text.specs.ScopeView.{columns_seen};
+    ghost use Rattle.lc_spec_text.specs.ScopeView.{columns_view};
 
     /// These columns. `OutOfMemory` is returned also if some place has more than 32 bits, as in no file.
     pub(crate) fn new(
         own: &'b NameTable<'a>,
         others: &'b NameTable<'a>,
     ) -> Result<Columns<'a, 'b>, OutOfMemory>
-        ensures { IfOk result (λ columns. columns_seen columns ≡ record { own = listed own.now; others = listed others.now }) }
+        ensures { IfOk result (λ columns. columns_view columns ≡ record { own = listed own.now; others = listed others.now }) }
     {
         if own.len() > u32::MAX as usize {
             return Err(OutOfMemory);
@@ -40,7 +40,7 @@ impl<'a, 'b> Columns<'a, 'b> {
     /// The column of this name, if it is one of the specification.
     #[tactic(auto, using(lc_reading::proofs::Places::place_below))]
     pub(crate) fn place(self, name: &str) -> Option<u32>
-        ensures { result ≡ place_of (columns_seen self.entry).own name.now }
+        ensures { result ≡ place_of (columns_view self.entry).own name.now }
     {
         match self.own.place(name) {
             Some(place) => Some(place as u32),
@@ -82,7 +82,7 @@ impl<'a, 'b> InBranch<'a, 'b> {
     ghost use Rattle.std.specs.Prelude.{◌≡◌, ◌++◌, IfOk};
     ghost use Rattle.lc_reading.specs.Listed.{place_of};
     ghost use Rattle.lc_reading.specs.TableView.{listed};
-    ghost use Rattle.lc_spec_text.specs.ScopeView.{columns_seen};
+    ghost use Rattle.lc_spec_text.specs.ScopeView.{columns_view};
 
     /// These columns and variables, and a branch's parameters. `OutOfMemory` is returned also if some number has more than
     /// 32 bits, as in no file.
@@ -91,7 +91,7 @@ impl<'a, 'b> InBranch<'a, 'b> {
         variables: &'b NameTable<'a>,
         parameters: NameTable<'a>,
     ) -> Result<InBranch<'a, 'b>, OutOfMemory>
-        ensures columns { IfOk result (λ names. (columns_seen names.columns).own ≡ (columns_seen columns.entry).own) }
+        ensures columns { IfOk result (λ names. (columns_view names.columns).own ≡ (columns_view columns.entry).own) }
         ensures variables { IfOk result (λ names. listed names.variables.now ++ listed names.parameters ≡ listed variables.now ++ listed parameters.entry) }
     {
         if variables.len() > NAMES_LIMIT || parameters.len() > NAMES_LIMIT {
@@ -122,9 +122,9 @@ impl Scope for InBranch<'_, '_> {
     ghost use Rattle.std.specs.Prelude.{◌++◌};
     ghost use Rattle.lc_reading.specs.TableView.{listed};
     ghost use Rattle.lc_spec_text.specs.Scopes.{branch_names};
-    ghost use Rattle.lc_spec_text.specs.ScopeView.{columns_seen};
+    ghost use Rattle.lc_spec_text.specs.ScopeView.{columns_view};
 
-    ghost names = { λ scope. branch_names (columns_seen scope.columns).own (listed scope.variables.now ++ listed scope.parameters) };
+    ghost names = { λ scope. branch_names (columns_view scope.columns).own (listed scope.variables.now ++ listed scope.parameters) };
 
     #[tactic(auto, using(lc_reading::proofs::Places::place_below))]
     fn variable(&self, name: &str) -> Option<u32> {

@@ -9,7 +9,7 @@ ghost use Rattle.lc_seq.specs.Specification as S;
 ghost use Rattle.lc_seq.specs.Specification.{are_resolved};
 ghost use Rattle.lc_seq.specs.TextView.{specification_of};
 ghost use Rattle.lc_spec_text.specs.Specifications.{operations_reading, specification_parts_reading, the_specification, specification_reading};
-ghost use Rattle.lc_spec_text.specs.ScopeView.{columns_seen};
+ghost use Rattle.lc_spec_text.specs.ScopeView.{columns_view};
 ghost use Rattle.lc_spec_text.specs.Seen.{operations_of, specification_parts};
 
 use crate::column::read_columns;
@@ -29,7 +29,7 @@ fn read_operations(
     columns: Columns<'_, '_>,
     list: Cursor<'_>,
 ) -> Result<Vec<Operation>, ReadFault>
-    ensures { IsReading operations_of (operations_reading (columns_seen columns.entry) (number_of list.entry) (rest_of list.entry)) result }
+    ensures { IsReading operations_of (operations_reading (columns_view columns.entry) (number_of list.entry) (rest_of list.entry)) result }
 {
     let (_, operations) = read_declared(alloc, &Operations(columns), NameTable::new(alloc), list)?;
     operations

@@ -7,7 +7,7 @@ ghost use Rattle.lc_reading.specs.Readings.{Reading, mapped, listed_reading};
 ghost use Rattle.lc_reading.specs.Results.{IsReading};
 ghost use Rattle.lc_term.specs.UpdateView.{update_of};
 ghost use Rattle.lc_spec_text.specs.Branches.{written_reading, the_update, update_parts_reading, update_reading};
-ghost use Rattle.lc_spec_text.specs.ScopeView.{columns_seen};
+ghost use Rattle.lc_spec_text.specs.ScopeView.{columns_view};
 ghost use Rattle.lc_spec_text.specs.Seen.{update_parts};
 
 use crate::scope::Columns;
@@ -22,7 +22,7 @@ use std::alloc::Global;
 
 /// The column of an update.
 fn read_written(columns: Columns<'_, '_>, part: Part<'_>) -> Result<ColId, ReadFault>
-    ensures { IsReading (λ column. column.0) (written_reading (columns_seen columns.entry) (place_of part.entry) (tree_of part.entry)) result }
+    ensures { IsReading (λ column. column.0) (written_reading (columns_view columns.entry) (place_of part.entry) (tree_of part.entry)) result }
 {
     let name = name_at(part)?;
     match columns.place(name.text()) {
@@ -40,7 +40,7 @@ fn read_update_parts<S: Scope>(
     scope: &S,
     list: Cursor<'_>,
 ) -> Result<((ColId, Term), Term), ReadFault>
-    ensures { IsReading update_parts (update_parts_reading (columns_seen columns.entry) (S.names scope.now) (owner_of list.entry) (number_of list.entry) (rest_of list.entry)) result }
+    ensures { IsReading update_parts (update_parts_reading (columns_view columns.entry) (S.names scope.now) (owner_of list.entry) (number_of list.entry) (rest_of list.entry)) result }
 {
     let (first, second, third, rest) = three(list)?;
     let column = read_written(columns, first);
@@ -67,7 +67,7 @@ fn read_update<S: Scope>(
     scope: &S,
     part: Part<'_>,
 ) -> Result<Update, ReadFault>
-    ensures { IsReading update_of (update_reading (columns_seen columns.entry) (S.names scope.now) (place_of part.entry) (tree_of part.entry)) result }
+    ensures { IsReading update_of (update_reading (columns_view columns.entry) (S.names scope.now) (place_of part.entry) (tree_of part.entry)) result }
 {
     match part.item() {
         Item::Atom(atom) => Err(wrong(Pass::Shape, atom.number())),
@@ -86,7 +86,7 @@ impl<S: Scope> Reads for Updates<'_, '_, '_, S> {
     ghost use Rattle.lc_term.specs.UpdateView.{update_of};
     ghost use Rattle.lc_term.specs.Updates.{Update};
     ghost use Rattle.lc_spec_text.specs.Branches.{update_reading};
-    ghost use Rattle.lc_spec_text.specs.ScopeView.{columns_seen};
+    ghost use Rattle.lc_spec_text.specs.ScopeView.{columns_view};
 
     type Value = Update;
 
@@ -94,7 +94,7 @@ impl<S: Scope> Reads for Updates<'_, '_, '_, S> {
 
     ghost meaning = { update_of };
 
-    ghost reading = { λ reader. update_reading (columns_seen reader.columns) (S.names reader.scope.now) };
+    ghost reading = { λ reader. update_reading (columns_view reader.columns) (S.names reader.scope.now) };
 
     fn read(&self, alloc: Global, part: Part<'_>) -> Result<Update, ReadFault> {
         read_update(alloc, self.columns, self.scope, part)

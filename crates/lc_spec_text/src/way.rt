@@ -7,7 +7,7 @@ ghost use Rattle.lc_reading.specs.TableView.{listed};
 ghost use Rattle.lc_spec_text.specs.Branches.{branch_reading};
 ghost use Rattle.lc_spec_text.specs.Choices.{begin_with_choice, ways_reading};
 ghost use Rattle.lc_spec_text.specs.Scopes.{branch_names};
-ghost use Rattle.lc_spec_text.specs.ScopeView.{columns_seen};
+ghost use Rattle.lc_spec_text.specs.ScopeView.{columns_view};
 ghost use Rattle.lc_spec_text.specs.Seen.{branches_of};
 
 use crate::branch::Branches;
@@ -26,7 +26,7 @@ fn read_branches(
     count: Option<u64>,
     list: Cursor<'_>,
 ) -> Result<Vec<Branch>, ReadFault>
-    ensures { IsReading branches_of (each_reading (branch_reading (columns_seen columns.entry) (branch_names (columns_seen columns.entry).own (listed variables.now)) count) (number_of list.entry) (rest_of list.entry)) result }
+    ensures { IsReading branches_of (each_reading (branch_reading (columns_view columns.entry) (branch_names (columns_view columns.entry).own (listed variables.now)) count) (number_of list.entry) (rest_of list.entry)) result }
 {
     let scope = InBranch::new(columns, variables, NameTable::new(alloc))?;
     let branches = Branches {
@@ -56,7 +56,7 @@ pub(crate) fn read_ways(
     count: Option<u64>,
     list: Cursor<'_>,
 ) -> Result<Vec<Branch>, ReadFault>
-    ensures { IsReading branches_of (ways_reading (columns_seen columns.entry) (listed variables.now) count (number_of list.entry) (rest_of list.entry)) result }
+    ensures { IsReading branches_of (ways_reading (columns_view columns.entry) (listed variables.now) count (number_of list.entry) (rest_of list.entry)) result }
 {
     if begins_with_choice(list) {
         read_choices(alloc, columns, variables, count, list)

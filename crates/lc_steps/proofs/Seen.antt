@@ -38,7 +38,7 @@ use Rattle.lc_outline.proofs.Matched.{all_resolved, few}
 use Rattle.lc_outline.proofs.Resolving.{resolved, all_scoped}
 use Rattle.lc_outline.proofs.Scoped.{scoped_known}
 use Rattle.lc_ride.specs.RideLaws.{IsOpen}
-use Rattle.lc_ride.specs.RideView.{AreThere, marking_is_seen, deed_is_seen, condition_is_seen, rider_is_seen}
+use Rattle.lc_ride.specs.RideView.{AreThere, marking_is_evaluable, deed_is_evaluable, condition_is_evaluable, rider_is_evaluable}
 use Rattle.lc_steps.specs.StepParts.{AreRidersSeen, rider_edge, rider_variables}
 use Rattle.lc_steps.proofs.Telling.{AreOpen}
 use Rattle.lc_steps.proofs.Wider.{branches-wider}
@@ -125,24 +125,24 @@ is-below : (k n : ℕ) → k < n → nat_lt k n ≡ true
 is-below k n h = grind (arith, nat_tests)
 
 module _ (columns n : ℕ) where
-  marking-seen : (k : Marking) → IsMarkingScoped columns n k → marking_is_seen columns n k ≡ true
+  marking-seen : (k : Marking) → IsMarkingScoped columns n k → marking_is_evaluable columns n k ≡ true
   marking-seen Own h = refl
   marking-seen (Other t p) h = h
   marking-seen Note h = refl
 
-  deed-seen : (d : Deed) → IsDeedScoped columns n d → deed_is_seen columns n d ≡ true
+  deed-seen : (d : Deed) → IsDeedScoped columns n d → deed_is_evaluable columns n d ≡ true
   deed-seen (Assign u) h = both_true _ _ (is-below u.column columns h.column) (both_true _ _ h.index h.value)
   deed-seen (Marks k by) h = both_true _ _ (all-true (term_passes (known columns n)) (given_in by) h.1) (marking-seen k h.0)
 
-  condition-seen : (f : Option Formula) → IsConditionResolved f → IsConditionScoped columns n f → condition_is_seen columns n f ≡ true
+  condition-seen : (f : Option Formula) → IsConditionResolved f → IsConditionScoped columns n f → condition_is_evaluable columns n f ≡ true
   condition-seen None plain scoped = refl
   condition-seen (Some f) plain scoped = both_true (is_ground f) (is_known columns n f) plain (scoped_known columns n f plain scoped)
 
-  riders-seen : (D : Development) (o : ℕ) (rs : List Rider) → Every (IsRiderResolved D o) rs → Every (IsRiderScoped columns n) rs → list_all (rider_is_seen columns n) rs ≡ true
+  riders-seen : (D : Development) (o : ℕ) (rs : List Rider) → Every (IsRiderResolved D o) rs → Every (IsRiderScoped columns n) rs → list_all (rider_is_evaluable columns n) rs ≡ true
   riders-seen D o [] h s = refl
   riders-seen D o (r ∷ rs) h s =
-      both_true (rider_is_seen columns n r) (list_all (rider_is_seen columns n) rs)
-      (both_true (condition_is_seen columns n r.condition) (deed_is_seen columns n r.deed) (condition-seen r.condition h.0.0 s.0.0) (deed-seen r.deed s.0.1))
+      both_true (rider_is_evaluable columns n r) (list_all (rider_is_evaluable columns n) rs)
+      (both_true (condition_is_evaluable columns n r.condition) (deed_is_evaluable columns n r.deed) (condition-seen r.condition h.0.0 s.0.0) (deed-seen r.deed s.0.1))
       (riders-seen D o rs h.1 s.1)
 
   -- what is done at an edge, if anything is
@@ -158,7 +158,7 @@ module _ (columns n : ℕ) where
       by rest true = h.0
       by rest false = rest
 
-  found-seen : (D : Development) (o : ℕ) (e : Edge) (found : Option On) → IsOnResolved D o e found → IsFoundScoped found → list_all (rider_is_seen columns n) (riders_in found) ≡ true
+  found-seen : (D : Development) (o : ℕ) (e : Edge) (found : Option On) → IsOnResolved D o e found → IsFoundScoped found → list_all (rider_is_evaluable columns n) (riders_in found) ≡ true
   found-seen D o e None h s = refl
   found-seen D o e (Some x) h s = riders-seen D o x.riders h.1 s.riders
 
@@ -191,16 +191,16 @@ outcome-seen D R p point at s s' vs count k (Answers numbers) does =
 
 -- ---- conditions
 
-condition-open : (columns n : ℕ) (f : Option Formula) → condition_is_seen columns n f ≡ true → IsOpen f
+condition-open : (columns n : ℕ) (f : Option Formula) → condition_is_evaluable columns n f ≡ true → IsOpen f
 condition-open columns n None h = tt
 condition-open columns n (Some f) h = left_true (is_ground f) (is_known columns n f) h
 
-all-open : (columns n : ℕ) (rs : List Rider) → list_all (rider_is_seen columns n) rs ≡ true → Every (λ (r : Rider). IsOpen r.condition) rs
+all-open : (columns n : ℕ) (rs : List Rider) → list_all (rider_is_evaluable columns n) rs ≡ true → Every (λ (r : Rider). IsOpen r.condition) rs
 all-open columns n [] h = tt
 all-open columns n (r ∷ rs) h = (
   condition-open columns n r.condition
-      (left_true (condition_is_seen columns n r.condition) (deed_is_seen columns n r.deed) (left_true (rider_is_seen columns n r) (list_all (rider_is_seen columns n) rs) h)),
-  all-open columns n rs (right_true (rider_is_seen columns n r) (list_all (rider_is_seen columns n) rs) h),
+      (left_true (condition_is_evaluable columns n r.condition) (deed_is_evaluable columns n r.deed) (left_true (rider_is_evaluable columns n r) (list_all (rider_is_evaluable columns n) rs) h)),
+  all-open columns n rs (right_true (rider_is_evaluable columns n r) (list_all (rider_is_evaluable columns n) rs) h),
 )
 
 pub open-there : (D : Development) (p n : ℕ) (k : EdgeKind) → AreRidersSeen D p k n → AreOpen D p k

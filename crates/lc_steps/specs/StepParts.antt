@@ -20,7 +20,7 @@ use Rattle.lc_seq.specs.declared.fault.SeqFault.{SeqFault}
 use Rattle.lc_seq.specs.declared.fault.SeqFault.TheVariants as Q
 use Rattle.lc_outline.specs.Development.{Development, first_system, riders_at}
 use Rattle.lc_rider.specs.Rider.{return_writes}
-use Rattle.lc_ride.specs.RideView.{marks_of, rider_is_seen}
+use Rattle.lc_ride.specs.RideView.{marks_of, rider_is_evaluable}
 use Rattle.lc_ride.specs.Riding.{Ridden}
 use Rattle.lc_ride.specs.declared.marks.Mark.{Mark}
 use Rattle.lc_steps.specs.Replies.{is_justified, ReplyFits}
@@ -49,7 +49,7 @@ IsEffectHere object p variables s r =
 
 -- the riders there use existing columns and n variables, and no quantifier occurs in their conditions
 abbrev pub AreRidersSeen : Development → ℕ → EdgeKind → ℕ → Type 0
-AreRidersSeen D p k n = list_all (rider_is_seen (column_count (first_system D)) n) (riders_at D p k) ≡ true
+AreRidersSeen D p k n = list_all (rider_is_evaluable (column_count (first_system D)) n) (riders_at D p k) ≡ true
 
 -- a fault of riders, as a fault of a step
 abbrev pub fault_as : SeqFault → StepFault

@@ -12,7 +12,7 @@ ghost use Rattle.lc_machine.specs.Step.{Goes, Answers, IsClient};
 ghost use Rattle.lc_machine.specs.View.{variables_of, client_of, clients_of};
 ghost use Rattle.lc_machine.specs.World.{World, In};
 ghost use Rattle.lc_outline.specs.Development.{first_system};
-ghost use Rattle.lc_outline.specs.DevelopmentView.{development_shown};
+ghost use Rattle.lc_outline.specs.DevelopmentView.{development_view};
 ghost use Rattle.lc_steps.specs.StepView.{world_in, IsAdvanced};
 ghost use Rattle.lc_steps.specs.StepParts.{AreRidersSeen, rider_edge, rider_variables, IsEffectHere, IsBehind};
 
@@ -38,9 +38,9 @@ fn go(
     edge: EdgeKind,
     next: Place,
 ) -> Result<Option<Step>, StepFault>
-    requires seen { AreRidersSeen (development_shown development.now) point.0 edge (variable_count next.variables) }
-    requires columns { draft_columns draft.old ≡ column_count (first_system (development_shown development.now)) }
-    ensures behind { IsBehind (development_shown development.now) client point.0 (variables_of next) edge (written_in_draft draft.old) (Goes next.point.0 (variables_of next)) (written_in_draft draft.new) result }
+    requires seen { AreRidersSeen (development_view development.now) point.0 edge (variable_count next.variables) }
+    requires columns { draft_columns draft.old ≡ column_count (first_system (development_view development.now)) }
+    ensures behind { IsBehind (development_view development.now) client point.0 (variables_of next) edge (written_in_draft draft.old) (Goes next.point.0 (variables_of next)) (written_in_draft draft.new) result }
     ensures saved { saved_in_draft draft.new ≡ saved_in_draft draft.old }
     ensures columns { draft_columns draft.new ≡ draft_columns draft.old }
 {
@@ -74,10 +74,10 @@ fn answer(
     env: &Env,
     numbers: Vec<i64>,
 ) -> Result<Option<Step>, StepFault>
-    requires seen { AreRidersSeen (development_shown development.now) point.0 Next (variable_count env.now) }
-    requires columns { draft_columns draft.old ≡ column_count (first_system (development_shown development.now)) }
+    requires seen { AreRidersSeen (development_view development.now) point.0 Next (variable_count env.now) }
+    requires columns { draft_columns draft.old ≡ column_count (first_system (development_view development.now)) }
     requires few { length numbers.items ≤ reply_limit }
-    ensures behind { IsBehind (development_shown development.now) client point.0 env.now.values.items Next (written_in_draft draft.old) (Answers numbers.items) (written_in_draft draft.new) result }
+    ensures behind { IsBehind (development_view development.now) client point.0 env.now.values.items Next (written_in_draft draft.old) (Answers numbers.items) (written_in_draft draft.new) result }
     ensures saved { saved_in_draft draft.new ≡ saved_in_draft draft.old }
     ensures columns { draft_columns draft.new ≡ draft_columns draft.old }
 {
@@ -116,10 +116,10 @@ fn follow(
     fate: Fate,
 ) -> Result<Option<Step>, StepFault>
     requires seen { let outcome = outcome_of fate in
-        AreRidersSeen (development_shown development.now) place.now.point.0 (rider_edge edge outcome) (length (rider_variables (variables_of place.now) outcome)) }
-    requires columns { draft_columns draft.old ≡ column_count (first_system (development_shown development.now)) }
-    requires reached { IsReached (development_shown development.now).object (outcome_of fate) }
-    ensures behind { IsBehind (development_shown development.now) client place.now.point.0 (variables_of place.now) edge (written_in_draft draft.old) (outcome_of fate) (written_in_draft draft.new) result }
+        AreRidersSeen (development_view development.now) place.now.point.0 (rider_edge edge outcome) (length (rider_variables (variables_of place.now) outcome)) }
+    requires columns { draft_columns draft.old ≡ column_count (first_system (development_view development.now)) }
+    requires reached { IsReached (development_view development.now).object (outcome_of fate) }
+    ensures behind { IsBehind (development_view development.now) client place.now.point.0 (variables_of place.now) edge (written_in_draft draft.old) (outcome_of fate) (written_in_draft draft.new) result }
     ensures saved { saved_in_draft draft.new ≡ saved_in_draft draft.old }
     ensures columns { draft_columns draft.new ≡ draft_columns draft.old }
 {
@@ -144,12 +144,12 @@ fn effect_in(
     draft: &Draft,
     place: &Place,
 ) -> Result<Effect, StepFault>
-    requires columns { draft_columns draft.now ≡ column_count (first_system (development_shown development.now)) }
-    requires placed { is_placed (development_shown development.now).object (In place.now.point.0 (variables_of place.now)) ≡ true }
-    ensures effect { IsEffectHere (development_shown development.now).object place.now.point.0 (variables_of place.now) (written_in_draft draft.now) result }
+    requires columns { draft_columns draft.now ≡ column_count (first_system (development_view development.now)) }
+    requires placed { is_placed (development_view development.now).object (In place.now.point.0 (variables_of place.now)) ≡ true }
+    ensures effect { IsEffectHere (development_view development.now).object place.now.point.0 (variables_of place.now) (written_in_draft draft.now) result }
     ensures within { IfOk result (λ done. AreWithin (draft_columns draft.now) (writes_in done)) }
     ensures seen { IfOk result (λ done. let outcome = outcome_of done.fate in
-        AreRidersSeen (development_shown development.now) place.now.point.0 (rider_edge done.edge outcome) (length (rider_variables (variables_of place.now) outcome))) }
+        AreRidersSeen (development_view development.now) place.now.point.0 (rider_edge done.edge outcome) (length (rider_variables (variables_of place.now) outcome))) }
 {
     effect(alloc, &development.parts().object, draft.state(), place)
 }
@@ -162,11 +162,11 @@ fn step_from(
     client: u32,
     place: &Place,
 ) -> Result<Option<Step>, StepFault>
-    requires columns { draft_columns draft.old ≡ column_count (first_system (development_shown development.now)) }
-    requires placed { is_placed (development_shown development.now).object (In place.now.point.0 (variables_of place.now)) ≡ true }
+    requires columns { draft_columns draft.old ≡ column_count (first_system (development_view development.now)) }
+    requires placed { is_placed (development_view development.now).object (In place.now.point.0 (variables_of place.now)) ≡ true }
     ensures stepped { (w : World) → w.columns ≡ written_in_draft draft.old → IsClient w client (In place.now.point.0 (variables_of place.now)) →
-        IsAdvanced (development_shown development.now) w client (written_in_draft draft.new) result }
-    ensures placed { IfOk result (λ found. IfSome found (λ step. is_placed (development_shown development.now).object (client_of step.client) ≡ true)) }
+        IsAdvanced (development_view development.now) w client (written_in_draft draft.new) result }
+    ensures placed { IfOk result (λ found. IfSome found (λ step. is_placed (development_view development.now).object (client_of step.client) ≡ true)) }
     ensures saved { saved_in_draft draft.new ≡ saved_in_draft draft.old }
     ensures columns { draft_columns draft.new ≡ draft_columns draft.old }
 {
@@ -195,10 +195,10 @@ pub fn advance(
     clients: &[Client],
     client: u32,
 ) -> Result<Option<Step>, StepFault>
-    requires columns { draft_columns draft.old ≡ column_count (first_system (development_shown development.now)) }
-    requires placed { are_placed (development_shown development.now).object (clients_of clients.now) ≡ true }
-    ensures advanced { IsAdvanced (development_shown development.now) (world_in draft.old clients.now) client (written_in_draft draft.new) result }
-    ensures placed { IfOk result (λ found. IfSome found (λ step. is_placed (development_shown development.now).object (client_of step.client) ≡ true)) }
+    requires columns { draft_columns draft.old ≡ column_count (first_system (development_view development.now)) }
+    requires placed { are_placed (development_view development.now).object (clients_of clients.now) ≡ true }
+    ensures advanced { IsAdvanced (development_view development.now) (world_in draft.old clients.now) client (written_in_draft draft.new) result }
+    ensures placed { IfOk result (λ found. IfSome found (λ step. is_placed (development_view development.now).object (client_of step.client) ≡ true)) }
     ensures saved { saved_in_draft draft.new ≡ saved_in_draft draft.old }
     ensures columns { draft_columns draft.new ≡ draft_columns draft.old }
 {

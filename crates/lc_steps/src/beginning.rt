@@ -2,7 +2,7 @@
 ghost use Rattle.std.specs.Prelude.{◌≡◌, true, [], length, slice_get, Some, IfOk};
 ghost use Rattle.lc_term.specs.Drafts.{written_in_draft, saved_in_draft, draft_columns};
 ghost use Rattle.lc_term.specs.SystemColumns.{column_count};
-ghost use Rattle.lc_term.specs.UpdateView.{write_shown, writes_shown};
+ghost use Rattle.lc_term.specs.UpdateView.{write_view, writes_view};
 ghost use Rattle.lc_action.specs.ActionView.{first_of};
 ghost use Rattle.lc_object.specs.View.{operation_of};
 ghost use Rattle.lc_object.specs.WellFormed.{variable_count};
@@ -13,7 +13,7 @@ ghost use Rattle.lc_machine.specs.View.{client_of};
 ghost use Rattle.lc_machine.specs.World.{World, Idle, In, first_variables};
 ghost use Rattle.lc_rider.specs.Rider.{argument, invocation_writes};
 ghost use Rattle.lc_outline.specs.Development.{first_system};
-ghost use Rattle.lc_outline.specs.DevelopmentView.{development_shown};
+ghost use Rattle.lc_outline.specs.DevelopmentView.{development_view};
 ghost use Rattle.lc_ride.specs.RideView.{marks_of};
 ghost use Rattle.lc_steps.specs.StepView.{what_of, world_in, IsBegun};
 
@@ -64,7 +64,7 @@ fn argument(numbers: &[i64], place: usize) -> i64
 }
 
 fn write(column: ColId, index: i64, value: i64) -> Write
-    ensures { write_shown result ≡ record { column = column.0; index = index; value = value } }
+    ensures { write_view result ≡ record { column = column.0; index = index; value = value } }
 {
     Write {
         column,
@@ -80,7 +80,7 @@ fn invocation_writes(
     operation: OpId,
     numbers: &[i64],
 ) -> [Write; 6]
-    ensures { writes_shown result ≡ invocation_writes (first_of system) client operation.0 numbers.now }
+    ensures { writes_view result ≡ invocation_writes (first_of system) client operation.0 numbers.now }
 {
     let index = i64::from(client);
     let [first, second, third] = system.arguments();
@@ -124,13 +124,13 @@ fn enter(
     body: &Operation,
     numbers: &[i64],
 ) -> Result<Step, StepFault>
-    requires columns { draft_columns draft.old ≡ column_count (first_system (development_shown development.now)) }
-    requires body { slice_get (development_shown development.now).object.operations operation.0 ≡ Some (operation_of body.now) }
+    requires columns { draft_columns draft.old ≡ column_count (first_system (development_view development.now)) }
+    requires body { slice_get (development_view development.now).object.operations operation.0 ≡ Some (operation_of body.now) }
     requires numbers { length numbers.now ≡ length (operation_of body.now).arguments }
-    requires entry { variables_at (development_shown development.now).object (operation_of body.now).entry ≡ Some (variable_count (operation_of body.now)) }
+    requires entry { variables_at (development_view development.now).object (operation_of body.now).entry ≡ Some (variable_count (operation_of body.now)) }
     ensures begun { (w : World) → w.columns ≡ written_in_draft draft.old → length w.clients ≡ clients → IsClient w client Idle →
-        IsBegun (development_shown development.now) w client operation.0 numbers.now (written_in_draft draft.new) result }
-    ensures placed { IfOk result (λ step. is_placed (development_shown development.now).object (client_of step.client) ≡ true) }
+        IsBegun (development_view development.now) w client operation.0 numbers.now (written_in_draft draft.new) result }
+    ensures placed { IfOk result (λ step. is_placed (development_view development.now).object (client_of step.client) ≡ true) }
     ensures saved { saved_in_draft draft.new ≡ saved_in_draft draft.old }
     ensures columns { draft_columns draft.new ≡ draft_columns draft.old }
 {
@@ -152,9 +152,9 @@ pub fn begin(
     operation: OpId,
     numbers: &[i64],
 ) -> Result<Step, StepFault>
-    requires { draft_columns draft.old ≡ column_count (first_system (development_shown development.now)) }
-    ensures begun { IsBegun (development_shown development.now) (world_in draft.old clients.now) client operation.0 numbers.now (written_in_draft draft.new) result }
-    ensures placed { IfOk result (λ step. is_placed (development_shown development.now).object (client_of step.client) ≡ true) }
+    requires { draft_columns draft.old ≡ column_count (first_system (development_view development.now)) }
+    ensures begun { IsBegun (development_view development.now) (world_in draft.old clients.now) client operation.0 numbers.now (written_in_draft draft.new) result }
+    ensures placed { IfOk result (λ step. is_placed (development_view development.now).object (client_of step.client) ≡ true) }
     ensures saved { saved_in_draft draft.new ≡ saved_in_draft draft.old }
     ensures columns { draft_columns draft.new ≡ draft_columns draft.old }
 {

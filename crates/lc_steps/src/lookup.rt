@@ -9,7 +9,7 @@ ghost use Rattle.lc_object.specs.WellFormed.{variable_count};
 ghost use Rattle.lc_machine.specs.MayRun.{variables_at};
 ghost use Rattle.lc_machine.specs.View.{client_of, clients_of};
 ghost use Rattle.lc_outline.specs.Development.{riders_in, riders_at, first_system};
-ghost use Rattle.lc_outline.specs.DevelopmentView.{development_shown, on_of};
+ghost use Rattle.lc_outline.specs.DevelopmentView.{development_view, on_of};
 
 use lc_action::SystemColumns;
 use lc_base::{ColId, OpId, OutOfMemory, PointId};
@@ -29,7 +29,7 @@ pub(crate) fn count_of(length: usize) -> Result<u32, OutOfMemory>
 // How many columns are declared.
 #[tactic(auto, using(crate::proofs::Seen::few_columns))]
 fn declared_columns(development: &Development) -> usize
-    ensures count { result ≡ first_system (development_shown development.now) }
+    ensures count { result ≡ first_system (development_view development.now) }
     ensures few { result ≤ column_limit }
 {
     let parts = development.parts();
@@ -40,7 +40,7 @@ fn declared_columns(development: &Development) -> usize
 
 /// The system columns, after the columns that are declared.
 pub(crate) fn system_columns(development: &Development) -> SystemColumns
-    ensures { first_of result ≡ first_system (development_shown development.now) }
+    ensures { first_of result ≡ first_system (development_view development.now) }
 {
     match SystemColumns::new(ColId(declared_columns(development) as u32)) {
         Some(system) => system,
@@ -60,14 +60,14 @@ fn riders_in(on: Option<&On>) -> &[Rider]
 
 /// The riders beside the edge of this kind of a point.
 pub(crate) fn riders_at(development: &Development, point: PointId, kind: EdgeKind) -> &[Rider]
-    ensures { riders_of result.now ≡ riders_at (development_shown development.now) point.0 kind }
+    ensures { riders_of result.now ≡ riders_at (development_view development.now) point.0 kind }
 {
     riders_in(on_at(development, point, kind))
 }
 
 /// The operation whose body a point is in.
 pub(crate) fn operation_at(development: &Development, point: PointId) -> OpId
-    ensures { result.0 ≡ operation_at (development_shown development.now).object point.0 }
+    ensures { result.0 ≡ operation_at (development_view development.now).object point.0 }
 {
     match development
         .parts()
@@ -83,9 +83,9 @@ pub(crate) fn operation_at(development: &Development, point: PointId) -> OpId
 
 /// The operation of this number, if there is one. Its first point has the variables of its body.
 pub fn body_of(development: &Development, operation: OpId) -> Option<&Operation>
-    ensures found { let operations = (development_shown development.now).object.operations in
+    ensures found { let operations = (development_view development.now).object.operations in
         MatchOption result (length operations ≤ operation.0) (λ found. slice_get operations operation.0 ≡ Some (operation_of found.now)) }
-    ensures entry { let object = (development_shown development.now).object in
+    ensures entry { let object = (development_view development.now).object in
         IfSome result (λ found. variables_at object (operation_of found.now).entry ≡ Some (variable_count (operation_of found.now))) }
 {
     let operations = &development.parts().object.parts().operations;

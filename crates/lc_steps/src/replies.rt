@@ -8,7 +8,7 @@ ghost use Rattle.lc_term.specs.Drafts.{written_in_draft, saved_in_draft, draft_c
 ghost use Rattle.lc_term.specs.State.{state_of, column_count};
 ghost use Rattle.lc_term.specs.SystemColumns as columns;
 ghost use Rattle.lc_term.specs.Updates.{row};
-ghost use Rattle.lc_term.specs.UpdateView.{writes_shown};
+ghost use Rattle.lc_term.specs.UpdateView.{writes_view};
 ghost use Rattle.lc_rider.specs.Rider.{return_writes};
 ghost use Rattle.lc_object.specs.View.{columns_of};
 ghost use Rattle.lc_action.specs.ActionView.{first_of};
@@ -105,7 +105,7 @@ fn is_justified(
 
 // What a return stores.
 fn return_writes(system: SystemColumns, client: u32) -> [Write; 1]
-    ensures { writes_shown result ≡ return_writes (first_of system) client }
+    ensures { writes_view result ≡ return_writes (first_of system) client }
 {
     [Write {
         column: system.pend(),

@@ -4,7 +4,7 @@ ghost use Rattle.lc_term.specs.Drafts.{written_in_draft, saved_in_draft, draft_c
 ghost use Rattle.lc_term.specs.State.{variable_count};
 ghost use Rattle.lc_term.specs.SystemColumns.{column_count};
 ghost use Rattle.lc_outline.specs.Development.{first_system};
-ghost use Rattle.lc_outline.specs.DevelopmentView.{development_shown};
+ghost use Rattle.lc_outline.specs.DevelopmentView.{development_view};
 ghost use Rattle.lc_steps.specs.Stepping.{ridden, RiddenFits};
 ghost use Rattle.lc_steps.specs.StepParts.{AreRidersSeen, AreRidden, fault_as};
 
@@ -38,9 +38,9 @@ pub(crate) fn ride(
     edge: EdgeKind,
     env: &Env,
 ) -> Result<Option<Vec<Mark>>, StepFault>
-    requires seen { AreRidersSeen (development_shown development.now) point.0 edge (variable_count env.now) }
-    requires columns { draft_columns draft.old ≡ column_count (first_system (development_shown development.now)) }
-    ensures ridden { let D = development_shown development.now in
+    requires seen { AreRidersSeen (development_view development.now) point.0 edge (variable_count env.now) }
+    requires columns { draft_columns draft.old ≡ column_count (first_system (development_view development.now)) }
+    ensures ridden { let D = development_view development.now in
         let s = written_in_draft draft.old in
         AreRidden (RiddenFits D client point.0 edge env.now.values.items s) (ridden D client point.0 edge env.now.values.items s) (written_in_draft draft.new) result }
     ensures saved { saved_in_draft draft.new ≡ saved_in_draft draft.old }

@@ -3,9 +3,9 @@ ghost use Rattle.std.specs.Prelude.{◌≡◌, ◌++◌, map, pos, replicate, On
 ghost use Rattle.lc_term.specs.State.{state_of, column_count};
 ghost use Rattle.lc_term.specs.SystemColumns as columns;
 ghost use Rattle.lc_seq.specs.SpecView as seq;
-ghost use Rattle.lc_object.specs.View.{column_shown};
+ghost use Rattle.lc_object.specs.View.{column_view};
 ghost use Rattle.lc_outline.specs.Development.{first_system, start_columns};
-ghost use Rattle.lc_outline.specs.DevelopmentView.{development_shown};
+ghost use Rattle.lc_outline.specs.DevelopmentView.{development_view};
 
 use lc_base::OutOfMemory;
 use lc_outline::Development;
@@ -30,7 +30,7 @@ fn push_concretes(
     columns: &[lc_object::Column],
     numbers: &mut Vec<(i64, i64)>,
 ) -> Result<(), OutOfMemory>
-    ensures { OnOk result (numbers.new.items ≡ numbers.old.items ++ map (λ c. (c.slope, c.start)) (map column_shown columns.now)) }
+    ensures { OnOk result (numbers.new.items ≡ numbers.old.items ++ map (λ c. (c.slope, c.start)) (map column_view columns.now)) }
 {
     for column in columns {
         numbers.push((column.slope, column.start))?;
@@ -50,8 +50,8 @@ fn push_system(numbers: &mut Vec<(i64, i64)>) -> Result<(), OutOfMemory>
 
 /// The state of a development in which nothing is written.
 pub fn start(alloc: Global, development: &Development) -> Result<State, OutOfMemory>
-    ensures state { IfOk result (λ state. state_of state ≡ start_columns (development_shown development.now)) }
-    ensures columns { IfOk result (λ state. column_count state ≡ columns.column_count (first_system (development_shown development.now))) }
+    ensures state { IfOk result (λ state. state_of state ≡ start_columns (development_view development.now)) }
+    ensures columns { IfOk result (λ state. column_count state ≡ columns.column_count (first_system (development_view development.now))) }
 {
     let parts = development.parts();
     let mut numbers = Vec::new(alloc);

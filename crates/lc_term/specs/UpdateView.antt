@@ -11,8 +11,8 @@ update_of u = record { column = u.column.0; index = term_of u.index; value = ter
 abbrev pub updates_of : List Update → List U.Update
 updates_of us = map update_of us
 
-abbrev pub write_shown : Write → U.Write
-write_shown w = record { column = w.column.0; index = w.index; value = w.value }
+abbrev pub write_view : Write → U.Write
+write_view w = record { column = w.column.0; index = w.index; value = w.value }
 
-abbrev pub writes_shown : List Write → List U.Write
-writes_shown ws = map write_shown ws
+abbrev pub writes_view : List Write → List U.Write
+writes_view ws = map write_view ws

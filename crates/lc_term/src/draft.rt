@@ -23,7 +23,7 @@ impl Draft {
     ghost use Rattle.std.specs.Prelude.{◌≡◌, OnOk};
     ghost use Rattle.lc_term.specs.State.{state_of, column_count};
     ghost use Rattle.lc_term.specs.Updates.{stored_all, AreWithin};
-    ghost use Rattle.lc_term.specs.UpdateView.{writes_shown};
+    ghost use Rattle.lc_term.specs.UpdateView.{writes_view};
     ghost use Rattle.lc_term.specs.Drafts.{written_in_draft, saved_in_draft, draft_columns};
 
     /// A state as it is saved.
@@ -48,8 +48,8 @@ impl Draft {
 
     /// Writes cells in order. On `OutOfMemory` some of them may be written.
     pub fn write_all(&mut self, writes: &[Write]) -> Result<(), OutOfMemory>
-        requires { AreWithin (draft_columns self.old) (writes_shown writes.now) }
-        ensures ok { OnOk result (written_in_draft self.new ≡ stored_all (written_in_draft self.old) (writes_shown writes.now)) }
+        requires { AreWithin (draft_columns self.old) (writes_view writes.now) }
+        ensures ok { OnOk result (written_in_draft self.new ≡ stored_all (written_in_draft self.old) (writes_view writes.now)) }
         ensures saved { saved_in_draft self.new ≡ saved_in_draft self.old }
         ensures columns { draft_columns self.new ≡ draft_columns self.old }
     {

@@ -4,7 +4,7 @@ ghost use Rattle.std.specs.Int.{w64};
 ghost use Rattle.lc_term.specs.Meaning.{affine};
 ghost use Rattle.lc_term.specs.State.{cells_of, state_of, column_count, initial_state, with_cell};
 ghost use Rattle.lc_term.specs.Updates.{stored_all, AreWithin};
-ghost use Rattle.lc_term.specs.UpdateView.{writes_shown};
+ghost use Rattle.lc_term.specs.UpdateView.{writes_view};
 ghost use Rattle.lc_term.specs.Written.{written_in, kept_in, with_written, with_kept, kept_of, after_writes, taken_back, CanTakeBack};
 
 use crate::update::Write;
@@ -149,8 +149,8 @@ impl State {
     /// Writes cells in order, so of two writes to one cell the later counts. On `OutOfMemory` the state stays
     /// as it was.
     pub fn write_all(&mut self, alloc: Global, writes: &[Write]) -> Result<(), OutOfMemory>
-        requires { AreWithin (column_count self.old) (writes_shown writes.now) }
-        ensures ok { OnOk result (state_of self.new ≡ stored_all (state_of self.old) (writes_shown writes.now)) }
+        requires { AreWithin (column_count self.old) (writes_view writes.now) }
+        ensures ok { OnOk result (state_of self.new ≡ stored_all (state_of self.old) (writes_view writes.now)) }
         ensures err { OnErr result (state_of self.new ≡ state_of self.old) }
         ensures columns { column_count self.new ≡ column_count self.old }
     {
@@ -158,8 +158,8 @@ impl State {
     }
 
     fn write_all_or_none(&mut self, alloc: Global, writes: &[Write]) -> Result<(), OutOfMemory>
-        requires { AreWithin (length self.old.columns.items) (writes_shown writes.now) }
-        ensures ok { OnOk result (kept_of self.new ≡ after_writes (kept_of self.old) (writes_shown writes.now)) }
+        requires { AreWithin (length self.old.columns.items) (writes_view writes.now) }
+        ensures ok { OnOk result (kept_of self.new ≡ after_writes (kept_of self.old) (writes_view writes.now)) }
         ensures err { OnErr result (kept_of self.new ≡ kept_of self.old) }
     {
         let mut done = Vec::new(alloc);
@@ -176,9 +176,9 @@ impl State {
         writes: &[Write],
         done: &mut Vec<Undo>,
     ) -> Result<(), OutOfMemory>
-        requires within { AreWithin (length self.old.columns.items) (writes_shown writes.now) }
+        requires within { AreWithin (length self.old.columns.items) (writes_view writes.now) }
         requires can { CanTakeBack (kept_of self.old) done.old.items }
-        ensures ok { OnOk result (kept_of self.new ≡ after_writes (kept_of self.old) (writes_shown writes.now)) }
+        ensures ok { OnOk result (kept_of self.new ≡ after_writes (kept_of self.old) (writes_view writes.now)) }
         ensures back { taken_back (kept_of self.new) done.new.items ≡ taken_back (kept_of self.old) done.old.items }
         ensures can { CanTakeBack (kept_of self.new) done.new.items }
         ensures columns { length self.new.columns.items ≡ length self.old.columns.items }

@@ -21,9 +21,9 @@ pub struct Write {
 /// 0 in cell 0 of column 0, which fills the places of an array that hold no write yet.
 impl Default for Write {
     ghost use Rattle.std.specs.Prelude.{◌≡◌, pos};
-    ghost use Rattle.lc_term.specs.UpdateView.{write_shown};
+    ghost use Rattle.lc_term.specs.UpdateView.{write_view};
 
-    ghost is_default = { λ write. write_shown write ≡ record { column = 0; index = pos 0; value = pos 0 } };
+    ghost is_default = { λ write. write_view write ≡ record { column = 0; index = pos 0; value = pos 0 } };
 
     fn default() -> Write {
         Write {

@@ -5,7 +5,7 @@ ghost use Rattle.lc_base.specs.Limits.{seat_limit};
 ghost use Rattle.lc_check.specs.VerdictView.{development_in};
 ghost use Rattle.lc_hist.specs.Histories.{events_in};
 ghost use Rattle.lc_hist.specs.History.{Linearizes};
-ghost use Rattle.lc_run.specs.Ordering.{entries_shown};
+ghost use Rattle.lc_run.specs.Ordering.{order_entries};
 ghost use Rattle.lc_seq.specs.TextStep.{start_of, text_step};
 
 use lc_base::OpId;
@@ -29,7 +29,7 @@ pub fn one_call_each<J: Ledger, R: Wait>(
     requires name { blank.name ≡ J.name }
     requires parts { (blank.parts ≡ J.parts) × (blank.parts ≡ seat_limit) }
     ensures { let D = development_in (arc_value accepted) in IfOk result (λ found. IfSome found (λ log.
-        ∥ Linearizes (text_step D.specification.operations) (start_of D.specification.columns) (events_in log.history) (entries_shown log.order.items) ∥₁)) }
+        ∥ Linearizes (text_step D.specification.operations) (start_of D.specification.columns) (events_in log.history) (order_entries log.order.items) ∥₁)) }
 {
     let made: Result<(Runner<J>, Vec<Seat<J>>), RunFault> = Runner::new(
         alloc, blank, accepted, clients,

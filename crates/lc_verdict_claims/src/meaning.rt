@@ -1,5 +1,5 @@
 //! What derived conditions mean, and the columns that a step leaves.
-ghost use Rattle.lc_outline.specs.DevelopmentView.{development_shown};
+ghost use Rattle.lc_outline.specs.DevelopmentView.{development_view};
 ghost use Rattle.lc_sound.specs.Derived.{AreDerived};
 ghost use Rattle.lc_sound.specs.Valid.{AreValid};
 ghost use Rattle.lc_verdict_claims.specs.Columns.{StepsLeaveColumns};
@@ -10,8 +10,8 @@ use lc_sound::laws::edges_go_by_paths;
 
 /// If each condition of a development has a derivation, all its conditions are valid.
 pub fn validating(development: &Development)
-    requires { AreDerived (development_shown development.now) }
-    ensures { AreValid (development_shown development.now) }
+    requires { AreDerived (development_view development.now) }
+    ensures { AreValid (development_view development.now) }
 {
     derived_conditions_are_valid(development);
 }

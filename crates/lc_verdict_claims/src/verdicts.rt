@@ -10,7 +10,7 @@ ghost use Rattle.lc_cond.specs.ConditionView.{condition_in, IsCondition};
 ghost use Rattle.lc_kernel.specs.Proofs.{size};
 ghost use Rattle.lc_kernel.specs.View.{proof_of};
 ghost use Rattle.lc_outline.specs.Development.{Development as Shown};
-ghost use Rattle.lc_outline.specs.DevelopmentView.{development_shown};
+ghost use Rattle.lc_outline.specs.DevelopmentView.{development_view};
 ghost use Rattle.lc_outline_text.specs.Developments.{file_reading};
 ghost use Rattle.lc_reading.specs.Files.{Says};
 ghost use Rattle.lc_sound.specs.Linearizable.{IsLinearizableObject};
@@ -41,7 +41,7 @@ pub fn checking_a_certificate(
     development: Development,
     cert: &[u8],
 ) -> Result<Verdict, OutOfMemory>
-    ensures exactly { IfOk result (IsVerdictOn (development_shown development) cert.now) }
+    ensures exactly { IfOk result (IsVerdictOn (development_view development) cert.now) }
     ensures linearizable { IfAccepted result (λ D. IsLinearizableObject D.specification D.object) }
 {
     check_certificate(alloc, development, cert)
@@ -49,7 +49,7 @@ pub fn checking_a_certificate(
 
 /// For a certificate file, the number of conditions that it proves is returned, or its first refusal.
 pub fn counting(alloc: Global, development: &Development, cert: &[u8]) -> Result<u64, Fault>
-    ensures { IsCountOn (development_shown development.now) cert.now result }
+    ensures { IsCountOn (development_view development.now) cert.now result }
 {
     proven_count(alloc, development, cert)
 }
@@ -114,10 +114,10 @@ pub fn proving_the_next(
     development: &Development,
     proof: &Proof,
 ) -> Result<(), Fault>
-    requires in_turn { (taken : List Proved) × IsInTurn (development_shown development.now) taken walk.old }
+    requires in_turn { (taken : List Proved) × IsInTurn (development_view development.now) taken walk.old }
     requires next { HasNext walk.old }
     requires steps { size (proof_of proof.now) ≤ file_limit }
-    ensures { IsProvenOn (development_shown development.now) (proof_of proof.now) walk.old walk.new result }
+    ensures { IsProvenOn (development_view development.now) (proof_of proof.now) walk.old walk.new result }
 {
     walk.prove_next(alloc, development, proof)
 }

@@ -1,7 +1,7 @@
 //! Verdicts by many workers, and numbers that many workers check.
 ghost use Rattle.std.specs.Prelude.{IfOk, IsTrue};
 ghost use Rattle.lc_check.specs.VerdictView.{IfAccepted, IsVerdict, IsVerdictOn};
-ghost use Rattle.lc_outline.specs.DevelopmentView.{development_shown};
+ghost use Rattle.lc_outline.specs.DevelopmentView.{development_view};
 ghost use Rattle.lc_outline_text.specs.Developments.{file_reading};
 ghost use Rattle.lc_pool.specs.Marks.{AllHold};
 ghost use Rattle.lc_reading.specs.Files.{Says};
@@ -39,7 +39,7 @@ pub fn checking_a_certificate_by_workers<R: Threads + Wait + Sync, G: Gate + Syn
     workers: u64,
     gate: &G,
 ) -> Result<Verdict, OutOfMemory>
-    ensures exactly { IfOk result (IsVerdictOn (development_shown development) cert.now) }
+    ensures exactly { IfOk result (IsVerdictOn (development_view development) cert.now) }
     ensures linearizable { IfAccepted result (λ D. IsLinearizableObject D.specification D.object) }
 {
     check_certificate_with(rt, alloc, development, cert, workers, gate)

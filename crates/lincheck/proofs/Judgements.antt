@@ -7,7 +7,7 @@ use Rattle.lc_base.specs.declared.refusal.Fault.{Fault}
 use Rattle.lc_base.specs.declared.refusal.Fault.TheVariants.{Refused, OutOfMemory}
 use Rattle.lc_base.specs.declared.refusal.Refusal.TheVariants.{Text, Shape, Unknown, Repeated, Auxiliary, Bound, CertText, CertShape, Missing, Extra, Proof, Large, HistoryShape, Order}
 use Rattle.lc_hist.specs.History.{Event, Entry}
-use Rattle.lc_hist.specs.JsonHistories.{SaysHistory, IsWrongItem, IsRefusedAt, entries_seen}
+use Rattle.lc_hist.specs.JsonHistories.{SaysHistory, IsWrongItem, IsRefusedAt, entries_view}
 use Rattle.lc_hist.specs.Judged.{IsJudged}
 use Rattle.lc_hist.specs.declared.event.Done.{Done}
 use Rattle.lc_hist.specs.declared.judging.JudgeFault as F
@@ -40,11 +40,11 @@ judged spec bytes history order (Err V.Overflow) says is = (history, order, says
 judged spec bytes history order (Err V.OutOfMemory) says is = tt
 
 pub order_judged : (spec : Specification) (bytes : List ℕ) (history : List Event) (order seen : List (Done TextCall Pick (Vec ℤ Global))) (result : Result (Unit {0}) F.JudgeFault)
-    → SaysHistory spec.operations bytes history (entries_seen order) → seen ≡ order
-    → IsJudged (text_step spec.operations) (TextFits spec.operations) (start_of spec.columns) history (entries_seen seen) result → IsJudgement spec bytes (judgement_of result)
+    → SaysHistory spec.operations bytes history (entries_view order) → seen ≡ order
+    → IsJudged (text_step spec.operations) (TextFits spec.operations) (start_of spec.columns) history (entries_view seen) result → IsJudgement spec bytes (judgement_of result)
 order_judged spec bytes history order seen result says same is =
-    judged spec bytes history (entries_seen order) result says
-    (subst (λ (l : List (Done TextCall Pick (Vec ℤ Global))). IsJudged (text_step spec.operations) (TextFits spec.operations) (start_of spec.columns) history (entries_seen l) result) same is)
+    judged spec bytes history (entries_view order) result says
+    (subst (λ (l : List (Done TextCall Pick (Vec ℤ Global))). IsJudged (text_step spec.operations) (TextFits spec.operations) (start_of spec.columns) history (entries_view l) result) same is)
 
 -- a fault of the text is its judgement
 pub unread : (spec : Specification) (bytes : List ℕ) (fault : Fault) → IsRefusedAt (IsWrongItem spec.operations bytes) fault → IsJudgement spec bytes (Err fault)

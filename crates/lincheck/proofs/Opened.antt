@@ -10,7 +10,7 @@ use Rattle.lc_check.specs.VerdictView.{IsVerdictOn}
 use Rattle.lc_check.specs.declared.verdict.Verdict.{Verdict}
 use Rattle.lc_check.specs.declared.verdict.Verdict.TheVariants.{Accepted, Refused as IsRefused}
 use Rattle.lc_outline.specs.Development as S
-use Rattle.lc_outline.specs.DevelopmentView.{development_shown}
+use Rattle.lc_outline.specs.DevelopmentView.{development_view}
 use Rattle.lc_outline.specs.declared.development.Development.{Development}
 use Rattle.lc_outline_text.specs.Developments.{file_reading}
 use Rattle.lc_reading.proofs.Files.{says_not_refused}
@@ -25,13 +25,13 @@ use Rattle.lincheck.specs.declared.answer.Failure.{Failure}
 use Rattle.lincheck.proofs.Truncated.{said_of_whole, refusal_of_whole, fault_of_whole, reading_of_whole}
 
 -- what is read of a file says what the file says, or is refused as the file is
-pub opened : (known : Option (List ℕ)) (bytes seen : List ℕ) (d : Development) → IfSome known (λ file. bytes ≡ within_limit file) → seen ≡ bytes → Says file_reading seen (development_shown d)
-    → IfSome known (λ file. Says file_reading file (development_shown d))
+pub opened : (known : Option (List ℕ)) (bytes seen : List ℕ) (d : Development) → IfSome known (λ file. bytes ≡ within_limit file) → seen ≡ bytes → Says file_reading seen (development_view d)
+    → IfSome known (λ file. Says file_reading file (development_view d))
 opened None bytes seen d read same says = tt
-opened (Some file) bytes seen d read same says = said_of_whole file_reading file (development_shown d) (subst (λ b. Says file_reading b (development_shown d)) (same ∙ read) says)
+opened (Some file) bytes seen d read same says = said_of_whole file_reading file (development_view d) (subst (λ b. Says file_reading b (development_view d)) (same ∙ read) says)
 
 pub refused : (known : Option (List ℕ)) (bytes seen : List ℕ) (fault : Fault) (text : List ℕ) (status : ℕ) → IfSome known (λ file. bytes ≡ within_limit file) → seen ≡ bytes
-    → IsAnswerTo development_shown file_reading seen (Err fault) → ToldFault fault text status → IfSome known (λ file. TellsRefusal file text status)
+    → IsAnswerTo development_view file_reading seen (Err fault) → ToldFault fault text status → IfSome known (λ file. TellsRefusal file text status)
 refused None bytes seen fault text status read same is told = tt
 refused (Some file) bytes seen (Refused refusal) text status read same is told =
     (refusal, refusal_of_whole file_reading file refusal (subst (λ b. IsFirstRefusal file_reading b refusal) (same ∙ read) is), told)

@@ -16,7 +16,7 @@ use Rattle.lc_crew.specs.Ran.{IsRunOf}
 use Rattle.lc_crew.specs.declared.ended.Ended.{Ended}
 use Rattle.lc_crew.specs.declared.plan.Ran.{Ran}
 use Rattle.lc_hist.specs.Histories.{events_in}
-use Rattle.lc_hist.specs.JsonHistories.{entries_seen, entry_seen}
+use Rattle.lc_hist.specs.JsonHistories.{entries_view, entry_view}
 use Rattle.lc_hist.specs.JsonWritten.{history_text}
 use Rattle.lc_hist.specs.declared.event.Done.{Done}
 use Rattle.lc_outline.specs.Development.{Development}
@@ -76,15 +76,15 @@ plan_refused D (Some file) bytes OutOfMemory text status read is told = absurd t
 -- its text is its first line, the lines of its clients, and its history
 pub ran_text_is : (D E : Development) (ran : Ran) (count : ℕ) (ends : List Ended) (order : List (Done TextCall Pick (Vec ℤ Global))) (first lines history whole text : List ℕ) → E ≡ D
     → count ≡ length ran.log.order.items → ends ≡ ran.ends.items → order ≡ ran.log.order.items → first ≡ line_of (codes "linearizable") (count ∷ []) → lines ≡ first ++ flat_map end_text ends
-    → history ≡ history_text E.specification.operations (events_in ran.log.history) (entries_seen order) → whole ≡ lines ++ history → text ≡ whole ++ 10 ∷ [] → text ≡ ran_text D ran
+    → history ≡ history_text E.specification.operations (events_in ran.log.history) (entries_view order) → whole ≡ lines ++ history → text ≡ whole ++ 10 ∷ [] → text ≡ ran_text D ran
 ran_text_is D E ran count ends order first lines history whole text same counted ended ordered is_first is_lines is_history is_whole is_text =
     is_text
     ∙ ap (λ x. x ++ 10 ∷ [])
     (is_whole
     ∙ ap₂ ◌++◌
     (is_lines
-    ∙ ap₂ ◌++◌ (is_first ∙ ap (λ n. line_of (codes "linearizable") (n ∷ [])) (counted ∙ sym (length-map ran.log.order.items entry_seen))) (ap (flat_map end_text) ended))
-    (is_history ∙ ap₂ (λ (F : Development) o. history_text F.specification.operations (events_in ran.log.history) (entries_seen o)) same ordered))
+    ∙ ap₂ ◌++◌ (is_first ∙ ap (λ n. line_of (codes "linearizable") (n ∷ [])) (counted ∙ sym (length-map ran.log.order.items entry_view))) (ap (flat_map end_text) ended))
+    (is_history ∙ ap₂ (λ (F : Development) o. history_text F.specification.operations (events_in ran.log.history) (entries_view o)) same ordered))
 
 -- the report of its text is that of its labels
 pub ran_told : (D : Development) (n : ℕ) (ran : Ran) (text : List ℕ) → IsRunOf D n ran → text ≡ ran_text D ran → TellsRun D n text

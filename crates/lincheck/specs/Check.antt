@@ -9,7 +9,7 @@ use Rattle.lc_check.specs.declared.verdict.Verdict.{Verdict}
 use Rattle.lc_check.specs.declared.verdict.Verdict.TheVariants.{Accepted, Refused as IsRefused}
 use Rattle.lc_cond.specs.Conditions.{conditions}
 use Rattle.lc_outline.specs.Development as S
-use Rattle.lc_outline.specs.DevelopmentView.{development_shown}
+use Rattle.lc_outline.specs.DevelopmentView.{development_view}
 use Rattle.lc_outline.specs.declared.development.Development.{Development}
 use Rattle.lc_outline_text.specs.Developments.{file_reading}
 use Rattle.lc_reading.specs.Files.{Says, IsFirstRefusal}
@@ -22,7 +22,7 @@ TellsRefusal file text status = (refusal : Refusal) × IsFirstRefusal file_readi
 
 -- a file is opened: it says this development; or its refusal is reported
 abbrev pub OpensAs : List ℕ → Result Development Answer → Type 0
-OpensAs file (Ok development) = Says file_reading file (development_shown development)
+OpensAs file (Ok development) = Says file_reading file (development_view development)
 OpensAs file (Err answer) = TellsRefusal file answer.text.items answer.status
 
 -- The answer to a development's file, for which this text is printed: that text and status 0; or its first refusal

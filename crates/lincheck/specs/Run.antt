@@ -14,7 +14,7 @@ use Rattle.lc_crew.specs.declared.halt.Halt.{Halt}
 use Rattle.lc_crew.specs.declared.plan.Ran.{Ran}
 use Rattle.lc_hist.specs.Histories.{events_in}
 use Rattle.lc_hist.specs.History.{Event, Entry}
-use Rattle.lc_hist.specs.JsonHistories.{entries_seen}
+use Rattle.lc_hist.specs.JsonHistories.{entries_view}
 use Rattle.lc_hist.specs.JsonWritten.{history_text}
 use Rattle.lc_outline.specs.Development.{Development}
 use Rattle.lc_outline_text.specs.Developments.{file_reading}
@@ -47,7 +47,7 @@ run_text D events entries ends =
     line_of (codes "linearizable") (length entries ∷ []) ++ flat_map end_text ends ++ history_text D.specification.operations events entries ++ (10 ∷ [])
 
 abbrev pub ran_text : Development → Ran → List ℕ
-ran_text D ran = run_text D (events_in ran.log.history) (entries_seen ran.log.order.items) ran.ends.items
+ran_text D ran = run_text D (events_in ran.log.history) (entries_view ran.log.order.items) ran.ends.items
 
 -- what is printed of a run by n clients: its history and its order, which linearizes it, and how its clients came to their ends
 abbrev pub TellsRun : Development → ℕ → List ℕ → Type 0

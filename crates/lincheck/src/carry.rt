@@ -5,7 +5,7 @@ ghost use Rattle.lc_cert.specs.CertificateView.{entries_in};
 ghost use Rattle.lc_check.specs.VerdictView.{development_in};
 ghost use Rattle.lc_check.specs.Verdicts.{IsProvenBy};
 ghost use Rattle.lc_hints.specs.HintView.{proofs_in};
-ghost use Rattle.lc_outline.specs.DevelopmentView.{development_shown};
+ghost use Rattle.lc_outline.specs.DevelopmentView.{development_view};
 ghost use Rattle.lincheck.specs.Carry.{AnswersChanged, AnswersSought, OpensCertificate, OpensOld, AnswersWith, IsCertified, IsUnreadNew, hints_at};
 ghost use Rattle.lc_words.specs.Tasks.{CheckCertificate, carrying, path_in};
 ghost use Rattle.lincheck.specs.Execution.{AnswersTask, IsUnread};
@@ -65,7 +65,7 @@ fn accept_certificate(
     development: Development,
     cert: &[u8],
 ) -> Result<Result<Old, Answer>, OutOfMemory>
-    ensures opens { IfOk result (OpensCertificate (development_shown development) cert.now) }
+    ensures opens { IfOk result (OpensCertificate (development_view development) cert.now) }
     ensures certified { IfOk result (λ opened. IfOk opened IsCertified) }
 {
     let verdict = check_certificate(alloc, development, cert)?;
@@ -85,7 +85,7 @@ fn open_certificate<'a, F: Files>(
     ensures keeps { (other : List ℕ) → F.bytes_at files.new other ≡ F.bytes_at files.old other }
     ensures closed { (other : List ℕ) → F.CannotOpen files.old other → F.CannotOpen files.new other }
     ensures unread { F.CannotOpen files.old path.now → IsErr result }
-    ensures opens { IfOk result (λ opened. IfSome (F.bytes_at files.old path.now) (λ file. OpensCertificate (development_shown development) file opened)) }
+    ensures opens { IfOk result (λ opened. IfSome (F.bytes_at files.old path.now) (λ file. OpensCertificate (development_view development) file opened)) }
     ensures certified { IfOk result (λ opened. IfOk opened IsCertified) }
 {
     let bytes = read_file(alloc, files, path)?;
@@ -121,7 +121,7 @@ fn answer_carried<P: Progress>(
     progress: &mut P,
 ) -> Result<Answer, OutOfMemory>
     requires { IsCertified old.now }
-    ensures { let E = development_shown development.now in
+    ensures { let E = development_view development.now in
         IfOk result (λ answer. AnswersSought E (carried (development_in old.now.accepted) (entries_in old.now.certificate) E ++ proofs_in hints.now) answer.text.items answer.status) }
 {
     let found = carry_with(
@@ -147,7 +147,7 @@ fn answer_development<'a, F: Files, P: Progress>(
 ) -> Result<Answer, Failure<'a>>
     requires { IsCertified old.now }
     ensures unread { IfSome (path_in hints.entry) (λ path. F.CannotOpen files.old path) → IfSome (path_in hints.entry) (λ path. IsErr result) }
-    ensures answers { let E = development_shown development.now in
+    ensures answers { let E = development_view development.now in
         IfOk result (λ answer. AnswersWith (hints_at (F.bytes_at files.old) (path_in hints.entry)) E (carried (development_in old.now.accepted) (entries_in old.now.certificate) E) answer.text.items answer.status) }
 {
     match hints {

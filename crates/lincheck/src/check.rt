@@ -2,7 +2,7 @@
 ghost use Rattle.std.specs.Prelude.{◌≡◌, ℕ, List, IfOk, IfSome, IsErr};
 ghost use Rattle.lc_sexp.specs.Pieces.{WasFed};
 ghost use Rattle.lc_reading.specs.Files.{IsAnswerTo};
-ghost use Rattle.lc_outline.specs.DevelopmentView.{development_shown};
+ghost use Rattle.lc_outline.specs.DevelopmentView.{development_view};
 ghost use Rattle.lc_outline_text.specs.Developments.{file_reading};
 ghost use Rattle.lc_check.specs.VerdictView.{IsVerdictOn, development_in};
 ghost use Rattle.lc_words.specs.Tasks.{CheckCertificate};
@@ -27,7 +27,7 @@ use std::thread::Threads;
 
 /// The development in the file that a reader was fed; else its first refusal.
 fn development_fed(alloc: Global, reader: FormsReader) -> Result<Development, Fault>
-    ensures { (bytes : List ℕ) → WasFed reader bytes → IsAnswerTo development_shown file_reading bytes result }
+    ensures { (bytes : List ℕ) → WasFed reader bytes → IsAnswerTo development_view file_reading bytes result }
 {
     let forms = reader.finish()?;
     development_in(alloc, &forms)
@@ -83,7 +83,7 @@ fn answer_certificate<'a, F: Files>(
     path: &'a str,
 ) -> Result<Answer, Failure<'a>>
     ensures unread { F.CannotOpen files.old path.now → IsErr result }
-    ensures answers { IfOk result (λ answer. IfSome (F.bytes_at files.old path.now) (λ file. AnswersCertificate (development_shown development) file answer.text.items answer.status)) }
+    ensures answers { IfOk result (λ answer. IfSome (F.bytes_at files.old path.now) (λ file. AnswersCertificate (development_view development) file answer.text.items answer.status)) }
 {
     let mut session = CertificateSession::new(alloc, development)?;
     feed_file(files, path, &mut session)?;
@@ -98,7 +98,7 @@ fn counted_verdict<E: Write>(
     cert: &[u8],
     err: &mut E,
 ) -> Result<Verdict, OutOfMemory>
-    ensures { IfOk result (IsVerdictOn (development_shown development) cert.now) }
+    ensures { IfOk result (IsVerdictOn (development_view development) cert.now) }
 {
     let total = Numbering::new(alloc, &development)?.count();
     let mut counting = Counting { err, total, due: 0 };
@@ -115,7 +115,7 @@ fn answer_counted<'a, F: Files, E: Write>(
     err: &mut E,
 ) -> Result<Answer, Failure<'a>>
     ensures unread { F.CannotOpen files.old path.now → IsErr result }
-    ensures answers { IfOk result (λ answer. IfSome (F.bytes_at files.old path.now) (λ file. AnswersCertificate (development_shown development) file answer.text.items answer.status)) }
+    ensures answers { IfOk result (λ answer. IfSome (F.bytes_at files.old path.now) (λ file. AnswersCertificate (development_view development) file answer.text.items answer.status)) }
 {
     let cert = read_file(alloc, files, path)?;
     let verdict = counted_verdict(alloc, development, &cert, err)?;
@@ -134,7 +134,7 @@ fn answer_said<'a, R: Threads + Wait + Sync, F: Files, E: Write>(
     telling: &mut Telling<'_, E>,
 ) -> Result<Answer, Failure<'a>>
     ensures unread { F.CannotOpen files.old path.now → IsErr result }
-    ensures answers { IfOk result (λ answer. IfSome (F.bytes_at files.old path.now) (λ file. AnswersCertificate (development_shown development) file answer.text.items answer.status)) }
+    ensures answers { IfOk result (λ answer. IfSome (F.bytes_at files.old path.now) (λ file. AnswersCertificate (development_view development) file answer.text.items answer.status)) }
 {
     if telling.is_asked {
         return answer_counted(alloc, files, development, path, telling.err);

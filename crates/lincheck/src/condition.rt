@@ -1,6 +1,6 @@
 //! The command `conditions` with its options: one condition, laid out over lines, or the lines of those that are chosen.
 ghost use Rattle.std.specs.Prelude.{◌≡◌, IfOk, IfSome, IsErr};
-ghost use Rattle.lc_outline.specs.DevelopmentView.{development_shown};
+ghost use Rattle.lc_outline.specs.DevelopmentView.{development_view};
 ghost use Rattle.lc_listing.specs.Chosen.{chosen_text};
 ghost use Rattle.lc_words.specs.Tasks.{path_in};
 ghost use Rattle.lincheck.specs.Check.{AnswersDevelopment};
@@ -20,7 +20,7 @@ fn tell_condition(
     development: &Development,
     number: u64,
 ) -> Result<Answer, OutOfMemory>
-    ensures { IfOk result (λ answer. TellsCondition (development_shown development.now) number answer.text.items answer.status) }
+    ensures { IfOk result (λ answer. TellsCondition (development_view development.now) number answer.text.items answer.status) }
 {
     match condition_over_lines(alloc, development, number)? {
         Some(text) => Ok(Answer {

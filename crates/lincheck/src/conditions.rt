@@ -1,7 +1,7 @@
 //! The command `conditions`. The lines of all conditions are printed as they are made.
 ghost use Rattle.std.specs.Prelude.{◌≡◌, IsErr};
 ghost use Rattle.lc_cond_text.specs.ConditionText.{conditions_text};
-ghost use Rattle.lc_outline.specs.DevelopmentView.{development_shown};
+ghost use Rattle.lc_outline.specs.DevelopmentView.{development_view};
 ghost use Rattle.lc_words.specs.Tasks.{ListConditions, ShowCondition, chosen_task, listing, path_in};
 ghost use Rattle.lincheck.specs.Execution.{AnswersTask};
 ghost use Rattle.lincheck.specs.Printing.{Leaves, PrintsText};
@@ -23,7 +23,7 @@ fn print_conditions<'a, O: Write>(
     out: &mut O,
     development: &Development,
 ) -> Result<(), Failure<'a>>
-    ensures { PrintsText (O.contents out.old) (O.contents out.new) (conditions_text (development_shown development.now)) result }
+    ensures { PrintsText (O.contents out.old) (O.contents out.new) (conditions_text (development_view development.now)) result }
 {
     let mut lines = ConditionLines::new(alloc, development)?;
     'pieces: loop {

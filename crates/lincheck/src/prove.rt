@@ -6,7 +6,7 @@ ghost use Rattle.lc_term.specs.Lists.{Every};
 ghost use Rattle.lc_cert.specs.Printed.{EntryReadsBack};
 ghost use Rattle.lc_hints.specs.Files.{IsAnswerTo};
 ghost use Rattle.lc_hints.specs.HintView.{proofs_in};
-ghost use Rattle.lc_outline.specs.DevelopmentView.{development_shown};
+ghost use Rattle.lc_outline.specs.DevelopmentView.{development_view};
 ghost use Rattle.lc_words.specs.Tasks.{ProveWithHints, path_in, proving};
 ghost use Rattle.lincheck.specs.Execution.{AnswersTask, IsUnread};
 ghost use Rattle.lincheck.specs.Prove.{AnswersFound, AnswersHinted, AnswersHints, AnswersProve, OpensHints, ToldFound};
@@ -43,7 +43,7 @@ pub fn told_found(
     development: &Development,
     found: Result<Certificate, FindFault>,
 ) -> Result<Answer, OutOfMemory>
-    ensures { IfOk result (λ answer. ToldFound (development_shown development.now) found answer.text.items answer.status) }
+    ensures { IfOk result (λ answer. ToldFound (development_view development.now) found answer.text.items answer.status) }
 {
     match found {
         Ok(certificate) => Ok(Answer {
@@ -65,8 +65,8 @@ fn answer_found<P: Progress>(
     hints: &Hints,
     progress: &mut P,
 ) -> Result<Answer, OutOfMemory>
-    requires { Every (EntryReadsBack (development_shown development.now)) (proofs_in hints.now) }
-    ensures { IfOk result (λ answer. AnswersFound (development_shown development.now) (proofs_in hints.now) answer.text.items answer.status) }
+    requires { Every (EntryReadsBack (development_view development.now)) (proofs_in hints.now) }
+    ensures { IfOk result (λ answer. AnswersFound (development_view development.now) (proofs_in hints.now) answer.text.items answer.status) }
 {
     let found = find_with(alloc, development, hints, BUDGET, progress);
     told_found(alloc, development, found)
@@ -75,8 +75,8 @@ fn answer_found<P: Progress>(
 /// The hints for a development in the file that a reader was fed; else their first refusal.
 fn hints_fed(alloc: Global, development: &Development, reader: FormsReader) -> Result<Hints, Fault>
     requires { (bytes : List ℕ) × WasFed reader bytes }
-    ensures answer { (bytes : List ℕ) → WasFed reader bytes → IsAnswerTo (development_shown development.now) bytes result }
-    ensures back { IfOk result (λ hints. Every (EntryReadsBack (development_shown development.now)) (proofs_in hints)) }
+    ensures answer { (bytes : List ℕ) → WasFed reader bytes → IsAnswerTo (development_view development.now) bytes result }
+    ensures back { IfOk result (λ hints. Every (EntryReadsBack (development_view development.now)) (proofs_in hints)) }
 {
     let forms = reader.finish()?;
     hints_in(alloc, development, forms)
@@ -90,8 +90,8 @@ pub fn open_hints<'a, F: Files>(
     path: &'a str,
 ) -> Result<Result<Hints, Answer>, Failure<'a>>
     ensures unread { F.CannotOpen files.old path.now → IsErr result }
-    ensures opens { IfOk result (λ opened. IfSome (F.bytes_at files.old path.now) (λ file. OpensHints (development_shown development.now) file opened)) }
-    ensures back { IfOk result (λ opened. IfOk opened (λ hints. Every (EntryReadsBack (development_shown development.now)) (proofs_in hints))) }
+    ensures opens { IfOk result (λ opened. IfSome (F.bytes_at files.old path.now) (λ file. OpensHints (development_view development.now) file opened)) }
+    ensures back { IfOk result (λ opened. IfOk opened (λ hints. Every (EntryReadsBack (development_view development.now)) (proofs_in hints))) }
 {
     let reader = feed_forms(alloc, files, path)?;
     match hints_fed(alloc, development, reader) {
@@ -109,7 +109,7 @@ fn answer_hints<'a, F: Files, P: Progress>(
     progress: &mut P,
 ) -> Result<Answer, Failure<'a>>
     ensures unread { F.CannotOpen files.old path.now → IsErr result }
-    ensures answers { IfOk result (λ answer. IfSome (F.bytes_at files.old path.now) (λ file. AnswersHints (development_shown development.now) file answer.text.items answer.status)) }
+    ensures answers { IfOk result (λ answer. IfSome (F.bytes_at files.old path.now) (λ file. AnswersHints (development_view development.now) file answer.text.items answer.status)) }
 {
     match open_hints(alloc, files, development, path)? {
         Ok(hints) => Ok(answer_found(alloc, development, &hints, progress)?),

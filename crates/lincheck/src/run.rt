@@ -3,7 +3,7 @@ ghost use Rattle.std.specs.Prelude.{◌≡◌, ◌++◌, ℕ, List, Some, flat_m
 ghost use Rattle.lc_sexp.specs.Pieces.{WasFed};
 ghost use Rattle.lc_reading.specs.Files.{IsAnswerTo};
 ghost use Rattle.lc_check.specs.VerdictView.{development_in};
-ghost use Rattle.lc_outline.specs.DevelopmentView.{development_shown};
+ghost use Rattle.lc_outline.specs.DevelopmentView.{development_view};
 ghost use Rattle.lc_plan.specs.Readings.{plan_reading};
 ghost use Rattle.lc_plan.specs.View.{plan_of};
 ghost use Rattle.lc_words.specs.Tasks.{RunPlan};
@@ -36,7 +36,7 @@ fn accept_at<'a, F: Files>(
     ensures keeps { (other : List ℕ) → F.bytes_at files.new other ≡ F.bytes_at files.old other }
     ensures closed { (other : List ℕ) → F.CannotOpen files.old other → F.CannotOpen files.new other }
     ensures unread { F.CannotOpen files.old path.now → IsErr result }
-    ensures opens { IfOk result (λ opened. IfSome (F.bytes_at files.old path.now) (λ file. OpensAccepted (development_shown development) file opened)) }
+    ensures opens { IfOk result (λ opened. IfSome (F.bytes_at files.old path.now) (λ file. OpensAccepted (development_view development) file opened)) }
 {
     let mut session = CertificateSession::new(alloc, development)?;
     feed_file(files, path, &mut session)?;
@@ -50,7 +50,7 @@ fn accept_at<'a, F: Files>(
 /// The plan for a development in the file that a reader was fed; else its first refusal.
 fn plan_fed(alloc: Global, development: &Development, reader: FormsReader) -> Result<Plan, Fault>
     requires { (bytes : List ℕ) × WasFed reader bytes }
-    ensures { (bytes : List ℕ) → WasFed reader bytes → IsAnswerTo plan_of (plan_reading (development_shown development.now)) bytes result }
+    ensures { (bytes : List ℕ) → WasFed reader bytes → IsAnswerTo plan_of (plan_reading (development_view development.now)) bytes result }
 {
     let forms = reader.finish()?;
     plan_in(alloc, development, forms)
@@ -64,7 +64,7 @@ fn open_plan<'a, F: Files>(
     path: &'a str,
 ) -> Result<Result<Plan, Answer>, Failure<'a>>
     ensures unread { F.CannotOpen files.old path.now → IsErr result }
-    ensures opens { IfOk result (λ opened. IfSome (F.bytes_at files.old path.now) (λ file. OpensPlan (development_shown development.now) file opened)) }
+    ensures opens { IfOk result (λ opened. IfSome (F.bytes_at files.old path.now) (λ file. OpensPlan (development_view development.now) file opened)) }
 {
     let reader = feed_forms(alloc, files, path)?;
     match plan_fed(alloc, development, reader) {
@@ -104,7 +104,7 @@ fn push_ends(alloc: Global, text: &mut Vec<u8>, ends: &[Ended]) -> Result<(), Ou
 
 /// What is printed of a run.
 fn ran_text(alloc: Global, development: &Development, ran: &Ran) -> Result<Vec<u8>, OutOfMemory>
-    ensures { IfOk result (λ text. text.items ≡ ran_text (development_shown development.now) ran.now) }
+    ensures { IfOk result (λ text. text.items ≡ ran_text (development_view development.now) ran.now) }
 {
     let mut text = write_line(alloc, "linearizable", &[ran.log.order.len() as u64])?;
     push_ends(alloc, &mut text, &ran.ends)?;
@@ -174,8 +174,8 @@ fn answer_proven<'a, R: Threads + Wait + Sync, F: Files, E: Write>(
     plan: &'a str,
     err: &mut E,
 ) -> Result<Answer, Failure<'a>>
-    ensures unread { IsUnreadPlan (F.CannotOpen files.old) (F.bytes_at files.old) (development_shown development) certificate.now plan.now → IsErr result }
-    ensures answers { IfOk result (λ answer. IfSome (F.bytes_at files.old certificate.now) (λ file. AnswersProvenRun (development_shown development) file (F.bytes_at files.old plan.now) answer.text.items answer.status)) }
+    ensures unread { IsUnreadPlan (F.CannotOpen files.old) (F.bytes_at files.old) (development_view development) certificate.now plan.now → IsErr result }
+    ensures answers { IfOk result (λ answer. IfSome (F.bytes_at files.old certificate.now) (λ file. AnswersProvenRun (development_view development) file (F.bytes_at files.old plan.now) answer.text.items answer.status)) }
 {
     match accept_at(alloc, files, development, certificate)? {
         Ok(accepted) => answer_planned(rt, alloc, files, accepted, plan, err),

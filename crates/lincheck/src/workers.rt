@@ -1,6 +1,6 @@
 //! The command `check` with more than one worker.
 ghost use Rattle.std.specs.Prelude.{IfOk, IfSome, IsErr};
-ghost use Rattle.lc_outline.specs.DevelopmentView.{development_shown};
+ghost use Rattle.lc_outline.specs.DevelopmentView.{development_view};
 ghost use Rattle.lincheck.specs.Check.{AnswersCertificate};
 
 use crate::answer::{Answer, Failure};
@@ -23,7 +23,7 @@ pub(crate) fn answer_by_workers<'a, R: Threads + Wait + Sync, F: Files>(
     workers: u64,
 ) -> Result<Answer, Failure<'a>>
     ensures unread { F.CannotOpen files.old path.now → IsErr result }
-    ensures answers { IfOk result (λ answer. IfSome (F.bytes_at files.old path.now) (λ file. AnswersCertificate (development_shown development) file answer.text.items answer.status)) }
+    ensures answers { IfOk result (λ answer. IfSome (F.bytes_at files.old path.now) (λ file. AnswersCertificate (development_view development) file answer.text.items answer.status)) }
 {
     let cert = read_file(alloc, files, path)?;
     let verdict = check_certificate_with(rt, alloc, development, &cert, workers, &NoGate)?;

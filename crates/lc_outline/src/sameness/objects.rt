@@ -148,11 +148,11 @@ impl Same for Instr {
 
 impl Same for Column {
     ghost use Rattle.lc_object.specs.Syntax as S;
-    ghost use Rattle.lc_object.specs.View.{column_shown};
+    ghost use Rattle.lc_object.specs.View.{column_view};
 
     ghost Shown = { S.Column };
 
-    ghost shown = { column_shown };
+    ghost shown = { column_view };
 
     fn is_same(&self, other: &Column) -> bool {
         self.name.is_same(&other.name) && self.slope == other.slope && self.start == other.start
@@ -225,11 +225,11 @@ impl Same for Parts {
 
 impl Same for Object {
     ghost use Rattle.lc_object.specs.Syntax as S;
-    ghost use Rattle.lc_object.specs.Objects.{object_shown};
+    ghost use Rattle.lc_object.specs.Objects.{object_view};
 
     ghost Shown = { S.Object };
 
-    ghost shown = { object_shown };
+    ghost shown = { object_view };
 
     fn is_same(&self, other: &Object) -> bool {
         self.parts().is_same(other.parts())

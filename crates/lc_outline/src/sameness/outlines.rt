@@ -34,11 +34,11 @@ impl Same for Outline {
 
 impl Same for Parts {
     ghost use Rattle.lc_outline.specs.Development as S;
-    ghost use Rattle.lc_outline.specs.PartsView.{parts_shown};
+    ghost use Rattle.lc_outline.specs.PartsView.{parts_view};
 
     ghost Shown = { S.Development };
 
-    ghost shown = { parts_shown };
+    ghost shown = { parts_view };
 
     fn is_same(&self, other: &Parts) -> bool {
         self.specification.is_same(&other.specification)
@@ -53,11 +53,11 @@ impl Same for Parts {
 
 impl Development {
     ghost use Rattle.std.specs.Prelude.{◌≡◌, ◌↔◌, IsTrue};
-    ghost use Rattle.lc_outline.specs.DevelopmentView.{development_shown};
+    ghost use Rattle.lc_outline.specs.DevelopmentView.{development_view};
 
     /// Whether the other one is the same development.
     pub fn is_same(&self, other: &Development) -> bool
-        ensures { IsTrue result ↔ (development_shown self.now ≡ development_shown other.now) }
+        ensures { IsTrue result ↔ (development_view self.now ≡ development_view other.now) }
     {
         self.parts.is_same(&other.parts)
     }

@@ -2,7 +2,7 @@ use Rattle.std.proofs.Common.{◌≡◌, ◌≤◌, length, map, ap, ◌∙◌}
 use Rattle.std.proofs.lemmas.List.{take_all}
 use Rattle.lc_carry.proofs.Between.{number_in, same_columns}
 use Rattle.lc_naming.specs.ColumnNames.{column_names}
-use Rattle.lc_outline.specs.DevelopmentView.{development_shown}
+use Rattle.lc_outline.specs.DevelopmentView.{development_view}
 use Rattle.lc_reading.specs.Listed.{place_of}
 use Rattle.lc_reading.specs.TableView.{listed}
 use Rattle.lc_reading.specs.Words.{names_in}
@@ -10,8 +10,8 @@ use Rattle.lc_carry.proofs.columns.columns_between.Goals as goal
 
 pub returns : goal.returns
 returns c =
-    let D = development_shown c.args.old.now in
-    let E = development_shown c.args.new.now in
+    let D = development_view c.args.old.now in
+    let E = development_view c.args.new.now in
     let items = c.deref-name-items.result.now in
     let i = c.loop-name.name-index in
     let end : length items ≤ i = c.loop-name-test.false in

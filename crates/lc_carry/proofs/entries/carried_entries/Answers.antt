@@ -14,14 +14,14 @@ use Rattle.lc_cond.specs.Conditions.{conditions}
 use Rattle.lc_cond.specs.ConditionView.{condition_in}
 use Rattle.lc_cond.specs.Stream.{conditions_left, next_number, IsNextPart, IsPart, IsEnd}
 use Rattle.lc_cond.specs.declared.condition.Condition.{Condition}
-use Rattle.lc_outline.specs.DevelopmentView.{development_shown}
+use Rattle.lc_outline.specs.DevelopmentView.{development_view}
 use Rattle.lc_carry.proofs.entries.carried_entries.Goals as goal
 
 pub returns-in_default-clause-exactly : goal.returns-in_default-clause-exactly
 returns-in_default-clause-exactly c =
-    let D = development_shown c.args.old.now in
+    let D = development_view c.args.old.now in
     let es = entries_in c.args.certificate.now in
-    let E = development_shown c.args.development.now in
+    let E = development_view c.args.development.now in
     let before = c.parts.stream in
     let none : IsEnd E before c.next_part.new.self = ended E c.next_part.new.terms before c.next_part.new.self c.in_ok-part.field-0 c.in_default.not-Some c.in_ok-part.ensures.next in
     all_carried E (proof_for c.in_ok-proofs.proofs) (entries_of c.parts.entries.items) _ (next_number before) (conditions_left E before) none.nothing c.parts.invariant
@@ -29,9 +29,9 @@ returns-in_default-clause-exactly c =
 
 pub returns-in_default-clause-few : goal.returns-in_default-clause-few
 returns-in_default-clause-few c = λ few.
-    let D = development_shown c.args.old.now in
+    let D = development_view c.args.old.now in
     let es = entries_in c.args.certificate.now in
-    let E = development_shown c.args.development.now in
+    let E = development_view c.args.development.now in
     let before = c.parts.stream in
     let none : IsEnd E before c.next_part.new.self = ended E c.next_part.new.terms before c.next_part.new.self c.in_ok-part.field-0 c.in_default.not-Some c.in_ok-part.ensures.next in
     let all = all_carried E (proof_for c.in_ok-proofs.proofs) (entries_of c.parts.entries.items) _ (next_number before) (conditions_left E before) none.nothing c.parts.invariant
@@ -40,7 +40,7 @@ returns-in_default-clause-few c = λ few.
 
 pub parts-preserved : goal.parts-preserved
 parts-preserved c =
-    let E = development_shown c.args.development.now in
+    let E = development_view c.args.development.now in
     let f = proof_for c.in_ok-proofs.proofs in
     let ts = c.next_part.new.terms in
     let before = c.parts.stream in

@@ -4,16 +4,16 @@ use Rattle.lc_carry.proofs.Parts.{at_hand}
 use Rattle.lc_carry.specs.TextNumbers.{number_of}
 use Rattle.lc_cert.specs.CertificateView.{entries_in}
 use Rattle.lc_cond_text.specs.ConditionText.{spelled}
-use Rattle.lc_outline.specs.DevelopmentView.{development_shown}
+use Rattle.lc_outline.specs.DevelopmentView.{development_view}
 use Rattle.lc_rename.specs.Renaming.{column_for}
 use Rattle.lc_carry.proofs.numbers.note_part.Goals as goal
 
 pub loop-condition-init : goal.loop-condition-init
-loop-condition-init c = record { noted = λ t. refl; recalls = c.no_texts-texts.ensures (spelled (development_shown c.args.old.now.development.now)) c.args.terms.now }
+loop-condition-init c = record { noted = λ t. refl; recalls = c.no_texts-texts.ensures (spelled (development_view c.args.old.now.development.now)) c.args.terms.now }
 
 pub loop-condition-preserved : goal.loop-condition-preserved
 loop-condition-preserved c =
-    let d = development_shown c.args.old.now.development.now in
+    let d = development_view c.args.old.now.development.now in
     let es = entries_in c.args.old.now.certificate.now in
     let to = column_for c.args.old.now.columns.now in
     let here = at_hand c.args.terms.now c.args.part.now c.loop-condition.condition-index c.condition-item.result c.loop-condition-test.true c.condition-item.is in

@@ -6,7 +6,7 @@ use Rattle.lc_cert.specs.CertificateView.{entries_in}
 use Rattle.lc_cond.specs.ConditionView.{condition_in}
 use Rattle.lc_cond_text.specs.ConditionText.{spelled}
 use Rattle.lc_cond_text.specs.Recalled.{Recalls}
-use Rattle.lc_outline.specs.DevelopmentView.{development_shown}
+use Rattle.lc_outline.specs.DevelopmentView.{development_view}
 use Rattle.lc_rename.specs.Renaming.{column_for}
 use Rattle.lc_carry.proofs.numbers.note_part.Given as goal
 
@@ -16,8 +16,8 @@ invariant-loop-condition l = record {
   noted :
       (t : List ℕ) →
       option_or (number_of l.numbers t)
-      (least_number (development_shown l.old.development.now) (entries_in l.old.certificate.now) (column_for l.old.columns.now) t l.number (map (condition_in l.terms) (drop l.condition-index l.part)))
+      (least_number (development_view l.old.development.now) (entries_in l.old.certificate.now) (column_for l.old.columns.now) t l.number (map (condition_in l.terms) (drop l.condition-index l.part)))
       ≡ option_or (number_of l.fn.numbers t)
-      (least_number (development_shown l.old.development.now) (entries_in l.old.certificate.now) (column_for l.old.columns.now) t l.first (map (condition_in l.terms) l.part));
-  recalls : Recalls (spelled (development_shown l.old.development.now)) l.terms l.texts;
+      (least_number (development_view l.old.development.now) (entries_in l.old.certificate.now) (column_for l.old.columns.now) t l.first (map (condition_in l.terms) l.part));
+  recalls : Recalls (spelled (development_view l.old.development.now)) l.terms l.texts;
 }

@@ -11,13 +11,13 @@ use Rattle.lc_cert.specs.CertificateView.{entries_in}
 use Rattle.lc_cond.specs.ConditionView.{condition_in}
 use Rattle.lc_cond.specs.Stream.{conditions_left, next_number, IsNextPart, IsPart, IsEnd}
 use Rattle.lc_cond.specs.declared.condition.Condition.{Condition}
-use Rattle.lc_outline.specs.DevelopmentView.{development_shown}
+use Rattle.lc_outline.specs.DevelopmentView.{development_view}
 use Rattle.lc_rename.specs.Renaming.{column_for}
 use Rattle.lc_carry.proofs.numbers.numbers_of.Goals as goal
 
 pub returns-in_default : goal.returns-in_default
 returns-in_default c = λ t.
-    let d = development_shown c.args.old.now.development.now in
+    let d = development_view c.args.old.now.development.now in
     let es = entries_in c.args.old.now.certificate.now in
     let to = column_for c.args.old.now.columns.now in
     let before = c.parts.stream in
@@ -26,7 +26,7 @@ returns-in_default c = λ t.
 
 pub parts-preserved : goal.parts-preserved
 parts-preserved c = λ t.
-    let d = development_shown c.args.old.now.development.now in
+    let d = development_view c.args.old.now.development.now in
     let es = entries_in c.args.old.now.certificate.now in
     let to = column_for c.args.old.now.columns.now in
     let ts = c.next_part.new.terms in

@@ -2,7 +2,7 @@ use Rattle.std.proofs.Common.{◌++◌, string_bytes, ap, ◌∙◌}
 use Rattle.std.specs.Prelude.{codes}
 use Rattle.lc_object.specs.Syntax.{Object}
 use Rattle.lc_outline.specs.Development.{Development}
-use Rattle.lc_outline.specs.DevelopmentView.{development_shown}
+use Rattle.lc_outline.specs.DevelopmentView.{development_view}
 use Rattle.lc_reading.specs.Words.{names_in}
 use Rattle.lc_sexp.specs.Printed.{printed_others}
 use Rattle.lc_cert.proofs.Written.{written_line}
@@ -15,7 +15,7 @@ use Rattle.lc_cert.proofs.printing.certificate_text.Goals as goal
 
 pub returns : goal.returns
 returns c =
-    let D = development_shown c.args.development.now in
+    let D = development_view c.args.development.now in
     let name = c.as_str.ensures.text ∙ ap (λ (o : Object). o.name) c.parts.ensures.shown ∙ ap (λ (D : Development). D.object.name) c.parts-parts.ensures.shown in
     let columns = ap names_in c.deref.ensures.value ∙ c.in_ok-columns.ensures ∙ ap column_names c.parts-parts.ensures.shown in
     let others = ap (λ names. printed_others (entry_trees (spelled_with names) (entries_of c.entries.result.now))) columns ∙ ap (λ es. printed_others (entry_trees (spelled_with (column_names D)) es)) c.entries.ensures.shown in

@@ -2,7 +2,7 @@ use Rattle.std.proofs.Common.{◌≡◌, true, None, sym, ap, ◌∙◌, subst}
 use Rattle.lc_sexp.specs.Shown.{rest_of, number_of, owner_of}
 use Rattle.lc_object.specs.Syntax.{Object}
 use Rattle.lc_outline.specs.Development.{Development}
-use Rattle.lc_outline.specs.DevelopmentView.{development_shown}
+use Rattle.lc_outline.specs.DevelopmentView.{development_view}
 use Rattle.lc_reading.proofs.Fine.{of_fine}
 use Rattle.lc_reading.specs.Readings.{fine}
 use Rattle.lc_reading.specs.Results.{IsReadFault}
@@ -23,7 +23,7 @@ of_entries-requires c =
 
 pub returns-in-Ok-read_file : goal.returns-in-Ok-read_file
 returns-in-Ok-read_file c =
-    let D = development_shown c.args.development.now in
+    let D = development_view c.args.development.now in
     let columns = c.in_ok-columns.ensures ∙ ap names_in c.deref.ensures.value ∙ c.in_ok-names.ensures ∙ ap column_names c.parts-parts.ensures.shown in
     let name = c.as_str.ensures.text ∙ ap (λ (o : Object). o.name) c.parts.ensures.shown ∙ ap (λ (D : Development). D.object.name) c.parts-parts.ensures.shown in
     let same = file_at D (owner_of c.cursor.result) (number_of c.cursor.result) (rest_of c.cursor.result) c.in-Ok.forms (listed c.in_ok-columns.columns) c.as_str.result.now c.cursor.ensures.owner c.cursor.ensures.number c.cursor.ensures.rest columns name in
@@ -31,7 +31,7 @@ returns-in-Ok-read_file c =
 
 pub returns : goal.returns
 returns c =
-    let D = development_shown c.args.development.now in
+    let D = development_view c.args.development.now in
     let columns = c.in_ok-columns.ensures ∙ ap names_in c.deref.ensures.value ∙ c.in_ok-names.ensures ∙ ap column_names c.parts-parts.ensures.shown in
     let name = c.as_str.ensures.text ∙ ap (λ (o : Object). o.name) c.parts.ensures.shown ∙ ap (λ (D : Development). D.object.name) c.parts-parts.ensures.shown in
     let same = file_at D (owner_of c.cursor.result) (number_of c.cursor.result) (rest_of c.cursor.result) c.in-Ok.forms (listed c.in_ok-columns.columns) c.as_str.result.now c.cursor.ensures.owner c.cursor.ensures.number c.cursor.ensures.rest columns name in

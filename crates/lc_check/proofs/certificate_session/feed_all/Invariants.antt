@@ -1,5 +1,5 @@
 use Rattle.std.proofs.Common.{◌≡◌, ◌++◌, ℕ, List, length, false}
-use Rattle.lc_outline.specs.DevelopmentView.{development_shown}
+use Rattle.lc_outline.specs.DevelopmentView.{development_view}
 use Rattle.lc_cert.specs.Certificates.{Entry}
 use Rattle.lc_cert.specs.Pieces.{IsAfterTaking, waiting, is_spent}
 use Rattle.lc_check.specs.Progress.{IsProgress}
@@ -10,8 +10,8 @@ use Rattle.lc_check.proofs.certificate_session.feed_all.Given as goal
 abbrev pub invariant-entries : goal.invariant-entries
 invariant-entries g l = record {
   lives : is_spent l.reader ≡ false;
-  goes : (fed : List ℕ) → IsUpTo (development_shown l.development) fed l.fn.reader l.fn.progress
-      → (taken : List Entry) × IsAfterTaking (development_shown l.development) (fed ++ l.piece) taken l.reader × IsProgress (development_shown l.development) taken l.progress;
+  goes : (fed : List ℕ) → IsUpTo (development_view l.development) fed l.fn.reader l.fn.progress
+      → (taken : List Entry) × IsAfterTaking (development_view l.development) (fed ++ l.piece) taken l.reader × IsProgress (development_view l.development) taken l.progress;
 }
 
 abbrev pub decreases-entries : goal.decreases-entries

@@ -1,5 +1,5 @@
 use Rattle.std.proofs.Common.{[], ◌++◌}
-use Rattle.lc_outline.specs.DevelopmentView.{development_shown}
+use Rattle.lc_outline.specs.DevelopmentView.{development_view}
 use Rattle.lc_cert.proofs.Rising.{certificate_rises}
 use Rattle.lc_cert.specs.Pieces.{waiting}
 use Rattle.lc_check.proofs.Answered.{not_counted, counted_on, read_all}
@@ -10,14 +10,14 @@ feed_all-requires g c = ([], record { taken = []; read = c.in_ok-reader.ensures.
 
 pub returns-in-Err : goal.returns-in-Err
 returns-in-Err g c =
-    let D = development_shown c.args.development.now in
+    let D = development_view c.args.development.now in
     let cert = c.args.cert.now in
     let up = c.in_ok-feed_all.ensures [] (record { taken = []; read = c.in_ok-reader.ensures.start; none = c.in_ok-reader.ensures.none; progress = c.in_ok-progress.ensures }) in
     not_counted D cert (up.taken ++ waiting c.feed_all.new.reader) c.in-Err.fault (c.in-Err.ensures.answer cert up.taken up.read)
 
 pub returns : goal.returns
 returns g c =
-    let D = development_shown c.args.development.now in
+    let D = development_view c.args.development.now in
     let cert = c.args.cert.now in
     let up = c.in_ok-feed_all.ensures [] (record { taken = []; read = c.in_ok-reader.ensures.start; none = c.in_ok-reader.ensures.none; progress = c.in_ok-progress.ensures }) in
     let certifies = read_all D cert c.feed_all.new.reader c.feed_all.new.progress tt up (c.in_default.ensures.answer cert up.taken up.read) in

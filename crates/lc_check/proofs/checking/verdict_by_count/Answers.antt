@@ -1,6 +1,6 @@
 use Rattle.std.proofs.Common.{sym, subst}
 use Rattle.lc_outline.specs.Development.{Development}
-use Rattle.lc_outline.specs.DevelopmentView.{development_shown}
+use Rattle.lc_outline.specs.DevelopmentView.{development_view}
 use Rattle.lc_sound.specs.Linearizable.{IsLinearizableObject}
 use Rattle.lc_check.proofs.Answered.{count_derived}
 use Rattle.lc_check.specs.VerdictView.{IsCountOn}
@@ -8,21 +8,21 @@ use Rattle.lc_check.proofs.checking.verdict_by_count.Goals as goal
 
 pub derived_is_linearizable-requires : goal.derived_is_linearizable-requires
 derived_is_linearizable-requires c =
-    let D = development_shown c.args.development in
+    let D = development_view c.args.development in
     let cert = c.args.cert.now in
     count_derived D cert c.in-Ok.count c.conditions_use_their_variables.ensures (subst (IsCountOn D cert) c.in-Ok.is c.requires)
 
 pub new-requires-clause-derived : goal.new-requires-clause-derived
 new-requires-clause-derived c =
-    let D = development_shown c.args.development in
+    let D = development_view c.args.development in
     let cert = c.args.cert.now in
     ∣ count_derived D cert c.in-Ok.count c.conditions_use_their_variables.ensures (subst (IsCountOn D cert) c.in-Ok.is c.requires) ∣₁
 
 pub new-requires-clause-counted : goal.new-requires-clause-counted
-new-requires-clause-counted c = (subst (IsCountOn (development_shown c.args.development) c.args.cert.now) c.in-Ok.is c.requires).0
+new-requires-clause-counted c = (subst (IsCountOn (development_view c.args.development) c.args.cert.now) c.in-Ok.is c.requires).0
 
 pub returns-in-Ok-clause-exactly : goal.returns-in-Ok-clause-exactly
-returns-in-Ok-clause-exactly c = (c.new.ensures, (subst (IsCountOn (development_shown c.args.development) c.args.cert.now) c.in-Ok.is c.requires).1)
+returns-in-Ok-clause-exactly c = (c.new.ensures, (subst (IsCountOn (development_view c.args.development) c.args.cert.now) c.in-Ok.is c.requires).1)
 
 pub returns-in-Ok-clause-linearizable : goal.returns-in-Ok-clause-linearizable
 returns-in-Ok-clause-linearizable c =
@@ -30,6 +30,6 @@ returns-in-Ok-clause-linearizable c =
 
 pub returns-in-Err-clause-exactly : goal.returns-in-Err-clause-exactly
 returns-in-Err-clause-exactly c =
-    let D = development_shown c.args.development in
+    let D = development_view c.args.development in
     let cert = c.args.cert.now in
     c.refused_for.ensures.exactly D cert (subst (IsCountOn D cert) c.in-Err.is c.requires)

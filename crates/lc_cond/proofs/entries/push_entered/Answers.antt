@@ -6,7 +6,7 @@ use Rattle.lc_table.proofs.ByNumber.{are_columns_later}
 use Rattle.lc_table.proofs.Later.{kept_on}
 use Rattle.lc_object.specs.View.{operation_of}
 use Rattle.lc_outline.specs.Development.{invariant_of, asserts_at}
-use Rattle.lc_outline.specs.DevelopmentView.{development_shown}
+use Rattle.lc_outline.specs.DevelopmentView.{development_view}
 use Rattle.lc_cond.specs.Adding.{HasFormulas, Adds}
 use Rattle.lc_cond.specs.Conditions as S
 use Rattle.lc_cond.specs.Conditions.{conditions_of}
@@ -37,7 +37,7 @@ push_both_told-requires-clause-second c = subst (AreFormulas c.entered.new.terms
 
 pub returns-clause-list : goal.returns-clause-list
 returns-clause-list c =
-    let d = development_shown c.args.development.now in
+    let d = development_view c.args.development.now in
     let o = operation_of c.args.body.now in
     let t0 = c.args.terms.now in
     let t1 = c.entered_variables.new.terms in

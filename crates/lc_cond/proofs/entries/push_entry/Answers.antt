@@ -7,7 +7,7 @@ use Rattle.lc_object.specs.View.{operation_of}
 use Rattle.lc_action.specs.Action.{enter}
 use Rattle.lc_action.specs.ActionView.{first_of}
 use Rattle.lc_outline.specs.Development.{invariant_of, asserts_at, first_system}
-use Rattle.lc_outline.specs.DevelopmentView.{development_shown}
+use Rattle.lc_outline.specs.DevelopmentView.{development_view}
 use Rattle.lc_cond.specs.Adding.{HasFormulas, Adds}
 use Rattle.lc_cond.specs.Conditions as S
 use Rattle.lc_cond.specs.Conditions.{conditions_of, at_entry, range, idle_frame, enter_variables, entered, entry_variables}
@@ -40,7 +40,7 @@ push_entered-requires c =
 
 pub returns-clause-list : goal.returns-clause-list
 returns-clause-list c =
-    let d = development_shown c.args.development.now in
+    let d = development_view c.args.development.now in
     let o = c.args.operation.0 in
     let body = operation_of c.args.body.now in
     let t1 = c.entered_columns.new.terms in

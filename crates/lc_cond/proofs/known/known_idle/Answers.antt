@@ -2,7 +2,7 @@ use Rattle.std.proofs.Common.{◌++◌, ap₂, subst, ◌∙◌}
 use Rattle.std.proofs.lemmas.Result.{IfOk-weaker}
 use Rattle.lc_action.specs.ActionView.{first_of}
 use Rattle.lc_outline.specs.Development.{invariant_of}
-use Rattle.lc_outline.specs.DevelopmentView.{development_shown}
+use Rattle.lc_outline.specs.DevelopmentView.{development_view}
 use Rattle.lc_cond.specs.Adding.{HasFormulas}
 use Rattle.lc_cond.specs.Conditions.{idle_frame}
 use Rattle.lc_cond.proofs.Adding.{formulas_behind, formulas_later}
@@ -12,7 +12,7 @@ pub returns-clause-list : goal.returns-clause-list
 returns-clause-list c =
     let t1 = c.idle_frame.new.terms in
     let now = c.entered_behind.new.terms in
-    let d = development_shown c.args.development.now in
+    let d = development_view c.args.development.now in
     let shared = c.in_ok-shared.ensures.list (invariant_of d) (formulas_later c.args.terms.now t1 c.args.invariant.now (invariant_of d) c.requires c.in_ok-frame.ensures.kept) in
     IfOk-weaker c.joined.result _ _
     (λ ks joins. subst (λ fs. HasFormulas now ks.items (idle_frame (first_of c.args.system) ++ (invariant_of d ++ fs))) c.idle_of.ensures

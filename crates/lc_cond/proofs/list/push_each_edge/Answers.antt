@@ -1,7 +1,7 @@
 use Rattle.std.proofs.Common.{sym, subst}
 use Rattle.lc_table.proofs.Later.{kept_on}
 use Rattle.lc_object.specs.EdgeView.{edge_of}
-use Rattle.lc_outline.specs.DevelopmentView.{development_shown}
+use Rattle.lc_outline.specs.DevelopmentView.{development_view}
 use Rattle.lc_cond.specs.Adding.{Adds}
 use Rattle.lc_cond.specs.Conditions.{edge_conditions}
 use Rattle.lc_cond.proofs.Adding.{adds_on}
@@ -10,7 +10,7 @@ use Rattle.lc_cond.proofs.list.push_each_edge.Goals as goal
 
 pub loop-edge-preserved : goal.loop-edge-preserved
 loop-edge-preserved c =
-    let D = development_shown c.args.development.now in
+    let D = development_view c.args.development.now in
     let t1 = c.loop-edge.terms in
     let t2 = c.push_edge.new.terms in
     let x = c.edge-item.result in

@@ -3,7 +3,7 @@ use Rattle.std.proofs.lemmas.List.{take_all}
 use Rattle.lc_term.specs.Lists.{concat_places}
 use Rattle.lc_table.proofs.Later.{kept_on}
 use Rattle.lc_object.specs.View.{operation_of}
-use Rattle.lc_outline.specs.DevelopmentView.{development_shown}
+use Rattle.lc_outline.specs.DevelopmentView.{development_view}
 use Rattle.lc_cond.specs.Adding.{Adds}
 use Rattle.lc_cond.specs.Conditions.{entry_conditions}
 use Rattle.lc_cond.proofs.Adding.{adds_on}
@@ -13,7 +13,7 @@ use Rattle.lc_cond.proofs.list.push_entries.Goals as goal
 
 pub push_entry-requires : goal.push_entry-requires
 push_entry-requires c =
-    let D = development_shown c.args.development.now in
+    let D = development_view c.args.development.now in
     let x = c.body-item.result in
     operation_limited D c.args.development.now.resolved c.loop-number.number (operation_of x)
     (seen_at operation_of c.operations_of-body-items.result.now D.object.operations c.loop-number.number x c.operations_of-body-items.ensures c.loop-number-test.true c.body-item.is)
@@ -23,7 +23,7 @@ returns-in_err-push_entry-clause-kept c = kept_on c.args.terms.now c.loop-number
 
 pub loop-number-preserved : goal.loop-number-preserved
 loop-number-preserved c =
-    let D = development_shown c.args.development.now in
+    let D = development_view c.args.development.now in
     let t1 = c.loop-number.terms in
     let t2 = c.push_entry.new.terms in
     let x = c.body-item.result in
@@ -36,6 +36,6 @@ loop-number-preserved c =
 
 pub returns-clause-list : goal.returns-clause-list
 returns-clause-list c =
-    let D = development_shown c.args.development.now in
+    let D = development_view c.args.development.now in
     let all = ap (map operation_of) (take_all c.loop-number.number c.operations_of-body-items.result.now c.loop-number-test.false) ∙ c.operations_of-body-items.ensures in
     subst (λ l. Adds c.args.conditions.now.items c.loop-number.terms c.loop-number.conditions.items (concat_places (entry_conditions D) 0 l)) all c.loop-number.invariant.1

@@ -4,7 +4,7 @@ use Rattle.std.proofs.lemmas.Result.{on_ok_weaker}
 use Rattle.lc_object.specs.View.{operation_of}
 use Rattle.lc_object.specs.WellFormed.{variable_count}
 use Rattle.lc_outline.specs.Development.{first_system, asserts_at}
-use Rattle.lc_outline.specs.DevelopmentView.{development_shown}
+use Rattle.lc_outline.specs.DevelopmentView.{development_view}
 use Rattle.lc_cond.specs.Adding.{Adds}
 use Rattle.lc_cond.specs.Conditions.{body_frame}
 use Rattle.lc_cond.specs.Stretches.{stable_stretch}
@@ -14,11 +14,11 @@ use Rattle.lc_cond.proofs.list.push_point_stretch.Goals as goal
 
 pub push_stay-requires-clause-limits : goal.push_stay-requires-clause-limits
 push_stay-requires-clause-limits c =
-    operation_limited (development_shown c.args.development.now) c.args.development.now.resolved c.args.point.now.operation.0 (operation_of c.in-Some.body.now) (sym c.in-Some.ensures)
+    operation_limited (development_view c.args.development.now) c.args.development.now.resolved c.args.point.now.operation.0 (operation_of c.in-Some.body.now) (sym c.in-Some.ensures)
 
 pub returns-clause-list : goal.returns-clause-list
 returns-clause-list c =
-    let D = development_shown c.args.development.now in
+    let D = development_view c.args.development.now in
     let p = c.args.number.0 in
     let o = c.args.point.now.operation.0 in
     on_ok_weaker c.push_stay.result

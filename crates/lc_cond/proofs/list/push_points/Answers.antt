@@ -3,7 +3,7 @@ use Rattle.std.proofs.lemmas.List.{take_all}
 use Rattle.lc_term.specs.Lists.{concat_places}
 use Rattle.lc_table.proofs.Later.{kept_on}
 use Rattle.lc_object.specs.View.{point_of}
-use Rattle.lc_outline.specs.DevelopmentView.{development_shown}
+use Rattle.lc_outline.specs.DevelopmentView.{development_view}
 use Rattle.lc_cond.specs.Adding.{Adds}
 use Rattle.lc_cond.specs.Conditions.{point_stability}
 use Rattle.lc_cond.proofs.Adding.{adds_on}
@@ -15,7 +15,7 @@ returns-in_err-push_point-clause-kept c = kept_on c.args.terms.now c.loop-number
 
 pub loop-number-preserved : goal.loop-number-preserved
 loop-number-preserved c =
-    let D = development_shown c.args.development.now in
+    let D = development_view c.args.development.now in
     let t1 = c.loop-number.terms in
     let t2 = c.push_point.new.terms in
     let x = c.point-item.result in
@@ -28,6 +28,6 @@ loop-number-preserved c =
 
 pub returns-clause-list : goal.returns-clause-list
 returns-clause-list c =
-    let D = development_shown c.args.development.now in
+    let D = development_view c.args.development.now in
     let all = ap (map point_of) (take_all c.loop-number.number c.points_of-point-items.result.now c.loop-number-test.false) ∙ c.points_of-point-items.ensures in
     subst (λ l. Adds c.args.conditions.now.items c.loop-number.terms c.loop-number.conditions.items (concat_places (point_stability D) 0 l)) all c.loop-number.invariant.1

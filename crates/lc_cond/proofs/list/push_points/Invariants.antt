@@ -2,7 +2,7 @@ use Rattle.std.proofs.Common.{map, take}
 use Rattle.lc_term.specs.Lists.{concat_places}
 use Rattle.lc_table.specs.Tables.{Keeps}
 use Rattle.lc_object.specs.View.{point_of}
-use Rattle.lc_outline.specs.DevelopmentView.{development_shown}
+use Rattle.lc_outline.specs.DevelopmentView.{development_view}
 use Rattle.lc_cond.specs.Adding.{Adds}
 use Rattle.lc_cond.specs.Conditions.{point_stability}
 use Rattle.lc_cond.proofs.list.push_points.Given as goal
@@ -10,4 +10,4 @@ use Rattle.lc_cond.proofs.list.push_points.Given as goal
 -- those so far
 abbrev pub invariant-loop-number : goal.invariant-loop-number
 invariant-loop-number l =
-    Keeps l.fn.terms l.terms × Adds l.fn.conditions.items l.terms l.conditions.items (concat_places (point_stability (development_shown l.development)) 0 (map point_of (take l.number l.point-items)))
+    Keeps l.fn.terms l.terms × Adds l.fn.conditions.items l.terms l.conditions.items (concat_places (point_stability (development_view l.development)) 0 (map point_of (take l.number l.point-items)))

@@ -4,7 +4,7 @@ use Rattle.lc_term.specs.View.{formula_of}
 use Rattle.lc_object.specs.View.{operation_of, point_of}
 use Rattle.lc_outline.proofs.Resolving.{resolved}
 use Rattle.lc_outline.specs.Development.{asserts_at, first_system}
-use Rattle.lc_outline.specs.DevelopmentView.{development_shown}
+use Rattle.lc_outline.specs.DevelopmentView.{development_view}
 use Rattle.lc_cond.specs.Conditions.{conditions_in, start_conditions, entry_conditions, idle_frame}
 use Rattle.lc_cond.specs.PartView.{part_of}
 use Rattle.lc_cond.proofs.Few.{seen_length, idle_stays_few, asserts_stay_few}
@@ -14,7 +14,7 @@ use Rattle.lc_cond.proofs.numbering.part_count.Goals as goal
 
 pub returns-in-Start : goal.returns-in-Start
 returns-in-Start c =
-    let D = development_shown c.args.development.now in
+    let D = development_view c.args.development.now in
     let n = c.count_with_invariant.result in
     let h = c.count_with_invariant.ensures in
     let sized = start_sized D (resolved D c.args.development.now.resolved) in
@@ -23,7 +23,7 @@ returns-in-Start c =
 
 pub returns-in-Begin : goal.returns-in-Begin
 returns-in-Begin c =
-    let D = development_shown c.args.development.now in
+    let D = development_view c.args.development.now in
     let o = operation_of c.in-Begin.body.now in
     let k = c.in-Begin.field-0.0 in
     let n = c.count_with_invariant-in-Begin.result in
@@ -34,14 +34,14 @@ returns-in-Begin c =
 
 pub stable_count-requires : goal.stable_count-requires
 stable_count-requires c =
-    let D = development_shown c.args.development.now in
+    let D = development_view c.args.development.now in
     let k = c.in-Stay.number.0 in
     let size = seen_length formula_of c.asserts_at-in-Some.result.now (asserts_at D k) c.asserts_at-in-Some.ensures in
     subst (λ m. m * (length D.actions + 2) ≤ condition_limit) (sym size) (asserts_stay_few D c.args.development.now.resolved c.args.development.now.limited k)
 
 pub returns-in-Some : goal.returns-in-Some
 returns-in-Some c =
-    let D = development_shown c.args.development.now in
+    let D = development_view c.args.development.now in
     let k = c.in-Stay.number.0 in
     let point = point_of c.in-Stay.point.now in
     let size = seen_length formula_of c.asserts_at-in-Some.result.now (asserts_at D k) c.asserts_at-in-Some.ensures in
@@ -50,13 +50,13 @@ returns-in-Some c =
 
 pub stable_count-requires-in-StayIdle : goal.stable_count-requires-in-StayIdle
 stable_count-requires-in-StayIdle c =
-    let D = development_shown c.args.development.now in
+    let D = development_view c.args.development.now in
     let size = seen_length formula_of c.idle_of-in-StayIdle.result.now D.idle c.idle_of-in-StayIdle.ensures in
     subst (λ m. m * (length D.actions + 2) ≤ condition_limit) (sym size) (idle_stays_few D c.args.development.now.resolved c.args.development.now.limited)
 
 pub returns-in-StayIdle : goal.returns-in-StayIdle
 returns-in-StayIdle c =
-    let D = development_shown c.args.development.now in
+    let D = development_view c.args.development.now in
     let size = seen_length formula_of c.idle_of-in-StayIdle.result.now D.idle c.idle_of-in-StayIdle.ensures in
     let sized = stable_length D (resolved D c.args.development.now.resolved) None 2 (idle_frame (first_system D)) D.idle in
     subst (λ p. c.stable_count-in-StayIdle.result ≡ length (conditions_in D (part_of p))) (sym c.in-StayIdle.is)

@@ -2,7 +2,7 @@ use Rattle.std.proofs.Common.{◌*◌, ◌≤◌, ◌<◌, length, ap, sym, subs
 use Rattle.lc_base.specs.Limits.{condition_limit}
 use Rattle.lc_term.specs.View.{formula_of}
 use Rattle.lc_outline.proofs.Resolving.{resolved}
-use Rattle.lc_outline.specs.DevelopmentView.{development_shown}
+use Rattle.lc_outline.specs.DevelopmentView.{development_view}
 use Rattle.lc_cond.specs.Stretches.{IsWithin}
 use Rattle.lc_cond.proofs.Few.{seen_length, idle_stays_few}
 use Rattle.lc_cond.proofs.Stretched.{idle_adds}
@@ -10,20 +10,20 @@ use Rattle.lc_cond.proofs.part.push_idle_with.Goals as goal
 
 pub stretch_with-asked-requires-clause-few : goal.stretch_with-asked-requires-clause-few
 stretch_with-asked-requires-clause-few c =
-    let D = development_shown c.args.development.now in
+    let D = development_view c.args.development.now in
     let size = seen_length formula_of c.idle_of-count.result.now D.idle c.idle_of-count.ensures in
     subst (λ m. m * c.action_count-each.result ≤ condition_limit) (sym size)
     (subst (λ m. length D.idle * m ≤ condition_limit) (sym c.action_count-each.ensures) (idle_stays_few D c.args.development.now.resolved c.args.development.now.limited))
 
 pub push_idle_stretch-requires : goal.push_idle_stretch-requires
 push_idle_stretch-requires c =
-    let D = development_shown c.args.development.now in
+    let D = development_view c.args.development.now in
     let size = seen_length formula_of c.idle_of-count.result.now D.idle c.idle_of-count.ensures in
     subst (λ m. IsWithin m c.stretch_with-asked.result) size c.stretch_with-asked.ensures.within
 
 pub returns-clause-with : goal.returns-clause-with
 returns-clause-with c =
-    let D = development_shown c.args.development.now in
+    let D = development_view c.args.development.now in
     let s = c.stretch_with-asked.result in
     let place = c.args.wanted.place in
     let each = c.action_count-each.result in

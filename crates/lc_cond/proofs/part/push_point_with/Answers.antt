@@ -4,7 +4,7 @@ use Rattle.lc_term.specs.View.{formula_of}
 use Rattle.lc_object.specs.View.{point_of}
 use Rattle.lc_outline.proofs.Resolving.{resolved}
 use Rattle.lc_outline.specs.Development.{asserts_at}
-use Rattle.lc_outline.specs.DevelopmentView.{development_shown}
+use Rattle.lc_outline.specs.DevelopmentView.{development_view}
 use Rattle.lc_cond.specs.Stretches.{IsWithin}
 use Rattle.lc_cond.proofs.Few.{seen_length, asserts_stay_few}
 use Rattle.lc_cond.proofs.Stretched.{point_adds}
@@ -12,7 +12,7 @@ use Rattle.lc_cond.proofs.part.push_point_with.Goals as goal
 
 pub stretch_with-asked-requires-clause-few : goal.stretch_with-asked-requires-clause-few
 stretch_with-asked-requires-clause-few c =
-    let D = development_shown c.args.development.now in
+    let D = development_view c.args.development.now in
     let k = c.args.number.0 in
     let size = seen_length formula_of c.asserts_at-count.result.now (asserts_at D k) c.asserts_at-count.ensures in
     subst (λ m. m * c.action_count-each.result ≤ condition_limit) (sym size)
@@ -20,13 +20,13 @@ stretch_with-asked-requires-clause-few c =
 
 pub push_point_stretch-requires : goal.push_point_stretch-requires
 push_point_stretch-requires c =
-    let D = development_shown c.args.development.now in
+    let D = development_view c.args.development.now in
     let size = seen_length formula_of c.asserts_at-count.result.now (asserts_at D c.args.number.0) c.asserts_at-count.ensures in
     subst (λ m. IsWithin m c.stretch_with-asked.result) size c.stretch_with-asked.ensures.within
 
 pub returns-clause-with : goal.returns-clause-with
 returns-clause-with c =
-    let D = development_shown c.args.development.now in
+    let D = development_view c.args.development.now in
     let k = c.args.number.0 in
     let s = c.stretch_with-asked.result in
     let place = c.args.wanted.place in

@@ -3,7 +3,7 @@ use Rattle.std.specs.Prelude.{slice_get}
 use Rattle.std.proofs.lemmas.Result.{on_ok_weaker}
 use Rattle.lc_object.specs.EdgeView.{edge_of}
 use Rattle.lc_object.specs.View.{operation_of}
-use Rattle.lc_outline.specs.DevelopmentView.{development_shown}
+use Rattle.lc_outline.specs.DevelopmentView.{development_view}
 use Rattle.lc_cond.specs.Adding.{Adds}
 use Rattle.lc_cond.specs.Conditions.{edge_conditions_in}
 use Rattle.lc_cond.proofs.Few.{operation_limited}
@@ -12,11 +12,11 @@ use Rattle.lc_cond.proofs.paths.push_edge.Goals as goal
 
 pub push_edge_in-requires : goal.push_edge_in-requires
 push_edge_in-requires c =
-    operation_limited (development_shown c.args.development.now) c.args.development.now.resolved c.in-Some.operation.0 (operation_of c.in-Some-operation_at.body.now) (sym c.in-Some-operation_at.ensures)
+    operation_limited (development_view c.args.development.now) c.args.development.now.resolved c.in-Some.operation.0 (operation_of c.in-Some-operation_at.body.now) (sym c.in-Some-operation_at.ensures)
 
 pub returns-clause-list : goal.returns-clause-list
 returns-clause-list c =
-    let D = development_shown c.args.development.now in
+    let D = development_view c.args.development.now in
     let e = edge_of c.args.code.now in
     let k = c.in-Some.operation.0 in
     on_ok_weaker c.push_edge_in.result

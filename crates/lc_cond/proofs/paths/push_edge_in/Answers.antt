@@ -3,7 +3,7 @@ use Rattle.std.proofs.lemmas.Result.{on_ok_weaker}
 use Rattle.lc_object.specs.EdgeView.{edge_of}
 use Rattle.lc_object.specs.View.{operation_of}
 use Rattle.lc_outline.specs.Development.{first_system}
-use Rattle.lc_outline.specs.DevelopmentView.{development_shown}
+use Rattle.lc_outline.specs.DevelopmentView.{development_view}
 use Rattle.lc_rider.specs.PathView.{path_in, ArePaths}
 use Rattle.lc_cond.specs.Adding.{Adds}
 use Rattle.lc_cond.proofs.Ridden.{edge_said}
@@ -18,7 +18,7 @@ push_paths-requires-clause-paths c = subst (ArePaths c.paths.new.terms) (sym c.d
 
 pub returns-clause-list : goal.returns-clause-list
 returns-clause-list c =
-    let D = development_shown c.args.development.now in
+    let D = development_view c.args.development.now in
     let t1 = c.set_scene.new.terms in
     let t2 = c.paths.new.terms in
     let is = scene_of_later t1 t2 D c.args.operation.0 (operation_of c.args.body.now) (edge_of c.args.code.now) c.in_ok-scene.scene c.in_ok-scene.ensures.scene c.in_ok-paths.ensures.kept in

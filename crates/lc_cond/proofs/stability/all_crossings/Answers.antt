@@ -3,7 +3,7 @@ use Rattle.std.proofs.lemmas.Result.{IfOk-weaker}
 use Rattle.lc_table.proofs.Later.{kept_on}
 use Rattle.lc_action.specs.Action.{enter, leave}
 use Rattle.lc_action.specs.ActionView.{action_of}
-use Rattle.lc_outline.specs.DevelopmentView.{development_shown}
+use Rattle.lc_outline.specs.DevelopmentView.{development_view}
 use Rattle.lc_cond.specs.Crossings.{AreCrossings, TakesFew}
 use Rattle.lc_cond.proofs.Adding.{formulas_later}
 use Rattle.lc_cond.proofs.Crossed.{given_later}
@@ -13,19 +13,19 @@ pub with_crossing-requires-clause-action : goal.with_crossing-requires-clause-ac
 with_crossing-requires-clause-action c = subst TakesFew (sym c.in_ok-begins.ensures) (omega arith)
 
 pub with_crossing-requires-clause-given : goal.with_crossing-requires-clause-given
-with_crossing-requires-clause-given c = given_later c.args.terms.now c.declared_crossings.new.terms (development_shown c.args.development.now) c.args.given.now c.requires.given c.in_ok-declared.ensures.kept
+with_crossing-requires-clause-given c = given_later c.args.terms.now c.declared_crossings.new.terms (development_view c.args.development.now) c.args.given.now c.requires.given c.in_ok-declared.ensures.kept
 
 pub with_crossing-requires-2-clause-action : goal.with_crossing-requires-2-clause-action
 with_crossing-requires-2-clause-action c = subst TakesFew (sym c.in_ok-ends.ensures) (omega arith)
 
 pub with_crossing-requires-2-clause-given : goal.with_crossing-requires-2-clause-given
 with_crossing-requires-2-clause-given c =
-    given_later c.args.terms.now c.with_crossing.new.terms (development_shown c.args.development.now) c.args.given.now c.requires.given
+    given_later c.args.terms.now c.with_crossing.new.terms (development_view c.args.development.now) c.args.given.now c.requires.given
     (kept_on c.args.terms.now c.declared_crossings.new.terms c.with_crossing.new.terms c.in_ok-declared.ensures.kept c.in_ok-entered.ensures.kept)
 
 pub returns-clause-crossings : goal.returns-clause-crossings
 returns-clause-crossings c =
-    let D = development_shown c.args.development.now in
+    let D = development_view c.args.development.now in
     let g = c.args.given.now in
     let n = g.client in
     let t0 = c.args.terms.now in

@@ -2,7 +2,7 @@ use Rattle.std.proofs.Common.{rules, ◌≡◌, ◌++◌, ◌∷◌, [], map, ta
 use Rattle.std.proofs.lemmas.List.{take_all}
 use Rattle.lc_table.proofs.Later.{kept_on}
 use Rattle.lc_action.specs.ActionView.{action_of}
-use Rattle.lc_outline.specs.DevelopmentView.{development_shown}
+use Rattle.lc_outline.specs.DevelopmentView.{development_view}
 use Rattle.lc_cond.specs.Crossings.{AreCrossings}
 use Rattle.lc_cond.proofs.Adding.{formulas_later}
 use Rattle.lc_cond.proofs.Crossed.{given_later, crossings_put, seen_more}
@@ -11,17 +11,17 @@ use Rattle.lc_cond.proofs.stability.declared_crossings.Goals as goal
 
 pub cross-requires-clause-action : goal.cross-requires-clause-action
 cross-requires-clause-action c =
-    let D = development_shown c.args.development.now in
+    let D = development_view c.args.development.now in
     let a = c.action-item.result in
     let i = c.loop-action.action-index in
     action_few D c.args.development.now.resolved i (action_of a) (seen_at action_of c.actions_of-actions.result.now D.actions i a c.actions_of-actions.ensures c.loop-action-test.true c.action-item.is)
 
 pub cross-requires-clause-given : goal.cross-requires-clause-given
-cross-requires-clause-given c = given_later c.args.terms.now c.loop-action.terms (development_shown c.args.development.now) c.args.given.now c.requires c.loop-action.invariant.0
+cross-requires-clause-given c = given_later c.args.terms.now c.loop-action.terms (development_view c.args.development.now) c.args.given.now c.requires c.loop-action.invariant.0
 
 pub loop-action-preserved : goal.loop-action-preserved
 loop-action-preserved c =
-    let D = development_shown c.args.development.now in
+    let D = development_view c.args.development.now in
     let g = c.args.given.now in
     let t0 = c.args.terms.now in
     let t1 = c.loop-action.terms in
@@ -39,6 +39,6 @@ loop-action-preserved c =
 
 pub returns-clause-crossings : goal.returns-clause-crossings
 returns-clause-crossings c =
-    let D = development_shown c.args.development.now in
+    let D = development_view c.args.development.now in
     let all = ap (map action_of) (take_all c.loop-action.action-index c.actions_of-actions.result.now c.loop-action-test.false) ∙ c.actions_of-actions.ensures in
     λ hs fs kh fh. subst (λ l. AreCrossings c.loop-action.terms D c.args.given.now.client hs fs l c.loop-action.crossings.items) all (c.loop-action.invariant.1 hs fs kh fh)

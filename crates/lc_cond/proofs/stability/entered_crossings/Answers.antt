@@ -6,7 +6,7 @@ use Rattle.lc_term.specs.Lists.{Every}
 use Rattle.lc_term.specs.View.{formula_of, formulas_of}
 use Rattle.lc_table.proofs.Later.{kept_on}
 use Rattle.lc_outline.specs.Development.{invariant_of}
-use Rattle.lc_outline.specs.DevelopmentView.{development_shown}
+use Rattle.lc_outline.specs.DevelopmentView.{development_view}
 use Rattle.lc_outline.specs.Resolved.{IsBelow}
 use Rattle.lc_cond.specs.Adding.{HasFormulas}
 use Rattle.lc_cond.specs.Crossings.{code_variable_limit}
@@ -63,7 +63,7 @@ returns-clause-crossings c =
     let fs = formulas_of c.args.asserted.conjuncts.now in
     let invariant = subst (HasFormulas t3 c.in_ok-invariant.invariant.items) (ap (λ d. invariant_of d) c.parts.ensures.shown) (formulas_later t2 t3 c.in_ok-invariant.invariant.items _ c.in_ok-invariant.ensures.list kept23) in
     IfOk-weaker c.all_crossings.result _ _
-    (λ cs crosses hs has. crosses (hs ++ (invariant_of (development_shown c.args.development.now) ++ fs)) (stretch_of c.args.asserted.asked fs)
+    (λ cs crosses hs has. crosses (hs ++ (invariant_of (development_view c.args.development.now) ++ fs)) (stretch_of c.args.asserted.asked fs)
     (known_all t0 t3 c.args.frame.now c.in_ok-invariant.invariant.items c.in_ok-asserts.asserts.items c.deref.result.now c.deref-2.result.now c.in_ok-known.known.items c.deref-5.result.now hs _ fs
     has kept invariant c.in_ok-asserts.ensures.list c.deref.ensures.value c.deref-2.ensures.value c.in_ok-known.ensures c.deref-5.ensures.value)
     (formulas_listed t3 _ c.asked_about.result.now _ (stretch_formulas t3 c.deref-7.result.now fs c.args.asserted.asked (formulas_listed t3 c.in_ok-asserts.asserts.items c.deref-7.result.now fs c.in_ok-asserts.ensures.list c.deref-7.ensures.value)) c.asked_about.ensures)) c.all_crossings.ensures.crossings

@@ -6,7 +6,7 @@ use Rattle.lc_base.specs.Limits.{condition_limit}
 use Rattle.lc_term.specs.View.{formula_of, formulas_of}
 use Rattle.lc_table.specs.Tables.{formulas_in}
 use Rattle.lc_outline.specs.Development.{all_actions, invariant_of}
-use Rattle.lc_outline.specs.DevelopmentView.{development_shown}
+use Rattle.lc_outline.specs.DevelopmentView.{development_view}
 use Rattle.lc_outline.proofs.Resolving.{resolved}
 use Rattle.lc_cond.specs.Crossings.{AreCrossings, HaveGoals}
 use Rattle.lc_cond.specs.Stretches.{IsWithin, stretch_of, stable_from}
@@ -20,7 +20,7 @@ use Rattle.lc_cond.proofs.stability.push_stable.Goals as goal
 
 pub push_conjuncts-requires-clause-goals : goal.push_conjuncts-requires-clause-goals
 push_conjuncts-requires-clause-goals c =
-    let D = development_shown c.args.development.now in
+    let D = development_view c.args.development.now in
     let t0 = c.args.terms.now in
     let s = c.args.asserted.asked in
     let fs = formulas_of c.args.asserted.conjuncts.now in
@@ -33,7 +33,7 @@ push_conjuncts-requires-clause-goals c =
 
 pub push_conjuncts-requires-clause-few : goal.push_conjuncts-requires-clause-few
 push_conjuncts-requires-clause-few c =
-    let D = development_shown c.args.development.now in
+    let D = development_view c.args.development.now in
     let t0 = c.args.terms.now in
     let s = c.args.asserted.asked in
     let fs = formulas_of c.args.asserted.conjuncts.now in
@@ -50,7 +50,7 @@ push_conjuncts-requires-clause-few c =
 pub push_conjuncts-requires-clause-numbers : goal.push_conjuncts-requires-clause-numbers
 push_conjuncts-requires-clause-numbers c =
     let count = length c.args.asserted.conjuncts.now in
-    let each = length (development_shown c.args.development.now).actions + 2 in
+    let each = length (development_view c.args.development.now).actions + 2 in
     let order = c.requires.asked.order in
     let within = c.requires.asked.few in
     let once : count ≤ count * each = le-mul_of_pos_right count (omega arith) in
@@ -59,7 +59,7 @@ push_conjuncts-requires-clause-numbers c =
 
 pub returns-clause-list : goal.returns-clause-list
 returns-clause-list c =
-    let D = development_shown c.args.development.now in
+    let D = development_view c.args.development.now in
     let now = c.entered_crossings.new.terms in
     let s = c.args.asserted.asked in
     let fs = formulas_of c.args.asserted.conjuncts.now in
@@ -72,7 +72,7 @@ returns-clause-list c =
 -- nothing is asked
 pub returns-then-from-to-clause-list : goal.returns-then-from-to-clause-list
 returns-then-from-to-clause-list c =
-    let D = development_shown c.args.development.now in
+    let D = development_view c.args.development.now in
     let s = c.args.asserted.asked in
     let fs = formulas_of c.args.asserted.conjuncts.now in
     λ hs has. subst (λ xs. Adds c.args.conditions.now.items c.args.terms.now c.args.conditions.now.items

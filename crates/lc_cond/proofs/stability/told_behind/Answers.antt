@@ -9,7 +9,7 @@ use Rattle.lc_table.proofs.Later.{are_formulas_still}
 use Rattle.lc_action.specs.Action.{post_columns}
 use Rattle.lc_action.specs.ActionView.{action_of}
 use Rattle.lc_outline.specs.Development.{invariant_of}
-use Rattle.lc_outline.specs.DevelopmentView.{development_shown}
+use Rattle.lc_outline.specs.DevelopmentView.{development_view}
 use Rattle.lc_outline.specs.Resolved.{IsBelow}
 use Rattle.lc_outline.proofs.Resolving.{resolved}
 use Rattle.lc_cond.specs.Adding.{HasFormulas}
@@ -43,7 +43,7 @@ returns-clause-invariant c =
     let columns = columns_listed t1 c.in_ok-columns.columns.items c.deref.result.now σ c.in_ok-columns.ensures.list c.deref.ensures.value in
     let variables = terms_later t0 t1 g.variables.now code_variables c.requires.variables kept in
     let formulas = formulas_later t0 t1 g.invariant.now fs (formulas_are t0 g.invariant.now c.requires.invariant.are) kept in
-    let D = development_shown c.args.development.now in
+    let D = development_view c.args.development.now in
     let below = subst (Every (IsBelow code_variable_limit)) (sym c.requires.invariant.trees) (below_more 1 code_variable_limit (invariant_of D) (omega arith) (resolved D c.args.development.now.resolved).invariant) in
     IfOk-weaker c.told_in.result _ _ (λ p tells. subst (HasFormulas t2 p.0.items) (told_own code_variable_limit σ fs below) (tells σ code_variables fs columns variables formulas)) c.told_in.ensures.invariant
 

@@ -6,7 +6,7 @@ use Rattle.lc_term.specs.Syntax.{Number, Variable, Le}
 use Rattle.lc_table.specs.Tables.{AreFormulas}
 use Rattle.lc_term.specs.View.{column_of}
 use Rattle.lc_outline.specs.Development.{invariant_of}
-use Rattle.lc_outline.specs.DevelopmentView.{development_shown}
+use Rattle.lc_outline.specs.DevelopmentView.{development_view}
 use Rattle.lc_cond.specs.Adding.{Adds}
 use Rattle.lc_cond.specs.Conditions.{conditions_of}
 use Rattle.lc_cond.specs.Heads.{head_of}
@@ -18,7 +18,7 @@ push_all_told-requires c = subst (AreFormulas c.entered_invariant.new.terms) (sy
 
 pub returns-clause-list : goal.returns-clause-list
 returns-clause-list c =
-    let d = development_shown c.args.development.now in
+    let d = development_view c.args.development.now in
     let t2 = c.entered_invariant.new.terms in
     let now = c.push_all_told.new.terms in
     let r = replacing (column_by_number (map column_of c.args.columns.now)) Variable in

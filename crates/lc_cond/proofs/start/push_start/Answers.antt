@@ -6,7 +6,7 @@ use Rattle.lc_term.specs.Syntax.{Column, Number, Variable, Le}
 use Rattle.lc_term.specs.View.{column_of}
 use Rattle.lc_tie.specs.Tie.{start_column}
 use Rattle.lc_outline.specs.Development.{invariant_of, start_numbers}
-use Rattle.lc_outline.specs.DevelopmentView.{development_shown}
+use Rattle.lc_outline.specs.DevelopmentView.{development_view}
 use Rattle.lc_cond.specs.Adding.{Adds}
 use Rattle.lc_cond.specs.Conditions as S
 use Rattle.lc_cond.specs.Conditions.{conditions_of, at_start, range}
@@ -15,7 +15,7 @@ use Rattle.lc_cond.proofs.start.push_start.Goals as goal
 
 pub returns-clause-list : goal.returns-clause-list
 returns-clause-list c =
-    let d = development_shown c.args.development.now in
+    let d = development_view c.args.development.now in
     let t1 = c.push_init.new.terms in
     let t2 = c.push_init_idle.new.terms in
     let stands : column_by_number (map column_of c.in_ok-columns.columns.items) ≡ start_column (start_numbers d) =

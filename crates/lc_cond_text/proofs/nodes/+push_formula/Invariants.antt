@@ -4,7 +4,7 @@ use Rattle.lc_table.specs.Tables.{formulas_in}
 use Rattle.lc_table.proofs.Listed.{beyond}
 use Rattle.lc_text.specs.Spelled.{spelled_parts}
 use Rattle.lc_cond_text.specs.ConditionText.{spelled}
-use Rattle.lc_outline.specs.DevelopmentView.{development_shown}
+use Rattle.lc_outline.specs.DevelopmentView.{development_view}
 use Rattle.lc_cond_text.proofs.nodes.+push_formula.Given as goal
 
 abbrev pub decreases-push_below : goal.decreases-push_below
@@ -19,5 +19,5 @@ decreases-push_parts l = 2 * beyond l.parts.now
 -- what is written so far, with what is left, is all
 abbrev pub invariant-push_parts-loop-part : goal.invariant-push_parts-loop-part
 invariant-push_parts-loop-part l =
-    l.out.items ++ spelled_parts (spelled (development_shown l.development)) l.depth (formulas (formulas_in l.terms (drop l.part-index l.parts)))
-    ≡ l.fn.out.items ++ l.word ++ spelled_parts (spelled (development_shown l.development)) l.depth (formulas (formulas_in l.terms l.parts))
+    l.out.items ++ spelled_parts (spelled (development_view l.development)) l.depth (formulas (formulas_in l.terms (drop l.part-index l.parts)))
+    ≡ l.fn.out.items ++ l.word ++ spelled_parts (spelled (development_view l.development)) l.depth (formulas (formulas_in l.terms l.parts))

@@ -4,7 +4,7 @@ use Rattle.std.proofs.lemmas.Result.{on_ok_weaker}
 use Rattle.lc_term.specs.Syntax as S
 use Rattle.lc_table.specs.Tables.{term_in, column_in, IsTerm, IsColumn}
 use Rattle.lc_text.specs.Spelled.{spaced, spelled_column}
-use Rattle.lc_outline.specs.DevelopmentView.{development_shown}
+use Rattle.lc_outline.specs.DevelopmentView.{development_view}
 use Rattle.lc_cond_text.specs.declared.term_text.Waiting.TheVariants.{Column}
 use Rattle.lc_cond_text.specs.ConditionText.{spelled}
 use Rattle.lc_cond_text.specs.Waiting.{GoesOn}
@@ -12,7 +12,7 @@ use Rattle.lc_cond_text.proofs.Waiting.{last_waits, column_begun, written, one_m
 use Rattle.lc_cond_text.proofs.term_text.begin_column.Goals as goal
 
 pub stores-init : goal.stores-init
-stores-init c d = column_begun (spelled (development_shown c.args.development.now)) d c.args.terms.now c.args.out.now.items c.args.waiting.now.items c.args.column c.requires.waiting c.requires.column
+stores-init c d = column_begun (spelled (development_view c.args.development.now)) d c.args.terms.now c.args.out.now.items c.args.waiting.now.items c.args.column c.requires.waiting c.requires.column
 
 pub column_node-requires : goal.column_node-requires
 column_node-requires c = (last_waits c.args.terms.now (c.stores.waiting.items ++ Column c.stores.below ∷ []) c.stores.waiting.items (Column c.stores.below) refl (c.stores.invariant 0).waits).1
@@ -20,7 +20,7 @@ column_node-requires c = (last_waits c.args.terms.now (c.stores.waiting.items ++
 pub returns-in-Base : goal.returns-in-Base
 returns-in-Base c d =
     let ts = c.args.terms.now in
-    let by = spelled (development_shown c.args.development.now) in
+    let by = spelled (development_view c.args.development.now) in
     let ws = c.stores.waiting.items in
     let below = c.stores.below in
     let mid = c.stores.out.items in
@@ -36,7 +36,7 @@ returns-in-Base c d =
 pub returns-in-Affine : goal.returns-in-Affine
 returns-in-Affine c d =
     let ts = c.args.terms.now in
-    let by = spelled (development_shown c.args.development.now) in
+    let by = spelled (development_view c.args.development.now) in
     let ws = c.stores.waiting.items in
     let below = c.stores.below in
     let mid = c.stores.out.items in
@@ -55,7 +55,7 @@ returns-in-Affine c d =
 pub stores-preserved : goal.stores-preserved
 stores-preserved c d =
     let ts = c.args.terms.now in
-    let by = spelled (development_shown c.args.development.now) in
+    let by = spelled (development_view c.args.development.now) in
     let ws = c.stores.waiting.items in
     let below = c.stores.below in
     let mid = c.stores.out.items in

@@ -2,7 +2,7 @@ use Rattle.std.proofs.Common.{rules, ◌≡◌, ◌++◌, ◌∙◌, List, ℕ, 
 use Rattle.lc_term.specs.Syntax as S
 use Rattle.lc_table.specs.Tables.{term_in, column_in}
 use Rattle.lc_text.specs.Spelled.{spelled_term, spelled_column}
-use Rattle.lc_outline.specs.DevelopmentView.{development_shown}
+use Rattle.lc_outline.specs.DevelopmentView.{development_view}
 use Rattle.lc_cond_text.specs.ConditionText.{spelled}
 use Rattle.lc_cond_text.proofs.term_text.push_read.Goals as goal
 
@@ -11,7 +11,7 @@ grouped o w a s i e = simp append_assoc
 
 pub returns-clause-written : goal.returns-clause-written
 returns-clause-written c e =
-    let d = development_shown c.args.development.now in
+    let d = development_view c.args.development.now in
     let by = spelled d in
     let n = c.args.depth in
     let ts = c.args.terms.now in

@@ -1,7 +1,7 @@
 use Rattle.std.proofs.Common.{rules, ◌≡◌, ◌++◌, ◌∙◌, ap, true, [], sym, subst}
 use Rattle.lc_table.specs.Tables.{term_in}
 use Rattle.lc_text.specs.Spelled.{spelled_term}
-use Rattle.lc_outline.specs.DevelopmentView.{development_shown}
+use Rattle.lc_outline.specs.DevelopmentView.{development_view}
 use Rattle.lc_cond_text.specs.ConditionText.{spelled}
 use Rattle.lc_cond_text.specs.Waiting.{AreWaiting, GoesOn}
 use Rattle.lc_cond_text.proofs.Waiting.{last_waits, one_more, all_written}
@@ -15,7 +15,7 @@ begin_parts-requires-clause-waiting c =
 pub loop-init : goal.loop-init
 loop-init c =
     let ts = c.args.terms.now in
-    let by = spelled (development_shown c.args.development.now) in
+    let by = spelled (development_view c.args.development.now) in
     let d = c.args.depth in
     let none : c.new-waiting.result.items ≡ [] = search rules in
     let nothing : c.push_read.new.out.items ≡ c.args.out.now.items = search rules in
@@ -26,7 +26,7 @@ loop-init c =
 pub returns-in_default : goal.returns-in_default
 returns-in_default c =
     let none : c.loop.waiting.items ≡ [] = search rules in
-    all_written (spelled (development_shown c.args.development.now)) c.args.depth c.args.terms.now c.args.out.now.items _ c.loop.out.items c.loop.waiting.items c.loop.invariant none
+    all_written (spelled (development_view c.args.development.now)) c.args.depth c.args.terms.now c.args.out.now.items _ c.loop.out.items c.loop.waiting.items c.loop.invariant none
 
 pub go_on-requires-clause-next : goal.go_on-requires-clause-next
 go_on-requires-clause-next c = (last_waits c.args.terms.now c.loop.waiting.items c.pop.new.self.items c.in-Some.next c.in-Some.ensures.items c.loop.invariant.waits).1
@@ -36,17 +36,17 @@ go_on-requires-clause-waiting c = (last_waits c.args.terms.now c.loop.waiting.it
 
 pub loop-preserved : goal.loop-preserved
 loop-preserved c =
-    one_more (spelled (development_shown c.args.development.now)) c.args.depth c.args.terms.now c.args.out.now.items [] c.loop.waiting.items c.pop.new.self.items c.go_on.new.waiting.items c.in-Some.next _
+    one_more (spelled (development_view c.args.development.now)) c.args.depth c.args.terms.now c.args.out.now.items [] c.loop.waiting.items c.pop.new.self.items c.go_on.new.waiting.items c.in-Some.next _
     c.loop.out.items c.go_on.new.out.items c.loop.invariant c.in-Some.ensures.items c.in_ok-go_on.ensures
 
 pub returns-then-branch : goal.returns-then-branch
 returns-then-branch c =
     let simple : c.in_ok-push_simple.field-0 ≡ true = search rules in
-    c.in_ok-push_simple.ensures.written (development_shown c.args.development.now) simple
+    c.in_ok-push_simple.ensures.written (development_view c.args.development.now) simple
 
 pub returns-then-branch-2 : goal.returns-then-branch-2
 returns-then-branch-2 c =
-    let by = spelled (development_shown c.args.development.now) in
+    let by = spelled (development_view c.args.development.now) in
     let read : c.in_ok-push_read.field-0 ≡ true = search rules in
     let nothing : c.push_simple.new.out.items ≡ c.args.out.now.items = search rules in
     c.in_ok-push_read.ensures.written read ∙ ap (λ l. l ++ spelled_term by c.args.depth (term_in c.args.terms.now c.args.term)) nothing

@@ -2,14 +2,14 @@ use Rattle.std.proofs.Common.{◌≡◌, length, refl, rules, set, Some}
 use Rattle.lc_table.specs.declared.node.FormulaId.{FormulaId}
 use Rattle.lc_table.specs.Tables.{formula_in, IsFormula}
 use Rattle.lc_text.specs.Spelled.{spelled_formula}
-use Rattle.lc_outline.specs.DevelopmentView.{development_shown}
+use Rattle.lc_outline.specs.DevelopmentView.{development_view}
 use Rattle.lc_cond_text.specs.ConditionText.{spelled}
 use Rattle.lc_cond_text.proofs.Recalled.{recalls_more, lies_behind}
 use Rattle.lc_cond_text.proofs.texts.spell.Goals as goal
 
 pub returns-clause-recalls : goal.returns-clause-recalls
 returns-clause-recalls c =
-    let text = λ (k : FormulaId). spelled_formula (spelled (development_shown c.args.development.now)) 0 (formula_in c.args.terms.now k) in
+    let text = λ (k : FormulaId). spelled_formula (spelled (development_view c.args.development.now)) 0 (formula_in c.args.terms.now k) in
     let old = c.args.texts.now.bytes.items in
     let new = c.push_formula.new.out.items in
     let start : c.len-start.result ≡ length old = search rules in

@@ -1,7 +1,7 @@
 use Rattle.std.proofs.Common.{refl}
 use Rattle.std.proofs.lemmas.List.{map-append}
 use Rattle.lc_term.specs.Lists.{Every}
-use Rattle.lc_term.specs.UpdateView.{write_shown, writes_shown}
+use Rattle.lc_term.specs.UpdateView.{write_view, writes_view}
 use Rattle.lc_failing.specs.Situation.{IsElsewhere}
 use Rattle.lc_failing.proofs.Apart.{cells-more}
 use Rattle.lc_failing.proofs.simpler.push_once.Goals as goal
@@ -9,6 +9,6 @@ use Rattle.lc_failing.proofs.simpler.push_once.Goals as goal
 pub returns : goal.returns
 returns c =
     let cell = c.args.cell in
-    let before = writes_shown c.args.cells.now.items in
+    let before = writes_view c.args.cells.now.items in
     let away : Every (IsElsewhere cell.column.0 cell.index) before = rw c.deref.ensures.value at (c.if-is_among.ensures refl) in
-    rw (c.in_ok-push.ensures.items, map-append) (cells-more c.args.columns before (write_shown cell) c.requires c.if-cell-columns.false away)
+    rw (c.in_ok-push.ensures.items, map-append) (cells-more c.args.columns before (write_view cell) c.requires c.if-cell-columns.false away)

@@ -7,7 +7,7 @@ use Rattle.lc_cert.specs.EntryView.{entries_of}
 use Rattle.lc_cert.specs.declared.certificate.Certificate.{Certificate}
 use Rattle.lc_check.specs.VerdictView.{development_in}
 use Rattle.lc_hints.specs.HintView.{proofs_in}
-use Rattle.lc_outline.specs.DevelopmentView.{development_shown}
+use Rattle.lc_outline.specs.DevelopmentView.{development_view}
 use Rattle.lc_find.proofs.CarriedHold.{gets-carried}
 use Rattle.lc_find.proofs.Ending.{unfound}
 use Rattle.lc_find.specs.Found.{Finds, TakesFirst}
@@ -17,7 +17,7 @@ use Rattle.lc_find.proofs.carrying.carry_with.Goals as goal
 
 pub returns-in_err-carried-clause-finds : goal.returns-in_err-carried-clause-finds
 returns-in_err-carried-clause-finds g c =
-    let E = development_shown c.args.development.now in
+    let E = development_view c.args.development.now in
     let hs = carried (development_in c.args.accepted.now) (entries_in c.args.certificate.now) E ++ proofs_in c.args.hints.now in
     let p = err_from_is_err_and c.from_residual.result c.from_residual.ensures.1 in
     subst (Finds E hs c.args.budget) (sym (p.1 ∙ ap Err p.2)) (unfound E hs c.args.budget OutOfMemory tt)
@@ -31,7 +31,7 @@ find_beside-requires g c =
 
 pub returns-clause-finds : goal.returns-clause-finds
 returns-clause-finds g c =
-    let E = development_shown c.args.development.now in
+    let E = development_view c.args.development.now in
     let es = entries_in c.args.certificate.now in
     let given = ap entries_of c.deref-2.ensures.value ∙ c.in_ok-carried.ensures.exactly ∙ ap (λ d. carried d es E) c.development.ensures.shown in
     subst (λ l. Finds E (l ++ proofs_in c.args.hints.now) c.args.budget c.find_beside.result) given c.find_beside.ensures
@@ -39,7 +39,7 @@ returns-clause-finds g c =
 pub returns-clause-gets : goal.returns-clause-gets
 returns-clause-gets g c =
     let D = development_in c.args.accepted.now in
-    let E = development_shown c.args.development.now in
+    let E = development_view c.args.development.now in
     let es = entries_in c.args.certificate.now in
     let hs = proofs_in c.args.hints.now in
     let given = ap entries_of c.deref-2.ensures.value ∙ c.in_ok-carried.ensures.exactly ∙ ap (λ d. carried d es E) c.development.ensures.shown in

@@ -2,7 +2,7 @@ use Rattle.std.proofs.Common.{◌≡◌, ◌≤◌, [], ◌∷◌, ◌++◌, tru
 use Rattle.std.proofs.lemmas.List.{map-append}
 use Rattle.lc_term.proofs.Stores.{Every-append}
 use Rattle.lc_term.specs.Lists.{Every}
-use Rattle.lc_outline.specs.DevelopmentView.{development_shown}
+use Rattle.lc_outline.specs.DevelopmentView.{development_view}
 use Rattle.lc_base.specs.Limits.{file_limit}
 use Rattle.lc_cert.specs.Certificates.{Entry, HaveFewSteps}
 use Rattle.lc_cert.specs.EntryView.{entry_of, entries_of}
@@ -18,7 +18,7 @@ use Rattle.lc_find.proofs.finding.found_entries.Goals as goal
 
 pub returns-then-not-branch : goal.returns-then-not-branch
 returns-then-not-branch g c =
-    let d = development_shown c.args.development.now in
+    let d = development_view c.args.development.now in
     let old = c.conditions.walk in
     let hs = all_of c.in_ok-first.first in
     let es = entries_of c.conditions.entries.items in
@@ -36,7 +36,7 @@ next_entry-requires-clause-steps g c =
 
 pub returns-in-Err : goal.returns-in-Err
 returns-in-Err g c =
-    let d = development_shown c.args.development.now in
+    let d = development_view c.args.development.now in
     let old = c.conditions.walk in
     let mid = c.advance.new.self in
     let hs = all_of c.in_ok-first.first in
@@ -49,7 +49,7 @@ returns-in-Err g c =
 
 pub conditions-preserved : goal.conditions-preserved
 conditions-preserved g c =
-    let d = development_shown c.args.development.now in
+    let d = development_view c.args.development.now in
     let old = c.conditions.walk in
     let mid = c.advance.new.self in
     let hs = all_of c.in_ok-first.first in

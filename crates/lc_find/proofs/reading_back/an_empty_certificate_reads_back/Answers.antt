@@ -1,12 +1,12 @@
 use Rattle.std.proofs.Common.{◌≡◌, ◌≤◌, [], ◌∷◌, ◌++◌, length, length-append, true, refl, subst, arith, lit≤}
 use Rattle.lc_base.specs.NameText.{is_name}
 use Rattle.lc_base.specs.Limits.{name_limit}
-use Rattle.lc_outline.specs.DevelopmentView.{development_shown}
+use Rattle.lc_outline.specs.DevelopmentView.{development_view}
 use Rattle.lc_find.proofs.reading_back.an_empty_certificate_reads_back.Goals as goal
 
 pub returns : goal.returns
 returns c =
-    let D = development_shown c.args.development.now in
+    let D = development_view c.args.development.now in
     let n = D.object.name in
     let is = c.object_name-name.ensures.text in
     let limit = c.object_name-name.ensures.limit in

@@ -1,5 +1,5 @@
 use Rattle.std.proofs.Common.{◌≡◌, length, true, false, ap, ◌∙◌, subst, arith}
-use Rattle.lc_outline.specs.DevelopmentView.{development_shown}
+use Rattle.lc_outline.specs.DevelopmentView.{development_view}
 use Rattle.lc_cert.specs.EntryView.{entries_of}
 use Rattle.lc_cert.specs.Printed.{certificate_line}
 use Rattle.lc_cond.specs.Conditions.{conditions}
@@ -9,11 +9,11 @@ use Rattle.lc_find.specs.Found.{IsReadBack}
 use Rattle.lc_find.proofs.reading_back.read_back.Goals as goal
 
 pub of_entries-certificate-requires : goal.of_entries-certificate-requires
-of_entries-certificate-requires c = rising_all (entries_of c.args.entries.items) (conditions (development_shown c.args.development.now)) c.requires
+of_entries-certificate-requires c = rising_all (entries_of c.args.entries.items) (conditions (development_view c.args.development.now)) c.requires
 
 pub returns-then-count-eq0 : goal.returns-then-count-eq0
 returns-then-count-eq0 c =
-    let D = development_shown c.args.development.now in
+    let D = development_view c.args.development.now in
     let items = c.args.entries.items in
     let size = length_entries items in
     let none : length (entries_of items) ≡ 0 = omega (arith, size) in
@@ -21,13 +21,13 @@ returns-then-count-eq0 c =
 
 pub returns-then-branch : goal.returns-then-branch
 returns-then-branch c =
-    let D = development_shown c.args.development.now in
+    let D = development_view c.args.development.now in
     let line = c.deref.ensures.value ∙ c.in_ok-text.ensures ∙ ap (certificate_line D) c.of_entries-certificate.ensures in
     (c.of_entries-certificate.ensures, subst (λ t. IsReadBack D t true) line (subst (IsReadBack D c.deref.result.now) c.if-branch.true c.in_ok-is_accepted.ensures))
 
 pub returns-else-branch : goal.returns-else-branch
 returns-else-branch c =
-    let D = development_shown c.args.development.now in
+    let D = development_view c.args.development.now in
     let items = c.args.entries.items in
     let line = c.deref.ensures.value ∙ c.in_ok-text.ensures ∙ ap (certificate_line D) c.of_entries-certificate.ensures in
     let not = subst (λ t. IsReadBack D t false) line (subst (IsReadBack D c.deref.result.now) c.if-branch.false c.in_ok-is_accepted.ensures) in

@@ -2,7 +2,7 @@ use Rattle.std.proofs.Common.{◌≡◌, Some, Err, option_map, sym, ap, ◌∙�
 use Rattle.std.specs.Borrow.{Bor}
 use Rattle.lc_kernel.specs.View.{proof_of}
 use Rattle.lc_kernel.specs.declared.proof.Proof.{Proof}
-use Rattle.lc_outline.specs.DevelopmentView.{development_shown}
+use Rattle.lc_outline.specs.DevelopmentView.{development_view}
 use Rattle.lc_cert.specs.Certificates.{proof_at}
 use Rattle.lc_check.proofs.Walking.{same_due}
 use Rattle.lc_check.specs.Walking.{IsProvenOn}
@@ -21,7 +21,7 @@ prove_next-requires-clause-steps c =
 
 pub returns-in_default : goal.returns-in_default
 returns-in_default c =
-    let d = development_shown c.args.development.now in
+    let d = development_view c.args.development.now in
     let hs = all_of c.args.first.now in
     let old = c.args.walk.now in
     let none = none_of_map (λ (p : Bor Proof). proof_of p.now) c.first.result (proof_at hs old.next) c.first.ensures c.in_default.not-Some in
@@ -29,7 +29,7 @@ returns-in_default c =
 
 pub returns-in-Err-Refused : goal.returns-in-Err-Refused
 returns-in-Err-Refused c =
-    let d = development_shown c.args.development.now in
+    let d = development_view c.args.development.now in
     let hs = all_of c.args.first.now in
     let old = c.args.walk.now in
     let new = c.prove_next.new.self in

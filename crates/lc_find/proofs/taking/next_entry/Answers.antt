@@ -1,5 +1,5 @@
 use Rattle.std.proofs.Common.{Some, None, subst}
-use Rattle.lc_outline.specs.DevelopmentView.{development_shown}
+use Rattle.lc_outline.specs.DevelopmentView.{development_view}
 use Rattle.lc_check.proofs.Walking.{went_on}
 use Rattle.lc_find.proofs.Taken.{sought_taken}
 use Rattle.lc_find.specs.FirstView.{all_of}
@@ -8,7 +8,7 @@ use Rattle.lc_find.proofs.taking.next_entry.Goals as goal
 
 pub returns-in-Ok-Some : goal.returns-in-Ok-Some
 returns-in-Ok-Some g c =
-    let d = development_shown c.args.development.now in
+    let d = development_view c.args.development.now in
     let hs = all_of c.args.first.now in
     let old = c.args.walk.now in
     let new = c.hinted_entry.new.walk in
@@ -17,7 +17,7 @@ returns-in-Ok-Some g c =
 
 pub sought_entry-requires-clause-in_turn : goal.sought_entry-requires-clause-in_turn
 sought_entry-requires-clause-in_turn g c =
-    let d = development_shown c.args.development.now in
+    let d = development_view c.args.development.now in
     let hs = all_of c.args.first.now in
     let old = c.args.walk.now in
     let mid = c.hinted_entry.new.walk in
@@ -26,7 +26,7 @@ sought_entry-requires-clause-in_turn g c =
 
 pub sought_entry-requires-clause-stands : goal.sought_entry-requires-clause-stands
 sought_entry-requires-clause-stands g c =
-    let d = development_shown c.args.development.now in
+    let d = development_view c.args.development.now in
     let hs = all_of c.args.first.now in
     let old = c.args.walk.now in
     let mid = c.hinted_entry.new.walk in
@@ -35,7 +35,7 @@ sought_entry-requires-clause-stands g c =
 
 pub returns-in-Ok-None : goal.returns-in-Ok-None
 returns-in-Ok-None g c =
-    let d = development_shown c.args.development.now in
+    let d = development_view c.args.development.now in
     let hs = all_of c.args.first.now in
     let old = c.args.walk.now in
     let mid = c.hinted_entry.new.walk in

@@ -3,7 +3,7 @@ use Rattle.lc_sexp.specs.Shown.{rest_of, number_of, owner_of}
 use Rattle.lc_cert.specs.Certificates.{HaveFewSteps}
 use Rattle.lc_naming.specs.ColumnNames.{column_names}
 use Rattle.lc_cert.specs.Printed.{EntryReadsBack}
-use Rattle.lc_outline.specs.DevelopmentView.{development_shown}
+use Rattle.lc_outline.specs.DevelopmentView.{development_view}
 use Rattle.lc_reading.specs.Results.{IsReadFault}
 use Rattle.lc_reading.specs.TableView.{listed}
 use Rattle.lc_reading.specs.Words.{names_in}
@@ -17,7 +17,7 @@ use Rattle.lc_hints.proofs.reading.hints_in.Goals as goal
 
 pub of_given-requires : goal.of_given-requires
 of_given-requires c =
-    let D = development_shown c.args.development.now in
+    let D = development_view c.args.development.now in
     let columns = c.in_ok-columns.ensures ∙ ap names_in c.deref.ensures.value ∙ c.in_ok-names.ensures ∙ ap column_names c.parts-parts.ensures.shown in
     let same = file_at D (owner_of c.cursor.result) (number_of c.cursor.result) (rest_of c.cursor.result) c.args.forms (listed c.in_ok-columns.columns) c.cursor.ensures.owner c.cursor.ensures.number c.cursor.ensures.rest columns in
     subst HaveFewSteps (sym c.in_ok-gathered-in-Ok.ensures.proofs)
@@ -25,7 +25,7 @@ of_given-requires c =
 
 pub returns-in-Ok-clause-answer : goal.returns-in-Ok-clause-answer
 returns-in-Ok-clause-answer c = λ bytes reads.
-    let D = development_shown c.args.development.now in
+    let D = development_view c.args.development.now in
     let columns = c.in_ok-columns.ensures ∙ ap names_in c.deref.ensures.value ∙ c.in_ok-names.ensures ∙ ap column_names c.parts-parts.ensures.shown in
     let same = file_at D (owner_of c.cursor.result) (number_of c.cursor.result) (rest_of c.cursor.result) c.args.forms (listed c.in_ok-columns.columns) c.cursor.ensures.owner c.cursor.ensures.number c.cursor.ensures.rest columns in
     let hs = map hint_of c.in-Ok.hints.items in
@@ -37,7 +37,7 @@ returns-in-Ok-clause-answer c = λ bytes reads.
 
 pub returns-in-Ok-clause-back : goal.returns-in-Ok-clause-back
 returns-in-Ok-clause-back c =
-    let D = development_shown c.args.development.now in
+    let D = development_view c.args.development.now in
     let columns = c.in_ok-columns.ensures ∙ ap names_in c.deref.ensures.value ∙ c.in_ok-names.ensures ∙ ap column_names c.parts-parts.ensures.shown in
     let same = file_at D (owner_of c.cursor.result) (number_of c.cursor.result) (rest_of c.cursor.result) c.args.forms (listed c.in_ok-columns.columns) c.cursor.ensures.owner c.cursor.ensures.number c.cursor.ensures.rest columns in
     let hs = map hint_of c.in-Ok.hints.items in
@@ -46,7 +46,7 @@ returns-in-Ok-clause-back c =
 
 pub returns-clause-answer : goal.returns-clause-answer
 returns-clause-answer c = λ bytes reads.
-    let D = development_shown c.args.development.now in
+    let D = development_view c.args.development.now in
     let columns = c.in_ok-columns.ensures ∙ ap names_in c.deref.ensures.value ∙ c.in_ok-names.ensures ∙ ap column_names c.parts-parts.ensures.shown in
     let same = file_at D (owner_of c.cursor.result) (number_of c.cursor.result) (rest_of c.cursor.result) c.args.forms (listed c.in_ok-columns.columns) c.cursor.ensures.owner c.cursor.ensures.number c.cursor.ensures.rest columns in
     subst (λ f. IsAnswerTo D bytes (Err f)) (sym c.from.ensures)

@@ -2,7 +2,7 @@ use Rattle.std.proofs.Common.{◌≤◌, length, refl, arith}
 use Rattle.std.specs.Prelude.{IsUtf8}
 use Rattle.lc_base.specs.Limits.{file_limit}
 use Rattle.lc_hist.specs.Histories.{events_in}
-use Rattle.lc_hist.specs.JsonRecorded.{order_shown}
+use Rattle.lc_hist.specs.JsonRecorded.{order_view}
 use Rattle.lc_hist.specs.JsonSeen.{all_of, AreInText}
 use Rattle.lc_hist.specs.JsonTokens.{AreSaid}
 use Rattle.lc_hist.proofs.JsonWhole.{each_found, says_all}
@@ -14,6 +14,6 @@ returns c =
     let bytes = c.args.bytes.now in
     let utf8 : IsUtf8 bytes = c.if-not-is_utf8.ensures.0 refl in
     let limit : length bytes ≤ file_limit = omega arith in
-    each_found (λ answer. AreSaid operations bytes (events_in answer.0) (order_shown answer.1)) (λ answer. AreInText operations bytes (events_in answer.0) (order_shown answer.1))
-    (λ answer said. says_all operations bytes (events_in answer.0) (order_shown answer.1) limit utf8 said)
+    each_found (λ answer. AreSaid operations bytes (events_in answer.0) (order_view answer.1)) (λ answer. AreInText operations bytes (events_in answer.0) (order_view answer.1))
+    (λ answer said. says_all operations bytes (events_in answer.0) (order_view answer.1) limit utf8 said)
     c.read_right.result c.read_right.ensures

@@ -2,7 +2,7 @@ use Rattle.std.proofs.Common.{◌≡◌, Some, ◌++◌, ◌∷◌, [], ap, sym,
 use Rattle.std.proofs.lemmas.List.{map-append}
 use Rattle.json.specs.Json.{after_end_array}
 use Rattle.json.specs.Token.{Token}
-use Rattle.lc_hist.specs.JsonHistories.{entry_seen, entries_seen}
+use Rattle.lc_hist.specs.JsonHistories.{entry_view, entries_view}
 use Rattle.lc_hist.specs.JsonSeen.{all_of}
 use Rattle.lc_hist.specs.JsonTokens.{Begins}
 use Rattle.lc_hist.specs.JsonValues.{entry_in}
@@ -11,7 +11,7 @@ use Rattle.lc_hist.proofs.JsonTokens.{row_begins, row_next, row_ends, begins-sho
 use Rattle.lc_hist.proofs.token_rows.next_order.Goals as goal
 
 pub entries-init : goal.entries-init
-entries-init c = ([], ap (λ order. Some (entries_seen order)) (sym c.new-order.ensures.items), row_begins 3 c.begins_array.new.self)
+entries-init c = ([], ap (λ order. Some (entries_view order)) (sym c.new-order.ensures.items), row_begins 3 c.begins_array.new.self)
 
 pub entries-preserved : goal.entries-preserved
 entries-preserved c =
@@ -22,10 +22,10 @@ entries-preserved c =
     let rest = c.next_entry.new.reader in
     let same : c.take_end_array.new.self ≡ l.reader = grind arith in
     let begins : Begins 3 l.reader d rest = subst (λ ts. Begins 3 ts d rest) same said.2 in
-    let entry = entry_seen c.in-Some.done in
-    let pushed : entries_seen c.push.new.self.items ≡ entries_seen l.order.items ++ entry ∷ [] = ap entries_seen c.in_ok-push.ensures.items ∙ map-append entry_seen l.order.items (c.in-Some.done ∷ []) in (
+    let entry = entry_view c.in-Some.done in
+    let pushed : entries_view c.push.new.self.items ≡ entries_view l.order.items ++ entry ∷ [] = ap entries_view c.in_ok-push.ensures.items ∙ map-append entry_view l.order.items (c.in-Some.done ∷ []) in (
       ds ++ d ∷ [],
-      all_in-push (entry_in (all_of c.args.operations.now)) ds d (entries_seen l.order.items) entry l.invariant.1 said.1 ∙ ap Some (sym pushed),
+      all_in-push (entry_in (all_of c.args.operations.now)) ds d (entries_view l.order.items) entry l.invariant.1 said.1 ∙ ap Some (sym pushed),
       row_next 3 c.begins_array.new.self ds l.reader d rest l.invariant.2 begins,
     )
 

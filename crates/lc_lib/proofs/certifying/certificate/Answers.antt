@@ -1,4 +1,4 @@
-use Rattle.lc_outline.specs.DevelopmentView.{development_shown}
+use Rattle.lc_outline.specs.DevelopmentView.{development_view}
 use Rattle.lc_lib.proofs.Made.{accepted_answer, answered, undeveloped, unhinted}
 use Rattle.lc_lib.proofs.certifying.certificate.Goals as goal
 
@@ -6,13 +6,13 @@ pub returns-in-Err-clause-exactly : goal.returns-in-Err-clause-exactly
 returns-in-Err-clause-exactly c = undeveloped c.args.lib c.in-Err.fault c.in-Err.ensures
 
 pub returns-in-Err-read_hints-clause-exactly : goal.returns-in-Err-read_hints-clause-exactly
-returns-in-Err-read_hints-clause-exactly c = unhinted c.args.lib (development_shown c.in-Ok.development) c.in-Err-read_hints.fault c.in-Ok.ensures c.in-Err-read_hints.ensures
+returns-in-Err-read_hints-clause-exactly c = unhinted c.args.lib (development_view c.in-Ok.development) c.in-Err-read_hints.fault c.in-Ok.ensures c.in-Err-read_hints.ensures
 
 pub returns-clause-exactly : goal.returns-clause-exactly
 returns-clause-exactly c =
-    answered c.args.lib (development_shown c.in-Ok.development) c.in-Ok-read_hints.hints c.certificate_by.result c.in-Ok.ensures c.in-Ok-read_hints.ensures c.certificate_by.ensures
+    answered c.args.lib (development_view c.in-Ok.development) c.in-Ok-read_hints.hints c.certificate_by.result c.in-Ok.ensures c.in-Ok-read_hints.ensures c.certificate_by.ensures
 
 pub returns-clause-accepted : goal.returns-clause-accepted
 returns-clause-accepted c =
     accepted_answer c.args.lib c.certificate_by.result
-    (answered c.args.lib (development_shown c.in-Ok.development) c.in-Ok-read_hints.hints c.certificate_by.result c.in-Ok.ensures c.in-Ok-read_hints.ensures c.certificate_by.ensures)
+    (answered c.args.lib (development_view c.in-Ok.development) c.in-Ok-read_hints.hints c.certificate_by.result c.in-Ok.ensures c.in-Ok-read_hints.ensures c.certificate_by.ensures)

@@ -3,7 +3,7 @@ use Rattle.std.specs.declared.alloc.Global.{Global}
 use Rattle.lc_cond.specs.ConditionView.{condition_in}
 use Rattle.lc_cond.specs.Stream.{IsNextPart, IsPart}
 use Rattle.lc_cond.specs.declared.condition.Condition.{Condition}
-use Rattle.lc_outline.specs.DevelopmentView.{development_shown}
+use Rattle.lc_outline.specs.DevelopmentView.{development_view}
 use Rattle.lc_listing.specs.Chosen.{chosen_count, chosen_from}
 use Rattle.lc_listing.proofs.Choosing.{so_far_more}
 use Rattle.lc_listing.proofs.chosen.chosen_conditions.Goals as goal
@@ -12,7 +12,7 @@ pub parts-preserved : goal.parts-preserved
 parts-preserved c =
     let point = option_map (λ a. a.now) c.args.point in
     let kind = option_map (λ a. a.now) c.args.kind in
-    let D = development_shown c.args.development.now in
+    let D = development_view c.args.development.now in
     let ts = c.next_part.new.terms in
     let before = c.parts.stream in
     let after = c.next_part.new.self in

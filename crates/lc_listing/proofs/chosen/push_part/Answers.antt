@@ -1,7 +1,7 @@
 use Rattle.std.proofs.Common.{◌≡◌, ◌+◌, ◌++◌, ◌∷◌, suc, drop, map, ap, sym, ◌∙◌, option_map, rules}
 use Rattle.std.proofs.lemmas.List.{drop_more}
 use Rattle.lc_cond.specs.ConditionView.{condition_in}
-use Rattle.lc_outline.specs.DevelopmentView.{development_shown}
+use Rattle.lc_outline.specs.DevelopmentView.{development_view}
 use Rattle.lc_listing.specs.Chosen.{chosen_count, chosen_from}
 use Rattle.lc_listing.proofs.Choosing.{one_chosen, one_passed}
 use Rattle.lc_listing.proofs.chosen.push_part.Goals as goal
@@ -11,7 +11,7 @@ pub loop-condition-preserved : goal.loop-condition-preserved
 loop-condition-preserved c =
     let point = option_map (λ a. a.now) c.args.words.point in
     let kind = option_map (λ a. a.now) c.args.words.kind in
-    let D = development_shown c.args.development.now in
+    let D = development_view c.args.development.now in
     let ts = c.args.terms.now in
     let cs = c.args.part.now in
     let i = c.loop-condition.condition-index in

@@ -2,16 +2,16 @@ use Rattle.std.proofs.Common.{◌≡◌, ◌+◌, ◌-◌, ◌<◌, ◌≤◌, g
 use Rattle.std.specs.declared.alloc.Global.{Global}
 use Rattle.lc_cond.specs.Stream.{IsEnd, IsNextPart, IsPart, next_number}
 use Rattle.lc_cond.specs.declared.condition.Condition.{Condition}
-use Rattle.lc_outline.specs.DevelopmentView.{development_shown}
+use Rattle.lc_outline.specs.DevelopmentView.{development_view}
 use Rattle.lc_listing.proofs.Places.{ahead_first, ahead_found, ahead_more, ahead_none, at_place}
 use Rattle.lc_listing.proofs.shown.line_at.Goals as goal
 
 pub parts-init : goal.parts-init
-parts-init c = ahead_first (development_shown c.args.development.now) c.in_ok-stream.stream c.args.number c.in_ok-stream.ensures.left c.in_ok-stream.ensures.number
+parts-init c = ahead_first (development_view c.args.development.now) c.in_ok-stream.stream c.args.number c.in_ok-stream.ensures.left c.in_ok-stream.ensures.number
 
 pub returns-in_default : goal.returns-in_default
 returns-in_default c =
-    let D = development_shown c.args.development.now in
+    let D = development_view c.args.development.now in
     let before = c.parts.stream in
     let after = c.next_part.new.self in
     let place = c.args.number - c.first_number.result in
@@ -21,7 +21,7 @@ returns-in_default c =
 
 pub returns-in-Some-get : goal.returns-in-Some-get
 returns-in-Some-get c =
-    let D = development_shown c.args.development.now in
+    let D = development_view c.args.development.now in
     let ts = c.next_part.new.terms in
     let before = c.parts.stream in
     let after = c.next_part.new.self in
@@ -36,7 +36,7 @@ returns-in-Some-get c =
 
 pub parts-preserved : goal.parts-preserved
 parts-preserved c =
-    let D = development_shown c.args.development.now in
+    let D = development_view c.args.development.now in
     let ts = c.next_part.new.terms in
     let before = c.parts.stream in
     let after = c.next_part.new.self in

@@ -4,7 +4,7 @@ use Rattle.lc_naming.proofs.Names.{named_alone}
 use Rattle.lc_naming.specs.ColumnNames.{name_at}
 use Rattle.lc_object.specs.Syntax as O
 use Rattle.lc_object.specs.View.{point_of}
-use Rattle.lc_outline.specs.DevelopmentView.{development_shown}
+use Rattle.lc_outline.specs.DevelopmentView.{development_view}
 use Rattle.lc_listing.proofs.words.point_word.Goals as goal
 
 pub returns-then-place-len : goal.returns-then-place-len
@@ -15,4 +15,4 @@ returns-then-place-len c =
     c.as_str.ensures.text ∙ named_alone (λ (x : O.Point). x.name) point_of items place c.index.result.now below c.index.ensures
     ∙ ap (λ o. name_at (map (λ (x : O.Point). x.name) o.points) place) c.parts-2.ensures.shown
     ∙ ap (λ d. name_at (map (λ (x : O.Point). x.name) d.object.points) place) c.parts.ensures.shown
-    ∙ ap (λ p. or_hyphen (name_at (point_names (development_shown c.args.development.now))) (option_map (λ q. q.0) p)) (sym c.in-Some.is)
+    ∙ ap (λ p. or_hyphen (name_at (point_names (development_view c.args.development.now))) (option_map (λ q. q.0) p)) (sym c.in-Some.is)

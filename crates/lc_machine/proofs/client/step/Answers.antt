@@ -1,7 +1,7 @@
 use Rattle.std.proofs.Common.{ap, sym, ◌∙◌, Err, refl, subst, length}
 use Rattle.std.proofs.lemmas.Result.{err_from_is_err_and}
 use Rattle.lc_term.specs.State.{state_of, column_count}
-use Rattle.lc_object.specs.Objects.{object_shown}
+use Rattle.lc_object.specs.Objects.{object_view}
 use Rattle.lc_machine.specs.Effects.{writes_in, outcome_of}
 use Rattle.lc_machine.specs.World.{In, initial_numbers}
 use Rattle.lc_machine.specs.View.{client_of, variables_of}
@@ -12,13 +12,13 @@ pub returns-in_err-effect-clause-stepped : goal.returns-in_err-effect-clause-ste
 returns-in_err-effect-clause-stepped c =
     let p = err_from_is_err_and c.from_residual.result c.from_residual.ensures.1 in
     let k = client_of c.args.client.now in
-    stepped_err (object_shown c.args.object.now) (state_of c.args.state.now) (state_of c.args.state.now) c.in-In.place k (In c.in-In.place.point.0 (variables_of c.in-In.place))
+    stepped_err (object_view c.args.object.now) (state_of c.args.state.now) (state_of c.args.state.now) c.in-In.place k (In c.in-In.place.point.0 (variables_of c.in-In.place))
     c.in_err-effect.field-0.0 c.from_residual.result (ap client_of c.in-In.is) c.requires.placed (p.1 ∙ ap Err p.2)
-    (subst (IsEffectAt (object_shown c.args.object.now) (state_of c.args.state.now) c.in-In.place) c.in_err-effect.was c.effect.ensures) refl (sym (ap client_of c.in-In.is))
+    (subst (IsEffectAt (object_view c.args.object.now) (state_of c.args.state.now) c.in-In.place) c.in_err-effect.was c.effect.ensures) refl (sym (ap client_of c.in-In.is))
 
 pub commit-requires : goal.commit-requires
 commit-requires c =
-    let object = object_shown c.args.object.now in
+    let object = object_view c.args.object.now in
     let s = state_of c.args.state.now in
     let k = client_of c.args.client.now in
     let e = c.in_ok-effect.effect in
@@ -29,7 +29,7 @@ commit-requires c =
 pub returns-in_err-place-clause-stepped : goal.returns-in_err-place-clause-stepped
 returns-in_err-place-clause-stepped c =
     let p = err_from_is_err_and c.from_residual-in_err-place.result c.from_residual-in_err-place.ensures.1 in
-    let object = object_shown c.args.object.now in
+    let object = object_view c.args.object.now in
     let s = state_of c.args.state.now in
     let k = client_of c.args.client.now in
     let known = subst (IsEffectAt object s c.in-In.place) c.in_ok-effect.was c.effect.ensures in
@@ -38,7 +38,7 @@ returns-in_err-place-clause-stepped c =
 
 pub returns-in-Goes-clause-stepped : goal.returns-in-Goes-clause-stepped
 returns-in-Goes-clause-stepped c =
-    let object = object_shown c.args.object.now in
+    let object = object_view c.args.object.now in
     let s = state_of c.args.state.now in
     let known = subst (IsEffectAt object s c.in-In.place) c.in_ok-effect.was c.effect.ensures in
     stepped_went object s (state_of c.commit.new.state) c.in-In.place c.in-Goes.place (client_of c.args.client.now) c.in_ok-effect.effect (ap client_of c.in-In.is) c.requires.placed known
@@ -46,7 +46,7 @@ returns-in-Goes-clause-stepped c =
 
 pub returns-in-Goes-clause-placed : goal.returns-in-Goes-clause-placed
 returns-in-Goes-clause-placed c =
-    let object = object_shown c.args.object.now in
+    let object = object_view c.args.object.now in
     let s = state_of c.args.state.now in
     let known = subst (IsEffectAt object s c.in-In.place) c.in_ok-effect.was c.effect.ensures in
     fate_placed object s c.in-In.place c.in-Goes.place (client_of c.args.client.now) c.in_ok-effect.effect (ap client_of c.in-In.is) c.requires.placed known
@@ -54,7 +54,7 @@ returns-in-Goes-clause-placed c =
 
 pub returns-in-Answers-clause-stepped : goal.returns-in-Answers-clause-stepped
 returns-in-Answers-clause-stepped c =
-    let object = object_shown c.args.object.now in
+    let object = object_view c.args.object.now in
     let s = state_of c.args.state.now in
     let known = subst (IsEffectAt object s c.in-In.place) c.in_ok-effect.was c.effect.ensures in
     stepped_returned object s (state_of c.commit.new.state) c.in-In.place (client_of c.args.client.now) c.in_ok-effect.effect c.in-Answers.reply (ap client_of c.in-In.is) c.requires.placed known

@@ -6,9 +6,9 @@ use Rattle.std.proofs.lemmas.Int.{to_z-of_z}
 use Rattle.std.proofs.lemmas.Result.{err_from_is_err_and}
 use Rattle.lc_term.specs.State.{state_of}
 use Rattle.lc_term.specs.Updates.{cell_writes}
-use Rattle.lc_term.specs.UpdateView.{writes_shown}
+use Rattle.lc_term.specs.UpdateView.{writes_view}
 use Rattle.lc_term.specs.View.{term_of}
-use Rattle.lc_object.specs.Objects.{object_shown}
+use Rattle.lc_object.specs.Objects.{object_view}
 use Rattle.lc_object.specs.View.{columns_of, terms_of}
 use Rattle.lc_machine.specs.Step.{numbers, row}
 use Rattle.lc_machine.specs.Fits.{ComparisonFits}
@@ -25,7 +25,7 @@ returns-then-not-branch c =
     simp to_z-of_z at c.in_ok-is_row.ensures in
     let olds : c.deref.result.now ≡ numbers s vs (terms_of c.args.old.now) = search rules in
     let parts = rw c.new.ensures at c.in_ok-moving.ensures in
-    keeps (object_shown c.args.object.now) s vs
+    keeps (object_view c.args.object.now) s vs
     c.args.array.0 (term_of c.args.index.now) (terms_of c.args.old.now) (terms_of c.args.new.now) c.args.labels.then.0 c.args.labels.otherwise.0
     c.in_ok-index.index cs c.deref.result.now c.in_ok-moving.field-0
     c.in_ok-index.ensures.0 c.in_ok-index.ensures.1 c.in_ok-old.ensures.0 olds c.row_columns-columns.ensures.columns compared.0 (sym compared.1 ∙ c.if-not-branch.true) c.requires.may_run.6 parts
@@ -40,7 +40,7 @@ returns-in_err-new c =
     let compared : ComparisonFits s cs c.in_ok-index.index c.deref.result.now × (c.in_ok-is_row.field-0 ≡ pointwise int_eq (row s cs c.in_ok-index.index) c.deref.result.now) =
     simp to_z-of_z at c.in_ok-is_row.ensures in
     let olds : c.deref.result.now ≡ numbers s vs (terms_of c.args.old.now) = search rules in
-    rw (p.1, p.2) (not_swapped (object_shown c.args.object.now) s vs
+    rw (p.1, p.2) (not_swapped (object_view c.args.object.now) s vs
     c.args.array.0 (term_of c.args.index.now) (terms_of c.args.old.now) (terms_of c.args.new.now) c.args.labels.then.0 c.args.labels.otherwise.0
     c.in_ok-index.index cs c.deref.result.now
     c.in_ok-index.ensures.1 olds c.row_columns-columns.ensures.columns (sym compared.1 ∙ c.if-not-branch.false) c.in_err-new.ensures)
@@ -55,7 +55,7 @@ returns-in_err-moving c =
     let compared : ComparisonFits s cs c.in_ok-index.index c.deref.result.now × (c.in_ok-is_row.field-0 ≡ pointwise int_eq (row s cs c.in_ok-index.index) c.deref.result.now) =
     simp to_z-of_z at c.in_ok-is_row.ensures in
     let olds : c.deref.result.now ≡ numbers s vs (terms_of c.args.old.now) = search rules in
-    rw (p.1, p.2) (keep_fits (object_shown c.args.object.now) s vs
+    rw (p.1, p.2) (keep_fits (object_view c.args.object.now) s vs
     c.args.array.0 (term_of c.args.index.now) (terms_of c.args.old.now) (terms_of c.args.new.now) c.args.labels.then.0 c.args.labels.otherwise.0
     c.in_ok-index.index cs c.deref.result.now
     c.in_ok-index.ensures.0 c.in_ok-index.ensures.1 c.in_ok-old.ensures.0 olds c.row_columns-columns.ensures.columns compared.0 (sym compared.1 ∙ c.if-not-branch.true))
@@ -70,7 +70,7 @@ returns-in_err-moving-2 c =
     let compared : ComparisonFits s cs c.in_ok-index.index c.deref.result.now × (c.in_ok-is_row.field-0 ≡ pointwise int_eq (row s cs c.in_ok-index.index) c.deref.result.now) =
     simp to_z-of_z at c.in_ok-is_row.ensures in
     let olds : c.deref.result.now ≡ numbers s vs (terms_of c.args.old.now) = search rules in
-    rw (p.1, p.2) (swap_fits (object_shown c.args.object.now) s vs
+    rw (p.1, p.2) (swap_fits (object_view c.args.object.now) s vs
     c.args.array.0 (term_of c.args.index.now) (terms_of c.args.old.now) (terms_of c.args.new.now) c.args.labels.then.0 c.args.labels.otherwise.0
     c.in_ok-index.index cs c.deref.result.now
     c.in_ok-index.ensures.0 c.in_ok-index.ensures.1 c.in_ok-old.ensures.0 olds c.row_columns-columns.ensures.columns compared.0 c.in_ok-new.ensures.0)
@@ -85,9 +85,9 @@ returns c =
     simp to_z-of_z at c.in_ok-is_row.ensures in
     let olds : c.deref.result.now ≡ numbers s vs (terms_of c.args.old.now) = search rules in
     let news : c.deref-2.result.now ≡ numbers s vs (terms_of c.args.new.now) = search rules in
-    let writes : writes_shown c.row_writes-writes.result.items ≡ cell_writes cs c.in_ok-index.index c.deref-2.result.now = simp to_z-of_z at c.row_writes-writes.ensures in
-    swaps (object_shown c.args.object.now) s vs
+    let writes : writes_view c.row_writes-writes.result.items ≡ cell_writes cs c.in_ok-index.index c.deref-2.result.now = simp to_z-of_z at c.row_writes-writes.ensures in
+    swaps (object_view c.args.object.now) s vs
     c.args.array.0 (term_of c.args.index.now) (terms_of c.args.old.now) (terms_of c.args.new.now) c.args.labels.then.0 c.args.labels.otherwise.0
-    c.in_ok-index.index cs c.deref.result.now c.deref-2.result.now (writes_shown c.row_writes-writes.result.items) c.in_ok-moving-2.field-0
+    c.in_ok-index.index cs c.deref.result.now c.deref-2.result.now (writes_view c.row_writes-writes.result.items) c.in_ok-moving-2.field-0
     c.in_ok-index.ensures.0 c.in_ok-index.ensures.1 c.in_ok-old.ensures.0 olds c.row_columns-columns.ensures.columns compared.0 (sym compared.1 ∙ c.if-not-branch.false)
     c.in_ok-new.ensures.0 news c.row_columns-columns.ensures.there writes c.requires.may_run.5 c.in_ok-moving-2.ensures

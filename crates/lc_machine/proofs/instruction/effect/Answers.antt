@@ -2,7 +2,7 @@ use Rattle.std.proofs.Common.{◌≡◌, ap, sym, ◌∙◌, subst, Some}
 use Rattle.std.specs.Prelude.{slice_get}
 use Rattle.std.proofs.lemmas.Option.{same_Some}
 use Rattle.lc_term.specs.State.{state_of, variable_count}
-use Rattle.lc_object.specs.Objects.{object_shown}
+use Rattle.lc_object.specs.Objects.{object_view}
 use Rattle.lc_object.specs.Syntax as S
 use Rattle.lc_object.specs.View.{point_of, parts_of}
 use Rattle.lc_machine.specs.Effects.{IsEffect}
@@ -34,5 +34,5 @@ returns c =
     let at = viewed_at point_of parts.points.items p point (placed (parts_of parts) p n place) c.index-point.ensures in
     λ (other : S.Point) there.
     let same = same_Some (point_of point) other (sym at ∙ ap (λ (o : S.Object). slice_get o.points p) shown ∙ there) in
-    subst (λ (q : S.Point). IsEffect (object_shown c.args.object.now) q.instruction (state_of c.args.state.now) (variables_of c.args.place.now) c.effect_of.result)
+    subst (λ (q : S.Point). IsEffect (object_view c.args.object.now) q.instruction (state_of c.args.state.now) (variables_of c.args.place.now) c.effect_of.result)
     same c.effect_of.ensures

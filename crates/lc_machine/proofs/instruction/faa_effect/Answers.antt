@@ -3,9 +3,9 @@ use Rattle.std.specs.Prelude.{FitsSigned}
 use Rattle.std.proofs.lemmas.Int.{to_z-of_z}
 use Rattle.lc_term.specs.State.{state_of}
 use Rattle.lc_term.specs.Updates.{cell_writes}
-use Rattle.lc_term.specs.UpdateView.{writes_shown}
+use Rattle.lc_term.specs.UpdateView.{writes_view}
 use Rattle.lc_term.specs.View.{term_of}
-use Rattle.lc_object.specs.Objects.{object_shown}
+use Rattle.lc_object.specs.Objects.{object_view}
 use Rattle.lc_object.specs.View.{columns_of, locals_of, terms_of}
 use Rattle.std.proofs.lemmas.List.{length-map}
 use Rattle.lc_base.specs.declared.ids.ColId.{ColId}
@@ -36,12 +36,12 @@ returns c =
     let vs = c.args.variables.now.values.items in
     let cs = columns_of c.row_columns-columns.result.now in
     let read = simp to_z-of_z at c.in_ok-numbers.ensures in
-    let writes : writes_shown c.row_writes-writes.result.items ≡ cell_writes cs c.in_ok-index.index c.deref-3.result.now = simp to_z-of_z at c.row_writes-writes.ensures in
+    let writes : writes_view c.row_writes-writes.result.items ≡ cell_writes cs c.in_ok-index.index c.deref-3.result.now = simp to_z-of_z at c.row_writes-writes.ensures in
     let found : c.deref.result.now ≡ row s cs c.in_ok-index.index = c.deref.ensures.0 ∙ read.1 in
     let given : c.deref-2.result.now ≡ numbers s vs (terms_of c.args.added.now) = c.deref-2.ensures.0 ∙ c.in_ok-added.ensures.1 in
     let goes = c.in_ok-effect.ensures.2 ∙ ap (λ ns. Goes c.args.next.0 (assigned vs (locals_of c.args.targets.now) ns)) (c.deref-4.ensures.0 ∙ sym c.deref.ensures.0) in
-    adds (object_shown c.args.object.now) s vs c.args.array.0 (term_of c.args.index.now) (locals_of c.args.targets.now) (terms_of c.args.added.now) c.args.next.0
-    c.in_ok-index.index cs c.deref.result.now c.deref-2.result.now c.deref-3.result.now (writes_shown c.row_writes-writes.result.items)
+    adds (object_view c.args.object.now) s vs c.args.array.0 (term_of c.args.index.now) (locals_of c.args.targets.now) (terms_of c.args.added.now) c.args.next.0
+    c.in_ok-index.index cs c.deref.result.now c.deref-2.result.now c.deref-3.result.now (writes_view c.row_writes-writes.result.items)
     (record { edge = c.in_ok-effect.effect.edge; writes = c.row_writes-writes.result; fate = c.in_ok-effect.effect.fate })
     c.in_ok-index.ensures.0 c.in_ok-index.ensures.1 c.in_ok-added.ensures.0 given c.row_columns-columns.ensures.columns read.0 found c.in_ok-sums.ensures.0
     (c.deref-3.ensures.0 ∙ c.in_ok-sums.ensures.1) c.row_columns-columns.ensures.there writes c.requires.may_run.5 (c.in_ok-effect.ensures.0, refl, goes)

@@ -2,7 +2,7 @@ use Rattle.std.proofs.Common.{◌<◌, ◌≤◌, sym, subst, length}
 use Rattle.std.proofs.lemmas.List.{length-map}
 use Rattle.lc_base.specs.declared.ids.ColId.{ColId}
 use Rattle.lc_base.specs.Limits.{width_limit}
-use Rattle.lc_object.specs.Objects.{object_shown}
+use Rattle.lc_object.specs.Objects.{object_view}
 use Rattle.lc_object.specs.Syntax as S
 use Rattle.lc_object.specs.View.{array_of, columns_of, parts_of}
 use Rattle.lc_machine.specs.World.{initial_numbers}
@@ -26,5 +26,5 @@ returns-clause-there c =
     let there = subst (λ (o : S.Object). c.args.array.0 < length o.arrays) (sym c.parts.ensures.shown) c.requires in
     let at = viewed_at array_of parts.arrays.items c.args.array.0 array there c.index.ensures in
     let below = concrete_columns (parts_of parts) c.args.array.0 (array_of array) c.parts.ensures.well_formed at in
-    subst (λ cs. AreBelow (length (initial_numbers (object_shown c.args.object.now))) (columns_of cs)) (sym c.deref.ensures.value)
+    subst (λ cs. AreBelow (length (initial_numbers (object_view c.args.object.now))) (columns_of cs)) (sym c.deref.ensures.value)
     (subst (λ o. AreBelow (length (initial_numbers o)) (columns_of array.columns.items)) c.parts.ensures.shown below)

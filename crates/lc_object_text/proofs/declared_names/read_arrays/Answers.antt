@@ -2,7 +2,7 @@ use Rattle.std.proofs.Common.{length, ◌∙◌}
 use Rattle.std.specs.Prelude.{codes}
 use Rattle.lc_sexp.specs.Shown.{rest_of}
 use Rattle.lc_reading.specs.TableView.{listed}
-use Rattle.lc_object_text.specs.DeclaredView.{spans_seen}
+use Rattle.lc_object_text.specs.DeclaredView.{spans_view}
 use Rattle.lc_object_text.specs.ObjectNames.{later}
 use Rattle.lc_object_text.proofs.SectionWalk.{array_columns, array_names, array_spans, columns_then}
 use Rattle.lc_object_text.proofs.declared_names.read_arrays.Goals as goal
@@ -19,6 +19,6 @@ rows-preserved c =
     record {
       columns = array_columns word old new parts (listed a.columns) (listed more.columns) c.in-Some.ensures c.in_ok-more.ensures.columns ∙ c.rows.invariant.columns;
       names = array_names word old new parts (listed a.names) (listed more.names) c.in-Some.ensures c.in_ok-more.ensures.names ∙ c.rows.invariant.names;
-      spans = array_spans word old new parts (length (listed a.columns)) (length (listed more.columns)) (spans_seen a.spans.items) (spans_seen more.spans.items) c.in-Some.ensures c.in_ok-more.ensures.spans next
+      spans = array_spans word old new parts (length (listed a.columns)) (length (listed more.columns)) (spans_view a.spans.items) (spans_view more.spans.items) c.in-Some.ensures c.in_ok-more.ensures.spans next
           ∙ c.rows.invariant.spans;
     }

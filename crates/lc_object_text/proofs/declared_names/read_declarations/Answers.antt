@@ -1,13 +1,13 @@
 use Rattle.std.proofs.Common.{◌++◌, length, map, ap, ap₂, ◌∙◌}
 use Rattle.lc_sexp.specs.Shown.{rest_of}
 use Rattle.lc_object_text.specs.ObjectNames.{first_text, call_of, names_of_columns, columns_of_arrays, spans_from, bodies_from, bodies_due, labels_of_bodies, arrays_in, operations_in}
-use Rattle.lc_object_text.specs.Seen.{sections_seen}
+use Rattle.lc_object_text.specs.Seen.{sections_view}
 use Rattle.lc_object_text.proofs.SectionWalk.{same_declared, mapped_length}
 use Rattle.lc_object_text.proofs.declared_names.read_declarations.Goals as goal
 
 pub returns : goal.returns
 returns c =
-    let s = sections_seen c.args.sections.now in
+    let s = sections_view c.args.sections.now in
     let ops = operations_in s in
     let a = c.in_ok-first.ensures.names ∙ ap₂ (λ xs ts. xs ++ names_of_columns ts) c.new-nothing.ensures c.items_in_first-abstract_items.ensures.rest in
     let b = c.in_ok-arrays.ensures.columns ∙ ap (λ xs. xs ++ columns_of_arrays (arrays_in s)) a in

@@ -1,7 +1,7 @@
 use Rattle.std.proofs.Common.{arith, ◌≡◌, [], map, length, ap}
 use Rattle.lc_object.specs.View.{operation_of, point_of}
 use Rattle.lc_object_text.specs.Objects.{operations_from}
-use Rattle.lc_object_text.specs.Texts.{signature_shown, body_shown, bodies_shown}
+use Rattle.lc_object_text.specs.Texts.{signature_view, body_text_view, body_texts_view}
 use Rattle.lc_object_text.proofs.MadeParts.{operations_done, no_items}
 use Rattle.lc_object_text.proofs.made.made_code.Goals as goal
 
@@ -11,5 +11,5 @@ returns-clause-operations c =
     let kept = l.body-iterator.rest.ok in
     let ended = c.in-None.ensures.steps in
     let none_left : l.body-iterator.rest.items ≡ [] = no_items l.body-iterator.rest.items (omega arith) in
-    operations_done (map operation_of l.operations.items) (operations_from 0 (map signature_shown c.args.signatures.items) (bodies_shown c.args.bodies)) (length l.points.items) (map signature_shown l.signatures.rest.items)
-    (map (body_shown point_of) l.body-iterator.rest.items) (ap (map (body_shown point_of)) none_left) l.invariant.operations
+    operations_done (map operation_of l.operations.items) (operations_from 0 (map signature_view c.args.signatures.items) (body_texts_view c.args.bodies)) (length l.points.items) (map signature_view l.signatures.rest.items)
+    (map (body_text_view point_of) l.body-iterator.rest.items) (ap (map (body_text_view point_of)) none_left) l.invariant.operations

@@ -1,7 +1,7 @@
 use Rattle.std.proofs.Common.{◌+◌, refl}
 use Rattle.lc_sexp.specs.Shown.{owner_of}
 use Rattle.lc_reading.specs.Parts.{tree_of, place_of}
-use Rattle.lc_object_text.specs.DeclaredView.{declared_seen, body_seen}
+use Rattle.lc_object_text.specs.DeclaredView.{declared_view, body_view}
 use Rattle.lc_object_text.specs.Instructions.{instruction_reading}
 use Rattle.lc_object_text.specs.ObjectNames.{code_names, body_names}
 use Rattle.lc_object_text.specs.Points.{point_name_reading}
@@ -10,8 +10,8 @@ use Rattle.lc_object_text.proofs.point.read_point_parts.Goals as goal
 
 pub returns : goal.returns
 returns g c =
-    let d = declared_seen c.args.reader.now.scope.declared.now in
-    let b = body_seen c.args.reader.now.scope.body.now in
+    let d = declared_view c.args.reader.now.scope.declared.now in
+    let b = body_view c.args.reader.now.scope.body.now in
     let before = b.first + c.args.place in
     let (at1, next1) = c.in_ok-name.ensures in
     let (at2, next2) = c.in_ok-code.ensures in
@@ -24,7 +24,7 @@ returns g c =
 
 pub returns-in_err-is_shaped : goal.returns-in_err-is_shaped
 returns-in_err-is_shaped g c =
-    let d = declared_seen c.args.reader.now.scope.declared.now in
-    let b = body_seen c.args.reader.now.scope.body.now in
+    let d = declared_view c.args.reader.now.scope.declared.now in
+    let b = body_view c.args.reader.now.scope.body.now in
     let instruction = instruction_reading (code_names d b) (body_names d b) (place_of c.in_ok-code.code) (tree_of c.in_ok-code.code) in
     nothing_told g.B.ReadsBeside.meaning _ _ c.from_residual-in_err-is_shaped.result (c.in_err-is_shaped.ensures instruction c.read_instruction-instruction.ensures) c.from_residual-in_err-is_shaped.ensures.1

@@ -1,5 +1,5 @@
 use Rattle.std.proofs.Common.{◌++◌, string_bytes, ap, ◌∙◌}
-use Rattle.lc_outline.specs.PartsView.{parts_shown}
+use Rattle.lc_outline.specs.PartsView.{parts_view}
 use Rattle.lc_reading.specs.Words.{names_in}
 use Rattle.lc_sexp.specs.Printed.{printed_tree}
 use Rattle.lc_outline_print.specs.Developments.{object_tree, development_printed}
@@ -10,7 +10,7 @@ use Rattle.lc_outline_print.proofs.development.development_text.Goals as goal
 
 pub returns : goal.returns
 returns c =
-    let E = parts_shown c.parts-parts.result.now in
+    let E = parts_view c.parts-parts.result.now in
     let columns = ap names_in c.deref.ensures.value ∙ c.in_ok-columns.ensures in
     ap (λ v. v.items) c.into_bytes.ensures.value
     ∙ lines_text (specification_tree (column_names E) E.specification) (object_tree E) _ _ _ _ _ c.new-out.ensures.bytes

@@ -3,7 +3,7 @@ use Rattle.std.proofs.lemmas.Result.{on_ok_weaker}
 use Rattle.lc_action.specs.ActionView.{action_of}
 use Rattle.lc_object.specs.Syntax.{Object}
 use Rattle.lc_object.specs.View.{array_of, parts_of}
-use Rattle.lc_outline.specs.PartsView.{parts_shown}
+use Rattle.lc_outline.specs.PartsView.{parts_view}
 use Rattle.lc_sexp.specs.Printed.{printed_others}
 use Rattle.lc_sexp.specs.Trees.{row}
 use Rattle.lc_outline_print.specs.Beside.{action_tree}
@@ -15,7 +15,7 @@ use Rattle.lc_outline_print.proofs.development.write_tables.Goals as goal
 
 pub returns : goal.returns
 returns c =
-    let D = parts_shown c.args.parts.now in
+    let D = parts_view c.args.parts.now in
     let old = string_bytes c.args.out.now in
     let before = string_bytes c.write_auxiliaries.new.out in
     on_ok_weaker c.write_actions.result

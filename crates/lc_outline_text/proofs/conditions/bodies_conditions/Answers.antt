@@ -2,20 +2,20 @@ use Rattle.std.proofs.Common.{arith}
 use Rattle.lc_sexp.specs.Shown.{rest_of}
 use Rattle.lc_outline_text.proofs.Counting.{counted, counted_more, enough, few_counted}
 use Rattle.lc_outline_text.proofs.Walks.{no_trees, no_bodies, body_more}
-use Rattle.lc_outline_text.specs.DeclarationsView.{declarations_seen}
-use Rattle.lc_outline_text.specs.Views.{totals_seen}
+use Rattle.lc_outline_text.specs.DeclarationsView.{declarations_view}
+use Rattle.lc_outline_text.specs.Views.{totals_view}
 use Rattle.lc_outline_text.proofs.conditions.bodies_conditions.Goals as goal
 
 pub returns-in_default-clause-count : goal.returns-in_default-clause-count
 returns-in_default-clause-count c =
-    let d = declarations_seen c.args.declarations.now in
-    let n = totals_seen c.args.totals in
+    let d = declarations_view c.args.declarations.now in
+    let n = totals_view c.args.totals in
     counted c.loop-body.count _ _ c.loop-body.invariant.few (no_trees d n c.loop-body.operation _ (rest_of c.loop-body.rest) c.in_default.ensures.1) c.loop-body.invariant.conditions
 
 pub loop-body-preserved : goal.loop-body-preserved
 loop-body-preserved c =
-    let d = declarations_seen c.args.declarations.now in
-    let n = totals_seen c.args.totals in
+    let d = declarations_view c.args.declarations.now in
+    let n = totals_view c.args.totals in
     let (at, next) = c.in-Ok.ensures in
     record {
       set = c.in_ok-more.ensures.set;
@@ -29,8 +29,8 @@ loop-body-preserved c =
 
 pub returns-clause-count : goal.returns-clause-count
 returns-clause-count c =
-    let d = declarations_seen c.args.declarations.now in
-    let n = totals_seen c.args.totals in
+    let d = declarations_view c.args.declarations.now in
+    let n = totals_view c.args.totals in
     counted c.loop-body.count _ _ c.loop-body.invariant.few
     (no_bodies d n c.loop-body.operation c.loop-body.body-index c.args.declarations.now.declared.bodies.items c.deref-body-items.result.now (rest_of c.loop-body.rest) c.loop-body-test.false c.deref-body-items.ensures.value)
     c.loop-body.invariant.conditions

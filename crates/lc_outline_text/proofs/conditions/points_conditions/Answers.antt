@@ -1,22 +1,22 @@
 use Rattle.std.proofs.Common.{ap}
 use Rattle.std.specs.Prelude.{sum_by}
 use Rattle.lc_sexp.specs.Shown.{rest_of}
-use Rattle.lc_object_text.specs.DeclaredView.{body_seen}
+use Rattle.lc_object_text.specs.DeclaredView.{body_view}
 use Rattle.lc_outline_text.proofs.Counting.{counted, counted_more, enough, few_counted}
 use Rattle.lc_outline_text.proofs.Walks.{point_more}
-use Rattle.lc_outline_text.specs.DeclarationsView.{declarations_seen}
+use Rattle.lc_outline_text.specs.DeclarationsView.{declarations_view}
 use Rattle.lc_outline_text.specs.Sizes.{point_conditions}
-use Rattle.lc_outline_text.specs.Views.{totals_seen}
+use Rattle.lc_outline_text.specs.Views.{totals_view}
 use Rattle.lc_outline_text.proofs.conditions.points_conditions.Goals as goal
 
 pub returns-in_default-clause-count : goal.returns-in_default-clause-count
 returns-in_default-clause-count c =
-    let each = point_conditions (declarations_seen c.args.counting.declarations.now) (totals_seen c.args.counting.totals) c.args.counting.operation (body_seen c.args.counting.body.now) c.args.counting.asserts.now in
+    let each = point_conditions (declarations_view c.args.counting.declarations.now) (totals_view c.args.counting.totals) c.args.counting.operation (body_view c.args.counting.body.now) c.args.counting.asserts.now in
     counted c.points.count _ _ c.points.invariant.few (ap (sum_by each) c.in_default.ensures) c.points.invariant.counted
 
 pub points-preserved : goal.points-preserved
 points-preserved c =
-    let each = point_conditions (declarations_seen c.args.counting.declarations.now) (totals_seen c.args.counting.totals) c.args.counting.operation (body_seen c.args.counting.body.now) c.args.counting.asserts.now in
+    let each = point_conditions (declarations_view c.args.counting.declarations.now) (totals_view c.args.counting.totals) c.args.counting.operation (body_view c.args.counting.body.now) c.args.counting.asserts.now in
     record {
       set = c.in_ok-more.ensures.set;
       few = few_counted c.capped_sum-count.result _ c.capped_sum-count.ensures;

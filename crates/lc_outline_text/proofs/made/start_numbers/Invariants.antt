@@ -1,5 +1,5 @@
 use Rattle.std.proofs.Common.{◌≡◌, ◌++◌, map, take}
-use Rattle.lc_object.specs.View.{column_shown}
+use Rattle.lc_object.specs.View.{column_view}
 use Rattle.lc_seq.specs.SpecView.{column_of}
 use Rattle.lc_seq.specs.Specification as Q
 use Rattle.lc_object.specs.Syntax as O
@@ -11,9 +11,9 @@ invariant-loop-column l = l.numbers.items ≡ map (λ (c : Q.Column). (c.slope, 
 
 abbrev pub invariant-loop-column-2 : goal.invariant-loop-column-2
 invariant-loop-column-2 l =
-    l.numbers.items ≡ map (λ (c : Q.Column). (c.slope, c.start)) (map column_of l.abstracts) ++ map (λ (c : O.Column). (c.slope, c.start)) (map column_shown (take l.column-index l.concretes))
+    l.numbers.items ≡ map (λ (c : Q.Column). (c.slope, c.start)) (map column_of l.abstracts) ++ map (λ (c : O.Column). (c.slope, c.start)) (map column_view (take l.column-index l.concretes))
 
 abbrev pub invariant-loop-column-3 : goal.invariant-loop-column-3
 invariant-loop-column-3 l =
-    l.numbers.items ≡ (map (λ (c : Q.Column). (c.slope, c.start)) (map column_of l.abstracts) ++ map (λ (c : O.Column). (c.slope, c.start)) (map column_shown l.concretes))
+    l.numbers.items ≡ (map (λ (c : Q.Column). (c.slope, c.start)) (map column_of l.abstracts) ++ map (λ (c : O.Column). (c.slope, c.start)) (map column_view l.concretes))
     ++ map (λ (c : Q.Column). (c.slope, c.start)) (map column_of (take l.column-index l.auxiliaries))

@@ -1,7 +1,7 @@
 use Rattle.std.proofs.Common.{◌+◌, [], ap, sym, ◌∙◌, arith}
 use Rattle.lc_object.specs.View.{columns_of}
 use Rattle.lc_outline_text.specs.Paths.{path_number}
-use Rattle.lc_outline_text.specs.StoredView.{riders_seen}
+use Rattle.lc_outline_text.specs.StoredView.{ways_of_riders}
 use Rattle.lc_outline_text.specs.Views.{capped}
 use Rattle.lc_outline_text.proofs.Paths.{sum_below, on_path, path_by_path, below_more, below_next}
 use Rattle.lc_outline_text.proofs.RidersPassed.{next_path, past_cap}
@@ -9,7 +9,7 @@ use Rattle.lc_outline_text.proofs.path_counts.conditions_on_all.Goals as goal
 
 pub loop-number-preserved : goal.loop-number-preserved
 loop-number-preserved c =
-    let f = on_path [] (riders_seen c.args.riders.now) c.args.asked (columns_of c.args.columns.now) in
+    let f = on_path [] (ways_of_riders c.args.riders.now) c.args.asked (columns_of c.args.columns.now) in
     let n = c.loop-number.number in
     record {
       set = c.in_ok-more.ensures.set;
@@ -19,7 +19,7 @@ loop-number-preserved c =
 
 pub returns-then-count-ge-COUNT_CAP-clause-count : goal.returns-then-count-ge-COUNT_CAP-clause-count
 returns-then-count-ge-COUNT_CAP-clause-count c =
-    let rs = riders_seen c.args.riders.now in
+    let rs = ways_of_riders c.args.riders.now in
     let columns = columns_of c.args.columns.now in
     let f = on_path [] rs c.args.asked columns in
     let all = c.requires.all in
@@ -29,7 +29,7 @@ returns-then-count-ge-COUNT_CAP-clause-count c =
 
 pub returns-clause-count : goal.returns-clause-count
 returns-clause-count c =
-    let rs = riders_seen c.args.riders.now in
+    let rs = ways_of_riders c.args.riders.now in
     let columns = columns_of c.args.columns.now in
     let f = on_path [] rs c.args.asked columns in
     let all = c.requires.all in

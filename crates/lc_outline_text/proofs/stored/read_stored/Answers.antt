@@ -1,5 +1,5 @@
 use Rattle.std.proofs.Common.{[], ◌∷◌, map, ap, ◌∙◌}
-use Rattle.lc_outline_text.specs.DeclarationsView.{declarations_seen}
+use Rattle.lc_outline_text.specs.DeclarationsView.{declarations_view}
 use Rattle.lc_outline_text.specs.Rests.{rests_of, lists_of_rests}
 use Rattle.lc_outline_text.specs.StoredView.{acted_kept, both_kept, by_branches, by_choices}
 use Rattle.lc_outline_text.proofs.StoredThere.{chosen_each}
@@ -7,7 +7,7 @@ use Rattle.lc_outline_text.proofs.stored.read_stored.Goals as goal
 
 pub returns-clause-stored : goal.returns-clause-stored
 returns-clause-stored c =
-    let d = declarations_seen c.args.declarations.now in
+    let d = declarations_view c.args.declarations.now in
     let columns = d.declared.columns in
     record {
       actions = c.in_ok-actions.ensures.rows ∙ ap (λ cs. map (acted_kept columns) (rests_of cs)) c.deref.ensures.value;

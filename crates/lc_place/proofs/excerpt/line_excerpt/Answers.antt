@@ -1,5 +1,5 @@
 use Rattle.std.proofs.Common.{◌≡◌, ◌+◌, ◌-◌, min, length, slice_range, ap, ◌∙◌, arith}
-use Rattle.lc_place.specs.Excerpt.{characters_in, marks_shown}
+use Rattle.lc_place.specs.Excerpt.{characters_in, shown_marks}
 use Rattle.lc_place.proofs.Windows.{excerpt_is}
 use Rattle.lc_place.proofs.excerpt.line_excerpt.Goals as goal
 
@@ -16,4 +16,4 @@ returns c =
     let r : 160 - c.characters_in-room.result ≡ 160 - characters_in (slice_range bytes from start) = ap (λ n. 160 - n) c.characters_in-room.ensures in
     let u : start + c.min.result ≡ start + min size (to - start) = omega arith in
     excerpt_is bytes c.args.place.offset size start from to (160 - c.characters_in-room.result) c.in_ok-line.line.items c.in_ok-marks.marks.items e a.before a.in_line a.few r b.behind b.within b.in_line b.few
-    c.in_ok-line.ensures (c.in_ok-marks.ensures ∙ ap (λ n. marks_shown bytes from start n) u)
+    c.in_ok-line.ensures (c.in_ok-marks.ensures ∙ ap (λ n. shown_marks bytes from start n) u)

@@ -1,5 +1,5 @@
 use Rattle.std.proofs.Common.{◌≡◌, ℕ, true, List, length, subst}
-use Rattle.lc_outline.specs.DevelopmentView.{development_shown}
+use Rattle.lc_outline.specs.DevelopmentView.{development_view}
 use Rattle.lc_cert.specs.OneByOne.{IsFrame}
 use Rattle.lc_cond.specs.Conditions.{conditions}
 use Rattle.lc_pool.specs.Known.{IsKnown, at_place}
@@ -8,7 +8,7 @@ use Rattle.lc_pool.proofs.checking.proven_in_pieces.Goals as goal
 
 pub returns-then-branch : goal.returns-then-branch
 returns-then-branch g c =
-    let D = development_shown c.args.development.now in
+    let D = development_view c.args.development.now in
     let cert = c.args.cert.now in
     let places = c.in-Some.cuts.places.items in
     let items = c.in-Some.cuts.items.items in

@@ -8,7 +8,7 @@ use Rattle.lc_seq.proofs.Runs.{dropped, dropped_all, and_right}
 use Rattle.lc_rider.specs.RiderView.{rider_of, riders_of}
 use Rattle.lc_ride.specs.Riding.{do_rider, do_all}
 use Rattle.lc_ride.specs.RidingFits.{RiderFits, RidersFit}
-use Rattle.lc_ride.specs.RideView.{AreThere, IsRidden, rider_is_seen}
+use Rattle.lc_ride.specs.RideView.{AreThere, IsRidden, rider_is_evaluable}
 use Rattle.lc_ride.proofs.Deeding.{faulted}
 use Rattle.lc_ride.proofs.InOrder.{Answers, none-left, one-done, one-not-done}
 use Rattle.lc_ride.proofs.riding.ride_all.Goals as goal
@@ -88,13 +88,13 @@ loop-rider-preserved c =
     let is-done : c.in_ok-do_rider.field-0 ≡ true = search rules in
     let one : IsRidden (RiderFits ops first x o e m r) (do_rider ops first x o e m r) marks new mid (Ok true) =
     subst (λ b. IsRidden (RiderFits ops first x o e m r) (do_rider ops first x o e m r) marks new mid (Ok b)) is-done c.in_ok-do_rider.ensures.done in
-    let seen : list_all (rider_is_seen n v) rs ≡ true =
-    and_right (rider_is_seen n v r) (list_all (rider_is_seen n v) rs) (subst (λ xs. list_all (rider_is_seen n v) xs ≡ true) front c.loop-rider.invariant.seen) in
+    let seen : list_all (rider_is_evaluable n v) rs ≡ true =
+    and_right (rider_is_evaluable n v r) (list_all (rider_is_evaluable n v) rs) (subst (λ xs. list_all (rider_is_evaluable n v) xs ≡ true) front c.loop-rider.invariant.seen) in
     let columns : draft_columns c.do_rider.new.draft ≡ n = search rules in
     let from-start : draft_columns c.do_rider.new.draft ≡ draft_columns c.args.draft.now = search rules in
     let saved : saved_in_draft c.do_rider.new.draft ≡ saved_in_draft c.args.draft.now = search rules in
     record {
-      seen = subst (λ k. list_all (rider_is_seen k v) rs ≡ true) (sym columns) seen;
+      seen = subst (λ k. list_all (rider_is_evaluable k v) rs ≡ true) (sym columns) seen;
       leads = λ after end answer h. c.loop-rider.invariant.leads after end answer
           (subst (λ xs. Answers ops first x o e m xs marks after end answer) (sym front) (one-done ops first x o e m r rs mid marks new after end answer one h));
       saved = saved;

@@ -9,7 +9,7 @@ use Rattle.lc_reading.specs.Results.{IsReading}
 use Rattle.lc_rider_text.proofs.Capped.{over_cap}
 use Rattle.lc_rider_text.proofs.Parts.{on_found}
 use Rattle.lc_rider_text.specs.Edges.{is_refused}
-use Rattle.lc_rider_text.specs.KnownView.{known_seen, ways_there}
+use Rattle.lc_rider_text.specs.KnownView.{known_view, ways_there}
 use Rattle.lc_rider_text.specs.Ons.{step_reading}
 use Rattle.lc_rider_text.specs.Paths.{path_count}
 use Rattle.lc_rider_text.specs.Riders.{riders_reading}
@@ -17,7 +17,7 @@ use Rattle.lc_rider_text.proofs.on.read_on_parts.Goals as goal
 
 pub returns : goal.returns
 returns g c =
-    let known = known_seen c.args.known in
+    let known = known_view c.args.known in
     let names = g.S.Scope.names c.args.scope.now in
     let own = ways_there c.args.own in
     let t = c.in_ok-edge.edge in

@@ -1,14 +1,14 @@
 use Rattle.std.proofs.Common.{refl}
 use Rattle.lc_reading.proofs.Combined.{headed_at}
 use Rattle.lc_rider_text.specs.Heads.{head_of}
-use Rattle.lc_rider_text.specs.KnownView.{known_seen, ways_there}
+use Rattle.lc_rider_text.specs.KnownView.{known_view, ways_there}
 use Rattle.lc_rider_text.specs.Riders.{deed_with, deed_reading}
 use Rattle.lc_rider_text.specs.Seen.{deed_of}
 use Rattle.lc_rider_text.proofs.rider.read_deed.Goals as goal
 
 pub returns : goal.returns
 returns g c =
-    let known = known_seen c.args.known in
+    let known = known_view c.args.known in
     let names = g.S.Scope.names c.args.scope.now in
     let own = ways_there c.args.own in
     let w = c.in_ok-word.word.now in

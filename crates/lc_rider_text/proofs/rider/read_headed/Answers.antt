@@ -3,7 +3,7 @@ use Rattle.lc_reading.proofs.Combined.{ended_read}
 use Rattle.lc_reading.specs.Readings.{mapped}
 use Rattle.lc_rider.specs.Rider.{Marks, Own, Note}
 use Rattle.lc_rider_text.specs.Choices.{in_order_reading, by_reading}
-use Rattle.lc_rider_text.specs.KnownView.{known_seen, ways_there}
+use Rattle.lc_rider_text.specs.KnownView.{known_view, ways_there}
 use Rattle.lc_rider_text.specs.Seen.{deed_of}
 use Rattle.lc_rider_text.specs.Updates.{update_reading}
 use Rattle.lc_rider_text.specs.declared.update.Stores.TheVariants.{InAuxiliary}
@@ -12,7 +12,7 @@ use Rattle.lc_rider_text.proofs.rider.read_headed.Goals as goal
 pub returns-in-Set : goal.returns-in-Set
 returns-in-Set g c =
     let l = c.args.list in
-    rw c.in-Set.is (c.made_store.ensures (update_reading InAuxiliary (known_seen c.args.known) (g.S.Scope.names c.args.scope.now) (owner_of l) (number_of l) (rest_of l)) c.read_update.ensures)
+    rw c.in-Set.is (c.made_store.ensures (update_reading InAuxiliary (known_view c.args.known) (g.S.Scope.names c.args.scope.now) (owner_of l) (number_of l) (rest_of l)) c.read_update.ensures)
 
 pub returns-in-Lin : goal.returns-in-Lin
 returns-in-Lin g c =

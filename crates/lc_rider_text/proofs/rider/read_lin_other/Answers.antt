@@ -6,14 +6,14 @@ use Rattle.lc_reading.specs.Readings.{both}
 use Rattle.lc_reading.specs.Results.{IsReading}
 use Rattle.lc_rider_text.proofs.Parts.{lin_other_found}
 use Rattle.lc_rider_text.specs.Choices.{in_order_reading}
-use Rattle.lc_rider_text.specs.KnownView.{known_seen}
+use Rattle.lc_rider_text.specs.KnownView.{known_view}
 use Rattle.lc_rider_text.specs.Riders.{other_reading, ways_named, mark_of_other}
 use Rattle.lc_rider_text.specs.Seen.{deed_of}
 use Rattle.lc_rider_text.proofs.rider.read_lin_other.Goals as goal
 
 pub returns : goal.returns
 returns g c =
-    let known = known_seen c.args.known in
+    let known = known_view c.args.known in
     let names = g.S.Scope.names c.args.scope.now in
     let t = c.in_ok-client.client in
     let u = c.in_ok-client.operation in

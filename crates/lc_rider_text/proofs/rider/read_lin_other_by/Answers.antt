@@ -4,14 +4,14 @@ use Rattle.lc_reading.specs.Parts.{tree_of, place_of}
 use Rattle.lc_reading.specs.Results.{IsReading}
 use Rattle.lc_rider_text.proofs.Parts.{lin_other_by_found}
 use Rattle.lc_rider_text.specs.Choices.{by_reading}
-use Rattle.lc_rider_text.specs.KnownView.{known_seen}
+use Rattle.lc_rider_text.specs.KnownView.{known_view}
 use Rattle.lc_rider_text.specs.Riders.{other_reading, ways_named}
 use Rattle.lc_rider_text.specs.Seen.{deed_of}
 use Rattle.lc_rider_text.proofs.rider.read_lin_other_by.Goals as goal
 
 pub returns : goal.returns
 returns g c =
-    let known = known_seen c.args.known in
+    let known = known_view c.args.known in
     let names = g.S.Scope.names c.args.scope.now in
     let t = c.in_ok-client.client in
     let u = c.in_ok-operation.operation in

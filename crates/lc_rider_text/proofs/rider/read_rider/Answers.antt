@@ -4,13 +4,13 @@ use Rattle.lc_reading.proofs.Combined.{headed_at}
 use Rattle.lc_reading.specs.Readings.{mapped}
 use Rattle.lc_rider.specs.RiderView.{rider_of}
 use Rattle.lc_rider_text.specs.Heads.{head_of}
-use Rattle.lc_rider_text.specs.KnownView.{known_seen, ways_there}
+use Rattle.lc_rider_text.specs.KnownView.{known_view, ways_there}
 use Rattle.lc_rider_text.specs.Riders.{deed_with, when_reading, always, where_holds, rider_reading}
 use Rattle.lc_rider_text.proofs.rider.read_rider.Goals as goal
 
 pub returns-then-eq : goal.returns-then-eq
 returns-then-eq g c =
-    let known = known_seen c.args.known in
+    let known = known_view c.args.known in
     let names = g.S.Scope.names c.args.scope.now in
     let own = ways_there c.args.own in
     let l = c.in_ok-word.parts in
@@ -21,7 +21,7 @@ returns-then-eq g c =
 
 pub returns : goal.returns
 returns g c =
-    let known = known_seen c.args.known in
+    let known = known_view c.args.known in
     let names = g.S.Scope.names c.args.scope.now in
     let own = ways_there c.args.own in
     let l = c.in_ok-word.parts in

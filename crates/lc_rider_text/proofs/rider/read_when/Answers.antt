@@ -4,7 +4,7 @@ use Rattle.lc_reading.proofs.Combined.{two_parts}
 use Rattle.lc_rider.specs.RiderView.{formula_in}
 use Rattle.lc_text.specs.Formulas.{formula_reading}
 use Rattle.lc_text.specs.Terms.{pair}
-use Rattle.lc_rider_text.specs.KnownView.{known_seen, ways_there}
+use Rattle.lc_rider_text.specs.KnownView.{known_view, ways_there}
 use Rattle.lc_rider_text.specs.Riders.{deed_reading, when_reading}
 use Rattle.lc_rider_text.specs.Scopes.{quiet}
 use Rattle.lc_rider_text.specs.Seen.{deed_of}
@@ -12,7 +12,7 @@ use Rattle.lc_rider_text.proofs.rider.read_when.Goals as goal
 
 pub returns : goal.returns
 returns g c =
-    let known = known_seen c.args.known in
+    let known = known_view c.args.known in
     let names = g.S.Scope.names c.args.scope.now in
     let own = ways_there c.args.own in
     two_parts formula_in deed_of pair (formula_reading (quiet names) []) (deed_reading known names own) (when_reading known names own (owner_of c.args.list)) c.args.list

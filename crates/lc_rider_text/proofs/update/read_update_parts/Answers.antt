@@ -3,13 +3,13 @@ use Rattle.lc_sexp.specs.Shown.{owner_of}
 use Rattle.lc_term.specs.View.{term_of}
 use Rattle.lc_reading.proofs.Combined.{three_parts}
 use Rattle.lc_text.specs.Terms.{triple, term_reading}
-use Rattle.lc_rider_text.specs.KnownView.{known_seen}
+use Rattle.lc_rider_text.specs.KnownView.{known_view}
 use Rattle.lc_rider_text.specs.Updates.{stored_reading, update_parts_reading}
 use Rattle.lc_rider_text.proofs.update.read_update_parts.Goals as goal
 
 pub returns : goal.returns
 returns g c =
-    let known = known_seen c.args.known in
+    let known = known_view c.args.known in
     let names = g.S.Scope.names c.args.scope.now in
     three_parts (λ column. column.0) term_of term_of triple (stored_reading c.args.stores known) (term_reading names []) (term_reading names [])
     (update_parts_reading c.args.stores known names (owner_of c.args.list)) c.args.list

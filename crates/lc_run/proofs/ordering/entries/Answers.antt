@@ -1,7 +1,7 @@
 use Rattle.std.proofs.Common.{◌≡◌, ◌-◌, true, ◌∷◌, length, drop, sym, ap, subst, ◌∙◌, arith}
 use Rattle.std.specs.List.{list_all}
 use Rattle.lc_sound.specs.Happening.{counted}
-use Rattle.lc_run.specs.Ordering.{entries_shown, happening_of, happenings_of, returns_in, is_within, is_small}
+use Rattle.lc_run.specs.Ordering.{order_entries, happening_of, happenings_of, returns_in, is_within, is_small}
 use Rattle.lc_run.proofs.Happened.{next-left, behind-small, first-small, first-within, shown-reverse}
 use Rattle.lc_run.proofs.ordering.entries.Goals as goal
 
@@ -27,4 +27,4 @@ pub returns : goal.returns
 returns c =
     let hs = c.args.happenings.now in
     let none : c.loop-place.place ≡ 0 = omega arith in
-    ap entries_shown c.reverse.ensures.items ∙ (shown-reverse c.loop-place.entries.items ∙ (c.loop-place.invariant.2 ∙ ap (λ k. counted (happenings_of (drop k hs))) none))
+    ap order_entries c.reverse.ensures.items ∙ (shown-reverse c.loop-place.entries.items ∙ (c.loop-place.invariant.2 ∙ ap (λ k. counted (happenings_of (drop k hs))) none))

@@ -8,18 +8,18 @@ use Rattle.lc_reading.specs.Results.{IsReading}
 use Rattle.lc_reading.specs.TableView.{listed}
 use Rattle.lc_seq.specs.SpecView.{operation_of}
 use Rattle.lc_spec_text.specs.Operations.{the_operation, operation_parts_reading}
-use Rattle.lc_spec_text.specs.ScopeView.{columns_seen}
+use Rattle.lc_spec_text.specs.ScopeView.{columns_view}
 use Rattle.lc_spec_text.proofs.Parts.{misfit_told}
 use Rattle.lc_spec_text.proofs.operation.read_form.Goals as goal
 
 pub returns-in_err-list : goal.returns-in_err-list
 returns-in_err-list c =
-    let read = operation_parts_reading (columns_seen c.args.columns) (listed c.args.before.now) in
+    let read = operation_parts_reading (columns_view c.args.columns) (listed c.args.before.now) in
     misfit_told operation_of _ c.in_err-list.field-0.0 _ (ap (mapped the_operation) (behind_reading-err (codes "op") read c.args.part c.in_err-list.field-0.0 c.in_err-list.ensures)) c.from_residual.ensures.1
 
 pub returns : goal.returns
 returns c =
-    let read = operation_parts_reading (columns_seen c.args.columns) (listed c.args.before.now) in
+    let read = operation_parts_reading (columns_view c.args.columns) (listed c.args.before.now) in
     let l = c.in_ok-list.list in
     subst (λ r. IsReading operation_of (mapped the_operation r) c.made_operation.result) (sym (behind_reading-is (codes "op") read c.args.part l c.in_ok-list.ensures))
     (c.made_operation.ensures (read (owner_of l) (number_of l) (rest_of l)) c.read_operation_parts.ensures)

@@ -3,7 +3,7 @@ use Rattle.lc_term.proofs.Tests.{at_all}
 use Rattle.lc_machine.specs.Placed.{is_placed}
 use Rattle.lc_machine.specs.View.{client_of, clients_of, variables_of}
 use Rattle.lc_machine.specs.World.{Idle, In}
-use Rattle.lc_outline.specs.DevelopmentView.{development_shown}
+use Rattle.lc_outline.specs.DevelopmentView.{development_view}
 use Rattle.lc_steps.specs.StepView.{world_in}
 use Rattle.lc_steps.proofs.advancing.advance.Goals as goal
 
@@ -12,7 +12,7 @@ returns-in-Some-Idle-clause-advanced c = c.in-Some-Idle.ensures ∙ ap (λ k. So
 
 pub step_from-requires-clause-placed : goal.step_from-requires-clause-placed
 step_from-requires-clause-placed c =
-    let object = (development_shown c.args.development.now).object in
+    let object = (development_view c.args.development.now).object in
     let place = c.in-Some-In.place in
     at_all (is_placed object) (clients_of c.args.clients.now) c.args.client (In place.point.0 (variables_of place)) c.requires.placed
     (c.in-Some-In.ensures ∙ ap (λ k. Some (client_of k)) c.in-Some-In.field-0-is)

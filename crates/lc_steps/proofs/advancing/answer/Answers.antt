@@ -4,7 +4,7 @@ use Rattle.lc_object.specs.declared.instr.EdgeKind.TheVariants.{Next}
 use Rattle.lc_machine.specs.Step.{Answers}
 use Rattle.lc_action.specs.ActionView.{first_of}
 use Rattle.lc_outline.specs.Development.{first_system}
-use Rattle.lc_outline.specs.DevelopmentView.{development_shown}
+use Rattle.lc_outline.specs.DevelopmentView.{development_view}
 use Rattle.lc_ride.specs.RideView.{marks_of}
 use Rattle.lc_ride.specs.Riding.{Ridden}
 use Rattle.lc_steps.specs.Stepping.{ridden, RiddenFits, BehindFits}
@@ -14,7 +14,7 @@ use Rattle.lc_steps.proofs.advancing.answer.Goals as goal
 
 pub returns-in_err-ridden-clause-behind : goal.returns-in_err-ridden-clause-behind
 returns-in_err-ridden-clause-behind c =
-    let D = development_shown c.args.development.now in
+    let D = development_view c.args.development.now in
     let vs = c.args.env.now.values.items in
     let ns = c.args.numbers.items in
     let s = written_in_draft c.args.draft.now in
@@ -25,7 +25,7 @@ returns-in_err-ridden-clause-behind c =
 
 pub returns-in-None-clause-behind : goal.returns-in-None-clause-behind
 returns-in-None-clause-behind c =
-    let D = development_shown c.args.development.now in
+    let D = development_view c.args.development.now in
     let vs = c.args.env.now.values.items in
     let s = written_in_draft c.args.draft.now in
     let x = c.args.client in
@@ -35,7 +35,7 @@ returns-in-None-clause-behind c =
 
 pub returns-in_err-end_call-clause-behind : goal.returns-in_err-end_call-clause-behind
 returns-in_err-end_call-clause-behind c =
-    let D = development_shown c.args.development.now in
+    let D = development_view c.args.development.now in
     let vs = c.args.env.now.values.items in
     let ns = c.args.numbers.items in
     let s = written_in_draft c.args.draft.now in
@@ -50,7 +50,7 @@ returns-in_err-end_call-clause-behind c =
 
 pub returns-then-not-branch-clause-behind : goal.returns-then-not-branch-clause-behind
 returns-then-not-branch-clause-behind c =
-    let D = development_shown c.args.development.now in
+    let D = development_view c.args.development.now in
     let vs = c.args.env.now.values.items in
     let ns = c.args.numbers.items in
     let s = written_in_draft c.args.draft.now in
@@ -66,7 +66,7 @@ returns-then-not-branch-clause-behind c =
 
 pub returns-clause-behind : goal.returns-clause-behind
 returns-clause-behind c =
-    let D = development_shown c.args.development.now in
+    let D = development_view c.args.development.now in
     let vs = c.args.env.now.values.items in
     let ns = c.args.numbers.items in
     let s = written_in_draft c.args.draft.now in

@@ -1,16 +1,16 @@
 use Rattle.std.proofs.Common.{◌≡◌, true, Ok, Err, sym, subst, rules}
 use Rattle.lc_term.specs.Drafts.{written_in_draft, draft_columns}
-use Rattle.lc_term.specs.UpdateView.{writes_shown}
+use Rattle.lc_term.specs.UpdateView.{writes_view}
 use Rattle.lc_term.specs.Updates.{stored_all, AreWithin}
 use Rattle.lc_machine.specs.Effects.{writes_in, outcome_of}
 use Rattle.lc_machine.specs.View.{variables_of}
-use Rattle.lc_outline.specs.DevelopmentView.{development_shown}
+use Rattle.lc_outline.specs.DevelopmentView.{development_view}
 use Rattle.lc_steps.proofs.Advanced.{effect-reached, no-effect, not-stored, stepped, behind-placed}
 use Rattle.lc_steps.proofs.advancing.step_from.Goals as goal
 
 pub returns-in_err-done-clause-stepped : goal.returns-in_err-done-clause-stepped
 returns-in_err-done-clause-stepped c =
-    let D = development_shown c.args.development.now in
+    let D = development_view c.args.development.now in
     let place = c.args.place.now in
     let s = written_in_draft c.args.draft.now in
     λ w columns client.
@@ -18,11 +18,11 @@ returns-in_err-done-clause-stepped c =
 
 pub write_all-requires : goal.write_all-requires
 write_all-requires c =
-    subst (λ xs. AreWithin (draft_columns c.args.draft.now) (writes_shown xs)) (sym c.deref.ensures.0) c.in_ok-done.ensures.within
+    subst (λ xs. AreWithin (draft_columns c.args.draft.now) (writes_view xs)) (sym c.deref.ensures.0) c.in_ok-done.ensures.within
 
 pub returns-in_err-write_all-clause-stepped : goal.returns-in_err-write_all-clause-stepped
 returns-in_err-write_all-clause-stepped c =
-    let D = development_shown c.args.development.now in
+    let D = development_view c.args.development.now in
     let place = c.args.place.now in
     let s = written_in_draft c.args.draft.now in
     λ w columns client.
@@ -30,7 +30,7 @@ returns-in_err-write_all-clause-stepped c =
 
 pub returns-clause-stepped : goal.returns-clause-stepped
 returns-clause-stepped c =
-    let D = development_shown c.args.development.now in
+    let D = development_view c.args.development.now in
     let place = c.args.place.now in
     let s = written_in_draft c.args.draft.now in
     let done = c.in_ok-done.done in
@@ -41,7 +41,7 @@ returns-clause-stepped c =
 
 pub returns-clause-placed : goal.returns-clause-placed
 returns-clause-placed c =
-    let D = development_shown c.args.development.now in
+    let D = development_view c.args.development.now in
     let place = c.args.place.now in
     let done = c.in_ok-done.done in
     behind-placed D c.args.client place.point.0 (variables_of place) done.edge (written_in_draft c.write_all.new.self) (outcome_of done.fate) (written_in_draft c.follow.new.draft) c.follow.result
@@ -52,4 +52,4 @@ follow-requires-clause-seen c = c.in_ok-done.ensures.seen
 
 pub follow-requires-clause-reached : goal.follow-requires-clause-reached
 follow-requires-clause-reached c =
-    effect-reached (development_shown c.args.development.now).object c.args.place.now.point.0 (variables_of c.args.place.now) (written_in_draft c.args.draft.now) c.in_ok-done.done c.in_ok-done.ensures.effect
+    effect-reached (development_view c.args.development.now).object c.args.place.now.point.0 (variables_of c.args.place.now) (written_in_draft c.args.draft.now) c.in_ok-done.done c.in_ok-done.ensures.effect

@@ -3,7 +3,7 @@ use Rattle.std.proofs.lemmas.List.{length-map}
 use Rattle.lc_base.specs.Name.{bytes_of}
 use Rattle.lc_object.specs.View.{operation_of}
 use Rattle.lc_machine.specs.View.{client_of, clients_of}
-use Rattle.lc_outline.specs.DevelopmentView.{development_shown}
+use Rattle.lc_outline.specs.DevelopmentView.{development_view}
 use Rattle.lc_term.specs.Drafts.{written_in_draft}
 use Rattle.lc_steps.specs.StepView.{world_in}
 use Rattle.lc_steps.proofs.Begun.{refused}
@@ -27,7 +27,7 @@ returns-then-numbers-len-clause-begun c =
 pub returns-in_err-count-clause-begun : goal.returns-in_err-count-clause-begun
 returns-in_err-count-clause-begun c =
     let len : c.len.result ≡ length c.in-Some.body.now.arguments.items = search rules in
-    refused (development_shown c.args.development.now) (world_in c.args.draft.now c.args.clients.now) c.args.client c.args.operation.0 c.args.numbers.now (operation_of c.in-Some.body.now) c.in-Some.ensures.found
+    refused (development_view c.args.development.now) (world_in c.args.draft.now c.args.clients.now) c.args.client c.args.operation.0 c.args.numbers.now (operation_of c.in-Some.body.now) c.in-Some.ensures.found
     (c.if-numbers-len.false ∙ len ∙ sym (length-map c.in-Some.body.now.arguments.items bytes_of)) (c.in-Some-Idle.ensures ∙ ap (λ k. Some (client_of k)) c.in-Some-Idle.field-0-is)
     (written_in_draft c.roll_back.new.self) c.from_residual.result c.from_residual.ensures.1
 

@@ -7,31 +7,31 @@ use Rattle.lc_machine.specs.View.{client_of}
 use Rattle.lc_machine.specs.World.{first_variables}
 use Rattle.lc_rider.specs.Rider.{invocation_writes}
 use Rattle.lc_outline.specs.Development.{first_system}
-use Rattle.lc_outline.specs.DevelopmentView.{development_shown}
+use Rattle.lc_outline.specs.DevelopmentView.{development_view}
 use Rattle.lc_steps.proofs.Begun.{refused, begun, entry-placed}
 use Rattle.lc_steps.proofs.beginning.enter.Goals as goal
 
 pub returns-in_err-variables-clause-begun : goal.returns-in_err-variables-clause-begun
 returns-in_err-variables-clause-begun c =
     λ w columns count idle.
-    refused (development_shown c.args.development.now) w c.args.client c.args.operation.0 c.args.numbers.now (operation_of c.args.body.now) c.requires.body c.requires.numbers idle
+    refused (development_view c.args.development.now) w c.args.client c.args.operation.0 c.args.numbers.now (operation_of c.args.body.now) c.requires.body c.requires.numbers idle
     (written_in_draft c.args.draft.now) c.from_residual.result c.from_residual.ensures.1
 
 pub returns-in_err-given-clause-begun : goal.returns-in_err-given-clause-begun
 returns-in_err-given-clause-begun c =
     λ w columns count idle.
-    refused (development_shown c.args.development.now) w c.args.client c.args.operation.0 c.args.numbers.now (operation_of c.args.body.now) c.requires.body c.requires.numbers idle
+    refused (development_view c.args.development.now) w c.args.client c.args.operation.0 c.args.numbers.now (operation_of c.args.body.now) c.requires.body c.requires.numbers idle
     (written_in_draft c.args.draft.now) c.from_residual-in_err-given.result c.from_residual-in_err-given.ensures.1
 
 pub returns-in_err-write_all-clause-begun : goal.returns-in_err-write_all-clause-begun
 returns-in_err-write_all-clause-begun c =
     λ w columns count idle.
-    refused (development_shown c.args.development.now) w c.args.client c.args.operation.0 c.args.numbers.now (operation_of c.args.body.now) c.requires.body c.requires.numbers idle
+    refused (development_view c.args.development.now) w c.args.client c.args.operation.0 c.args.numbers.now (operation_of c.args.body.now) c.requires.body c.requires.numbers idle
     (written_in_draft c.write_all.new.self) c.from_residual-in_err-write_all.result c.from_residual-in_err-write_all.ensures.1
 
 pub returns-clause-begun : goal.returns-clause-begun
 returns-clause-begun c =
-    let D = development_shown c.args.development.now in
+    let D = development_view c.args.development.now in
     let o = operation_of c.args.body.now in
     let ns = c.args.numbers.now in
     let x = c.args.client in
@@ -46,5 +46,5 @@ returns-clause-begun c =
 
 pub returns-clause-placed : goal.returns-clause-placed
 returns-clause-placed c =
-    entry-placed (development_shown c.args.development.now).object (operation_of c.args.body.now) c.args.clients c.args.client c.args.numbers.now c.in_ok-variables.variables.values.items (client_of c.entered.result.client) c.requires.entry c.requires.numbers
+    entry-placed (development_view c.args.development.now).object (operation_of c.args.body.now) c.args.clients c.args.client c.args.numbers.now c.in_ok-variables.variables.values.items (client_of c.entered.result.client) c.requires.entry c.requires.numbers
     c.in_ok-variables.ensures c.entered.ensures.client

@@ -8,9 +8,9 @@ use Rattle.lc_seq.specs.SpecView.{operations_of}
 use Rattle.lc_action.specs.ActionView.{first_of}
 use Rattle.lc_rider.specs.RiderView.{riders_of}
 use Rattle.lc_outline.specs.Development.{first_system, riders_at}
-use Rattle.lc_outline.specs.DevelopmentView.{development_shown}
+use Rattle.lc_outline.specs.DevelopmentView.{development_view}
 use Rattle.lc_outline.specs.Resolved.{is_resolved}
-use Rattle.lc_ride.specs.RideView.{AreThere, rider_is_seen}
+use Rattle.lc_ride.specs.RideView.{AreThere, rider_is_evaluable}
 use Rattle.lc_steps.specs.Stepping.{ridden, RiddenFits}
 use Rattle.lc_steps.specs.StepParts.{AreRidden}
 use Rattle.lc_steps.proofs.Ridden.{ridden-from, all-done, not-all-done, faulted}
@@ -19,7 +19,7 @@ use Rattle.lc_steps.proofs.riding.ride.Goals as goal
 
 pub ride_all-requires-clause-there : goal.ride_all-requires-clause-there
 ride_all-requires-clause-there c =
-    let D = development_shown c.args.development.now in
+    let D = development_view c.args.development.now in
     let n = draft_columns c.args.draft.now in
     let R : is_resolved D ≡ true = subst (λ d. is_resolved d ≡ true) c.parts.ensures.shown c.parts.ensures.resolved in
     let ops = c.operations.ensures ∙ ap (λ d. d.specification.operations) c.parts.ensures.shown in
@@ -27,21 +27,21 @@ ride_all-requires-clause-there c =
 
 pub ride_all-requires-clause-few : goal.ride_all-requires-clause-few
 ride_all-requires-clause-few c =
-    let D = development_shown c.args.development.now in
+    let D = development_view c.args.development.now in
     let R : is_resolved D ≡ true = subst (λ d. is_resolved d ≡ true) c.parts.ensures.shown c.parts.ensures.resolved in
     let ops = c.operations.ensures ∙ ap (λ d. d.specification.operations) c.parts.ensures.shown in
     λ o. subst (λ z. arity z o ≤ argument_limit) (sym ops) (small D R o)
 
 pub ride_all-requires-clause-seen : goal.ride_all-requires-clause-seen
 ride_all-requires-clause-seen c =
-    let D = development_shown c.args.development.now in
+    let D = development_view c.args.development.now in
     let v = variable_count c.args.env.now in
-    subst (λ z. list_all (rider_is_seen (draft_columns c.args.draft.now) v) z ≡ true) (sym c.riders_at-riders.ensures)
-    (subst (λ k. list_all (rider_is_seen k v) (riders_at D c.args.point.0 c.args.edge) ≡ true) (sym c.requires.columns) c.requires.seen)
+    subst (λ z. list_all (rider_is_evaluable (draft_columns c.args.draft.now) v) z ≡ true) (sym c.riders_at-riders.ensures)
+    (subst (λ k. list_all (rider_is_evaluable k v) (riders_at D c.args.point.0 c.args.edge) ≡ true) (sym c.requires.columns) c.requires.seen)
 
 pub returns-in-Ok-true-clause-ridden : goal.returns-in-Ok-true-clause-ridden
 returns-in-Ok-true-clause-ridden c =
-    let D = development_shown c.args.development.now in
+    let D = development_view c.args.development.now in
     let vs = c.args.env.now.values.items in
     let s = written_in_draft c.args.draft.now in
     let x = c.args.client in
@@ -56,7 +56,7 @@ returns-in-Ok-true-clause-ridden c =
 
 pub returns-in-Ok-false-clause-ridden : goal.returns-in-Ok-false-clause-ridden
 returns-in-Ok-false-clause-ridden c =
-    let D = development_shown c.args.development.now in
+    let D = development_view c.args.development.now in
     let vs = c.args.env.now.values.items in
     let s = written_in_draft c.args.draft.now in
     let x = c.args.client in
@@ -71,7 +71,7 @@ returns-in-Ok-false-clause-ridden c =
 
 pub returns-in-Err-clause-ridden : goal.returns-in-Err-clause-ridden
 returns-in-Err-clause-ridden c =
-    let D = development_shown c.args.development.now in
+    let D = development_view c.args.development.now in
     let vs = c.args.env.now.values.items in
     let s = written_in_draft c.args.draft.now in
     let x = c.args.client in

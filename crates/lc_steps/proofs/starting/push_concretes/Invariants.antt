@@ -1,9 +1,9 @@
 use Rattle.std.proofs.Common.{◌≡◌, drop, map, ◌++◌}
-use Rattle.lc_object.specs.View.{column_shown}
+use Rattle.lc_object.specs.View.{column_view}
 use Rattle.lc_steps.proofs.starting.push_concretes.Given as goal
 
 -- the numbers so far, with those of the columns that are left, are those of all
 abbrev pub invariant-loop-column : goal.invariant-loop-column
 invariant-loop-column l =
-    l.numbers.items ++ map (λ c. (c.slope, c.start)) (map column_shown (drop l.column-index l.columns))
-    ≡ l.fn.numbers.items ++ map (λ c. (c.slope, c.start)) (map column_shown l.columns)
+    l.numbers.items ++ map (λ c. (c.slope, c.start)) (map column_view (drop l.column-index l.columns))
+    ≡ l.fn.numbers.items ++ map (λ c. (c.slope, c.start)) (map column_view l.columns)

@@ -6,7 +6,7 @@ use Rattle.lc_cert.specs.CertificateView.{entries_in}
 use Rattle.lc_check.specs.VerdictView.{development_in}
 use Rattle.lc_hints.specs.HintView.{proofs_in}
 use Rattle.lc_hints.specs.declared.hints.Hints.{Hints}
-use Rattle.lc_outline.specs.DevelopmentView.{development_shown}
+use Rattle.lc_outline.specs.DevelopmentView.{development_view}
 use Rattle.lincheck.proofs.Carrying.{alone_answered, hints_answered, hints_told}
 use Rattle.lincheck.specs.Carry.{AnswersWith, hints_at}
 use Rattle.lc_words.specs.Tasks.{path_in}
@@ -16,7 +16,7 @@ use Rattle.lincheck.proofs.carry.answer_development.Goals as goal
 
 pub returns-in_ok-answer_carried-in-None-clause-answers : goal.returns-in_ok-answer_carried-in-None-clause-answers
 returns-in_ok-answer_carried-in-None-clause-answers g c =
-    let E = development_shown c.args.development.now in
+    let E = development_view c.args.development.now in
     let old = c.args.old.now in
     let given = carried (development_in old.accepted) (entries_in old.certificate) E in
     let answer = c.in_ok-answer_carried-in-None.field-0 in
@@ -25,7 +25,7 @@ returns-in_ok-answer_carried-in-None-clause-answers g c =
 
 pub returns-in_ok-answer_carried-in-Ok-clause-answers : goal.returns-in_ok-answer_carried-in-Ok-clause-answers
 returns-in_ok-answer_carried-in-Ok-clause-answers g c =
-    let E = development_shown c.args.development.now in
+    let E = development_view c.args.development.now in
     let old = c.args.old.now in
     let given = carried (development_in old.accepted) (entries_in old.certificate) E in
     let answer = c.in_ok-answer_carried-in-Ok.field-0 in
@@ -36,7 +36,7 @@ returns-in_ok-answer_carried-in-Ok-clause-answers g c =
 
 pub returns-in-Err-clause-answers : goal.returns-in-Err-clause-answers
 returns-in-Err-clause-answers g c =
-    let E = development_shown c.args.development.now in
+    let E = development_view c.args.development.now in
     let old = c.args.old.now in
     let given = carried (development_in old.accepted) (entries_in old.certificate) E in
     let answer = c.in-Err.answer in

@@ -1,7 +1,7 @@
 use Rattle.std.proofs.Common.{◌≡◌, true, false, Result, IfSome, subst}
 use Rattle.lc_cert.specs.CertificateView.{entries_in}
 use Rattle.lc_check.specs.VerdictView.{development_in}
-use Rattle.lc_outline.specs.DevelopmentView.{development_shown}
+use Rattle.lc_outline.specs.DevelopmentView.{development_view}
 use Rattle.lc_outline.specs.declared.development.Development.{Development}
 use Rattle.lincheck.proofs.Carrying.{new_answered, new_refused, refused_new, same_hints, unread_hints}
 use Rattle.lincheck.specs.Carry.{hints_at}
@@ -17,7 +17,7 @@ returns-in-Ok-clause-answers g c =
     let path = path_in c.args.hints in
     let says = subst (λ (o : Result Development Answer). IfSome known (λ file. OpensAs file o)) c.in-Ok.is c.in_ok-development.ensures.opens in
     new_answered (development_in old.accepted) (entries_in old.certificate) known (hints_at (g.F.Files.bytes_at c.args.files.now) path) (hints_at (g.F.Files.bytes_at c.open_development.new.files) path)
-    (development_shown c.in-Ok.development) c.answer_development.result says
+    (development_view c.in-Ok.development) c.answer_development.result says
     (same_hints (g.F.Files.bytes_at c.args.files.now) (g.F.Files.bytes_at c.open_development.new.files) path c.in_ok-development.ensures.keeps) c.answer_development.ensures.answers
 
 pub returns-in-Err-clause-answers : goal.returns-in-Err-clause-answers

@@ -1,5 +1,5 @@
 use Rattle.std.proofs.Common.{◌≡◌, true, false, Result, IfSome, subst}
-use Rattle.lc_outline.specs.DevelopmentView.{development_shown}
+use Rattle.lc_outline.specs.DevelopmentView.{development_view}
 use Rattle.lc_outline.specs.declared.development.Development.{Development}
 use Rattle.lincheck.specs.Check.{OpensAs}
 use Rattle.lincheck.specs.declared.answer.Answer.{Answer}
@@ -12,7 +12,7 @@ returns-in-Ok-clause-opens g c =
     let known = g.F.Files.bytes_at c.args.files.now c.args.development.now in
     let says = subst (λ (o : Result Development Answer). IfSome known (λ file. OpensAs file o)) c.in-Ok.is c.in_ok-development.ensures.opens in
     old_opened known (g.F.Files.bytes_at c.args.files.now c.args.certificate.now) (g.F.Files.bytes_at c.open_development.new.files c.args.certificate.now)
-    (development_shown c.in-Ok.development) c.open_certificate.result says (c.in_ok-development.ensures.keeps c.args.certificate.now) c.open_certificate.ensures.opens
+    (development_view c.in-Ok.development) c.open_certificate.result says (c.in_ok-development.ensures.keeps c.args.certificate.now) c.open_certificate.ensures.opens
 
 pub returns-in-Err-clause-opens : goal.returns-in-Err-clause-opens
 returns-in-Err-clause-opens g c =

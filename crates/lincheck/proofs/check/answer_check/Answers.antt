@@ -1,5 +1,5 @@
 use Rattle.std.proofs.Common.{◌≡◌, true, false, Result, IfSome, subst}
-use Rattle.lc_outline.specs.DevelopmentView.{development_shown}
+use Rattle.lc_outline.specs.DevelopmentView.{development_view}
 use Rattle.lc_outline.specs.declared.development.Development.{Development}
 use Rattle.lincheck.specs.Check.{OpensAs}
 use Rattle.lincheck.specs.declared.answer.Answer.{Answer}
@@ -11,7 +11,7 @@ returns-in-Ok-clause-answers g c =
     let known = g.F.Files.bytes_at c.args.files.now c.args.development.now in
     let says = subst (λ (o : Result Development Answer). IfSome known (λ file. OpensAs file o)) c.in-Ok.is c.in_ok-development.ensures.opens in
     check_answered known (g.F.Files.bytes_at c.args.files.now c.args.certificate.now) (g.F.Files.bytes_at c.open_development.new.files c.args.certificate.now)
-    (development_shown c.in-Ok.development) c.answer_said.result says (c.in_ok-development.ensures.keeps c.args.certificate.now) c.answer_said.ensures.answers
+    (development_view c.in-Ok.development) c.answer_said.result says (c.in_ok-development.ensures.keeps c.args.certificate.now) c.answer_said.ensures.answers
 
 pub returns-in-Err-clause-unread : goal.returns-in-Err-clause-unread
 returns-in-Err-clause-unread g c = λ unread.

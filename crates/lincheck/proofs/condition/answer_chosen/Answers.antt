@@ -1,6 +1,6 @@
 use Rattle.std.proofs.Common.{Result, IfSome, subst}
 use Rattle.lc_listing.specs.Chosen.{chosen_text}
-use Rattle.lc_outline.specs.DevelopmentView.{development_shown}
+use Rattle.lc_outline.specs.DevelopmentView.{development_view}
 use Rattle.lc_outline.specs.declared.development.Development.{Development}
 use Rattle.lc_words.specs.Tasks.{path_in}
 use Rattle.lincheck.specs.Check.{OpensAs}
@@ -12,7 +12,7 @@ pub returns-in_ok-chosen_conditions-in-Ok-clause-answers : goal.returns-in_ok-ch
 returns-in_ok-chosen_conditions-in-Ok-clause-answers g c =
     let known = g.F.Files.bytes_at c.args.files.now c.args.path.now in
     let says = subst (λ (o : Result Development Answer). IfSome known (λ file. OpensAs file o)) c.in-Ok.is c.in_ok-development.ensures.opens in
-    shown (chosen_text (path_in c.args.point) (path_in c.args.kind)) known (development_shown c.in-Ok.development) c.in_ok-chosen_conditions-in-Ok.field-0.items says
+    shown (chosen_text (path_in c.args.point) (path_in c.args.kind)) known (development_view c.in-Ok.development) c.in_ok-chosen_conditions-in-Ok.field-0.items says
     c.in_ok-chosen_conditions-in-Ok.ensures
 
 pub returns-in-Err-clause-answers : goal.returns-in-Err-clause-answers

@@ -1,5 +1,5 @@
 use Rattle.std.proofs.Common.{Result, IfSome, subst}
-use Rattle.lc_outline.specs.DevelopmentView.{development_shown}
+use Rattle.lc_outline.specs.DevelopmentView.{development_view}
 use Rattle.lc_outline.specs.declared.development.Development.{Development}
 use Rattle.lincheck.specs.Check.{OpensAs}
 use Rattle.lincheck.specs.declared.answer.Answer.{Answer}
@@ -11,7 +11,7 @@ returns-in_ok-tell_condition-in-Ok-clause-answers g c =
     let known = g.F.Files.bytes_at c.args.files.now c.args.path.now in
     let answer = c.in_ok-tell_condition-in-Ok.field-0 in
     let says = subst (λ (o : Result Development Answer). IfSome known (λ file. OpensAs file o)) c.in-Ok.is c.in_ok-development.ensures.opens in
-    condition_answered c.args.number known (development_shown c.in-Ok.development) answer.text.items answer.status says c.in_ok-tell_condition-in-Ok.ensures
+    condition_answered c.args.number known (development_view c.in-Ok.development) answer.text.items answer.status says c.in_ok-tell_condition-in-Ok.ensures
 
 pub returns-in-Err-clause-answers : goal.returns-in-Err-clause-answers
 returns-in-Err-clause-answers g c =

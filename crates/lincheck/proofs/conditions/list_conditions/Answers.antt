@@ -1,7 +1,7 @@
 use Rattle.std.proofs.Common.{Result, IfSome, refl, subst}
 use Rattle.std.proofs.lemmas.Result.{err_from_is_err_and}
 use Rattle.lc_cond_text.specs.ConditionText.{conditions_text}
-use Rattle.lc_outline.specs.DevelopmentView.{development_shown}
+use Rattle.lc_outline.specs.DevelopmentView.{development_view}
 use Rattle.lc_outline.specs.declared.development.Development.{Development}
 use Rattle.lincheck.specs.Check.{OpensAs}
 use Rattle.lc_words.specs.Tasks.{ListConditions}
@@ -18,8 +18,8 @@ returns-in_err-print_conditions-in-Ok-clause-leaves g c =
     let p = err_from_is_err_and c.from_residual-in_err-print_conditions-in-Ok.result c.from_residual-in_err-print_conditions-in-Ok.ensures.1 in
     rw (p.1, p.2)
     (leaves_broken (ListConditions c.args.path.now) (AnswersTask (g.F.Files.bytes_at c.args.files.now) (ListConditions c.args.path.now)) (g.O.Write.contents c.args.out.now)
-    (g.O.Write.contents c.print_conditions.new.out) (conditions_text (development_shown c.in-Ok.development)) 0 c.in_err-print_conditions-in-Ok.field-0.0 tt
-    (shown conditions_text known (development_shown c.in-Ok.development) (conditions_text (development_shown c.in-Ok.development)) says refl) c.in_err-print_conditions-in-Ok.ensures)
+    (g.O.Write.contents c.print_conditions.new.out) (conditions_text (development_view c.in-Ok.development)) 0 c.in_err-print_conditions-in-Ok.field-0.0 tt
+    (shown conditions_text known (development_view c.in-Ok.development) (conditions_text (development_view c.in-Ok.development)) says refl) c.in_err-print_conditions-in-Ok.ensures)
 
 pub returns-in-Err-clause-leaves : goal.returns-in-Err-clause-leaves
 returns-in-Err-clause-leaves g c =
@@ -33,5 +33,5 @@ pub returns-in_ok-print_conditions-in-Ok-clause-leaves : goal.returns-in_ok-prin
 returns-in_ok-print_conditions-in-Ok-clause-leaves g c =
     let known = g.F.Files.bytes_at c.args.files.now c.args.path.now in
     let says = subst (λ (o : Result Development Answer). IfSome known (λ file. OpensAs file o)) c.in-Ok.is c.in_ok-development.ensures.opens in
-    let text = conditions_text (development_shown c.in-Ok.development) in
-    (text, shown conditions_text known (development_shown c.in-Ok.development) text says refl, c.in_ok-print_conditions-in-Ok.ensures)
+    let text = conditions_text (development_view c.in-Ok.development) in
+    (text, shown conditions_text known (development_view c.in-Ok.development) text says refl, c.in_ok-print_conditions-in-Ok.ensures)

@@ -1,5 +1,5 @@
 use Rattle.std.proofs.Common.{◌∙◌, inr, refl, subst}
-use Rattle.lc_outline.specs.DevelopmentView.{development_shown}
+use Rattle.lc_outline.specs.DevelopmentView.{development_view}
 use Rattle.lc_outline_text.specs.Developments.{file_reading}
 use Rattle.lc_reading.specs.Files.{Says}
 use Rattle.lincheck.proofs.Beginnings.{begun_refused}
@@ -7,7 +7,7 @@ use Rattle.lincheck.proofs.new.answer_new.Goals as goal
 
 pub returns-in-Ok : goal.returns-in-Ok
 returns-in-Ok c =
-    let D = development_shown c.in-Ok.field-0 in
+    let D = development_view c.in-Ok.field-0 in
     inr (D, subst (λ t. Says file_reading t D) c.deref.ensures.value c.in-Ok.ensures, c.in_ok-text.ensures, refl)
 
 pub returns-in-Err : goal.returns-in-Err

@@ -1,5 +1,5 @@
 use Rattle.std.proofs.Common.{◌≡◌, true, false, Result, IfSome, subst}
-use Rattle.lc_outline.specs.DevelopmentView.{development_shown}
+use Rattle.lc_outline.specs.DevelopmentView.{development_view}
 use Rattle.lc_outline.specs.declared.development.Development.{Development}
 use Rattle.lincheck.specs.Check.{OpensAs}
 use Rattle.lincheck.specs.declared.answer.Answer.{Answer}
@@ -12,7 +12,7 @@ returns-in-Ok-clause-answers g c =
     let known = g.F.Files.bytes_at c.args.files.now c.args.development.now in
     let says = subst (λ (o : Result Development Answer). IfSome known (λ file. OpensAs file o)) c.in-Ok.is c.in_ok-development.ensures.opens in
     hinted_answered known (g.F.Files.bytes_at c.args.files.now c.args.hints.now) (g.F.Files.bytes_at c.open_development.new.files c.args.hints.now)
-    (development_shown c.in-Ok.development) c.answer_hints.result says (c.in_ok-development.ensures.keeps c.args.hints.now) c.answer_hints.ensures.answers
+    (development_view c.in-Ok.development) c.answer_hints.result says (c.in_ok-development.ensures.keeps c.args.hints.now) c.answer_hints.ensures.answers
 
 pub returns-in-Err-clause-answers : goal.returns-in-Err-clause-answers
 returns-in-Err-clause-answers g c =

@@ -1,7 +1,7 @@
 use Rattle.std.proofs.Common.{Result, IfSome, subst, sym}
 use Rattle.lc_cert.specs.Printed.{EntryReadsBack}
 use Rattle.lc_hints.specs.HintView.{proofs_in}
-use Rattle.lc_outline.specs.DevelopmentView.{development_shown}
+use Rattle.lc_outline.specs.DevelopmentView.{development_view}
 use Rattle.lc_outline.specs.declared.development.Development.{Development}
 use Rattle.lc_term.specs.Lists.{Every}
 use Rattle.lincheck.specs.Check.{OpensAs}
@@ -10,14 +10,14 @@ use Rattle.lincheck.proofs.Proving.{proved_alone, prove_refused}
 use Rattle.lincheck.proofs.prove.answer_unhinted.Goals as goal
 
 pub answer_found-requires : goal.answer_found-requires
-answer_found-requires g c = subst (Every (EntryReadsBack (development_shown c.in-Ok.development))) (sym c.new-hints.ensures.proofs) tt
+answer_found-requires g c = subst (Every (EntryReadsBack (development_view c.in-Ok.development))) (sym c.new-hints.ensures.proofs) tt
 
 pub returns-in_ok-answer_found-in-Ok-clause-answers : goal.returns-in_ok-answer_found-in-Ok-clause-answers
 returns-in_ok-answer_found-in-Ok-clause-answers g c =
     let known = g.F.Files.bytes_at c.args.files.now c.args.path.now in
     let says = subst (λ (o : Result Development Answer). IfSome known (λ file. OpensAs file o)) c.in-Ok.is c.in_ok-development.ensures.opens in
     let answer = c.in_ok-answer_found-in-Ok.field-0 in
-    proved_alone known (development_shown c.in-Ok.development) (proofs_in c.new-hints.result) answer.text.items answer.status says c.new-hints.ensures.proofs c.in_ok-answer_found-in-Ok.ensures
+    proved_alone known (development_view c.in-Ok.development) (proofs_in c.new-hints.result) answer.text.items answer.status says c.new-hints.ensures.proofs c.in_ok-answer_found-in-Ok.ensures
 
 pub returns-in-Err-clause-answers : goal.returns-in-Err-clause-answers
 returns-in-Err-clause-answers g c =

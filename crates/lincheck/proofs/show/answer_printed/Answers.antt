@@ -1,5 +1,5 @@
 use Rattle.std.proofs.Common.{Result, IfSome, subst}
-use Rattle.lc_outline.specs.DevelopmentView.{development_shown}
+use Rattle.lc_outline.specs.DevelopmentView.{development_view}
 use Rattle.lc_outline.specs.declared.development.Development.{Development}
 use Rattle.lc_outline_print.specs.Developments.{development_printed}
 use Rattle.lincheck.specs.Check.{OpensAs}
@@ -11,7 +11,7 @@ pub returns-in_ok-development_text-in-Ok-clause-answers : goal.returns-in_ok-dev
 returns-in_ok-development_text-in-Ok-clause-answers g c =
     let known = g.F.Files.bytes_at c.args.files.now c.args.path.now in
     let says = subst (λ (o : Result Development Answer). IfSome known (λ file. OpensAs file o)) c.in-Ok.is c.in_ok-development.ensures.opens in
-    shown development_printed known (development_shown c.in-Ok.development) c.in_ok-development_text-in-Ok.field-0.items says c.in_ok-development_text-in-Ok.ensures
+    shown development_printed known (development_view c.in-Ok.development) c.in_ok-development_text-in-Ok.field-0.items says c.in_ok-development_text-in-Ok.ensures
 
 pub returns-in-Err-clause-answers : goal.returns-in-Err-clause-answers
 returns-in-Err-clause-answers g c =

@@ -5,14 +5,14 @@ use Rattle.lc_object.specs.Syntax.{Object}
 use Rattle.lc_reading.specs.TableView.{listed}
 use Rattle.lc_reading.specs.Words.{names_in}
 use Rattle.lc_outline.specs.Development.{Development}
-use Rattle.lc_outline.specs.DevelopmentView.{development_shown}
+use Rattle.lc_outline.specs.DevelopmentView.{development_view}
 use Rattle.lc_cert.proofs.Pieces.{form_named, under_way_named}
 use Rattle.lc_naming.specs.ColumnNames.{column_names}
 use Rattle.lc_cert.proofs.cert_reader.CertReader.read_ready.Goals as goal
 
 pub returns : goal.returns
 returns c =
-    let D = development_shown c.args.development.now in
+    let D = development_view c.args.development.now in
     let columns = c.in_ok-columns.ensures ∙ ap names_in c.deref.ensures.value ∙ c.in_ok-names.ensures ∙ ap column_names c.parts-parts.ensures.shown in
     let name = c.as_str-name.ensures.text ∙ ap (λ (o : Object). o.name) c.parts.ensures.shown ∙ ap (λ (D : Development). D.object.name) c.parts-parts.ensures.shown in
     on_ok_weaker c.read_parts.result

@@ -1,7 +1,7 @@
 use Rattle.std.proofs.Common.{Err, sym, ap, ◌∙◌, subst, ◌++◌}
 use Rattle.std.proofs.lemmas.Result.{err_from_is_err_and}
 use Rattle.lc_outline.specs.Development.{Development}
-use Rattle.lc_outline.specs.DevelopmentView.{development_shown}
+use Rattle.lc_outline.specs.DevelopmentView.{development_view}
 use Rattle.lc_cert.proofs.Rising.{certificate_rises}
 use Rattle.lc_cert.specs.Pieces.{waiting}
 use Rattle.lc_sound.specs.Linearizable.{IsLinearizableObject}
@@ -11,13 +11,13 @@ use Rattle.lc_check.proofs.certificate_session.Stage.proven.Goals as goal
 
 pub returns-in_err-finish-clause-exactly : goal.returns-in_err-finish-clause-exactly
 returns-in_err-finish-clause-exactly c = λ cert up.
-    let D = development_shown c.args.self.development in
+    let D = development_view c.args.self.development in
     let p = err_from_is_err_and c.from_residual.result c.from_residual.ensures.1 in
     subst (IsAnswerOn D cert) (sym (p.1 ∙ ap Err p.2)) (not_read D cert (up.taken ++ waiting c.args.self.reader) c.in_err-finish.field-0.0 (c.in_err-finish.ensures.answer cert up.taken up.read))
 
 pub returns-in_err-count-clause-exactly : goal.returns-in_err-count-clause-exactly
 returns-in_err-count-clause-exactly c = λ cert up.
-    let D = development_shown c.args.self.development in
+    let D = development_view c.args.self.development in
     let certifies = read_all D cert c.args.self.reader c.args.self.progress tt up (c.in_ok-finish.ensures.answer cert up.taken up.read) in
     let p = err_from_is_err_and c.from_residual-in_err-count.result c.from_residual-in_err-count.ensures.1 in
     subst (IsAnswerOn D cert) (sym (p.1 ∙ ap Err p.2))
@@ -25,7 +25,7 @@ returns-in_err-count-clause-exactly c = λ cert up.
 
 pub derived_is_linearizable-requires : goal.derived_is_linearizable-requires
 derived_is_linearizable-requires c =
-    let D = development_shown c.args.self.development in
+    let D = development_view c.args.self.development in
     let cert = c.requires.0 in
     let up = c.requires.1 in
     let certifies = read_all D cert c.args.self.reader c.args.self.progress tt up (c.in_ok-finish.ensures.answer cert up.taken up.read) in
@@ -33,7 +33,7 @@ derived_is_linearizable-requires c =
 
 pub new-requires-clause-derived : goal.new-requires-clause-derived
 new-requires-clause-derived c =
-    let D = development_shown c.args.self.development in
+    let D = development_view c.args.self.development in
     let cert = c.requires.0 in
     let up = c.requires.1 in
     let certifies = read_all D cert c.args.self.reader c.args.self.progress tt up (c.in_ok-finish.ensures.answer cert up.taken up.read) in
@@ -41,7 +41,7 @@ new-requires-clause-derived c =
 
 pub new-requires-clause-counted : goal.new-requires-clause-counted
 new-requires-clause-counted c =
-    let D = development_shown c.args.self.development in
+    let D = development_view c.args.self.development in
     let cert = c.requires.0 in
     let up = c.requires.1 in
     let certifies = read_all D cert c.args.self.reader c.args.self.progress tt up (c.in_ok-finish.ensures.answer cert up.taken up.read) in
@@ -49,7 +49,7 @@ new-requires-clause-counted c =
 
 pub returns-clause-exactly : goal.returns-clause-exactly
 returns-clause-exactly c = λ cert up.
-    let D = development_shown c.args.self.development in
+    let D = development_view c.args.self.development in
     let certifies = read_all D cert c.args.self.reader c.args.self.progress tt up (c.in_ok-finish.ensures.answer cert up.taken up.read) in
     all_proved D cert up.taken c.in_ok-count.count c.new.result c.new.ensures certifies (c.in_ok-count.ensures up.taken up.progress (certificate_rises D cert up.taken certifies))
 

@@ -1,5 +1,5 @@
 use Rattle.std.proofs.Common.{Ok, true, false, sym, subst}
-use Rattle.lc_outline.specs.DevelopmentView.{development_shown}
+use Rattle.lc_outline.specs.DevelopmentView.{development_view}
 use Rattle.lc_cond.specs.Conditions.{conditions}
 use Rattle.lc_check.proofs.Stepping.{none_if, untold, told_so, certain_last, missing_at_last, all_in_turn}
 use Rattle.lc_check.proofs.Walking.{went_on}
@@ -9,12 +9,12 @@ use Rattle.lc_check.proofs.progress.Progress.answer.Goals as goal
 
 pub returns-in-Some : goal.returns-in-Some
 returns-in-Some c = λ taken h rises.
-    let d = development_shown c.args.development.now in
+    let d = development_view c.args.development.now in
     certain_last d taken c.in-Some.refusal (told_so d taken c.args.self.now c.in-Some.refusal c.in-Some.is h) rises
 
 pub returns-then-branch : goal.returns-then-branch
 returns-then-branch c = λ taken h rises.
-    let d = development_shown c.args.development.now in
+    let d = development_view c.args.development.now in
     let old = c.args.self.now in
     let new = c.advance.new.self in
     let here : IsAdvanced d old.walk new true = subst (IsAdvanced d old.walk new) c.if-branch.true c.in_ok-advance.ensures in
@@ -22,7 +22,7 @@ returns-then-branch c = λ taken h rises.
 
 pub returns : goal.returns
 returns c = λ taken h rises.
-    let d = development_shown c.args.development.now in
+    let d = development_view c.args.development.now in
     let old = c.args.self.now in
     let new = c.advance.new.self in
     let here : IsAdvanced d old.walk new false = subst (IsAdvanced d old.walk new) c.if-branch.false c.in_ok-advance.ensures in

@@ -1,6 +1,6 @@
 use Rattle.std.proofs.Common.{[], ◌∷◌, ◌++◌, Err, refl, sym, ap, ◌∙◌, subst}
 use Rattle.lc_kernel.specs.View.{proof_of}
-use Rattle.lc_outline.specs.DevelopmentView.{development_shown}
+use Rattle.lc_outline.specs.DevelopmentView.{development_view}
 use Rattle.lc_cert.specs.Certificates.{Entry}
 use Rattle.lc_check.proofs.Stepping.{refused_certain}
 use Rattle.lc_check.specs.Progress.{IsProgressTelling}
@@ -9,7 +9,7 @@ use Rattle.lc_check.proofs.progress.Progress.prove_next.Goals as goal
 
 pub returns-in-Ok : goal.returns-in-Ok
 returns-in-Ok g c = λ taken h.
-    let d = development_shown c.args.development.now in
+    let d = development_view c.args.development.now in
     let old = c.args.self.now.walk in
     let new = c.prove_next_by.new.self in
     let e : Entry = record { number = old.next; proof = proof_of c.args.proof.now } in
@@ -17,7 +17,7 @@ returns-in-Ok g c = λ taken h.
 
 pub returns-in-Err-Refused : goal.returns-in-Err-Refused
 returns-in-Err-Refused g c = λ taken h.
-    let d = development_shown c.args.development.now in
+    let d = development_view c.args.development.now in
     let old = c.args.self.now.walk in
     let new = c.prove_next_by.new.self in
     let proof = proof_of c.args.proof.now in

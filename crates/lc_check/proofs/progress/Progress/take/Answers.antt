@@ -1,6 +1,6 @@
 use Rattle.std.proofs.Common.{[], ◌∷◌, ◌++◌, List, true, false, sym, subst}
 use Rattle.lc_kernel.specs.View.{proof_of}
-use Rattle.lc_outline.specs.DevelopmentView.{development_shown}
+use Rattle.lc_outline.specs.DevelopmentView.{development_view}
 use Rattle.lc_cert.specs.Certificates.{Entry}
 use Rattle.lc_cert.specs.EntryView.{entry_of}
 use Rattle.lc_check.proofs.Stepping.{none_of, untold, told_on, extra_certain, missing_at, on_ok}
@@ -10,18 +10,18 @@ use Rattle.lc_check.specs.Walking.{IsInTurn, IsAdvanced}
 use Rattle.lc_check.proofs.progress.Progress.take.Goals as goal
 
 pub returns-then-is_some : goal.returns-then-is_some
-returns-then-is_some g c = λ taken h. told_on (development_shown c.args.development.now) taken (entry_of c.args.entry.now ∷ []) c.args.self.now c.if-is_some.ensures h
+returns-then-is_some g c = λ taken h. told_on (development_view c.args.development.now) taken (entry_of c.args.entry.now ∷ []) c.args.self.now c.if-is_some.ensures h
 
 pub returns-then-not-branch : goal.returns-then-not-branch
 returns-then-not-branch g c = λ taken h.
-    let d = development_shown c.args.development.now in
+    let d = development_view c.args.development.now in
     let old = c.args.self.now in
     let here : IsAdvanced d old.walk c.advance.new.self false = subst (IsAdvanced d old.walk c.advance.new.self) c.if-not-branch.true c.in_ok-advance.ensures in
     extra_certain d taken old.walk (entry_of c.args.entry.now) (untold d taken old (none_of old.told c.if-is_some.ensures) h) here.0
 
 pub returns-then-entry-self : goal.returns-then-entry-self
 returns-then-entry-self g c = λ taken h.
-    let d = development_shown c.args.development.now in
+    let d = development_view c.args.development.now in
     let old = c.args.self.now in
     let new = c.advance.new.self in
     let here : IsAdvanced d old.walk new true = subst (IsAdvanced d old.walk new) c.if-not-branch.false c.in_ok-advance.ensures in
@@ -29,7 +29,7 @@ returns-then-entry-self g c = λ taken h.
 
 pub prove_next-requires-clause-in_turn : goal.prove_next-requires-clause-in_turn
 prove_next-requires-clause-in_turn g c =
-    let d = development_shown c.args.development.now in
+    let d = development_view c.args.development.now in
     let old = c.args.self.now in
     let new = c.advance.new.self in
     let here : IsAdvanced d old.walk new true = subst (IsAdvanced d old.walk new) c.if-not-branch.false c.in_ok-advance.ensures in
@@ -37,7 +37,7 @@ prove_next-requires-clause-in_turn g c =
 
 pub returns : goal.returns
 returns g c =
-    let d = development_shown c.args.development.now in
+    let d = development_view c.args.development.now in
     let old = c.args.self.now in
     let new = c.advance.new.self in
     let last = c.prove_next.new.self in

@@ -1,7 +1,7 @@
 use Rattle.std.proofs.Common.{Option, ◌∙◌, subst, arith}
 use Rattle.std.specs.Prelude.{Vec}
 use Rattle.std.specs.declared.alloc.Global.{Global}
-use Rattle.lc_outline.specs.DevelopmentView.{development_shown}
+use Rattle.lc_outline.specs.DevelopmentView.{development_view}
 use Rattle.lc_cond.specs.Stream.{IsNextPart, IsPart}
 use Rattle.lc_cond.specs.declared.condition.Condition.{Condition}
 use Rattle.lc_check.proofs.Walking.{due_in_part}
@@ -9,7 +9,7 @@ use Rattle.lc_check.proofs.walk.Walk.advance.Goals as goal
 
 pub parts-preserved : goal.parts-preserved
 parts-preserved c =
-    let d = development_shown c.args.development.now in
+    let d = development_view c.args.development.now in
     let before = c.parts.self in
     let ts = c.next_part.new.terms in
     let items = c.in-Some.part.items in

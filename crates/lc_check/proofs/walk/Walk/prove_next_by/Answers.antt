@@ -1,6 +1,6 @@
 use Rattle.std.proofs.Common.{◌+◌, ◌∷◌, drop, length, refl, sym, ap, ◌∙◌, subst}
 use Rattle.lc_kernel.specs.View.{proof_of}
-use Rattle.lc_outline.specs.DevelopmentView.{development_shown}
+use Rattle.lc_outline.specs.DevelopmentView.{development_view}
 use Rattle.lc_cert.specs.Certificates.{Entry}
 use Rattle.lc_cond.specs.ConditionView.{condition_in, AreConditions}
 use Rattle.lc_check.proofs.Walking.{first_left, due_behind, next_due, next_bounded, still_known, still_due, one_proved, still_at_due, refused_on}
@@ -9,7 +9,7 @@ use Rattle.lc_check.proofs.walk.Walk.prove_next_by.Goals as goal
 
 pub prove-requires-clause-bounded : goal.prove-requires-clause-bounded
 prove-requires-clause-bounded g c =
-    let d = development_shown c.args.development.now in
+    let d = development_view c.args.development.now in
     let old = c.args.self.now in
     let x = c.index-condition.result.now in
     let rest = drop (old.place + 1) old.part.items in
@@ -19,7 +19,7 @@ prove-requires-clause-bounded g c =
 
 pub returns-in_ok-self-in-Ok : goal.returns-in_ok-self-in-Ok
 returns-in_ok-self-in-Ok g c =
-    let d = development_shown c.args.development.now in
+    let d = development_view c.args.development.now in
     let old = c.args.self.now in
     let x = c.index-condition.result.now in
     let seen = condition_in old.terms x in
@@ -38,7 +38,7 @@ returns-in_ok-self-in-Ok g c =
 
 pub returns-in-Err : goal.returns-in-Err
 returns-in-Err g c =
-    let d = development_shown c.args.development.now in
+    let d = development_view c.args.development.now in
     let old = c.args.self.now in
     let new : Walk = record { stream = old.stream; terms = c.prove.new.terms; most = old.most; part = old.part; place = old.place; next = old.next } in
     let x = c.index-condition.result.now in

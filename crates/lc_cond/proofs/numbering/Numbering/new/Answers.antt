@@ -1,7 +1,7 @@
 use Rattle.std.proofs.Common.{◌≡◌, ◌+◌, suc, [], ◌∷◌, Some, None, map, option_map, slice_get, length, sym, ap, ◌∙◌, subst, arith}
 use Rattle.std.proofs.lemmas.List.{length-append}
 use Rattle.lc_object.specs.EdgeView.{edge_of}
-use Rattle.lc_outline.specs.DevelopmentView.{development_shown}
+use Rattle.lc_outline.specs.DevelopmentView.{development_view}
 use Rattle.lc_cond.specs.Conditions.{parts}
 use Rattle.lc_cond.specs.Numbering.{count_before, AreFirsts}
 use Rattle.lc_cond.specs.PartView.{part_of, parts_along}
@@ -12,7 +12,7 @@ use Rattle.lc_cond.proofs.numbering.Numbering.new.Goals as goal
 
 pub returns-in_default : goal.returns-in_default
 returns-in_default c =
-    let D = development_shown c.args.development.now in
+    let D = development_view c.args.development.now in
     let ns = c.parts.firsts.items in
     let n = c.parts.number in
     let place = c.len.result in
@@ -33,7 +33,7 @@ returns-in_default c =
 
 pub parts-smaller : goal.parts-smaller
 parts-smaller c =
-    let D = development_shown c.args.development.now in
+    let D = development_view c.args.development.now in
     let ns = c.parts.firsts.items in
     let place = c.len.result in
     let p = part_of c.in-Some.part in
@@ -46,7 +46,7 @@ parts-smaller c =
 
 pub overflow_add-number : goal.overflow_add-number
 overflow_add-number c =
-    let D = development_shown c.args.development.now in
+    let D = development_view c.args.development.now in
     let ns = c.parts.firsts.items in
     let place = c.len.result in
     let p = part_of c.in-Some.part in
@@ -62,7 +62,7 @@ overflow_add-number c =
 
 pub parts-preserved : goal.parts-preserved
 parts-preserved c =
-    let D = development_shown c.args.development.now in
+    let D = development_view c.args.development.now in
     let ns = c.parts.firsts.items in
     let n = c.parts.number in
     let place = c.len.result in

@@ -1,6 +1,6 @@
 use Rattle.std.proofs.Common.{◌≡◌, ◌+◌, ◌<◌, Some, None, map, option_map, slice_get, length, refl, sym, ap, ◌∙◌, subst, arith}
 use Rattle.lc_object.specs.EdgeView.{edge_of}
-use Rattle.lc_outline.specs.DevelopmentView.{development_shown}
+use Rattle.lc_outline.specs.DevelopmentView.{development_view}
 use Rattle.lc_cond.specs.Conditions.{parts, conditions_in}
 use Rattle.lc_cond.specs.Numbering.{AddsWith}
 use Rattle.lc_cond.specs.PartView.{part_of, parts_along}
@@ -11,7 +11,7 @@ use Rattle.lc_cond.proofs.numbering.Numbering.part_with.Goals as goal
 
 pub returns-in_default-clause-part : goal.returns-in_default-clause-part
 returns-in_default-clause-part c =
-    let D = development_shown c.args.development.now in
+    let D = development_view c.args.development.now in
     let n = c.args.self.now in
     let place = c.place_with-place.result in
     let read = c.part_at.ensures ∙ ap (λ l. slice_get (parts_along D (map edge_of l)) place) c.deref.ensures.value in
@@ -21,7 +21,7 @@ returns-in_default-clause-part c =
 
 pub push_with-requires : goal.push_with-requires
 push_with-requires c =
-    let D = development_shown c.args.development.now in
+    let D = development_view c.args.development.now in
     let n = c.args.self.now in
     let place = c.place_with-place.result in
     let read = c.part_at.ensures ∙ ap (λ l. slice_get (parts_along D (map edge_of l)) place) c.deref.ensures.value in
@@ -29,7 +29,7 @@ push_with-requires c =
 
 pub index-before-requires : goal.index-before-requires
 index-before-requires c =
-    let D = development_shown c.args.development.now in
+    let D = development_view c.args.development.now in
     let n = c.args.self.now in
     let place = c.place_with-place.result in
     let p = part_of c.in-Some.part in
@@ -42,7 +42,7 @@ index-before-requires c =
 
 pub overflow_add-result : goal.overflow_add-result
 overflow_add-result c =
-    let D = development_shown c.args.development.now in
+    let D = development_view c.args.development.now in
     let n = c.args.self.now in
     let place = c.place_with-place.result in
     let p = part_of c.in-Some.part in
@@ -60,7 +60,7 @@ overflow_add-result c =
 
 pub returns-clause-part : goal.returns-clause-part
 returns-clause-part c =
-    let D = development_shown c.args.development.now in
+    let D = development_view c.args.development.now in
     let n = c.args.self.now in
     let place = c.place_with-place.result in
     let p = part_of c.in-Some.part in

@@ -1,7 +1,7 @@
 use Rattle.std.proofs.Common.{◌≡◌, ◌+◌, suc, map, option_map, slice_get, refl, sym, subst, ap, ◌∙◌, arith}
 use Rattle.std.proofs.lemmas.List.{length-map}
 use Rattle.lc_object.specs.EdgeView.{edge_of}
-use Rattle.lc_outline.specs.DevelopmentView.{development_shown}
+use Rattle.lc_outline.specs.DevelopmentView.{development_view}
 use Rattle.lc_cond.specs.Adding.{Adds}
 use Rattle.lc_cond.specs.Conditions.{conditions_in}
 use Rattle.lc_cond.specs.PartView.{part_of, parts_along}
@@ -13,7 +13,7 @@ use Rattle.lc_cond.proofs.stream.ConditionStream.next_part.Goals as goal
 pub returns-in_default-clause-next : goal.returns-in_default-clause-next
 returns-in_default-clause-next c =
     let before = c.args.self.now in
-    let D = development_shown c.args.development.now in
+    let D = development_view c.args.development.now in
     let ps = parts_along D (map edge_of before.edges.items) in
     let at = c.part_at.ensures ∙ ap (λ l. slice_get (parts_along D (map edge_of l)) before.place) c.deref.ensures.value in
     let (nothing, none) = none_left D ps before.place (ended c.part_at.result (slice_get ps before.place) c.in_default.not-Some at) in
@@ -22,7 +22,7 @@ returns-in_default-clause-next c =
 pub push_part-requires : goal.push_part-requires
 push_part-requires c =
     let before = c.args.self.now in
-    let D = development_shown c.args.development.now in
+    let D = development_view c.args.development.now in
     let at = c.part_at.ensures ∙ ap (λ l. slice_get (parts_along D (map edge_of l)) before.place) c.deref.ensures.value in
     part_limited D c.args.development.now.resolved (map edge_of before.edges.items) before.place c.in-Some.part (sym at ∙ ap (option_map part_of) c.in-Some.is)
 
@@ -32,7 +32,7 @@ overflow_add-self c = (let few = c.args.self.now.few_parts in omega (arith, few)
 pub overflow_add-self-2 : goal.overflow_add-self-2
 overflow_add-self-2 c =
     let before = c.args.self.now in
-    let D = development_shown c.args.development.now in
+    let D = development_view c.args.development.now in
     let part = part_of c.in-Some.part in
     let ts = c.push_part.new.terms in
     let now = c.push_part.new.conditions.items in
@@ -46,7 +46,7 @@ overflow_add-self-2 c =
 pub invariant_of-self : goal.invariant_of-self
 invariant_of-self c =
     let before = c.args.self.now in
-    let D = development_shown c.args.development.now in
+    let D = development_view c.args.development.now in
     let es = map edge_of before.edges.items in
     let part = part_of c.in-Some.part in
     let ts = c.push_part.new.terms in
@@ -64,7 +64,7 @@ invariant_of-self c =
 pub returns-clause-next : goal.returns-clause-next
 returns-clause-next c =
     let before = c.args.self.now in
-    let D = development_shown c.args.development.now in
+    let D = development_view c.args.development.now in
     let ps = parts_along D (map edge_of before.edges.items) in
     let part = part_of c.in-Some.part in
     let ts = c.push_part.new.terms in

@@ -1,5 +1,5 @@
 use Rattle.std.proofs.Common.{Bool}
-use Rattle.lc_outline.specs.DevelopmentView.{development_shown}
+use Rattle.lc_outline.specs.DevelopmentView.{development_view}
 use Rattle.lc_cond_text.specs.LinesView.{GoesOn, Passes}
 use Rattle.lc_cond_text.proofs.lines.ConditionLines.next_piece.Goals as goal
 use Rattle.lc_cond_text.proofs.lines.ConditionLines.next_piece.Goals.{then-more, else-more}
@@ -10,7 +10,7 @@ fill-requires c = c.self.invariant c.in-Going.is
 
 pub invariant_of-self-2 : goal.invariant_of-self-2
 invariant_of-self-2 c =
-    let d = development_shown c.self.inside.development.now in
+    let d = development_view c.self.inside.development.now in
     let old = c.new-piece.result.items in
     let new = c.fill.new.piece.items in
     elim c.if-more.branch [

@@ -6,7 +6,7 @@ use Rattle.lc_check.specs.VerdictView.{development_in}
 use Rattle.lc_run.specs.Finished.{AreOwn}
 use Rattle.lc_run.specs.LabelView.{labels_of}
 use Rattle.lc_run.specs.Locked.{development_held, clients_held, labels_held}
-use Rattle.lc_run.specs.Ordering.{entries_shown}
+use Rattle.lc_run.specs.Ordering.{order_entries}
 use Rattle.lc_run.specs.Running.{development_of, clients_of}
 use Rattle.lc_run.specs.Seated.{AreAllThere, HasOwn, IsWhy}
 use Rattle.lc_run.proofs.Ending.{its-run, its-order, all-gathered}
@@ -21,7 +21,7 @@ pub returns-in-Ok-clause-linearizes : goal.returns-in-Ok-clause-linearizes
 returns-in-Ok-clause-linearizes g c =
     let log = c.log_of.result in
     let same = sym c.log_of.ensures.labels in
-    its-order c.into_inner-shared.result c.orders_linearize.ensures (development_of c.args.self) (labels_of log.labels.items) (events_in log.history) (entries_shown log.order.items)
+    its-order c.into_inner-shared.result c.orders_linearize.ensures (development_of c.args.self) (labels_of log.labels.items) (events_in log.history) (order_entries log.order.items)
     (c.in-Ok.ensures.whole.same.0 ∙ ap development_in c.deref.ensures) same
     (c.log_of.ensures.history ∙ (c.in-Ok.ensures.history ∙ ap history same)) (c.log_of.ensures.order ∙ (c.in-Ok.ensures.order ∙ ap order same))
 

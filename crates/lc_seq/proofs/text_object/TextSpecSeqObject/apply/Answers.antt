@@ -4,7 +4,7 @@ use Rattle.lc_term.specs.Meaning.{Env}
 use Rattle.lc_term.specs.State.{state_of, env_of, column_count, variable_count}
 use Rattle.std.specs.Prelude.{IfSome}
 use Rattle.lc_term.specs.Updates.{stored_all, AreWithin}
-use Rattle.lc_term.specs.UpdateView.{writes_shown}
+use Rattle.lc_term.specs.UpdateView.{writes_view}
 use Rattle.lc_seq.specs.Run.{seq_says, outcome_in}
 use Rattle.lc_term.proofs.Tests.{left_true}
 use Rattle.lc_seq.specs.Specification.{Branch, branches_in, chosen, names_differ}
@@ -61,8 +61,8 @@ returns-in_err-outcome-clause-applied c =
 pub write_all-requires : goal.write_all-requires
 write_all-requires c =
     let count = column_count c.args.state.now.cells in
-    let there = subst (λ f. IfSome f (λ outcome. AreWithin count (writes_shown outcome.writes.items))) c.in-Some.is c.in_ok-outcome.ensures.columns in
-    subst (λ ws. AreWithin count (writes_shown ws)) (sym c.deref-in-Some.ensures.value) there
+    let there = subst (λ f. IfSome f (λ outcome. AreWithin count (writes_view outcome.writes.items))) c.in-Some.is c.in_ok-outcome.ensures.columns in
+    subst (λ ws. AreWithin count (writes_view ws)) (sym c.deref-in-Some.ensures.value) there
 
 pub returns-in-Some-clause-applied : goal.returns-in-Some-clause-applied
 returns-in-Some-clause-applied c =
@@ -70,8 +70,8 @@ returns-in-Some-clause-applied c =
     let s = state_of c.args.state.now.cells in
     let known = subst (λ f. IsComputed seq_says outcome_in (RunFits s (env_at at) (left_at at)) (run s (env_at at) (left_at at)) (Ok f)) c.in-Some.is (computed at (Ok c.in_ok-outcome.field-0) c.in_ok-outcome.ensures.computed) in
     let found = some_applied s (env_at at) (left_at at) c.in-Some.outcome known in
-    let now : state_of c.write_all.new.self ≡ stored_all s (writes_shown c.in-Some.outcome.writes.items) =
-    c.in_ok-write_all-in-Some.ensures.ok ∙ ap (λ ws. stored_all s (writes_shown ws)) c.deref-in-Some.ensures.value in
+    let now : state_of c.write_all.new.self ≡ stored_all s (writes_view c.in-Some.outcome.writes.items) =
+    c.in_ok-write_all-in-Some.ensures.ok ∙ ap (λ ws. stored_all s (writes_view ws)) c.deref-in-Some.ensures.value in
     (found.0, found.1 ∙ ap (λ t. Some (t, c.in-Some.outcome.replies.items)) (sym now))
 
 pub returns-clause-applied : goal.returns-clause-applied
