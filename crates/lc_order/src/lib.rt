@@ -9,6 +9,7 @@ mod expanding;
 mod finding;
 pub mod laws;
 mod nodes;
+mod open;
 mod refuting;
 mod roster;
 mod searchable;
@@ -17,5 +18,6 @@ mod written;
 
 pub use deciding::{Decision, decide};
 pub use draft::TextDraft;
+pub use open::{Replies, next_replies};
 pub use refuting::{Refutation, refute};
 pub use searchable::{Listed, Searchable, Stepped};
