@@ -97,6 +97,18 @@ draw_app = explained (with_rule (with_rule (new_app (codes "draw")) (file_rule (
 abbrev pub begin_app : App
 begin_app = with_rule (new_app (codes "new")) (object_rule (codes "NAME"))
 
+-- an option with a number of 64 bits
+abbrev pub number_rule : Text → Rule
+number_rule name = record (option_rule name) { parser = Some (Unsigned 0 18446744073709551615) }
+
+-- `order DEV HISTORY [--check]`
+abbrev pub order_word_app : App
+order_word_app = with_rule (with_rule (with_rule (new_app (codes "order")) (file_rule (codes "DEV"))) (file_rule (codes "HISTORY"))) (flag_rule (codes "check"))
+
+-- `order DEV HISTORY [--check] [--budget N] [--explain]`
+abbrev pub order_app : App
+order_app = explained (with_rule order_word_app (number_rule (codes "budget")))
+
 -- a command of this name that has a version and needs a subcommand
 abbrev pub needs_subcommand : Text → App
 needs_subcommand name = record { top = record (new_app name).top { subcommand_required = true; has_version = true }; subs = [] }
@@ -123,4 +135,4 @@ drawing_app = with_subcommand (with_subcommand carrying_app draw_app.top) begin_
 
 -- the program and its commands
 abbrev pub program_app : App
-program_app = with_subcommand drawing_app run_app.top
+program_app = with_subcommand (with_subcommand drawing_app run_app.top) order_app.top

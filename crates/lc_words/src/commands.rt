@@ -11,8 +11,9 @@ use crate::texts::{
     DRAW, DRAW_ANSWER, EXIT_STATUS, EXPLAIN, FORMULA, FORMULA_ANSWER, FORMULA_FILE, HINTS, JUDGE,
     JUDGE_ANSWER, JUDGE_DEVELOPMENT, JUDGE_HISTORY, LIBRARY, LIBRARY_ANSWER, LIBRARY_CERTIFICATE,
     LIBRARY_HINTS, NEW, NEW_ANSWER, NEW_DEVELOPMENT, NEW_HINTS, NEW_NAME, OBJECT, OLD,
-    OLD_CERTIFICATE, PLAN_FILE, PROGRESS, PROVE, PROVE_ANSWER, RUN, RUN_ANSWER, SHOW, SHOW_ANSWER,
-    SHOW_LINES, VERSION, WORKERS,
+    OLD_CERTIFICATE, ORDER, ORDER_ANSWER, ORDER_BUDGET, ORDER_CHECK, ORDER_HISTORY, PLAN_FILE,
+    PROGRESS, PROVE, PROVE_ANSWER, RUN, RUN_ANSWER, SHOW, SHOW_ANSWER, SHOW_LINES, VERSION,
+    WORKERS,
 };
 use clap::builder::ValueParser;
 use clap::{Arg, ArgAction, Command};
@@ -26,8 +27,8 @@ enum Argument {
     Place(&'static str, &'static str),
     /// An option with a value, which is called so in the help.
     Value(&'static str, &'static str, &'static str),
-    /// An option with a number of workers.
-    Workers(&'static str, &'static str),
+    /// An option with a number from one to another.
+    Number(&'static str, &'static str, u64, u64),
     /// An option without a value.
     Flag(&'static str, &'static str),
 }
@@ -93,7 +94,7 @@ static CHECK_COMMAND: Described = Described {
     arguments: &[
         Argument::Place("DEV", DEVELOPMENT),
         Argument::Place("CERT", CERTIFICATE_FILE),
-        Argument::Workers("workers", WORKERS),
+        Argument::Number("workers", WORKERS, 1, WORKER_LIMIT),
         Argument::Flag("all", CHECK_ALL),
         Argument::Flag("progress", CHECK_PROGRESS),
         Argument::Flag("explain", EXPLAIN),
@@ -167,6 +168,19 @@ static RUN_COMMAND: Described = Described {
     ],
 };
 
+static ORDER_COMMAND: Described = Described {
+    name: "order",
+    about: ORDER,
+    answer: ORDER_ANSWER,
+    arguments: &[
+        Argument::Place("DEV", JUDGE_DEVELOPMENT),
+        Argument::Place("HISTORY", ORDER_HISTORY),
+        Argument::Flag("check", ORDER_CHECK),
+        Argument::Number("budget", ORDER_BUDGET, 0, u64::MAX),
+        Argument::Flag("explain", EXPLAIN),
+    ],
+};
+
 /// An option with a value, which is called so in the help.
 fn value_option<'a>(alloc: Global, name: &'a str, value: &'a str, help: &'a str) -> Arg<'a>
     ensures rule { rule_of result ≡ option_rule name.entry.now }
@@ -190,9 +204,9 @@ fn arg_of<'a>(alloc: Global, argument: Argument) -> Arg<'a>
             .action(ArgAction::Set)
             .help(help),
         Argument::Value(name, value, help) => value_option(alloc, name, value, help),
-        Argument::Workers(name, help) => value_option(alloc, name, "N", help).value_parser(
-            ValueParser::Unsigned(1, WORKER_LIMIT),
-        ),
+        Argument::Number(name, help, least, most) => value_option(
+            alloc, name, "N", help,
+        ).value_parser(ValueParser::Unsigned(least, most)),
         Argument::Flag(name, help) => Arg::new(alloc, name)
             .long(name)
             .action(ArgAction::SetTrue)
@@ -245,6 +259,7 @@ pub(crate) fn program<'a>(alloc: Global) -> Result<Command<'a>, AllocError>
         &DRAW_COMMAND,
         &NEW_COMMAND,
         &RUN_COMMAND,
+        &ORDER_COMMAND,
     ];
     program_of(alloc, &commands)
 }

@@ -75,6 +75,14 @@ pub enum Request<'a> {
         development: &'a str,
         history: &'a str,
     },
+    /// Find an order that linearizes the history in a file, by the specification in another, over so many nodes, if a number is
+    /// given; or say with a word whether there is one.
+    Order {
+        development: &'a str,
+        history: &'a str,
+        check: bool,
+        budget: Option<u64>,
+    },
     /// Print a development of this name to begin with.
     New(&'a str),
     /// Print a text of an object of the library.

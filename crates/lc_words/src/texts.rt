@@ -94,6 +94,35 @@ Example:
   lincheck draw examples/counter.spec examples/linearizable.json > history.svg
       prints a picture of two clients that counted at the same time";
 
+pub(crate) const ORDER: &str =
+    "Finds an order that linearizes a recorded history, or shows that there is none";
+
+pub(crate) const ORDER_HISTORY: &str =
+    "A JSON file: an object with the array `events`, and with an array `order` or without";
+
+pub(crate) const ORDER_CHECK: &str = "Print the word `linearizable` in place of the history";
+
+pub(crate) const ORDER_BUDGET: &str =
+    "How many nodes of a search are looked at; 10,000,000 without it";
+
+pub(crate) const ORDER_ANSWER: &str = "\
+Reads DEV as `judge` does, and in HISTORY what clients called and what came back, as it was recorded. Looks for an order of the calls that
+linearizes the history, and prints the history with this order, as `judge` and `draw` read it. If HISTORY has an order that does,
+that one is printed. Else it prints one line:
+  refused CODE ..     DEV is refused as by `judge`, or HISTORY by code 13
+  not linearizable N  no order linearizes the history, and none its first N events
+  unknown             none was found, and of a call not all choices could be tried
+  overflow            none was found, and a number that was reached leaves 64 bits
+  budget              the search was given up
+An order that is printed linearizes the history, and if it is said that there is none, there is none, whatever the object chooses.
+A search can be long if an object shows late which of its calls came first, as a queue that has grown long.
+
+Examples:
+  lincheck order examples/counter.spec examples/recorded.json
+      prints what three clients saw of a counter, with an order that `judge` accepts
+  lincheck order examples/counter.spec examples/recorded.json --check
+      prints `linearizable`";
+
 pub(crate) const DEVELOPMENT: &str =
     "A development: a specification, the object's code, and what is claimed of it";
 

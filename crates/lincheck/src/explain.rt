@@ -11,7 +11,7 @@ use lc_explain::{FileKind, explanation};
 use lc_explain_cert::{
     certificate_explanation, proof_explanation, unfound_explanation, unproved_conditions,
 };
-use lc_explain_hist::history_explanation;
+use lc_explain_hist::{history_explanation, recorded_explanation, unordered_explanation};
 use lc_outline::Development;
 use lc_outline_text::development_of;
 use lc_spec_text::spec_of;
@@ -107,6 +107,46 @@ fn history_told<'a, F: Files>(
             Ok(Some(text))
         }
         Err(Fault::Refused(_)) => file.told(alloc, FileKind::Specification, refusal),
+        Err(Fault::OutOfMemory) => Err(Failure::OutOfMemory),
+    }
+}
+
+/// What is said of a recorded history, which is read for a specification; or of the specification.
+fn recorded_told<'a, F: Files>(
+    alloc: Global,
+    files: &mut F,
+    development: &'a str,
+    history: &'a str,
+    refusal: &Refusal,
+) -> Said<'a> {
+    let file = Text::read(alloc, files, development)?;
+    match spec_of(alloc, &file.bytes) {
+        Ok(spec) => {
+            let file = Text::read(alloc, files, history)?;
+            let text = recorded_explanation(alloc, history, &spec, &file.bytes, refusal)?;
+            Ok(Some(text))
+        }
+        Err(Fault::Refused(_)) => file.told(alloc, FileKind::Specification, refusal),
+        Err(Fault::OutOfMemory) => Err(Failure::OutOfMemory),
+    }
+}
+
+/// What is said of a recorded history of which no order linearizes so many first events.
+fn unordered_told<'a, F: Files>(
+    alloc: Global,
+    files: &mut F,
+    development: &'a str,
+    history: &'a str,
+    count: u64,
+) -> Said<'a> {
+    let file = Text::read(alloc, files, development)?;
+    match spec_of(alloc, &file.bytes) {
+        Ok(spec) => {
+            let file = Text::read(alloc, files, history)?;
+            let text = unordered_explanation(alloc, history, &spec, &file.bytes, count)?;
+            Ok(Some(text))
+        }
+        Err(Fault::Refused(_)) => Ok(None),
         Err(Fault::OutOfMemory) => Err(Failure::OutOfMemory),
     }
 }
@@ -230,6 +270,11 @@ fn refused_told<'a, F: Files>(
             development,
             history,
         } => history_told(alloc, files, development, history, refusal),
+        Request::Order {
+            development,
+            history,
+            ..
+        } => recorded_told(alloc, files, development, history, refusal),
         Request::Show { development, .. } | Request::Conditions { development, .. } => {
             file_told(alloc, files, development, FileKind::Development, refusal)
         }
@@ -406,6 +451,19 @@ fn explain_why<F: Files, E: Write>(
                 say(err, unfound_told(alloc, files, development, number));
             }
             explain_carried(alloc, request, Some(number), files, err);
+        }
+        Some(Why::Unordered(count)) => {
+            if let Request::Order {
+                development,
+                history,
+                ..
+            } = request
+            {
+                say(
+                    err,
+                    unordered_told(alloc, files, development, history, count),
+                );
+            }
         }
         None => explain_carried(alloc, request, None, files, err),
     }

@@ -16,6 +16,7 @@ pub mod laws;
 mod library;
 mod lines;
 mod new;
+mod order;
 mod printing;
 mod program;
 mod prove;

@@ -18,6 +18,7 @@ use crate::formula::answer_formula;
 use crate::judge::answer_judge;
 use crate::library::answer_library;
 use crate::new::answer_new;
+use crate::order::{Search, answer_order};
 use crate::printing::print_told;
 use crate::prove::answer_prove;
 use crate::run::answer_run;
@@ -114,6 +115,16 @@ fn carry_out<'a, R: Threads + Wait + Sync, F: Files, O: Write, E: Write>(
             history,
         } => {
             let answer = answer_draw(alloc, files, development, history)?;
+            print_told(out, why, &answer)
+        }
+        Request::Order {
+            development,
+            history,
+            check,
+            budget,
+        } => {
+            let search = Search { check, budget };
+            let answer = answer_order(alloc, files, development, history, search)?;
             print_told(out, why, &answer)
         }
         Request::New(name) => print_told(out, why, &answer_new(alloc, name)?),
