@@ -12,8 +12,8 @@ use crate::texts::{
     JUDGE_ANSWER, JUDGE_DEVELOPMENT, JUDGE_HISTORY, LIBRARY, LIBRARY_ANSWER, LIBRARY_CERTIFICATE,
     LIBRARY_HINTS, NEW, NEW_ANSWER, NEW_DEVELOPMENT, NEW_HINTS, NEW_NAME, OBJECT, OLD,
     OLD_CERTIFICATE, ORDER, ORDER_ANSWER, ORDER_BUDGET, ORDER_CHECK, ORDER_HISTORY, PLAN_FILE,
-    PROGRESS, PROVE, PROVE_ANSWER, RUN, RUN_ANSWER, SHOW, SHOW_ANSWER, SHOW_LINES, VERSION,
-    WORKERS,
+    PROGRESS, PROVE, PROVE_ALL, PROVE_ANSWER, QUIET, RUN, RUN_ANSWER, SHOW, SHOW_ANSWER,
+    SHOW_LINES, VERSION, WORKERS,
 };
 use clap::builder::ValueParser;
 use clap::{Arg, ArgAction, Command};
@@ -48,6 +48,7 @@ static FORMULA_COMMAND: Described = Described {
     answer: FORMULA_ANSWER,
     arguments: &[
         Argument::Place("FILE", FORMULA_FILE),
+        Argument::Flag("quiet", QUIET),
         Argument::Flag("explain", EXPLAIN),
     ],
 };
@@ -59,6 +60,7 @@ static JUDGE_COMMAND: Described = Described {
     arguments: &[
         Argument::Place("DEV", JUDGE_DEVELOPMENT),
         Argument::Place("HISTORY", JUDGE_HISTORY),
+        Argument::Flag("quiet", QUIET),
         Argument::Flag("explain", EXPLAIN),
     ],
 };
@@ -70,6 +72,7 @@ static SHOW_COMMAND: Described = Described {
     arguments: &[
         Argument::Place("DEV", DEVELOPMENT),
         Argument::Flag("lines", SHOW_LINES),
+        Argument::Flag("quiet", QUIET),
         Argument::Flag("explain", EXPLAIN),
     ],
 };
@@ -83,6 +86,7 @@ static CONDITIONS_COMMAND: Described = Described {
         Argument::Value("at", "K", CONDITION_NUMBER),
         Argument::Value("only", "POINT", CONDITION_POINT),
         Argument::Value("kind", "KIND", CONDITION_KIND),
+        Argument::Flag("quiet", QUIET),
         Argument::Flag("explain", EXPLAIN),
     ],
 };
@@ -97,6 +101,7 @@ static CHECK_COMMAND: Described = Described {
         Argument::Number("workers", WORKERS, 1, WORKER_LIMIT),
         Argument::Flag("all", CHECK_ALL),
         Argument::Flag("progress", CHECK_PROGRESS),
+        Argument::Flag("quiet", QUIET),
         Argument::Flag("explain", EXPLAIN),
     ],
 };
@@ -108,7 +113,9 @@ static PROVE_COMMAND: Described = Described {
     arguments: &[
         Argument::Place("DEV", DEVELOPMENT),
         Argument::Value("hints", "FILE", HINTS),
+        Argument::Flag("all", PROVE_ALL),
         Argument::Flag("progress", PROGRESS),
+        Argument::Flag("quiet", QUIET),
         Argument::Flag("explain", EXPLAIN),
     ],
 };
@@ -123,6 +130,7 @@ static CARRY_COMMAND: Described = Described {
         Argument::Place("NEW", NEW_DEVELOPMENT),
         Argument::Value("hints", "FILE", NEW_HINTS),
         Argument::Flag("progress", PROGRESS),
+        Argument::Flag("quiet", QUIET),
         Argument::Flag("explain", EXPLAIN),
     ],
 };
@@ -145,6 +153,7 @@ static DRAW_COMMAND: Described = Described {
     arguments: &[
         Argument::Place("DEV", JUDGE_DEVELOPMENT),
         Argument::Place("HISTORY", JUDGE_HISTORY),
+        Argument::Flag("quiet", QUIET),
         Argument::Flag("explain", EXPLAIN),
     ],
 };
@@ -164,6 +173,7 @@ static RUN_COMMAND: Described = Described {
         Argument::Place("DEV", DEVELOPMENT),
         Argument::Place("CERT", CERTIFICATE_FILE),
         Argument::Place("PLAN", PLAN_FILE),
+        Argument::Flag("quiet", QUIET),
         Argument::Flag("explain", EXPLAIN),
     ],
 };
@@ -177,6 +187,7 @@ static ORDER_COMMAND: Described = Described {
         Argument::Place("HISTORY", ORDER_HISTORY),
         Argument::Flag("check", ORDER_CHECK),
         Argument::Number("budget", ORDER_BUDGET, 0, u64::MAX),
+        Argument::Flag("quiet", QUIET),
         Argument::Flag("explain", EXPLAIN),
     ],
 };

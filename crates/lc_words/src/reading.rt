@@ -155,10 +155,12 @@ fn prove_request<'a>(command: &ArgMatches<'a>) -> Option<Request<'a>>
 {
     let development = command.get_str("DEV")?;
     let hints = command.get_str("hints");
+    let all = command.get_flag("all");
     let progress = command.get_flag("progress");
     Some(Request::Prove {
         development,
         hints,
+        all,
         progress,
     })
 }

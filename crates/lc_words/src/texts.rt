@@ -30,7 +30,10 @@ Examples:
   lincheck library queue
       prints a queue, with all that is claimed of it";
 
-pub(crate) const EXPLAIN: &str = "Say on standard error where and why a file is refused";
+pub(crate) const EXPLAIN: &str =
+    "Say on standard error where and why a file is refused; on a terminal, as if it were written";
+
+pub(crate) const QUIET: &str = "Do not say it on a terminal, unless --explain is written";
 
 pub(crate) const FORMULA: &str = "Checks the proof of one formula";
 
@@ -232,6 +235,9 @@ pub(crate) const HINTS: &str = "Hints: terms, formulas and proofs for conditions
 pub(crate) const PROGRESS: &str =
     "Say on standard error, by `condition K`, which condition is looked at";
 
+pub(crate) const PROVE_ALL: &str =
+    "Go on after a miss, and say on standard error of which conditions no proof was found";
+
 pub(crate) const PROVE_ANSWER: &str = "\
 Reads DEV and, where it is a development, the hints in FILE. Looks for a proof of each condition, and prints a certificate
 of all, which `check` accepts. Else it prints one line:
@@ -241,10 +247,13 @@ of all, which `check` accepts. Else it prints one line:
   large K          a number of the search for condition K leaves 128 bits
 `conditions` prints the conditions by their numbers. For condition K, FILE offers terms (use K T ..), a formula (cut K F) or
 a whole proof (by K P).
+With -o FILE after its words the certificate is put into FILE, which stays as it was if there is none, and `found NAME COUNT` is printed.
 
-Example:
+Examples:
   lincheck prove examples/counter.lc
-      prints a certificate of the counter, with 59 proofs";
+      prints a certificate of the counter, with 59 proofs
+  lincheck prove examples/counter.lc -o counter.cert
+      puts it into a file, and prints `found counter 59`";
 
 pub(crate) const CARRY: &str = "Finds a certificate of a development that was changed";
 
@@ -265,7 +274,8 @@ certificate of NEW, which `check` accepts. Else it prints one line:
   not-found K      no proof of condition K of NEW was found
   budget K         1,000,000 steps were tried for condition K, or the certificate would be too large
   large K          a number of the search for condition K leaves 128 bits
-With --explain it also says on standard error how many proofs were carried and found, and how many conditions are left.
+With --explain it also says on standard error how many proofs were carried and found, and how many conditions are left. With
+-o FILE the certificate is put into FILE, as by `prove`.
 
 Example:
   lincheck carry examples/counter.lc examples/counter.cert examples/faa_counter.lc

@@ -12,6 +12,7 @@ mod explain;
 mod files;
 mod formula;
 mod judge;
+mod kept;
 pub mod laws;
 mod library;
 mod lines;
@@ -27,7 +28,7 @@ mod sink;
 mod telling;
 mod workers;
 
-pub use answer::{COMMAND_LINE_FAULT, OUT_OF_MEMORY};
+pub use answer::{COMMAND_LINE_FAULT, INPUT_OR_OUTPUT_FAULT, OUT_OF_MEMORY, SUCCESS};
 pub use disk::Disk;
 pub use files::Files;
 pub use program::execute;
