@@ -4,17 +4,19 @@ ghost use Rattle.lc_cond.specs.ConditionView.{AreConditions, IsCondition};
 
 use crate::condition::condition_words;
 use crate::depth::has_deep_terms;
-use crate::failing::failing_text;
+use crate::failing::model_text;
 use crate::flawed::{Flawed, said, with_variables};
 use crate::names::Names;
 use crate::sentence::Sentence;
+use crate::source::{Source, push_places};
 use crate::state::{goal_text, step_text};
-use lc_base::{Fault, OutOfMemory, Refusal};
-use lc_cert::certificate_of;
+use lc_base::{OutOfMemory, Refusal};
+use lc_cert::EntryReader;
 use lc_cond::{Condition, NumberedPart, Numbering};
-use lc_explain::proof_place;
+use lc_explain::{Label, entry_place, proof_place};
 use lc_outline::Development;
 use lc_place::{Place, item_place};
+use lc_search::CounterModel;
 use lc_table::Terms;
 use std::alloc::Global;
 
@@ -71,6 +73,11 @@ pub(crate) fn sentence_of<'a>(number: u64, refusal: &Refusal, words: &'a str) ->
     }
 }
 
+/// The text of a file at a place.
+fn text_at(bytes: &[u8], place: Place) -> Option<&[u8]> {
+    bytes.get(place.offset..)?.get(..place.length)
+}
+
 /// What is at a step of the proof that a certificate has for a condition.
 fn state_at(
     alloc: Global,
@@ -87,17 +94,20 @@ fn state_at(
     let Ok(step) = u32::try_from(flawed.step) else {
         return Ok(None);
     };
-    let certificate = match certificate_of(alloc, development, bytes) {
-        Ok(certificate) => certificate,
-        Err(Fault::Refused(_)) => return Ok(None),
-        Err(Fault::OutOfMemory) => return Err(OutOfMemory),
-    };
-    let Some(proof) = certificate.proof(number) else {
+    let Some(text) = entry_place(bytes, number).and_then(|place| text_at(bytes, place)) else {
         return Ok(None);
     };
+    let reader = EntryReader::new(alloc, development.parts())?;
+    let Some(single) = reader.read(alloc, text, number, 0)? else {
+        return Ok(None);
+    };
+    let proof = &single.entry.proof;
     let reason = flawed.reason;
     step_text(alloc, names, terms, &condition.goal, proof, step, reason)
 }
+
+/// What is said of the place at which a condition stands.
+const OF_CONDITION: &str = "the condition stands here";
 
 /// What is said in place of hypotheses whose terms are too deep.
 const DEEP: &str = "  its terms are nested too deep to be shown\n";
@@ -134,11 +144,12 @@ fn state_of(
     with_variables(&names, lines)
 }
 
-/// Where and why a certificate of a development is refused: what the condition asks, the step of its proof, and the hypotheses
-/// there. Nothing is said if the refusal has no condition.
+/// Where and why a certificate of a development is refused: what the condition asks, the step of its proof, the places in the file of the
+/// development of what the condition speaks of, and the hypotheses there. Nothing is said if the refusal has no condition.
 pub fn certificate_explanation(
     alloc: Global,
     path: &str,
+    source: Source<'_>,
     development: &Development,
     bytes: &[u8],
     refusal: &Refusal,
@@ -157,46 +168,117 @@ pub fn certificate_explanation(
     let flawed = Flawed::of(refusal);
     let lines = state_of(alloc, development, bytes, &terms, number, condition, flawed)?;
     let sentence = sentence_of(number, refusal, &words);
-    said(alloc, path, bytes, place, sentence, lines)
+    let Some(mut text) = said(alloc, path, bytes, place, sentence, None)? else {
+        return Ok(None);
+    };
+    let label = Label::Note;
+    push_places(
+        alloc,
+        &mut text,
+        source,
+        development,
+        condition,
+        label,
+        OF_CONDITION,
+    )?;
+    if let Some(lines) = lines {
+        text.extend_from_slice(lines.as_bytes())?;
+    }
+    Ok(Some(text))
 }
 
-/// The hypotheses of a condition for which no proof was found, and a state in which it fails, if a search ends in one.
+/// The hypotheses of a condition for which no proof was found, and a state in which it fails, if the search ended in a model.
 fn unfound_lines(
     alloc: Global,
     development: &Development,
     terms: &Terms,
     condition: &Condition,
+    model: Option<&CounterModel>,
 ) -> Result<String, OutOfMemory>
     requires { IsCondition terms.now condition.now }
 {
     let names = Names::of_condition(alloc, development.parts(), condition)?;
     let mut text = goal_text(alloc, &names, terms, &condition.goal)?;
     names.push_variables(&mut text)?;
-    if let Some(state) = failing_text(alloc, &names, terms, &condition.goal)? {
-        text.push_str(&state)?;
+    if let Some(model) = model {
+        let kind = condition.kind;
+        let said = model_text(alloc, &names, terms, kind, &condition.goal, model)?;
+        text.push_str(&said)?;
     }
     Ok(text)
 }
 
-/// What the condition of a number asks for which no proof was found, and its hypotheses.
-pub fn unfound_explanation(
+/// What is said below the places of a condition for which no proof was found.
+fn unfound_state(
     alloc: Global,
     development: &Development,
+    terms: &Terms,
+    condition: &Condition,
+    model: Option<&CounterModel>,
+) -> Result<String, OutOfMemory>
+    requires { IsCondition terms.now condition.now }
+{
+    if has_deep_terms(alloc, terms, &condition.goal)? {
+        return Ok(String::from_str(alloc, DEEP)?);
+    }
+    unfound_lines(alloc, development, terms, condition, model)
+}
+
+/// Appends to `text` what a condition asks for which no proof was found, with the places in the file of the development of what it speaks
+/// of, its hypotheses, and a state in which it fails, if the search for a proof ended in a model.
+pub(crate) fn push_unfound(
+    alloc: Global,
+    text: &mut Vec<u8>,
+    source: Source<'_>,
+    development: &Development,
+    terms: &Terms,
     number: u64,
-) -> Result<Option<String>, OutOfMemory> {
+    condition: &Condition,
+    model: Option<&CounterModel>,
+) -> Result<(), OutOfMemory>
+    requires { IsCondition terms.now condition.now }
+{
+    let words = condition_words(alloc, development, condition)?;
+    let sentence = format!(in alloc; "no proof of condition {number} was found ({words})")?;
+    let label = Label::Error;
+    push_places(
+        alloc,
+        text,
+        source,
+        development,
+        condition,
+        label,
+        &sentence,
+    )?;
+    let lines = unfound_state(alloc, development, terms, condition, model)?;
+    text.extend_from_slice(lines.as_bytes())?;
+    Ok(())
+}
+
+/// What the condition of a number asks for which no proof was found, in full.
+pub fn unfound_explanation(
+    alloc: Global,
+    source: Source<'_>,
+    development: &Development,
+    number: u64,
+    model: Option<&CounterModel>,
+) -> Result<Vec<u8>, OutOfMemory> {
     let numbering = Numbering::new(alloc, development)?;
     let mut terms = Terms::new(alloc);
     let part = numbering.part_with(alloc, development, &mut terms, number)?;
+    let mut text = Vec::new(alloc);
     let Some(condition) = condition_at(&terms, &part, number) else {
-        return Ok(None);
+        return Ok(text);
     };
-    let words = condition_words(alloc, development, condition)?;
-    let mut text = String::new(alloc);
-    write!(text, "no proof of condition {number} was found ({words})\n")?;
-    if has_deep_terms(alloc, &terms, &condition.goal)? {
-        text.push_str(DEEP)?;
-    } else {
-        text.push_str(&unfound_lines(alloc, development, &terms, condition)?)?;
-    }
-    Ok(Some(text))
+    push_unfound(
+        alloc,
+        &mut text,
+        source,
+        development,
+        &terms,
+        number,
+        condition,
+        model,
+    )?;
+    Ok(text)
 }

@@ -2,19 +2,27 @@
 //! there.
 #![tactic(auto)]
 
+mod after;
 mod certificate;
 mod condition;
 mod depth;
 mod failing;
 mod flawed;
 mod formula;
+mod lints;
+mod misses;
 mod names;
 mod naming;
+mod path;
 mod reason;
 mod sentence;
+mod source;
 mod state;
 mod unproved;
 
 pub use certificate::{certificate_explanation, unfound_explanation};
 pub use formula::proof_explanation;
+pub use lints::lints;
+pub use misses::{Missed, unfound_conditions};
+pub use source::Source;
 pub use unproved::unproved_conditions;

@@ -1,5 +1,7 @@
 //! What is said of a history that is refused.
+use crate::open::say_unordered;
 use crate::order::Judged;
+use crate::sentence::Sentence;
 use crate::shape::say_shape;
 use crate::told::Told;
 use lc_base::{Fault, OutOfMemory, Refusal};
@@ -55,7 +57,9 @@ pub fn history_explanation(
 ) -> Result<Vec<u8>, OutOfMemory> {
     let mut told = Told::new(alloc, path, bytes);
     match refusal {
-        Refusal::HistoryShape(item) => say_shape(alloc, &mut told, spec, bytes, *item)?,
+        Refusal::HistoryShape(item) => {
+            say_shape(alloc, &mut told, spec, bytes, *item, Sentence::NoHistory)?
+        }
         Refusal::Order(place, code) => {
             if let Some(reason) = reason_of(*code) {
                 say_order(alloc, &mut told, spec, bytes, *place, reason)?;
@@ -63,5 +67,34 @@ pub fn history_explanation(
         }
         _ => {}
     }
+    Ok(told.into_text())
+}
+
+/// The same of a recorded history, whose order may be left out.
+pub fn recorded_explanation(
+    alloc: Global,
+    path: &str,
+    spec: &TextSpec,
+    bytes: &[u8],
+    refusal: &Refusal,
+) -> Result<Vec<u8>, OutOfMemory> {
+    let mut told = Told::new(alloc, path, bytes);
+    if let Refusal::HistoryShape(item) = refusal {
+        say_shape(alloc, &mut told, spec, bytes, *item, Sentence::NoRecord)?;
+    }
+    Ok(told.into_text())
+}
+
+/// At which event of a recorded history it is that no order linearizes the events up to there, so many, and which calls are open there.
+/// It is empty if the text is no history for the specification.
+pub fn unordered_explanation(
+    alloc: Global,
+    path: &str,
+    spec: &TextSpec,
+    bytes: &[u8],
+    count: u64,
+) -> Result<Vec<u8>, OutOfMemory> {
+    let mut told = Told::new(alloc, path, bytes);
+    say_unordered(alloc, &mut told, spec, bytes, count as usize)?;
     Ok(told.into_text())
 }

@@ -4,6 +4,7 @@
 
 mod calls;
 mod explanation;
+mod open;
 mod order;
 mod replies;
 mod sentence;
@@ -12,4 +13,4 @@ mod tally;
 mod told;
 mod wrong;
 
-pub use explanation::history_explanation;
+pub use explanation::{history_explanation, recorded_explanation, unordered_explanation};

@@ -9,6 +9,7 @@ pub(crate) enum Sentence<'a> {
     NoJson,
     EndsEarly,
     NoHistory,
+    NoRecord,
     Wrong(Wrong<'a>),
     OtherCall { client: u32, number: usize },
     NoCall { client: u32, calls: usize },
@@ -21,6 +22,9 @@ pub(crate) enum Sentence<'a> {
     Began,
     HadReturned(usize),
     Missing { client: u32, number: usize },
+    Unordered,
+    OpenCall(u32),
+    ReturnedCall(u32),
 }
 
 impl fmt::Display for Sentence<'_> {
@@ -31,6 +35,9 @@ impl fmt::Display for Sentence<'_> {
             Sentence::EndsEarly => f.write_str("the text ends here, and is no whole JSON"),
             Sentence::NoHistory => f.write_str(
                 "this is no JSON object with the arrays `events` and `order`, and no other key",
+            ),
+            Sentence::NoRecord => f.write_str(
+                "this is no JSON object with the array `events`, with an array `order` or without, and no other key",
             ),
             Sentence::Wrong(it) => write!(f, "{it}"),
             Sentence::OtherCall { client, number } => write!(
@@ -65,6 +72,9 @@ impl fmt::Display for Sentence<'_> {
                 f,
                 "call {number} of client {client} returned here, and has no entry in the order"
             ),
+            Sentence::Unordered => f.write_str("no order linearizes the events up to this one"),
+            Sentence::OpenCall(it) => write!(f, "this call of client {it} is open there"),
+            Sentence::ReturnedCall(it) => write!(f, "this call of client {it} returns there"),
         }
     }
 }

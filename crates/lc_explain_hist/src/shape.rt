@@ -34,14 +34,19 @@ fn say_no_json(told: &mut Told<'_>, bytes: &[u8], error: &Error) -> Result<(), O
     told.say_of_byte(offset, Sentence::NoJson)
 }
 
-/// Says what is wrong with a text as a whole.
-fn say_whole(alloc: Global, told: &mut Told<'_>, bytes: &[u8]) -> Result<(), OutOfMemory> {
+/// Says what is wrong with a text as a whole, with this sentence if it is JSON.
+fn say_whole(
+    alloc: Global,
+    told: &mut Told<'_>,
+    bytes: &[u8],
+    other_json: Sentence<'_>,
+) -> Result<(), OutOfMemory> {
     match looks_like(bytes) {
         Some(seen) if seen != FileKind::History => {
             told.say_of_byte(0, Sentence::OtherFile(seen.name()))
         }
         _ => match Value::from_slice(alloc, bytes) {
-            Ok(_) => told.say_of_byte(0, Sentence::NoHistory),
+            Ok(_) => told.say_of_byte(0, other_json),
             Err(error) => say_no_json(told, bytes, &error),
         },
     }
@@ -75,16 +80,17 @@ fn say_element(
 }
 
 /// Says what is wrong with an item of a text that is no history for a specification: the whole text, an event from 1 on, or an entry
-/// after the events.
+/// after the events. Of a whole text that is JSON a sentence is given.
 pub(crate) fn say_shape(
     alloc: Global,
     told: &mut Told<'_>,
     spec: &TextSpec,
     bytes: &[u8],
     item: u64,
+    other_json: Sentence<'_>,
 ) -> Result<(), OutOfMemory> {
     let Some(place) = (item as usize).checked_sub(1) else {
-        return say_whole(alloc, told, bytes);
+        return say_whole(alloc, told, bytes, other_json);
     };
     let value = match Value::from_slice(alloc, bytes) {
         Ok(value) => value,

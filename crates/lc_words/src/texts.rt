@@ -30,7 +30,10 @@ Examples:
   lincheck library queue
       prints a queue, with all that is claimed of it";
 
-pub(crate) const EXPLAIN: &str = "Say on standard error where and why a file is refused";
+pub(crate) const EXPLAIN: &str =
+    "Say on standard error where and why a file is refused; on a terminal, as if it were written";
+
+pub(crate) const QUIET: &str = "Do not say it on a terminal, unless --explain is written";
 
 pub(crate) const FORMULA: &str = "Checks the proof of one formula";
 
@@ -93,6 +96,35 @@ What makes the order no linearization stands out, and the reason stands below. A
 Example:
   lincheck draw examples/counter.spec examples/linearizable.json > history.svg
       prints a picture of two clients that counted at the same time";
+
+pub(crate) const ORDER: &str =
+    "Finds an order that linearizes a recorded history, or shows that there is none";
+
+pub(crate) const ORDER_HISTORY: &str =
+    "A JSON file: an object with the array `events`, and with an array `order` or without";
+
+pub(crate) const ORDER_CHECK: &str = "Print the word `linearizable` in place of the history";
+
+pub(crate) const ORDER_BUDGET: &str =
+    "How many nodes of a search are looked at; 10,000,000 without it";
+
+pub(crate) const ORDER_ANSWER: &str = "\
+Reads DEV as `judge` does, and in HISTORY what clients called and what came back, as it was recorded. Looks for an order of the calls that
+linearizes the history, and prints the history with this order, as `judge` and `draw` read it. If HISTORY has an order that does,
+that one is printed. Else it prints one line:
+  refused CODE ..     DEV is refused as by `judge`, or HISTORY by code 13
+  not linearizable N  no order linearizes the history, and none its first N events
+  unknown             none was found, and of a call not all choices could be tried
+  overflow            none was found, and a number that was reached leaves 64 bits
+  budget              the search was given up
+An order that is printed linearizes the history, and if it is said that there is none, there is none, whatever the object chooses.
+A search can be long if an object shows late which of its calls came first, as a queue that has grown long.
+
+Examples:
+  lincheck order examples/counter.spec examples/recorded.json
+      prints what three clients saw of a counter, with an order that `judge` accepts
+  lincheck order examples/counter.spec examples/recorded.json --check
+      prints `linearizable`";
 
 pub(crate) const DEVELOPMENT: &str =
     "A development: a specification, the object's code, and what is claimed of it";
@@ -203,6 +235,9 @@ pub(crate) const HINTS: &str = "Hints: terms, formulas and proofs for conditions
 pub(crate) const PROGRESS: &str =
     "Say on standard error, by `condition K`, which condition is looked at";
 
+pub(crate) const PROVE_ALL: &str =
+    "Go on after a miss, and say on standard error of which conditions no proof was found";
+
 pub(crate) const PROVE_ANSWER: &str = "\
 Reads DEV and, where it is a development, the hints in FILE. Looks for a proof of each condition, and prints a certificate
 of all, which `check` accepts. Else it prints one line:
@@ -212,10 +247,13 @@ of all, which `check` accepts. Else it prints one line:
   large K          a number of the search for condition K leaves 128 bits
 `conditions` prints the conditions by their numbers. For condition K, FILE offers terms (use K T ..), a formula (cut K F) or
 a whole proof (by K P).
+With -o FILE after its words the certificate is put into FILE, which stays as it was if there is none, and `found NAME COUNT` is printed.
 
-Example:
+Examples:
   lincheck prove examples/counter.lc
-      prints a certificate of the counter, with 59 proofs";
+      prints a certificate of the counter, with 59 proofs
+  lincheck prove examples/counter.lc -o counter.cert
+      puts it into a file, and prints `found counter 59`";
 
 pub(crate) const CARRY: &str = "Finds a certificate of a development that was changed";
 
@@ -236,7 +274,8 @@ certificate of NEW, which `check` accepts. Else it prints one line:
   not-found K      no proof of condition K of NEW was found
   budget K         1,000,000 steps were tried for condition K, or the certificate would be too large
   large K          a number of the search for condition K leaves 128 bits
-With --explain it also says on standard error how many proofs were carried and found, and how many conditions are left.
+With --explain it also says on standard error how many proofs were carried and found, and how many conditions are left. With
+-o FILE the certificate is put into FILE, as by `prove`.
 
 Example:
   lincheck carry examples/counter.lc examples/counter.cert examples/faa_counter.lc

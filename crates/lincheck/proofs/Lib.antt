@@ -2,6 +2,7 @@ mod Truncated
 mod Verdicts
 mod Judgements
 mod Drawn
+mod Ordered
 mod OneAnswer
 mod Taken
 mod Endings

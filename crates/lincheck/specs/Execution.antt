@@ -11,7 +11,7 @@ use Rattle.lc_outline_print.specs.Developments.{development_printed}
 use Rattle.lc_outline_text.specs.Developments.{file_reading}
 use Rattle.lincheck.specs.Carry.{AnswersCarry, AnswersWith, IsUnreadCarry}
 use Rattle.lincheck.specs.Check.{AnswersDevelopment, AnswersCheck}
-use Rattle.lc_words.specs.Tasks.{Task, CheckFormula, JudgeHistory, ShowDevelopment, ShowLines, ListConditions, ListChosen, ShowCondition, CheckByWorkers, CheckCertificate, ProveDevelopment, ProveWithHints, DrawHistory, BeginDevelopment, PrintLibrary, CarryCertificate, CarryWithHints, RunPlan}
+use Rattle.lc_words.specs.Tasks.{Task, CheckFormula, JudgeHistory, ShowDevelopment, ShowLines, ListConditions, ListChosen, ShowCondition, CheckByWorkers, CheckCertificate, ProveDevelopment, ProveWithHints, DrawHistory, BeginDevelopment, PrintLibrary, CarryCertificate, CarryWithHints, RunPlan, FindOrder}
 use Rattle.lincheck.specs.Condition.{AnswersCondition, kind_of, point_of}
 use Rattle.lincheck.specs.Draw.{AnswersDraw}
 use Rattle.lincheck.specs.Formula.{AnswersFormula}
@@ -19,6 +19,7 @@ use Rattle.lincheck.specs.Judge.{AnswersJudge}
 use Rattle.lincheck.specs.Library.{AnswersLibrary}
 use Rattle.lincheck.specs.Lines.{AnswersLines}
 use Rattle.lincheck.specs.New.{AnswersNew}
+use Rattle.lincheck.specs.Order.{AnswersOrder}
 use Rattle.lincheck.specs.Prove.{AnswersProve, AnswersHinted}
 use Rattle.lincheck.specs.Printing.{Begins, IsInPieces}
 use Rattle.lincheck.specs.Run.{AnswersRun, IsUnreadRun}
@@ -55,6 +56,8 @@ AnswersTask bytes_at (DrawHistory development history) text status =
     IfSome (bytes_at development) (λ file. AnswersDraw file (bytes_at history) text status)
 AnswersTask bytes_at (BeginDevelopment name) text status = AnswersNew name text status
 AnswersTask bytes_at (PrintLibrary lib asked) text status = AnswersLibrary lib asked text status
+AnswersTask bytes_at (FindOrder development history check budget) text status =
+    IfSome (bytes_at development) (λ file. AnswersOrder check file (bytes_at history) text status)
 
 -- A file that a task needs cannot be opened: the only one or the development; or the other, if the development is read
 abbrev pub IsUnread : (List ℕ → Type 0) → (List ℕ → Option (List ℕ)) → Task → Type 0
@@ -85,6 +88,9 @@ IsUnread CannotOpen bytes_at (DrawHistory development history) =
     ⊎ ((file : List ℕ) × (spec : Specification) × (bytes_at development ≡ Some file) × Says first_reading file spec × CannotOpen history)
 IsUnread CannotOpen bytes_at (BeginDevelopment name) = ⊥
 IsUnread CannotOpen bytes_at (PrintLibrary lib asked) = ⊥
+IsUnread CannotOpen bytes_at (FindOrder development history check budget) =
+    CannotOpen development
+    ⊎ ((file : List ℕ) × (spec : Specification) × (bytes_at development ≡ Some file) × Says first_reading file spec × CannotOpen history)
 
 -- The program ends with a task: with a fault of reading, or out of memory, and nothing is printed; or with an answer for which
 -- this holds, which is appended to standard output, unless there is a fault of writing, or memory runs out while

@@ -32,6 +32,8 @@ pub enum Why {
     Refused(Refusal),
     /// Of the condition of this number no proof was found.
     Unfound(u64),
+    /// No order linearizes so many first events of a history.
+    Unordered(u64),
 }
 
 /// What a command answers: what it prints on standard output, its exit status, and why it is refused, if that can be explained.

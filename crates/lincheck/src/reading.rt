@@ -6,7 +6,7 @@ ghost use Rattle.lincheck.specs.Reading.{ReadsToLimit, IsFedOn, within_limit};
 use crate::answer::Failure;
 use crate::files::Files;
 use crate::sink::Sink;
-use lc_base::FILE_LIMIT;
+use lc_base::{FILE_LIMIT, OutOfMemory};
 use lc_sexp::FormsReader;
 use std::alloc::Global;
 use std::io;
@@ -28,12 +28,32 @@ pub enum ReadFault {
     OutOfMemory,
 }
 
-/// Feeds the bytes of a file, or its first `MOST_BYTES` bytes if it has more, in pieces.
+/// Feeds the bytes that come next of a file, of which `files` takes note.
+fn take_piece<F: Files, S: Sink>(
+    files: &mut F,
+    sink: &mut S,
+    piece: &[u8],
+) -> Result<(), OutOfMemory>
+    ensures keeps { (other : List ℕ) → F.bytes_at files.new other ≡ F.bytes_at files.old other }
+    ensures closed { (other : List ℕ) → F.CannotOpen files.old other → F.CannotOpen files.new other }
+    ensures fed { OnOk result (IsFedOn S.WasFed sink.old sink.new piece.now) }
+{
+    files.note(piece)?;
+    sink.feed(piece)
+}
+
+/// Feeds the bytes of a file, or its first `MOST_BYTES` bytes if it has more, in pieces, of which `files` takes note.
 ///
 /// A read that answers `Interrupted` is tried again. Any other fault, and 33,554,432 reads that did not come to the
 /// end, are `Unreadable`.
-pub fn feed_to_limit<R: Read, S: Sink>(reader: &mut R, sink: &mut S) -> Result<(), ReadFault>
-    ensures { OnOk result ((bytes : List ℕ) × ReadsToLimit (R.remaining reader.old) (R.remaining reader.new) bytes × IsFedOn S.WasFed sink.old sink.new bytes) }
+pub fn feed_to_limit<R: Read, F: Files, S: Sink>(
+    reader: &mut R,
+    files: &mut F,
+    sink: &mut S,
+) -> Result<(), ReadFault>
+    ensures keeps { (other : List ℕ) → F.bytes_at files.new other ≡ F.bytes_at files.old other }
+    ensures closed { (other : List ℕ) → F.CannotOpen files.old other → F.CannotOpen files.new other }
+    ensures fed { OnOk result ((bytes : List ℕ) × ReadsToLimit (R.remaining reader.old) (R.remaining reader.new) bytes × IsFedOn S.WasFed sink.old sink.new bytes) }
 {
     let mut left = MOST_BYTES;
     let mut piece = [0u8; PIECE];
@@ -45,7 +65,7 @@ pub fn feed_to_limit<R: Read, S: Sink>(reader: &mut R, sink: &mut S) -> Result<(
         match reader.read(&mut piece[..room]) {
             Ok(0) => return Ok(()),
             Ok(n) => {
-                if sink.feed(&piece[..n]).is_err() {
+                if take_piece(files, sink, &piece[..n]).is_err() {
                     return Err(ReadFault::OutOfMemory);
                 }
                 left -= n;
@@ -75,7 +95,7 @@ pub fn feed_file<'a, F: Files, S: Sink>(
         Ok(reader) => reader,
         Err(error) => return Err(Failure::CannotRead(path, Some(error))),
     };
-    match feed_to_limit(&mut reader, sink) {
+    match feed_to_limit(&mut reader, files, sink) {
         Ok(()) => Ok(()),
         Err(ReadFault::Unreadable(reason)) => Err(Failure::CannotRead(path, reason)),
         Err(ReadFault::OutOfMemory) => Err(Failure::OutOfMemory),
