@@ -24,7 +24,11 @@ pub(crate) fn next_turn(turns: &mut IndexMap<u32, u64>, client: u32) -> Result<u
 }
 
 /// The number at a client's turn.
-pub(crate) fn number_at(numbers: &IndexMap<(u32, u64), usize>, client: u32, turn: u64) -> Option<usize>
+pub(crate) fn number_at(
+    numbers: &IndexMap<(u32, u64), usize>,
+    client: u32,
+    turn: u64,
+) -> Option<usize>
     ensures { result ≡ number_at numbers.now.entries client turn }
 {
     numbers.get(&(client, turn)).copied()

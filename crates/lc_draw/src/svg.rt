@@ -141,7 +141,10 @@ fn write_lane_line(out: &mut String, middle: u64, until: u64) -> Result<(), OutO
     ensures text { OnOk result (string_bytes out.new ≡ string_bytes out.old ++ element_text (lane_line middle until)) }
     ensures formed { OnOk result (IsWellFormed (lane_line middle until)) }
 {
-    write!(out, "<path class=\"lane\" d=\"M{LEFT} {middle}H{until}\"/>\n")?;
+    write!(
+        out,
+        "<path class=\"lane\" d=\"M{LEFT} {middle}H{until}\"/>\n"
+    )?;
     Ok(())
 }
 
@@ -175,22 +178,14 @@ pub(crate) fn push_lanes(
 fn class_of(is_at_fault: bool) -> &'static str
     ensures { result.now ≡ class_of is_at_fault }
 {
-    if is_at_fault {
-        "fault"
-    } else {
-        "bar"
-    }
+    if is_at_fault { "fault" } else { "bar" }
 }
 
 // A bar that is open goes round three sides.
 fn close_of(is_closed: bool) -> &'static str
     ensures { result.now ≡ close_of is_closed }
 {
-    if is_closed {
-        "z"
-    } else {
-        ""
-    }
+    if is_closed { "z" } else { "" }
 }
 
 fn write_bar_line(
@@ -213,12 +208,7 @@ fn write_bar_line(
     Ok(())
 }
 
-fn write_bar_label(
-    out: &mut String,
-    from: u64,
-    under: u64,
-    text: &str,
-) -> Result<(), OutOfMemory>
+fn write_bar_label(out: &mut String, from: u64, under: u64, text: &str) -> Result<(), OutOfMemory>
     requires plain { are_plain text.now ≡ true }
     ensures text { OnOk result (string_bytes out.new ≡ string_bytes out.old ++ element_text (bar_label from under text.now)) }
     ensures formed { OnOk result (IsWellFormed (bar_label from under text.now)) }
@@ -276,7 +266,10 @@ fn write_mark_place(
     ensures text { OnOk result (string_bytes out.new ≡ string_bytes out.old ++ element_text (mark_place place across over)) }
     ensures formed { OnOk result (IsWellFormed (mark_place place across over)) }
 {
-    write!(out, "<text class=\"place\" x=\"{across}\" y=\"{over}\">{place}</text>\n")?;
+    write!(
+        out,
+        "<text class=\"place\" x=\"{across}\" y=\"{over}\">{place}</text>\n"
+    )?;
     Ok(())
 }
 

@@ -128,11 +128,11 @@ carried_proven : (Answers : Development → List Entry → List ℕ → ℕ → 
     → OfFile certificate (λ file. OpensCertificate D file (Ok old)) → OfFile new' (λ file. AnswersChanged Answers (development_in old.accepted) (entries_in old.certificate) file text status)
     → OfFile certificate (λ file. AnswersProven Answers D file new text status)
 carried_proven Answers known new new' D old text status keeps opens h = read_so known opens (λ file (same, certifies, proves). inr (
-      entries_in old.certificate,
-      certifies,
-      proves,
-      subst (λ n. OfFile n (λ f. AnswersChanged Answers D (entries_in old.certificate) f text status)) keeps (subst (λ d. OfFile new' (λ f. AnswersChanged Answers d (entries_in old.certificate) f text status)) same h),
-    ))
+  entries_in old.certificate,
+  certifies,
+  proves,
+  subst (λ n. OfFile n (λ f. AnswersChanged Answers D (entries_in old.certificate) f text status)) keeps (subst (λ d. OfFile new' (λ f. AnswersChanged Answers d (entries_in old.certificate) f text status)) same h),
+))
 
 old_answered_at : (hints : Option (Option (List ℕ))) (file : List ℕ) (certificate new new' : Option (List ℕ)) (old : Old) (answer : Answer) → new' ≡ new → OpensOld file certificate (Ok old)
     → OfFile new' (λ file. AnswersChanged (AnswersWith hints) (development_in old.accepted) (entries_in old.certificate) file answer.text.items answer.status)

@@ -114,11 +114,11 @@ pub run_answered : (known certificate certificate' plan plan' : Option (List ℕ
     → IfOk result (λ answer. OfFile certificate' (λ file. AnswersProvenRun D file plan' answer.text.items answer.status))
     → IfOk result (λ answer. OfFile known (λ file. AnswersRun file certificate plan answer.text.items answer.status))
 run_answered known certificate certificate' plan plan' D (Ok answer) says keeps keeps' h = read_so known says (λ file says. inr (
-      D,
-      says,
-      subst (λ c. OfFile c (λ f. AnswersProvenRun D f plan answer.text.items answer.status)) keeps
-          (subst (λ p. OfFile certificate' (λ f. AnswersProvenRun D f p answer.text.items answer.status)) keeps' h),
-    ))
+  D,
+  says,
+  subst (λ c. OfFile c (λ f. AnswersProvenRun D f plan answer.text.items answer.status)) keeps
+      (subst (λ p. OfFile certificate' (λ f. AnswersProvenRun D f p answer.text.items answer.status)) keeps' h),
+))
 run_answered known certificate certificate' plan plan' D (Err failure) says keeps keeps' h = tt
 
 pub run_refused : (known certificate plan : Option (List ℕ)) (answer : Answer) → OfFile known (λ file. TellsRefusal file answer.text.items answer.status)
