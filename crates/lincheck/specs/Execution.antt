@@ -25,7 +25,7 @@ use Rattle.lincheck.specs.Printing.{Begins, IsInPieces}
 use Rattle.lincheck.specs.Reading.{OfFile}
 use Rattle.lincheck.specs.Run.{AnswersRun, IsUnreadRun}
 
--- the answer to a task, if the files that it names are known
+-- the answer to a task: to the bytes of the files that it names, or to some bytes in place of those of a file that is not known
 abbrev pub AnswersTask : (List ℕ → Option (List ℕ)) → Task → List ℕ → ℕ → Type 0
 AnswersTask bytes_at (CheckFormula path) text status = OfFile (bytes_at path) (λ file. AnswersFormula file text status)
 AnswersTask bytes_at (JudgeHistory development history) text status =

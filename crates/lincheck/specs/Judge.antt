@@ -83,7 +83,7 @@ AnswersHistory spec file text status = (judgement : Result Judgement Fault) × I
 abbrev pub AnswersRefused : List ℕ → List ℕ → ℕ → Type 0
 AnswersRefused development text status = (refusal : Refusal) × IsFirstRefusal first_reading development refusal × ToldFault (Refused refusal) text status
 
--- the first form of the development's file is a specification, by which the history's file is answered so, if this is known
+-- the first form of the development's file is a specification, by which the history's file is answered so
 abbrev pub AnswersRead : (Specification → List ℕ → List ℕ → ℕ → Type 0) → List ℕ → Option (List ℕ) → List ℕ → ℕ → Type 0
 AnswersRead Answers development history text status =
     (spec : Specification) × Says first_reading development spec × OfFile history (λ file. Answers spec file text status)
