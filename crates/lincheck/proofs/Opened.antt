@@ -76,6 +76,9 @@ pub check_answered : (known certificate certificate' : Option (List ℕ)) (D : S
 check_answered known certificate certificate' D (Ok answer) says keeps answers = read_so known says (λ file says. inr (D, says, subst (λ c. OfFile c (λ f. AnswersCertificate D f answer.text.items answer.status)) keeps answers))
 check_answered known certificate certificate' D (Err failure) says keeps answers = tt
 
+pub check_refused : (known certificate : Option (List ℕ)) (text : List ℕ) (status : ℕ) → OfFile known (λ file. TellsRefusal file text status) → OfFile known (λ file. AnswersCheck file certificate text status)
+check_refused known certificate text status tells = read_so known tells (λ file tells. inl tells)
+
 pub refused_opens : (CannotOpen : List ℕ → Type 0) (bytes_at : List ℕ → Option (List ℕ)) (development certificate : List ℕ) (text : List ℕ) (status : ℕ)
     → (CannotOpen development → ⊥) → OfFile (bytes_at development) (λ file. TellsRefusal file text status) → IsUnread CannotOpen bytes_at (CheckCertificate development certificate) → ⊥
 refused_opens CannotOpen bytes_at development certificate text status opens tells (inl closed) = opens closed

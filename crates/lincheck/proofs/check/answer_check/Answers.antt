@@ -4,7 +4,7 @@ use Rattle.lc_outline.specs.declared.development.Development.{Development}
 use Rattle.lincheck.specs.Check.{OpensAs}
 use Rattle.lincheck.specs.Reading.{OfFile}
 use Rattle.lincheck.specs.declared.answer.Answer.{Answer}
-use Rattle.lincheck.proofs.Opened.{check_answered, refused_opens}
+use Rattle.lincheck.proofs.Opened.{check_answered, check_refused, refused_opens}
 use Rattle.lincheck.proofs.check.answer_check.Goals as goal
 
 pub returns-in-Ok-clause-answers : goal.returns-in-Ok-clause-answers
@@ -13,6 +13,12 @@ returns-in-Ok-clause-answers g c =
     let says = subst (λ (o : Result Development Answer). OfFile known (λ file. OpensAs file o)) c.in-Ok.is c.in_ok-development.ensures.opens in
     check_answered known (g.F.Files.bytes_at c.args.files.now c.args.certificate.now) (g.F.Files.bytes_at c.open_development.new.files c.args.certificate.now)
     (development_view c.in-Ok.development) c.answer_said.result says (c.in_ok-development.ensures.keeps c.args.certificate.now) c.answer_said.ensures.answers
+
+pub returns-in-Err-clause-answers : goal.returns-in-Err-clause-answers
+returns-in-Err-clause-answers g c =
+    let known = g.F.Files.bytes_at c.args.files.now c.args.development.now in
+    let tells = subst (λ (o : Result Development Answer). OfFile known (λ file. OpensAs file o)) c.in-Err.is c.in_ok-development.ensures.opens in
+    check_refused known (g.F.Files.bytes_at c.args.files.now c.args.certificate.now) c.in-Err.answer.text.items c.in-Err.answer.status tells
 
 pub returns-in-Err-clause-unread : goal.returns-in-Err-clause-unread
 returns-in-Err-clause-unread g c = λ unread.
