@@ -1,0 +1,4 @@
+mod Plainness
+mod Written
+mod Turning
+mod Drawn

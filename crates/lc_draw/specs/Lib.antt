@@ -1,0 +1,4 @@
+pub mod Elements
+pub mod Shapes
+pub mod Drawings
+pub mod Counting

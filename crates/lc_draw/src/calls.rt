@@ -1,184 +1,160 @@
-//! The calls of a history, by the lanes of their clients.
-use crate::texts::{call_text, push_choice, push_reply};
+//! The calls of a history, and the entries of an order that are theirs.
+ghost use Rattle.std.specs.Prelude.{◌≡◌, [], IfOk, vec_len};
+ghost use Rattle.lc_hist.specs.JsonHistories.{entries_view};
+ghost use Rattle.lc_hist.specs.View.{events_of};
+ghost use Rattle.lc_draw.specs.Counting.{IsUpTo, numbers_for};
+
+use crate::counting::{next_turn, number_at, put_number, turns_of};
 use indexmap::IndexMap;
-use lc_base::OutOfMemory;
+use lc_base::{OpId, OutOfMemory};
 use lc_hist::{Done, Event};
-use lc_seq::{Operation, Pick, TextCall};
+use lc_seq::{Pick, TextCall};
 use std::alloc::Global;
 
-/// A call, as it is drawn.
-pub(crate) struct Bar {
-    /// The number of its lane, from 0 above.
-    pub(crate) lane: usize,
-    /// The operation with its numbers, how its branch was chosen, and what it returned.
-    pub(crate) text: String,
-    /// How far to the right it begins and ends, in units of the drawing.
-    pub(crate) begins: u64,
-    pub(crate) ends: u64,
-    pub(crate) has_returned: bool,
-    /// The place of its entry in the order, if it has one.
+/// A call, with what it returned, and with its entry in the order, as far as it has these.
+#[derive(Clone, Copy)]
+pub(crate) struct Call<'a> {
+    pub(crate) client: u32,
+    pub(crate) op: OpId,
+    pub(crate) numbers: &'a [i64],
+    pub(crate) reply: Option<&'a [i64]>,
+    pub(crate) choice: Option<&'a Pick>,
+    /// The place of its entry.
     pub(crate) place: Option<usize>,
 }
 
-impl Drop for Bar {
-    fn drop(self) {
-        let Bar {
-            lane: _,
-            text: _,
-            begins: _,
-            ends: _,
-            has_returned: _,
-            place: _,
-        } = self;
-    }
-}
-
-/// The calls of a client.
-pub(crate) struct Lane {
-    pub(crate) client: u32,
-    /// Its calls, in order, by their numbers among all.
-    calls: Vec<usize>,
-    /// How many of its entries were seen.
-    entries: usize,
-}
-
-impl Drop for Lane {
-    fn drop(self) {
-        let Lane {
-            client: _,
-            calls: _,
-            entries: _,
-        } = self;
-    }
-}
-
-/// The calls of a history, and which event belongs to which.
-pub(crate) struct Calls {
-    pub(crate) lanes: Vec<Lane>,
-    pub(crate) bars: Vec<Bar>,
+/// The calls of a history, in the order of their beginnings.
+pub(crate) struct Calls<'a> {
+    pub(crate) calls: Vec<Call<'a>>,
     /// For each event the call that it begins or ends.
-    pub(crate) bar_of_event: Vec<usize>,
-    /// For each entry of the order its call, if its client has that many.
-    pub(crate) bar_of_entry: Vec<Option<usize>>,
-    lane_of_client: IndexMap<u32, usize>,
+    pub(crate) call_of_event: Vec<usize>,
+    /// How many calls each client made, in the order of their first ones.
+    pub(crate) turns: IndexMap<u32, u64>,
+    /// Which calls these are.
+    numbers: IndexMap<(u32, u64), usize>,
 }
 
-impl Drop for Calls {
+impl Drop for Calls<'_> {
     fn drop(self) {
         let Calls {
-            lanes: _,
-            bars: _,
-            bar_of_event: _,
-            bar_of_entry: _,
-            lane_of_client: _,
+            calls: _,
+            call_of_event: _,
+            turns: _,
+            numbers: _,
         } = self;
     }
 }
 
-impl Calls {
-    fn new(alloc: Global) -> Calls {
+impl<'a> Calls<'a> {
+    ghost use Rattle.std.specs.Prelude.{◌≡◌, ◌+◌, ◌<◌, ◌^◌, ◌++◌, ◌∷◌, [], List, OnOk, vec_len};
+    ghost use Rattle.lc_seq.specs.Sequential as Q;
+    ghost use Rattle.lc_hist.specs.History as H;
+    ghost use Rattle.lc_hist.specs.View.{event_of};
+    ghost use Rattle.lc_hist.specs.WellFormed.{client_of};
+    ghost use Rattle.lc_draw.specs.Counting.{IsUpTo, turns_of};
+
+    fn new(alloc: Global) -> Calls<'a>
+        ensures { IsUpTo [] (vec_len result.calls) result.turns.entries result.numbers.entries }
+    {
         Calls {
-            lanes: Vec::new(alloc),
-            bars: Vec::new(alloc),
-            bar_of_event: Vec::new(alloc),
-            bar_of_entry: Vec::new(alloc),
-            lane_of_client: IndexMap::new(alloc),
-        }
-    }
-
-    /// The lane of a client, which is a new one below the others if it has none.
-    fn lane_of(&mut self, alloc: Global, client: u32) -> Result<usize, OutOfMemory> {
-        if let Some(lane) = self.lane_of_client.get(&client) {
-            return Ok(*lane);
-        }
-        let lane = self.lanes.len();
-        self.lane_of_client.insert(client, lane)?;
-        self.lanes.push(Lane {
-            client,
             calls: Vec::new(alloc),
-            entries: 0,
-        })?;
-        Ok(lane)
+            call_of_event: Vec::new(alloc),
+            turns: IndexMap::new(alloc),
+            numbers: IndexMap::new(alloc),
+        }
     }
 
-    /// A client calls an operation.
-    fn begin(&mut self, alloc: Global, client: u32, text: String) -> Result<(), OutOfMemory> {
-        let lane = self.lane_of(alloc, client)?;
-        let number = self.bars.len();
-        self.bars.push(Bar {
-            lane,
-            text,
-            begins: 0,
-            ends: 0,
-            has_returned: false,
+    // A client calls an operation.
+    fn begin(&mut self, client: u32, op: OpId, numbers: &'a [i64]) -> Result<(), OutOfMemory>
+        requires { turns_of self.old.turns.entries client + 1 < 2 ^ 64 }
+        ensures { OnOk result ((events : List H.Event) (call : Q.Call) → IsUpTo events (vec_len self.old.calls) self.old.turns.entries self.old.numbers.entries
+            → IsUpTo (events ++ H.Called client call ∷ []) (vec_len self.new.calls) self.new.turns.entries self.new.numbers.entries) }
+    {
+        let number = self.calls.len();
+        self.calls.push(Call {
+            client,
+            op,
+            numbers,
+            reply: None,
+            choice: None,
             place: None,
         })?;
-        if let Some(of_client) = self.lanes.get_mut(lane) {
-            of_client.calls.push(number)?;
-        }
-        self.bar_of_event.push(number)?;
+        let turn = next_turn(&mut self.turns, client)?;
+        put_number(&mut self.numbers, client, turn, number)?;
+        self.call_of_event.push(number)?;
         Ok(())
     }
 
-    /// The last call of a client returns numbers.
-    fn end(&mut self, client: u32, numbers: &[i64]) -> Result<(), OutOfMemory> {
-        let lane = self.lane_of_client.get(&client).copied();
-        let calls = lane.and_then(|lane| self.lanes.get(lane));
-        let number = calls.and_then(|lane| lane.calls.last().copied());
-        let number = number.unwrap_or(self.bars.len());
-        if let Some(bar) = self.bars.get_mut(number) {
-            push_reply(&mut bar.text, numbers)?;
-            bar.has_returned = true;
+    // The last call of a client returns numbers.
+    fn end(&mut self, client: u32, numbers: &'a [i64]) -> Result<(), OutOfMemory>
+        ensures calls { vec_len self.new.calls ≡ vec_len self.old.calls }
+        ensures turns { self.new.turns.entries ≡ self.old.turns.entries }
+        ensures numbers { self.new.numbers.entries ≡ self.old.numbers.entries }
+    {
+        let last = turns_of(&self.turns, client).saturating_sub(1);
+        let number = number_at(&self.numbers, client, last).unwrap_or(self.calls.len());
+        if let Some(call) = self.calls.get_mut(number) {
+            call.reply = Some(numbers);
         }
-        self.bar_of_event.push(number)?;
+        self.call_of_event.push(number)?;
         Ok(())
     }
 
-    /// The next call of a client, as its next entry in the order names it.
-    fn next_of(&mut self, client: u32) -> Option<usize> {
-        let lane = *self.lane_of_client.get(&client)?;
-        let of_client = self.lanes.get_mut(lane)?;
-        let number = of_client.calls.get(of_client.entries).copied();
-        of_client.entries = of_client.entries.saturating_add(1);
-        number
-    }
-
-    /// An entry of the order.
-    fn enter(
-        &mut self,
-        place: usize,
-        done: &Done<TextCall, Pick, Vec<i64>>,
-    ) -> Result<(), OutOfMemory> {
-        let number = self.next_of(done.client);
-        if let Some(bar) = number.and_then(|number| self.bars.get_mut(number)) {
-            bar.place = Some(place);
-            push_choice(&mut bar.text, &done.choice)?;
-        }
-        self.bar_of_entry.push(number)?;
-        Ok(())
-    }
-}
-
-/// The calls of these events with the entries of an order.
-pub(crate) fn calls_of(
-    alloc: Global,
-    operations: &[Operation],
-    events: &[Event],
-    order: &[Done<TextCall, Pick, Vec<i64>>],
-) -> Result<Calls, OutOfMemory> {
-    let mut calls = Calls::new(alloc);
-    for event in events {
+    // One event more.
+    fn take(&mut self, event: &'a Event) -> Result<(), OutOfMemory>
+        requires { turns_of self.old.turns.entries (client_of (event_of event.now)) + 1 < 2 ^ 64 }
+        ensures { OnOk result ((events : List H.Event) → IsUpTo events (vec_len self.old.calls) self.old.turns.entries self.old.numbers.entries
+            → IsUpTo (events ++ event_of event.now ∷ []) (vec_len self.new.calls) self.new.turns.entries self.new.numbers.entries) }
+    {
         match event {
             Event::Invoke {
                 client,
                 op,
                 numbers,
-            } => calls.begin(alloc, *client, call_text(alloc, operations, *op, numbers)?)?,
-            Event::Respond { client, numbers } => calls.end(*client, numbers)?,
+            } => self.begin(*client, *op, numbers),
+            Event::Respond { client, numbers } => self.end(*client, numbers),
         }
     }
-    for (place, done) in order.iter().enumerate() {
-        calls.enter(place, done)?;
+}
+
+/// The calls of these events.
+pub(crate) fn calls_of(alloc: Global, events: &[Event]) -> Result<Calls<'_>, OutOfMemory>
+    ensures { IfOk result (λ calls. IsUpTo (events_of events.now) (vec_len calls.calls) calls.turns.entries calls.numbers.entries) }
+{
+    let mut calls = Calls::new(alloc);
+    for event in events {
+        calls.take(event)?;
     }
     Ok(calls)
+}
+
+/// For each entry of an order its call, if its client has so many.
+pub(crate) fn numbers_of(
+    alloc: Global,
+    calls: &Calls<'_>,
+    order: &[Done<TextCall, Pick, Vec<i64>>],
+) -> Result<Vec<Option<usize>>, OutOfMemory>
+    ensures { IfOk result (λ numbers. numbers.items ≡ numbers_for calls.now.numbers.entries [] (entries_view order.now)) }
+{
+    let mut seen = IndexMap::new(alloc);
+    let mut numbers = Vec::new(alloc);
+    for done in order {
+        let turn = next_turn(&mut seen, done.client)?;
+        numbers.push(number_at(&calls.numbers, done.client, turn))?;
+    }
+    Ok(numbers)
+}
+
+/// Notes at each call its entry, if it has one.
+pub(crate) fn note_entries<'a>(
+    calls: &mut [Call<'a>],
+    order: &'a [Done<TextCall, Pick, Vec<i64>>],
+    numbers: &[Option<usize>],
+) {
+    for (place, (done, number)) in order.iter().zip(numbers.iter()).enumerate() {
+        if let Some(call) = number.and_then(|number| calls.get_mut(number)) {
+            call.place = Some(place);
+            call.choice = Some(&done.choice);
+        }
+    }
 }

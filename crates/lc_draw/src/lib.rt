@@ -2,6 +2,7 @@
 #![tactic(auto)]
 
 mod calls;
+mod counting;
 mod picture;
 mod places;
 mod svg;

@@ -1,7 +1,17 @@
 //! The drawing of a history.
-use crate::calls::{Bar, Calls, calls_of};
-use crate::places::{marks_of, put_bars};
-use crate::svg::{Sheet, begin_sheet, end_sheet, push_bar, push_caption, push_lane, push_marks};
+ghost use Rattle.std.specs.Prelude.{◌≡◌, [], IfOk, map, string_bytes, vec_len};
+ghost use Rattle.lc_hist.specs.Histories.{events_in};
+ghost use Rattle.lc_hist.specs.History.{count};
+ghost use Rattle.lc_hist.specs.JsonHistories.{entries_view};
+ghost use Rattle.lc_hist.specs.WellFormed.{begins};
+ghost use Rattle.lc_draw.specs.Drawings.{Draws, IsDrawing, marked};
+
+use crate::calls::{Calls, calls_of, note_entries, numbers_of};
+use crate::places::{Bar, Mark, bars_of, marks_of, put_bars};
+use crate::svg::{
+    Sheet, begin_sheet, end_sheet, push_bars, push_caption, push_lanes, push_marks, push_order,
+    push_sheet, push_style,
+};
 use lc_base::OutOfMemory;
 use lc_hist::{Done, History, JudgeFault, Reason, judge};
 use lc_seq::{Pick, TextCall, TextSpec};
@@ -34,7 +44,7 @@ fn judgement_of(
 }
 
 /// Where the bar of the entry begins that is at fault, if the fault is that a later entry's call precedes it.
-fn preceded_from(calls: &Calls, judged: Judged) -> u64 {
+fn preceded_from(bars: &[Bar], bar_of_entry: &[Option<usize>], judged: Judged) -> u64 {
     let Judged::Fails {
         place,
         reason: Reason::Preceded,
@@ -42,14 +52,14 @@ fn preceded_from(calls: &Calls, judged: Judged) -> u64 {
     else {
         return 0;
     };
-    let number = calls.bar_of_entry.get(place).copied().unwrap_or(None);
-    let bar = number.and_then(|number| calls.bars.get(number));
+    let number = bar_of_entry.get(place).copied().unwrap_or(None);
+    let bar = number.and_then(|number| bars.get(number));
     bar.map_or(0, |bar| bar.begins)
 }
 
 /// Whether a bar is what makes the order no linearization: the entry's call; a call without an entry, if one is missing; or
 /// the call of a later entry that returned before the entry's call began, which is there.
-fn is_at_fault(bar: &Bar, judged: Judged, preceded: u64) -> bool {
+pub(crate) fn is_at_fault(bar: &Bar, judged: Judged, preceded: u64) -> bool {
     let Judged::Fails { place, reason } = judged else {
         return false;
     };
@@ -59,23 +69,71 @@ fn is_at_fault(bar: &Bar, judged: Judged, preceded: u64) -> bool {
     }
 }
 
-/// Writes the drawing on a sheet.
-fn push_drawing(
-    alloc: Global,
-    out: &mut String,
-    calls: &Calls,
+/// What is on a drawing, and where.
+struct Laid<'a> {
+    bars: Vec<Bar>,
+    marks: Vec<Mark>,
+    calls: Calls<'a>,
     sheet: Sheet,
+    /// Where the bar begins that a later entry's call precedes, if that is the fault.
+    preceded: u64,
+}
+
+impl Drop for Laid<'_> {
+    fn drop(self) {
+        let Laid {
+            bars: _,
+            marks: _,
+            calls: _,
+            sheet: _,
+            preceded: _,
+        } = self;
+    }
+}
+
+// Where the calls of a history and the entries of an order are to be.
+fn laid_out<'a>(
+    alloc: Global,
+    spec: &TextSpec,
+    history: &'a History,
+    order: &'a [Done<TextCall, Pick, Vec<i64>>],
     judged: Judged,
-) -> Result<(), OutOfMemory> {
-    for (number, lane) in calls.lanes.iter().enumerate() {
-        push_lane(out, sheet, number, lane.client)?;
-    }
-    let preceded = preceded_from(calls, judged);
-    for bar in &calls.bars {
-        push_bar(out, bar, is_at_fault(bar, judged, preceded))?;
-    }
-    push_marks(out, &marks_of(alloc, calls)?)?;
-    push_caption(out, sheet, judged)
+) -> Result<Laid<'a>, OutOfMemory>
+    ensures bars { IfOk result (λ laid. vec_len laid.bars ≡ count begins (events_in history.now)) }
+    ensures marks { IfOk result (λ laid. map (λ mark. mark.place) laid.marks.items ≡ marked (events_in history.now) [] 0 (entries_view order.now)) }
+{
+    let mut calls = calls_of(alloc, history.events())?;
+    let bar_of_entry = numbers_of(alloc, &calls, order)?;
+    note_entries(&mut calls.calls, order, &bar_of_entry);
+    let mut bars = bars_of(alloc, spec.operations(), &calls)?;
+    let across = put_bars(&mut bars, &calls.call_of_event);
+    let marks = marks_of(alloc, &bars, &bar_of_entry)?;
+    let preceded = preceded_from(&bars, &bar_of_entry, judged);
+    let sheet = Sheet::new(across, calls.turns.len());
+    Ok(Laid {
+        bars,
+        marks,
+        calls,
+        sheet,
+        preceded,
+    })
+}
+
+// What is laid out, as SVG text.
+fn laid_text(alloc: Global, laid: &Laid<'_>, judged: Judged) -> Result<String, OutOfMemory>
+    ensures { IfOk result (λ text. Draws (vec_len laid.now.bars) (map (λ mark. mark.place) laid.now.marks.items) (string_bytes text)) }
+{
+    let mut out = String::new(alloc);
+    begin_sheet(&mut out, laid.sheet.width, laid.sheet.height)?;
+    push_style(&mut out)?;
+    push_sheet(&mut out, laid.sheet.width, laid.sheet.height)?;
+    push_lanes(&mut out, laid.sheet, &laid.calls.turns)?;
+    push_bars(&mut out, &laid.bars, judged, laid.preceded)?;
+    push_order(&mut out, &laid.marks)?;
+    push_marks(&mut out, &laid.marks)?;
+    push_caption(alloc, &mut out, laid.sheet, judged)?;
+    end_sheet(&mut out)?;
+    Ok(out)
 }
 
 /// The drawing of a history with an order, as SVG text, without a script: a lane for each client, in which a bar goes from each
@@ -87,14 +145,11 @@ pub fn drawing(
     spec: &TextSpec,
     history: &History,
     order: &[Done<TextCall, Pick, Vec<i64>>],
-) -> Result<String, OutOfMemory> {
+) -> Result<String, OutOfMemory>
+    ensures { IfOk result (λ text. IsDrawing (events_in history.now) (entries_view order.now) (string_bytes text)) }
+{
     let judged = judgement_of(alloc, spec, history, order)?;
-    let mut calls = calls_of(alloc, spec.operations(), history.events(), order)?;
-    let across = put_bars(&mut calls);
-    let sheet = Sheet::new(across, calls.lanes.len());
-    let mut out = String::new(alloc);
-    begin_sheet(&mut out, sheet)?;
-    push_drawing(alloc, &mut out, &calls, sheet, judged)?;
-    end_sheet(&mut out)?;
-    Ok(out)
+    let laid = laid_out(alloc, spec, history, order, judged)?;
+    let text = laid_text(alloc, &laid, judged)?;
+    Ok(text)
 }

@@ -1,6 +1,11 @@
 //! Where bars and marks are, from left to right.
-use crate::calls::{Bar, Calls};
+ghost use Rattle.std.specs.Prelude.{◌≡◌, ◌<◌, ◌++◌, All, IfOk, IfSome, OnOk, length, map, vec_len};
+ghost use Rattle.lc_draw.specs.Counting.{numbered_places, place_at};
+
+use crate::calls::Calls;
+use crate::texts::{Plain, call_text};
 use lc_base::OutOfMemory;
+use lc_seq::Operation;
 use std::alloc::Global;
 
 /// How far an event is after the one before it, at least.
@@ -15,6 +20,20 @@ const AROUND: u64 = 16;
 /// How far into a bar its mark is, at least, and before its end.
 const INTO: u64 = 8;
 
+/// A call, as it is drawn.
+#[derive(Drop)]
+pub(crate) struct Bar {
+    /// The number of its lane, from 0 above.
+    pub(crate) lane: usize,
+    pub(crate) text: Plain,
+    /// How far to the right it begins and ends, in units of the drawing.
+    pub(crate) begins: u64,
+    pub(crate) ends: u64,
+    pub(crate) has_returned: bool,
+    /// The place of its entry in the order, if it has one.
+    pub(crate) place: Option<usize>,
+}
+
 /// An entry of the order, as it is drawn.
 #[derive(Clone, Copy)]
 pub(crate) struct Mark {
@@ -22,6 +41,28 @@ pub(crate) struct Mark {
     pub(crate) lane: usize,
     /// How far to the right it is.
     pub(crate) across: u64,
+}
+
+/// The bars of calls, none of which is put anywhere.
+pub(crate) fn bars_of(
+    alloc: Global,
+    operations: &[Operation],
+    calls: &Calls<'_>,
+) -> Result<Vec<Bar>, OutOfMemory>
+    ensures { IfOk result (λ bars. vec_len bars ≡ vec_len calls.now.calls) }
+{
+    let mut bars = Vec::new(alloc);
+    for call in &calls.calls {
+        bars.push(Bar {
+            lane: calls.turns.get_index_of(&call.client).unwrap_or(0),
+            text: call_text(alloc, operations, call)?,
+            begins: 0,
+            ends: 0,
+            has_returned: call.reply.is_some(),
+            place: call.place,
+        })?;
+    }
+    Ok(bars)
 }
 
 /// How wide a bar is, so that its text has room.
@@ -43,19 +84,21 @@ fn put_event(bar: &mut Bar, behind: u64) -> u64 {
     bar.ends
 }
 
-/// Puts the bars where their events are, in the order of the events, and returns where the drawing ends.
-pub(crate) fn put_bars(calls: &mut Calls) -> u64 {
+/// Puts bars where their events are, in the order of the events, and returns where the drawing ends.
+pub(crate) fn put_bars(bars: &mut [Bar], bar_of_event: &[usize]) -> u64
+    ensures { length bars.new ≡ length bars.old }
+{
     let mut behind = 0;
-    for number in &calls.bar_of_event {
-        if let Some(bar) = calls.bars.get_mut(*number) {
+    for number in bar_of_event {
+        if let Some(bar) = bars.get_mut(*number) {
             behind = put_event(bar, behind);
         }
     }
     let mut last = behind.saturating_add(STEP);
-    for bar in &calls.bars {
+    for bar in &*bars {
         last = last.max(bar.ends);
     }
-    for bar in &mut calls.bars {
+    for bar in &mut *bars {
         if !bar.has_returned {
             bar.ends = last;
         }
@@ -63,22 +106,47 @@ pub(crate) fn put_bars(calls: &mut Calls) -> u64 {
     last
 }
 
-/// The marks of the entries: each as far to the right as the one before it, or farther, if its bar goes so far.
-pub(crate) fn marks_of(alloc: Global, calls: &Calls) -> Result<Vec<Mark>, OutOfMemory> {
+// Marks an entry, if it has a bar: as far to the right as the mark before it, or farther, if its bar goes that far. Returns how far
+// to the right marks are by then.
+fn mark_entry(
+    marks: &mut Vec<Mark>,
+    bars: &[Bar],
+    place: usize,
+    number: Option<usize>,
+    behind: u64,
+) -> Result<u64, OutOfMemory>
+    requires { IfSome number (λ n. n < length bars.now) }
+    ensures { OnOk result (map (λ mark. mark.place) marks.new.items ≡ map (λ mark. mark.place) marks.old.items ++ place_at place number) }
+{
+    let Some(number) = number else {
+        return Ok(behind);
+    };
+    let bar = &bars[number];
+    let first = bar.begins.saturating_add(INTO);
+    let last = bar.ends.saturating_sub(INTO);
+    let across = first.max(behind).min(last);
+    let mark = Mark {
+        place,
+        lane: bar.lane,
+        across,
+    };
+    marks.push(mark)?;
+    Ok(behind.max(across))
+}
+
+/// The marks of entries that have bars.
+pub(crate) fn marks_of(
+    alloc: Global,
+    bars: &[Bar],
+    bar_of_entry: &[Option<usize>],
+) -> Result<Vec<Mark>, OutOfMemory>
+    requires { All (λ number. IfSome number (λ n. n < length bars.now)) bar_of_entry.now }
+    ensures { IfOk result (λ marks. map (λ mark. mark.place) marks.items ≡ numbered_places 0 bar_of_entry.now) }
+{
     let mut marks = Vec::new(alloc);
     let mut behind = 0;
-    for (place, number) in calls.bar_of_entry.iter().enumerate() {
-        if let Some(bar) = number.and_then(|number| calls.bars.get(number)) {
-            let first = bar.begins.saturating_add(INTO);
-            let last = bar.ends.saturating_sub(INTO);
-            let across = first.max(behind).min(last);
-            behind = behind.max(across);
-            marks.push(Mark {
-                place,
-                lane: bar.lane,
-                across,
-            })?;
-        }
+    for (place, number) in bar_of_entry.iter().enumerate() {
+        behind = mark_entry(&mut marks, bars, place, *number, behind)?;
     }
     Ok(marks)
 }

@@ -2,6 +2,7 @@
 //! bugs of these calls are here: bodies that return something wrong where the call returns what is right.
 #![tactic(auto)]
 
+pub mod drawings;
 pub mod histories;
 pub mod native;
 pub mod specifications;

@@ -5,6 +5,7 @@ mod Drawn
 mod Ordered
 mod OneAnswer
 mod Taken
+mod Read
 mod Endings
 mod Opened
 mod Sharing

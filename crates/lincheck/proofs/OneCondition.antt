@@ -1,5 +1,5 @@
 -- What is reported about one condition, and about those that are chosen.
-use Rattle.std.proofs.Common.{◌≡◌, ℕ, suc, ◌+◌, List, [], ◌∷◌, ◌++◌, length, Option, Some, None, IfSome, IfOk, Result, Ok, Err, Vec, refl, ap, ap₂, ◌∙◌, inl, inr, arith}
+use Rattle.std.proofs.Common.{◌≡◌, ℕ, suc, ◌+◌, List, [], ◌∷◌, ◌++◌, length, Option, Some, None, IfOk, Result, Ok, Err, Vec, refl, ap, ap₂, ◌∙◌, inl, inr, arith}
 use Rattle.std.specs.declared.alloc.Global.{Global}
 use Rattle.lc_base.specs.declared.refusal.Fault.TheVariants.{Refused}
 use Rattle.lc_base.specs.declared.refusal.Refusal.TheVariants.{Extra}
@@ -15,7 +15,9 @@ use Rattle.lincheck.specs.Answers.{ToldFault}
 use Rattle.lincheck.specs.Check.{AnswersDevelopment, TellsRefusal}
 use Rattle.lincheck.specs.Condition.{AnswersCondition, TellsCondition, TellsLine}
 use Rattle.lincheck.specs.Execution.{AnswersTask}
+use Rattle.lincheck.specs.Reading.{OfFile}
 use Rattle.lincheck.specs.declared.answer.Answer.{Answer}
+use Rattle.lincheck.proofs.Read.{read_so}
 use Rattle.lc_base.specs.declared.memory.OutOfMemory.{OutOfMemory}
 
 pub laid_told : (k : ℕ) (line : Option (List ℕ)) (text : Vec ℕ Global) → IsLaid line (Some text) → TellsLine k line text.items 0
@@ -32,15 +34,13 @@ pub unlaid_answered : (k : ℕ) (line : Option (List ℕ)) (r : Result Answer Ou
 unlaid_answered k line (Ok answer) is told = unlaid_told k line answer.text.items answer.status is told
 unlaid_answered k line (Err wanting) is told = tt
 
-pub condition_answered : (k : ℕ) (known : Option (List ℕ)) (D : Development) (text : List ℕ) (status : ℕ) → IfSome known (λ file. Says file_reading file D) → TellsCondition D k text status
-    → IfSome known (λ file. AnswersCondition k file text status)
-condition_answered k None D text status says tells = tt
-condition_answered k (Some file) D text status says tells = inr (D, says, tells)
+pub condition_answered : (k : ℕ) (known : Option (List ℕ)) (D : Development) (text : List ℕ) (status : ℕ) → OfFile known (λ file. Says file_reading file D) → TellsCondition D k text status
+    → OfFile known (λ file. AnswersCondition k file text status)
+condition_answered k known D text status says tells = read_so known says (λ file says. inr (D, says, tells))
 
-pub condition_refused : (k : ℕ) (known : Option (List ℕ)) (text : List ℕ) (status : ℕ) → IfSome known (λ file. TellsRefusal file text status)
-    → IfSome known (λ file. AnswersCondition k file text status)
-condition_refused k None text status tells = tt
-condition_refused k (Some file) text status tells = inl tells
+pub condition_refused : (k : ℕ) (known : Option (List ℕ)) (text : List ℕ) (status : ℕ) → OfFile known (λ file. TellsRefusal file text status)
+    → OfFile known (λ file. AnswersCondition k file text status)
+condition_refused k known text status tells = read_so known tells (λ file tells. inl tells)
 
 -- ---- if nothing is asked for all are chosen
 
@@ -62,13 +62,12 @@ all_answered : (file text : List ℕ) (status : ℕ) → AnswersDevelopment (cho
 all_answered file text status (inl tells) = inl tells
 all_answered file text status (inr (D, says, is, zero)) = inr (D, says, is ∙ all_chosen D, zero)
 
-all_known : (known : Option (List ℕ)) (text : List ℕ) (status : ℕ) → IfSome known (λ file. AnswersDevelopment (chosen_text None None) file text status)
-    → IfSome known (λ file. AnswersDevelopment conditions_text file text status)
-all_known None text status answers = tt
-all_known (Some file) text status answers = all_answered file text status answers
+all_known : (known : Option (List ℕ)) (text : List ℕ) (status : ℕ) → OfFile known (λ file. AnswersDevelopment (chosen_text None None) file text status)
+    → OfFile known (λ file. AnswersDevelopment conditions_text file text status)
+all_known known text status answers = read_so known answers (λ file answers. all_answered file text status answers)
 
 pub chosen_answered : (bytes_at : List ℕ → Option (List ℕ)) (path : List ℕ) (point kind : Option (List ℕ)) (text : List ℕ) (status : ℕ)
-    → IfSome (bytes_at path) (λ file. AnswersDevelopment (chosen_text point kind) file text status) → AnswersTask bytes_at (listing path point kind) text status
+    → OfFile (bytes_at path) (λ file. AnswersDevelopment (chosen_text point kind) file text status) → AnswersTask bytes_at (listing path point kind) text status
 chosen_answered bytes_at path None None text status answers = all_known (bytes_at path) text status answers
 chosen_answered bytes_at path (Some point) None text status answers = answers
 chosen_answered bytes_at path None (Some kind) text status answers = answers

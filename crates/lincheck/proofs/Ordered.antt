@@ -1,5 +1,5 @@
 -- The answer to a history's file of which an order is to be found, from its reading and from the beginning of the file.
-use Rattle.std.proofs.Common.{◌≡◌, ℕ, ℤ, ◌≤◌, Bool, length, take, List, Option, Some, None, IfSome, IfOk, Result, Ok, Err, Vec, refl, subst, ◌∙◌, inl, inr, arith}
+use Rattle.std.proofs.Common.{◌≡◌, ℕ, ℤ, ◌≤◌, Bool, length, take, List, Option, IfOk, Result, Ok, Err, Vec, refl, subst, ◌∙◌, inl, inr, arith}
 use Rattle.std.proofs.lemmas.List.{take_all, length-take}
 use Rattle.std.specs.declared.alloc.Global.{Global}
 use Rattle.lc_base.specs.declared.memory.OutOfMemory.{OutOfMemory}
@@ -16,7 +16,8 @@ use Rattle.lc_seq.specs.declared.text_call.TextCall.{TextCall}
 use Rattle.lincheck.specs.Answers.{ToldFault}
 use Rattle.lincheck.specs.Order.{AnswersOrdered, IsDecision, ToldDecision}
 use Rattle.lincheck.specs.declared.answer.Answer.{Answer}
-use Rattle.lincheck.specs.Reading.{within_limit, most_bytes}
+use Rattle.lincheck.specs.Reading.{OfFile, within_limit, most_bytes}
+use Rattle.lincheck.proofs.Read.{read_so}
 use Rattle.lincheck.proofs.Truncated.{either}
 
 -- what is told of a decision answers the text of the history of which it is decided
@@ -67,7 +68,6 @@ of_whole check spec n file text status e is = elim (either (length file) n) [
 
 -- what is told of what is read answers the file
 pub ordered_answered : (check : Bool) (spec : Specification) (known : Option (List ℕ)) (bytes seen text : List ℕ) (status : ℕ)
-    → IfSome known (λ file. bytes ≡ within_limit file) → seen ≡ bytes → AnswersOrdered check spec seen text status → IfSome known (λ file. AnswersOrdered check spec file text status)
-ordered_answered check spec None bytes seen text status read same is = tt
-ordered_answered check spec (Some file) bytes seen text status read same is =
-    of_whole check spec most_bytes file text status refl (subst (λ b. AnswersOrdered check spec b text status) (same ∙ read) is)
+    → OfFile known (λ file. bytes ≡ within_limit file) → seen ≡ bytes → AnswersOrdered check spec seen text status → OfFile known (λ file. AnswersOrdered check spec file text status)
+ordered_answered check spec known bytes seen text status read same is =
+    read_so known read (λ file read. of_whole check spec most_bytes file text status refl (subst (λ b. AnswersOrdered check spec b text status) (same ∙ read) is))

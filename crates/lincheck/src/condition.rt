@@ -1,10 +1,11 @@
 //! The command `conditions` with its options: one condition, laid out over lines, or the lines of those that are chosen.
-ghost use Rattle.std.specs.Prelude.{◌≡◌, IfOk, IfSome, IsErr};
+ghost use Rattle.std.specs.Prelude.{◌≡◌, IfOk, IsErr};
 ghost use Rattle.lc_outline.specs.DevelopmentView.{development_view};
 ghost use Rattle.lc_listing.specs.Chosen.{chosen_text};
 ghost use Rattle.lc_words.specs.Tasks.{path_in};
 ghost use Rattle.lincheck.specs.Check.{AnswersDevelopment};
 ghost use Rattle.lincheck.specs.Condition.{AnswersCondition, TellsCondition};
+ghost use Rattle.lincheck.specs.Reading.{OfFile};
 
 use crate::answer::{Answer, Failure, SUCCESS, told_fault};
 use crate::check::open_development;
@@ -40,7 +41,7 @@ pub fn answer_condition<'a, F: Files>(
     number: u64,
 ) -> Result<Answer, Failure<'a>>
     ensures unread { F.CannotOpen files.old path.now → IsErr result }
-    ensures answers { IfOk result (λ answer. IfSome (F.bytes_at files.old path.now) (λ file. AnswersCondition number file answer.text.items answer.status)) }
+    ensures answers { IfOk result (λ answer. OfFile (F.bytes_at files.old path.now) (λ file. AnswersCondition number file answer.text.items answer.status)) }
 {
     match open_development(alloc, files, path)? {
         Ok(development) => Ok(tell_condition(alloc, &development, number)?),
@@ -57,7 +58,7 @@ pub fn answer_chosen<'a, F: Files>(
     kind: Option<&'a str>,
 ) -> Result<Answer, Failure<'a>>
     ensures unread { F.CannotOpen files.old path.now → IsErr result }
-    ensures answers { IfOk result (λ answer. IfSome (F.bytes_at files.old path.now) (λ file. AnswersDevelopment (chosen_text (path_in point.entry) (path_in kind.entry)) file answer.text.items answer.status)) }
+    ensures answers { IfOk result (λ answer. OfFile (F.bytes_at files.old path.now) (λ file. AnswersDevelopment (chosen_text (path_in point.entry) (path_in kind.entry)) file answer.text.items answer.status)) }
 {
     match open_development(alloc, files, path)? {
         Ok(development) => Ok(Answer {

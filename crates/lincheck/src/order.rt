@@ -1,5 +1,5 @@
 //! The command `order`.
-ghost use Rattle.std.specs.Prelude.{◌≡◌, IfOk, IfSome, IsErr};
+ghost use Rattle.std.specs.Prelude.{◌≡◌, IfOk, IsErr};
 ghost use Rattle.lc_base.specs.Line.{line_of};
 ghost use Rattle.lc_hist.specs.Histories.{events_in};
 ghost use Rattle.lc_hist.specs.JsonHistories.{entries_view};
@@ -7,6 +7,7 @@ ghost use Rattle.lc_seq.specs.TextView.{specification_of};
 ghost use Rattle.lc_words.specs.Tasks.{FindOrder};
 ghost use Rattle.lincheck.specs.Execution.{IsUnread};
 ghost use Rattle.lincheck.specs.Order.{AnswersOrder, AnswersOrdered, ToldDecision, ordered_text};
+ghost use Rattle.lincheck.specs.Reading.{OfFile};
 
 use crate::answer::{Answer, Failure, REFUSED, SUCCESS, Why, told_fault};
 use crate::files::Files;
@@ -124,7 +125,7 @@ fn answer_ordered<'a, F: Files>(
     search: Search,
 ) -> Result<Answer, Failure<'a>>
     ensures unread { F.CannotOpen files.old path.now → IsErr result }
-    ensures answers { IfOk result (λ answer. IfSome (F.bytes_at files.old path.now) (λ file. AnswersOrdered search.check (specification_of spec.now) file answer.text.items answer.status)) }
+    ensures answers { IfOk result (λ answer. OfFile (F.bytes_at files.old path.now) (λ file. AnswersOrdered search.check (specification_of spec.now) file answer.text.items answer.status)) }
 {
     let bytes = read_file(alloc, files, path)?;
     Ok(order_of(alloc, spec, &bytes, search)?)
@@ -140,7 +141,7 @@ pub fn answer_order<'a, F: Files>(
     search: Search,
 ) -> Result<Answer, Failure<'a>>
     ensures unread { IsUnread (F.CannotOpen files.old) (F.bytes_at files.old) (FindOrder development.now history.now search.check search.budget) → IsErr result }
-    ensures answers { IfOk result (λ answer. IfSome (F.bytes_at files.old development.now) (λ file. AnswersOrder search.check file (F.bytes_at files.old history.now) answer.text.items answer.status)) }
+    ensures answers { IfOk result (λ answer. OfFile (F.bytes_at files.old development.now) (λ file. AnswersOrder search.check file (F.bytes_at files.old history.now) answer.text.items answer.status)) }
 {
     let reader = feed_forms(alloc, files, development)?;
     match spec_fed(alloc, reader) {

@@ -1,7 +1,7 @@
 //! How files are read: in pieces, and no further than their limit.
-ghost use Rattle.std.specs.Prelude.{◌≡◌, ℕ, List, OnOk, IfOk, IfSome, IsErr};
+ghost use Rattle.std.specs.Prelude.{◌≡◌, ℕ, List, OnOk, IfOk, IsErr};
 ghost use Rattle.lc_sexp.specs.Pieces.{WasFed};
-ghost use Rattle.lincheck.specs.Reading.{ReadsToLimit, IsFedOn, within_limit};
+ghost use Rattle.lincheck.specs.Reading.{OfFile, ReadsToLimit, IsFedOn, within_limit};
 
 use crate::answer::Failure;
 use crate::files::Files;
@@ -89,7 +89,7 @@ pub fn feed_file<'a, F: Files, S: Sink>(
     ensures keeps { (other : List ℕ) → F.bytes_at files.new other ≡ F.bytes_at files.old other }
     ensures closed { (other : List ℕ) → F.CannotOpen files.old other → F.CannotOpen files.new other }
     ensures unread { F.CannotOpen files.old path.now → IsErr result }
-    ensures fed { OnOk result ((bytes : List ℕ) × IsFedOn S.WasFed sink.old sink.new bytes × IfSome (F.bytes_at files.old path.now) (λ file. bytes ≡ within_limit file)) }
+    ensures fed { OnOk result ((bytes : List ℕ) × IsFedOn S.WasFed sink.old sink.new bytes × OfFile (F.bytes_at files.old path.now) (λ file. bytes ≡ within_limit file)) }
 {
     let mut reader = match files.open(path) {
         Ok(reader) => reader,
@@ -111,7 +111,7 @@ pub fn feed_forms<'a, F: Files>(
     ensures keeps { (other : List ℕ) → F.bytes_at files.new other ≡ F.bytes_at files.old other }
     ensures closed { (other : List ℕ) → F.CannotOpen files.old other → F.CannotOpen files.new other }
     ensures unread { F.CannotOpen files.old path.now → IsErr result }
-    ensures fed { IfOk result (λ reader. (bytes : List ℕ) × WasFed reader bytes × IfSome (F.bytes_at files.old path.now) (λ file. bytes ≡ within_limit file)) }
+    ensures fed { IfOk result (λ reader. (bytes : List ℕ) × WasFed reader bytes × OfFile (F.bytes_at files.old path.now) (λ file. bytes ≡ within_limit file)) }
 {
     let mut reader = FormsReader::new(alloc);
     feed_file(files, path, &mut reader)?;
@@ -127,7 +127,7 @@ pub fn read_file<'a, F: Files>(
     ensures keeps { (other : List ℕ) → F.bytes_at files.new other ≡ F.bytes_at files.old other }
     ensures closed { (other : List ℕ) → F.CannotOpen files.old other → F.CannotOpen files.new other }
     ensures unread { F.CannotOpen files.old path.now → IsErr result }
-    ensures bytes { IfOk result (λ bytes. IfSome (F.bytes_at files.old path.now) (λ file. bytes.items ≡ within_limit file)) }
+    ensures bytes { IfOk result (λ bytes. OfFile (F.bytes_at files.old path.now) (λ file. bytes.items ≡ within_limit file)) }
 {
     let mut bytes = Vec::new(alloc);
     feed_file(files, path, &mut bytes)?;

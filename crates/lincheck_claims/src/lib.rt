@@ -139,6 +139,18 @@ impl<'a, R: Threads + Wait + Sync> Program<'a, R> {
         self.execute(object, err)
     }
 
+    /// `formula` prints the answer to some bytes, whatever files it is given, also those of the system.
+    pub fn checking_any_file<F: Files>(
+        &self,
+        files: &mut F,
+        reply: &mut Vec<u8>,
+        err: &mut Vec<u8>,
+    ) -> u8
+        ensures { (path : List ℕ) → EndsWith (texts_of self.now.words.now) (CheckFormula path) (λ text status. (file : List ℕ) × AnswersFormula file text status) reply.old.items reply.new.items result }
+    {
+        execute(self.rt, self.alloc, self.words, files, reply, err)
+    }
+
     /// A command line fault has its status, or that of running out of memory; nothing is printed, and no file is opened.
     pub fn refusing<F: Files>(&self, files: &mut F, out: &mut Vec<u8>, err: &mut Vec<u8>) -> u8
         ensures { AreWrong (texts_of self.now.words.now) → ((result ≡ 2) ⊎ (result ≡ 4)) × (out.new ≡ out.old) × (files.new ≡ files.old) }

@@ -1,0 +1,56 @@
+-- Drawings of histories.
+use Rattle.std.specs.Prelude.{◌≡◌, ℕ, suc, Bool, nat_lt, cond, List, [], ◌∷◌, ◌++◌, codes, length, map}
+use Rattle.std.specs.List.{flat_map}
+use Rattle.std.specs.Fmt.{decimal}
+use Rattle.lc_hist.specs.History.{Event, Entry, count, is_call, is_of}
+use Rattle.lc_hist.specs.WellFormed.{begins}
+use Rattle.lc_draw.specs.Elements.{Element, elements_text, AreWellFormed}
+use Rattle.lc_draw.specs.Shapes.{Lane, lane_elements, Bar, bar_elements, Mark, mark_elements, order_element, caption_element, sheet_element, style_element}
+
+-- what is on a sheet: a lane for each client, bars, the line from mark to mark, marks, and what is said of the order
+pub record Picture : Type 0 where
+  pub width : ℕ
+  pub height : ℕ
+  pub style : List ℕ
+  pub lanes : List Lane
+  pub bars : List Bar
+  pub points : List (ℕ × ℕ)
+  pub marks : List Mark
+  pub above : ℕ
+  pub caption : List ℕ
+
+abbrev pub elements_of : Picture → List Element
+elements_of p =
+    style_element p.style
+    ∷ sheet_element p.width p.height
+    ∷ flat_map lane_elements p.lanes ++ flat_map bar_elements p.bars ++ order_element p.points ∷ flat_map mark_elements p.marks ++ caption_element p.above p.caption ∷ []
+
+-- the tag before all elements
+abbrev pub opening_text : ℕ → ℕ → List ℕ
+opening_text width height =
+    codes "<svg xmlns=\"http://www.w3.org/2000/svg\" width=\"" ++ decimal width ++ codes "\" height=\"" ++ decimal height ++ codes "\" viewBox=\"0 0 " ++ decimal width ++ codes " " ++ decimal height
+    ++ codes "\">\n"
+
+abbrev pub picture_text : Picture → List ℕ
+picture_text p = opening_text p.width p.height ++ elements_text (elements_of p) ++ codes "</svg>\n"
+
+-- the client of an entry, after these entries, made so many calls that the entry has one
+abbrev pub has_call : List Event → List Entry → Entry → Bool
+has_call events before e = nat_lt (count (is_of e.client) before) (count (is_call e.client) events)
+
+-- the places of the entries that have calls, if that many are before these
+abbrev pub marked : List Event → List Entry → ℕ → List Entry → List ℕ
+marked events before k [] = []
+marked events before k (e ∷ es) = cond (has_call events before e) (k ∷ marked events (before ++ e ∷ []) (suc k) es) (marked events (before ++ e ∷ []) (suc k) es)
+
+-- the text is that of a picture with so many bars, and marks with these places, whose elements are well-formed
+pub record Draws (bars : ℕ) (places text : List ℕ) : Type 0 where
+  pub picture : Picture
+  pub is : text ≡ picture_text picture
+  pub well_formed : AreWellFormed (elements_of picture)
+  pub bars_are : length picture.bars ≡ bars
+  pub marks_are : map (λ (m : Mark). m.place) picture.marks ≡ places
+
+-- The text draws a bar for each call of the history, and a mark with its place for each entry of the order that has a call
+abbrev pub IsDrawing : List Event → List Entry → List ℕ → Type 0
+IsDrawing events order text = Draws (count begins events) (marked events [] 0 order) text
