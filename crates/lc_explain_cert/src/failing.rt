@@ -133,6 +133,6 @@ pub(crate) fn failing_text(
 {
     match search(alloc, terms, goal, &[], &[], BUDGET)?.end {
         End::NotFound(model) => Ok(Some(model_text(alloc, names, terms, goal, &model)?)),
-        End::Found(_) | End::Spent | End::Large => Ok(None),
+        End::Found(_) | End::Spent(_) | End::Large => Ok(None),
     }
 }

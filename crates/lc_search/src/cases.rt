@@ -257,7 +257,7 @@ pub(crate) fn cut_by_hints(known: &mut Known, cuts: &[FormulaId]) -> Result<Turn
 }
 
 /// Cuts by a formula.
-pub(crate) fn cut(known: &mut Known, formula: FormulaId) -> Result<Turn, Stop> {
+fn cut(known: &mut Known, formula: FormulaId) -> Result<Turn, Stop> {
     let step = known.cut(formula, Place { rank: 0, depth: 0 })?;
     let step = known.weigh(step)?;
     let weighed = known.sorted(step)?;

@@ -2,6 +2,7 @@
 ghost use Rattle.lc_table.specs.Tables.{IsFormula, AreFormulas};
 
 use crate::blocks::Blocks;
+use crate::cause::Cause;
 use crate::counter::{CounterModel, counter_model};
 use crate::model::Model;
 use crate::ranks::{GOAL, rank_of};
@@ -26,8 +27,8 @@ pub enum End {
     Found(Proof),
     /// Nothing is left to be tried.
     NotFound(CounterModel),
-    /// The steps that may be tried are spent, or too many splits are nested in each other, or a proof is too deep for a text.
-    Spent,
+    /// The search was given up.
+    Spent(Cause),
     /// A number does not fit 128 bits.
     Large,
 }
@@ -62,16 +63,26 @@ pub fn search(
         cuts: Vec::new(alloc),
         cuts_left: MOST_CUTS,
         spread_at: usize::MAX,
+        cause: None,
     };
     let found = begun(&mut search, terms, goal, uses, cuts);
     let steps = budget.saturating_sub(search.known.left);
     let end = match found {
         Ok(end) => end,
-        Err(Stop::Spent) => End::Spent,
+        Err(Stop::Spent) => End::Spent(cause_of(&search)),
         Err(Stop::Large) => End::Large,
         Err(Stop::OutOfMemory) => return Err(OutOfMemory),
     };
     Ok(Searched { end, steps })
+}
+
+/// Why a search was given up.
+fn cause_of(search: &Search) -> Cause {
+    match search.cause {
+        Some(cause) => cause,
+        None if search.known.left == 0 => Cause::Steps,
+        None => Cause::Work,
+    }
 }
 
 /// Enters the goal and its hints, and searches.
@@ -97,6 +108,8 @@ fn begun(
         Some(proof) => {
             let proof = search.known.wrap(mark.steps, proof)?;
             let count = goal.hypotheses.as_slice().len();
+            // From here on nothing but the depth of the proof is in the way.
+            search.cause = Some(Cause::Nesting);
             Ok(End::Found(written(&search.known, proof, count, goal.vars)?))
         }
         None => Ok(End::NotFound(counter_model(search)?)),

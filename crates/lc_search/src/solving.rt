@@ -3,6 +3,7 @@
 use crate::axioms::{broken_axioms, read_axioms};
 use crate::blocks::Blocks;
 use crate::cases::{Noted, broken_disequalities, broken_disjunctions, cut_by_hints};
+use crate::cause::Cause;
 use crate::fractions::{cut_fraction, tightest_fraction};
 use crate::instances::broken_instances;
 use crate::model::Model;
@@ -25,6 +26,8 @@ pub(crate) struct Search {
     pub(crate) cuts_left: u32,
     /// How many facts were live as numbers were spread: as long as no fact comes, numbers that were made whole stay so.
     pub(crate) spread_at: usize,
+    /// Why the search is given up; none if what it stands on gave up.
+    pub(crate) cause: Option<Cause>,
 }
 
 impl Drop for Search {
@@ -36,8 +39,15 @@ impl Drop for Search {
             cuts: _,
             cuts_left: _,
             spread_at: _,
+            cause: _,
         } = self;
     }
+}
+
+/// Notes why the search is given up.
+fn give_up(search: &mut Search, cause: Cause) -> Stop {
+    search.cause = Some(cause);
+    Stop::Spent
 }
 
 /// Uses what the numbers of the tableau break, without quantifiers.
@@ -80,7 +90,10 @@ fn try_fractions(search: &mut Search) -> Result<Turn, Stop> {
     let Some(fraction) = tightest_fraction(&mut search.known, search.blocks.variables)? else {
         return Ok(Turn::Next);
     };
-    search.cuts_left = search.cuts_left.checked_sub(1).ok_or(Stop::Spent)?;
+    let Some(cuts_left) = search.cuts_left.checked_sub(1) else {
+        return Err(give_up(search, Cause::Cuts));
+    };
+    search.cuts_left = cuts_left;
     cut_fraction(&mut search.known, fraction)
 }
 
@@ -129,7 +142,7 @@ pub(crate) fn solve(
 ) -> Result<Option<ProofId>, Stop> {
     let mut reach = reach;
     if nesting == 0 {
-        return Err(Stop::Spent);
+        return Err(give_up(search, Cause::Splits));
     }
     for _ in 0..search.known.left {
         match pass(search, reach)? {
@@ -142,7 +155,7 @@ pub(crate) fn solve(
             },
         }
     }
-    Err(Stop::Spent)
+    Err(give_up(search, Cause::Steps))
 }
 
 /// The facts of an open branch of a step.
@@ -168,7 +181,7 @@ fn split(
 ) -> Result<Option<ProofId>, Stop> {
     let mut step = step;
     if nesting == 0 {
-        return Err(Stop::Spent);
+        return Err(give_up(search, Cause::Splits));
     }
     for place in 0..step.sides.len() {
         if let Some(facts) = open_branch(search, &step, place)? {
@@ -196,7 +209,7 @@ fn solve_branch(
     nesting: u32,
 ) -> Result<Option<ProofId>, Stop> {
     if nesting == 0 {
-        return Err(Stop::Spent);
+        return Err(give_up(search, Cause::Splits));
     }
     let trial = search.known.start_trial()?;
     let mark = trial.mark;
