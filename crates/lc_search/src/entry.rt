@@ -20,6 +20,9 @@ use std::alloc::Global;
 /// How many splits may be nested in each other, in calls of three functions each.
 const MOST_SPLITS: u32 = 600;
 
+/// How much work a search may take, beside its steps: a unit is a row, a summand or a fact that is looked at.
+const WORK: u64 = 120_000_000;
+
 /// What a search came to.
 #[derive(Drop)]
 pub enum End {
@@ -63,8 +66,10 @@ pub fn search(
         cuts: Vec::new(alloc),
         cuts_left: MOST_CUTS,
         spread_at: usize::MAX,
+        proofs_counted: 0,
         cause: None,
     };
+    search.known.tableau.allow(WORK);
     let found = begun(&mut search, terms, goal, uses, cuts);
     let steps = budget.saturating_sub(search.known.left);
     let end = match found {

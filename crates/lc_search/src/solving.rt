@@ -2,7 +2,7 @@
 
 use crate::axioms::{broken_axioms, read_axioms};
 use crate::blocks::Blocks;
-use crate::cases::{Noted, broken_disequalities, broken_disjunctions, cut_by_hints};
+use crate::cases::{Noted, broken_disequalities, broken_disjunctions, cut_by_hints, looked_at};
 use crate::cause::Cause;
 use crate::fractions::{cut_fraction, tightest_fraction};
 use crate::instances::broken_instances;
@@ -26,6 +26,8 @@ pub(crate) struct Search {
     pub(crate) cuts_left: u32,
     /// How many facts were live as numbers were spread: as long as no fact comes, numbers that were made whole stay so.
     pub(crate) spread_at: usize,
+    /// The work of how many proofs was counted.
+    pub(crate) proofs_counted: usize,
     /// Why the search is given up; none if what it stands on gave up.
     pub(crate) cause: Option<Cause>,
 }
@@ -39,6 +41,7 @@ impl Drop for Search {
             cuts: _,
             cuts_left: _,
             spread_at: _,
+            proofs_counted: _,
             cause: _,
         } = self;
     }
@@ -97,13 +100,17 @@ fn try_fractions(search: &mut Search) -> Result<Turn, Stop> {
     cut_fraction(&mut search.known, fraction)
 }
 
-/// How much a round looks at, whatever it finds.
-fn looked_at(known: &Known) -> usize {
-    known
-        .steps
-        .len()
-        .saturating_add(known.have.len())
-        .saturating_add(known.active.len())
+/// The work of a fact that a proof needs. It is more than it takes of time, since what was proved stays: by it memory is bounded.
+const NEEDED: usize = 10;
+
+/// Counts the work of the proofs that were made since the last round.
+fn count_proofs(search: &mut Search) -> Result<(), Stop> {
+    let mut units: usize = 0;
+    for made in search.known.proofs.iter().skip(search.proofs_counted) {
+        units = units.saturating_add(made.uses.len());
+    }
+    search.proofs_counted = search.known.proofs.len();
+    search.known.tableau.spend(units.saturating_mul(NEEDED))
 }
 
 /// One round of the rules, with the instances in reach.
@@ -111,6 +118,7 @@ fn pass(search: &mut Search, reach: Reach) -> Result<Turn, Stop> {
     search.known.tick()?;
     let units = looked_at(&search.known);
     search.known.tableau.spend(units)?;
+    count_proofs(search)?;
     let live = search.known.have.len();
     if search.spread_at != live {
         search.known.tableau.spread()?;
