@@ -15,5 +15,5 @@ pub use carrying::{carry, carry_with};
 pub use fault::FindFault;
 pub use finding::{find, find_with};
 pub use lc_hints::{Hints, hints_of};
-pub use lc_search::CounterModel;
+pub use lc_search::{Cause, CounterModel};
 pub use progress::{Progress, Silent};

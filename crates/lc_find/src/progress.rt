@@ -1,5 +1,5 @@
 //! To whom the finder reports how far it is, and what it came to.
-use lc_search::CounterModel;
+use lc_search::{Cause, CounterModel};
 
 /// To it the finder reports how far it is, and what it came to.
 pub trait Progress {
@@ -11,6 +11,9 @@ pub trait Progress {
 
     /// The search for a proof of the condition that was reached last ended in this model.
     fn ended(&mut self, _model: CounterModel) {}
+
+    /// The search for a proof of the condition that was reached last was given up.
+    fn given_up(&mut self, _cause: Cause) {}
 }
 
 /// Takes all reports, and says nothing of them.

@@ -55,7 +55,8 @@ fn sought(alloc: Global, walk: &Walk, hints: &Hints, budget: u64) -> Result<End,
     Ok(searched.end)
 }
 
-/// A proof of the next condition that is sought, in at most `budget` steps; reports the model in which the search ended, if it did.
+/// A proof of the next condition that is sought, in at most `budget` steps; reports the model in which the search ended, if it did, or
+/// why it was given up.
 fn sought_entry<P: Progress>(
     alloc: Global,
     development: &Development,
@@ -78,7 +79,10 @@ fn sought_entry<P: Progress>(
             progress.ended(model);
             return Err(FindFault::NotFound(number));
         }
-        End::Spent => return Err(FindFault::Budget(number)),
+        End::Spent(cause) => {
+            progress.given_up(cause);
+            return Err(FindFault::Budget(number));
+        }
         End::Large => return Err(FindFault::Large(number)),
     };
     if proof.step_count() > FILE_LIMIT {

@@ -1,6 +1,6 @@
 //! Axioms of arrays, when the numbers of reads break them.
 
-use crate::cases::Noted;
+use crate::cases::{Noted, weighed_clause};
 use crate::model::{Clash, DEEPEST, Model, active_read, base_read, closed_value, fill_model};
 use crate::turn::{Turn, taken};
 use lc_facts::{Done, FactId, Known, Place, ProofId, Rule, Weighed};
@@ -153,7 +153,7 @@ fn broken_axiom(known: &mut Known, fact: FactId, noted: &mut Noted) -> Result<Tu
     if own_truth_of_parts(known, formula, count, is_or, DEEPEST)? {
         return Ok(Turn::Next);
     }
-    match known.clause(fact)? {
+    match weighed_clause(known, fact)? {
         Some(Weighed::Split(step)) => {
             let place = known.place(fact);
             let size = known.nodes.formula_size(formula);

@@ -38,6 +38,12 @@ impl Candidate {
 /// The place of what is tried only late.
 const LATE: Place = Place { rank: 3, depth: 0 };
 
+/// The work of taking a term in: so many nodes could be looked at.
+const GATHERED: usize = 10;
+
+/// The work of solving an index for a variable.
+const SOLVED: usize = 20;
+
 /// How many terms of one number are kept.
 pub(crate) const MOST_ALIKE: usize = 3;
 
@@ -99,6 +105,7 @@ impl Gathered {
         term: TermId,
         place: Place,
     ) -> Result<(), Stop> {
+        known.tableau.spend(GATHERED)?;
         let size = known.nodes.term_size(term);
         let candidate = Candidate { term, place, size };
         let standard = blocks.standard_of(&mut known.nodes, term)?;
@@ -164,7 +171,9 @@ fn gather_slot(
     slot: Slot,
     gathered: &mut Gathered,
 ) -> Result<(), Stop> {
-    for place in 0..index_count(known, slot.column) {
+    let count = index_count(known, slot.column);
+    known.tableau.spend(count.saturating_mul(SOLVED))?;
+    for place in 0..count {
         if let Some(indexed) = index_at(known, slot.column, place) {
             let alloc = blocks.alloc;
             if let Some(term) = solved(&mut known.nodes, alloc, slot, indexed.term)? {

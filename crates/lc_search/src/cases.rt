@@ -112,6 +112,36 @@ impl Noted {
     }
 }
 
+/// How much a look at all that is known looks at.
+pub(crate) fn looked_at(known: &Known) -> usize {
+    known
+        .steps
+        .len()
+        .saturating_add(known.have.len())
+        .saturating_add(known.active.len())
+}
+
+/// The work of trying a branch, beside a look at what is known.
+const TRIED: usize = 50;
+
+/// The work of taking in a node of what is tried.
+const NODE: usize = 10;
+
+/// What a disjunction, an axiom or a disequality comes to, whose branches are tried; none of other facts.
+pub(crate) fn weighed_clause(known: &mut Known, fact: FactId) -> Result<Option<Weighed>, Stop> {
+    let formula = known.formula(fact);
+    let count = match known.nodes.parts(formula) {
+        Some(parts) => parts.len(),
+        None => 0,
+    };
+    // A trial looks at numbers and rows alone, which takes a fourth of the time.
+    let units = (looked_at(known) / 4).saturating_add(TRIED);
+    let nodes = known.nodes.formula_size(formula) as usize;
+    known.tableau.spend(count.saturating_mul(units))?;
+    known.tableau.spend(nodes.saturating_mul(NODE))?;
+    known.clause(fact)
+}
+
 /// Makes the reads of a formula active; whether one of them was not.
 fn is_new_by_reads(known: &mut Known, formula: FormulaId, place: Place) -> Result<bool, Stop> {
     let before = known.active.len();
@@ -162,7 +192,7 @@ fn broken_disequality(known: &mut Known, model: &mut Model, fact: FactId) -> Res
     if is_new_by_reads(known, formula, known.place(fact))? {
         return Ok(Turn::Again);
     }
-    match known.clause(fact)? {
+    match weighed_clause(known, fact)? {
         Some(weighed) => taken(known, weighed),
         None => Ok(Turn::Next),
     }
@@ -236,7 +266,7 @@ fn broken_disjunction(known: &mut Known, fact: FactId, noted: &mut Noted) -> Res
     if is_new_by_reads(known, formula, place)? {
         return Ok(Turn::Again);
     }
-    match known.clause(fact)? {
+    match weighed_clause(known, fact)? {
         Some(Weighed::Split(step)) => {
             noted.note(place, known.nodes.formula_size(formula), step);
             Ok(Turn::Next)
@@ -257,7 +287,7 @@ pub(crate) fn cut_by_hints(known: &mut Known, cuts: &[FormulaId]) -> Result<Turn
 }
 
 /// Cuts by a formula.
-pub(crate) fn cut(known: &mut Known, formula: FormulaId) -> Result<Turn, Stop> {
+fn cut(known: &mut Known, formula: FormulaId) -> Result<Turn, Stop> {
     let step = known.cut(formula, Place { rank: 0, depth: 0 })?;
     let step = known.weigh(step)?;
     let weighed = known.sorted(step)?;

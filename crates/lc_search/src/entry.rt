@@ -2,6 +2,7 @@
 ghost use Rattle.lc_table.specs.Tables.{IsFormula, AreFormulas};
 
 use crate::blocks::Blocks;
+use crate::cause::Cause;
 use crate::counter::{CounterModel, counter_model};
 use crate::model::Model;
 use crate::ranks::{GOAL, rank_of};
@@ -19,6 +20,9 @@ use std::alloc::Global;
 /// How many splits may be nested in each other, in calls of three functions each.
 const MOST_SPLITS: u32 = 600;
 
+/// How much work a search may take, beside its steps: a unit is a row, a summand or a fact that is looked at.
+const WORK: u64 = 120_000_000;
+
 /// What a search came to.
 #[derive(Drop)]
 pub enum End {
@@ -26,8 +30,8 @@ pub enum End {
     Found(Proof),
     /// Nothing is left to be tried.
     NotFound(CounterModel),
-    /// The steps that may be tried are spent, or too many splits are nested in each other, or a proof is too deep for a text.
-    Spent,
+    /// The search was given up.
+    Spent(Cause),
     /// A number does not fit 128 bits.
     Large,
 }
@@ -62,16 +66,28 @@ pub fn search(
         cuts: Vec::new(alloc),
         cuts_left: MOST_CUTS,
         spread_at: usize::MAX,
+        proofs_counted: 0,
+        cause: None,
     };
+    search.known.tableau.allow(WORK);
     let found = begun(&mut search, terms, goal, uses, cuts);
     let steps = budget.saturating_sub(search.known.left);
     let end = match found {
         Ok(end) => end,
-        Err(Stop::Spent) => End::Spent,
+        Err(Stop::Spent) => End::Spent(cause_of(&search)),
         Err(Stop::Large) => End::Large,
         Err(Stop::OutOfMemory) => return Err(OutOfMemory),
     };
     Ok(Searched { end, steps })
+}
+
+/// Why a search was given up.
+fn cause_of(search: &Search) -> Cause {
+    match search.cause {
+        Some(cause) => cause,
+        None if search.known.left == 0 => Cause::Steps,
+        None => Cause::Work,
+    }
 }
 
 /// Enters the goal and its hints, and searches.
@@ -97,6 +113,8 @@ fn begun(
         Some(proof) => {
             let proof = search.known.wrap(mark.steps, proof)?;
             let count = goal.hypotheses.as_slice().len();
+            // From here on nothing but the depth of the proof is in the way.
+            search.cause = Some(Cause::Nesting);
             Ok(End::Found(written(&search.known, proof, count, goal.vars)?))
         }
         None => Ok(End::NotFound(counter_model(search)?)),

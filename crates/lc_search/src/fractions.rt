@@ -1,10 +1,9 @@
 //! Cuts at fractions: each number of a state is whole.
 
 use crate::blocks::{form_of, term_of_form};
-use crate::cases::cut;
 use crate::model::{active_read, live_places, live_variable};
 use crate::turn::Turn;
-use lc_facts::{Form, Known};
+use lc_facts::{Form, Known, Place};
 use lc_farkas::{Rational, Stop};
 use lc_table::TermId;
 
@@ -69,11 +68,13 @@ fn with_fraction(known: &mut Known, term: TermId) -> Result<(TermId, Rational), 
     Ok((term_of_form(&mut known.nodes, &sum)?, value))
 }
 
-/// Cuts at the fraction of a term's number.
+/// Cuts at the fraction of a term's number. Both branches are searched, also if one would close at once: its proof may do without
+/// what the cut adds, and is then one of the whole.
 pub(crate) fn cut_fraction(known: &mut Known, term: TermId) -> Result<Turn, Stop> {
     let (term, number) = with_fraction(known, term)?;
     let below = i64::try_from(number.floor()?).map_err(|_| Stop::Large)?;
     let below = known.nodes.number(below)?;
     let formula = known.nodes.le(term, below)?;
-    cut(known, formula)
+    let step = known.cut(formula, Place { rank: 0, depth: 0 })?;
+    Ok(Turn::Split(step))
 }

@@ -1,7 +1,7 @@
 //! Instances of quantified facts that do not hold in the state.
 
 use crate::blocks::Blocks;
-use crate::cases::Noted;
+use crate::cases::{Noted, weighed_clause};
 use crate::model::Model;
 use crate::reach::Reach;
 use crate::tuples::{Instance, wanted};
@@ -12,6 +12,9 @@ use lc_table::{FormulaId, FormulaNode, TermId};
 
 /// What is noted of an instance that was taken in.
 const INSTANCE: u32 = 2;
+
+/// The work of making a node of an instance. It is more than it takes of time, since a node stays: by it memory is bounded.
+const NODE: usize = 100;
 
 /// Tries the instances that do not hold and are in reach.
 pub(crate) fn broken_instances(
@@ -147,6 +150,8 @@ fn try_wanted(
         return Ok(Turn::Next);
     };
     let formula = known.fact(wanted.fact).formula;
+    let nodes = known.nodes.formula_size(formula) as usize;
+    known.tableau.spend(nodes.saturating_mul(NODE))?;
     let formulas = instances_of(known, formula, terms)?;
     let Some(formula) = formulas.last().copied() else {
         return Ok(Turn::Next);
@@ -173,7 +178,7 @@ fn try_disjunction(
     noted: &mut Noted,
 ) -> Result<Turn, Stop> {
     let formula = known.fact(fact).formula;
-    match known.clause(fact)? {
+    match weighed_clause(known, fact)? {
         Some(Weighed::Closed(proof)) => Ok(Turn::Closed(proof)),
         Some(Weighed::Unit(step)) => {
             known.note(done_with(formula))?;

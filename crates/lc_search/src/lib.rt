@@ -6,6 +6,7 @@ mod axioms;
 mod blocks;
 mod candidates;
 mod cases;
+mod cause;
 mod counter;
 mod entry;
 mod fractions;
@@ -20,5 +21,6 @@ mod tuples;
 mod turn;
 mod writing;
 
+pub use cause::Cause;
 pub use counter::{Counted, CounterModel};
 pub use entry::{End, Searched, search};

@@ -2,7 +2,8 @@
 
 use crate::axioms::{broken_axioms, read_axioms};
 use crate::blocks::Blocks;
-use crate::cases::{Noted, broken_disequalities, broken_disjunctions, cut_by_hints};
+use crate::cases::{Noted, broken_disequalities, broken_disjunctions, cut_by_hints, looked_at};
+use crate::cause::Cause;
 use crate::fractions::{cut_fraction, tightest_fraction};
 use crate::instances::broken_instances;
 use crate::model::Model;
@@ -25,6 +26,10 @@ pub(crate) struct Search {
     pub(crate) cuts_left: u32,
     /// How many facts were live as numbers were spread: as long as no fact comes, numbers that were made whole stay so.
     pub(crate) spread_at: usize,
+    /// The work of how many proofs was counted.
+    pub(crate) proofs_counted: usize,
+    /// Why the search is given up; none if what it stands on gave up.
+    pub(crate) cause: Option<Cause>,
 }
 
 impl Drop for Search {
@@ -36,8 +41,16 @@ impl Drop for Search {
             cuts: _,
             cuts_left: _,
             spread_at: _,
+            proofs_counted: _,
+            cause: _,
         } = self;
     }
+}
+
+/// Notes why the search is given up.
+fn give_up(search: &mut Search, cause: Cause) -> Stop {
+    search.cause = Some(cause);
+    Stop::Spent
 }
 
 /// Uses what the numbers of the tableau break, without quantifiers.
@@ -80,17 +93,24 @@ fn try_fractions(search: &mut Search) -> Result<Turn, Stop> {
     let Some(fraction) = tightest_fraction(&mut search.known, search.blocks.variables)? else {
         return Ok(Turn::Next);
     };
-    search.cuts_left = search.cuts_left.checked_sub(1).ok_or(Stop::Spent)?;
+    let Some(cuts_left) = search.cuts_left.checked_sub(1) else {
+        return Err(give_up(search, Cause::Cuts));
+    };
+    search.cuts_left = cuts_left;
     cut_fraction(&mut search.known, fraction)
 }
 
-/// How much a round looks at, whatever it finds.
-fn looked_at(known: &Known) -> usize {
-    known
-        .steps
-        .len()
-        .saturating_add(known.have.len())
-        .saturating_add(known.active.len())
+/// The work of a fact that a proof needs. It is more than it takes of time, since what was proved stays: by it memory is bounded.
+const NEEDED: usize = 10;
+
+/// Counts the work of the proofs that were made since the last round.
+fn count_proofs(search: &mut Search) -> Result<(), Stop> {
+    let mut units: usize = 0;
+    for made in search.known.proofs.iter().skip(search.proofs_counted) {
+        units = units.saturating_add(made.uses.len());
+    }
+    search.proofs_counted = search.known.proofs.len();
+    search.known.tableau.spend(units.saturating_mul(NEEDED))
 }
 
 /// One round of the rules, with the instances in reach.
@@ -98,6 +118,7 @@ fn pass(search: &mut Search, reach: Reach) -> Result<Turn, Stop> {
     search.known.tick()?;
     let units = looked_at(&search.known);
     search.known.tableau.spend(units)?;
+    count_proofs(search)?;
     let live = search.known.have.len();
     if search.spread_at != live {
         search.known.tableau.spread()?;
@@ -129,7 +150,7 @@ pub(crate) fn solve(
 ) -> Result<Option<ProofId>, Stop> {
     let mut reach = reach;
     if nesting == 0 {
-        return Err(Stop::Spent);
+        return Err(give_up(search, Cause::Splits));
     }
     for _ in 0..search.known.left {
         match pass(search, reach)? {
@@ -142,7 +163,7 @@ pub(crate) fn solve(
             },
         }
     }
-    Err(Stop::Spent)
+    Err(give_up(search, Cause::Steps))
 }
 
 /// The facts of an open branch of a step.
@@ -168,7 +189,7 @@ fn split(
 ) -> Result<Option<ProofId>, Stop> {
     let mut step = step;
     if nesting == 0 {
-        return Err(Stop::Spent);
+        return Err(give_up(search, Cause::Splits));
     }
     for place in 0..step.sides.len() {
         if let Some(facts) = open_branch(search, &step, place)? {
@@ -196,7 +217,7 @@ fn solve_branch(
     nesting: u32,
 ) -> Result<Option<ProofId>, Stop> {
     if nesting == 0 {
-        return Err(Stop::Spent);
+        return Err(give_up(search, Cause::Splits));
     }
     let trial = search.known.start_trial()?;
     let mark = trial.mark;

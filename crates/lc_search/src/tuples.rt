@@ -177,7 +177,8 @@ fn wish_of_block(
     if count > MOST_TUPLES || all.is_empty() {
         return Ok(());
     }
-    known.tableau.spend(count)?;
+    let size = known.nodes.formula_size(body) as usize;
+    known.tableau.spend(count.saturating_mul(size))?;
     let rise = if base.rank == AFTER { 2 } else { 1 };
     let wished = Wished {
         fact,
