@@ -117,7 +117,7 @@ fn sought(
     match ended {
         End::Found(_) => Ok(Ended::Found),
         End::NotFound(model) => Ok(Ended::Missed(Some(model))),
-        End::Spent | End::Large => Ok(Ended::Missed(None)),
+        End::Spent(_) | End::Large => Ok(Ended::Missed(None)),
     }
 }
 
